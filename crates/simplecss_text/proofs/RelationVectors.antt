@@ -1,0 +1,33 @@
+-- Worked slices and blanks.
+use Rattle.std.proofs.Common.{◌≡◌, refl, [], ◌∷◌, codes, arith}
+use Rattle.simplecss_text.specs.Slices.{StandBetween}
+use Rattle.simplecss_text.specs.Blanks.{IsComment, IsBlank}
+use Rattle.simplecss_text.specs.Blanks.IsBlank.{empty, space, comment}
+use Rattle.simplecss_text.specs.Components.Operator.{equals}
+use Rattle.simplecss_text.specs.Tokens.{token_texts}
+use Rattle.simplecss_text.specs.Tokens.Token.{attribute_selector, child_combinator, type_selector}
+
+-- no text stands between a rest and a later one
+pub none_between : StandBetween (codes "ab") (codes "b") []
+none_between = refl
+
+-- one text stands there, and it may be empty
+pub one_between : StandBetween (codes "abc") [] (codes "b" ∷ [])
+one_between = (codes "bc", codes "c", refl, refl, refl, refl)
+
+-- the name and the value of an attribute
+pub two_between : StandBetween (codes "[a=b]") [] (token_texts (attribute_selector (codes "a") (equals (codes "b"))))
+two_between = (codes "a=b]", codes "=b]", refl, refl, refl, (codes "b]", codes "]", refl, refl, refl, refl))
+
+pub texts_of_tokens : (token_texts child_combinator ≡ []) × (token_texts (type_selector (codes "a")) ≡ codes "a" ∷ [])
+texts_of_tokens = (refl, refl)
+
+-- the shortest comment
+pub shortest_comment : IsComment (codes "/**/")
+shortest_comment = record { inside = []; is = refl; first = λ k less. absurd (omega (arith, less)) }
+
+pub empty_blank : IsBlank []
+empty_blank = empty
+
+pub space_and_comment : IsBlank (codes " /**/")
+space_and_comment = space 32 (codes "/**/") refl (comment (codes "/**/") [] shortest_comment empty)

@@ -1,0 +1,74 @@
+-- Worked blocks, parts and statements, computed.
+use Rattle.std.specs.Prelude.{ℕ, ◌≡◌, refl, [], ◌∷◌, codes, true, false, nat_lt, map}
+use Rattle.std.specs.Str.{trim_start, trim_end, chars}
+use lib.Utf8.{encode}
+use Rattle.simplecss_text.specs.Reading.{each}
+use Rattle.simplecss_text.specs.Comments.{comment, blank, gap}
+use Rattle.simplecss_text.specs.Names.{past_name_chars, name}
+use Rattle.simplecss_text.specs.Strings.{string_or_name}
+use Rattle.simplecss_text.specs.Characters.{first_edition}
+use Rattle.simplecss_text.specs.Pieces.{attribute_operator, attribute_after, lang_after, pseudo_class_after, named, begun, solid, piece, ending}
+use Rattle.simplecss_text.specs.TokenRuns.{run_from}
+use Rattle.simplecss_text.specs.Selectors.{reads}
+use Rattle.simplecss_text.specs.Terms.{word, past_number, term}
+use Rattle.simplecss_text.specs.Declarations.{value, importance, trailing, declaration, declarations}
+use Rattle.simplecss_text.specs.Blocks.{block, block_end}
+use Rattle.simplecss_text.specs.Statements.{part, parts, next_block, rule_set, past_at_rule, statement, statements, is_open_comment}
+use Rattle.simplecss_text.specs.Ranks.{ordered_by}
+use Rattle.simplecss_text.specs.Printing.{selector_text}
+
+-- the declarations of a block behind its brace, and what is left after it
+pub blocks :
+    (block first_edition (codes "a:b; c:d}e") ≡ (record { name = (codes "a"); value = (codes "b"); important = false } ∷ record { name = (codes "c"); value = (codes "d"); important = false } ∷ [], (codes "e")))
+    × (block first_edition (codes "}}a") ≡ ([], (codes "}a")))
+    × (block first_edition (codes " }}a") ≡ ([], (codes "a")))
+    × (block first_edition (codes "a:b;c{}}d") ≡ (record { name = (codes "a"); value = (codes "b"); important = false } ∷ [], (codes "d")))
+    × (block first_edition (codes "a:b") ≡ (record { name = (codes "a"); value = (codes "b"); important = false } ∷ [], []))
+unfolding each comment blank gap past_name_chars name string_or_name attribute_operator attribute_after lang_after pseudo_class_after named begun solid piece ending run_from chars encode trim_start trim_end reads part parts next_block rule_set past_at_rule statement statements block block_end word past_number term value importance trailing declaration declarations
+blocks = (refl, refl, refl, refl, refl)
+
+-- what is left after a statement
+pub statement_ends :
+    ((statement first_edition (codes "@m x;y")).1 ≡ (codes "y"))
+    × ((statement first_edition (codes "@m{y{}}}z")).1 ≡ (codes "}z"))
+    × ((statement first_edition (codes "@--x{}")).1 ≡ (codes "-x{}"))
+    × ((statement first_edition (codes "@m")).1 ≡ [])
+    × ((statement first_edition (codes "a{b:c}d")).1 ≡ (codes "d"))
+    × ((statement first_edition (codes ",a, b")).1 ≡ [])
+unfolding each comment blank gap past_name_chars name string_or_name attribute_operator attribute_after lang_after pseudo_class_after named begun solid piece ending run_from chars encode trim_start trim_end reads part parts next_block rule_set past_at_rule statement statements block block_end word past_number term value importance trailing declaration declarations
+statement_ends = (refl, refl, refl, refl, refl, refl)
+
+-- what is left after a part and the space bytes behind it
+pub part_ends :
+    ((part first_edition (codes "a , b")).1 ≡ (codes ", b"))
+    × ((part first_edition (codes "a {")).1 ≡ (codes "{"))
+    × ((part first_edition (codes ":x  {")).1 ≡ (codes "{"))
+    × ((part first_edition (codes "a/**/,")).1 ≡ (codes ","))
+unfolding each comment blank gap past_name_chars name string_or_name attribute_operator attribute_after lang_after pseudo_class_after named begun solid piece ending run_from chars encode trim_start trim_end reads part parts next_block rule_set past_at_rule statement statements block block_end word past_number term value importance trailing declaration declarations
+part_ends = (refl, refl, refl, refl)
+
+-- the selectors that the parts of a rule set give
+pub parts_of_sets :
+    (map selector_text (parts first_edition (codes "a, b > c {")).0 ≡ (codes "a") ∷ (codes "b > c") ∷ [])
+    × (map selector_text (parts first_edition (codes "a, :x, b")).0 ≡ (codes "a") ∷ (codes "b") ∷ [])
+    × (map selector_text (parts first_edition (codes ":x")).0 ≡ [])
+unfolding each comment blank gap past_name_chars name string_or_name attribute_operator attribute_after lang_after pseudo_class_after named begun solid piece ending run_from chars encode trim_start trim_end reads part parts next_block rule_set past_at_rule statement statements block block_end word past_number term value importance trailing declaration declarations
+parts_of_sets = (refl, refl, refl)
+
+-- a blank and then a comment that is not closed
+pub open_comments :
+    (is_open_comment (codes " /**/ /* x") ≡ true)
+    × (is_open_comment (codes "/*") ≡ true)
+    × (is_open_comment (codes "a") ≡ false)
+    × (is_open_comment [] ≡ false)
+    × (is_open_comment (codes "/**/") ≡ false)
+unfolding each comment blank gap past_name_chars name string_or_name attribute_operator attribute_after lang_after pseudo_class_after named begun solid piece ending run_from chars encode trim_start trim_end reads part parts next_block rule_set past_at_rule statement statements block block_end word past_number term value importance trailing declaration declarations
+open_comments = (refl, refl, refl, refl, refl)
+
+-- each element at its rank
+pub ranks :
+    (ordered_by nat_lt (3 ∷ 1 ∷ 2 ∷ 1 ∷ []) ≡ 1 ∷ 1 ∷ 2 ∷ 3 ∷ [])
+    × (ordered_by nat_lt [] ≡ [])
+    × (ordered_by (λ (x y : ℕ × ℕ). nat_lt x.0 y.0) ((2, 7) ∷ (1, 8) ∷ (2, 6) ∷ (1, 9) ∷ []) ≡ (1, 8) ∷ (1, 9) ∷ (2, 7) ∷ (2, 6) ∷ [])
+unfolding each comment blank gap past_name_chars name string_or_name attribute_operator attribute_after lang_after pseudo_class_after named begun solid piece ending run_from chars encode trim_start trim_end reads part parts next_block rule_set past_at_rule statement statements block block_end word past_number term value importance trailing declaration declarations
+ranks = (refl, refl, refl)

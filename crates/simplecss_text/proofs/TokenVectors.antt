@@ -1,0 +1,165 @@
+-- Worked runs of a tokenizer, computed.
+use Rattle.std.specs.Prelude.{◌≡◌, refl, [], ◌∷◌, codes, Ok, Err}
+use Rattle.std.specs.Str.{trim_start, trim_end, chars}
+use lib.Utf8.{encode}
+use Rattle.simplecss_text.specs.declared.Error.TheVariants.{InvalidIdent, InvalidComment, InvalidByte, SelectorMissing, UnexpectedSelector, UnexpectedCombinator, InvalidAttributeSelector, InvalidLanguagePseudoClass}
+use Rattle.simplecss_text.specs.Reading.{each}
+use Rattle.simplecss_text.specs.Positions.{position}
+use Rattle.simplecss_text.specs.Comments.{comment, blank, gap}
+use Rattle.simplecss_text.specs.Names.{past_name_chars, name}
+use Rattle.simplecss_text.specs.Strings.{string_or_name}
+use Rattle.simplecss_text.specs.Characters.{first_edition, second_edition}
+use Rattle.simplecss_text.specs.Components.Operator.{exists, equals, has_word, begins_with}
+use Rattle.simplecss_text.specs.Pieces.{attribute_operator, attribute_after, lang_after, pseudo_class_after, named, begun, solid, piece, ending}
+use Rattle.simplecss_text.specs.Tokens.Token.{universal_selector, type_selector, id_selector, class_selector, attribute_selector, named_pseudo_class, lang_pseudo_class, descendant_combinator, child_combinator, adjacent_combinator}
+use Rattle.simplecss_text.specs.TokenRuns.{run_from, tokens_of}
+
+-- one simple piece, up to a stop
+pub simple_pieces :
+    (tokens_of first_edition (codes "*") ≡ Ok universal_selector ∷ [])
+    × (tokens_of first_edition (codes "div") ≡ Ok (type_selector (codes "div")) ∷ [])
+    × (tokens_of first_edition (codes "div {") ≡ Ok (type_selector (codes "div")) ∷ [])
+    × (tokens_of first_edition (codes "div,") ≡ Ok (type_selector (codes "div")) ∷ [])
+    × (tokens_of first_edition (codes "div{") ≡ Ok (type_selector (codes "div")) ∷ [])
+    × (tokens_of first_edition (codes "div ,") ≡ Ok (type_selector (codes "div")) ∷ [])
+    × (tokens_of first_edition (codes "/**/a") ≡ Ok (type_selector (codes "a")) ∷ [])
+    × (tokens_of first_edition (codes "/* */a") ≡ Ok (type_selector (codes "a")) ∷ [])
+    × (tokens_of first_edition (codes "/* comment */a") ≡ Ok (type_selector (codes "a")) ∷ [])
+    × (tokens_of first_edition (codes "/**/ /**/a") ≡ Ok (type_selector (codes "a")) ∷ [])
+    × (tokens_of first_edition (codes "/**/ a /**/") ≡ Ok (type_selector (codes "a")) ∷ [])
+    × (tokens_of first_edition (codes "#div") ≡ Ok (id_selector (codes "div")) ∷ [])
+    × (tokens_of first_edition (codes ".div") ≡ Ok (class_selector (codes "div")) ∷ [])
+    × (tokens_of first_edition (codes ":first-child") ≡ Ok (named_pseudo_class (codes "first-child")) ∷ [])
+    × (tokens_of first_edition (codes ":lang(en)") ≡ Ok (lang_pseudo_class (codes "en")) ∷ [])
+    × (tokens_of first_edition (codes "-") ≡ Ok (type_selector (codes "-")) ∷ [])
+unfolding each comment blank gap past_name_chars name string_or_name attribute_operator attribute_after lang_after pseudo_class_after named begun solid piece ending run_from position chars encode trim_start trim_end
+simple_pieces = (refl, refl, refl, refl, refl, refl, refl, refl, refl, refl, refl, refl, refl, refl, refl, refl)
+
+-- attributes, with and without a value
+pub attributes :
+    (tokens_of first_edition (codes "[id]") ≡ Ok (attribute_selector (codes "id") exists) ∷ [])
+    × (tokens_of first_edition (codes "[id=test]") ≡ Ok (attribute_selector (codes "id") (equals (codes "test"))) ∷ [])
+    × (tokens_of first_edition (codes "[id='test']") ≡ Ok (attribute_selector (codes "id") (equals (codes "test"))) ∷ [])
+    × (tokens_of first_edition (91 ∷ 105 ∷ 100 ∷ 61 ∷ 34 ∷ 116 ∷ 101 ∷ 115 ∷ 116 ∷ 34 ∷ 93 ∷ []) ≡ Ok (attribute_selector (codes "id") (equals (codes "test"))) ∷ [])
+    × (tokens_of first_edition (codes "[id~=test]") ≡ Ok (attribute_selector (codes "id") (has_word (codes "test"))) ∷ [])
+    × (tokens_of first_edition (codes "[id|=test]") ≡ Ok (attribute_selector (codes "id") (begins_with (codes "test"))) ∷ [])
+    × (tokens_of first_edition (91 ∷ 105 ∷ 100 ∷ 61 ∷ 39 ∷ 116 ∷ 101 ∷ 92 ∷ 39 ∷ 115 ∷ 116 ∷ 39 ∷ 93 ∷ []) ≡ Ok (attribute_selector (codes "id") (equals (116 ∷ 101 ∷ 92 ∷ 39 ∷ 115 ∷ 116 ∷ []))) ∷ [])
+    × (tokens_of first_edition (91 ∷ 105 ∷ 100 ∷ 61 ∷ 34 ∷ 116 ∷ 101 ∷ 92 ∷ 34 ∷ 115 ∷ 116 ∷ 34 ∷ 93 ∷ []) ≡ Ok (attribute_selector (codes "id") (equals (116 ∷ 101 ∷ 92 ∷ 34 ∷ 115 ∷ 116 ∷ []))) ∷ [])
+unfolding each comment blank gap past_name_chars name string_or_name attribute_operator attribute_after lang_after pseudo_class_after named begun solid piece ending run_from position chars encode trim_start trim_end
+attributes = (refl, refl, refl, refl, refl, refl, refl, refl)
+
+-- simple pieces of one compound
+pub compounds :
+    (tokens_of first_edition (codes "div:first-child") ≡ Ok (type_selector (codes "div")) ∷ Ok (named_pseudo_class (codes "first-child")) ∷ [])
+    × (tokens_of first_edition (codes "div.test") ≡ Ok (type_selector (codes "div")) ∷ Ok (class_selector (codes "test")) ∷ [])
+    × (tokens_of first_edition (codes "div.test.warn") ≡ Ok (type_selector (codes "div")) ∷ Ok (class_selector (codes "test")) ∷ Ok (class_selector (codes "warn")) ∷ [])
+    × (tokens_of first_edition (codes "div#id") ≡ Ok (type_selector (codes "div")) ∷ Ok (id_selector (codes "id")) ∷ [])
+    × (tokens_of first_edition (codes "*[id]") ≡ Ok universal_selector ∷ Ok (attribute_selector (codes "id") exists) ∷ [])
+    × (tokens_of first_edition (codes "*.test") ≡ Ok universal_selector ∷ Ok (class_selector (codes "test")) ∷ [])
+    × (tokens_of first_edition (codes "*#id") ≡ Ok universal_selector ∷ Ok (id_selector (codes "id")) ∷ [])
+    × (tokens_of first_edition (codes "div[id=test][color=red]") ≡ Ok (type_selector (codes "div")) ∷ Ok (attribute_selector (codes "id") (equals (codes "test"))) ∷ Ok (attribute_selector (codes "color") (equals (codes "red"))) ∷ [])
+    × (tokens_of first_edition (codes "a.external:visited") ≡ Ok (type_selector (codes "a")) ∷ Ok (class_selector (codes "external")) ∷ Ok (named_pseudo_class (codes "visited")) ∷ [])
+unfolding each comment blank gap past_name_chars name string_or_name attribute_operator attribute_after lang_after pseudo_class_after named begun solid piece ending run_from position chars encode trim_start trim_end
+compounds = (refl, refl, refl, refl, refl, refl, refl, refl, refl)
+
+-- a gap with a space byte joins two compounds
+pub descendants :
+    (tokens_of first_edition (codes "div p") ≡ Ok (type_selector (codes "div")) ∷ Ok descendant_combinator ∷ Ok (type_selector (codes "p")) ∷ [])
+    × (tokens_of first_edition (97 ∷ 10 ∷ 98 ∷ []) ≡ Ok (type_selector (codes "a")) ∷ Ok descendant_combinator ∷ Ok (type_selector (codes "b")) ∷ [])
+    × (tokens_of first_edition (codes "a /**/ b") ≡ Ok (type_selector (codes "a")) ∷ Ok descendant_combinator ∷ Ok (type_selector (codes "b")) ∷ [])
+    × (tokens_of first_edition (codes "a /**/b") ≡ Ok (type_selector (codes "a")) ∷ Ok descendant_combinator ∷ Ok (type_selector (codes "b")) ∷ [])
+    × (tokens_of first_edition (codes "a/**/ b") ≡ Ok (type_selector (codes "a")) ∷ Ok descendant_combinator ∷ Ok (type_selector (codes "b")) ∷ [])
+    × (tokens_of first_edition (codes "a/**/ /**/b") ≡ Ok (type_selector (codes "a")) ∷ Ok descendant_combinator ∷ Ok (type_selector (codes "b")) ∷ [])
+    × (tokens_of first_edition (codes "a /**/ /**/ b") ≡ Ok (type_selector (codes "a")) ∷ Ok descendant_combinator ∷ Ok (type_selector (codes "b")) ∷ [])
+    × (tokens_of first_edition (codes "a /**//**/ b") ≡ Ok (type_selector (codes "a")) ∷ Ok descendant_combinator ∷ Ok (type_selector (codes "b")) ∷ [])
+    × (tokens_of first_edition (codes "div p a") ≡ Ok (type_selector (codes "div")) ∷ Ok descendant_combinator ∷ Ok (type_selector (codes "p")) ∷ Ok descendant_combinator ∷ Ok (type_selector (codes "a")) ∷ [])
+    × (tokens_of first_edition (codes "div * p") ≡ Ok (type_selector (codes "div")) ∷ Ok descendant_combinator ∷ Ok universal_selector ∷ Ok descendant_combinator ∷ Ok (type_selector (codes "p")) ∷ [])
+    × (tokens_of first_edition (codes "div .p") ≡ Ok (type_selector (codes "div")) ∷ Ok descendant_combinator ∷ Ok (class_selector (codes "p")) ∷ [])
+    × (tokens_of first_edition (codes "div *") ≡ Ok (type_selector (codes "div")) ∷ Ok descendant_combinator ∷ Ok universal_selector ∷ [])
+    × (tokens_of first_edition (codes "div #p") ≡ Ok (type_selector (codes "div")) ∷ Ok descendant_combinator ∷ Ok (id_selector (codes "p")) ∷ [])
+    × (tokens_of first_edition (codes "div [id]") ≡ Ok (type_selector (codes "div")) ∷ Ok descendant_combinator ∷ Ok (attribute_selector (codes "id") exists) ∷ [])
+    × (tokens_of first_edition (codes "div :link") ≡ Ok (type_selector (codes "div")) ∷ Ok descendant_combinator ∷ Ok (named_pseudo_class (codes "link")) ∷ [])
+    × (tokens_of first_edition (codes ".warn :first-child") ≡ Ok (class_selector (codes "warn")) ∷ Ok descendant_combinator ∷ Ok (named_pseudo_class (codes "first-child")) ∷ [])
+unfolding each comment blank gap past_name_chars name string_or_name attribute_operator attribute_after lang_after pseudo_class_after named begun solid piece ending run_from position chars encode trim_start trim_end
+descendants = (refl, refl, refl, refl, refl, refl, refl, refl, refl, refl, refl, refl, refl, refl, refl, refl)
+
+-- child and adjacent combinators
+pub combinators :
+    (tokens_of first_edition (codes "div>p") ≡ Ok (type_selector (codes "div")) ∷ Ok child_combinator ∷ Ok (type_selector (codes "p")) ∷ [])
+    × (tokens_of first_edition (codes "div >p") ≡ Ok (type_selector (codes "div")) ∷ Ok child_combinator ∷ Ok (type_selector (codes "p")) ∷ [])
+    × (tokens_of first_edition (codes "div> p") ≡ Ok (type_selector (codes "div")) ∷ Ok child_combinator ∷ Ok (type_selector (codes "p")) ∷ [])
+    × (tokens_of first_edition (codes "div > p") ≡ Ok (type_selector (codes "div")) ∷ Ok child_combinator ∷ Ok (type_selector (codes "p")) ∷ [])
+    × (tokens_of first_edition (codes "div+p") ≡ Ok (type_selector (codes "div")) ∷ Ok adjacent_combinator ∷ Ok (type_selector (codes "p")) ∷ [])
+    × (tokens_of first_edition (codes "div +p") ≡ Ok (type_selector (codes "div")) ∷ Ok adjacent_combinator ∷ Ok (type_selector (codes "p")) ∷ [])
+    × (tokens_of first_edition (codes "div+ p") ≡ Ok (type_selector (codes "div")) ∷ Ok adjacent_combinator ∷ Ok (type_selector (codes "p")) ∷ [])
+    × (tokens_of first_edition (codes "div + p") ≡ Ok (type_selector (codes "div")) ∷ Ok adjacent_combinator ∷ Ok (type_selector (codes "p")) ∷ [])
+    × (tokens_of first_edition (codes "div > p:first-child") ≡ Ok (type_selector (codes "div")) ∷ Ok child_combinator ∷ Ok (type_selector (codes "p")) ∷ Ok (named_pseudo_class (codes "first-child")) ∷ [])
+unfolding each comment blank gap past_name_chars name string_or_name attribute_operator attribute_after lang_after pseudo_class_after named begun solid piece ending run_from position chars encode trim_start trim_end
+combinators = (refl, refl, refl, refl, refl, refl, refl, refl, refl)
+
+-- pieces where none may stand, and none where one must
+pub misplaced :
+    (tokens_of first_edition (codes ">") ≡ Err UnexpectedCombinator ∷ [])
+    × (tokens_of first_edition (codes "+") ≡ Err UnexpectedCombinator ∷ [])
+    × (tokens_of first_edition (codes "> a") ≡ Err UnexpectedCombinator ∷ [])
+    × (tokens_of first_edition (codes "a > >") ≡ Ok (type_selector (codes "a")) ∷ Ok child_combinator ∷ Err UnexpectedCombinator ∷ [])
+    × (tokens_of first_edition (codes "a >") ≡ Ok (type_selector (codes "a")) ∷ Ok child_combinator ∷ Err SelectorMissing ∷ [])
+    × (tokens_of first_edition (codes "a > ,") ≡ Ok (type_selector (codes "a")) ∷ Ok child_combinator ∷ Err SelectorMissing ∷ [])
+    × (tokens_of first_edition (codes "a > {") ≡ Ok (type_selector (codes "a")) ∷ Ok child_combinator ∷ Err SelectorMissing ∷ [])
+    × (tokens_of first_edition (codes "*a") ≡ Ok universal_selector ∷ Err UnexpectedSelector ∷ [])
+    × (tokens_of first_edition (codes "a*") ≡ Ok (type_selector (codes "a")) ∷ Err UnexpectedSelector ∷ [])
+unfolding each comment blank gap past_name_chars name string_or_name attribute_operator attribute_after lang_after pseudo_class_after named begun solid piece ending run_from position chars encode trim_start trim_end
+misplaced = (refl, refl, refl, refl, refl, refl, refl, refl, refl)
+
+-- faults inside pieces
+pub faults_in_pieces :
+    (tokens_of first_edition (codes "a < b") ≡ Ok (type_selector (codes "a")) ∷ Ok descendant_combinator ∷ Err (InvalidIdent (record { row = 1; col = 3 })) ∷ Err SelectorMissing ∷ [])
+    × (tokens_of first_edition (codes "::first-child") ≡ Err (InvalidIdent (record { row = 1; col = 2 })) ∷ [])
+    × (tokens_of first_edition (codes ":lang()") ≡ Err InvalidLanguagePseudoClass ∷ [])
+    × (tokens_of first_edition (codes ":lang( )") ≡ Err InvalidLanguagePseudoClass ∷ [])
+    × (tokens_of first_edition (codes "[olor:red") ≡ Err InvalidAttributeSelector ∷ [])
+unfolding each comment blank gap past_name_chars name string_or_name attribute_operator attribute_after lang_after pseudo_class_after named begun solid piece ending run_from position chars encode trim_start trim_end
+faults_in_pieces = (refl, refl, refl, refl, refl)
+
+-- a second fault where a head is missing or a comment is open behind an open left side
+pub second_faults :
+    (tokens_of first_edition (codes "<") ≡ Err (InvalidIdent (record { row = 1; col = 1 })) ∷ Err SelectorMissing ∷ [])
+    × (tokens_of first_edition (codes "a <") ≡ Ok (type_selector (codes "a")) ∷ Ok descendant_combinator ∷ Err (InvalidIdent (record { row = 1; col = 3 })) ∷ Err SelectorMissing ∷ [])
+    × (tokens_of first_edition (codes "a<") ≡ Ok (type_selector (codes "a")) ∷ Err (InvalidIdent (record { row = 1; col = 2 })) ∷ [])
+    × (tokens_of first_edition (codes "/* x") ≡ Err (InvalidComment (record { row = 1; col = 1 })) ∷ Err SelectorMissing ∷ [])
+    × (tokens_of first_edition (codes "a /* x") ≡ Ok (type_selector (codes "a")) ∷ Err (InvalidComment (record { row = 1; col = 3 })) ∷ [])
+unfolding each comment blank gap past_name_chars name string_or_name attribute_operator attribute_after lang_after pseudo_class_after named begun solid piece ending run_from position chars encode trim_start trim_end
+second_faults = (refl, refl, refl, refl, refl)
+
+-- comments, slashes and hyphens between pieces
+pub gaps :
+    (tokens_of first_edition (codes "a/**/b") ≡ Ok (type_selector (codes "a")) ∷ Err UnexpectedSelector ∷ [])
+    × (tokens_of first_edition (codes "a/**/.b") ≡ Ok (type_selector (codes "a")) ∷ Ok (class_selector (codes "b")) ∷ [])
+    × (tokens_of first_edition (codes "a /**/.b") ≡ Ok (type_selector (codes "a")) ∷ Ok descendant_combinator ∷ Ok (class_selector (codes "b")) ∷ [])
+    × (tokens_of first_edition (codes "a/ b") ≡ Ok (type_selector (codes "a")) ∷ [])
+    × (tokens_of first_edition (codes "a / b") ≡ Ok (type_selector (codes "a")) ∷ Err (InvalidComment (record { row = 1; col = 3 })) ∷ [])
+    × (tokens_of first_edition (codes "- a") ≡ Err (InvalidIdent (record { row = 1; col = 1 })) ∷ Err SelectorMissing ∷ [])
+    × (tokens_of first_edition [] ≡ Err SelectorMissing ∷ [])
+    × (tokens_of first_edition (codes " ") ≡ Err SelectorMissing ∷ [])
+    × (tokens_of first_edition (codes "/**/") ≡ Err SelectorMissing ∷ [])
+    × (tokens_of first_edition (codes "a/* */b") ≡ Ok (type_selector (codes "a")) ∷ Err UnexpectedSelector ∷ [])
+unfolding each comment blank gap past_name_chars name string_or_name attribute_operator attribute_after lang_after pseudo_class_after named begun solid piece ending run_from position chars encode trim_start trim_end
+gaps = (refl, refl, refl, refl, refl, refl, refl, refl, refl, refl)
+
+-- rows and columns count newlines and characters
+pub positions :
+    (tokens_of first_edition (97 ∷ 10 ∷ 98 ∷ 99 ∷ 32 ∷ 60 ∷ []) ≡ Ok (type_selector (codes "a")) ∷ Ok descendant_combinator ∷ Ok (type_selector (codes "bc")) ∷ Ok descendant_combinator ∷ Err (InvalidIdent (record { row = 2; col = 4 })) ∷ Err SelectorMissing ∷ [])
+    × (tokens_of first_edition (91 ∷ 97 ∷ 61 ∷ 34 ∷ 120 ∷ 34 ∷ 195 ∷ 169 ∷ 93 ∷ []) ≡ Err (InvalidByte 93 195 (record { row = 1; col = 7 })) ∷ [])
+    × (tokens_of first_edition (codes "*[x='a'b']") ≡ Ok universal_selector ∷ Err (InvalidByte 93 98 (record { row = 1; col = 8 })) ∷ [])
+unfolding each comment blank gap past_name_chars name string_or_name attribute_operator attribute_after lang_after pseudo_class_after named begun solid piece ending run_from position chars encode trim_start trim_end
+positions = (refl, refl, refl)
+
+-- the first wide character of a name in both editions
+pub wide_characters :
+    (tokens_of first_edition (195 ∷ 169 ∷ []) ≡ Err (InvalidIdent (record { row = 1; col = 1 })) ∷ Err SelectorMissing ∷ [])
+    × (tokens_of first_edition (195 ∷ 174 ∷ []) ≡ Ok (type_selector (195 ∷ 174 ∷ [])) ∷ [])
+    × (tokens_of second_edition (195 ∷ 169 ∷ []) ≡ Ok (type_selector (195 ∷ 169 ∷ [])) ∷ [])
+    × (tokens_of second_edition (195 ∷ 174 ∷ []) ≡ Ok (type_selector (195 ∷ 174 ∷ [])) ∷ [])
+    × (tokens_of first_edition (92 ∷ 50 ∷ 54 ∷ []) ≡ Err (InvalidIdent (record { row = 1; col = 1 })) ∷ Err SelectorMissing ∷ [])
+unfolding each comment blank gap past_name_chars name string_or_name attribute_operator attribute_after lang_after pseudo_class_after named begun solid piece ending run_from position chars encode trim_start trim_end
+wide_characters = (refl, refl, refl, refl, refl)

@@ -1,0 +1,53 @@
+-- Blocks.
+use Rattle.std.specs.Prelude.{ℕ, zero, suc, Bool, ◌||◌, ◌&&◌, ◌==◌, nat_lt, if◌then◌else◌, List, length, take, drop, slice_index, count_by, Option, None}
+use Rattle.simplecss_text.specs.Reading.{Reading, got, fails, each}
+use Rattle.simplecss_text.specs.Bytes.{starts, past_byte}
+use Rattle.simplecss_text.specs.Characters.{Edition}
+use Rattle.simplecss_text.specs.Declarations.{Property, declaration, next_declaration}
+
+-- the least number below n that passes, or n
+abbrev pub least : (ℕ → Bool) → ℕ → ℕ
+least test zero = 0
+least test (suc n) = if nat_lt (least test n) n then least test n else (if test n then n else suc n)
+
+-- how often the byte stands in the text
+abbrev pub count_of : ℕ → List ℕ → ℕ
+count_of byte text = count_by (λ b. b == byte) text
+
+-- a closing brace stands at the place, and before it as many opening as closing ones
+abbrev pub closes_block : List ℕ → ℕ → Bool
+closes_block text place =
+    slice_index text place == 125 && count_of 123 (take place text) == count_of 125 (take place text)
+
+-- Where the block ends that reading is in: the least place that closes it, else the end of the text. Quotes and comments
+-- are not looked at.
+unfoldable pub block_end : List ℕ → ℕ
+block_end text = least (closes_block text) (length text)
+
+-- what is left from the block's end on
+abbrev pub from_block_end : List ℕ → List ℕ
+from_block_end text = drop (block_end text) text
+
+-- the text has ended, or a closing brace stands there
+abbrev pub ends_list : List ℕ → Bool
+ends_list text = length text == 0 || starts 125 text
+
+-- a declaration where the list of them goes on
+abbrev pub declaration_in_block : Edition → List ℕ → Option (Property × List ℕ)
+declaration_in_block edition text = if ends_list text then None else next_declaration edition text
+
+-- Behind a broken declaration the block's end and its brace are passed.
+abbrev pub past_broken : Reading Property → List ℕ
+past_broken (got property rest) = rest
+past_broken (fails fault rest) = past_byte 125 (from_block_end rest)
+
+-- what is left behind the list of declarations
+abbrev pub past_list : Edition → List ℕ → List ℕ
+past_list edition text = if ends_list text then text else past_broken (declaration edition text)
+
+-- The declarations of a block behind its opening brace, and what is left after the block. One brace that stands directly
+-- there is passed, so a block that a broken declaration ended may take a further one.
+unfoldable pub block : Edition → List ℕ → List Property × List ℕ
+block edition text =
+    let listed = each (declaration_in_block edition) text in
+    (listed.0, past_byte 125 (past_list edition listed.1))

@@ -1,0 +1,72 @@
+-- The bytes at the front of a text.
+use Rattle.std.specs.Prelude.{ℕ, Bool, false, not, ◌&&◌, ◌==◌, nat_le, if◌then◌else◌, List, [], ◌∷◌, drop, Option, Some, None}
+use Rattle.std.specs.List.{prefix_len}
+use Rattle.simplecss_text.specs.Reading.{Fault, ended, wrong_byte, Reading, got, fails, Reader, before}
+
+-- what is left after one byte, whichever it is
+abbrev pub past_one : List ℕ → List ℕ
+past_one [] = []
+past_one (b ∷ text) = text
+
+-- the text begins with the byte
+abbrev pub starts : ℕ → List ℕ → Bool
+starts byte [] = false
+starts byte (b ∷ text) = b == byte
+
+-- the text begins with a byte that passes
+abbrev pub starts_by : (ℕ → Bool) → List ℕ → Bool
+starts_by test [] = false
+starts_by test (b ∷ text) = test b
+
+-- the text begins with these two bytes
+abbrev pub starts_two : ℕ → ℕ → List ℕ → Bool
+starts_two one two [] = false
+starts_two one two (b ∷ text) = b == one && starts two text
+
+-- the byte is neither of these two
+abbrev pub is_neither : ℕ → ℕ → ℕ → Bool
+is_neither one two b = not (b == one) && not (b == two)
+
+abbrev pub is_within : ℕ → ℕ → ℕ → Bool
+is_within low high b = nat_le low b && nat_le b high
+
+abbrev pub is_digit : ℕ → Bool
+is_digit b = is_within 48 57 b
+
+-- what is left after the longest front of bytes that pass
+abbrev pub past : (ℕ → Bool) → List ℕ → List ℕ
+past test text = drop (prefix_len test text) text
+
+-- what is left after the byte, where it stands there
+abbrev pub past_byte : ℕ → List ℕ → List ℕ
+past_byte byte [] = []
+past_byte byte (b ∷ text) = if b == byte then text else b ∷ text
+
+-- what is left after the first such byte, and after it
+abbrev pub after_byte : ℕ → List ℕ → Option (List ℕ)
+after_byte byte [] = None
+after_byte byte (b ∷ text) = if b == byte then Some text else after_byte byte text
+
+-- the byte, which must stand there
+abbrev pub byte : ℕ → Reader (Unit {0})
+byte expected [] = fails ended []
+byte expected (b ∷ text) = if b == expected then got tt text else fails (wrong_byte expected (b ∷ text)) (b ∷ text)
+
+-- the byte, if it stands there
+abbrev pub optional : ℕ → Reader (Unit {0})
+optional byte text = got tt (past_byte byte text)
+
+-- a byte, whichever it is
+abbrev pub any_byte : Reader (Unit {0})
+any_byte text = got tt (past_one text)
+
+-- all up to the first such byte, or up to the end of the text
+abbrev pub all_before : ℕ → Reader (List ℕ)
+all_before byte text =
+    let rest = past (λ b. not (b == byte)) text in
+    got (before text rest) rest
+
+-- What is left after something that must be closed. Where it is not, that is a fault, which uses up the text.
+abbrev pub closed_or : Fault → Option (List ℕ) → Reading (Unit {0})
+closed_or fault None = fails fault []
+closed_or fault (Some rest) = got tt rest

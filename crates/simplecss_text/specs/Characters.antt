@@ -1,0 +1,29 @@
+-- The characters of a text: space bytes, and the characters of names, in two editions of the rules.
+use Rattle.std.specs.Prelude.{ℕ, Bool, ◌||◌, ◌==◌, nat_le}
+use Rattle.simplecss_text.specs.Bytes.{is_within, is_digit}
+
+-- Which edition of the rules. They differ in the first character past ASCII that a name may have, and in the second a
+-- slash that opens no comment is a term of a value.
+pub data Edition : Type 0 where
+  first_edition : Edition
+  second_edition : Edition
+
+-- a space, a tab, a newline, a carriage return or a form feed
+abbrev pub is_space : ℕ → Bool
+is_space b = b == 0x20 || b == 0x09 || b == 0x0A || b == 0x0D || b == 0x0C
+
+abbrev pub is_letter : ℕ → Bool
+is_letter c = is_within 97 122 c || is_within 65 90 c
+
+-- the first character past ASCII that a name may have: one above 237, or in the second edition the no-break space
+abbrev pub first_wide : Edition → ℕ
+first_wide first_edition = 238
+first_wide second_edition = 0xA0
+
+-- an underscore, a letter, or a character past ASCII that a name may have
+abbrev pub is_name_start : Edition → ℕ → Bool
+is_name_start edition c = c == 95 || is_letter c || nat_le (first_wide edition) c
+
+-- a name start, a digit or a hyphen
+abbrev pub is_name_char : Edition → ℕ → Bool
+is_name_char edition c = is_name_start edition c || is_digit c || c == 45

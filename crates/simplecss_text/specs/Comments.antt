@@ -1,0 +1,53 @@
+-- Comments and blanks.
+use Rattle.std.specs.Prelude.{ℕ, Bool, true, false, if◌then◌else◌, List, [], ◌∷◌, drop, Option, Some, None}
+use Rattle.std.specs.List.{list_any}
+use Rattle.std.specs.Option.{option_map}
+use Rattle.simplecss_text.specs.Reading.{no_comment, got, fails, Reader, ◌>>=◌, ◌>>◌, give, here, each}
+use Rattle.simplecss_text.specs.Bytes.{past_one, starts_two, past_byte, closed_or}
+use Rattle.simplecss_text.specs.Characters.{is_space}
+
+-- `/*` stands there
+abbrev pub opens_comment : List ℕ → Bool
+opens_comment text = starts_two 47 42 text
+
+-- what is left after the first `*/`
+abbrev pub after_close : List ℕ → Option (List ℕ)
+after_close [] = None
+after_close (b ∷ text) = if starts_two 42 47 (b ∷ text) then Some (past_one text) else after_close text
+
+-- what is left after the comment that opens here: it closes by the first `*/` behind its `/*`
+abbrev pub after_comment : List ℕ → Option (List ℕ)
+after_comment text = after_close (drop 2 text)
+
+-- A comment. One that is not closed uses up the text, and where none opens a lone `/` is passed.
+unfoldable pub comment : Reader (Unit {0})
+comment text =
+    if opens_comment text then closed_or (no_comment text) (after_comment text)
+    else fails (no_comment text) (past_byte 47 text)
+
+-- One part of a blank, a space byte or a closed comment: whether it is a space byte, and what is left after it.
+abbrev pub blank_part : List ℕ → Option (Bool × List ℕ)
+blank_part [] = None
+blank_part (b ∷ text) =
+    if is_space b then Some (true, text)
+    else (if opens_comment (b ∷ text) then option_map (λ rest. (false, rest)) (after_comment (b ∷ text)) else None)
+
+-- what is left after the blank at the front: the longest front of space bytes and closed comments
+abbrev pub past_blank : List ℕ → List ℕ
+past_blank text = (each blank_part text).1
+
+-- A blank. A comment behind it that is not closed is a fault, and uses up the text.
+unfoldable pub blank : Reader (Unit {0})
+blank text =
+    if opens_comment (past_blank text) then fails (no_comment (past_blank text)) [] else got tt (past_blank text)
+
+-- whether a space byte is a part of the blank at the front; those inside its comments are none
+abbrev pub has_space : List ℕ → Bool
+has_space text = list_any (λ is_space_byte. is_space_byte) (each blank_part text).0
+
+-- a gap, which is a blank between two pieces: whether it has a space byte
+unfoldable pub gap : Reader Bool
+gap = do
+  text ← here
+  blank
+  give (has_space text)

@@ -1,0 +1,101 @@
+-- Declarations.
+use Rattle.std.specs.Prelude.{ℕ, Bool, true, false, ◌==◌, eqb, if◌then◌else◌, List, [], ◌∷◌, length, drop, codes, Option, Some, None}
+use Rattle.std.specs.Str.{trim}
+use Rattle.std.specs.List.{starts_with}
+use Rattle.simplecss_text.specs.Reading.{no_value, Reading, got, fails, Reader, ◌>>=◌, ◌>>◌, give, here, left_after, found, always, before, each}
+use Rattle.simplecss_text.specs.Bytes.{past_one, starts, byte, optional, any_byte}
+use Rattle.simplecss_text.specs.Characters.{Edition}
+use Rattle.simplecss_text.specs.Comments.{past_blank, blank}
+use Rattle.simplecss_text.specs.Names.{name}
+use Rattle.simplecss_text.specs.Terms.{term}
+
+-- What a declaration says: the name of a property, a value of it, and whether it is important.
+pub record Property : Type 0 where
+  pub name : List ℕ
+  pub value : List ℕ
+  pub important : Bool
+
+-- the last of the list, or the other where it is empty
+abbrev pub last_or : {A : Type 0} → A → List A → A
+last_or other [] = other
+last_or other (x ∷ xs) = last_or x xs
+
+-- What is left after a term, and what is left after the blank behind it. (A comment that is open there is left to the
+-- part behind the value.)
+abbrev pub after_term : Reading (Unit {0}) → Option (List ℕ × List ℕ)
+after_term (got u rest) = Some (rest, past_blank rest)
+after_term (fails fault rest) = None
+
+abbrev pub term_in_value : Edition → List ℕ → Option (List ℕ × List ℕ)
+term_in_value edition text = after_term (term edition text)
+
+-- The terms of a value, each with a blank: what is left after each of them, and after the last blank.
+abbrev pub terms : Edition → List ℕ → List (List ℕ) × List ℕ
+terms edition text = each (term_in_value edition) text
+
+-- A value: from the first term to the end of the last one, without white space at either end. What is left is that
+-- after the term that could not be read.
+unfoldable pub value : Edition → List ℕ → List ℕ × List ℕ
+value edition text =
+    (trim (before text (last_or text (terms edition text).0)), left_after (term edition (terms edition text).1))
+
+-- the word `important`, if the text begins with it
+abbrev pub important_word : Reader Bool
+important_word text = if starts_with eqb text (codes "important") then got true (drop 9 text) else got false text
+
+abbrev pub after_mark : Reader Bool
+after_mark = do
+  any_byte
+  blank
+  important_word
+
+-- whether an exclamation mark stands there, and behind a blank the word `important`
+unfoldable pub importance : Reader Bool
+importance text = if starts 33 text then after_mark text else got false text
+
+-- a semicolon, and the blank behind it
+abbrev pub semicolon : List ℕ → Option (Unit {0} × List ℕ)
+semicolon text = if starts 59 text then Some (tt, past_blank (past_one text)) else None
+
+abbrev pub semicolons : Reader (Unit {0})
+semicolons text = got tt (each semicolon text).1
+
+-- What stands behind a value: the importance and any number of semicolons, with blanks between. It tells the importance.
+unfoldable pub trailing : Reader Bool
+trailing = do
+  blank
+  important ← importance
+  blank
+  semicolons
+  blank
+  give important
+
+-- the declaration, unless its value is empty, which began at `start`
+abbrev pub unless_empty : (start : List ℕ) → Property → Reader Property
+unless_empty start property text =
+    if length property.value == 0 then fails (no_value start) text else got property text
+
+abbrev pub value_reader : Edition → Reader (List ℕ)
+value_reader edition text = always (value edition text)
+
+-- A declaration, or its first fault.
+unfoldable pub declaration : Edition → Reader Property
+declaration edition = do
+  blank
+  optional 42
+  property ← name edition
+  blank
+  byte 58
+  blank
+  start ← here
+  stated ← value_reader edition
+  important ← trailing
+  unless_empty start (record { name = property; value = stated; important = important })
+
+-- the same, where the fault is not told
+abbrev pub next_declaration : Edition → List ℕ → Option (Property × List ℕ)
+next_declaration edition text = found (declaration edition text)
+
+-- the declarations of a text, up to the first fault or the end
+unfoldable pub declarations : Edition → List ℕ → List Property
+declarations edition text = (each (next_declaration edition) text).0

@@ -1,0 +1,57 @@
+-- The errors that tell faults, and how they print.
+use Rattle.std.specs.Prelude.{◌≡◌, ℕ, List, [], ◌∷◌, ◌++◌, codes, decimal, encode_utf8, Result, Ok, Err}
+use Rattle.simplecss_text.specs.Reading.{Fault, ended, wrong_byte, no_name, no_comment, no_value, no_selector, unexpected_selector, unexpected_combinator, no_attribute_form, no_language, Reading, got, fails, place_of}
+use Rattle.simplecss_text.specs.Positions.{position}
+use Rattle.simplecss_text.specs.declared.TextPos.{TextPos}
+use Rattle.simplecss_text.specs.declared.Error.{Error}
+use Rattle.simplecss_text.specs.declared.Error.TheVariants.{UnexpectedEndOfStream, InvalidIdent, InvalidComment, InvalidValue, InvalidByte, SelectorMissing, UnexpectedSelector, UnexpectedCombinator, InvalidAttributeSelector, InvalidLanguagePseudoClass}
+
+-- the position in the text where this rest begins
+abbrev pub position_of : List ℕ → List ℕ → TextPos
+position_of text rest = position text (place_of text rest)
+
+-- the error that another byte than the expected one stands there, or none at all
+abbrev pub byte_error : List ℕ → ℕ → List ℕ → Error
+byte_error text expected [] = UnexpectedEndOfStream
+byte_error text expected (b ∷ rest) = InvalidByte expected b (position_of text (b ∷ rest))
+
+-- the error that tells a fault in a text
+abbrev pub error_of : List ℕ → Fault → Error
+error_of text ended = UnexpectedEndOfStream
+error_of text (wrong_byte expected rest) = byte_error text expected rest
+error_of text (no_name rest) = InvalidIdent (position_of text rest)
+error_of text (no_comment rest) = InvalidComment (position_of text rest)
+error_of text (no_value rest) = InvalidValue (position_of text rest)
+error_of text no_selector = SelectorMissing
+error_of text unexpected_selector = UnexpectedSelector
+error_of text unexpected_combinator = UnexpectedCombinator
+error_of text no_attribute_form = InvalidAttributeSelector
+error_of text no_language = InvalidLanguagePseudoClass
+
+-- the reading has failed, the error tells its fault, and this is left to read
+abbrev pub FailsBy : {A : Type 0} → List ℕ → Reading A → Error → List ℕ → Type 0
+FailsBy text (got x rest) error left = ⊥
+FailsBy text (fails fault rest) error left = (error ≡ error_of text fault) × (left ≡ rest)
+
+-- A call on a text answered `result` and left `left` to read, as the reading says. Of a value the definitions see what
+-- `view` tells.
+abbrev pub Gives : {X A : Type 0} → (X → A) → List ℕ → Reading A → Result X Error → List ℕ → Type 0
+Gives view text reading (Ok x) left = reading ≡ got (view x) left
+Gives view text reading (Err error) left = FailsBy text reading error left
+
+-- row:column
+abbrev pub position_text : TextPos → List ℕ
+position_text pos = decimal pos.row ++ codes ":" ++ decimal pos.col
+
+abbrev pub error_text : Error → List ℕ
+error_text UnexpectedEndOfStream = codes "unexpected end of stream"
+error_text (InvalidIdent pos) = codes "invalid ident at " ++ position_text pos
+error_text (InvalidComment pos) = codes "invalid comment at " ++ position_text pos
+error_text (InvalidValue pos) = codes "invalid value at " ++ position_text pos
+error_text (InvalidByte expected actual pos) =
+    codes "expected '" ++ encode_utf8 expected ++ codes "' not '" ++ encode_utf8 actual ++ codes "' at " ++ position_text pos
+error_text SelectorMissing = codes "selector missing"
+error_text UnexpectedSelector = codes "unexpected selector"
+error_text UnexpectedCombinator = codes "unexpected combinator"
+error_text InvalidAttributeSelector = codes "invalid or unsupported attribute selector"
+error_text InvalidLanguagePseudoClass = codes "invalid language pseudo-class"

@@ -1,0 +1,105 @@
+-- Which pieces may stand next to each other.
+use Rattle.std.specs.Prelude.{ℕ, Bool, true, false, List}
+use Rattle.simplecss_text.specs.Reading.{Fault, no_comment, no_selector, unexpected_selector, unexpected_combinator}
+use Rattle.simplecss_text.specs.Bytes.{past_one}
+use Rattle.simplecss_text.specs.Tokens.{Token}
+use Rattle.simplecss_text.specs.Tokens.Token.{universal_selector, type_selector, id_selector, class_selector, attribute_selector, named_pseudo_class, lang_pseudo_class, descendant_combinator, child_combinator, adjacent_combinator}
+use Rattle.simplecss_text.specs.Pieces.{Piece, Ending}
+use Rattle.simplecss_text.specs.Pieces.Ending.{at_stop, at_slash, without_head, within_piece, within_gap}
+
+-- The left side of a gap: open at the start of the text and after a combinator, closed after a simple piece.
+pub data Left : Type 0 where
+  open_left : Left
+  closed_left : Left
+
+-- What follows a gap, with what is left where it begins, or for a type after it, where the table names that place.
+pub data Follows : Type 0 where
+  subselector : Follows
+  universal : (start : List ℕ) → Follows
+  type_name : (after : List ℕ) → Follows
+  combinator : (start : List ℕ) → Follows
+  stop : (start : List ℕ) → Follows
+  slash : (start : List ℕ) → Follows
+  -- a fault in place of a simple piece
+  faulty_piece : Follows
+  -- a fault in the gap, a comment that is not closed
+  faulty_gap : Follows
+
+-- What stands between the left side and what follows.
+pub data Answer : Type 0 where
+  nothing : Answer
+  -- a descendant combinator
+  descends : Answer
+  -- the tokens end
+  ends_tokens : Answer
+  -- a fault, and what is left after it
+  refuses : Fault → (after : List ℕ) → Answer
+
+-- The table of neighbours, by the left side, whether the gap has a space byte, and what follows it. Where a fault
+-- follows, the table adds none of its own.
+abbrev pub between : Left → Bool → Follows → Answer
+-- at the start of the text, or behind a combinator
+between open_left spaced subselector = nothing
+between open_left spaced (universal start) = nothing
+between open_left spaced (type_name after) = nothing
+between open_left spaced (combinator start) = refuses unexpected_combinator start
+between open_left spaced (stop start) = refuses no_selector start
+between open_left spaced (slash start) = refuses no_selector start
+between open_left spaced faulty_piece = nothing
+between open_left spaced faulty_gap = nothing
+-- behind a simple piece, without a space byte
+between closed_left false subselector = nothing
+between closed_left false (universal start) = refuses unexpected_selector start
+between closed_left false (type_name after) = refuses unexpected_selector after
+between closed_left false (combinator start) = nothing
+between closed_left false (stop start) = ends_tokens
+between closed_left false (slash start) = ends_tokens
+between closed_left false faulty_piece = nothing
+between closed_left false faulty_gap = nothing
+-- behind a simple piece and a space byte
+between closed_left true subselector = descends
+between closed_left true (universal start) = descends
+between closed_left true (type_name after) = descends
+between closed_left true (combinator start) = nothing
+between closed_left true (stop start) = ends_tokens
+between closed_left true (slash start) = refuses (no_comment start) (past_one start)
+between closed_left true faulty_piece = descends
+between closed_left true faulty_gap = nothing
+
+-- what a token of a piece is as the one that follows
+abbrev pub follows_as : Token → (start after : List ℕ) → Follows
+follows_as universal_selector start after = universal start
+follows_as (type_selector n) start after = type_name after
+follows_as (id_selector n) start after = subselector
+follows_as (class_selector n) start after = subselector
+follows_as (attribute_selector n operator) start after = subselector
+follows_as (named_pseudo_class n) start after = subselector
+follows_as (lang_pseudo_class value) start after = subselector
+follows_as descendant_combinator start after = combinator start
+follows_as child_combinator start after = combinator start
+follows_as adjacent_combinator start after = combinator start
+
+-- what stands between the left side and a piece
+abbrev pub before_piece : Left → Piece → Answer
+before_piece left p = between left p.spaced (follows_as p.token p.start p.after)
+
+-- what stands between the left side and the ending
+abbrev pub before_ending : Left → Ending → Answer
+before_ending left (at_stop spaced start) = between left spaced (stop start)
+before_ending left (at_slash spaced start) = between left spaced (slash start)
+before_ending left (without_head spaced start fault after) = between left spaced faulty_piece
+before_ending left (within_piece spaced start fault after) = between left spaced faulty_piece
+before_ending left (within_gap fault after) = between left false faulty_gap
+
+-- the left side of the gap behind a piece
+abbrev pub left_behind : Token → Left
+left_behind universal_selector = closed_left
+left_behind (type_selector n) = closed_left
+left_behind (id_selector n) = closed_left
+left_behind (class_selector n) = closed_left
+left_behind (attribute_selector n operator) = closed_left
+left_behind (named_pseudo_class n) = closed_left
+left_behind (lang_pseudo_class value) = closed_left
+left_behind descendant_combinator = open_left
+left_behind child_combinator = open_left
+left_behind adjacent_combinator = open_left

@@ -1,0 +1,146 @@
+-- A text as the pieces of a selector: a gap and a solid piece in turn, up to a stop or a fault. What a piece is depends
+-- on no piece before it.
+use Rattle.std.specs.Prelude.{ℕ, Bool, ◌||◌, ◌==◌, if◌then◌else◌, List, [], ◌∷◌, length, bytes_eq, codes, Option}
+use Rattle.std.specs.Str.{trim}
+use Rattle.simplecss_text.specs.Reading.{Fault, ended, no_attribute_form, no_language, no_selector, Reading, got, fails, Reader, ◌>>=◌, ◌>>◌, give, here, found, each}
+use Rattle.simplecss_text.specs.Bytes.{starts, starts_by, byte, all_before}
+use Rattle.simplecss_text.specs.Characters.{Edition}
+use Rattle.simplecss_text.specs.Comments.{gap}
+use Rattle.simplecss_text.specs.Names.{name}
+use Rattle.simplecss_text.specs.Strings.{string_or_name}
+use Rattle.simplecss_text.specs.Components.{Operator}
+use Rattle.simplecss_text.specs.Components.Operator.{exists, equals, has_word, begins_with}
+use Rattle.simplecss_text.specs.Tokens.{Token}
+use Rattle.simplecss_text.specs.Tokens.Token.{universal_selector, type_selector, id_selector, class_selector, attribute_selector, named_pseudo_class, lang_pseudo_class, child_combinator, adjacent_combinator}
+
+-- an equals sign and a value
+abbrev pub equated : Edition → (List ℕ → Operator) → Reader Operator
+equated edition operator = do
+  byte 61
+  value ← string_or_name edition
+  give (operator value)
+
+-- What is asked of an attribute: nothing before a closing bracket, else `=`, `~=` or `|=` and a value.
+unfoldable pub attribute_operator : Edition → Reader Operator
+attribute_operator edition [] = fails ended []
+attribute_operator edition (b ∷ text) =
+    if b == 93 then got exists (b ∷ text)
+    else (if b == 61 then equated edition equals (b ∷ text)
+    else (if b == 126 then equated edition has_word text
+    else (if b == 124 then equated edition begins_with text
+    else fails no_attribute_form (b ∷ text))))
+
+-- an attribute after its opening bracket
+unfoldable pub attribute_after : Edition → Reader Token
+attribute_after edition = do
+  n ← name edition
+  operator ← attribute_operator edition
+  byte 93
+  give (attribute_selector n operator)
+
+abbrev pub lang_of : List ℕ → Reader Token
+lang_of value text = if length value == 0 then fails no_language text else got (lang_pseudo_class value) text
+
+-- what follows `:lang`: a language in parentheses, without the white space round it
+unfoldable pub lang_after : Reader Token
+lang_after = do
+  byte 40
+  value ← all_before 41
+  byte 41
+  lang_of (trim value)
+
+abbrev pub pseudo_class_named : List ℕ → Reader Token
+pseudo_class_named n text = if bytes_eq n (codes "lang") then lang_after text else got (named_pseudo_class n) text
+
+-- a pseudo-class after its colon
+unfoldable pub pseudo_class_after : Edition → Reader Token
+pseudo_class_after edition = do
+  n ← name edition
+  pseudo_class_named n
+
+-- a name, which is that of a token
+unfoldable pub named : Edition → (List ℕ → Token) → Reader Token
+named edition token = do
+  n ← name edition
+  give (token n)
+
+-- The solid piece that a byte begins: `>`, `+`, `*`, an id, a class, an attribute, a pseudo-class, or else a type.
+unfoldable pub begun : Edition → Reader Token
+begun edition [] = named edition type_selector []
+begun edition (b ∷ text) =
+    if b == 62 then got child_combinator text
+    else (if b == 43 then got adjacent_combinator text
+    else (if b == 42 then got universal_selector text
+    else (if b == 35 then named edition id_selector text
+    else (if b == 46 then named edition class_selector text
+    else (if b == 91 then attribute_after edition text
+    else (if b == 58 then pseudo_class_after edition text
+    else named edition type_selector (b ∷ text)))))))
+
+-- the end of the text, `,` or `{`
+abbrev pub is_stop : List ℕ → Bool
+is_stop text = length text == 0 || starts 44 text || starts 123 text
+
+-- A solid piece. At a stop and at a `/` stands none.
+unfoldable pub solid : Edition → Reader Token
+solid edition text =
+    if is_stop text || starts 47 text then fails no_selector text else begun edition text
+
+-- A gap and a solid piece: whether the gap has a space byte, what is left where the solid piece begins, its token, and
+-- what is left after it.
+pub record Piece : Type 0 where
+  pub spaced : Bool
+  pub start : List ℕ
+  pub token : Token
+  pub after : List ℕ
+
+unfoldable pub piece : Edition → Reader Piece
+piece edition = do
+  spaced ← gap
+  start ← here
+  token ← solid edition
+  after ← here
+  give (record { spaced = spaced; start = start; token = token; after = after })
+
+-- the same, where a fault is not told
+abbrev pub next_piece : Edition → List ℕ → Option (Piece × List ℕ)
+next_piece edition text = found (piece edition text)
+
+-- the pieces of a text, and what is left where no further one stands
+abbrev pub pieces : Edition → List ℕ → List Piece × List ℕ
+pieces edition text = each (next_piece edition) text
+
+-- What stands where the pieces end.
+pub data Ending : Type 0 where
+  -- a stop
+  at_stop : (spaced : Bool) → (start : List ℕ) → Ending
+  -- a `/`, which opens no comment, since it is behind a gap
+  at_slash : (spaced : Bool) → (start : List ℕ) → Ending
+  -- where a type must stand and no name begins: the fault, and what is left after it
+  without_head : (spaced : Bool) → (start : List ℕ) → Fault → (after : List ℕ) → Ending
+  -- a fault inside a piece that has begun
+  within_piece : (spaced : Bool) → (start : List ℕ) → Fault → (after : List ℕ) → Ending
+  -- a comment in the gap that is not closed
+  within_gap : Fault → (after : List ℕ) → Ending
+
+-- a `#`, a `.`, a `[` or a `:`, which begin a subselector
+abbrev pub begins_subselector : ℕ → Bool
+begins_subselector b = b == 35 || b == 46 || b == 91 || b == 58
+
+-- (A piece that can be read is no ending.)
+abbrev pub fault_ending : Bool → List ℕ → Reading Token → Ending
+fault_ending spaced start (got token after) = at_stop spaced start
+fault_ending spaced start (fails fault after) =
+    if starts_by begins_subselector start then within_piece spaced start fault after
+    else without_head spaced start fault after
+
+abbrev pub gap_ending : Edition → Reading Bool → Ending
+gap_ending edition (fails fault after) = within_gap fault after
+gap_ending edition (got spaced start) =
+    if is_stop start then at_stop spaced start
+    else (if starts 47 start then at_slash spaced start
+    else fault_ending spaced start (solid edition start))
+
+-- what the pieces of a text end by, from what is left where no further one stands
+unfoldable pub ending : Edition → List ℕ → Ending
+ending edition text = gap_ending edition (gap text)

@@ -1,0 +1,78 @@
+-- The printed texts of selectors and sheets, as joins of the texts of their parts.
+use Rattle.std.specs.Prelude.{ℕ, Bool, true, not, ◌||◌, ◌&&◌, ◌==◌, if◌then◌else◌, List, [], ◌∷◌, ◌++◌, Option, None, Some, codes, map}
+use Rattle.std.specs.List.{flat_map, join_with_byte, list_all}
+use Rattle.simplecss_text.specs.Components.{Operator, Class, Subselector, Combinator, Component}
+use Rattle.simplecss_text.specs.Components.Operator.{exists, equals, has_word, begins_with}
+use Rattle.simplecss_text.specs.Components.Class.{first_child, link, visited, hover, active, focus, lang}
+use Rattle.simplecss_text.specs.Components.Subselector.{attribute, pseudo_class}
+use Rattle.simplecss_text.specs.Components.Combinator.{none, descendant, child, adjacent}
+use Rattle.simplecss_text.specs.Declarations.{Property}
+use Rattle.simplecss_text.specs.Statements.{StyleRule}
+
+abbrev pub class_text : Class → List ℕ
+class_text first_child = codes "first-child"
+class_text link = codes "link"
+class_text visited = codes "visited"
+class_text hover = codes "hover"
+class_text active = codes "active"
+class_text focus = codes "focus"
+class_text (lang language) = codes "lang(" ++ language ++ codes ")"
+
+abbrev pub operator_text : Operator → List ℕ
+operator_text exists = []
+operator_text (equals value) = codes "='" ++ value ++ codes "'"
+operator_text (has_word value) = codes "~='" ++ value ++ codes "'"
+operator_text (begins_with value) = codes "|='" ++ value ++ codes "'"
+
+abbrev pub subselector_text : Subselector → List ℕ
+subselector_text (attribute name operator) = codes "[" ++ name ++ operator_text operator ++ codes "]"
+subselector_text (pseudo_class class) = codes ":" ++ class_text class
+
+-- what stands before a component
+abbrev pub combinator_text : Combinator → List ℕ
+combinator_text none = []
+combinator_text descendant = codes " "
+combinator_text child = codes " > "
+combinator_text adjacent = codes " + "
+
+abbrev pub type_text : Option (List ℕ) → List ℕ
+type_text None = codes "*"
+type_text (Some name) = name
+
+abbrev pub component_text : Component → List ℕ
+component_text c = combinator_text c.combinator ++ type_text c.compound.name ++ flat_map subselector_text c.compound.subselectors
+
+abbrev pub selector_text : List Component → List ℕ
+selector_text components = flat_map component_text components
+
+abbrev pub important_text : Bool → List ℕ
+important_text important = if important then codes " !important" else []
+
+abbrev pub property_text : Property → List ℕ
+property_text p = p.name ++ codes ":" ++ p.value ++ important_text p.important ++ codes ";"
+
+abbrev pub rule_text : StyleRule → List ℕ
+rule_text rule = selector_text rule.components ++ codes " { " ++ flat_map property_text rule.properties ++ codes " }"
+
+-- the rules' texts, with a newline between each two
+abbrev pub sheet_text : List StyleRule → List ℕ
+sheet_text rules = join_with_byte 10 (map rule_text rules)
+
+-- each apostrophe of the text stands right behind a backslash of it; before the text stands `previous`
+abbrev pub escaped_after : ℕ → List ℕ → Bool
+escaped_after previous [] = true
+escaped_after previous (b ∷ text) = (not (b == 39) || previous == 92) && escaped_after b text
+
+abbrev pub is_clean_operator : Operator → Bool
+is_clean_operator exists = true
+is_clean_operator (equals value) = escaped_after 0 value
+is_clean_operator (has_word value) = escaped_after 0 value
+is_clean_operator (begins_with value) = escaped_after 0 value
+
+abbrev pub is_clean_subselector : Subselector → Bool
+is_clean_subselector (attribute name operator) = is_clean_operator operator
+is_clean_subselector (pseudo_class class) = true
+
+-- every apostrophe in an attribute value of the selector stands right behind a backslash of that value
+abbrev pub is_clean : List Component → Bool
+is_clean components = list_all (λ c. list_all is_clean_subselector c.compound.subselectors) components

@@ -1,0 +1,23 @@
+-- How specific a selector is.
+use Rattle.std.specs.Prelude.{ℕ, Bool, false, not, min, List, [], ◌∷◌, sum_by, count_by, is_some, bytes_eq, codes}
+use Rattle.simplecss_text.specs.Components.{Subselector, Component}
+use Rattle.simplecss_text.specs.Components.Subselector.{attribute, pseudo_class}
+
+-- an attribute named `id`, with any operator
+abbrev pub is_id : Subselector → Bool
+is_id (attribute name operator) = bytes_eq name (codes "id")
+is_id (pseudo_class class) = false
+
+abbrev pub id_count : Component → ℕ
+id_count c = count_by is_id c.compound.subselectors
+
+abbrev pub other_count : Component → ℕ
+other_count c = count_by (λ s. not (is_id s)) c.compound.subselectors
+
+-- the number of ids, of other subselectors, and of components with a type name, each 255 where it is greater
+abbrev pub specificity : List Component → List ℕ
+specificity components =
+    min 255 (sum_by id_count components)
+    ∷ min 255 (sum_by other_count components)
+    ∷ min 255 (count_by (λ c. is_some c.compound.name) components)
+    ∷ []

@@ -1,0 +1,88 @@
+-- Rule sets, at-rules, and the rules of a text.
+use Rattle.std.specs.Prelude.{ℕ, Bool, not, ◌||◌, ◌==◌, if◌then◌else◌, List, [], ◌∷◌, ◌++◌, length, map, filter, Option, Some, None}
+use Rattle.std.specs.List.{filter_map, flat_map}
+use Rattle.simplecss_text.specs.Reading.{Reading, got, fails, each}
+use Rattle.simplecss_text.specs.Bytes.{past_one, starts, is_neither, past, past_byte}
+use Rattle.simplecss_text.specs.Characters.{Edition, is_space}
+use Rattle.simplecss_text.specs.Comments.{opens_comment, past_blank}
+use Rattle.simplecss_text.specs.Names.{name}
+use Rattle.simplecss_text.specs.Components.{Component}
+use Rattle.simplecss_text.specs.Selectors.{reads}
+use Rattle.simplecss_text.specs.Declarations.{Property}
+use Rattle.simplecss_text.specs.Blocks.{block, from_block_end}
+
+-- A rule of a sheet: the components of its selector, and what its declarations say.
+pub record StyleRule : Type 0 where
+  pub components : List Component
+  pub properties : List Property
+
+-- A part of a rule set: its selector, if it gave one, and what is left after it and the space bytes behind it.
+unfoldable pub part : Edition → List ℕ → Option (List Component) × List ℕ
+part edition text = ((reads edition text).0, past is_space (reads edition text).1)
+
+-- a part that a comma follows, and what is left after the comma
+abbrev pub part_and_comma : Edition → List ℕ → Option (Option (List Component) × List ℕ)
+part_and_comma edition text =
+    if starts 44 (part edition text).1 then Some ((part edition text).0, past_one (part edition text).1) else None
+
+-- The selectors of the parts, a comma behind each but the last, and what is left after it.
+unfoldable pub parts : Edition → List ℕ → List (List Component) × List ℕ
+parts edition text =
+    let listed = each (part_and_comma edition) text in
+    let last = part edition listed.1 in
+    (filter_map (λ selector. selector) (listed.0 ++ last.0 ∷ []), last.1)
+
+-- The declarations of the block that the next opening brace begins, and what is left after it. Without a brace there are
+-- none, and the text is used up.
+unfoldable pub next_block : Edition → List ℕ → List Property × List ℕ
+next_block edition text =
+    let opened = past (λ b. not (b == 123)) text in
+    if starts 123 opened then block edition (past_one opened) else ([], [])
+
+-- A rule set: an optional comma, the parts, and the block. Each part that gave a selector is a rule with all declarations.
+unfoldable pub rule_set : Edition → List ℕ → List StyleRule × List ℕ
+rule_set edition text =
+    let head = parts edition (past_byte 44 text) in
+    let body = next_block edition head.1 in
+    (map (λ selector. record { components = selector; properties = body.0 }) head.0, body.1)
+
+-- what is left behind a semicolon, or a block and its closing brace
+abbrev pub past_at_end : List ℕ → List ℕ
+past_at_end text = if starts 123 text then past_byte 125 (from_block_end (past_one text)) else past_byte 59 text
+
+-- Behind the name of an at-rule all is passed up to a semicolon or a block; a faulty name ends it.
+abbrev pub past_at_name : Reading (List ℕ) → List ℕ
+past_at_name (got n rest) = past_at_end (past (is_neither 59 123) rest)
+past_at_name (fails fault rest) = rest
+
+-- what is left after an at-rule, behind its sign
+unfoldable pub past_at_rule : Edition → List ℕ → List ℕ
+past_at_rule edition text = past_at_name (name edition text)
+
+-- a statement: the rules that it gives, and what is left after it
+unfoldable pub statement : Edition → List ℕ → List StyleRule × List ℕ
+statement edition text = if starts 64 text then ([], past_at_rule edition (past_one text)) else rule_set edition text
+
+-- the text has ended, or a comment is open there
+abbrev pub ends_statements : List ℕ → Bool
+ends_statements text = length text == 0 || opens_comment text
+
+-- a blank and a statement, where the statements go on
+abbrev pub next_statement : Edition → List ℕ → Option (List StyleRule × List ℕ)
+next_statement edition text =
+    if ends_statements (past_blank text) then None else Some (statement edition (past_blank text))
+
+-- the rules that the statements of a text give, one after another
+unfoldable pub statements : Edition → List ℕ → List (List StyleRule)
+statements edition text = (each (next_statement edition) text).0
+
+abbrev pub has_property : StyleRule → Bool
+has_property rule = not (length rule.properties == 0)
+
+-- the rules of all statements of a text, in order, that have a declaration
+abbrev pub kept : Edition → List ℕ → List StyleRule
+kept edition text = filter has_property (flat_map (λ rules. rules) (statements edition text))
+
+-- the text is a blank and then a comment that is not closed
+abbrev pub is_open_comment : List ℕ → Bool
+is_open_comment text = opens_comment (past_blank text)

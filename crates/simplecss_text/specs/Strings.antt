@@ -1,0 +1,29 @@
+-- Strings, and what a value of an attribute may be.
+use Rattle.std.specs.Prelude.{ℕ, Bool, not, ◌&&◌, ◌||◌, ◌==◌, if◌then◌else◌, List, [], ◌∷◌, Option, Some, None}
+use Rattle.simplecss_text.specs.Reading.{ended, Reading, got, fails, Reader, before}
+use Rattle.simplecss_text.specs.Bytes.{past_one}
+use Rattle.simplecss_text.specs.Characters.{Edition}
+use Rattle.simplecss_text.specs.Names.{name}
+
+-- a single or a double quote
+abbrev pub is_quote : ℕ → Bool
+is_quote b = b == 39 || b == 34
+
+-- What is left from the first such quote on that no backslash stands right before. Before the text stands `previous`.
+abbrev pub from_quote : ℕ → ℕ → List ℕ → Option (List ℕ)
+from_quote quote previous [] = None
+from_quote quote previous (b ∷ text) =
+    if b == quote && not (previous == 92) then Some (b ∷ text) else from_quote quote b text
+
+abbrev pub string_up_to : List ℕ → Option (List ℕ) → Reading (List ℕ)
+string_up_to text None = fails ended []
+string_up_to text (Some closing) = got (before text closing) (past_one closing)
+
+-- The rest of a string whose opening quote was read: what stands before the closing quote. Without one the text is used up.
+abbrev pub string_after : ℕ → Reader (List ℕ)
+string_after quote text = string_up_to text (from_quote quote quote text)
+
+-- a string where a quote stands, else a name
+unfoldable pub string_or_name : Edition → Reader (List ℕ)
+string_or_name edition [] = fails ended []
+string_or_name edition (b ∷ text) = if is_quote b then string_after b text else name edition (b ∷ text)

@@ -1,0 +1,5 @@
+-- The edition of the rules that this crate keeps.
+use Rattle.simplecss_text.specs.Characters.{Edition, first_edition}
+
+abbrev pub this_edition : Edition
+this_edition = first_edition
