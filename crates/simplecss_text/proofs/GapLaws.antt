@@ -26,3 +26,11 @@ gap-again text start spaced = by (opens_comment (past_blank text)) refl
         let same : past_blank text ≡ start = cc in
         let again : gap (past_blank text) ≡ got false (past_blank text) = rw (past_blank-again text, e, no_space_behind text) refl in
         subst (λ (t : List ℕ). gap t ≡ got false t) same again
+
+pub gap_is_closed : (text : List ℕ) → opens_comment (past_blank text) ≡ false → gap text ≡ got (has_space text) (past_blank text)
+unfolding gap blank
+gap_is_closed text e = rw e refl
+
+pub gap_is_open : (text : List ℕ) → opens_comment (past_blank text) ≡ true → gap text ≡ fails (no_comment (past_blank text)) []
+unfolding gap blank
+gap_is_open text e = rw e refl

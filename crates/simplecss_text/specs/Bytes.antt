@@ -1,5 +1,5 @@
 -- The bytes at the front of a text.
-use Rattle.std.specs.Prelude.{ℕ, Bool, false, not, ◌&&◌, ◌==◌, nat_le, if◌then◌else◌, List, [], ◌∷◌, drop, Option, Some, None}
+use Rattle.std.specs.Prelude.{ℕ, Bool, false, not, ◌&&◌, ◌==◌, nat_le, nat_lt, if◌then◌else◌, List, [], ◌∷◌, drop, Option, Some, None}
 use Rattle.std.specs.List.{prefix_len}
 use Rattle.simplecss_text.specs.Reading.{Fault, ended, wrong_byte, Reading, got, fails, Reader, before}
 
@@ -29,6 +29,9 @@ is_neither one two b = not (b == one) && not (b == two)
 
 abbrev pub is_within : ℕ → ℕ → ℕ → Bool
 is_within low high b = nat_le low b && nat_le b high
+
+abbrev pub is_ascii : ℕ → Bool
+is_ascii b = nat_lt b 128
 
 abbrev pub is_digit : ℕ → Bool
 is_digit b = is_within 48 57 b

@@ -1,5 +1,5 @@
 -- The errors that tell faults, and how they print.
-use Rattle.std.specs.Prelude.{◌≡◌, ℕ, List, [], ◌∷◌, ◌++◌, codes, decimal, encode_utf8, Result, Ok, Err}
+use Rattle.std.specs.Prelude.{◌≡◌, ℕ, List, [], ◌∷◌, ◌++◌, codes, decimal, encode_utf8, Option, Some, None, Result, Ok, Err}
 use Rattle.simplecss_text.specs.Reading.{Fault, ended, wrong_byte, no_name, no_comment, no_value, no_selector, unexpected_selector, unexpected_combinator, no_attribute_form, no_language, Reading, got, fails, place_of}
 use Rattle.simplecss_text.specs.Positions.{position}
 use Rattle.simplecss_text.specs.declared.TextPos.{TextPos}
@@ -55,3 +55,8 @@ error_text UnexpectedSelector = codes "unexpected selector"
 error_text UnexpectedCombinator = codes "unexpected combinator"
 error_text InvalidAttributeSelector = codes "invalid or unsupported attribute selector"
 error_text InvalidLanguagePseudoClass = codes "invalid language pseudo-class"
+
+-- The same of a call that tells no error: `None` where the reading fails by this fault.
+abbrev pub Finds : {X A : Type 0} → (X → A) → Fault → Reading A → Option X → List ℕ → Type 0
+Finds view fault reading (Some x) left = reading ≡ got (view x) left
+Finds view fault reading None left = reading ≡ fails fault left

@@ -1,0 +1,45 @@
+-- A gap, a part at a time.
+use Rattle.std.proofs.Common.{◌≡◌, ℕ, ◌+◌, Bool, true, false, ◌||◌, List, drop, Some, None, refl, sym, ap, ◌∙◌}
+use Rattle.std.specs.Str.{IsUtf8, IsCharBoundary}
+use Rattle.std.proofs.Math.Bool.{or_assoc}
+use Rattle.std.proofs.lemmas.List.{drop-drop}
+use Rattle.std.proofs.lemmas.Str.{IsCharBoundary-start, IsCharBoundary-from_rest}
+use Rattle.simplecss_text.specs.Reading.{each, followed_by}
+use Rattle.simplecss_text.specs.Comments.{blank_part, past_blank, has_space}
+use Rattle.simplecss_text.proofs.EachLaws.{each-none, each-some}
+use Rattle.simplecss_text.proofs.TakesLaws.{blank_part-takes}
+
+-- The first bytes of the text are parts of its gap, and this tells whether a space byte is among them.
+pub record Passed (text : List ℕ) (len : ℕ) (spaced : Bool) : Type 0 where
+  pub boundary : IsCharBoundary text len
+  pub rest : past_blank text ≡ past_blank (drop len text)
+  pub space : has_space text ≡ (spaced || has_space (drop len text))
+
+pub passed-start : (text : List ℕ) → IsUtf8 text → Passed text 0 false
+passed-start text u = record { boundary = IsCharBoundary-start text u; rest = refl; space = refl }
+
+pub passed-step : (text : List ℕ) (len n : ℕ) (spaced space : Bool) → Passed text len spaced
+    → blank_part (drop len text) ≡ Some (space, drop n (drop len text)) → IsCharBoundary (drop len text) n → Passed text (len + n) (spaced || space)
+passed-step text len n spaced space p e b =
+    let rest : drop n (drop len text) ≡ drop (len + n) text = drop-drop n len text in
+    let step : each blank_part (drop len text) ≡ followed_by space (each blank_part (drop (len + n) text))
+    = each-some blank_part blank_part-takes (drop len text) (drop (len + n) text) space (e ∙ ap (λ r. Some (space, r)) rest) in
+    let spaces : has_space (drop len text) ≡ (space || has_space (drop (len + n) text)) = rw step refl in
+    record {
+      boundary = IsCharBoundary-from_rest text len n p.boundary.0 b;
+      rest = p.rest ∙ ap (λ r. r.1) step;
+      space = p.space ∙ ap (λ s. spaced || s) spaces ∙ sym (or_assoc spaced space (has_space (drop (len + n) text)));
+    }
+
+-- where no further part stands
+pub passed-rest : (text : List ℕ) (len : ℕ) (spaced : Bool) → Passed text len spaced → blank_part (drop len text) ≡ None → past_blank text ≡ drop len text
+passed-rest text len spaced p e = p.rest ∙ ap (λ r. r.1) (each-none blank_part (drop len text) e)
+
+pub passed-space : (text : List ℕ) (len : ℕ) (spaced : Bool) → Passed text len spaced → blank_part (drop len text) ≡ None → spaced ≡ has_space text
+passed-space text len spaced p e =
+    let none : has_space (drop len text) ≡ false = rw (each-none blank_part (drop len text) e) refl in
+    sym (p.space ∙ ap (λ s. spaced || s) none ∙ or_false spaced)
+  where
+    or_false : (b : Bool) → (b || false) ≡ b
+    or_false true = refl
+    or_false false = refl

@@ -1,0 +1,14 @@
+-- What a `Stream` shows: its text, the place, and what is left to read from there.
+use Rattle.std.specs.Prelude.{ℕ, List, drop}
+use Rattle.simplecss_text.specs.declared.stream.Stream.{Stream}
+
+abbrev pub text_of : Stream → List ℕ
+text_of s = s.text.now
+
+-- the place, counted in bytes
+abbrev pub place_of : Stream → ℕ
+place_of s = s.pos
+
+-- what is left to read
+abbrev pub rest_of : Stream → List ℕ
+rest_of s = drop s.pos s.text.now

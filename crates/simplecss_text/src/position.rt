@@ -1,0 +1,50 @@
+//! Rows and columns.
+ghost use Rattle.std.specs.Prelude.{◌≡◌, ℕ, ◌+◌, ◌==◌, length, min, count_by, chars};
+ghost use Rattle.std.specs.List.{after_last};
+
+use crate::TextPos;
+
+/// The row of the place behind the text.
+fn row_behind(before: &str) -> u32
+    ensures { result ≡ min u32.MAX (1 + count_by (λ b. b == 10) before.now) }
+{
+    one_more(
+        before
+            .as_bytes()
+            .iter()
+            .filter(|byte| **byte == b'\n')
+            .count(),
+    )
+}
+
+/// The column of the place behind the text.
+fn column_behind(before: &str) -> u32
+    ensures { result ≡ min u32.MAX (1 + length (chars (after_last (λ b. b == 10) before.now))) }
+{
+    let line = match before.rfind('\n') {
+        Some(newline) => &before[newline + 1..],
+        None => before,
+    };
+    one_more(char_count(line))
+}
+
+fn char_count(text: &str) -> usize
+    ensures { result ≡ length (chars text.now) }
+{
+    text.chars().count()
+}
+
+/// One more than the count, or the greatest `u32`.
+fn one_more(count: usize) -> u32
+    ensures { result ≡ min u32.MAX (1 + count) }
+{
+    u32::try_from(count).unwrap_or(u32::MAX).saturating_add(1)
+}
+
+/// The position of the place behind the text.
+pub(crate) fn position_behind(before: &str) -> TextPos
+    ensures row { result.row ≡ min u32.MAX (1 + count_by (λ b. b == 10) before.now) }
+    ensures col { result.col ≡ min u32.MAX (1 + length (chars (after_last (λ b. b == 10) before.now))) }
+{
+    TextPos::new(row_behind(before), column_behind(before))
+}

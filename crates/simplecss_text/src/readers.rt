@@ -1,0 +1,113 @@
+//! What is read from a cursor without telling an error: a caller that tells none has no position computed.
+ghost use Rattle.std.specs.Prelude.{◌≡◌, ◌<◌, ◌∷◌, true, [], None, Some, MatchOption, if◌then◌else◌};
+ghost use Rattle.simplecss_text.specs.Reading.{no_name, no_comment, ended};
+ghost use Rattle.simplecss_text.specs.Bytes.{past_one, past_byte, starts, starts_by, is_ascii};
+ghost use Rattle.simplecss_text.specs.Comments.{past_blank, blank, gap as gap_read};
+ghost use Rattle.simplecss_text.specs.Names.{name as name_read};
+ghost use Rattle.simplecss_text.specs.Strings.{string_after};
+ghost use Rattle.simplecss_text.specs.ThisEdition.{this_edition};
+ghost use Rattle.simplecss_text.specs.Errors.{Gives, Finds};
+ghost use Rattle.simplecss_text.specs.Cursor.{text_of, rest_of};
+
+use crate::stream::Stream;
+use crate::{Error, scan};
+
+/// The byte at the place, if it is not the end of the text.
+pub fn peek(s: &Stream<'_>) -> Option<u8>
+    ensures { MatchOption result (rest_of s.now ≡ []) (λ b. rest_of s.now ≡ b ∷ past_one (rest_of s.now)) }
+{
+    s.slice_tail().as_bytes().first().copied()
+}
+
+/// Passes the byte at the place, which is ASCII.
+#[tactic(auto, using(crate::proofs::CutLemmas::boundary_past_ascii))]
+pub fn pass_ascii(s: &mut Stream<'_>)
+    requires { starts_by is_ascii (rest_of s.old) ≡ true }
+    ensures text { text_of s.new ≡ text_of s.old }
+    ensures rest { rest_of s.new ≡ past_one (rest_of s.old) }
+{
+    s.advance(1);
+}
+
+/// Passes the byte, which is ASCII, if it stands at the place, and says whether it does.
+pub fn pass_byte(s: &mut Stream<'_>, byte: u8) -> bool
+    requires { byte < 128 }
+    ensures text { text_of s.new ≡ text_of s.old }
+    ensures stands { result ≡ starts byte (rest_of s.old) }
+    ensures rest { rest_of s.new ≡ past_byte byte (rest_of s.old) }
+{
+    let stands = peek(s) == Some(byte);
+    s.try_consume_byte(byte);
+    stands
+}
+
+/// Passes a name and gives it. Where none begins, a hyphen that stands there is passed.
+#[tactic(auto, unfolding(crate::specs::Names::name))]
+pub fn take_name<'a>(s: &mut Stream<'a>) -> Option<&'a str>
+    ensures text { text_of s.new ≡ text_of s.old }
+    ensures reads { Finds (λ found. found.now) (no_name (rest_of s.old)) (name_read this_edition (rest_of s.old)) result (rest_of s.new) }
+{
+    let text = s.slice_tail();
+    match scan::name_len(text) {
+        Some(len) => {
+            s.advance(len);
+            Some(&text[..len])
+        }
+        None => {
+            s.try_consume_byte(b'-');
+            None
+        }
+    }
+}
+
+/// Passes the rest of a string behind its opening quote, and gives what stands before the closing one. A string that
+/// is not closed takes the whole text.
+#[tactic(auto, using(crate::proofs::StringLemmas::string_after_closed))]
+pub fn take_string<'a>(s: &mut Stream<'a>, quote: u8) -> Option<&'a str>
+    requires { quote < 128 }
+    ensures text { text_of s.new ≡ text_of s.old }
+    ensures reads { Finds (λ value. value.now) ended (string_after quote (rest_of s.old)) result (rest_of s.new) }
+{
+    let text = s.slice_tail();
+    match scan::string_len(text, quote) {
+        Some(len) => {
+            s.advance(len + 1);
+            Some(&text[..len])
+        }
+        None => {
+            s.jump_to_end();
+            None
+        }
+    }
+}
+
+/// Passes a blank, and says whether no open comment stands behind it; one that does takes the whole text.
+#[tactic(auto, unfolding(crate::specs::Comments::blank))]
+pub fn pass_blank(s: &mut Stream<'_>) -> bool
+    ensures text { text_of s.new ≡ text_of s.old }
+    ensures reads { Finds (λ u. u) (no_comment (past_blank (rest_of s.old))) (blank (rest_of s.old)) (if result then Some tt else None) (rest_of s.new) }
+{
+    let gap = scan::find_gap(s.slice_tail());
+    s.advance(gap.len);
+    if gap.unclosed {
+        s.jump_to_end();
+    }
+    !gap.unclosed
+}
+
+/// Passes a gap between two pieces, and says whether it has a space byte. An open comment behind it is
+/// `InvalidComment` with the position of its start, and then the place is the end of the text.
+#[tactic(auto, using(crate::proofs::GapLaws::gap_is_closed, crate::proofs::GapLaws::gap_is_open))]
+pub fn consume_gap(s: &mut Stream<'_>) -> Result<bool, Error>
+    ensures text { text_of s.new ≡ text_of s.old }
+    ensures reads { Gives (λ spaced. spaced) (text_of s.old) (gap_read (rest_of s.old)) result (rest_of s.new) }
+{
+    let gap = scan::find_gap(s.slice_tail());
+    s.advance(gap.len);
+    if gap.unclosed {
+        let start = s.gen_text_pos();
+        s.jump_to_end();
+        return Err(Error::InvalidComment(start));
+    }
+    Ok(gap.spaced)
+}

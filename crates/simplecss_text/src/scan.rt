@@ -1,0 +1,204 @@
+//! Where things end in a text. Each function answers a number of bytes, at which the text may be cut.
+ghost use Rattle.std.specs.Prelude.{◌≡◌, ℕ, ◌+◌, ◌-◌, ◌≤◌, ◌<◌, length, drop, true, false, None, Some, MatchOption, IfSome, IsTrue, slice_index, chars};
+ghost use Rattle.std.specs.Str.{IsCharBoundary};
+ghost use Rattle.std.specs.List.{prefix_len};
+ghost use Rattle.simplecss_text.specs.Bytes.{after_byte, starts_by};
+ghost use Rattle.simplecss_text.specs.Characters.{is_space as is_space_byte, is_name_start as is_name_start_of, is_name_char as is_name_char_of};
+ghost use Rattle.simplecss_text.specs.ThisEdition.{this_edition};
+ghost use Rattle.simplecss_text.specs.Comments.{after_close, opens_comment as opens_comment_of, blank_part, past_blank, has_space};
+ghost use Rattle.simplecss_text.specs.Names.{begins_name as begins_name_of, past_name_chars};
+ghost use Rattle.simplecss_text.specs.Strings.{from_quote};
+
+use crate::stream::{is_name_char, is_name_start};
+
+/// Whether the byte is a space, a tab, a newline, a carriage return or a form feed.
+pub fn is_space(byte: u8) -> bool
+    ensures { result ≡ is_space_byte byte }
+{
+    matches!(byte, b' ' | b'\t' | b'\n' | b'\r' | b'\x0C')
+}
+
+fn space_count(bytes: &[u8]) -> usize
+    ensures { result ≡ prefix_len is_space_byte bytes.now }
+{
+    bytes.iter().take_while(|byte| is_space(**byte)).count()
+}
+
+/// How many space bytes stand at the front.
+pub fn spaces_len(text: &str) -> usize
+    ensures len { result ≡ prefix_len is_space_byte text.now }
+    ensures boundary { IsCharBoundary text.now result }
+{
+    space_count(text.as_bytes())
+}
+
+/// Whether `/*` stands at the front.
+pub fn opens_comment(text: &str) -> bool
+    ensures value { result ≡ opens_comment_of text.now }
+    ensures boundary { IsTrue result → IsCharBoundary text.now 2 }
+{
+    text.starts_with("/*")
+}
+
+/// Behind the first `*/`, if there is one.
+pub fn close_len(text: &str) -> Option<usize>
+    ensures found { MatchOption result (after_close text.now ≡ None) (λ n. after_close text.now ≡ Some (drop n text.now)) }
+    ensures boundary { IfSome result (λ n. IsCharBoundary text.now n) }
+{
+    match text.find("*/") {
+        Some(at) => Some(at + 2),
+        None => None,
+    }
+}
+
+/// Where the first such byte stands, if there is one.
+pub fn find_byte(text: &str, byte: u8) -> Option<usize>
+    requires { byte < 128 }
+    ensures found { MatchOption result (after_byte byte text.now ≡ None) (λ n. after_byte byte text.now ≡ Some (drop (n + 1) text.now)) }
+    ensures boundary { IfSome result (λ n. IsCharBoundary text.now n) }
+    ensures behind { IfSome result (λ n. IsCharBoundary text.now (n + 1)) }
+{
+    text.find(char::from(byte))
+}
+
+/// Where the first such quote stands that no backslash stands right before, if there is one. Before the text stands
+/// the quote itself.
+fn quote_place(bytes: &[u8], quote: u8) -> Option<usize>
+    ensures found { MatchOption result (from_quote quote quote bytes.now ≡ None) (λ n. from_quote quote quote bytes.now ≡ Some (drop n bytes.now)) }
+    ensures quote { IfSome result (λ n. (n < length bytes.now) × (slice_index bytes.now n ≡ quote)) }
+{
+    let mut previous = quote;
+    for (at, byte) in bytes.iter().enumerate() {
+        if *byte == quote && previous != b'\\' {
+            return Some(at);
+        }
+        previous = *byte;
+    }
+    None
+}
+
+/// How many bytes a string has before its closing quote, behind its opening one, if it is closed.
+pub fn string_len(text: &str, quote: u8) -> Option<usize>
+    requires { quote < 128 }
+    ensures found { MatchOption result (from_quote quote quote text.now ≡ None) (λ n. from_quote quote quote text.now ≡ Some (drop n text.now)) }
+    ensures boundary { IfSome result (λ n. IsCharBoundary text.now n) }
+    ensures behind { IfSome result (λ n. IsCharBoundary text.now (n + 1)) }
+    ensures within { IfSome result (λ n. n < length text.now) }
+{
+    quote_place(text.as_bytes(), quote)
+}
+
+/// Whether a name begins the text.
+fn begins_name(text: &str) -> bool
+    ensures { result ≡ begins_name_of this_edition (chars text.now) }
+{
+    let mut chars = text.chars();
+    match chars.next() {
+        Some('-') => match chars.next() {
+            Some(c) => is_name_start(c),
+            None => true,
+        },
+        Some(c) => is_name_start(c),
+        None => false,
+    }
+}
+
+/// How many bytes the longest run of name characters at the front has.
+fn name_chars_len(text: &str) -> usize
+    ensures len { past_name_chars this_edition text.now ≡ drop result text.now }
+    ensures boundary { IsCharBoundary text.now result }
+{
+    let mut len = 0;
+    for c in text.chars() {
+        if !is_name_char(c) {
+            break;
+        }
+        len += c.len_utf8();
+    }
+    len
+}
+
+/// How many bytes the name at the front has, if one begins there.
+pub fn name_len(text: &str) -> Option<usize>
+    ensures none { result ≡ None → begins_name_of this_edition (chars text.now) ≡ false }
+    ensures some { IfSome result (λ n. (begins_name_of this_edition (chars text.now) ≡ true) × (past_name_chars this_edition text.now ≡ drop n text.now)) }
+    ensures boundary { IfSome result (λ n. IsCharBoundary text.now n) }
+{
+    if begins_name(text) {
+        Some(name_chars_len(text))
+    } else {
+        None
+    }
+}
+
+/// A gap at the front of a text: its space bytes and closed comments.
+#[derive(Clone, Copy)]
+pub struct Gap {
+    /// How many bytes the space bytes and closed comments have.
+    pub len: usize,
+    /// Whether a space byte is among them, outside the comments.
+    pub spaced: bool,
+    /// Whether a comment that is not closed stands behind them.
+    pub unclosed: bool,
+}
+
+/// The gap at the front of the text.
+pub fn find_gap(text: &str) -> Gap
+    ensures rest { past_blank text.now ≡ drop result.len text.now }
+    ensures spaced { result.spaced ≡ has_space text.now }
+    ensures unclosed { result.unclosed ≡ opens_comment_of (past_blank text.now) }
+    ensures boundary { IsCharBoundary text.now result.len }
+{
+    let mut len = 0;
+    let mut spaced = false;
+    while let Some(part) = blank_part_len(&text[len..]) {
+        len += part.len;
+        spaced |= part.spaced;
+    }
+    Gap {
+        len,
+        spaced,
+        unclosed: opens_comment(&text[len..]),
+    }
+}
+
+/// The first part of a gap, a space byte or a closed comment.
+fn blank_part_len(text: &str) -> Option<Part>
+    ensures found { MatchOption result (blank_part text.now ≡ None) (λ p. blank_part text.now ≡ Some (p.spaced, drop p.len text.now)) }
+    ensures boundary { IfSome result (λ p. IsCharBoundary text.now p.len) }
+    ensures some { IfSome result (λ p. 0 < p.len) }
+{
+    if starts_with_space(text) {
+        return Some(Part {
+            len: 1,
+            spaced: true,
+        });
+    }
+    if !opens_comment(text) {
+        return None;
+    }
+    match close_len(&text[2..]) {
+        Some(n) => Some(Part {
+            len: 2 + n,
+            spaced: false,
+        }),
+        None => None,
+    }
+}
+
+/// A part of a gap: how many bytes it has, and whether it is a space byte.
+#[derive(Clone, Copy)]
+struct Part {
+    len: usize,
+    spaced: bool,
+}
+
+/// Whether a space byte stands at the front.
+fn starts_with_space(text: &str) -> bool
+    ensures { result ≡ starts_by is_space_byte text.now }
+{
+    match text.as_bytes() {
+        [byte, ..] => is_space(*byte),
+        [] => false,
+    }
+}

@@ -1,0 +1,310 @@
+//! A cursor over a text, and the characters of names.
+ghost use Rattle.std.specs.Prelude.{◌≡◌, ℕ, ◌+◌, ◌<◌, ◌≤◌, ◌↔◌, length, slice_index, slice_range, min, drop, [], ◌∷◌, IsTrue, MatchResult};
+ghost use Rattle.std.specs.Str.{IsUtf8, IsCharBoundary};
+ghost use Rattle.simplecss_text.specs.Characters.{is_name_start, is_name_char};
+ghost use Rattle.simplecss_text.specs.ThisEdition.{this_edition};
+
+use crate::position::position_behind;
+use crate::{Error, TextPos, readers, scan};
+
+/// The first character past ASCII that a name may have.
+const FIRST_WIDE: u32 = 238;
+
+/// Whether a name may begin with the character: an underscore, an ASCII letter, or a character whose number is above
+/// 237. (CSS 2.1 section 4.1.1 has the characters above octal 237.)
+pub fn is_name_start(c: char) -> bool
+    ensures { result ≡ is_name_start this_edition c }
+{
+    c.is_ascii_alphabetic() || c == '_' || u32::from(c) >= FIRST_WIDE
+}
+
+/// Whether a name may go on with the character: a name start, an ASCII digit or a hyphen (CSS 2.1 section 4.1.1).
+pub fn is_name_char(c: char) -> bool
+    ensures { result ≡ is_name_char this_edition c }
+{
+    is_name_start(c) || c.is_ascii_digit() || c == '-'
+}
+
+/// A text and a place in it, at which the text may be cut: the place is at most the text's length and stands between
+/// two characters. Places count bytes.
+#[derive(Clone, Copy, PartialEq, Debug)]
+pub struct Stream<'a> {
+    text: &'a str,
+    pos: usize,
+    pub ghost utf8: { ∥ IsUtf8 text.now ∥₁ },
+    pub ghost boundary: { IsCharBoundary text.now pos },
+}
+
+impl<'a> From<&'a str> for Stream<'a> {
+    ghost use Rattle.simplecss_text.specs.Cursor.{text_of, place_of};
+
+    ghost from_gives = { λ text s. (text_of s ≡ text.now) × (place_of s ≡ 0) };
+
+    /// The text, at its start.
+    fn from(text: &'a str) -> Stream<'a> {
+        Stream::new(text)
+    }
+}
+
+impl<'a> Stream<'a> {
+    ghost use Rattle.simplecss_text.specs.Cursor.{text_of, place_of, rest_of};
+    ghost use Rattle.simplecss_text.specs.Reading.{before};
+    ghost use Rattle.simplecss_text.specs.Bytes.{byte as byte_read, past, past_one, past_byte};
+    ghost use Rattle.simplecss_text.specs.Characters.{is_space};
+    ghost use Rattle.simplecss_text.specs.Comments.{comment, blank};
+    ghost use Rattle.simplecss_text.specs.Names.{name as name_read};
+    ghost use Rattle.simplecss_text.specs.Strings.{string_or_name};
+    ghost use Rattle.simplecss_text.specs.Positions.{position};
+    ghost use Rattle.simplecss_text.specs.Errors.{Gives, position_of};
+    ghost use Rattle.simplecss_text.specs.Runs.{IsByteTest, EndsRun};
+
+    /// The text, at its start.
+    pub fn new(text: &'a str) -> Stream<'a>
+        ensures text { text_of result ≡ text.now }
+        ensures place { place_of result ≡ 0 }
+    {
+        Stream { text, pos: 0 }
+    }
+
+    /// The place, in bytes from the start of the text.
+    pub fn pos(&self) -> usize
+        ensures { result ≡ place_of self.now }
+    {
+        self.pos
+    }
+
+    /// Goes to the end of the text.
+    pub fn jump_to_end(&mut self)
+        ensures text { text_of self.new ≡ text_of self.old }
+        ensures rest { rest_of self.new ≡ [] }
+    {
+        self.pos = self.text.len();
+    }
+
+    /// Whether the place is the end of the text.
+    pub fn at_end(&self) -> bool
+        ensures { IsTrue result ↔ (rest_of self.now ≡ []) }
+    {
+        self.pos == self.text.len()
+    }
+
+    /// The byte at the place. At the end of the text that is `UnexpectedEndOfStream`.
+    pub fn curr_byte(&self) -> Result<u8, Error>
+        ensures { MatchResult result (λ b. rest_of self.now ≡ b ∷ past_one (rest_of self.now))
+            (λ e. (rest_of self.now ≡ []) × (e ≡ Error.UnexpectedEndOfStream)) }
+    {
+        match readers::peek(self) {
+            Some(byte) => Ok(byte),
+            None => Err(Error::UnexpectedEndOfStream),
+        }
+    }
+
+    /// The byte at the place, which is not the end of the text.
+    pub fn curr_byte_unchecked(&self) -> u8
+        requires { 0 < length (rest_of self.now) }
+        ensures { rest_of self.now ≡ result ∷ past_one (rest_of self.now) }
+    {
+        self.text.as_bytes()[self.pos]
+    }
+
+    /// The byte behind the one at the place. Where there is none that is `UnexpectedEndOfStream`.
+    pub fn next_byte(&self) -> Result<u8, Error>
+        ensures { MatchResult result (λ b. past_one (rest_of self.now) ≡ b ∷ past_one (past_one (rest_of self.now)))
+            (λ e. (past_one (rest_of self.now) ≡ []) × (e ≡ Error.UnexpectedEndOfStream)) }
+    {
+        match &self.text.as_bytes()[self.pos..] {
+            [_, byte, ..] => Ok(*byte),
+            _ => Err(Error::UnexpectedEndOfStream),
+        }
+    }
+
+    /// Passes so many bytes, behind which the text goes on with a character or ends.
+    pub fn advance(&mut self, n: usize)
+        requires { IsCharBoundary (rest_of self.old) n }
+        ensures text { text_of self.new ≡ text_of self.old }
+        ensures rest { rest_of self.new ≡ drop n (rest_of self.old) }
+    {
+        self.pos += n;
+    }
+
+    /// Passes the byte, which is ASCII. At the end of the text the error is `UnexpectedEndOfStream`, and where another
+    /// byte stands `InvalidByte` with the position there; then the place stays.
+    pub fn consume_byte(&mut self, c: u8) -> Result<(), Error>
+        requires { c < 128 }
+        ensures text { text_of self.new ≡ text_of self.old }
+        ensures reads { Gives (λ u. u) (text_of self.old) (byte_read c (rest_of self.old)) result (rest_of self.new) }
+    {
+        let actual = self.curr_byte()?;
+        if actual != c {
+            return Err(Error::InvalidByte {
+                expected: c,
+                actual,
+                pos: self.gen_text_pos(),
+            });
+        }
+        readers::pass_ascii(self);
+        Ok(())
+    }
+
+    /// Passes the byte, which is ASCII, if it stands at the place.
+    pub fn try_consume_byte(&mut self, c: u8)
+        requires { c < 128 }
+        ensures text { text_of self.new ≡ text_of self.old }
+        ensures rest { rest_of self.new ≡ past_byte c (rest_of self.old) }
+    {
+        if readers::peek(self) == Some(c) {
+            readers::pass_ascii(self);
+        }
+    }
+
+    /// Passes the longest run of bytes for which the test answers true. The test answers one and the same for all
+    /// bytes past ASCII, so that the run ends between two characters.
+    pub fn skip_bytes<F: Fn(u8) -> bool>(&mut self, f: F)
+        requires { IsByteTest (F.pre f) (F.post f) (text_of self.old) }
+        ensures text { text_of self.new ≡ text_of self.old }
+        ensures run { EndsRun (F.post f) (text_of self.old) (place_of self.old) (place_of self.new) }
+    {
+        let bytes = self.text.as_bytes();
+        let mut end = self.pos;
+        while end < bytes.len() && f(bytes[end]) {
+            end += 1;
+        }
+        self.pos = end;
+    }
+
+    /// Passes the longest run of bytes for which the test answers true, as `skip_bytes` does, and gives that run.
+    pub fn consume_bytes<F: Fn(u8) -> bool>(&mut self, f: F) -> &'a str
+        requires { IsByteTest (F.pre f) (F.post f) (text_of self.old) }
+        ensures text { text_of self.new ≡ text_of self.old }
+        ensures run { EndsRun (F.post f) (text_of self.old) (place_of self.old) (place_of self.new) }
+        ensures value { result.now ≡ slice_range (text_of self.old) (place_of self.old) (place_of self.new) }
+    {
+        let start = self.pos;
+        self.skip_bytes(f);
+        self.slice_back(start)
+    }
+
+    /// What stands between the two places.
+    pub fn slice_range(&self, start: usize, end: usize) -> &'a str
+        requires ordered { start ≤ end }
+        requires start { IsCharBoundary (text_of self.now) start }
+        requires end { IsCharBoundary (text_of self.now) end }
+        ensures { result.now ≡ slice_range (text_of self.now) start end }
+    {
+        &self.text[start..end]
+    }
+
+    /// What stands between an earlier place and this one.
+    pub fn slice_back(&self, pos: usize) -> &'a str
+        requires ordered { pos ≤ place_of self.now }
+        requires start { IsCharBoundary (text_of self.now) pos }
+        ensures { result.now ≡ slice_range (text_of self.now) pos (place_of self.now) }
+    {
+        &self.text[pos..self.pos]
+    }
+
+    /// What stands between the place and the end of the text.
+    pub fn slice_tail(&self) -> &'a str
+        ensures { result.now ≡ rest_of self.now }
+    {
+        &self.text[self.pos..]
+    }
+
+    /// Passes the longest run of space bytes.
+    pub fn skip_spaces(&mut self)
+        ensures text { text_of self.new ≡ text_of self.old }
+        ensures rest { rest_of self.new ≡ past is_space (rest_of self.old) }
+    {
+        self.advance(scan::spaces_len(self.slice_tail()));
+    }
+
+    /// Passes a blank: the longest run of space bytes and comments. A comment behind it that is not closed is
+    /// `InvalidComment` with the position of its start, and then the place is the end of the text.
+    #[tactic(auto, unfolding(crate::specs::Comments::blank))]
+    pub fn skip_spaces_and_comments(&mut self) -> Result<(), Error>
+        ensures text { text_of self.new ≡ text_of self.old }
+        ensures reads { Gives (λ u. u) (text_of self.old) (blank (rest_of self.old)) result (rest_of self.new) }
+    {
+        let gap = scan::find_gap(self.slice_tail());
+        self.advance(gap.len);
+        if gap.unclosed {
+            let start = self.gen_text_pos();
+            self.jump_to_end();
+            return Err(Error::InvalidComment(start));
+        }
+        Ok(())
+    }
+
+    /// Passes a name, and gives it (CSS 2.1 section 4.1.3): an optional hyphen, a name start and name characters. A
+    /// hyphen that ends the text is a name too. Where none begins, the error is `InvalidIdent` with the position
+    /// there, and a hyphen that stands there is passed.
+    pub fn consume_ident(&mut self) -> Result<&'a str, Error>
+        ensures text { text_of self.new ≡ text_of self.old }
+        ensures reads { Gives (λ found. found.now) (text_of self.old) (name_read this_edition (rest_of self.old)) result (rest_of self.new) }
+    {
+        let start = *self;
+        match readers::take_name(self) {
+            Some(name) => Ok(name),
+            None => Err(Error::InvalidIdent(start.gen_text_pos())),
+        }
+    }
+
+    /// Passes a string or a name, and gives what stands between the quotes or the name. At the end of the text, and
+    /// where the string is not closed, the error is `UnexpectedEndOfStream` and the place the end of the text.
+    #[tactic(auto, unfolding(crate::specs::Strings::string_or_name))]
+    pub fn consume_string(&mut self) -> Result<&'a str, Error>
+        ensures text { text_of self.new ≡ text_of self.old }
+        ensures reads { Gives (λ value. value.now) (text_of self.old) (string_or_name this_edition (rest_of self.old)) result (rest_of self.new) }
+    {
+        let quote = self.curr_byte()?;
+        if quote != b'\'' && quote != b'"' {
+            return self.consume_ident();
+        }
+        readers::pass_ascii(self);
+        match readers::take_string(self, quote) {
+            Some(value) => Ok(value),
+            None => Err(Error::UnexpectedEndOfStream),
+        }
+    }
+
+    /// Passes a comment. Where none begins, the error is `InvalidComment` with the position there, and a `/` that
+    /// stands there is passed. One that is not closed is the same error, and the place is then the end of the text.
+    #[tactic(auto, unfolding(crate::specs::Comments::comment))]
+    pub fn skip_comment(&mut self) -> Result<(), Error>
+        ensures text { text_of self.new ≡ text_of self.old }
+        ensures reads { Gives (λ u. u) (text_of self.old) (comment (rest_of self.old)) result (rest_of self.new) }
+    {
+        let start = *self;
+        let text = self.slice_tail();
+        if !scan::opens_comment(text) {
+            self.try_consume_byte(b'/');
+            return Err(Error::InvalidComment(start.gen_text_pos()));
+        }
+        match scan::close_len(&text[2..]) {
+            Some(len) => {
+                self.advance(2 + len);
+                Ok(())
+            }
+            None => {
+                self.jump_to_end();
+                Err(Error::InvalidComment(start.gen_text_pos()))
+            }
+        }
+    }
+
+    /// The position of the place.
+    pub fn gen_text_pos(&self) -> TextPos
+        ensures { result ≡ position_of (text_of self.now) (rest_of self.now) }
+    {
+        self.gen_text_pos_from(self.pos)
+    }
+
+    /// The position of another place, or of the end of the text where that is less.
+    #[tactic(auto, unfolding(crate::specs::Positions::position))]
+    pub fn gen_text_pos_from(&self, pos: usize) -> TextPos
+        requires { IsCharBoundary (text_of self.now) (min pos (length (text_of self.now))) }
+        ensures { result ≡ position (text_of self.now) (min pos (length (text_of self.now))) }
+    {
+        position_behind(&self.text[..pos.min(self.text.len())])
+    }
+}
