@@ -1,6 +1,6 @@
 -- No blank follows a blank.
 use Rattle.std.proofs.Common.{◌≡◌, ℕ, List, [], Bool, true, false, if◌then◌else◌, refl, ap, subst}
-use Rattle.simplecss_text.specs.Reading.{got, fails, no_comment, follow, each}
+use Rattle.simplecss_text.specs.Reading.{Fault, got, fails, no_comment, follow, each}
 use Rattle.simplecss_text.specs.Comments.{opens_comment, blank_part, past_blank, blank, has_space, gap}
 use Rattle.simplecss_text.proofs.EachLaws.{each-none, each-stops}
 use Rattle.simplecss_text.proofs.TakesLaws.{blank_part-takes}
@@ -34,3 +34,23 @@ gap_is_closed text e = rw e refl
 pub gap_is_open : (text : List ℕ) → opens_comment (past_blank text) ≡ true → gap text ≡ fails (no_comment (past_blank text)) []
 unfolding gap blank
 gap_is_open text e = rw e refl
+
+-- a blank, where the gap is read
+pub blank_where_gap_is_got : (text rest : List ℕ) (spaced : Bool) → gap text ≡ got spaced rest → blank text ≡ got (tt {0}) rest
+unfolding gap blank
+blank_where_gap_is_got text rest spaced = by (opens_comment (past_blank text)) refl
+  where
+    by : (t : Bool) → opens_comment (past_blank text) ≡ t → follow (if t then fails (no_comment (past_blank text)) [] else got (tt {0}) (past_blank text)) (λ u. got (has_space text)) ≡ got spaced rest → blank text ≡ got (tt {0}) rest
+    by true e h = absurd (cc)
+    by false e h = let same : past_blank text ≡ rest = cc in rw (e, same) refl
+
+pub blank_where_gap_fails : (text rest : List ℕ) (fault : Fault) → gap text ≡ fails fault rest → blank text ≡ fails fault rest
+unfolding gap blank
+blank_where_gap_fails text rest fault = by (opens_comment (past_blank text)) refl
+  where
+    by : (t : Bool) → opens_comment (past_blank text) ≡ t → follow (if t then fails (no_comment (past_blank text)) [] else got (tt {0}) (past_blank text)) (λ u. got (has_space text)) ≡ fails fault rest → blank text ≡ fails fault rest
+    by true e h =
+        let which : no_comment (past_blank text) ≡ fault = cc in
+        let left : [] ≡ rest = cc in
+        rw (e, which, left) refl
+    by false e h = absurd (cc)

@@ -70,7 +70,8 @@ impl<'a> Stream<'a> {
     pub fn pos(&self) -> usize
         ensures { result ≡ place_of self.now }
     {
-        self.pos
+        let Stream { pos, .. } = *self;
+        pos
     }
 
     /// Goes to the end of the text.
@@ -220,18 +221,12 @@ impl<'a> Stream<'a> {
 
     /// Passes a blank: the longest run of space bytes and comments. A comment behind it that is not closed is
     /// `InvalidComment` with the position of its start, and then the place is the end of the text.
-    #[tactic(auto, unfolding(crate::specs::Comments::blank))]
+    #[tactic(auto, using(crate::proofs::GapLaws::blank_where_gap_is_got, crate::proofs::GapLaws::blank_where_gap_fails))]
     pub fn skip_spaces_and_comments(&mut self) -> Result<(), Error>
         ensures text { text_of self.new ≡ text_of self.old }
         ensures reads { Gives (λ u. u) (text_of self.old) (blank (rest_of self.old)) result (rest_of self.new) }
     {
-        let gap = scan::find_gap(self.slice_tail());
-        self.advance(gap.len);
-        if gap.unclosed {
-            let start = self.gen_text_pos();
-            self.jump_to_end();
-            return Err(Error::InvalidComment(start));
-        }
+        let _spaced = readers::consume_gap(self)?;
         Ok(())
     }
 

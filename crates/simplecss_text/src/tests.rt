@@ -1,0 +1,213 @@
+//! The calls of the cursor on worked texts, and the printed errors.
+use crate::stream::{Stream, is_name_char, is_name_start};
+use crate::{Error, TextPos, readers};
+
+fn at(row: u32, col: u32) -> TextPos {
+    TextPos::new(row, col)
+}
+
+#[test]
+fn prints_errors(rt: HostRuntime) {
+    let pos = at(2, 4);
+    for (error, text) in [
+        (Error::UnexpectedEndOfStream, "unexpected end of stream"),
+        (Error::InvalidIdent(pos), "invalid ident at 2:4"),
+        (Error::InvalidComment(pos), "invalid comment at 2:4"),
+        (Error::InvalidValue(pos), "invalid value at 2:4"),
+        (
+            Error::InvalidByte {
+                expected: b']',
+                actual: 0xC3,
+                pos: at(1, 7),
+            },
+            "expected ']' not '\u{C3}' at 1:7",
+        ),
+        (Error::SelectorMissing, "selector missing"),
+        (Error::UnexpectedSelector, "unexpected selector"),
+        (Error::UnexpectedCombinator, "unexpected combinator"),
+        (
+            Error::InvalidAttributeSelector,
+            "invalid or unsupported attribute selector",
+        ),
+        (
+            Error::InvalidLanguagePseudoClass,
+            "invalid language pseudo-class",
+        ),
+    ] {
+        match format!(in rt.alloc(); "{error}") {
+            Ok(printed) => assert_eq!(rt; printed.as_str(), text),
+            Err(_) => assert!(rt; false),
+        }
+        match format!(in rt.alloc(); "{error:>60}") {
+            Ok(printed) => assert_eq!(rt; printed.as_str(), text, "with a width"),
+            Err(_) => assert!(rt; false),
+        }
+    }
+}
+
+#[test]
+fn knows_the_characters_of_names(rt: HostRuntime) {
+    for (c, start, inside) in [
+        ('_', true, true),
+        ('a', true, true),
+        ('z', true, true),
+        ('A', true, true),
+        ('Z', true, true),
+        ('0', false, true),
+        ('9', false, true),
+        ('-', false, true),
+        ('\\', false, false),
+        (' ', false, false),
+        ('\u{A0}', false, false),
+        ('\u{E9}', false, false),
+        ('\u{ED}', false, false),
+        ('\u{EE}', true, true),
+        ('\u{3000}', true, true),
+        ('\u{10FFFF}', true, true),
+    ] {
+        assert_eq!(rt; is_name_start(c), start, "at {c:?}");
+        assert_eq!(rt; is_name_char(c), inside, "at {c:?}");
+    }
+}
+
+#[test]
+fn reads_names(rt: HostRuntime) {
+    for (text, found, place) in [
+        ("a-b_1 c", Ok("a-b_1"), 5),
+        ("-x:", Ok("-x"), 2),
+        ("-", Ok("-"), 1),
+        ("\u{EE}\u{3000}\u{ED}", Ok("\u{EE}\u{3000}"), 5),
+        ("", Err(Error::InvalidIdent(at(1, 1))), 0),
+        ("--x", Err(Error::InvalidIdent(at(1, 1))), 1),
+        ("- a", Err(Error::InvalidIdent(at(1, 1))), 1),
+        ("1a", Err(Error::InvalidIdent(at(1, 1))), 0),
+        ("\\26", Err(Error::InvalidIdent(at(1, 1))), 0),
+        ("\u{E9}", Err(Error::InvalidIdent(at(1, 1))), 0),
+    ] {
+        let mut s = Stream::from(text);
+        assert_eq!(rt; s.consume_ident(), found, "at {text}");
+        assert_eq!(rt; s.pos(), place, "at {text}");
+    }
+}
+
+#[test]
+fn reads_strings(rt: HostRuntime) {
+    for (text, found, place) in [
+        ("'te\\'st'x", Ok("te\\'st"), 8),
+        ("\"te\\\"st\"", Ok("te\\\"st"), 8),
+        ("''", Ok(""), 2),
+        ("'\"'", Ok("\""), 3),
+        ("'\\\\'b'", Ok("\\\\'b"), 6),
+        ("name]", Ok("name"), 4),
+        ("'open", Err(Error::UnexpectedEndOfStream), 5),
+        ("'open\\'", Err(Error::UnexpectedEndOfStream), 7),
+        ("", Err(Error::UnexpectedEndOfStream), 0),
+        ("]", Err(Error::InvalidIdent(at(1, 1))), 0),
+    ] {
+        let mut s = Stream::from(text);
+        assert_eq!(rt; s.consume_string(), found, "at {text}");
+        assert_eq!(rt; s.pos(), place, "at {text}");
+    }
+}
+
+#[test]
+fn reads_comments(rt: HostRuntime) {
+    for (text, found, place) in [
+        ("/**/x", Ok(()), 4),
+        ("/* a */ b */", Ok(()), 7),
+        ("/*/", Err(Error::InvalidComment(at(1, 1))), 3),
+        ("/* x", Err(Error::InvalidComment(at(1, 1))), 4),
+        ("/ b", Err(Error::InvalidComment(at(1, 1))), 1),
+        ("b", Err(Error::InvalidComment(at(1, 1))), 0),
+        ("", Err(Error::InvalidComment(at(1, 1))), 0),
+    ] {
+        let mut s = Stream::from(text);
+        assert_eq!(rt; s.skip_comment(), found, "at {text}");
+        assert_eq!(rt; s.pos(), place, "at {text}");
+    }
+}
+
+#[test]
+fn reads_blanks(rt: HostRuntime) {
+    for (text, found, place) in [
+        ("x", Ok(()), 0),
+        (" \t\n\r\u{C}/* a */ /**/x", Ok(()), 17),
+        (" \u{B}", Ok(()), 1),
+        ("/ x", Ok(()), 0),
+        ("\n\u{E9} ", Ok(()), 1),
+        (" /**//* x", Err(Error::InvalidComment(at(1, 6))), 9),
+        ("\n /* x", Err(Error::InvalidComment(at(2, 2))), 6),
+    ] {
+        let mut s = Stream::from(text);
+        assert_eq!(rt; s.skip_spaces_and_comments(), found, "at {text}");
+        assert_eq!(rt; s.pos(), place, "at {text}");
+        let mut quiet = Stream::from(text);
+        assert_eq!(rt; readers::pass_blank(&mut quiet), found.is_ok(), "at {text}");
+        assert_eq!(rt; quiet.pos(), place, "at {text}");
+    }
+}
+
+#[test]
+fn tells_the_space_bytes_of_a_gap(rt: HostRuntime) {
+    for (text, spaced) in [
+        ("/**/b", Ok(false)),
+        ("/* */b", Ok(false)),
+        ("/**/ /**/b", Ok(true)),
+        ("", Ok(false)),
+        (" /* x", Err(Error::InvalidComment(at(1, 2)))),
+    ] {
+        let mut s = Stream::from(text);
+        assert_eq!(rt; readers::consume_gap(&mut s), spaced, "at {text}");
+    }
+}
+
+#[test]
+fn goes_by_bytes(rt: HostRuntime) {
+    let mut s = Stream::new("a\u{E9}\n(b)c");
+    assert_eq!(rt; s.curr_byte(), Ok(b'a'));
+    assert_eq!(rt; s.next_byte(), Ok(0xC3));
+    assert!(rt; !s.at_end());
+    assert_eq!(rt; s.consume_byte(b'a'), Ok(()));
+    assert_eq!(rt; s.pos(), 1);
+    assert_eq!(rt;
+        s.consume_byte(b'x'),
+        Err(Error::InvalidByte {
+            expected: b'x',
+            actual: 0xC3,
+            pos: at(1, 2),
+        })
+    );
+    assert_eq!(rt; s.pos(), 1);
+    s.try_consume_byte(b'x');
+    assert_eq!(rt; s.pos(), 1);
+    assert_eq!(rt; s.consume_bytes(|b| b >= 128), "\u{E9}");
+    assert_eq!(rt; s.gen_text_pos(), at(1, 3));
+    s.skip_spaces();
+    assert_eq!(rt; s.pos(), 4);
+    assert_eq!(rt; s.gen_text_pos(), at(2, 1));
+    s.try_consume_byte(b'(');
+    let start = s.pos();
+    s.skip_bytes(|b| b != b')');
+    assert_eq!(rt; s.pos(), 6);
+    assert_eq!(rt; start, 5);
+    assert_eq!(rt; s.slice_tail(), ")c");
+    s.jump_to_end();
+    assert!(rt; s.at_end());
+    assert_eq!(rt; s.pos(), 8);
+    assert_eq!(rt; s.curr_byte(), Err(Error::UnexpectedEndOfStream));
+    assert_eq!(rt; s.next_byte(), Err(Error::UnexpectedEndOfStream));
+    assert_eq!(rt; s.consume_byte(b'a'), Err(Error::UnexpectedEndOfStream));
+    assert_eq!(rt; s.gen_text_pos(), at(2, 5));
+}
+
+#[test]
+fn goes_by_places(rt: HostRuntime) {
+    let mut s = Stream::new("abc");
+    s.advance(2);
+    assert_eq!(rt; s.pos(), 2);
+    assert_eq!(rt; s.curr_byte_unchecked(), b'c');
+    assert_eq!(rt; s.slice_range(0, 1), "a");
+    assert_eq!(rt; s.slice_back(1), "b");
+    assert_eq!(rt; s.gen_text_pos_from(1), at(1, 2));
+    assert_eq!(rt; s.gen_text_pos_from(100), at(1, 4));
+}
