@@ -2,7 +2,7 @@
 use Rattle.std.specs.Prelude.{◌≡◌, refl, [], ◌∷◌, codes, true, false}
 use Rattle.std.specs.Str.{trim_start, trim_end, chars}
 use lib.Utf8.{encode}
-use Rattle.simplecss_text.specs.Reading.{each, fails, no_name, no_comment, no_value, wrong_byte, ended}
+use Rattle.simplecss_text.specs.Reading.{each, fails, no_name, no_comment, no_value, wrong_byte, ended, got}
 use Rattle.simplecss_text.specs.Comments.{comment, blank, gap}
 use Rattle.simplecss_text.specs.Names.{past_name_chars, name}
 use Rattle.simplecss_text.specs.Strings.{string_or_name}
@@ -30,16 +30,16 @@ pub one_declaration :
     × (declarations first_edition (codes " color: red; ") ≡ record { name = (codes "color"); value = (codes "red"); important = false } ∷ [])
     × (declarations first_edition (codes "  color  :  red  ; ") ≡ record { name = (codes "color"); value = (codes "red"); important = false } ∷ [])
     × (declarations first_edition (codes "/**/color:red") ≡ record { name = (codes "color"); value = (codes "red"); important = false } ∷ [])
-    × (declarations first_edition (47 ∷ 42 ∷ 32 ∷ 42 ∷ 92 ∷ 47 ∷ 42 ∷ 47 ∷ 99 ∷ 111 ∷ 108 ∷ 111 ∷ 114 ∷ 58 ∷ 32 ∷ 114 ∷ 101 ∷ 100 ∷ 59 ∷ []) ≡ record { name = (codes "color"); value = (codes "red"); important = false } ∷ [])
+    × (declarations first_edition (codes "/* *\\/*/color: red;") ≡ record { name = (codes "color"); value = (codes "red"); important = false } ∷ [])
     × (declarations first_edition (codes "/**/color/**/:/**/red/**/;/**/") ≡ record { name = (codes "color"); value = (codes "red"); important = false } ∷ [])
-    × (declarations first_edition (10 ∷ 99 ∷ 111 ∷ 108 ∷ 111 ∷ 114 ∷ 10 ∷ 58 ∷ 10 ∷ 114 ∷ 101 ∷ 100 ∷ 10 ∷ 59 ∷ 10 ∷ []) ≡ record { name = (codes "color"); value = (codes "red"); important = false } ∷ [])
+    × (declarations first_edition (codes "\ncolor\n:\nred\n;\n") ≡ record { name = (codes "color"); value = (codes "red"); important = false } ∷ [])
 unfolding each comment blank gap past_name_chars name string_or_name word past_number term value importance trailing declaration declarations chars encode trim_start trim_end
 one_declaration = (refl, refl, refl, refl, refl, refl, refl, refl, refl)
 
 -- two declarations
 pub two_declarations :
     (declarations first_edition (codes "  color:red;;;;color:red; ") ≡ record { name = (codes "color"); value = (codes "red"); important = false } ∷ record { name = (codes "color"); value = (codes "red"); important = false } ∷ [])
-    × (declarations first_edition (98 ∷ 97 ∷ 99 ∷ 107 ∷ 103 ∷ 114 ∷ 111 ∷ 117 ∷ 110 ∷ 100 ∷ 58 ∷ 32 ∷ 117 ∷ 114 ∷ 108 ∷ 40 ∷ 34 ∷ 105 ∷ 109 ∷ 103 ∷ 46 ∷ 112 ∷ 110 ∷ 103 ∷ 34 ∷ 41 ∷ 59 ∷ 32 ∷ 99 ∷ 111 ∷ 108 ∷ 111 ∷ 114 ∷ 58 ∷ 114 ∷ 101 ∷ 100 ∷ 32 ∷ 33 ∷ 105 ∷ 109 ∷ 112 ∷ 111 ∷ 114 ∷ 116 ∷ 97 ∷ 110 ∷ 116 ∷ []) ≡ record { name = (codes "background"); value = (117 ∷ 114 ∷ 108 ∷ 40 ∷ 34 ∷ 105 ∷ 109 ∷ 103 ∷ 46 ∷ 112 ∷ 110 ∷ 103 ∷ 34 ∷ 41 ∷ []); important = false } ∷ record { name = (codes "color"); value = (codes "red"); important = true } ∷ [])
+    × (declarations first_edition (codes "background: url(\"img.png\"); color:red !important") ≡ record { name = (codes "background"); value = (codes "url(\"img.png\")"); important = false } ∷ record { name = (codes "color"); value = (codes "red"); important = true } ∷ [])
 unfolding each comment blank gap past_name_chars name string_or_name word past_number term value importance trailing declaration declarations chars encode trim_start trim_end
 two_declarations = (refl, refl)
 
@@ -57,17 +57,17 @@ important_declarations = (refl, refl, refl, refl, refl, refl, refl)
 
 -- values of many terms
 pub values :
-    (declarations first_edition (98 ∷ 97 ∷ 99 ∷ 107 ∷ 103 ∷ 114 ∷ 111 ∷ 117 ∷ 110 ∷ 100 ∷ 58 ∷ 117 ∷ 114 ∷ 108 ∷ 40 ∷ 34 ∷ 105 ∷ 109 ∷ 103 ∷ 46 ∷ 112 ∷ 110 ∷ 103 ∷ 34 ∷ 41 ∷ []) ≡ record { name = (codes "background"); value = (117 ∷ 114 ∷ 108 ∷ 40 ∷ 34 ∷ 105 ∷ 109 ∷ 103 ∷ 46 ∷ 112 ∷ 110 ∷ 103 ∷ 34 ∷ 41 ∷ []); important = false } ∷ [])
-    × (declarations first_edition (98 ∷ 97 ∷ 99 ∷ 107 ∷ 103 ∷ 114 ∷ 111 ∷ 117 ∷ 110 ∷ 100 ∷ 58 ∷ 117 ∷ 114 ∷ 108 ∷ 40 ∷ 34 ∷ 123 ∷ 125 ∷ 34 ∷ 41 ∷ []) ≡ record { name = (codes "background"); value = (117 ∷ 114 ∷ 108 ∷ 40 ∷ 34 ∷ 123 ∷ 125 ∷ 34 ∷ 41 ∷ []); important = false } ∷ [])
+    (declarations first_edition (codes "background:url(\"img.png\")") ≡ record { name = (codes "background"); value = (codes "url(\"img.png\")"); important = false } ∷ [])
+    × (declarations first_edition (codes "background:url(\"{}\")") ≡ record { name = (codes "background"); value = (codes "url(\"{}\")"); important = false } ∷ [])
     × (declarations first_edition (codes "background:navy url(support/diamond.png) -2em -2em no-repeat") ≡ record { name = (codes "background"); value = (codes "navy url(support/diamond.png) -2em -2em no-repeat"); important = false } ∷ [])
     × (declarations first_edition (codes "border:1em solid blue") ≡ record { name = (codes "border"); value = (codes "1em solid blue"); important = false } ∷ [])
-    × (declarations first_edition (118 ∷ 97 ∷ 108 ∷ 117 ∷ 101 ∷ 58 ∷ 34 ∷ 116 ∷ 101 ∷ 120 ∷ 116 ∷ 34 ∷ []) ≡ record { name = (codes "value"); value = (34 ∷ 116 ∷ 101 ∷ 120 ∷ 116 ∷ 34 ∷ []); important = false } ∷ [])
+    × (declarations first_edition (codes "value:\"text\"") ≡ record { name = (codes "value"); value = (codes "\"text\""); important = false } ∷ [])
     × (declarations first_edition (codes "value:'text'") ≡ record { name = (codes "value"); value = (codes "'text'"); important = false } ∷ [])
     × (declarations first_edition (codes "color:#fff") ≡ record { name = (codes "color"); value = (codes "#fff"); important = false } ∷ [])
     × (declarations first_edition (codes "color:#FFF") ≡ record { name = (codes "color"); value = (codes "#FFF"); important = false } ∷ [])
     × (declarations first_edition (codes "color:0.5") ≡ record { name = (codes "color"); value = (codes "0.5"); important = false } ∷ [])
     × (declarations first_edition (codes "color:.5") ≡ record { name = (codes "color"); value = (codes ".5"); important = false } ∷ [])
-    × (declarations first_edition (99 ∷ 111 ∷ 110 ∷ 116 ∷ 101 ∷ 110 ∷ 116 ∷ 58 ∷ 99 ∷ 111 ∷ 117 ∷ 110 ∷ 116 ∷ 101 ∷ 114 ∷ 40 ∷ 99 ∷ 104 ∷ 97 ∷ 112 ∷ 110 ∷ 111 ∷ 44 ∷ 32 ∷ 117 ∷ 112 ∷ 112 ∷ 101 ∷ 114 ∷ 45 ∷ 114 ∷ 111 ∷ 109 ∷ 97 ∷ 110 ∷ 41 ∷ 32 ∷ 34 ∷ 46 ∷ 32 ∷ 34 ∷ []) ≡ record { name = (codes "content"); value = (99 ∷ 111 ∷ 117 ∷ 110 ∷ 116 ∷ 101 ∷ 114 ∷ 40 ∷ 99 ∷ 104 ∷ 97 ∷ 112 ∷ 110 ∷ 111 ∷ 44 ∷ 32 ∷ 117 ∷ 112 ∷ 112 ∷ 101 ∷ 114 ∷ 45 ∷ 114 ∷ 111 ∷ 109 ∷ 97 ∷ 110 ∷ 41 ∷ 32 ∷ 34 ∷ 46 ∷ 32 ∷ 34 ∷ []); important = false } ∷ [])
+    × (declarations first_edition (codes "content:counter(chapno, upper-roman) \". \"") ≡ record { name = (codes "content"); value = (codes "counter(chapno, upper-roman) \". \""); important = false } ∷ [])
     × (declarations first_edition (codes "font-family:'Noto Serif','DejaVu Serif',serif") ≡ record { name = (codes "font-family"); value = (codes "'Noto Serif','DejaVu Serif',serif"); important = false } ∷ [])
 unfolding each comment blank gap past_name_chars name string_or_name word past_number term value importance trailing declaration declarations chars encode trim_start trim_end
 values = (refl, refl, refl, refl, refl, refl, refl, refl, refl, refl, refl, refl)
@@ -101,3 +101,71 @@ pub first_faults :
     × (declaration first_edition (codes "a:b; /* open") ≡ fails (no_comment (codes "/* open")) [])
 unfolding each comment blank gap past_name_chars name string_or_name word past_number term value importance trailing declaration declarations chars encode trim_start trim_end
 first_faults = (refl, refl, refl, refl, refl, refl, refl)
+
+-- strings and functions that are not closed, comments that are open, and marks without the word
+pub broken_off :
+    (declarations first_edition (codes "a:b!c:d") ≡ record { name = codes "a"; value = codes "b"; important = false } ∷ record { name = codes "c"; value = codes "d"; important = false } ∷ [])
+    × (declarations first_edition (codes "a:f(x") ≡ [])
+    × (declarations first_edition (codes "a:b f(x") ≡ record { name = codes "a"; value = codes "b"; important = false } ∷ [])
+    × (declarations first_edition (codes "a:b /* x") ≡ [])
+    × (declarations first_edition (codes "**a:b") ≡ [])
+unfolding each comment blank gap past_name_chars name string_or_name word past_number term value importance trailing declaration declarations chars encode trim_start trim_end
+broken_off = (refl, refl, refl, refl, refl)
+
+-- numbers, hashes, backslashes and percent signs
+pub more_terms :
+    (declarations first_edition (codes "a:1.5.5") ≡ record { name = codes "a"; value = codes "1.5.5"; important = false } ∷ [])
+    × (declarations first_edition (codes "a:1%") ≡ record { name = codes "a"; value = codes "1%"; important = false } ∷ [])
+    × (declarations first_edition (codes "a:1-%") ≡ record { name = codes "a"; value = codes "1-"; important = false } ∷ [])
+    × (declarations first_edition (codes "a:#-%") ≡ record { name = codes "a"; value = codes "#-"; important = false } ∷ [])
+    × (declarations first_edition (codes "a:'\\\\'b'") ≡ record { name = codes "a"; value = codes "'\\\\'b'"; important = false } ∷ [])
+unfolding each comment blank gap past_name_chars name string_or_name word past_number term value importance trailing declaration declarations chars encode trim_start trim_end
+more_terms = (refl, refl, refl, refl, refl)
+
+-- slashes and wide characters of a value in the second edition
+pub slash_terms :
+    (declarations second_edition (codes "a:/") ≡ record { name = codes "a"; value = codes "/"; important = false } ∷ [])
+    × (declarations second_edition (codes "a:b//c") ≡ record { name = codes "a"; value = codes "b//c"; important = false } ∷ [])
+    × (declarations second_edition (codes "a:b//**/c") ≡ record { name = codes "a"; value = codes "b//**/c"; important = false } ∷ [])
+    × (declarations second_edition (codes "a:/**/b") ≡ record { name = codes "a"; value = codes "b"; important = false } ∷ [])
+    × (declarations second_edition (97 ∷ 58 ∷ 194 ∷ 160 ∷ []) ≡ [])
+unfolding each comment blank gap past_name_chars name string_or_name word past_number term value importance trailing declaration declarations chars encode trim_start trim_end
+slash_terms = (refl, refl, refl, refl, refl)
+
+-- what is left after a declaration
+pub declaration_ends :
+    (declaration first_edition (codes "a:b}c") ≡ got (record { name = codes "a"; value = codes "b"; important = false }) (codes "}c"))
+    × (declaration first_edition (codes "a:b ;/**/; c:d") ≡ got (record { name = codes "a"; value = codes "b"; important = false }) (codes "c:d"))
+    × (declaration first_edition (codes "a:b!importantc:d") ≡ got (record { name = codes "a"; value = codes "b"; important = true }) (codes "c:d"))
+    × (declaration first_edition (codes "a:b! c:d") ≡ got (record { name = codes "a"; value = codes "b"; important = false }) (codes "c:d"))
+    × (declaration first_edition (codes "a:b 'x;c:d") ≡ got (record { name = codes "a"; value = codes "b"; important = false }) [])
+    × (declaration first_edition (codes "a:b f(x;c:d") ≡ got (record { name = codes "a"; value = codes "b"; important = false }) [])
+    × (declaration first_edition (codes "a:b/c;d:e") ≡ got (record { name = codes "a"; value = codes "b"; important = false }) (codes "/c;d:e"))
+    × (declaration second_edition (codes "a:b/c;d:e") ≡ got (record { name = codes "a"; value = codes "b/c"; important = false }) (codes "d:e"))
+    × (declaration first_edition (codes "a:-") ≡ got (record { name = codes "a"; value = codes "-"; important = false }) [])
+    × (declaration first_edition (codes "a:f(b)c") ≡ got (record { name = codes "a"; value = codes "f(b)c"; important = false }) [])
+    × (declaration first_edition (codes "a:b (c);d:e") ≡ got (record { name = codes "a"; value = codes "b"; important = false }) (codes "(c);d:e"))
+unfolding each comment blank gap past_name_chars name string_or_name word past_number term value importance trailing declaration declarations chars encode trim_start trim_end
+declaration_ends = (refl, refl, refl, refl, refl, refl, refl, refl, refl, refl, refl)
+
+-- faults of blanks, names, colons and empty values, and what is left after them
+pub more_faults :
+    (declaration first_edition (codes "/*") ≡ fails (no_comment (codes "/*")) [])
+    × (declaration first_edition (codes "a/*b:c") ≡ fails (no_comment (codes "/*b:c")) [])
+    × (declaration first_edition (codes "a:/*b") ≡ fails (no_comment (codes "/*b")) [])
+    × (declaration first_edition (codes "a:b !/*c") ≡ fails (no_comment (codes "/*c")) [])
+    × (declaration first_edition (codes "a:b;;/*c") ≡ fails (no_comment (codes "/*c")) [])
+    × (declaration second_edition (codes "a:b/*c") ≡ fails (no_comment (codes "/*c")) [])
+    × (declaration first_edition (codes "*-a") ≡ fails ended [])
+    × (declaration first_edition (codes "*") ≡ fails (no_name []) [])
+    × (declaration first_edition (codes "-:b") ≡ fails (no_name (codes "-:b")) (codes ":b"))
+    × (declaration first_edition (codes "a;b") ≡ fails (wrong_byte 58 (codes ";b")) (codes ";b"))
+    × (declaration first_edition (codes "a /**/ ;b") ≡ fails (wrong_byte 58 (codes ";b")) (codes ";b"))
+    × (declaration first_edition (codes "a:") ≡ fails (no_value []) [])
+    × (declaration first_edition (codes "a: ! important ;; }") ≡ fails (no_value (codes "! important ;; }")) (codes "}"))
+    × (declaration first_edition (codes "a:'x;b:c") ≡ fails (no_value (codes "'x;b:c")) [])
+    × (declaration first_edition (codes "a:f(x;b:c") ≡ fails (no_value (codes "f(x;b:c")) [])
+    × (declaration first_edition (codes "a:(b)") ≡ fails (no_value (codes "(b)")) (codes "(b)"))
+    × (declaration first_edition (codes "a:/b") ≡ fails (no_value (codes "/b")) (codes "/b"))
+unfolding each comment blank gap past_name_chars name string_or_name word past_number term value importance trailing declaration declarations chars encode trim_start trim_end
+more_faults = (refl, refl, refl, refl, refl, refl, refl, refl, refl, refl, refl, refl, refl, refl, refl, refl, refl)

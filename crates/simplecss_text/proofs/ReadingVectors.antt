@@ -1,8 +1,8 @@
 -- Worked readings of single things, computed.
-use Rattle.std.specs.Prelude.{◌≡◌, refl, [], ◌∷◌, ◌++◌, codes, true, false}
+use Rattle.std.specs.Prelude.{◌≡◌, refl, [], ◌∷◌, ◌++◌, codes, true, false, encode_utf8_all}
 use Rattle.std.specs.Str.{chars}
 use lib.Utf8.{encode}
-use Rattle.simplecss_text.specs.declared.Error.TheVariants.{UnexpectedEndOfStream, InvalidIdent, InvalidComment, InvalidByte}
+use Rattle.simplecss_text.specs.declared.Error.TheVariants.{UnexpectedEndOfStream, InvalidIdent, InvalidComment, InvalidByte, InvalidValue, SelectorMissing, UnexpectedSelector, UnexpectedCombinator, InvalidAttributeSelector, InvalidLanguagePseudoClass}
 use Rattle.simplecss_text.specs.Reading.{each, got, fails, no_name, no_comment, ended, wrong_byte}
 use Rattle.simplecss_text.specs.Positions.{position}
 use Rattle.simplecss_text.specs.Errors.{error_of, error_text, position_text}
@@ -12,6 +12,7 @@ use Rattle.simplecss_text.specs.Strings.{string_or_name}
 use Rattle.simplecss_text.specs.Characters.{first_edition, second_edition}
 use Rattle.simplecss_text.specs.Terms.{word, past_number, term}
 use Rattle.simplecss_text.specs.Blocks.{block_end}
+use Rattle.std.specs.Fmt.{digits}
 
 -- comments, closed and open
 pub comments :
@@ -51,17 +52,17 @@ pub names :
     × (name first_edition (codes "--x") ≡ fails (no_name (codes "--x")) (codes "-x"))
     × (name first_edition [] ≡ fails (no_name []) [])
     × (name first_edition (codes "1a") ≡ fails (no_name (codes "1a")) (codes "1a"))
-    × (name first_edition (97 ∷ 195 ∷ 169 ∷ []) ≡ got (codes "a") (195 ∷ 169 ∷ []))
-    × (name second_edition (97 ∷ 195 ∷ 169 ∷ []) ≡ got (97 ∷ 195 ∷ 169 ∷ []) [])
+    × (name first_edition (encode_utf8_all (codes "aé")) ≡ got (codes "a") (encode_utf8_all (codes "é")))
+    × (name second_edition (encode_utf8_all (codes "aé")) ≡ got (encode_utf8_all (codes "aé")) [])
     × (name first_edition (97 ∷ 227 ∷ 128 ∷ 128 ∷ 98 ∷ 32 ∷ 99 ∷ []) ≡ got (97 ∷ 227 ∷ 128 ∷ 128 ∷ 98 ∷ []) (codes " c"))
 unfolding each comment blank gap past_name_chars name string_or_name word past_number term position block_end chars encode
 names = (refl, refl, refl, refl, refl, refl, refl, refl, refl)
 
 -- strings and what may stand in their place
 pub strings :
-    (string_or_name first_edition (39 ∷ 97 ∷ 34 ∷ 98 ∷ 39 ∷ 32 ∷ 99 ∷ []) ≡ got (97 ∷ 34 ∷ 98 ∷ []) (codes " c"))
+    (string_or_name first_edition (codes "'a\"b' c") ≡ got (codes "a\"b") (codes " c"))
     × (string_or_name first_edition (codes "''a") ≡ got [] (codes "a"))
-    × (string_or_name first_edition (39 ∷ 97 ∷ 92 ∷ 39 ∷ []) ≡ fails ended [])
+    × (string_or_name first_edition (codes "'a\\'") ≡ fails ended [])
     × (string_or_name first_edition (codes "ab]") ≡ got (codes "ab") (codes "]"))
     × (string_or_name first_edition [] ≡ fails ended [])
 unfolding each comment blank gap past_name_chars name string_or_name word past_number term position block_end chars encode
@@ -75,7 +76,7 @@ pub terms :
     × (term first_edition (codes ".5%x") ≡ got tt (codes "x"))
     × (term first_edition (codes "url(a b) c") ≡ got tt (codes " c"))
     × (term first_edition (codes "url(a") ≡ fails ended [])
-    × (term first_edition (34 ∷ 97 ∷ []) ≡ fails ended [])
+    × (term first_edition (codes "\"a") ≡ fails ended [])
     × (term first_edition (codes "/1") ≡ fails (no_name (codes "/1")) (codes "/1"))
     × (term second_edition (codes "/1") ≡ got tt (codes "1"))
     × (term second_edition (codes "/* */") ≡ fails (no_name (codes "/* */")) (codes "/* */"))
@@ -94,10 +95,157 @@ block_ends = (refl, refl, refl, refl)
 
 -- the errors that tell faults
 pub errors :
-    (error_of (97 ∷ 10 ∷ 98 ∷ 99 ∷ 32 ∷ 60 ∷ []) (no_name (codes "<")) ≡ InvalidIdent (record { row = 2; col = 4 }))
-    × (error_of (91 ∷ 97 ∷ 61 ∷ 34 ∷ 120 ∷ 34 ∷ 195 ∷ 169 ∷ 93 ∷ []) (wrong_byte 93 (195 ∷ 169 ∷ 93 ∷ [])) ≡ InvalidByte 93 195 (record { row = 1; col = 7 }))
+    (error_of (codes "a\nbc <") (no_name (codes "<")) ≡ InvalidIdent (record { row = 2; col = 4 }))
+    × (error_of (encode_utf8_all (codes "[a=\"x\"é]")) (wrong_byte 93 (encode_utf8_all (codes "é]"))) ≡ InvalidByte 93 195 (record { row = 1; col = 7 }))
     × (error_of (codes "a") (wrong_byte 58 []) ≡ UnexpectedEndOfStream)
-    × (error_of (195 ∷ 169 ∷ 32 ∷ 47 ∷ 32 ∷ 98 ∷ []) (no_comment (codes "/ b")) ≡ InvalidComment (record { row = 1; col = 3 }))
-    × (error_text (InvalidByte 93 195 (record { row = 1; col = 7 })) ≡ codes "expected ']' not '" ++ (195 ∷ 131 ∷ []) ++ codes "' at " ++ position_text (record { row = 1; col = 7 }))
+    × (error_of (encode_utf8_all (codes "é / b")) (no_comment (codes "/ b")) ≡ InvalidComment (record { row = 1; col = 3 }))
+    × (error_text (InvalidByte 93 195 (record { row = 1; col = 7 })) ≡ codes "expected ']' not '" ++ (encode_utf8_all (codes "Ã")) ++ codes "' at " ++ position_text (record { row = 1; col = 7 }))
 unfolding each comment blank gap past_name_chars name string_or_name word past_number term position block_end chars encode
 errors = (refl, refl, refl, refl, refl)
+
+-- the shortest comment, and what is shorter
+pub shortest_comments :
+    (comment (codes "/***/a") ≡ got tt (codes "a"))
+    × (comment (codes "/*/*/a") ≡ got tt (codes "a"))
+    × (comment (codes "/**/*/") ≡ got tt (codes "*/"))
+    × (comment (codes "/*") ≡ fails (no_comment (codes "/*")) [])
+    × (comment (codes "/**") ≡ fails (no_comment (codes "/**")) [])
+    × (comment (codes "/") ≡ fails (no_comment (codes "/")) [])
+    × (comment (codes "//**/") ≡ fails (no_comment (codes "//**/")) (codes "/**/"))
+unfolding each comment blank gap past_name_chars name string_or_name word past_number term position block_end chars encode
+shortest_comments = (refl, refl, refl, refl, refl, refl, refl)
+
+-- blanks up to the end of the text, or up to a comment that is not closed
+pub gaps_at_the_end :
+    (blank [] ≡ got tt [])
+    × (blank (codes " /**/") ≡ got tt [])
+    × (blank (codes "/**//*") ≡ fails (no_comment (codes "/*")) [])
+    × (blank (codes "/ a") ≡ got tt (codes "/ a"))
+    × (gap (codes "/* */ ") ≡ got true [])
+    × (gap (codes "/* *//*") ≡ fails (no_comment (codes "/*")) [])
+unfolding each comment blank gap past_name_chars name string_or_name word past_number term position block_end chars encode
+gaps_at_the_end = (refl, refl, refl, refl, refl, refl)
+
+-- names with hyphens
+pub hyphens :
+    (name first_edition (codes "-") ≡ got (codes "-") [])
+    × (name first_edition (codes "a-") ≡ got (codes "a-") [])
+    × (name first_edition (codes "-a") ≡ got (codes "-a") [])
+    × (name first_edition (codes "-_-1 ") ≡ got (codes "-_-1") (codes " "))
+    × (name first_edition (codes "--") ≡ fails (no_name (codes "--")) (codes "-"))
+    × (name first_edition (codes "-1") ≡ fails (no_name (codes "-1")) (codes "1"))
+    × (name first_edition (codes "-/**/") ≡ fails (no_name (codes "-/**/")) (codes "/**/"))
+    × (name first_edition (codes "_") ≡ got (codes "_") [])
+    × (name first_edition (97 ∷ 90 ∷ 57 ∷ 11 ∷ []) ≡ got (codes "aZ9") (11 ∷ []))
+    × (name first_edition (codes "\\a") ≡ fails (no_name (codes "\\a")) (codes "\\a"))
+unfolding each comment blank gap past_name_chars name string_or_name word past_number term position block_end chars encode
+hyphens = (refl, refl, refl, refl, refl, refl, refl, refl, refl, refl)
+
+-- names of wide characters, in both editions
+pub wide_names :
+    (name first_edition (encode_utf8_all (codes "-é")) ≡ fails (no_name (encode_utf8_all (codes "-é"))) (encode_utf8_all (codes "é")))
+    × (name second_edition (encode_utf8_all (codes "-é")) ≡ got (encode_utf8_all (codes "-é")) [])
+    × (name first_edition (encode_utf8_all (codes "aîé")) ≡ got (encode_utf8_all (codes "aî")) (encode_utf8_all (codes "é")))
+    × (name second_edition (encode_utf8_all (codes "aîé")) ≡ got (encode_utf8_all (codes "aîé")) [])
+    × (name first_edition (encode_utf8_all (codes "í")) ≡ fails (no_name (encode_utf8_all (codes "í"))) (encode_utf8_all (codes "í")))
+    × (name first_edition (227 ∷ 128 ∷ 128 ∷ []) ≡ got (227 ∷ 128 ∷ 128 ∷ []) [])
+unfolding each comment blank gap past_name_chars name string_or_name word past_number term position block_end chars encode
+wide_names = (refl, refl, refl, refl, refl, refl)
+
+-- strings and the quotes and backslashes in them
+pub quotes :
+    (string_or_name first_edition (codes "'\\\\'b' c") ≡ got (codes "\\\\'b") (codes " c"))
+    × (string_or_name first_edition (codes "\"'\"a") ≡ got (codes "'") (codes "a"))
+    × (string_or_name first_edition (codes "\"\"") ≡ got [] [])
+    × (string_or_name first_edition (codes "'a") ≡ fails ended [])
+    × (string_or_name first_edition (codes "'") ≡ fails ended [])
+    × (string_or_name first_edition (codes "'\\'") ≡ fails ended [])
+    × (string_or_name first_edition (codes "'{/*\n' ") ≡ got (codes "{/*\n") (codes " "))
+    × (string_or_name first_edition (codes "-") ≡ got (codes "-") [])
+    × (string_or_name first_edition (codes "-]") ≡ fails (no_name (codes "-]")) (codes "]"))
+    × (string_or_name first_edition (codes "]") ≡ fails (no_name (codes "]")) (codes "]"))
+unfolding each comment blank gap past_name_chars name string_or_name word past_number term position block_end chars encode
+quotes = (refl, refl, refl, refl, refl, refl, refl, refl, refl, refl)
+
+-- terms that begin with a sign, a point, a digit or a number sign
+pub numbers :
+    (term first_edition (codes "1%%") ≡ got tt (codes "%"))
+    × (term first_edition (codes "1-%") ≡ got tt (codes "%"))
+    × (term first_edition (codes "1.5.5") ≡ got tt (codes ".5"))
+    × (term first_edition (codes "1.px,") ≡ got tt (codes ","))
+    × (term first_edition (codes ".") ≡ got tt [])
+    × (term first_edition (codes "+") ≡ got tt [])
+    × (term first_edition (codes "-") ≡ got tt [])
+    × (term first_edition (codes "--") ≡ got tt [])
+    × (term first_edition (codes "-- ") ≡ got tt (codes " "))
+    × (term first_edition (codes "+-a b") ≡ got tt (codes " b"))
+    × (term first_edition (codes "-2em 3") ≡ got tt (codes " 3"))
+    × (term first_edition (codes ".a(b)") ≡ got tt (codes "(b)"))
+    × (term first_edition (codes "#") ≡ got tt [])
+    × (term first_edition (codes "#-%") ≡ got tt (codes "%"))
+    × (term first_edition (codes "#12g") ≡ got tt (codes "g"))
+    × (term first_edition (codes "#a-g ") ≡ got tt (codes " "))
+    × (term first_edition (codes "#--f") ≡ got tt (codes "-f"))
+    × (term first_edition (codes "#-1g") ≡ got tt (codes "g"))
+unfolding each comment blank gap past_name_chars name string_or_name word past_number term position block_end chars encode
+numbers = (refl, refl, refl, refl, refl, refl, refl, refl, refl, refl, refl, refl, refl, refl, refl, refl, refl, refl)
+
+-- strings, commas, names and functions, and what is no term
+pub other_terms :
+    (term first_edition (codes "'a'b") ≡ got tt (codes "b"))
+    × (term first_edition (codes ",,") ≡ got tt (codes ","))
+    × (term first_edition (codes "a (b)") ≡ got tt (codes " (b)"))
+    × (term first_edition (codes "a(b)c)") ≡ got tt (codes "c)"))
+    × (term first_edition (codes "a(')')") ≡ got tt (codes "')"))
+    × (term first_edition (codes "(a)") ≡ fails (no_name (codes "(a)")) (codes "(a)"))
+    × (term first_edition (codes ";") ≡ fails (no_name (codes ";")) (codes ";"))
+    × (term first_edition (codes "!") ≡ fails (no_name (codes "!")) (codes "!"))
+    × (term first_edition [] ≡ fails ended [])
+    × (term first_edition (encode_utf8_all (codes "é")) ≡ fails (no_name (encode_utf8_all (codes "é"))) (encode_utf8_all (codes "é")))
+    × (term second_edition (encode_utf8_all (codes "é")) ≡ got tt [])
+    × (term second_edition (codes "/") ≡ got tt [])
+    × (term second_edition (codes "//*") ≡ got tt (codes "/*"))
+    × (term second_edition (codes "/*") ≡ fails (no_name (codes "/*")) (codes "/*"))
+unfolding each comment blank gap past_name_chars name string_or_name word past_number term position block_end chars encode
+other_terms = (refl, refl, refl, refl, refl, refl, refl, refl, refl, refl, refl, refl, refl, refl)
+
+-- quotes and comments do not hide the end of a block
+pub unread_braces :
+    (block_end (codes "'}'}") ≡ 1)
+    × (block_end (codes "/*}*/}") ≡ 2)
+    × (block_end (codes "{}{}}") ≡ 4)
+    × (block_end (codes "}") ≡ 0)
+    × (block_end (codes "{{}") ≡ 3)
+unfolding each comment blank gap past_name_chars name string_or_name word past_number term position block_end chars encode
+unread_braces = (refl, refl, refl, refl, refl)
+
+-- rows and columns count newlines and characters
+pub positions :
+    (position [] 0 ≡ record { row = 1; col = 1 })
+    × (position (codes "a\nb") 1 ≡ record { row = 1; col = 2 })
+    × (position (codes "a\nb") 2 ≡ record { row = 2; col = 1 })
+    × (position (codes "\n\n") 2 ≡ record { row = 3; col = 1 })
+    × (position (codes "\n\nab") 4 ≡ record { row = 3; col = 3 })
+    × (position (encode_utf8_all (codes "éa\né")) 3 ≡ record { row = 1; col = 3 })
+    × (position (encode_utf8_all (codes "éa\né")) 6 ≡ record { row = 2; col = 2 })
+unfolding each comment blank gap past_name_chars name string_or_name word past_number term position block_end chars encode
+positions = (refl, refl, refl, refl, refl, refl, refl)
+
+-- the printed errors
+pub printed_errors :
+    (error_text UnexpectedEndOfStream ≡ (codes "unexpected end of stream"))
+    × (error_text (InvalidIdent (record { row = 1; col = 3 })) ≡ (codes "invalid ident at 1:3"))
+    × (error_text (InvalidComment (record { row = 2; col = 40 })) ≡ (codes "invalid comment at 2:40"))
+    × (error_text (InvalidValue (record { row = 10; col = 1 })) ≡ (codes "invalid value at 10:1"))
+    × (error_text (InvalidByte 93 98 (record { row = 1; col = 8 })) ≡ (codes "expected ']' not 'b' at 1:8"))
+    × (error_text (InvalidByte 61 98 (record { row = 1; col = 4 })) ≡ (codes "expected '=' not 'b' at 1:4"))
+    × (error_text (InvalidByte 40 32 (record { row = 1; col = 6 })) ≡ (codes "expected '(' not ' ' at 1:6"))
+    × (error_text (InvalidByte 93 195 (record { row = 1; col = 7 })) ≡ (encode_utf8_all (codes "expected ']' not 'Ã' at 1:7")))
+    × (error_text SelectorMissing ≡ (codes "selector missing"))
+    × (error_text UnexpectedSelector ≡ (codes "unexpected selector"))
+    × (error_text UnexpectedCombinator ≡ (codes "unexpected combinator"))
+    × (error_text InvalidAttributeSelector ≡ (codes "invalid or unsupported attribute selector"))
+    × (error_text InvalidLanguagePseudoClass ≡ (codes "invalid language pseudo-class"))
+    × (error_text (InvalidIdent (record { row = 4294967295; col = 4294967295 })) ≡ (codes "invalid ident at 4294967295:4294967295"))
+unfolding digits encode
+printed_errors = (refl, refl, refl, refl, refl, refl, refl, refl, refl, refl, refl, refl, refl, refl)

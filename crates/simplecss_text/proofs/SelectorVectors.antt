@@ -1,5 +1,5 @@
 -- Worked selectors, computed: what the selector of a text prints, what is left, and how specific it is.
-use Rattle.std.specs.Prelude.{◌≡◌, refl, [], ◌∷◌, codes, Some, None, true, false, replicate}
+use Rattle.std.specs.Prelude.{◌≡◌, refl, [], ◌∷◌, codes, Some, None, true, false, replicate, encode_utf8_all}
 use Rattle.std.specs.List.{flat_map}
 use Rattle.std.specs.Option.{option_map}
 use Rattle.std.specs.Str.{trim_start, trim_end, chars}
@@ -55,16 +55,16 @@ pub printed :
     × ((reads first_edition (codes "h1 + *[rel=up]")).1 ≡ [])
     × (option_map selector_text (reads first_edition (codes "a {x")).0 ≡ Some (codes "a"))
     × ((reads first_edition (codes "a {x")).1 ≡ (codes "{x"))
-    × (option_map selector_text (reads first_edition (195 ∷ 169 ∷ [])).0 ≡ None)
-    × ((reads first_edition (195 ∷ 169 ∷ [])).1 ≡ (195 ∷ 169 ∷ []))
-    × (option_map selector_text (reads second_edition (195 ∷ 169 ∷ [])).0 ≡ Some (195 ∷ 169 ∷ []))
-    × ((reads second_edition (195 ∷ 169 ∷ [])).1 ≡ [])
-    × (option_map selector_text (reads first_edition (91 ∷ 120 ∷ 61 ∷ 34 ∷ 97 ∷ 39 ∷ 93 ∷ 91 ∷ 121 ∷ 61 ∷ 39 ∷ 98 ∷ 34 ∷ 93 ∷ [])).0 ≡ Some (codes "*[x='a'][y='b']"))
-    × ((reads first_edition (91 ∷ 120 ∷ 61 ∷ 34 ∷ 97 ∷ 39 ∷ 93 ∷ 91 ∷ 121 ∷ 61 ∷ 39 ∷ 98 ∷ 34 ∷ 93 ∷ [])).1 ≡ [])
+    × (option_map selector_text (reads first_edition (encode_utf8_all (codes "é"))).0 ≡ None)
+    × ((reads first_edition (encode_utf8_all (codes "é"))).1 ≡ (encode_utf8_all (codes "é")))
+    × (option_map selector_text (reads second_edition (encode_utf8_all (codes "é"))).0 ≡ Some (encode_utf8_all (codes "é")))
+    × ((reads second_edition (encode_utf8_all (codes "é"))).1 ≡ [])
+    × (option_map selector_text (reads first_edition (codes "[x=\"a'][y='b\"]")).0 ≡ Some (codes "*[x='a'][y='b']"))
+    × ((reads first_edition (codes "[x=\"a'][y='b\"]")).1 ≡ [])
     × (option_map selector_text (reads first_edition (codes "[x='a'b']")).0 ≡ None)
     × ((reads first_edition (codes "[x='a'b']")).1 ≡ (codes "b']"))
-    × (option_map selector_text (reads first_edition (91 ∷ 120 ∷ 61 ∷ 34 ∷ 97 ∷ 92 ∷ 39 ∷ 98 ∷ 34 ∷ 93 ∷ [])).0 ≡ Some (42 ∷ 91 ∷ 120 ∷ 61 ∷ 39 ∷ 97 ∷ 92 ∷ 39 ∷ 98 ∷ 39 ∷ 93 ∷ []))
-    × ((reads first_edition (91 ∷ 120 ∷ 61 ∷ 34 ∷ 97 ∷ 92 ∷ 39 ∷ 98 ∷ 34 ∷ 93 ∷ [])).1 ≡ [])
+    × (option_map selector_text (reads first_edition (codes "[x=\"a\\'b\"]")).0 ≡ Some (codes "*[x='a\\'b']"))
+    × ((reads first_edition (codes "[x=\"a\\'b\"]")).1 ≡ [])
 unfolding each comment blank gap past_name_chars name string_or_name attribute_operator attribute_after lang_after pseudo_class_after named begun solid piece ending run_from chars encode trim_start trim_end reads
 printed = (refl, refl, refl, refl, refl, refl, refl, refl, refl, refl, refl, refl, refl, refl, refl, refl, refl, refl, refl, refl, refl, refl, refl, refl, refl, refl, refl, refl, refl, refl, refl, refl, refl, refl, refl, refl, refl, refl)
 
@@ -81,9 +81,137 @@ specificities = (refl, refl, refl, refl, refl, refl)
 
 -- apostrophes in values
 pub clean :
-    (option_map is_clean (reads first_edition (91 ∷ 120 ∷ 61 ∷ 34 ∷ 97 ∷ 39 ∷ 93 ∷ 91 ∷ 121 ∷ 61 ∷ 39 ∷ 98 ∷ 34 ∷ 93 ∷ [])).0 ≡ Some false)
-    × (option_map is_clean (reads first_edition (91 ∷ 120 ∷ 61 ∷ 34 ∷ 97 ∷ 92 ∷ 39 ∷ 98 ∷ 34 ∷ 93 ∷ [])).0 ≡ Some true)
-    × (option_map is_clean (reads first_edition (91 ∷ 120 ∷ 61 ∷ 34 ∷ 97 ∷ 39 ∷ 98 ∷ 34 ∷ 93 ∷ [])).0 ≡ Some false)
+    (option_map is_clean (reads first_edition (codes "[x=\"a'][y='b\"]")).0 ≡ Some false)
+    × (option_map is_clean (reads first_edition (codes "[x=\"a\\'b\"]")).0 ≡ Some true)
+    × (option_map is_clean (reads first_edition (codes "[x=\"a'b\"]")).0 ≡ Some false)
     × (option_map is_clean (reads first_edition (codes "a")).0 ≡ Some true)
 unfolding each comment blank gap past_name_chars name string_or_name attribute_operator attribute_after lang_after pseudo_class_after named begun solid piece ending run_from chars encode trim_start trim_end reads
 clean = (refl, refl, refl, refl)
+
+-- selectors of one meaning print alike
+pub other_spellings :
+    (option_map selector_text (reads first_edition (codes "a > b")).0 ≡ Some (codes "a > b"))
+    × ((reads first_edition (codes "a > b")).1 ≡ [])
+    × (option_map selector_text (reads first_edition (codes "a .b")).0 ≡ Some (codes "a *[class~='b']"))
+    × ((reads first_edition (codes "a .b")).1 ≡ [])
+    × (option_map selector_text (reads first_edition (codes "a *[class~=\"b\"]")).0 ≡ Some (codes "a *[class~='b']"))
+    × ((reads first_edition (codes "a *[class~=\"b\"]")).1 ≡ [])
+    × (option_map selector_text (reads first_edition (codes "#x")).0 ≡ Some (codes "*[id='x']"))
+    × ((reads first_edition (codes "#x")).1 ≡ [])
+    × (option_map selector_text (reads first_edition (codes "[id=x]")).0 ≡ Some (codes "*[id='x']"))
+    × ((reads first_edition (codes "[id=x]")).1 ≡ [])
+    × (option_map selector_text (reads first_edition (codes ".b:lang( en )")).0 ≡ Some (codes "*[class~='b']:lang(en)"))
+    × ((reads first_edition (codes ".b:lang( en )")).1 ≡ [])
+    × (option_map selector_text (reads first_edition (codes ".-")).0 ≡ Some (codes "*[class~='-']"))
+    × ((reads first_edition (codes ".-")).1 ≡ [])
+unfolding each comment blank gap past_name_chars name string_or_name attribute_operator attribute_after lang_after pseudo_class_after named begun solid piece ending run_from chars encode trim_start trim_end reads
+other_spellings = (refl, refl, refl, refl, refl, refl, refl, refl, refl, refl, refl, refl, refl, refl)
+
+-- a printed text is read as itself
+pub printed_again :
+    (option_map selector_text (reads first_edition (codes "a *[class~='b']")).0 ≡ Some (codes "a *[class~='b']"))
+    × ((reads first_edition (codes "a *[class~='b']")).1 ≡ [])
+    × (option_map selector_text (reads first_edition (codes "*[id='x']")).0 ≡ Some (codes "*[id='x']"))
+    × ((reads first_edition (codes "*[id='x']")).1 ≡ [])
+    × (option_map selector_text (reads first_edition (codes "*[class~='b']:lang(en)")).0 ≡ Some (codes "*[class~='b']:lang(en)"))
+    × ((reads first_edition (codes "*[class~='b']:lang(en)")).1 ≡ [])
+    × (option_map selector_text (reads first_edition (codes "*[class~='-']")).0 ≡ Some (codes "*[class~='-']"))
+    × ((reads first_edition (codes "*[class~='-']")).1 ≡ [])
+    × (option_map selector_text (reads first_edition (codes "*[x='a'][y='b']")).0 ≡ Some (codes "*[x='a'][y='b']"))
+    × ((reads first_edition (codes "*[x='a'][y='b']")).1 ≡ [])
+    × (option_map selector_text (reads first_edition (codes "*[x='a\\'b']")).0 ≡ Some (codes "*[x='a\\'b']"))
+    × ((reads first_edition (codes "*[x='a\\'b']")).1 ≡ [])
+unfolding each comment blank gap past_name_chars name string_or_name attribute_operator attribute_after lang_after pseudo_class_after named begun solid piece ending run_from chars encode trim_start trim_end reads
+printed_again = (refl, refl, refl, refl, refl, refl, refl, refl, refl, refl, refl, refl)
+
+-- a value with a bare apostrophe prints as a text that is refused
+pub bare_apostrophes :
+    (option_map selector_text (reads first_edition (codes "[x=\"a'b\"]")).0 ≡ Some (codes "*[x='a'b']"))
+    × ((reads first_edition (codes "[x=\"a'b\"]")).1 ≡ [])
+    × (option_map selector_text (reads first_edition (codes "*[x='a'b']")).0 ≡ None)
+    × ((reads first_edition (codes "*[x='a'b']")).1 ≡ (codes "b']"))
+unfolding each comment blank gap past_name_chars name string_or_name attribute_operator attribute_after lang_after pseudo_class_after named begun solid piece ending run_from chars encode trim_start trim_end reads
+bare_apostrophes = (refl, refl, refl, refl)
+
+-- each operator and each known pseudo-class
+pub all_subselectors :
+    (option_map selector_text (reads first_edition (codes "[a][a=b][a~='b'][a|=\"b\"]")).0 ≡ Some (codes "*[a][a='b'][a~='b'][a|='b']"))
+    × ((reads first_edition (codes "[a][a=b][a~='b'][a|=\"b\"]")).1 ≡ [])
+    × (option_map selector_text (reads first_edition (codes "a:first-child:link:visited:hover:active:focus")).0 ≡ Some (codes "a:first-child:link:visited:hover:active:focus"))
+    × ((reads first_edition (codes "a:first-child:link:visited:hover:active:focus")).1 ≡ [])
+    × (option_map selector_text (reads first_edition (codes "*:lang(en) + b>c")).0 ≡ Some (codes "*:lang(en) + b > c"))
+    × ((reads first_edition (codes "*:lang(en) + b>c")).1 ≡ [])
+unfolding each comment blank gap past_name_chars name string_or_name attribute_operator attribute_after lang_after pseudo_class_after named begun solid piece ending run_from chars encode trim_start trim_end reads
+all_subselectors = (refl, refl, refl, refl, refl, refl)
+
+-- the first fault or unknown pseudo-class refuses, and reading ends there
+pub refusals :
+    (option_map selector_text (reads first_edition (codes " ")).0 ≡ None)
+    × ((reads first_edition (codes " ")).1 ≡ [])
+    × (option_map selector_text (reads first_edition (codes "/**/")).0 ≡ None)
+    × ((reads first_edition (codes "/**/")).1 ≡ [])
+    × (option_map selector_text (reads first_edition (codes "\\26")).0 ≡ None)
+    × ((reads first_edition (codes "\\26")).1 ≡ (codes "\\26"))
+    × (option_map selector_text (reads first_edition (97 ∷ 11 ∷ [])).0 ≡ None)
+    × ((reads first_edition (97 ∷ 11 ∷ [])).1 ≡ (11 ∷ []))
+    × (option_map selector_text (reads first_edition (codes "a/*/.b")).0 ≡ None)
+    × ((reads first_edition (codes "a/*/.b")).1 ≡ [])
+    × (option_map selector_text (reads first_edition (58 ∷ 108 ∷ 97 ∷ 110 ∷ 103 ∷ 40 ∷ 11 ∷ 41 ∷ [])).0 ≡ None)
+    × ((reads first_edition (58 ∷ 108 ∷ 97 ∷ 110 ∷ 103 ∷ 40 ∷ 11 ∷ 41 ∷ [])).1 ≡ [])
+    × (option_map selector_text (reads first_edition (codes "a:b<")).0 ≡ None)
+    × ((reads first_edition (codes "a:b<")).1 ≡ (codes "<"))
+    × (option_map selector_text (reads first_edition (codes "a:b c")).0 ≡ None)
+    × ((reads first_edition (codes "a:b c")).1 ≡ (codes " c"))
+    × (option_map selector_text (reads first_edition (codes "a<:b")).0 ≡ None)
+    × ((reads first_edition (codes "a<:b")).1 ≡ (codes "<:b"))
+    × (option_map selector_text (reads first_edition (codes "a:lang b")).0 ≡ None)
+    × ((reads first_edition (codes "a:lang b")).1 ≡ (codes " b"))
+    × (option_map selector_text (reads first_edition (codes "b:-")).0 ≡ None)
+    × ((reads first_edition (codes "b:-")).1 ≡ [])
+    × (option_map selector_text (reads first_edition (codes "a,:b")).0 ≡ Some (codes "a"))
+    × ((reads first_edition (codes "a,:b")).1 ≡ (codes ",:b"))
+unfolding each comment blank gap past_name_chars name string_or_name attribute_operator attribute_after lang_after pseudo_class_after named begun solid piece ending run_from chars encode trim_start trim_end reads
+refusals = (refl, refl, refl, refl, refl, refl, refl, refl, refl, refl, refl, refl, refl, refl, refl, refl, refl, refl, refl, refl, refl, refl, refl, refl)
+
+-- type names of wide characters, in both editions
+pub wide_type_names :
+    (option_map selector_text (reads first_edition (encode_utf8_all (codes "î"))).0 ≡ Some (encode_utf8_all (codes "î")))
+    × ((reads first_edition (encode_utf8_all (codes "î"))).1 ≡ [])
+    × (option_map selector_text (reads second_edition (encode_utf8_all (codes "î"))).0 ≡ Some (encode_utf8_all (codes "î")))
+    × ((reads second_edition (encode_utf8_all (codes "î"))).1 ≡ [])
+    × (option_map selector_text (reads second_edition (194 ∷ 160 ∷ [])).0 ≡ Some (194 ∷ 160 ∷ []))
+    × ((reads second_edition (194 ∷ 160 ∷ [])).1 ≡ [])
+    × (option_map selector_text (reads second_edition (194 ∷ 159 ∷ [])).0 ≡ None)
+    × ((reads second_edition (194 ∷ 159 ∷ [])).1 ≡ (194 ∷ 159 ∷ []))
+unfolding each comment blank gap past_name_chars name string_or_name attribute_operator attribute_after lang_after pseudo_class_after named begun solid piece ending run_from chars encode trim_start trim_end reads
+wide_type_names = (refl, refl, refl, refl, refl, refl, refl, refl)
+
+-- comments between the pieces, and a slash behind them
+pub gaps_of_comments :
+    (option_map selector_text (reads first_edition (codes "/**//**//**/a")).0 ≡ Some (codes "a"))
+    × ((reads first_edition (codes "/**//**//**/a")).1 ≡ [])
+    × (option_map selector_text (reads first_edition (codes "a/**//**//**/.b")).0 ≡ Some (codes "a[class~='b']"))
+    × ((reads first_edition (codes "a/**//**//**/.b")).1 ≡ [])
+    × (option_map selector_text (reads first_edition (codes "a /**//**//**/b")).0 ≡ Some (codes "a b"))
+    × ((reads first_edition (codes "a /**//**//**/b")).1 ≡ [])
+    × (option_map selector_text (reads first_edition (codes "a a a")).0 ≡ Some (codes "a a a"))
+    × ((reads first_edition (codes "a a a")).1 ≡ [])
+    × (option_map selector_text (reads first_edition (97 ∷ 12 ∷ [])).0 ≡ Some (codes "a"))
+    × ((reads first_edition (97 ∷ 12 ∷ [])).1 ≡ [])
+    × (option_map selector_text (reads second_edition (codes "a/ b")).0 ≡ Some (codes "a"))
+    × ((reads second_edition (codes "a/ b")).1 ≡ (codes "/ b"))
+unfolding each comment blank gap past_name_chars name string_or_name attribute_operator attribute_after lang_after pseudo_class_after named begun solid piece ending run_from chars encode trim_start trim_end reads
+gaps_of_comments = (refl, refl, refl, refl, refl, refl, refl, refl, refl, refl, refl, refl)
+
+-- more counts of ids, other subselectors and type names
+pub counts :
+    (option_map specificity (reads first_edition (codes "li")).0 ≡ Some (0 ∷ 0 ∷ 1 ∷ []))
+    × (option_map specificity (reads first_edition (codes "li.red.level")).0 ≡ Some (0 ∷ 2 ∷ 1 ∷ []))
+    × (option_map specificity (reads first_edition (codes "#x34y")).0 ≡ Some (1 ∷ 0 ∷ 0 ∷ []))
+    × (option_map specificity (reads first_edition (codes "ul li")).0 ≡ Some (0 ∷ 0 ∷ 2 ∷ []))
+    × (option_map specificity (reads first_edition (codes "ul ol + li")).0 ≡ Some (0 ∷ 0 ∷ 3 ∷ []))
+    × (option_map specificity (reads first_edition (codes "ul ol li.red")).0 ≡ Some (0 ∷ 1 ∷ 3 ∷ []))
+    × (option_map specificity (reads first_edition (codes "[id~=a][class=id]:link")).0 ≡ Some (1 ∷ 2 ∷ 0 ∷ []))
+    × (option_map specificity (reads first_edition (codes "*:lang(en) > *")).0 ≡ Some (0 ∷ 1 ∷ 0 ∷ []))
+unfolding each comment blank gap past_name_chars name string_or_name attribute_operator attribute_after lang_after pseudo_class_after named begun solid piece ending run_from chars encode trim_start trim_end reads
+counts = (refl, refl, refl, refl, refl, refl, refl, refl)

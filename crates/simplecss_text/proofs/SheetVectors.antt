@@ -1,5 +1,5 @@
 -- Worked sheets, computed: what the sheet of some texts prints.
-use Rattle.std.specs.Prelude.{◌≡◌, refl, [], ◌∷◌, codes}
+use Rattle.std.specs.Prelude.{◌≡◌, refl, List, [], ◌∷◌, ◌++◌, codes, encode_utf8_all, Some, None, false, filter}
 use Rattle.std.specs.Str.{trim_start, trim_end, chars}
 use lib.Utf8.{encode}
 use Rattle.simplecss_text.specs.Reading.{each}
@@ -11,16 +11,20 @@ use Rattle.simplecss_text.specs.Pieces.{attribute_operator, attribute_after, lan
 use Rattle.simplecss_text.specs.TokenRuns.{run_from}
 use Rattle.simplecss_text.specs.Selectors.{reads}
 use Rattle.simplecss_text.specs.Terms.{word, past_number, term}
-use Rattle.simplecss_text.specs.Declarations.{value, importance, trailing, declaration, declarations}
+use Rattle.simplecss_text.specs.Declarations.{value, importance, trailing, declaration, declarations, Property}
 use Rattle.simplecss_text.specs.Blocks.{block, block_end}
-use Rattle.simplecss_text.specs.Statements.{part, parts, next_block, rule_set, past_at_rule, statement, statements}
-use Rattle.simplecss_text.specs.Sheets.{sheet}
+use Rattle.simplecss_text.specs.Statements.{part, parts, next_block, rule_set, past_at_rule, statement, statements, has_property, kept}
+use Rattle.simplecss_text.specs.Sheets.{sheet, ordered}
 use Rattle.simplecss_text.specs.Printing.{sheet_text}
+use Rattle.simplecss_text.specs.Components.{Component}
+use Rattle.simplecss_text.specs.Components.Operator.{equals}
+use Rattle.simplecss_text.specs.Components.Subselector.{attribute}
+use Rattle.simplecss_text.specs.Components.Combinator.{none}
 
 -- the parts of a rule set, refused ones among them
 pub rule_sets :
-    (sheet_text (sheet first_edition ((codes "a, b { color:red }") ∷ [])) ≡ (97 ∷ 32 ∷ 123 ∷ 32 ∷ 99 ∷ 111 ∷ 108 ∷ 111 ∷ 114 ∷ 58 ∷ 114 ∷ 101 ∷ 100 ∷ 59 ∷ 32 ∷ 125 ∷ 10 ∷ 98 ∷ 32 ∷ 123 ∷ 32 ∷ 99 ∷ 111 ∷ 108 ∷ 111 ∷ 114 ∷ 58 ∷ 114 ∷ 101 ∷ 100 ∷ 59 ∷ 32 ∷ 125 ∷ []))
-    × (sheet_text (sheet first_edition ((codes "#x { color:red } a { color:blue }") ∷ [])) ≡ (97 ∷ 32 ∷ 123 ∷ 32 ∷ 99 ∷ 111 ∷ 108 ∷ 111 ∷ 114 ∷ 58 ∷ 98 ∷ 108 ∷ 117 ∷ 101 ∷ 59 ∷ 32 ∷ 125 ∷ 10 ∷ 42 ∷ 91 ∷ 105 ∷ 100 ∷ 61 ∷ 39 ∷ 120 ∷ 39 ∷ 93 ∷ 32 ∷ 123 ∷ 32 ∷ 99 ∷ 111 ∷ 108 ∷ 111 ∷ 114 ∷ 58 ∷ 114 ∷ 101 ∷ 100 ∷ 59 ∷ 32 ∷ 125 ∷ []))
+    (sheet_text (sheet first_edition ((codes "a, b { color:red }") ∷ [])) ≡ (codes "a { color:red; }\nb { color:red; }"))
+    × (sheet_text (sheet first_edition ((codes "#x { color:red } a { color:blue }") ∷ [])) ≡ (codes "a { color:blue; }\n*[id='x'] { color:red; }"))
     × (sheet_text (sheet first_edition ((codes ":le, b { color:red }") ∷ [])) ≡ (codes "b { color:red; }"))
     × (sheet_text (sheet first_edition ((codes "a, b < c { color:red }") ∷ [])) ≡ (codes "a { color:red; }"))
     × (sheet_text (sheet first_edition ((codes "a /, b { color:red }") ∷ [])) ≡ (codes "b { color:red; }"))
@@ -37,8 +41,8 @@ braces = (refl, refl, refl)
 
 -- blocks with a broken declaration
 pub broken_declarations :
-    (sheet_text (sheet first_edition ((codes "p { font:12px/1.5 serif; color:red } q { color:blue }") ∷ [])) ≡ (112 ∷ 32 ∷ 123 ∷ 32 ∷ 102 ∷ 111 ∷ 110 ∷ 116 ∷ 58 ∷ 49 ∷ 50 ∷ 112 ∷ 120 ∷ 59 ∷ 32 ∷ 125 ∷ 10 ∷ 113 ∷ 32 ∷ 123 ∷ 32 ∷ 99 ∷ 111 ∷ 108 ∷ 111 ∷ 114 ∷ 58 ∷ 98 ∷ 108 ∷ 117 ∷ 101 ∷ 59 ∷ 32 ∷ 125 ∷ []))
-    × (sheet_text (sheet second_edition ((codes "p { font:12px/1.5 serif; color:red } q { color:blue }") ∷ [])) ≡ (112 ∷ 32 ∷ 123 ∷ 32 ∷ 102 ∷ 111 ∷ 110 ∷ 116 ∷ 58 ∷ 49 ∷ 50 ∷ 112 ∷ 120 ∷ 47 ∷ 49 ∷ 46 ∷ 53 ∷ 32 ∷ 115 ∷ 101 ∷ 114 ∷ 105 ∷ 102 ∷ 59 ∷ 99 ∷ 111 ∷ 108 ∷ 111 ∷ 114 ∷ 58 ∷ 114 ∷ 101 ∷ 100 ∷ 59 ∷ 32 ∷ 125 ∷ 10 ∷ 113 ∷ 32 ∷ 123 ∷ 32 ∷ 99 ∷ 111 ∷ 108 ∷ 111 ∷ 114 ∷ 58 ∷ 98 ∷ 108 ∷ 117 ∷ 101 ∷ 59 ∷ 32 ∷ 125 ∷ []))
+    (sheet_text (sheet first_edition ((codes "p { font:12px/1.5 serif; color:red } q { color:blue }") ∷ [])) ≡ (codes "p { font:12px; }\nq { color:blue; }"))
+    × (sheet_text (sheet second_edition ((codes "p { font:12px/1.5 serif; color:red } q { color:blue }") ∷ [])) ≡ (codes "p { font:12px/1.5 serif;color:red; }\nq { color:blue; }"))
     × (sheet_text (sheet first_edition ((codes "p { color:green; color{;color:maroon} }") ∷ [])) ≡ (codes "p { color:green; }"))
     × (sheet_text (sheet first_edition ((codes "a { b:c; color:red; /* open") ∷ [])) ≡ (codes "a { b:c; }"))
     × (sheet_text (sheet first_edition ((codes "a { color:red 'x") ∷ [])) ≡ (codes "a { color:red; }"))
@@ -60,8 +64,150 @@ at_rules = (refl, refl, refl)
 pub sheets_of_texts :
     (sheet_text (sheet first_edition ([])) ≡ [])
     × (sheet_text (sheet first_edition ([] ∷ [])) ≡ [])
-    × (sheet_text (sheet first_edition ((codes "#x { a:b }") ∷ (codes "p { c:d }") ∷ [])) ≡ (112 ∷ 32 ∷ 123 ∷ 32 ∷ 99 ∷ 58 ∷ 100 ∷ 59 ∷ 32 ∷ 125 ∷ 10 ∷ 42 ∷ 91 ∷ 105 ∷ 100 ∷ 61 ∷ 39 ∷ 120 ∷ 39 ∷ 93 ∷ 32 ∷ 123 ∷ 32 ∷ 97 ∷ 58 ∷ 98 ∷ 59 ∷ 32 ∷ 125 ∷ []))
-    × (sheet_text (sheet first_edition ((codes "#x { a:b }") ∷ (codes "p { c:d }") ∷ (codes "/* open") ∷ [])) ≡ (112 ∷ 32 ∷ 123 ∷ 32 ∷ 99 ∷ 58 ∷ 100 ∷ 59 ∷ 32 ∷ 125 ∷ 10 ∷ 42 ∷ 91 ∷ 105 ∷ 100 ∷ 61 ∷ 39 ∷ 120 ∷ 39 ∷ 93 ∷ 32 ∷ 123 ∷ 32 ∷ 97 ∷ 58 ∷ 98 ∷ 59 ∷ 32 ∷ 125 ∷ []))
-    × (sheet_text (sheet first_edition ((codes "a > b { c:d } b { e:f }") ∷ [])) ≡ (98 ∷ 32 ∷ 123 ∷ 32 ∷ 101 ∷ 58 ∷ 102 ∷ 59 ∷ 32 ∷ 125 ∷ 10 ∷ 97 ∷ 32 ∷ 62 ∷ 32 ∷ 98 ∷ 32 ∷ 123 ∷ 32 ∷ 99 ∷ 58 ∷ 100 ∷ 59 ∷ 32 ∷ 125 ∷ []))
+    × (sheet_text (sheet first_edition ((codes "#x { a:b }") ∷ (codes "p { c:d }") ∷ [])) ≡ (codes "p { c:d; }\n*[id='x'] { a:b; }"))
+    × (sheet_text (sheet first_edition ((codes "#x { a:b }") ∷ (codes "p { c:d }") ∷ (codes "/* open") ∷ [])) ≡ (codes "p { c:d; }\n*[id='x'] { a:b; }"))
+    × (sheet_text (sheet first_edition ((codes "a > b { c:d } b { e:f }") ∷ [])) ≡ (codes "b { e:f; }\na > b { c:d; }"))
 unfolding each comment blank gap past_name_chars name string_or_name attribute_operator attribute_after lang_after pseudo_class_after named begun solid piece ending run_from chars encode trim_start trim_end reads part parts next_block rule_set past_at_rule statement statements block block_end word past_number term value importance trailing declaration declarations
 sheets_of_texts = (refl, refl, refl, refl, refl)
+
+-- sheets without a rule that is kept
+pub no_rules :
+    (sheet_text (sheet first_edition ((codes "a {}") ∷ [])) ≡ [])
+    × (sheet_text (sheet first_edition ((codes "/**/") ∷ [])) ≡ [])
+    × (sheet_text (sheet first_edition ((codes "a > { color:red }") ∷ [])) ≡ [])
+    × (sheet_text (sheet first_edition ((codes ":le>*") ∷ [])) ≡ [])
+    × (sheet_text (sheet first_edition ((codes "> {}") ∷ [])) ≡ [])
+    × (sheet_text (sheet first_edition ((codes "@import 'subs.css';") ∷ [])) ≡ [])
+    × (sheet_text (sheet first_edition ((codes ":le {}") ∷ [])) ≡ [])
+unfolding each comment blank gap past_name_chars name string_or_name attribute_operator attribute_after lang_after pseudo_class_after named begun solid piece ending run_from chars encode trim_start trim_end reads part parts next_block rule_set past_at_rule statement statements block block_end word past_number term value importance trailing declaration declarations
+no_rules = (refl, refl, refl, refl, refl, refl, refl)
+
+-- empty parts, comments behind a block, and at-rules without one
+pub commas_and_comments :
+    (sheet_text (sheet first_edition ((codes "a { color:red }") ∷ [])) ≡ (codes "a { color:red; }"))
+    × (sheet_text (sheet first_edition ((codes "a { b:c }") ∷ [])) ≡ (codes "a { b:c; }"))
+    × (sheet_text (sheet first_edition ((codes "#x { a:b }") ∷ [])) ≡ (codes "*[id='x'] { a:b; }"))
+    × (sheet_text (sheet first_edition ((codes "a { color:red } /**/") ∷ [])) ≡ (codes "a { color:red; }"))
+    × (sheet_text (sheet first_edition ((codes "a, { color:red }") ∷ [])) ≡ (codes "a { color:red; }"))
+    × (sheet_text (sheet first_edition ((codes "a,, { color:red }") ∷ [])) ≡ (codes "a { color:red; }"))
+    × (sheet_text (sheet first_edition ((codes ",a { color:red }") ∷ [])) ≡ (codes "a { color:red; }"))
+    × (sheet_text (sheet first_edition ((codes "a,,b { color:red }") ∷ [])) ≡ (codes "a { color:red; }\nb { color:red; }"))
+    × (sheet_text (sheet first_edition ((codes "@import \"subs.css\";\na { color:red }") ∷ [])) ≡ (codes "a { color:red; }"))
+    × (sheet_text (sheet first_edition ((codes "h1 { color: green }\nh2 & h3 { color: red }\nh4 { color: black }\n") ∷ [])) ≡ (codes "h1 { color:green; }\nh4 { color:black; }"))
+unfolding each comment blank gap past_name_chars name string_or_name attribute_operator attribute_after lang_after pseudo_class_after named begun solid piece ending run_from chars encode trim_start trim_end reads part parts next_block rule_set past_at_rule statement statements block block_end word past_number term value importance trailing declaration declarations
+commas_and_comments = (refl, refl, refl, refl, refl, refl, refl, refl, refl, refl)
+
+-- blocks with a declaration that breaks off
+pub cut_blocks :
+    (sheet_text (sheet first_edition ((codes "p { color:green; color }") ∷ [])) ≡ (codes "p { color:green; }"))
+    × (sheet_text (sheet first_edition ((codes "p { color:green; color: }") ∷ [])) ≡ (codes "p { color:green; }"))
+    × (sheet_text (sheet first_edition ((codes "p { color:green; color:; color:red; }") ∷ [])) ≡ (codes "p { color:green; }"))
+unfolding each comment blank gap past_name_chars name string_or_name attribute_operator attribute_after lang_after pseudo_class_after named begun solid piece ending run_from chars encode trim_start trim_end reads part parts next_block rule_set past_at_rule statement statements block block_end word past_number term value importance trailing declaration declarations
+cut_blocks = (refl, refl, refl)
+
+-- the beginnings of a sheet of one rule
+pub beginnings :
+    (sheet_text (sheet first_edition ((codes "a") ∷ [])) ≡ [])
+    × (sheet_text (sheet first_edition ((codes "a ") ∷ [])) ≡ [])
+    × (sheet_text (sheet first_edition ((codes "a {") ∷ [])) ≡ [])
+    × (sheet_text (sheet first_edition ((codes "a { ") ∷ [])) ≡ [])
+    × (sheet_text (sheet first_edition ((codes "a { b") ∷ [])) ≡ [])
+    × (sheet_text (sheet first_edition ((codes "a { b:") ∷ [])) ≡ [])
+    × (sheet_text (sheet first_edition ((codes "a { b:\"") ∷ [])) ≡ [])
+    × (sheet_text (sheet first_edition ((codes "a { b:\"c") ∷ [])) ≡ [])
+    × (sheet_text (sheet first_edition ((codes "a { b:\"c\"") ∷ [])) ≡ (codes "a { b:\"c\"; }"))
+    × (sheet_text (sheet first_edition ((codes "a { b:\"c\" ") ∷ [])) ≡ (codes "a { b:\"c\"; }"))
+    × (sheet_text (sheet first_edition ((codes "a { b:\"c\" }") ∷ [])) ≡ (codes "a { b:\"c\"; }"))
+unfolding each comment blank gap past_name_chars name string_or_name attribute_operator attribute_after lang_after pseudo_class_after named begun solid piece ending run_from chars encode trim_start trim_end reads part parts next_block rule_set past_at_rule statement statements block block_end word past_number term value importance trailing declaration declarations
+beginnings = (refl, refl, refl, refl, refl, refl, refl, refl, refl, refl, refl)
+
+-- a text read in two pieces: cut where a statement ends, and where none does
+pub cut_texts :
+    (sheet_text (sheet first_edition ((codes "a { }} b { c:d }") ∷ [])) ≡ (codes "b { c:d; }"))
+    × (sheet_text (sheet first_edition ((codes "a { }}") ∷ (codes " b { c:d }") ∷ [])) ≡ (codes "b { c:d; }"))
+    × (sheet_text (sheet first_edition ((codes "a { }") ∷ (codes "} b { c:d }") ∷ [])) ≡ [])
+    × (sheet_text (sheet first_edition ((codes "x { y:z }") ∷ (codes "a, b { c:d }") ∷ [])) ≡ (codes "x { y:z; }\na { c:d; }\nb { c:d; }"))
+unfolding each comment blank gap past_name_chars name string_or_name attribute_operator attribute_after lang_after pseudo_class_after named begun solid piece ending run_from chars encode trim_start trim_end reads part parts next_block rule_set past_at_rule statement statements block block_end word past_number term value importance trailing declaration declarations
+cut_texts = (refl, refl, refl, refl)
+
+-- a printed sheet read again, where a value has a bare apostrophe or white space past ASCII
+pub printed_sheets :
+    (sheet_text (sheet first_edition ((codes "[x=\"a'b\"] { c:d } e { f:g }") ∷ [])) ≡ (codes "e { f:g; }\n*[x='a'b'] { c:d; }"))
+    × (sheet_text (sheet first_edition ((codes "e { f:g; }\n*[x='a'b'] { c:d; }") ∷ [])) ≡ (codes "e { f:g; }"))
+    × (sheet_text (sheet first_edition ((97 ∷ 32 ∷ 123 ∷ 32 ∷ 98 ∷ 58 ∷ 227 ∷ 128 ∷ 128 ∷ 40 ∷ 120 ∷ 41 ∷ 32 ∷ 125 ∷ []) ∷ [])) ≡ (codes "a { b:(x); }"))
+    × (sheet_text (sheet first_edition ((codes "a { b:(x); }") ∷ [])) ≡ [])
+unfolding each comment blank gap past_name_chars name string_or_name attribute_operator attribute_after lang_after pseudo_class_after named begun solid piece ending run_from chars encode trim_start trim_end reads part parts next_block rule_set past_at_rule statement statements block block_end word past_number term value importance trailing declaration declarations
+printed_sheets = (refl, refl, refl, refl)
+
+-- wide characters of names, in both editions
+pub wide_names :
+    (sheet_text (sheet first_edition ((encode_utf8_all (codes "xí{a:b}")) ∷ [])) ≡ [])
+    × (sheet_text (sheet first_edition ((encode_utf8_all (codes "é { a:b }")) ∷ [])) ≡ [])
+    × (sheet_text (sheet second_edition ((encode_utf8_all (codes "xí{a:b}")) ∷ [])) ≡ (encode_utf8_all (codes "xí { a:b; }")))
+    × (sheet_text (sheet second_edition ((encode_utf8_all (codes "é { a:b }")) ∷ [])) ≡ (encode_utf8_all (codes "é { a:b; }")))
+unfolding each comment blank gap past_name_chars name string_or_name attribute_operator attribute_after lang_after pseudo_class_after named begun solid piece ending run_from chars encode trim_start trim_end reads part parts next_block rule_set past_at_rule statement statements block block_end word past_number term value importance trailing declaration declarations
+wide_names = (refl, refl, refl, refl)
+
+-- where reading goes on after a part that is refused
+pub parts_after_refusals :
+    (sheet_text (sheet first_edition ((codes "[a]b,c{d:e}") ∷ [])) ≡ (codes "c { d:e; }"))
+    × (sheet_text (sheet first_edition ((codes "a*,c{d:e}") ∷ [])) ≡ [])
+    × (sheet_text (sheet first_edition ((codes ">,a{b:c}") ∷ [])) ≡ [])
+    × (sheet_text (sheet first_edition ((codes "-,b{c:d}") ∷ [])) ≡ (codes "b { c:d; }"))
+    × (sheet_text (sheet first_edition ((codes "[a,b{c:d}") ∷ [])) ≡ (codes "b { c:d; }"))
+    × (sheet_text (sheet first_edition ((codes "[a~,b{c:d}") ∷ [])) ≡ (codes "b { c:d; }"))
+    × (sheet_text (sheet first_edition ((codes ":lang,b{c:d}") ∷ [])) ≡ (codes "b { c:d; }"))
+    × (sheet_text (sheet first_edition ((codes ":lang(),b{c:d}") ∷ [])) ≡ (codes "b { c:d; }"))
+    × (sheet_text (sheet first_edition ((codes "a,/*{b:c}") ∷ [])) ≡ [])
+    × (sheet_text (sheet first_edition ((codes "- ,b{c:d}") ∷ [])) ≡ (codes "b { c:d; }"))
+    × (sheet_text (sheet first_edition ((codes "-/**/,b{c:d}") ∷ [])) ≡ [])
+    × (sheet_text (sheet first_edition ((codes "@--x{b:c}") ∷ [])) ≡ (codes "-x { b:c; }"))
+    × (sheet_text (sheet first_edition ((codes "a>,b{c:d}") ∷ [])) ≡ (codes "b { c:d; }"))
+    × (sheet_text (sheet first_edition ((codes "a /,b{c:d}") ∷ [])) ≡ (codes "b { c:d; }"))
+    × (sheet_text (sheet first_edition ((codes "@m}x{y:z}c{d:e}") ∷ [])) ≡ (codes "c { d:e; }"))
+    × (sheet_text (sheet first_edition ((97 ∷ 13 ∷ 98 ∷ 123 ∷ 99 ∷ 58 ∷ 100 ∷ 125 ∷ []) ∷ [])) ≡ (codes "a b { c:d; }"))
+unfolding each comment blank gap past_name_chars name string_or_name attribute_operator attribute_after lang_after pseudo_class_after named begun solid piece ending run_from chars encode trim_start trim_end reads part parts next_block rule_set past_at_rule statement statements block block_end word past_number term value importance trailing declaration declarations
+parts_after_refusals = (refl, refl, refl, refl, refl, refl, refl, refl, refl, refl, refl, refl, refl, refl, refl, refl)
+
+-- where reading goes on after a declaration that is broken
+pub blocks_after_faults :
+    (sheet_text (sheet first_edition ((codes "a{b:/*}d{e:f}") ∷ [])) ≡ [])
+    × (sheet_text (sheet first_edition ((codes "a{b:'}d{e:f}") ∷ [])) ≡ [])
+    × (sheet_text (sheet first_edition ((codes "a{b:f(}d{e:f}") ∷ [])) ≡ [])
+    × (sheet_text (sheet first_edition ((codes "a{b}c{d:e}") ∷ [])) ≡ (codes "c { d:e; }"))
+    × (sheet_text (sheet first_edition ((codes "a{b:;{}}c{d:e}") ∷ [])) ≡ (codes "c { d:e; }"))
+    × (sheet_text (sheet first_edition ((codes "a{b:;/*}*/}c{d:e}") ∷ [])) ≡ (codes "c { d:e; }"))
+    × (sheet_text (sheet first_edition ((codes "a{b:/c{}}d{e:f}") ∷ [])) ≡ (codes "d { e:f; }"))
+    × (sheet_text (sheet first_edition ((codes "a{b{}}}c{d:e}") ∷ [])) ≡ (codes "c { d:e; }"))
+    × (sheet_text (sheet first_edition ((codes "a{b:c;}}d{e:f}") ∷ [])) ≡ (codes "a { b:c; }"))
+    × (sheet_text (sheet first_edition ((codes "a{b/*}*/}c{d:e}") ∷ [])) ≡ (codes "c { d:e; }"))
+    × (sheet_text (sheet first_edition ((codes "a{/*}*/b}c{d:e}") ∷ [])) ≡ (codes "c { d:e; }"))
+unfolding each comment blank gap past_name_chars name string_or_name attribute_operator attribute_after lang_after pseudo_class_after named begun solid piece ending run_from chars encode trim_start trim_end reads part parts next_block rule_set past_at_rule statement statements block block_end word past_number term value importance trailing declaration declarations
+blocks_after_faults = (refl, refl, refl, refl, refl, refl, refl, refl, refl, refl, refl)
+
+-- rules of equal specificity and declarations of a rule keep their order
+pub order_in_rules :
+    (sheet_text (sheet first_edition ((codes "a{c:x;c:y}a{c:z}") ∷ [])) ≡ (codes "a { c:x;c:y; }\na { c:z; }"))
+    × (sheet_text (sheet first_edition ((codes "a { c:red !important; c:blue } a { c:green }") ∷ [])) ≡ (codes "a { c:red !important;c:blue; }\na { c:green; }"))
+    × (sheet_text (sheet first_edition ((codes "a { c:red } .x { c:blue } a { c:green }") ∷ [])) ≡ (codes "a { c:red; }\na { c:green; }\n*[class~='x'] { c:blue; }"))
+    × (sheet_text (sheet first_edition ((codes ".a{b:c}#a{b:c}a{b:c}*{b:c}[id]{b:d}a b{b:c}") ∷ [])) ≡ (codes "* { b:c; }\na { b:c; }\na b { b:c; }\n*[class~='a'] { b:c; }\n*[id='a'] { b:c; }\n*[id] { b:d; }"))
+unfolding each comment blank gap past_name_chars name string_or_name attribute_operator attribute_after lang_after pseudo_class_after named begun solid piece ending run_from chars encode trim_start trim_end reads part parts next_block rule_set past_at_rule statement statements block block_end word past_number term value importance trailing declaration declarations
+order_in_rules = (refl, refl, refl, refl)
+
+-- the components of `#b` and of `a`, and what `x:y` says
+abbrev id_of_b : List Component
+id_of_b = record { combinator = none; compound = record { name = None; subselectors = attribute (codes "id") (equals (codes "b")) ∷ [] } } ∷ []
+
+abbrev type_a : List Component
+type_a = record { combinator = none; compound = record { name = Some (codes "a"); subselectors = [] } } ∷ []
+
+abbrev one_property : List Property
+one_property = record { name = codes "x"; value = codes "y"; important = false } ∷ []
+
+-- a text read into a sheet whose rules were edited, and a printed rule without declarations
+pub edited_sheets :
+    (sheet_text (ordered (filter has_property (record { components = id_of_b; properties = one_property } ∷ record { components = type_a; properties = [] } ∷ []) ++ kept first_edition [])) ≡ (codes "*[id='b'] { x:y; }"))
+    × (sheet_text (ordered (filter has_property (record { components = id_of_b; properties = one_property } ∷ record { components = type_a; properties = one_property } ∷ []) ++ kept first_edition (codes "b { c:d } *{}"))) ≡ (codes "a { x:y; }\nb { c:d; }\n*[id='b'] { x:y; }"))
+    × (sheet_text (record { components = type_a; properties = [] } ∷ record { components = id_of_b; properties = one_property } ∷ []) ≡ (codes "a {  }\n*[id='b'] { x:y; }"))
+unfolding each comment blank gap past_name_chars name string_or_name attribute_operator attribute_after lang_after pseudo_class_after named begun solid piece ending run_from chars encode trim_start trim_end reads part parts next_block rule_set past_at_rule statement statements block block_end word past_number term value importance trailing declaration declarations
+edited_sheets = (refl, refl, refl)

@@ -72,3 +72,91 @@ pub ranks :
     × (ordered_by (λ (x y : ℕ × ℕ). nat_lt x.0 y.0) ((2, 7) ∷ (1, 8) ∷ (2, 6) ∷ (1, 9) ∷ []) ≡ (1, 8) ∷ (1, 9) ∷ (2, 7) ∷ (2, 6) ∷ [])
 unfolding each comment blank gap past_name_chars name string_or_name attribute_operator attribute_after lang_after pseudo_class_after named begun solid piece ending run_from chars encode trim_start trim_end reads part parts next_block rule_set past_at_rule statement statements block block_end word past_number term value importance trailing declaration declarations
 ranks = (refl, refl, refl)
+
+-- where a block ends: one further brace is taken behind a declaration that is broken
+pub block_ends :
+    (block first_edition (codes "}a") ≡ ([], (codes "a")))
+    × (block first_edition [] ≡ ([], []))
+    × (block first_edition (codes " ") ≡ ([], []))
+    × (block first_edition (codes " }") ≡ ([], []))
+    × (block first_edition (codes " }a") ≡ ([], (codes "a")))
+    × (block first_edition (codes "/**/}}a") ≡ ([], (codes "a")))
+    × (block first_edition (codes " }}}a") ≡ ([], (codes "}a")))
+    × (block first_edition (codes " } }a") ≡ ([], (codes " }a")))
+    × (block first_edition (codes "a:b}}c") ≡ (record { name = codes "a"; value = codes "b"; important = false } ∷ [], (codes "}c")))
+    × (block first_edition (codes "a:b;/*}c") ≡ ([], []))
+    × (block first_edition (codes "{}}a") ≡ ([], (codes "a")))
+    × (block first_edition (codes "a:{}}b") ≡ ([], (codes "b")))
+    × (block first_edition (codes "a:b;c{d}e;f:g}h") ≡ (record { name = codes "a"; value = codes "b"; important = false } ∷ [], (codes "h")))
+    × (block first_edition (codes "a:'}'}b") ≡ (record { name = codes "a"; value = codes "'}'"; important = false } ∷ [], (codes "b")))
+    × (block first_edition (codes "a'}'}b") ≡ ([], (codes "'}b")))
+    × (block first_edition (codes "a:b") ≡ (record { name = codes "a"; value = codes "b"; important = false } ∷ [], []))
+    × (block first_edition (codes "a:b!important;}c") ≡ (record { name = codes "a"; value = codes "b"; important = true } ∷ [], (codes "c")))
+unfolding each comment blank gap past_name_chars name string_or_name attribute_operator attribute_after lang_after pseudo_class_after named begun solid piece ending run_from chars encode trim_start trim_end reads part parts next_block rule_set past_at_rule statement statements block block_end word past_number term value importance trailing declaration declarations
+block_ends = (refl, refl, refl, refl, refl, refl, refl, refl, refl, refl, refl, refl, refl, refl, refl, refl, refl)
+
+-- behind a part space bytes are passed and comments are not
+pub parts_and_blanks :
+    ((part first_edition (codes "- ,b")).1 ≡ (codes ",b"))
+    × ((part first_edition (codes "-/**/,b")).1 ≡ (codes "/**/,b"))
+    × ((part first_edition (codes ":x /**/,b")).1 ≡ (codes "/**/,b"))
+    × ((part first_edition (codes "a /**/ ,b")).1 ≡ (codes ",b"))
+    × ((part first_edition (codes "a/b")).1 ≡ (codes "/b"))
+    × ((part first_edition (codes "a /b")).1 ≡ (codes "b"))
+    × ((part first_edition []).1 ≡ [])
+    × ((part first_edition (codes ":x")).1 ≡ [])
+    × ((part first_edition (codes "a,b")).1 ≡ (codes ",b"))
+    × ((part first_edition (codes "-\t\n,")).1 ≡ (codes ","))
+unfolding each comment blank gap past_name_chars name string_or_name attribute_operator attribute_after lang_after pseudo_class_after named begun solid piece ending run_from chars encode trim_start trim_end reads part parts next_block rule_set past_at_rule statement statements block block_end word past_number term value importance trailing declaration declarations
+parts_and_blanks = (refl, refl, refl, refl, refl, refl, refl, refl, refl, refl)
+
+-- the selectors that a rule set gives
+pub rule_sets :
+    (map (λ rule. selector_text rule.components) (rule_set first_edition (codes "a,,b{c:d}")).0 ≡ (codes "a") ∷ (codes "b") ∷ [])
+    × (map (λ rule. selector_text rule.components) (rule_set first_edition (codes ",a{c:d}")).0 ≡ (codes "a") ∷ [])
+    × (map (λ rule. selector_text rule.components) (rule_set first_edition (codes ",,a{c:d}")).0 ≡ (codes "a") ∷ [])
+    × (map (λ rule. selector_text rule.components) (rule_set first_edition (codes "a,{c:d}")).0 ≡ (codes "a") ∷ [])
+    × (map (λ rule. selector_text rule.components) (rule_set first_edition (codes "a,b")).0 ≡ (codes "a") ∷ (codes "b") ∷ [])
+    × (map (λ rule. selector_text rule.components) (rule_set first_edition (codes "a,b <x")).0 ≡ (codes "a") ∷ [])
+    × (map (λ rule. selector_text rule.components) (rule_set first_edition (codes "a/x{c:d}")).0 ≡ (codes "a") ∷ [])
+    × (map (λ rule. selector_text rule.components) (rule_set first_edition (codes ",")).0 ≡ [])
+    × (map (λ rule. selector_text rule.components) (rule_set first_edition (codes "{c:d}")).0 ≡ [])
+    × (map (λ rule. selector_text rule.components) (rule_set first_edition (codes "a:x,b{c:d}")).0 ≡ (codes "b") ∷ [])
+    × (map (λ rule. selector_text rule.components) (rule_set first_edition (codes "a, b,c")).0 ≡ (codes "a") ∷ (codes "b") ∷ (codes "c") ∷ [])
+unfolding each comment blank gap past_name_chars name string_or_name attribute_operator attribute_after lang_after pseudo_class_after named begun solid piece ending run_from chars encode trim_start trim_end reads part parts next_block rule_set past_at_rule statement statements block block_end word past_number term value importance trailing declaration declarations
+rule_sets = (refl, refl, refl, refl, refl, refl, refl, refl, refl, refl, refl)
+
+-- what is left after a rule set
+pub rule_set_ends :
+    ((statement first_edition (codes "a")).1 ≡ [])
+    × ((statement first_edition (codes "a{")).1 ≡ [])
+    × ((statement first_edition (codes "a{}b")).1 ≡ (codes "b"))
+    × ((statement first_edition (codes "a{}}b")).1 ≡ (codes "}b"))
+    × ((statement first_edition (codes "a{ }}b")).1 ≡ (codes "b"))
+    × ((statement first_edition (codes "a <x{b:c}d")).1 ≡ (codes "d"))
+    × ((statement first_edition (codes "a <x")).1 ≡ [])
+    × ((statement first_edition (codes "}a{b:c}d")).1 ≡ (codes "d"))
+    × ((statement first_edition (codes "{}a")).1 ≡ (codes "a"))
+    × ((statement first_edition (codes ":x/**/{b:c}d")).1 ≡ (codes "d"))
+    × ((statement first_edition (codes "a;b{c:d}e")).1 ≡ (codes "e"))
+unfolding each comment blank gap past_name_chars name string_or_name attribute_operator attribute_after lang_after pseudo_class_after named begun solid piece ending run_from chars encode trim_start trim_end reads part parts next_block rule_set past_at_rule statement statements block block_end word past_number term value importance trailing declaration declarations
+rule_set_ends = (refl, refl, refl, refl, refl, refl, refl, refl, refl, refl, refl)
+
+-- what is left after an at-rule
+pub at_rule_ends :
+    ((statement first_edition (codes "@")).1 ≡ [])
+    × ((statement first_edition (codes "@ a")).1 ≡ (codes " a"))
+    × ((statement first_edition (codes "@--x")).1 ≡ (codes "-x"))
+    × ((statement first_edition (codes "@-")).1 ≡ [])
+    × ((statement first_edition (codes "@-;a")).1 ≡ (codes ";a"))
+    × ((statement first_edition (codes "@m")).1 ≡ [])
+    × ((statement first_edition (codes "@m;;a")).1 ≡ (codes ";a"))
+    × ((statement first_edition (codes "@m x{y")).1 ≡ [])
+    × ((statement first_edition (codes "@m{{}}a")).1 ≡ (codes "a"))
+    × ((statement first_edition (codes "@m{;}a")).1 ≡ (codes "a"))
+    × ((statement first_edition (codes "@m{'}'}a")).1 ≡ (codes "'}a"))
+    × ((statement first_edition (codes "@m';'a")).1 ≡ (codes "'a"))
+    × ((statement first_edition (codes "@m/*;*/a")).1 ≡ (codes "*/a"))
+    × ((statement first_edition (codes "@m}a;b")).1 ≡ (codes "b"))
+unfolding each comment blank gap past_name_chars name string_or_name attribute_operator attribute_after lang_after pseudo_class_after named begun solid piece ending run_from chars encode trim_start trim_end reads part parts next_block rule_set past_at_rule statement statements block block_end word past_number term value importance trailing declaration declarations
+at_rule_ends = (refl, refl, refl, refl, refl, refl, refl, refl, refl, refl, refl, refl, refl, refl)

@@ -1,9 +1,9 @@
 -- Worked runs of a tokenizer, computed.
-use Rattle.std.specs.Prelude.{◌≡◌, refl, [], ◌∷◌, codes, Ok, Err}
+use Rattle.std.specs.Prelude.{◌≡◌, refl, [], ◌∷◌, codes, Ok, Err, encode_utf8_all}
 use Rattle.std.specs.Str.{trim_start, trim_end, chars}
 use lib.Utf8.{encode}
-use Rattle.simplecss_text.specs.declared.Error.TheVariants.{InvalidIdent, InvalidComment, InvalidByte, SelectorMissing, UnexpectedSelector, UnexpectedCombinator, InvalidAttributeSelector, InvalidLanguagePseudoClass}
-use Rattle.simplecss_text.specs.Reading.{each}
+use Rattle.simplecss_text.specs.declared.Error.TheVariants.{InvalidIdent, InvalidComment, InvalidByte, SelectorMissing, UnexpectedSelector, UnexpectedCombinator, InvalidAttributeSelector, InvalidLanguagePseudoClass, UnexpectedEndOfStream}
+use Rattle.simplecss_text.specs.Reading.{each, ended, wrong_byte, no_name, no_comment, no_selector, unexpected_selector, unexpected_combinator, no_attribute_form, no_language}
 use Rattle.simplecss_text.specs.Positions.{position}
 use Rattle.simplecss_text.specs.Comments.{comment, blank, gap}
 use Rattle.simplecss_text.specs.Names.{past_name_chars, name}
@@ -12,7 +12,8 @@ use Rattle.simplecss_text.specs.Characters.{first_edition, second_edition}
 use Rattle.simplecss_text.specs.Components.Operator.{exists, equals, has_word, begins_with}
 use Rattle.simplecss_text.specs.Pieces.{attribute_operator, attribute_after, lang_after, pseudo_class_after, named, begun, solid, piece, ending}
 use Rattle.simplecss_text.specs.Tokens.Token.{universal_selector, type_selector, id_selector, class_selector, attribute_selector, named_pseudo_class, lang_pseudo_class, descendant_combinator, child_combinator, adjacent_combinator}
-use Rattle.simplecss_text.specs.TokenRuns.{run_from, tokens_of}
+use Rattle.simplecss_text.specs.TokenRuns.{run_from, tokens_of, run_of}
+use Rattle.simplecss_text.specs.TokenRuns.Run.{item, run_end}
 
 -- one simple piece, up to a stop
 pub simple_pieces :
@@ -40,11 +41,11 @@ pub attributes :
     (tokens_of first_edition (codes "[id]") ≡ Ok (attribute_selector (codes "id") exists) ∷ [])
     × (tokens_of first_edition (codes "[id=test]") ≡ Ok (attribute_selector (codes "id") (equals (codes "test"))) ∷ [])
     × (tokens_of first_edition (codes "[id='test']") ≡ Ok (attribute_selector (codes "id") (equals (codes "test"))) ∷ [])
-    × (tokens_of first_edition (91 ∷ 105 ∷ 100 ∷ 61 ∷ 34 ∷ 116 ∷ 101 ∷ 115 ∷ 116 ∷ 34 ∷ 93 ∷ []) ≡ Ok (attribute_selector (codes "id") (equals (codes "test"))) ∷ [])
+    × (tokens_of first_edition (codes "[id=\"test\"]") ≡ Ok (attribute_selector (codes "id") (equals (codes "test"))) ∷ [])
     × (tokens_of first_edition (codes "[id~=test]") ≡ Ok (attribute_selector (codes "id") (has_word (codes "test"))) ∷ [])
     × (tokens_of first_edition (codes "[id|=test]") ≡ Ok (attribute_selector (codes "id") (begins_with (codes "test"))) ∷ [])
-    × (tokens_of first_edition (91 ∷ 105 ∷ 100 ∷ 61 ∷ 39 ∷ 116 ∷ 101 ∷ 92 ∷ 39 ∷ 115 ∷ 116 ∷ 39 ∷ 93 ∷ []) ≡ Ok (attribute_selector (codes "id") (equals (116 ∷ 101 ∷ 92 ∷ 39 ∷ 115 ∷ 116 ∷ []))) ∷ [])
-    × (tokens_of first_edition (91 ∷ 105 ∷ 100 ∷ 61 ∷ 34 ∷ 116 ∷ 101 ∷ 92 ∷ 34 ∷ 115 ∷ 116 ∷ 34 ∷ 93 ∷ []) ≡ Ok (attribute_selector (codes "id") (equals (116 ∷ 101 ∷ 92 ∷ 34 ∷ 115 ∷ 116 ∷ []))) ∷ [])
+    × (tokens_of first_edition (codes "[id='te\\'st']") ≡ Ok (attribute_selector (codes "id") (equals (codes "te\\'st"))) ∷ [])
+    × (tokens_of first_edition (codes "[id=\"te\\\"st\"]") ≡ Ok (attribute_selector (codes "id") (equals (codes "te\\\"st"))) ∷ [])
 unfolding each comment blank gap past_name_chars name string_or_name attribute_operator attribute_after lang_after pseudo_class_after named begun solid piece ending run_from position chars encode trim_start trim_end
 attributes = (refl, refl, refl, refl, refl, refl, refl, refl)
 
@@ -65,7 +66,7 @@ compounds = (refl, refl, refl, refl, refl, refl, refl, refl, refl)
 -- a gap with a space byte joins two compounds
 pub descendants :
     (tokens_of first_edition (codes "div p") ≡ Ok (type_selector (codes "div")) ∷ Ok descendant_combinator ∷ Ok (type_selector (codes "p")) ∷ [])
-    × (tokens_of first_edition (97 ∷ 10 ∷ 98 ∷ []) ≡ Ok (type_selector (codes "a")) ∷ Ok descendant_combinator ∷ Ok (type_selector (codes "b")) ∷ [])
+    × (tokens_of first_edition (codes "a\nb") ≡ Ok (type_selector (codes "a")) ∷ Ok descendant_combinator ∷ Ok (type_selector (codes "b")) ∷ [])
     × (tokens_of first_edition (codes "a /**/ b") ≡ Ok (type_selector (codes "a")) ∷ Ok descendant_combinator ∷ Ok (type_selector (codes "b")) ∷ [])
     × (tokens_of first_edition (codes "a /**/b") ≡ Ok (type_selector (codes "a")) ∷ Ok descendant_combinator ∷ Ok (type_selector (codes "b")) ∷ [])
     × (tokens_of first_edition (codes "a/**/ b") ≡ Ok (type_selector (codes "a")) ∷ Ok descendant_combinator ∷ Ok (type_selector (codes "b")) ∷ [])
@@ -148,18 +149,131 @@ gaps = (refl, refl, refl, refl, refl, refl, refl, refl, refl, refl)
 
 -- rows and columns count newlines and characters
 pub positions :
-    (tokens_of first_edition (97 ∷ 10 ∷ 98 ∷ 99 ∷ 32 ∷ 60 ∷ []) ≡ Ok (type_selector (codes "a")) ∷ Ok descendant_combinator ∷ Ok (type_selector (codes "bc")) ∷ Ok descendant_combinator ∷ Err (InvalidIdent (record { row = 2; col = 4 })) ∷ Err SelectorMissing ∷ [])
-    × (tokens_of first_edition (91 ∷ 97 ∷ 61 ∷ 34 ∷ 120 ∷ 34 ∷ 195 ∷ 169 ∷ 93 ∷ []) ≡ Err (InvalidByte 93 195 (record { row = 1; col = 7 })) ∷ [])
+    (tokens_of first_edition (codes "a\nbc <") ≡ Ok (type_selector (codes "a")) ∷ Ok descendant_combinator ∷ Ok (type_selector (codes "bc")) ∷ Ok descendant_combinator ∷ Err (InvalidIdent (record { row = 2; col = 4 })) ∷ Err SelectorMissing ∷ [])
+    × (tokens_of first_edition (encode_utf8_all (codes "[a=\"x\"é]")) ≡ Err (InvalidByte 93 195 (record { row = 1; col = 7 })) ∷ [])
     × (tokens_of first_edition (codes "*[x='a'b']") ≡ Ok universal_selector ∷ Err (InvalidByte 93 98 (record { row = 1; col = 8 })) ∷ [])
 unfolding each comment blank gap past_name_chars name string_or_name attribute_operator attribute_after lang_after pseudo_class_after named begun solid piece ending run_from position chars encode trim_start trim_end
 positions = (refl, refl, refl)
 
 -- the first wide character of a name in both editions
 pub wide_characters :
-    (tokens_of first_edition (195 ∷ 169 ∷ []) ≡ Err (InvalidIdent (record { row = 1; col = 1 })) ∷ Err SelectorMissing ∷ [])
-    × (tokens_of first_edition (195 ∷ 174 ∷ []) ≡ Ok (type_selector (195 ∷ 174 ∷ [])) ∷ [])
-    × (tokens_of second_edition (195 ∷ 169 ∷ []) ≡ Ok (type_selector (195 ∷ 169 ∷ [])) ∷ [])
-    × (tokens_of second_edition (195 ∷ 174 ∷ []) ≡ Ok (type_selector (195 ∷ 174 ∷ [])) ∷ [])
-    × (tokens_of first_edition (92 ∷ 50 ∷ 54 ∷ []) ≡ Err (InvalidIdent (record { row = 1; col = 1 })) ∷ Err SelectorMissing ∷ [])
+    (tokens_of first_edition (encode_utf8_all (codes "é")) ≡ Err (InvalidIdent (record { row = 1; col = 1 })) ∷ Err SelectorMissing ∷ [])
+    × (tokens_of first_edition (encode_utf8_all (codes "î")) ≡ Ok (type_selector (encode_utf8_all (codes "î"))) ∷ [])
+    × (tokens_of second_edition (encode_utf8_all (codes "é")) ≡ Ok (type_selector (encode_utf8_all (codes "é"))) ∷ [])
+    × (tokens_of second_edition (encode_utf8_all (codes "î")) ≡ Ok (type_selector (encode_utf8_all (codes "î"))) ∷ [])
+    × (tokens_of first_edition (codes "\\26") ≡ Err (InvalidIdent (record { row = 1; col = 1 })) ∷ Err SelectorMissing ∷ [])
 unfolding each comment blank gap past_name_chars name string_or_name attribute_operator attribute_after lang_after pseudo_class_after named begun solid piece ending run_from position chars encode trim_start trim_end
 wide_characters = (refl, refl, refl, refl, refl)
+
+-- pieces that break off or go wrong behind their first byte
+pub unfinished_pieces :
+    (tokens_of first_edition (codes "#") ≡ Err (InvalidIdent (record { row = 1; col = 2 })) ∷ [])
+    × (tokens_of first_edition (codes "[") ≡ Err (InvalidIdent (record { row = 1; col = 2 })) ∷ [])
+    × (tokens_of first_edition (codes "a#") ≡ Ok (type_selector (codes "a")) ∷ Err (InvalidIdent (record { row = 1; col = 3 })) ∷ [])
+    × (tokens_of first_edition (codes "#-]") ≡ Err (InvalidIdent (record { row = 1; col = 2 })) ∷ [])
+    × (tokens_of first_edition (codes "a>[") ≡ Ok (type_selector (codes "a")) ∷ Ok child_combinator ∷ Err (InvalidIdent (record { row = 1; col = 4 })) ∷ [])
+    × (tokens_of first_edition (codes "[a=b") ≡ Err UnexpectedEndOfStream ∷ [])
+    × (tokens_of first_edition (codes "[a~b]") ≡ Err (InvalidByte 61 98 (record { row = 1; col = 4 })) ∷ [])
+    × (tokens_of first_edition (codes ":lang en") ≡ Err (InvalidByte 40 32 (record { row = 1; col = 6 })) ∷ [])
+    × (tokens_of first_edition (codes ":lang(en") ≡ Err UnexpectedEndOfStream ∷ [])
+unfolding each comment blank gap past_name_chars name string_or_name attribute_operator attribute_after lang_after pseudo_class_after named begun solid piece ending run_from position chars encode trim_start trim_end
+unfinished_pieces = (refl, refl, refl, refl, refl, refl, refl, refl, refl)
+
+-- pieces that look like others
+pub near_misses :
+    (tokens_of first_edition (codes "[a='']") ≡ Ok (attribute_selector (codes "a") (equals [])) ∷ [])
+    × (tokens_of first_edition (codes ":langx") ≡ Ok (named_pseudo_class (codes "langx")) ∷ [])
+    × (tokens_of first_edition (codes "a[b]c") ≡ Ok (type_selector (codes "a")) ∷ Ok (attribute_selector (codes "b") exists) ∷ Err UnexpectedSelector ∷ [])
+    × (tokens_of first_edition (codes "a + + b") ≡ Ok (type_selector (codes "a")) ∷ Ok adjacent_combinator ∷ Err UnexpectedCombinator ∷ [])
+    × (tokens_of first_edition (codes "a /b") ≡ Ok (type_selector (codes "a")) ∷ Err (InvalidComment (record { row = 1; col = 3 })) ∷ [])
+    × (tokens_of first_edition (codes "a/*/.b") ≡ Ok (type_selector (codes "a")) ∷ Err (InvalidComment (record { row = 1; col = 2 })) ∷ [])
+    × (tokens_of first_edition (codes "--") ≡ Err (InvalidIdent (record { row = 1; col = 1 })) ∷ Err SelectorMissing ∷ [])
+unfolding each comment blank gap past_name_chars name string_or_name attribute_operator attribute_after lang_after pseudo_class_after named begun solid piece ending run_from position chars encode trim_start trim_end
+near_misses = (refl, refl, refl, refl, refl, refl, refl)
+
+-- a vertical tab is white space of a language alone, and a form feed is a space byte
+pub white_space :
+    (tokens_of first_edition (97 ∷ 11 ∷ []) ≡ Ok (type_selector (codes "a")) ∷ Err (InvalidIdent (record { row = 1; col = 2 })) ∷ [])
+    × (tokens_of first_edition (97 ∷ 12 ∷ []) ≡ Ok (type_selector (codes "a")) ∷ [])
+    × (tokens_of first_edition (58 ∷ 108 ∷ 97 ∷ 110 ∷ 103 ∷ 40 ∷ 11 ∷ 41 ∷ []) ≡ Err InvalidLanguagePseudoClass ∷ [])
+unfolding each comment blank gap past_name_chars name string_or_name attribute_operator attribute_after lang_after pseudo_class_after named begun solid piece ending run_from position chars encode trim_start trim_end
+white_space = (refl, refl, refl)
+
+-- the characters at the borders of what a name may have
+pub borders_of_names :
+    (tokens_of first_edition (encode_utf8_all (codes "xî")) ≡ Ok (type_selector (encode_utf8_all (codes "xî"))) ∷ [])
+    × (tokens_of first_edition (encode_utf8_all (codes "xí")) ≡ Ok (type_selector (codes "x")) ∷ Err (InvalidIdent (record { row = 1; col = 2 })) ∷ [])
+    × (tokens_of first_edition (encode_utf8_all (codes "[aí]")) ≡ Err InvalidAttributeSelector ∷ [])
+    × (tokens_of first_edition (encode_utf8_all (codes "î<")) ≡ Ok (type_selector (encode_utf8_all (codes "î"))) ∷ Err (InvalidIdent (record { row = 1; col = 2 })) ∷ [])
+    × (tokens_of second_edition (encode_utf8_all (codes "xí")) ≡ Ok (type_selector (encode_utf8_all (codes "xí"))) ∷ [])
+    × (tokens_of second_edition (encode_utf8_all (codes "[aí]")) ≡ Ok (attribute_selector (encode_utf8_all (codes "aí")) exists) ∷ [])
+    × (tokens_of second_edition (194 ∷ 160 ∷ []) ≡ Ok (type_selector (194 ∷ 160 ∷ [])) ∷ [])
+    × (tokens_of second_edition (194 ∷ 159 ∷ []) ≡ Err (InvalidIdent (record { row = 1; col = 1 })) ∷ Err SelectorMissing ∷ [])
+unfolding each comment blank gap past_name_chars name string_or_name attribute_operator attribute_after lang_after pseudo_class_after named begun solid piece ending run_from position chars encode trim_start trim_end
+borders_of_names = (refl, refl, refl, refl, refl, refl, refl, refl)
+
+-- a slash is no piece in the second edition either
+pub slashes :
+    (tokens_of second_edition (codes "a/ b") ≡ Ok (type_selector (codes "a")) ∷ [])
+    × (tokens_of second_edition (codes "a / b") ≡ Ok (type_selector (codes "a")) ∷ Err (InvalidComment (record { row = 1; col = 3 })) ∷ [])
+    × (tokens_of second_edition (codes "/") ≡ Err SelectorMissing ∷ [])
+unfolding each comment blank gap past_name_chars name string_or_name attribute_operator attribute_after lang_after pseudo_class_after named begun solid piece ending run_from position chars encode trim_start trim_end
+slashes = (refl, refl, refl)
+
+-- what is left where a name is missing: a hyphen is passed, and behind an open left side a missing head is told twice
+pub places_of_missing_names :
+    (run_of first_edition (codes "<,b") ≡ item (Err (no_name (codes "<,b"))) (codes "<,b") (item (Err no_selector) (codes "<,b") (run_end (codes "<,b"))))
+    × (run_of first_edition (codes "-,b") ≡ item (Err (no_name (codes "-,b"))) (codes ",b") (item (Err no_selector) (codes ",b") (run_end (codes ",b"))))
+    × (run_of first_edition (codes "#,b") ≡ item (Err (no_name (codes ",b"))) (codes ",b") (run_end (codes ",b")))
+    × (run_of first_edition (codes ".-,b") ≡ item (Err (no_name (codes "-,b"))) (codes ",b") (run_end (codes ",b")))
+    × (run_of first_edition (codes "[-,b") ≡ item (Err (no_name (codes "-,b"))) (codes ",b") (run_end (codes ",b")))
+    × (run_of first_edition (codes ":,b") ≡ item (Err (no_name (codes ",b"))) (codes ",b") (run_end (codes ",b")))
+    × (run_of first_edition (codes "[a=-,b") ≡ item (Err (no_name (codes "-,b"))) (codes ",b") (run_end (codes ",b")))
+    × (run_of first_edition (codes "a <,b") ≡ item (Ok (type_selector (codes "a"))) (codes " <,b") (item (Ok descendant_combinator) (codes "<,b") (item (Err (no_name (codes "<,b"))) (codes "<,b") (item (Err no_selector) (codes "<,b") (run_end (codes "<,b"))))))
+    × (run_of first_edition (codes "a -,b") ≡ item (Ok (type_selector (codes "a"))) (codes " -,b") (item (Ok descendant_combinator) (codes "-,b") (item (Err (no_name (codes "-,b"))) (codes ",b") (item (Err no_selector) (codes ",b") (run_end (codes ",b"))))))
+    × (run_of first_edition (codes "a>-,b") ≡ item (Ok (type_selector (codes "a"))) (codes ">-,b") (item (Ok child_combinator) (codes "-,b") (item (Err (no_name (codes "-,b"))) (codes ",b") (item (Err no_selector) (codes ",b") (run_end (codes ",b"))))))
+    × (run_of first_edition (codes "a .,b") ≡ item (Ok (type_selector (codes "a"))) (codes " .,b") (item (Ok descendant_combinator) (codes ".,b") (item (Err (no_name (codes ",b"))) (codes ",b") (run_end (codes ",b")))))
+    × (run_of first_edition (codes "a/**/<") ≡ item (Ok (type_selector (codes "a"))) (codes "/**/<") (item (Err (no_name (codes "<"))) (codes "<") (run_end (codes "<"))))
+unfolding each comment blank gap past_name_chars name string_or_name attribute_operator attribute_after lang_after pseudo_class_after named begun solid piece ending run_from position chars encode trim_start trim_end
+places_of_missing_names = (refl, refl, refl, refl, refl, refl, refl, refl, refl, refl, refl, refl)
+
+-- what is left after a fault of an attribute or a language
+pub places_within_attributes :
+    (run_of first_edition (codes "[a") ≡ item (Err ended) [] (run_end []))
+    × (run_of first_edition (codes "[a,b") ≡ item (Err no_attribute_form) (codes ",b") (run_end (codes ",b")))
+    × (run_of first_edition (codes "[a ]") ≡ item (Err no_attribute_form) (codes " ]") (run_end (codes " ]")))
+    × (run_of first_edition (codes "[a~,b") ≡ item (Err (wrong_byte 61 (codes ",b"))) (codes ",b") (run_end (codes ",b")))
+    × (run_of first_edition (codes "[a|,b") ≡ item (Err (wrong_byte 61 (codes ",b"))) (codes ",b") (run_end (codes ",b")))
+    × (run_of first_edition (codes "[a|") ≡ item (Err ended) [] (run_end []))
+    × (run_of first_edition (codes "[a=") ≡ item (Err ended) [] (run_end []))
+    × (run_of first_edition (codes "[a='x,b") ≡ item (Err ended) [] (run_end []))
+    × (run_of first_edition (codes "[a=b,c") ≡ item (Err (wrong_byte 93 (codes ",c"))) (codes ",c") (run_end (codes ",c")))
+    × (run_of first_edition (codes "[a='b'c]") ≡ item (Err (wrong_byte 93 (codes "c]"))) (codes "c]") (run_end (codes "c]")))
+    × (run_of first_edition (codes ":lang,b") ≡ item (Err (wrong_byte 40 (codes ",b"))) (codes ",b") (run_end (codes ",b")))
+    × (run_of first_edition (codes ":lang") ≡ item (Err ended) [] (run_end []))
+    × (run_of first_edition (codes ":lang(a,b") ≡ item (Err ended) [] (run_end []))
+    × (run_of first_edition (codes ":lang(),b") ≡ item (Err no_language) (codes ",b") (run_end (codes ",b")))
+unfolding each comment blank gap past_name_chars name string_or_name attribute_operator attribute_after lang_after pseudo_class_after named begun solid piece ending run_from position chars encode trim_start trim_end
+places_within_attributes = (refl, refl, refl, refl, refl, refl, refl, refl, refl, refl, refl, refl, refl, refl)
+
+-- what is left after each token, at a stop, and after a neighbour that may not stand there
+pub places_of_neighbours :
+    (run_of first_edition (codes "> a") ≡ item (Err unexpected_combinator) (codes "> a") (run_end (codes "> a")))
+    × (run_of first_edition (codes "a>+b") ≡ item (Ok (type_selector (codes "a"))) (codes ">+b") (item (Ok child_combinator) (codes "+b") (item (Err unexpected_combinator) (codes "+b") (run_end (codes "+b")))))
+    × (run_of first_edition (codes " ,b") ≡ item (Err no_selector) (codes ",b") (run_end (codes ",b")))
+    × (run_of first_edition (codes " /b") ≡ item (Err no_selector) (codes "/b") (run_end (codes "/b")))
+    × (run_of first_edition (codes "a> {") ≡ item (Ok (type_selector (codes "a"))) (codes "> {") (item (Ok child_combinator) (codes " {") (item (Err no_selector) (codes "{") (run_end (codes "{")))))
+    × (run_of first_edition (codes "a*,b") ≡ item (Ok (type_selector (codes "a"))) (codes "*,b") (item (Err unexpected_selector) (codes "*,b") (run_end (codes "*,b"))))
+    × (run_of first_edition (codes "[a]b,c") ≡ item (Ok (attribute_selector (codes "a") exists)) (codes "b,c") (item (Err unexpected_selector) (codes ",c") (run_end (codes ",c"))))
+    × (run_of first_edition (codes "a/* */b,c") ≡ item (Ok (type_selector (codes "a"))) (codes "/* */b,c") (item (Err unexpected_selector) (codes ",c") (run_end (codes ",c"))))
+    × (run_of first_edition (codes "a b,c") ≡ item (Ok (type_selector (codes "a"))) (codes " b,c") (item (Ok descendant_combinator) (codes "b,c") (item (Ok (type_selector (codes "b"))) (codes ",c") (run_end (codes ",c")))))
+    × (run_of first_edition (codes "a ,b") ≡ item (Ok (type_selector (codes "a"))) (codes " ,b") (run_end (codes ",b")))
+    × (run_of first_edition (codes "a/**/ {") ≡ item (Ok (type_selector (codes "a"))) (codes "/**/ {") (run_end (codes "{")))
+    × (run_of first_edition (codes "a/b") ≡ item (Ok (type_selector (codes "a"))) (codes "/b") (run_end (codes "/b")))
+    × (run_of first_edition (codes "a/**//b") ≡ item (Ok (type_selector (codes "a"))) (codes "/**//b") (run_end (codes "/b")))
+    × (run_of first_edition (codes "a /b") ≡ item (Ok (type_selector (codes "a"))) (codes " /b") (item (Err (no_comment (codes "/b"))) (codes "b") (run_end (codes "b"))))
+    × (run_of first_edition (codes "a/*b") ≡ item (Ok (type_selector (codes "a"))) (codes "/*b") (item (Err (no_comment (codes "/*b"))) [] (run_end [])))
+    × (run_of first_edition (codes "a>/*b") ≡ item (Ok (type_selector (codes "a"))) (codes ">/*b") (item (Ok child_combinator) (codes "/*b") (item (Err (no_comment (codes "/*b"))) [] (item (Err no_selector) [] (run_end [])))))
+    × (run_of first_edition (codes "a /*/b") ≡ item (Ok (type_selector (codes "a"))) (codes " /*/b") (item (Err (no_comment (codes "/*/b"))) [] (run_end [])))
+unfolding each comment blank gap past_name_chars name string_or_name attribute_operator attribute_after lang_after pseudo_class_after named begun solid piece ending run_from position chars encode trim_start trim_end
+places_of_neighbours = (refl, refl, refl, refl, refl, refl, refl, refl, refl, refl, refl, refl, refl, refl, refl, refl, refl)

@@ -36,7 +36,7 @@ ends_list text = length text == 0 || starts 125 text
 abbrev pub declaration_in_block : Edition → List ℕ → Option (Property × List ℕ)
 declaration_in_block edition text = if ends_list text then None else next_declaration edition text
 
--- Behind a broken declaration the block's end and its brace are passed.
+-- Behind a broken declaration all is passed up to the end of the block that reading is in, and its brace.
 abbrev pub past_broken : Reading Property → List ℕ
 past_broken (got property rest) = rest
 past_broken (fails fault rest) = past_byte 125 (from_block_end rest)

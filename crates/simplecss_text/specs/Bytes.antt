@@ -27,12 +27,15 @@ starts_two one two (b ∷ text) = b == one && starts two text
 abbrev pub is_neither : ℕ → ℕ → ℕ → Bool
 is_neither one two b = not (b == one) && not (b == two)
 
+-- the number is at least `low` and at most `high`
 abbrev pub is_within : ℕ → ℕ → ℕ → Bool
 is_within low high b = nat_le low b && nat_le b high
 
+-- an ASCII character
 abbrev pub is_ascii : ℕ → Bool
 is_ascii b = nat_lt b 128
 
+-- 0 to 9
 abbrev pub is_digit : ℕ → Bool
 is_digit b = is_within 48 57 b
 

@@ -12,10 +12,12 @@ pub data Edition : Type 0 where
 abbrev pub is_space : ℕ → Bool
 is_space b = b == 0x20 || b == 0x09 || b == 0x0A || b == 0x0D || b == 0x0C
 
+-- an ASCII letter
 abbrev pub is_letter : ℕ → Bool
 is_letter c = is_within 97 122 c || is_within 65 90 c
 
--- the first character past ASCII that a name may have: one above 237, or in the second edition the no-break space
+-- The first character past ASCII that a name may have. CSS 2.1 (section 4.1.1) leaves out those up to octal 237, so that it
+-- is the no-break space, U+00A0, as in the second edition. The first edition leaves out those up to decimal 237.
 abbrev pub first_wide : Edition → ℕ
 first_wide first_edition = 238
 first_wide second_edition = 0xA0

@@ -26,6 +26,7 @@ abbrev pub after_term : Reading (Unit {0}) → Option (List ℕ × List ℕ)
 after_term (got u rest) = Some (rest, past_blank rest)
 after_term (fails fault rest) = None
 
+-- the same of the term at the front of a text
 abbrev pub term_in_value : Edition → List ℕ → Option (List ℕ × List ℕ)
 term_in_value edition text = after_term (term edition text)
 
@@ -39,17 +40,18 @@ unfoldable pub value : Edition → List ℕ → List ℕ × List ℕ
 value edition text =
     (trim (before text (last_or text (terms edition text).0)), left_after (term edition (terms edition text).1))
 
--- the word `important`, if the text begins with it
+-- whether the text begins with the word `important`, which is passed then; more letters may follow it
 abbrev pub important_word : Reader Bool
 important_word text = if starts_with eqb text (codes "important") then got true (drop 9 text) else got false text
 
+-- an exclamation mark and a blank, and whether the word `important` stands behind them
 abbrev pub after_mark : Reader Bool
 after_mark = do
   any_byte
   blank
   important_word
 
--- whether an exclamation mark stands there, and behind a blank the word `important`
+-- whether an exclamation mark stands there, and behind a blank the word `important`; a mark is passed without the word too
 unfoldable pub importance : Reader Bool
 importance text = if starts 33 text then after_mark text else got false text
 
@@ -57,10 +59,12 @@ importance text = if starts 33 text then after_mark text else got false text
 abbrev pub semicolon : List ℕ → Option (Unit {0} × List ℕ)
 semicolon text = if starts 59 text then Some (tt, past_blank (past_one text)) else None
 
+-- any number of semicolons, each with the blank behind it
 abbrev pub semicolons : Reader (Unit {0})
 semicolons text = got tt (each semicolon text).1
 
--- What stands behind a value: the importance and any number of semicolons, with blanks between. It tells the importance.
+-- What stands behind a value: the importance and any number of semicolons, with blanks between. It tells the importance. (The
+-- last blank is empty, unless a comment is open there, which is a fault.)
 unfoldable pub trailing : Reader Bool
 trailing = do
   blank
@@ -75,10 +79,11 @@ abbrev pub unless_empty : (start : List ℕ) → Property → Reader Property
 unless_empty start property text =
     if length property.value == 0 then fails (no_value start) text else got property text
 
+-- the same, as a reader
 abbrev pub value_reader : Edition → Reader (List ℕ)
 value_reader edition text = always (value edition text)
 
--- A declaration, or its first fault.
+-- A declaration, or its first fault. An asterisk before the name is dropped.
 unfoldable pub declaration : Edition → Reader Property
 declaration edition = do
   blank

@@ -1,4 +1,5 @@
--- Which pieces may stand next to each other.
+-- Which pieces of a selector may stand next to each other. What a solid, a simple piece, a head and a subselector are is
+-- said with the pieces.
 use Rattle.std.specs.Prelude.{ℕ, Bool, true, false, List}
 use Rattle.simplecss_text.specs.Reading.{Fault, no_comment, no_selector, unexpected_selector, unexpected_combinator}
 use Rattle.simplecss_text.specs.Bytes.{past_one}
@@ -66,7 +67,7 @@ between closed_left true (slash start) = refuses (no_comment start) (past_one st
 between closed_left true faulty_piece = descends
 between closed_left true faulty_gap = nothing
 
--- what a token of a piece is as the one that follows
+-- what a piece with this token is as the one that follows (a descendant combinator is no piece)
 abbrev pub follows_as : Token → (start after : List ℕ) → Follows
 follows_as universal_selector start after = universal start
 follows_as (type_selector n) start after = type_name after
@@ -91,7 +92,7 @@ before_ending left (without_head spaced start fault after) = between left spaced
 before_ending left (within_piece spaced start fault after) = between left spaced faulty_piece
 before_ending left (within_gap fault after) = between left false faulty_gap
 
--- the left side of the gap behind a piece
+-- the left side of the gap behind a token
 abbrev pub left_behind : Token → Left
 left_behind universal_selector = closed_left
 left_behind (type_selector n) = closed_left

@@ -1,5 +1,6 @@
--- A text as the pieces of a selector: a gap and a solid piece in turn, up to a stop or a fault. What a piece is depends
--- on no piece before it.
+-- A text as the pieces of a selector: a gap and a solid piece in turn, up to a stop or a fault. A gap is a blank, which may
+-- be empty. A solid piece is `>` or `+`, or it is simple: a head, which is `*` or a type name, or a subselector, which is an
+-- id, a class, an attribute or a pseudo-class. What a piece is depends on no piece before it.
 use Rattle.std.specs.Prelude.{ℕ, Bool, ◌||◌, ◌==◌, if◌then◌else◌, List, [], ◌∷◌, length, bytes_eq, codes, Option}
 use Rattle.std.specs.Str.{trim}
 use Rattle.simplecss_text.specs.Reading.{Fault, ended, no_attribute_form, no_language, no_selector, Reading, got, fails, Reader, ◌>>=◌, ◌>>◌, give, here, found, each}
@@ -38,6 +39,7 @@ attribute_after edition = do
   byte 93
   give (attribute_selector n operator)
 
+-- the language, unless it is empty
 abbrev pub lang_of : List ℕ → Reader Token
 lang_of value text = if length value == 0 then fails no_language text else got (lang_pseudo_class value) text
 
@@ -49,6 +51,7 @@ lang_after = do
   byte 41
   lang_of (trim value)
 
+-- what follows the name of a pseudo-class: a language behind `lang`, else nothing
 abbrev pub pseudo_class_named : List ℕ → Reader Token
 pseudo_class_named n text = if bytes_eq n (codes "lang") then lang_after text else got (named_pseudo_class n) text
 
@@ -58,7 +61,7 @@ pseudo_class_after edition = do
   n ← name edition
   pseudo_class_named n
 
--- a name, which is that of a token
+-- a name, and the token of that name
 unfoldable pub named : Edition → (List ℕ → Token) → Reader Token
 named edition token = do
   n ← name edition
@@ -94,6 +97,7 @@ pub record Piece : Type 0 where
   pub token : Token
   pub after : List ℕ
 
+-- a gap and the solid piece behind it
 unfoldable pub piece : Edition → Reader Piece
 piece edition = do
   spaced ← gap
@@ -116,9 +120,9 @@ pub data Ending : Type 0 where
   at_stop : (spaced : Bool) → (start : List ℕ) → Ending
   -- a `/`, which opens no comment, since it is behind a gap
   at_slash : (spaced : Bool) → (start : List ℕ) → Ending
-  -- where a type must stand and no name begins: the fault, and what is left after it
+  -- a head that is missing, as at `<`, since no name begins there: the fault, and what is left after it
   without_head : (spaced : Bool) → (start : List ℕ) → Fault → (after : List ℕ) → Ending
-  -- a fault inside a piece that has begun
+  -- a fault inside a subselector that has begun, and what is left after it
   within_piece : (spaced : Bool) → (start : List ℕ) → Fault → (after : List ℕ) → Ending
   -- a comment in the gap that is not closed
   within_gap : Fault → (after : List ℕ) → Ending
@@ -127,13 +131,14 @@ pub data Ending : Type 0 where
 abbrev pub begins_subselector : ℕ → Bool
 begins_subselector b = b == 35 || b == 46 || b == 91 || b == 58
 
--- (A piece that can be read is no ending.)
+-- The fault of a solid piece: inside a subselector, or for want of a head. (A piece that can be read is no ending.)
 abbrev pub fault_ending : Bool → List ℕ → Reading Token → Ending
 fault_ending spaced start (got token after) = at_stop spaced start
 fault_ending spaced start (fails fault after) =
     if starts_by begins_subselector start then within_piece spaced start fault after
     else without_head spaced start fault after
 
+-- what stands behind a gap, or in it, where no piece can be read
 abbrev pub gap_ending : Edition → Reading Bool → Ending
 gap_ending edition (fails fault after) = within_gap fault after
 gap_ending edition (got spaced start) =

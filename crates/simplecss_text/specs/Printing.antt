@@ -9,6 +9,7 @@ use Rattle.simplecss_text.specs.Components.Combinator.{none, descendant, child, 
 use Rattle.simplecss_text.specs.Declarations.{Property}
 use Rattle.simplecss_text.specs.Statements.{StyleRule}
 
+-- a pseudo-class without its colon
 abbrev pub class_text : Class → List ℕ
 class_text first_child = codes "first-child"
 class_text link = codes "link"
@@ -18,12 +19,14 @@ class_text active = codes "active"
 class_text focus = codes "focus"
 class_text (lang language) = codes "lang(" ++ language ++ codes ")"
 
+-- an operator and its value, which always stands in apostrophes
 abbrev pub operator_text : Operator → List ℕ
 operator_text exists = []
 operator_text (equals value) = codes "='" ++ value ++ codes "'"
 operator_text (has_word value) = codes "~='" ++ value ++ codes "'"
 operator_text (begins_with value) = codes "|='" ++ value ++ codes "'"
 
+-- an attribute in brackets, or a pseudo-class behind its colon
 abbrev pub subselector_text : Subselector → List ℕ
 subselector_text (attribute name operator) = codes "[" ++ name ++ operator_text operator ++ codes "]"
 subselector_text (pseudo_class class) = codes ":" ++ class_text class
@@ -35,22 +38,28 @@ combinator_text descendant = codes " "
 combinator_text child = codes " > "
 combinator_text adjacent = codes " + "
 
+-- the type name, or `*`
 abbrev pub type_text : Option (List ℕ) → List ℕ
 type_text None = codes "*"
 type_text (Some name) = name
 
+-- a component with the combinator before it
 abbrev pub component_text : Component → List ℕ
 component_text c = combinator_text c.combinator ++ type_text c.compound.name ++ flat_map subselector_text c.compound.subselectors
 
+-- the components one after another
 abbrev pub selector_text : List Component → List ℕ
 selector_text components = flat_map component_text components
 
+-- the importance of a declaration
 abbrev pub important_text : Bool → List ℕ
 important_text important = if important then codes " !important" else []
 
+-- a declaration, closed by a semicolon
 abbrev pub property_text : Property → List ℕ
 property_text p = p.name ++ codes ":" ++ p.value ++ important_text p.important ++ codes ";"
 
+-- the selector, and the declarations between braces
 abbrev pub rule_text : StyleRule → List ℕ
 rule_text rule = selector_text rule.components ++ codes " { " ++ flat_map property_text rule.properties ++ codes " }"
 
@@ -63,12 +72,14 @@ abbrev pub escaped_after : ℕ → List ℕ → Bool
 escaped_after previous [] = true
 escaped_after previous (b ∷ text) = (not (b == 39) || previous == 92) && escaped_after b text
 
+-- the value of an operator has no bare apostrophe
 abbrev pub is_clean_operator : Operator → Bool
 is_clean_operator exists = true
 is_clean_operator (equals value) = escaped_after 0 value
 is_clean_operator (has_word value) = escaped_after 0 value
 is_clean_operator (begins_with value) = escaped_after 0 value
 
+-- the same of the value of an attribute
 abbrev pub is_clean_subselector : Subselector → Bool
 is_clean_subselector (attribute name operator) = is_clean_operator operator
 is_clean_subselector (pseudo_class class) = true

@@ -17,7 +17,7 @@ pub data Role : Type 0 where
   of_type : List ℕ → Role
   with : Subselector → Role
   joint : Combinator → Role
-  -- a pseudo-class of no known name
+  -- a pseudo-class whose name is not known
   unknown : Role
 
 -- the pseudo-class of a name
@@ -31,11 +31,13 @@ class_named n =
     else (if bytes_eq n (codes "focus") then Some focus
     else None)))))
 
+-- what a pseudo-class is in a selector, if its name is known
 abbrev pub class_role : Option Class → Role
 class_role None = unknown
 class_role (Some class) = with (pseudo_class class)
 
--- A class is an attribute `class` with a word, and an id is an attribute `id` that equals a text.
+-- What a token is in a selector. A class is an attribute `class` with a word, and an id is an attribute `id` that equals a
+-- text.
 abbrev pub role_of : Token → Role
 role_of universal_selector = any_type
 role_of (type_selector n) = of_type n
@@ -53,10 +55,12 @@ pub data Outcome : Type 0 where
   refused : (left : List ℕ) → Outcome
   accepted : List Role → (left : List ℕ) → Outcome
 
+-- the role, and then those that were accepted
 abbrev pub with_role : Role → Outcome → Outcome
 with_role role (refused left) = refused left
 with_role role (accepted roles left) = accepted (role ∷ roles) left
 
+-- the role and what follows it; a pseudo-class that is not known refuses, right after its name
 abbrev pub after_role : Role → (after : List ℕ) → Outcome → Outcome
 after_role any_type after rest = with_role any_type rest
 after_role (of_type n) after rest = with_role (of_type n) rest
@@ -64,6 +68,7 @@ after_role (with subselector) after rest = with_role (with subselector) rest
 after_role (joint combinator) after rest = with_role (joint combinator) rest
 after_role unknown after rest = refused after
 
+-- what a run comes to
 abbrev pub outcome : Run → Outcome
 outcome (run_end left) = accepted [] left
 outcome (item (Err fault) after rest) = refused after
@@ -87,6 +92,7 @@ type_among known (with subselector ∷ roles) = type_among known roles
 type_among known (joint combinator ∷ roles) = type_among known roles
 type_among known (unknown ∷ roles) = type_among known roles
 
+-- the subselectors among the roles of a component, in their order
 abbrev pub subselectors_among : List Role → List Subselector
 subselectors_among [] = []
 subselectors_among (with subselector ∷ roles) = subselector ∷ subselectors_among roles
@@ -95,6 +101,7 @@ subselectors_among (of_type n ∷ roles) = subselectors_among roles
 subselectors_among (joint combinator ∷ roles) = subselectors_among roles
 subselectors_among (unknown ∷ roles) = subselectors_among roles
 
+-- the component of a combinator and the roles behind it
 abbrev pub component_of : Combinator × List Role → Component
 component_of (combinator, roles) = record {
   combinator = combinator;
@@ -105,6 +112,7 @@ component_of (combinator, roles) = record {
 abbrev pub components_of : List Role → List Component
 components_of roles = component_of (none, (cut roles).0) ∷ map component_of (cut roles).1
 
+-- the selector of an outcome, or none, and what is left
 abbrev pub selector_of : Outcome → Option (List Component) × List ℕ
 selector_of (refused left) = (None, left)
 selector_of (accepted roles left) = (Some (components_of roles), left)

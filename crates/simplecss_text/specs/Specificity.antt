@@ -1,16 +1,18 @@
--- How specific a selector is.
+-- How specific a selector is (CSS 2.1, section 6.4.3).
 use Rattle.std.specs.Prelude.{ℕ, Bool, false, not, min, List, [], ◌∷◌, sum_by, count_by, is_some, bytes_eq, codes}
 use Rattle.simplecss_text.specs.Components.{Subselector, Component}
 use Rattle.simplecss_text.specs.Components.Subselector.{attribute, pseudo_class}
 
--- an attribute named `id`, with any operator
+-- An attribute named `id`, with any operator: `[id=x]` counts as `#x` does. (In CSS 2.1 it counts as other attributes do.)
 abbrev pub is_id : Subselector → Bool
 is_id (attribute name operator) = bytes_eq name (codes "id")
 is_id (pseudo_class class) = false
 
+-- the number of ids of a component
 abbrev pub id_count : Component → ℕ
 id_count c = count_by is_id c.compound.subselectors
 
+-- the number of its other subselectors
 abbrev pub other_count : Component → ℕ
 other_count c = count_by (λ s. not (is_id s)) c.compound.subselectors
 

@@ -50,7 +50,8 @@ rule_set edition text =
 abbrev pub past_at_end : List ℕ → List ℕ
 past_at_end text = if starts 123 text then past_byte 125 (from_block_end (past_one text)) else past_byte 59 text
 
--- Behind the name of an at-rule all is passed up to a semicolon or a block; a faulty name ends it.
+-- Behind the name of an at-rule all is passed up to a semicolon or a block. Without a name it ends where the fault leaves
+-- reading.
 abbrev pub past_at_name : Reading (List ℕ) → List ℕ
 past_at_name (got n rest) = past_at_end (past (is_neither 59 123) rest)
 past_at_name (fails fault rest) = rest
@@ -76,6 +77,7 @@ next_statement edition text =
 unfoldable pub statements : Edition → List ℕ → List (List StyleRule)
 statements edition text = (each (next_statement edition) text).0
 
+-- the rule has a declaration
 abbrev pub has_property : StyleRule → Bool
 has_property rule = not (length rule.properties == 0)
 

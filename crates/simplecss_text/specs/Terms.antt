@@ -1,4 +1,4 @@
--- Terms of a value.
+-- Terms: what a value is made of. Only where a term ends is asked here; what it means is not read.
 use Rattle.std.specs.Prelude.{ℕ, Bool, false, not, ◌||◌, ◌&&◌, ◌==◌, if◌then◌else◌, List, [], ◌∷◌}
 use Rattle.simplecss_text.specs.Reading.{ended, Reading, got, fails, Reader, ◌>>=◌, left_after}
 use Rattle.simplecss_text.specs.Bytes.{past_one, starts, is_within, is_digit, past, after_byte, closed_or}
@@ -6,6 +6,7 @@ use Rattle.simplecss_text.specs.Characters.{Edition, first_edition, second_editi
 use Rattle.simplecss_text.specs.Names.{name}
 use Rattle.simplecss_text.specs.Strings.{is_quote, string_after}
 
+-- 0 to 9, a to f, A to F
 abbrev pub is_hex_digit : ℕ → Bool
 is_hex_digit b = is_digit b || is_within 97 102 b || is_within 65 70 b
 
@@ -27,7 +28,7 @@ past_unit edition text = if starts 37 text then past_one text else left_after (n
 unfoldable pub past_number : Edition → List ℕ → List ℕ
 past_number edition text = past_unit edition (past_decimals (past is_digit text))
 
--- what is left after the arguments of a function, all up to the first closing parenthesis, if they stand there
+-- the arguments of a function, if they stand there: all up to the first closing parenthesis, and that parenthesis
 abbrev pub arguments : Reader (Unit {0})
 arguments text = if starts 40 text then closed_or ended (after_byte 41 text) else got tt text
 
@@ -37,6 +38,7 @@ word edition = do
   n ← name edition
   arguments
 
+-- a string, behind its opening quote
 abbrev pub quoted : ℕ → Reader (Unit {0})
 quoted quote = do
   inside ← string_after quote

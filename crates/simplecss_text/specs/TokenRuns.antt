@@ -17,6 +17,7 @@ pub data Run : Type 0 where
   item : Result Token Fault → (after : List ℕ) → Run → Run
   run_end : (left : List ℕ) → Run
 
+-- a token, and then the rest of the run
 abbrev pub token_then : Token → List ℕ → Run → Run
 token_then token after rest = item (Ok token) after rest
 
@@ -42,7 +43,8 @@ left_with descends left = open_left
 left_with ends_tokens left = left
 left_with (refuses fault after) left = left
 
--- The fault of an ending. A second one follows behind an open left side where a head is missing or a comment is open.
+-- The fault of an ending. Behind an open left side, or a descendant combinator, a second one follows where a head is missing
+-- or a comment is open: that no selector was found.
 abbrev pub ending_run : Left → Ending → Run
 ending_run left (at_stop spaced start) = run_end start
 ending_run left (at_slash spaced start) = run_end start
@@ -94,7 +96,7 @@ fault_count (item (Ok token) after rest) = fault_count rest
 fault_count (item (Err fault) after rest) = 1 + fault_count rest
 fault_count (run_end left) = 0
 
--- the names and values that a run's item gives
+-- the names and values that an item of a run gives
 abbrev pub item_texts : Result Token Fault → List (List ℕ)
 item_texts (Ok token) = token_texts token
 item_texts (Err fault) = []

@@ -16,13 +16,14 @@ pub data Token : Type 0 where
   child_combinator : Token
   adjacent_combinator : Token
 
--- the names and values of a token, in their order
+-- the value that an operator holds, if it holds one
 abbrev pub operator_texts : Operator → List (List ℕ)
 operator_texts exists = []
 operator_texts (equals value) = value ∷ []
 operator_texts (has_word value) = value ∷ []
 operator_texts (begins_with value) = value ∷ []
 
+-- the names and values of a token, in their order
 abbrev pub token_texts : Token → List (List ℕ)
 token_texts universal_selector = []
 token_texts (type_selector n) = n ∷ []

@@ -180,9 +180,9 @@ impl<'a> Stream<'a> {
         ensures run { EndsRun (F.post f) (text_of self.old) (place_of self.old) (place_of self.new) }
         ensures value { result.now ≡ slice_range (text_of self.old) (place_of self.old) (place_of self.new) }
     {
-        let start = self.pos;
+        let begin = self.pos;
         self.skip_bytes(f);
-        self.slice_back(start)
+        self.slice_back(begin)
     }
 
     /// What stands between the two places.
