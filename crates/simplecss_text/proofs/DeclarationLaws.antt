@@ -23,11 +23,11 @@ closed_or-keeps : (text : List ℕ) (fault : Fault) (o : Option (List ℕ)) → 
 closed_or-keeps text fault None h = omega arith
 closed_or-keeps text fault (Some rest) h = h
 
-length-past_hash : (text : List ℕ) (r : Reading (List ℕ)) → Keeps text r → length (past_hash r) ≤ length text
+pub length-past_hash : (text : List ℕ) (r : Reading (List ℕ)) → Keeps text r → length (past_hash r) ≤ length text
 length-past_hash text (got n rest) h = h
 length-past_hash text (fails fault rest) h = omega (arith, length-past is_hex_digit rest)
 
-length-past_decimals : (text : List ℕ) → length (past_decimals text) ≤ length text
+pub length-past_decimals : (text : List ℕ) → length (past_decimals text) ≤ length text
 length-past_decimals text = by (starts 46 text)
   where
     by : (t : Bool) → length (if t then past is_digit (past_one text) else text) ≤ length text
@@ -38,28 +38,28 @@ pub length-left_after : {A : Type 0} (text : List ℕ) (r : Reading A) → Keeps
 length-left_after text (got x rest) h = h
 length-left_after text (fails fault rest) h = h
 
-name-keeps : (edition : Edition) (text : List ℕ) → Keeps text (name edition text)
+pub name-keeps : (edition : Edition) (text : List ℕ) → Keeps text (name edition text)
 name-keeps edition text = cuts-keeps text (name edition text) (name-cuts edition text)
 
-length-past_unit : (edition : Edition) (text : List ℕ) → length (past_unit edition text) ≤ length text
+pub length-past_unit : (edition : Edition) (text : List ℕ) → length (past_unit edition text) ≤ length text
 length-past_unit edition text = by (starts 37 text)
   where
     by : (t : Bool) → length (if t then past_one text else left_after (name edition text)) ≤ length text
     by true = length-past_one text
     by false = length-left_after text (name edition text) (name-keeps edition text)
 
-length-past_number : (edition : Edition) (text : List ℕ) → length (past_number edition text) ≤ length text
+pub length-past_number : (edition : Edition) (text : List ℕ) → length (past_number edition text) ≤ length text
 unfolding past_number
 length-past_number edition text = omega (arith, length-past is_digit text, length-past_decimals (past is_digit text), length-past_unit edition (past_decimals (past is_digit text)))
 
-arguments-keeps : (text : List ℕ) → Keeps text (arguments text)
+pub arguments-keeps : (text : List ℕ) → Keeps text (arguments text)
 arguments-keeps text = keeps-if text (starts 40 text) _ _ (closed_or-keeps text ended (after_byte 41 text) (after_byte-leaves 41 text)) (omega arith)
 
 word-cuts : (edition : Edition) (text : List ℕ) → Cuts text (word edition text)
 unfolding word
 word-cuts edition text = cuts-follow text (name edition text) (λ n. arguments) (name-cuts edition text) (λ n rest. arguments-keeps rest)
 
-quoted-keeps : (quote : ℕ) (text : List ℕ) → Keeps text (quoted quote text)
+pub quoted-keeps : (quote : ℕ) (text : List ℕ) → Keeps text (quoted quote text)
 quoted-keeps quote text = keeps-follow text (string_after quote text) _ (string_up_to-keeps text (from_quote quote quote text) (from_quote-leaves quote quote text)) (λ inside rest. omega arith)
 
 -- a term takes a byte or more
@@ -80,7 +80,7 @@ after_term-shrinks text (fails fault rest) h = tt
 pub term_in_value-takes : (edition : Edition) → Takes (term_in_value edition)
 term_in_value-takes edition text = after_term-shrinks text (term edition text) (term-cuts edition text)
 
-value-keeps : (edition : Edition) (text : List ℕ) → Keeps text (value_reader edition text)
+pub value-keeps : (edition : Edition) (text : List ℕ) → Keeps text (value_reader edition text)
 unfolding value
 value-keeps edition text =
     let rest = (terms edition text).1 in
@@ -94,7 +94,7 @@ semicolon-takes (b ∷ text) = by (b == 59)
     by true = omega (arith, length-past_blank text)
     by false = tt
 
-important_word-keeps : (text : List ℕ) → Keeps text (important_word text)
+pub important_word-keeps : (text : List ℕ) → Keeps text (important_word text)
 important_word-keeps text = keeps-if text (starts_with eqb text (codes "important")) _ _ (omega (arith, length-drop 9 text)) (omega arith)
 
 after_mark-keeps : (text : List ℕ) → Keeps text (after_mark text)
@@ -102,11 +102,11 @@ after_mark-keeps text =
     keeps-longer (past_one text) text _ (length-past_one text)
     (keeps-follow (past_one text) (blank (past_one text)) _ (blank-keeps (past_one text)) (λ u rest. important_word-keeps rest))
 
-importance-keeps : (text : List ℕ) → Keeps text (importance text)
+pub importance-keeps : (text : List ℕ) → Keeps text (importance text)
 unfolding importance
 importance-keeps text = keeps-if text (starts 33 text) _ _ (after_mark-keeps text) (omega arith)
 
-trailing-keeps : (text : List ℕ) → Keeps text (trailing text)
+pub trailing-keeps : (text : List ℕ) → Keeps text (trailing text)
 unfolding trailing
 trailing-keeps text =
     keeps-follow text (blank text) _ (blank-keeps text) (λ u a.
@@ -115,7 +115,7 @@ trailing-keeps text =
     keeps-follow c (semicolons c) _ (each-within semicolon semicolon-takes c) (λ u d.
     keeps-follow d (blank d) (λ u. got important) (blank-keeps d) (λ u e. omega arith)))))
 
-unless_empty-keeps : (start : List ℕ) (property : Property) (text : List ℕ) → Keeps text (unless_empty start property text)
+pub unless_empty-keeps : (start : List ℕ) (property : Property) (text : List ℕ) → Keeps text (unless_empty start property text)
 unless_empty-keeps start property text = keeps-if text (length property.value == 0) _ _ (omega arith) (omega arith)
 
 -- a declaration takes a byte or more

@@ -42,7 +42,7 @@ next_block-less edition text bound l p = by (past (λ b. not (b == 123)) text) (
         with_brace true = omega (arith, length-block edition opened, h, l)
         with_brace false = p
 
-length-part : (edition : Edition) (text : List ℕ) → length (part edition text).1 ≤ length text
+pub length-part : (edition : Edition) (text : List ℕ) → length (part edition text).1 ≤ length text
 unfolding part
 length-part edition text = omega (arith, length-reads edition text, length-past is_space (reads edition text).1)
 
@@ -57,7 +57,7 @@ part_and_comma-takes edition text = by (part edition text).1 (length-part editio
         with_comma true = omega arith
         with_comma false = tt
 
-length-parts : (edition : Edition) (text : List ℕ) → length (parts edition text).1 ≤ length text
+pub length-parts : (edition : Edition) (text : List ℕ) → length (parts edition text).1 ≤ length text
 unfolding parts
 length-parts edition text =
     let rest = (each (part_and_comma edition) text).1 in

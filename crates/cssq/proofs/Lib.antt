@@ -1,0 +1,10 @@
+pub mod Cuts
+pub mod Depths
+pub mod Fields
+pub mod KeySets
+pub mod Linked
+pub mod Joins
+pub mod Attributes
+pub mod Reading
+pub mod Values
+pub mod Written

@@ -1,0 +1,11 @@
+pub mod TreeText
+pub mod Relatives
+pub mod Nodes
+pub mod Lines
+pub mod Places
+pub mod Siblings
+pub mod ElementLaws
+pub mod Command
+pub mod Faults
+pub mod Outcomes
+pub mod SelectorRuns

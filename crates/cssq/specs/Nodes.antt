@@ -1,0 +1,79 @@
+-- The elements of a page as nodes of a tree, and what each answers to a selector.
+use Rattle.std.specs.Prelude.{ℕ, zero, suc, ◌+◌, Bool, false, true, List, [], ◌∷◌, ◌++◌, ◌||◌, Option, None, Some, if◌then◌else◌, bytes_eq, is_none, nat_eq, ◌==◌}
+use Rattle.std.specs.List.{slice_get, slice_split, list_any, starts_with}
+use Rattle.std.specs.Option.{option_map, option_map_or}
+use Rattle.simplecss_text.specs.Components.{Operator, Class}
+use Rattle.simplecss_text.specs.Components.Operator.{exists, equals, has_word, begins_with}
+use Rattle.simplecss_text.specs.Components.Class.{first_child, link, visited, hover, active, focus, lang}
+use Rattle.simplecss_selector.specs.Trees.{Tree}
+use Rattle.cssq.specs.TreeText.{Row}
+use Rattle.cssq.specs.Relatives.{depths_of, parent_place, previous_place}
+
+-- a place among the rows
+pub record Spot : Type 0 where
+  pub rows : List Row
+  pub place : ℕ
+
+abbrev pub spot : List Row → ℕ → Spot
+spot rows place = record { rows = rows; place = place }
+
+abbrev pub parent_of : Spot → Option Spot
+parent_of s = option_map (spot s.rows) (parent_place (depths_of s.rows) s.place)
+
+abbrev pub previous_of : Spot → Option Spot
+previous_of s = option_map (spot s.rows) (previous_place (depths_of s.rows) s.place)
+
+-- the number of the ancestors, none of which is farther than the number of steps
+abbrev pub ancestors_within : ℕ → List ℕ → ℕ → ℕ
+ancestors_within zero depths place = 0
+ancestors_within (suc steps) depths place = elim (parent_place depths place) [ None ↦ 0 | Some parent ↦ ancestors_within steps depths parent + 1 ]
+
+-- the number of the ancestors
+abbrev pub depth_of : Spot → ℕ
+depth_of s = ancestors_within (suc s.place) (depths_of s.rows) s.place
+
+abbrev pub name_at : List Row → ℕ → List ℕ
+name_at rows place = option_map_or (λ row. row.name) (slice_get rows place) []
+
+-- the value of the first attribute with the key
+abbrev pub value_in : List (List ℕ × List ℕ) → List ℕ → Option (List ℕ)
+value_in [] key = None
+value_in (attribute ∷ attributes) key = if bytes_eq attribute.0 key then Some attribute.1 else value_in attributes key
+
+abbrev pub attribute_at : List Row → ℕ → List ℕ → Option (List ℕ)
+attribute_at rows place key = option_map_or (λ row. value_in row.attributes key) (slice_get rows place) None
+
+-- whether a value is as an operator asks; its words stand between single spaces
+abbrev pub is_as_asked : Operator → List ℕ → Bool
+is_as_asked exists value = true
+is_as_asked (equals text) value = bytes_eq value text
+is_as_asked (has_word word) value = list_any (λ part. bytes_eq part word) (slice_split (λ b. b == 32) value)
+is_as_asked (begins_with start) value = bytes_eq value start || starts_with nat_eq value (start ++ 45 ∷ [])
+
+abbrev pub has_name : Spot → List ℕ → Bool
+has_name s name = bytes_eq (name_at s.rows s.place) name
+
+-- an attribute that is there asks the operator
+abbrev pub meets_operator : Spot → List ℕ → Operator → Bool
+meets_operator s key operator = option_map_or (is_as_asked operator) (attribute_at s.rows s.place key) false
+
+-- the first child has no previous sibling; an element is in no other state
+abbrev pub is_in : Spot → Class → Bool
+is_in s first_child = is_none (previous_place (depths_of s.rows) s.place)
+is_in s link = false
+is_in s visited = false
+is_in s hover = false
+is_in s active = false
+is_in s focus = false
+is_in s (lang language) = false
+
+-- the elements of all pages
+abbrev pub page_tree : Tree Spot
+page_tree = record {
+  parent = parent_of;
+  previous_sibling = previous_of;
+  depth = depth_of;
+  is_named = has_name;
+  has_attribute = meets_operator;
+  is_in_class = is_in;
+}

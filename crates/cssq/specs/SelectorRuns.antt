@@ -1,0 +1,26 @@
+-- What a run over the text of a selector is to write.
+use Rattle.std.specs.Prelude.{◌≡◌, ℕ, List, [], ◌∷◌, ◌++◌, Option, None, Some, Result, Ok, Err, decimal, map}
+use Rattle.std.specs.List.{join_with_byte}
+use Rattle.simplecss_text.specs.Components.{Component}
+use Rattle.simplecss_text.specs.Specificity.{specificity}
+use Rattle.simplecss_text.specs.Printing.{selector_text}
+use Rattle.simplecss_text.specs.ThisEdition.{this_edition}
+use Rattle.simplecss_text.specs.Selectors.{reads}
+use Rattle.cssq.specs.declared.runs.RunFault.{RunFault}
+use Rattle.cssq.specs.declared.runs.RunFault.TheVariants.{Refused}
+
+-- the selector of a text, or none where it is refused
+abbrev pub selector_in : List ℕ → Option (List Component)
+selector_in text = (reads this_edition text).0
+
+-- the printed selector, a TAB, its specificity as three numbers with commas between them, and a newline
+abbrev pub selector_line : List Component → List ℕ
+selector_line selector = selector_text selector ++ (9 ∷ join_with_byte 44 (map decimal (specificity selector)) ++ 10 ∷ [])
+
+abbrev pub line_or_refused : Option (List Component) → Result (List ℕ) RunFault
+line_or_refused None = Err Refused
+line_or_refused (Some selector) = Ok (selector_line selector)
+
+-- the line of the text's selector, or the refusal
+abbrev pub IsSelectorRun : List ℕ → Result (List ℕ) RunFault → Type 0
+IsSelectorRun text due = due ≡ line_or_refused (selector_in text)

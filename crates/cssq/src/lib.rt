@@ -1,0 +1,8 @@
+//! What the program `cssq` does: trees of elements from their texts, and runs over selectors, sheets and trees.
+#![tactic(auto)]
+
+pub mod command;
+#[cfg(test)]
+mod counting;
+pub mod runs;
+pub mod tree;

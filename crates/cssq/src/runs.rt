@@ -1,0 +1,136 @@
+//! What the program's commands do, over any writer.
+
+ghost use Rattle.std.specs.Prelude.{◌≡◌, Some, OnOk, OnErr, IfErr, IfOk, string_bytes};
+ghost use Rattle.std.specs.Io.KnownBytes.{Appends};
+ghost use Rattle.cssq.specs.Outcomes.{AppendsProperPart, Runs};
+ghost use Rattle.cssq.specs.Faults.{status_of, message_of, run_fault};
+ghost use Rattle.cssq.specs.SelectorRuns.{selector_line, IsSelectorRun};
+ghost use Rattle.cssq.specs.declared.runs.RunFault.TheVariants.{Memory};
+
+use crate::tree::TreeFault;
+use log::Log;
+use simplecss::Selector;
+use std::alloc::{AllocError, AllocFailed, Global};
+use std::error::Error;
+use std::fmt;
+use std::io::Write;
+
+/// Why a run failed.
+#[derive(Clone, Copy, PartialEq, Debug)]
+pub enum RunFault {
+    /// The text is no selector.
+    Refused,
+    /// The text of a tree has a fault. A tree's want of memory is answered as `Memory`.
+    Tree(TreeFault),
+    /// Memory was refused.
+    Memory,
+    /// A write failed, or took no byte while bytes were left.
+    Output,
+}
+
+impl RunFault {
+    /// The exit status of the program: 1 where a text has a fault, 3 for want of memory, 4 where the writer failed. It
+    /// takes no memory.
+    pub fn status(&self) -> u8
+        ensures { result ≡ status_of self.now }
+    {
+        match self {
+            RunFault::Refused | RunFault::Tree(_) => 1,
+            RunFault::Memory => 3,
+            RunFault::Output => 4,
+        }
+    }
+}
+
+impl fmt::Display for RunFault {
+    ghost output = { λ fault. Some (message_of fault) };
+
+    fn fmt<W: fmt::Write>(&self, f: &mut fmt::Formatter<W>) -> fmt::Result {
+        match self {
+            RunFault::Refused => write!(f, "cssq: selector refused"),
+            RunFault::Tree(fault) => {
+                let number = fault.number();
+                let line = fault.line();
+                write!(f, "cssq: tree fault {number} at line {line}")
+            }
+            RunFault::Memory => write!(f, "cssq: want of memory"),
+            RunFault::Output => write!(f, "cssq: cannot write"),
+        }
+    }
+}
+
+impl Error for RunFault {}
+
+impl From<AllocError> for RunFault {
+    ghost from_gives = { λ _ fault. fault ≡ Memory };
+
+    fn from(_error: AllocError) -> RunFault {
+        RunFault::Memory
+    }
+}
+
+impl<T: Drop> From<AllocFailed<T>> for RunFault {
+    ghost from_gives = { λ _ fault. fault ≡ Memory };
+
+    fn from(_error: AllocFailed<T>) -> RunFault {
+        RunFault::Memory
+    }
+}
+
+impl From<TreeFault> for RunFault {
+    ghost from_gives = { λ told fault. fault ≡ run_fault told };
+
+    fn from(told: TreeFault) -> RunFault {
+        match told {
+            TreeFault::Memory(_) => RunFault::Memory,
+            other => RunFault::Tree(other),
+        }
+    }
+}
+
+/// Writes all the bytes, or fails with `Output` while bytes are left.
+fn write_out<W: Write>(out: &mut W, bytes: &[u8]) -> Result<(), RunFault>
+    ensures ok { OnOk result (Appends (W.contents out.old) (W.contents out.new) bytes.now) }
+    ensures err { OnErr result (AppendsProperPart (W.contents out.old) (W.contents out.new) bytes.now) }
+    ensures fault { IfErr result (λ fault. fault ≡ RunFault.Output) }
+{
+    let mut rest = bytes;
+    while !rest.is_empty() {
+        match out.write(rest) {
+            Ok(0) | Err(_) => return Err(RunFault::Output),
+            Ok(n) => rest = &rest[n..],
+        }
+    }
+    Ok(())
+}
+
+/// The line that `run_selector` writes for a selector.
+fn selector_line(alloc: Global, selector: &Selector<'_>) -> Result<String, AllocError>
+    ensures { IfOk result (λ line. string_bytes line ≡ selector_line selector.now) }
+{
+    let specificity = selector.specificity();
+    let (ids, others, types) = (specificity[0], specificity[1], specificity[2]);
+    format!(in alloc; "{selector}\t{ids},{others},{types}\n")
+}
+
+/// Writes the selector of the text, a TAB, the three numbers of its specificity with commas between them, and a newline.
+///
+/// The whole line is built first: after `Refused` and `Memory` nothing was written. After `Output` a beginning of the line
+/// was, and never all of it.
+pub fn run_selector<R: Log, W: Write>(
+    rt: &R,
+    alloc: Global,
+    text: &str,
+    out: &mut W,
+) -> Result<(), RunFault>
+    ensures { Runs (IsSelectorRun text.now) result (W.contents out.old) (W.contents out.new) }
+{
+    let Some(selector) = Selector::parse(rt, alloc, text)? else {
+        return Err(RunFault::Refused);
+    };
+    let line = selector_line(alloc, &selector)?;
+    write_out(out, line.as_bytes())
+}
+
+#[cfg(test)]
+mod tests;

@@ -1,0 +1,40 @@
+-- Filling a draft role by role gives the selector of the roles.
+use Rattle.std.proofs.Common.{◌≡◌, ℕ, List, [], ◌∷◌, ◌++◌, Option, Some, None, refl, sym, ap, ◌∙◌, append_assoc, append-nil, map}
+use Rattle.simplecss_text.specs.Components.{Component}
+use Rattle.simplecss_text.specs.Selectors.{Role, Outcome, cut, type_among, subselectors_among, component_of, components_of, selector_of, with_role}
+use Rattle.simplecss_text.specs.Selectors.Role.{any_type, of_type, with, joint, unknown}
+use Rattle.simplecss_text.specs.Selectors.Outcome.{refused, accepted}
+use Rattle.simplecss_selector.specs.Drafts.{Drafted, begun, finished, drafted_after, continued, selector_after}
+
+-- the component with what the roles ask besides
+abbrev pub extended : Component → List Role → Component
+extended c roles = record { combinator = c.combinator; compound = record { name = type_among c.compound.name roles; subselectors = c.compound.subselectors ++ subselectors_among roles } }
+
+extended-none : (c : Component) → extended c [] ≡ c
+extended-none c = ap (λ l. record { combinator = c.combinator; compound = record { name = c.compound.name; subselectors = l } }) (append-nil c.compound.subselectors)
+
+pub continued-cut : (roles : List Role) (d : Drafted) → continued d roles ≡ d.done ++ extended d.last (cut roles).0 ∷ map component_of (cut roles).1
+continued-cut [] d = ap (λ c. d.done ++ c ∷ []) (sym (extended-none d.last))
+continued-cut (any_type ∷ roles) d = continued-cut roles d
+continued-cut (of_type name ∷ roles) d = continued-cut roles (drafted_after (of_type name) d)
+continued-cut (with s ∷ roles) d =
+    continued-cut roles (drafted_after (with s) d)
+    ∙ ap (λ l. d.done ++ (record { combinator = d.last.combinator; compound = record { name = type_among d.last.compound.name (cut roles).0; subselectors = l } }) ∷ map component_of (cut roles).1)
+    (append_assoc d.last.compound.subselectors (s ∷ []) (subselectors_among (cut roles).0))
+continued-cut (joint combinator ∷ roles) d =
+    continued-cut roles (drafted_after (joint combinator) d)
+    ∙ append_assoc d.done (d.last ∷ []) _
+    ∙ ap (λ c. d.done ++ c ∷ component_of (combinator, (cut roles).0) ∷ map component_of (cut roles).1) (sym (extended-none d.last))
+continued-cut (unknown ∷ roles) d = continued-cut roles d
+
+pub continued-begun : (roles : List Role) → continued begun roles ≡ components_of roles
+continued-begun roles = continued-cut roles begun
+
+pub selector_after-begun : (outcome : Outcome) → selector_after begun outcome ≡ selector_of outcome
+selector_after-begun (refused left) = refl
+selector_after-begun (accepted roles left) = ap (λ cs. (Some cs, left)) (continued-begun roles)
+
+-- one more role is read
+pub selector_after-with_role : (d : Drafted) (role : Role) (outcome : Outcome) → selector_after d (with_role role outcome) ≡ selector_after (drafted_after role d) outcome
+selector_after-with_role d role (refused left) = refl
+selector_after-with_role d role (accepted roles left) = refl

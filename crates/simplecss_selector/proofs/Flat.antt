@@ -1,0 +1,63 @@
+-- The components that the three lists of a selector stand for.
+use Rattle.std.proofs.Common.{◌≡◌, ℕ, zero, suc, ◌-◌, sub-one, ◌<◌, ◌≤◌, List, [], ◌∷◌, length, get_or, refl, ap, sym, ◌∙◌, subst, arith}
+use Rattle.std.specs.List.{slice_range}
+use Rattle.simplecss_text.specs.Components.{Component}
+use Rattle.simplecss_selector.specs.Combinators.{combinator_of}
+use Rattle.simplecss_selector.specs.Searches.{component_at}
+use Rattle.simplecss_selector.specs.Seen.{component_of_part, components_from, Tile}
+use Rattle.simplecss_selector.specs.declared.selector.Part.{Part}
+use Rattle.simplecss_selector.specs.declared.selector.SubSelector.{SubSelector}
+
+-- where the subselectors of a component begin
+abbrev pub begin_of : ℕ → List Part → ℕ → Part → ℕ
+begin_of start ps zero d = start
+begin_of start ps (suc k) d = (get_or ps k d).end
+
+pub components_from-length : (start : ℕ) (ps : List Part) (ss : List SubSelector) → length (components_from start ps ss) ≡ length ps
+components_from-length start [] ss = refl
+components_from-length start (p ∷ ps) ss = ap suc (components_from-length p.end ps ss)
+
+pub components_from-at : (start : ℕ) (ps : List Part) (ss : List SubSelector) (k : ℕ) (d : Part) → k < length ps → component_at (components_from start ps ss) k ≡ component_of_part (get_or ps k d) (slice_range ss (begin_of start ps k d) (get_or ps k d).end)
+components_from-at start [] ss k d h = absurd (omega arith)
+components_from-at start (p ∷ ps) ss zero d h = refl
+components_from-at start (p ∷ ps) ss (suc zero) d h = components_from-at p.end ps ss zero d (omega arith)
+components_from-at start (p ∷ ps) ss (suc (suc k)) d h = components_from-at p.end ps ss (suc k) d (omega arith)
+
+pub combinator-at : (start : ℕ) (ps : List Part) (ss : List SubSelector) (k : ℕ) (d : Part) → k < length ps → (component_at (components_from start ps ss) k).combinator ≡ combinator_of (get_or ps k d).combinator
+combinator-at start ps ss k d h = ap (λ (c : Component). c.combinator) (components_from-at start ps ss k d h)
+
+pub Tile-le : (start : ℕ) (ps : List Part) (n : ℕ) → Tile start ps n → start ≤ n
+Tile-le start [] n t = omega arith
+Tile-le start (p ∷ ps) n t = let h = Tile-le p.end ps n t.1 in let e = t.0 in omega arith
+
+pub Tile-at : (start : ℕ) (ps : List Part) (n k : ℕ) (d : Part) → Tile start ps n → k < length ps → (begin_of start ps k d ≤ (get_or ps k d).end) × ((get_or ps k d).end ≤ n)
+Tile-at start [] n k d t h = absurd (omega arith)
+Tile-at start (p ∷ ps) n zero d t h = (t.0, Tile-le p.end ps n t.1)
+Tile-at start (p ∷ ps) n (suc zero) d t h = Tile-at p.end ps n zero d t.1 (omega arith)
+Tile-at start (p ∷ ps) n (suc (suc k)) d t h = Tile-at p.end ps n (suc k) d t.1 (omega arith)
+
+pub begin_is : (ps : List Part) (k start : ℕ) (d : Part) → (k ≡ 0 → start ≡ 0) → (0 < k → start ≡ (get_or ps (k - 1) d).end) → start ≡ begin_of 0 ps k d
+begin_is ps zero start d first later = first refl
+begin_is ps (suc k) start d first later = rw sub-one at (later (omega arith))
+
+pub place_within : (ps : List Part) (ss : List SubSelector) (cs : List Component) (len k : ℕ) → components_from 0 ps ss ≡ cs → len ≡ length ps → k < length cs → k < len
+place_within ps ss cs len k view ok h =
+    omega (arith, components_from-length 0 ps ss, ap length view)
+
+pub combinator_is : (ps : List Part) (ss : List SubSelector) (cs : List Component) (k : ℕ) (p : Part) → components_from 0 ps ss ≡ cs → k < length cs → p ≡ get_or ps k p → combinator_of p.combinator ≡ (component_at cs k).combinator
+combinator_is ps ss cs k p view h e =
+    let within : k < length ps = omega (arith, components_from-length 0 ps ss, ap length view) in
+    ap (λ (q : Part). combinator_of q.combinator) e ∙ (sym (combinator-at 0 ps ss k p within) ∙ ap (λ (xs : List Component). (component_at xs k).combinator) view)
+
+pub component_is : (ps : List Part) (ss : List SubSelector) (cs : List Component) (k start : ℕ) (p : Part) → components_from 0 ps ss ≡ cs → k < length cs → p ≡ get_or ps k p → start ≡ begin_of 0 ps k p → component_of_part p (slice_range ss start p.end) ≡ component_at cs k
+component_is ps ss cs k start p view h e b =
+    let within : k < length ps = omega (arith, components_from-length 0 ps ss, ap length view) in
+    let at = components_from-at 0 ps ss k p within in
+    let here = ap (λ (xs : List Component). component_at xs k) view in
+    rw b (subst (λ (q : Part). component_of_part q (slice_range ss (begin_of 0 ps k p) q.end) ≡ component_at cs k) (sym e) (sym at ∙ here))
+
+pub bounds_are : (ps : List Part) (n len k start : ℕ) (p : Part) → Tile 0 ps n → len ≡ length ps → k < len → p ≡ get_or ps k p → start ≡ begin_of 0 ps k p → (start ≤ p.end) × (p.end ≤ n)
+bounds_are ps n len k start p t ok h e b =
+    let at = Tile-at 0 ps n k p t (omega arith) in
+    let ends : p.end ≡ (get_or ps k p).end = ap (λ (q : Part). q.end) e in
+    (omega (arith, at.0), omega (arith, at.1))

@@ -1,0 +1,95 @@
+-- How long a stretch of joined components is.
+use Rattle.std.proofs.Common.{◌≡◌, ℕ, zero, suc, ◌+◌, ◌*◌, ◌<◌, ◌≤◌, Bool, true, false, List, [], ◌∷◌, length, IsTrue, arith, cond, subst, refl}
+use Rattle.std.proofs.Math.Decide.{dec_lt}
+use Rattle.std.proofs.Math.Nat.{mul-le-mul_left, mul-le-mul_right}
+use Rattle.simplecss_text.specs.Components.{Component}
+use Rattle.simplecss_selector.specs.Placements.{is_joined, joined_length, longest_run}
+use Rattle.simplecss_selector.specs.Searches.{component_at}
+
+-- the components from one place to before another are each joined to the one before
+abbrev pub AreJoined : List Component → ℕ → ℕ → Type 0
+AreJoined cs from to = (k : ℕ) → from ≤ k → k < to → IsTrue (is_joined (component_at cs k))
+
+joined_more : (b : Bool) (n more : ℕ) → IsTrue b → n ≤ more → suc n ≤ cond b (more + 1) 0
+joined_more b n more t h = rw t (omega arith)
+
+joined_length-bound : (cs : List Component) (n : ℕ) → n ≤ length cs → AreJoined cs 0 n → n ≤ joined_length cs
+joined_length-bound cs zero h j = omega arith
+joined_length-bound [] (suc n) h j = absurd (omega arith)
+joined_length-bound (c ∷ cs) (suc n) h j =
+    joined_more (is_joined c) n (joined_length cs) (j 0 (omega arith) (omega arith))
+    (joined_length-bound cs n (omega arith) (λ k a b. j (suc k) (omega arith) (omega arith)))
+
+pub longest_run-bound : (cs : List Component) (place left : ℕ) → place < left → left ≤ length cs → AreJoined cs (place + 1) left → left ≤ place + longest_run cs
+longest_run-bound [] place left h w j = absurd (omega arith)
+longest_run-bound (c ∷ cs) place zero h w j = absurd (omega arith)
+longest_run-bound (c ∷ cs) zero (suc l) h w j =
+    let b : l ≤ joined_length cs = joined_length-bound cs l (omega arith) (λ k a b. j (suc k) (omega arith) (omega arith)) in
+    omega arith
+longest_run-bound (c ∷ cs) (suc p) (suc l) h w j =
+    let b : l ≤ p + longest_run cs = longest_run-bound cs p l (omega arith) (omega arith) (λ k a b. j (suc k) (omega arith) (omega arith)) in
+    omega arith
+
+-- no stretch is longer than the whole
+pub joined_length-le : (cs : List Component) → joined_length cs ≤ length cs
+joined_length-le [] = omega arith
+joined_length-le (c ∷ cs) =
+    elim (is_joined c) as (λ b. cond b (joined_length cs + 1) 0 ≤ length (c ∷ cs))
+    [ true ↦ (let h = joined_length-le cs in omega arith) | false ↦ omega arith ]
+
+pub longest_run-le : (cs : List Component) → longest_run cs ≤ length cs
+longest_run-le [] = omega arith
+longest_run-le (c ∷ cs) = let h = longest_run-le cs in let j = joined_length-le cs in omega arith
+
+-- one more component is joined, just before the others
+pub AreJoined-more : (cs : List Component) (p q left : ℕ) → q ≡ p → IsTrue (is_joined (component_at cs p)) → AreJoined cs (p + 1) left → AreJoined cs q left
+AreJoined-more cs p q left e b j k from to =
+    elim (dec_lt p k) [
+      | yes more ↦ j k (omega arith) to
+      | no fewer ↦ (let here : p ≡ k = omega arith in subst (λ (x : ℕ). IsTrue (is_joined (component_at cs x))) here b)
+    ]
+
+pub run_times-le : (cs : List Component) (d : ℕ) → longest_run cs * d ≤ length cs * d
+run_times-le cs d = mul-le-mul_right d (longest_run-le cs)
+
+-- a higher candidate leaves room for one more run
+pub falls : (l a b : ℕ) → a < b → l + l * (a + 1) ≤ l * (b + 1)
+falls l a b h = let p : l * (a + 1) ≤ l * b = mul-le-mul_left l (omega arith) in omega arith
+
+joined_front : (b : Bool) (c : Component) (cs : List Component) (k : ℕ) → is_joined c ≡ b → ((j : ℕ) → j < joined_length cs → IsTrue (is_joined (component_at cs j))) → k < cond b (joined_length cs + 1) 0 → IsTrue (is_joined (component_at (c ∷ cs) k))
+joined_front true c cs zero e rest h = e
+joined_front true c cs (suc k) e rest h = rest k (omega arith)
+joined_front false c cs k e rest h = absurd (omega arith)
+
+joined_length-joined : (cs : List Component) (k : ℕ) → k < joined_length cs → IsTrue (is_joined (component_at cs k))
+joined_length-joined [] k h = absurd (omega arith)
+joined_length-joined (c ∷ cs) k h = joined_front (is_joined c) c cs k refl (joined_length-joined cs) h
+
+-- a stretch of this many components
+abbrev pub HasStretch : List Component → ℕ → Type 0
+HasStretch cs n =
+    (place : ℕ) × (left : ℕ) × (place < left) × (left ≤ length cs) × (left ≡ place + n) × AreJoined cs (place + 1) left
+
+pub longest_run-attained : (cs : List Component) → 0 < length cs → HasStretch cs (longest_run cs)
+longest_run-attained [] some = absurd (omega arith)
+longest_run-attained (c ∷ cs) some =
+    elim (dec_lt (joined_length cs + 1) (longest_run cs)) [
+      | yes more ↦
+          (let nonempty : 0 < length cs = omega (arith, longest_run-le cs) in
+          let s = longest_run-attained cs nonempty in
+          let placed : s.0 < s.1 = s.2 in
+          let bound : s.1 ≤ length cs = s.3 in
+          let size : s.1 ≡ s.0 + longest_run cs = s.4 in
+          (suc s.0, suc s.1, omega arith, omega arith, omega arith, later s.0 s.1 s.5))
+      | no less ↦
+          (let j = joined_length-le cs in
+          (0, joined_length cs + 1, omega arith, omega arith, omega arith, front))
+    ]
+  where
+    later : (p l : ℕ) → AreJoined cs (p + 1) l → AreJoined (c ∷ cs) (suc p + 1) (suc l)
+    later p l j zero from to = absurd (omega arith)
+    later p l j (suc k) from to = j k (omega arith) (omega arith)
+
+    front : AreJoined (c ∷ cs) (0 + 1) (joined_length cs + 1)
+    front zero from to = absurd (omega arith)
+    front (suc k) from to = joined_length-joined cs k (omega arith)

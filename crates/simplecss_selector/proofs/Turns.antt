@@ -1,0 +1,30 @@
+-- What the turns of the search share.
+use Rattle.std.proofs.Common.{◌≡◌, Option, Some, None, refl, ap, sym, ◌∙◌, Bor}
+use Rattle.std.specs.Option.{option_copied, unwrap_or, option_map_or}
+use Rattle.simplecss_text.specs.Components.{Combinator as Seen}
+use Rattle.std.proofs.Common.{IsTrue, false}
+use Rattle.std.proofs.lemmas.Bool.{false≢true}
+use Rattle.simplecss_selector.specs.Placements.{is_step}
+use Rattle.simplecss_selector.specs.Trees.{Tree}
+use Rattle.simplecss_selector.specs.Searches.{step_from}
+use Rattle.simplecss_text.specs.Components.Combinator.{none, descendant, child, adjacent}
+
+taken : {T Node : Type 0} (node : T → Node) (r : Option (Bor T)) (top : Option T) (low : Bor T) → option_copied r ≡ top → node (unwrap_or r low).now ≡ option_map_or node top (node low.now)
+taken node None top low e = ap (λ (o : Option _). option_map_or node o (node low.now)) e
+taken node (Some x) top low e = ap (λ (o : Option _). option_map_or node o (node low.now)) e
+
+-- the node that is borrowed is the top, or the lowest where there is no top yet
+pub borrowed : {T Node : Type 0} (node : T → Node) (r : Option (Bor T)) (top : Option T) (low b : Bor T) → option_copied r ≡ top → b ≡ unwrap_or r low → node b.now ≡ option_map_or node top (node low.now)
+borrowed node r top low b e f = ap (λ (x : Bor _). node x.now) f ∙ taken node r top low e
+
+pub step_at : {Node : Type 0} (tree : Tree Node) (c d : Seen) (x u : Node) (o : Option Node) → c ≡ d → x ≡ u → o ≡ step_from tree c x → step_from tree d u ≡ o
+step_at tree c d x u o e f s = cc
+
+pub not_joined : (c : Seen) → is_step c ≡ false → (c ≡ none → ⊥) → c ≡ descendant
+not_joined none e n = absurd (n refl)
+not_joined descendant e n = refl
+not_joined child e n = absurd (false≢true (sym e))
+not_joined adjacent e n = absurd (false≢true (sym e))
+
+pub step_not : (c : Seen) → IsTrue (is_step c) → c ≡ descendant → ⊥
+step_not c s e = false≢true (ap is_step (sym e) ∙ s)

@@ -1,0 +1,102 @@
+use Rattle.std.proofs.Common.{◌+◌, refl, sym, arith, inl, inr}
+use Rattle.std.proofs.lemmas.Bool.{false≢true}
+use Rattle.simplecss_selector.specs.Placements.{longest_run}
+use Rattle.simplecss_selector.specs.Searches.IsAtOrAbove.{here}
+use Rattle.simplecss_selector.specs.Runs.{run_end}
+use Rattle.simplecss_selector.proofs.Cuts.{run_end-some}
+use Rattle.simplecss_selector.proofs.Depths.{depth-below}
+use Rattle.simplecss_selector.proofs.Greedy.{placement_of, first_rest, misfit_up, misfit_top, rest_up, alone_fails}
+use Rattle.simplecss_selector.proofs.Stretches.{run_times-le, falls}
+use Rattle.simplecss_selector.proofs.selector.Selector.matches_counted.Goals as goal
+
+pub returns-in-Misfit-clause-answer : goal.returns-in-Misfit-clause-answer
+returns-in-Misfit-clause-answer g c =
+    let p = placement_of g.E.Element.tree c.args.self.now (run_end c.args.self.now c.run_count.result) (g.E.Element.node c.args.element.now) c.run_count.ensures.whole in (
+      λ e. absurd (false≢true e),
+      λ h. elim c.in-Misfit.is [
+        | inl e ↦ absurd ((rw e at c.place_run.ensures.finds) (p.0 h))
+        | inr e ↦ absurd ((rw e at c.place_run.ensures.finds) _ (λ a q. q) (p.0 h))
+      ],
+    )
+
+pub returns-in-Misfit-clause-at_most : goal.returns-in-Misfit-clause-at_most
+returns-in-Misfit-clause-at_most g c =
+    omega (arith, run_times-le c.args.self.now (g.E.Element.tree.depth (g.E.Element.node c.args.element.now) + 1))
+
+pub returns-in-Whole-clause-answer : goal.returns-in-Whole-clause-answer
+returns-in-Whole-clause-answer g c =
+    let p = placement_of g.E.Element.tree c.args.self.now (run_end c.args.self.now c.run_count.result) _ c.run_count.ensures.whole in
+    (λ t. p.1 c.in-Whole.ensures.finds, λ h. refl)
+
+pub returns-in-Whole-clause-at_most : goal.returns-in-Whole-clause-at_most
+returns-in-Whole-clause-at_most g c =
+    omega (arith, run_times-le c.args.self.now (g.E.Element.tree.depth (g.E.Element.node c.args.element.now) + 1))
+
+pub loop-candidate-init : goal.loop-candidate-init
+loop-candidate-init g c =
+    let f = c.in-Rest.ensures.finds.1 in
+    record {
+      some = run_end-some c.args.self.now _ f.some;
+      within = omega (arith, c.in-Rest.ensures.finds.0, c.run_count.ensures.count);
+      same = first_rest g.E.Element.tree c.args.self.now (run_end c.args.self.now c.run_count.result) _ _ _ c.run_count.ensures.whole f;
+      spent = omega (arith, c.in-Rest.ensures.bounded, falls (longest_run c.args.self.now) _ _ f.higher);
+      placed = omega (arith, c.in-Rest.ensures.placed, c.run_count.ensures.whole);
+      tested = c.in-Rest.ensures.tested;
+    }
+
+pub returns-in-Alone-clause-answer : goal.returns-in-Alone-clause-answer
+returns-in-Alone-clause-answer g c = (
+  λ e. absurd (false≢true e),
+  λ h. absurd (alone_fails g.E.Element.tree c.args.self.now (run_end c.args.self.now c.loop-candidate.runs) _ c.in-Alone.ensures.finds (c.loop-candidate.invariant.same.0 h)),
+)
+
+pub returns-in-Alone-clause-at_most : goal.returns-in-Alone-clause-at_most
+returns-in-Alone-clause-at_most g c =
+    omega (arith, run_times-le c.args.self.now (g.E.Element.tree.depth (g.E.Element.node c.args.element.now) + 1))
+
+pub returns-in-Whole-place_run-clause-answer : goal.returns-in-Whole-place_run-clause-answer
+returns-in-Whole-place_run-clause-answer g c =
+    (λ t. c.loop-candidate.invariant.same.1 (_, here, c.in-Whole-place_run.ensures.finds), λ h. refl)
+
+pub returns-in-Whole-place_run-clause-at_most : goal.returns-in-Whole-place_run-clause-at_most
+returns-in-Whole-place_run-clause-at_most g c =
+    omega (arith, run_times-le c.args.self.now (g.E.Element.tree.depth (g.E.Element.node c.args.element.now) + 1))
+
+pub returns-in-None-clause-at_most : goal.returns-in-None-clause-at_most
+returns-in-None-clause-at_most g c =
+    omega (arith, run_times-le c.args.self.now (g.E.Element.tree.depth (g.E.Element.node c.args.element.now) + 1))
+
+pub loop-candidate-preserved-in-Some : goal.loop-candidate-preserved-in-Some
+loop-candidate-preserved-in-Some g c =
+    let tree = g.E.Element.tree in
+    let i = c.loop-candidate.invariant in
+    let up = misfit_up tree c.args.self.now (run_end c.args.self.now c.loop-candidate.runs) _ _ (sym c.in-Some.ensures) c.in-Misfit-place_run.ensures.finds in
+    record {
+      some = i.some;
+      within = i.within;
+      same = (λ h. up.0 (i.same.0 h), λ h. i.same.1 (up.1 h));
+      spent = omega (arith, i.spent, c.in-Misfit-place_run.ensures.bounded, falls (longest_run c.args.self.now) _ _ (depth-below tree g.met.E.Element.depth_law _ _ (sym c.in-Some.ensures)));
+      placed = omega (arith, i.placed, c.in-Misfit-place_run.ensures.tested);
+      tested = omega (arith, i.tested, c.in-Misfit-place_run.ensures.tested);
+    }
+
+pub loop-candidate-preserved : goal.loop-candidate-preserved
+loop-candidate-preserved g c =
+    let tree = g.E.Element.tree in
+    let i = c.loop-candidate.invariant in
+    let f = c.in-Rest-place_run.ensures.finds.1 in
+    let up = rest_up tree c.args.self.now (run_end c.args.self.now c.loop-candidate.runs) (run_end c.args.self.now c.in-Rest-place_run.rest) _ _ f in
+    record {
+      some = run_end-some c.args.self.now _ f.some;
+      within = omega (arith, i.within, c.in-Rest-place_run.ensures.finds.0);
+      same = (λ h. up.0 (i.same.0 h), λ h. i.same.1 (up.1 h));
+      spent = omega (arith, i.spent, c.in-Rest-place_run.ensures.bounded, falls (longest_run c.args.self.now) _ _ f.higher);
+      placed = omega (arith, i.placed, c.in-Rest-place_run.ensures.placed);
+      tested = omega (arith, i.tested, c.in-Rest-place_run.ensures.tested);
+    }
+
+pub returns-in-None-clause-answer : goal.returns-in-None-clause-answer
+returns-in-None-clause-answer g c = (
+  λ e. absurd (false≢true e),
+  λ h. absurd (misfit_top g.E.Element.tree c.args.self.now (run_end c.args.self.now c.loop-candidate.runs) _ (sym c.in-None.ensures) c.in-Misfit-place_run.ensures.finds (c.loop-candidate.invariant.same.0 h)),
+)

@@ -1,0 +1,29 @@
+use Rattle.std.proofs.Common.{◌≡◌, ◌+◌, ◌<◌, ◌≤◌}
+use Rattle.std.specs.Option.{option_map_or}
+use Rattle.simplecss_selector.specs.Placements.{Meets}
+use Rattle.simplecss_selector.specs.Runs.{run_end}
+use Rattle.simplecss_selector.specs.Searches.{component_at}
+use Rattle.simplecss_selector.proofs.Greedy.{Tracks}
+use Rattle.simplecss_selector.proofs.Stretches.{AreJoined}
+use Rattle.simplecss_selector.proofs.selector.Selector.place_run.Given as goal
+
+-- the components from `place` on are met, from `lowest` up to `top`
+abbrev pub invariant-loop-place : goal.invariant-loop-place
+invariant-loop-place g l =
+    let tree = g.E.Element.tree in
+    let node = g.E.Element.node in
+    let n = node l.lowest in
+    let u = option_map_or node l.top n in
+    let end = run_end l.self l.runs in
+    record {
+      within_run : l.start ≤ l.place;
+      fewer : l.place < end;
+      tracks : Tracks tree l.self end (l.place + 1) n u;
+      met : Meets tree u (component_at l.self l.place).compound;
+      joined : AreJoined l.self (l.place + 1) end;
+      no_deeper : tree.depth u ≤ tree.depth n;
+      counted : l.tests + l.place ≡ l.initial.tests + l.initial.place;
+    }
+
+abbrev pub decreases-loop-place : goal.decreases-loop-place
+decreases-loop-place g l = l.place

@@ -1,0 +1,23 @@
+-- What an operator and a pseudo-class ask, apart from where their texts stand.
+use Rattle.simplecss_text.specs.Components.{Operator, Class}
+use Rattle.simplecss_text.specs.Components.Operator.{exists, equals, has_word, begins_with}
+use Rattle.simplecss_text.specs.Components.Class.{first_child, link, visited, hover, active, focus, lang}
+use Rattle.simplecss_selector.specs.declared.operator.AttributeOperator.{AttributeOperator}
+use Rattle.simplecss_selector.specs.declared.operator.AttributeOperator.TheVariants.{Exists, Matches, Contains, StartsWith}
+use Rattle.simplecss_selector.specs.declared.operator.PseudoClass.{PseudoClass}
+use Rattle.simplecss_selector.specs.declared.operator.PseudoClass.TheVariants.{FirstChild, Link, Visited, Hover, Active, Focus, Lang}
+
+abbrev pub operator_of : AttributeOperator → Operator
+operator_of Exists = exists
+operator_of (Matches value) = equals value.now
+operator_of (Contains word) = has_word word.now
+operator_of (StartsWith start) = begins_with start.now
+
+abbrev pub class_of : PseudoClass → Class
+class_of FirstChild = first_child
+class_of Link = link
+class_of Visited = visited
+class_of Hover = hover
+class_of Active = active
+class_of Focus = focus
+class_of (Lang language) = lang language.now

@@ -1,0 +1,146 @@
+-- Selectors are equal exactly if their components are.
+use Rattle.std.specs.Prelude.{◌≡◌, ℕ, zero, suc, List, [], ◌∷◌, Bool, true, false, ◌&&◌, Option, Some, None, refl}
+use Rattle.std.proofs.Common.{sym, ap, ◌∙◌, eqb}
+use Rattle.std.specs.Bool.{Decides}
+use Rattle.std.specs.Cmp.{IsPartialEquivalence, partial_equiv_from_equiv, decided}
+use Rattle.std.specs.Cmp.Lexicographic.{pointwise, pointwise_decides, bytes_decides}
+use Rattle.std.specs.Option.{option_eq}
+use Rattle.std.proofs.lemmas.Bool.Decides.{Decides-eqb}
+use Rattle.simplecss_text.specs.Components.{Operator, Class, Subselector, Combinator, Component}
+use Rattle.simplecss_text.specs.Components.Operator.{exists, equals, has_word, begins_with}
+use Rattle.simplecss_text.specs.Components.Class.{first_child, link, visited, hover, active, focus, lang}
+use Rattle.simplecss_text.specs.Components.Subselector.{attribute, pseudo_class}
+use Rattle.simplecss_text.specs.Components.Combinator.{none, descendant, child, adjacent}
+use Rattle.simplecss_selector.specs.Equality.{text_eq, operator_key, class_key, combinator_key, key_eq, operator_eq, class_eq, combinator_eq, subselector_eq, component_eq, selector_eq}
+
+pub and_left : (a b : Bool) → (a && b) ≡ true → a ≡ true
+and_left true b h = refl
+and_left false b h = h
+
+pub and_right : (a b : Bool) → (a && b) ≡ true → b ≡ true
+and_right true b h = h
+and_right false b h = absurd (cc)
+
+pub and_both : (a b : Bool) → a ≡ true → b ≡ true → (a && b) ≡ true
+and_both a b p q = rw (p, q)
+
+-- a test of keys decides equality, where the keys give the values back
+pub decides_by_key : {A K : Type 0} (E : K → K → Bool) → ((k l : K) → Decides (E k l) (k ≡ l)) → (key : A → K) (back : K → A) → ((a : A) → back (key a) ≡ a) → (a b : A) → Decides (E (key a) (key b)) (a ≡ b)
+decides_by_key E decides key back undone a b = (
+  λ h. sym (undone a) ∙ ap back ((decides (key a) (key b)).0 h) ∙ undone b,
+  λ e. (decides (key a) (key b)).1 (ap key e),
+)
+
+key_decides : (a b : ℕ × List ℕ) → Decides (key_eq a b) (a ≡ b)
+key_decides a b =
+    let x = eqb a.0 b.0 in
+    let y = text_eq a.1 b.1 in
+    let n = Decides-eqb a.0 b.0 in
+    let t = bytes_decides a.1 b.1 in (
+      (λ h.
+          let p : a.0 ≡ b.0 = n.0 (and_left x y h) in
+          let q : a.1 ≡ b.1 = t.0 (and_right x y h) in
+          λ i. (p i, q i)),
+      (λ e. and_both x y (n.1 (λ i. (e i).0)) (t.1 (λ i. (e i).1))),
+    )
+
+abbrev operator_back : ℕ × List ℕ → Operator
+operator_back (zero, text) = exists
+operator_back (suc zero, text) = equals text
+operator_back (suc (suc zero), text) = has_word text
+operator_back (suc (suc (suc n)), text) = begins_with text
+
+pub operator_decides : (a b : Operator) → Decides (operator_eq a b) (a ≡ b)
+operator_decides = decides_by_key key_eq key_decides operator_key operator_back undone
+  where
+    undone : (o : Operator) → operator_back (operator_key o) ≡ o
+    undone exists = refl
+    undone (equals text) = refl
+    undone (has_word text) = refl
+    undone (begins_with text) = refl
+
+abbrev class_back : ℕ × List ℕ → Class
+class_back (zero, text) = first_child
+class_back (suc zero, text) = link
+class_back (suc (suc zero), text) = visited
+class_back (suc (suc (suc zero)), text) = hover
+class_back (suc (suc (suc (suc zero))), text) = active
+class_back (suc (suc (suc (suc (suc zero)))), text) = focus
+class_back (suc (suc (suc (suc (suc (suc n))))), text) = lang text
+
+pub class_decides : (a b : Class) → Decides (class_eq a b) (a ≡ b)
+class_decides = decides_by_key key_eq key_decides class_key class_back undone
+  where
+    undone : (c : Class) → class_back (class_key c) ≡ c
+    undone first_child = refl
+    undone link = refl
+    undone visited = refl
+    undone hover = refl
+    undone active = refl
+    undone focus = refl
+    undone (lang text) = refl
+
+abbrev combinator_back : ℕ → Combinator
+combinator_back zero = none
+combinator_back (suc zero) = descendant
+combinator_back (suc (suc zero)) = child
+combinator_back (suc (suc (suc n))) = adjacent
+
+pub combinator_decides : (a b : Combinator) → Decides (combinator_eq a b) (a ≡ b)
+combinator_decides = decides_by_key eqb Decides-eqb combinator_key combinator_back undone
+  where
+    undone : (c : Combinator) → combinator_back (combinator_key c) ≡ c
+    undone none = refl
+    undone descendant = refl
+    undone child = refl
+    undone adjacent = refl
+
+pub subselector_decides : (a b : Subselector) → Decides (subselector_eq a b) (a ≡ b)
+subselector_decides (attribute n o) (attribute m p) =
+    let x = text_eq n m in
+    let y = operator_eq o p in
+    let t = bytes_decides n m in
+    let d = operator_decides o p in (
+      (λ h.
+          let e : n ≡ m = t.0 (and_left x y h) in
+          let f : o ≡ p = d.0 (and_right x y h) in
+          λ i. attribute (e i) (f i)),
+      (λ e.
+          let same_name : n ≡ m = cc in
+          let same_operator : o ≡ p = cc in
+          and_both x y (t.1 same_name) (d.1 same_operator)),
+    )
+subselector_decides (pseudo_class c) (pseudo_class d) = (
+  (λ h. λ i. pseudo_class ((class_decides c d).0 h i)),
+  (λ e. let same : c ≡ d = cc in (class_decides c d).1 same),
+)
+subselector_decides (attribute n o) (pseudo_class d) = ((λ h. absurd (cc)), (λ e. absurd (cc)))
+subselector_decides (pseudo_class c) (attribute n o) = ((λ h. absurd (cc)), (λ e. absurd (cc)))
+
+pub name_decides : (a b : Option (List ℕ)) → Decides (option_eq text_eq a b) (a ≡ b)
+name_decides None None = ((λ h. refl), (λ e. refl))
+name_decides (Some a) (Some b) = ((λ h. λ i. Some ((bytes_decides a b).0 h i)), (λ e. let same : a ≡ b = cc in (bytes_decides a b).1 same))
+name_decides None (Some b) = ((λ h. absurd (cc)), (λ e. absurd (cc)))
+name_decides (Some a) None = ((λ h. absurd (cc)), (λ e. absurd (cc)))
+
+pub component_decides : (a b : Component) → Decides (component_eq a b) (a ≡ b)
+component_decides a b =
+    let x = combinator_eq a.combinator b.combinator in
+    let y = option_eq text_eq a.compound.name b.compound.name in
+    let z = pointwise subselector_eq a.compound.subselectors b.compound.subselectors in
+    let c = combinator_decides a.combinator b.combinator in
+    let n = name_decides a.compound.name b.compound.name in
+    let s = pointwise_decides subselector_decides a.compound.subselectors b.compound.subselectors in (
+      (λ h.
+          let p : a.combinator ≡ b.combinator = c.0 (and_left x (y && z) h) in
+          let q : a.compound.name ≡ b.compound.name = n.0 (and_left y z (and_right x (y && z) h)) in
+          let r : a.compound.subselectors ≡ b.compound.subselectors = s.0 (and_right y z (and_right x (y && z) h)) in
+          λ i. record { combinator = p i; compound = record { name = q i; subselectors = r i } }),
+      (λ e. and_both x (y && z) (c.1 (λ i. (e i).combinator)) (and_both y z (n.1 (λ i. (e i).compound.name)) (s.1 (λ i. (e i).compound.subselectors)))),
+    )
+
+pub selector_decides : (a b : List Component) → Decides (selector_eq a b) (a ≡ b)
+selector_decides = pointwise_decides component_decides
+
+pub selector_per : IsPartialEquivalence selector_eq
+selector_per = partial_equiv_from_equiv (decided selector_eq selector_decides)

@@ -1,0 +1,17 @@
+pub mod Trees
+pub mod Placements
+pub mod Asked
+pub mod Combinators
+pub mod Operators
+pub mod Searches
+pub mod Drafts
+pub mod Runs
+pub mod Seen
+pub mod Equality
+pub mod EqualityLaws
+pub mod Rows
+pub mod Fits
+pub mod Announced
+pub mod Filled
+pub mod Given
+pub mod Tokenizer

@@ -1,0 +1,67 @@
+-- When a selector matches: each component has a node of its own.
+use Rattle.std.specs.Prelude.{◌≡◌, ℕ, ◌+◌, List, [], ◌∷◌, Option, Some, None, All, IsTrue, max, Bool, true, false, if◌then◌else◌}
+use Rattle.simplecss_text.specs.Components.{Component, Compound, Subselector, Combinator}
+use Rattle.simplecss_text.specs.Components.Subselector.{attribute, pseudo_class}
+use Rattle.simplecss_text.specs.Components.Combinator.{none, descendant, child, adjacent}
+use Rattle.simplecss_selector.specs.Trees.{Tree}
+
+-- the first node is the parent of the second, or an ancestor of that parent
+pub data IsAncestor {Node : Type 0} (tree : Tree Node) : Node → Node → Type 0 where
+  is_parent : {m n : Node} → tree.parent n ≡ Some m → IsAncestor tree m n
+  is_further : {m p n : Node} → tree.parent n ≡ Some p → IsAncestor tree m p → IsAncestor tree m n
+
+abbrev pub HasName : {Node : Type 0} → Tree Node → Node → Option (List ℕ) → Type 0
+HasName tree n None = Unit {0}
+HasName tree n (Some name) = IsTrue (tree.is_named n name)
+
+abbrev pub Holds : {Node : Type 0} → Tree Node → Node → Subselector → Type 0
+Holds tree n (attribute name operator) = IsTrue (tree.has_attribute n name operator)
+Holds tree n (pseudo_class class) = IsTrue (tree.is_in_class n class)
+
+-- the node has the type name, if there is one, and every subselector holds of it
+abbrev pub Meets : {Node : Type 0} → Tree Node → Node → Compound → Type 0
+Meets tree n compound = HasName tree n compound.name × All (Holds tree n) compound.subselectors
+
+-- the first node stands to the second as the combinator says
+abbrev pub Relates : {Node : Type 0} → Tree Node → Combinator → Node → Node → Type 0
+Relates tree none m n = ⊥
+Relates tree descendant m n = IsAncestor tree m n
+Relates tree child m n = tree.parent n ≡ Some m
+Relates tree adjacent m n = tree.previous_sibling n ≡ Some m
+
+-- the nodes that go on from one node: each meets its component and is related to the node before it, and the last is `end`
+abbrev pub GoesOn : {Node : Type 0} → Tree Node → Node → List Component → List Node → Node → Type 0
+GoesOn tree before [] [] end = before ≡ end
+GoesOn tree before [] (n ∷ ns) end = ⊥
+GoesOn tree before (c ∷ cs) [] end = ⊥
+GoesOn tree before (c ∷ cs) (n ∷ ns) end =
+    Relates tree c.combinator before n × Meets tree n c.compound × GoesOn tree n cs ns end
+
+-- one node for each component, each meeting it and related to the node before it, the last being `end`
+abbrev pub IsPlacement : {Node : Type 0} → Tree Node → List Component → List Node → Node → Type 0
+IsPlacement tree [] nodes end = ⊥
+IsPlacement tree (c ∷ cs) [] end = ⊥
+IsPlacement tree (c ∷ cs) (n ∷ ns) end = Meets tree n c.compound × GoesOn tree n cs ns end
+
+abbrev pub HasPlacement : {Node : Type 0} → Tree Node → List Component → Node → Type 0
+HasPlacement {Node} tree components end = (nodes : List Node) × IsPlacement tree components nodes end
+
+abbrev pub is_step : Combinator → Bool
+is_step none = false
+is_step descendant = false
+is_step child = true
+is_step adjacent = true
+
+-- whether a child or an adjacent step joins a component to the one before it
+abbrev pub is_joined : Component → Bool
+is_joined c = is_step c.combinator
+
+-- how many components at the front are each joined to the one before
+abbrev pub joined_length : List Component → ℕ
+joined_length [] = 0
+joined_length (c ∷ cs) = if is_joined c then joined_length cs + 1 else 0
+
+-- the number of components in the longest stretch that child and adjacent steps alone join
+abbrev pub longest_run : List Component → ℕ
+longest_run [] = 0
+longest_run (c ∷ cs) = max (joined_length cs + 1) (longest_run cs)

@@ -1,0 +1,37 @@
+ghost use Rattle.std.specs.Prelude.{◌≡◌, ◌↔◌, List, IsTrue, IfOk};
+ghost use Rattle.simplecss_text.specs.Components.{Component};
+
+use crate::selector::Selector;
+use std::alloc::AllocError;
+
+impl<'a> PartialEq for Selector<'a> {
+    ghost use Rattle.simplecss_selector.specs.Equality.{selector_eq};
+    ghost use Rattle.simplecss_selector.specs.EqualityLaws.{selector_per};
+
+    ghost eq = { selector_eq };
+
+    ghost laws = { selector_per };
+
+    fn eq(&self, other: &Self) -> bool {
+        self.parts.as_slice() == other.parts.as_slice()
+            && self.subselectors.as_slice() == other.subselectors.as_slice()
+    }
+}
+
+/// Selectors are equal exactly if their components are.
+pub fn equality_law()
+    ensures { (a b : List Component) → IsTrue (⟦<Selector<'static> as PartialEq>⟧.eq a b) ↔ (a ≡ b) }
+{}
+
+impl<'a> Selector<'a> {
+    /// An equal selector, in memory of the same allocator.
+    pub fn clone(&self) -> Result<Self, AllocError>
+        ensures { IfOk result (λ copy. copy ≡ self.now) }
+    {
+        Ok(Selector {
+            parts: Vec::from_slice(*self.parts.allocator(), &self.parts)?,
+            subselectors: Vec::from_slice(*self.subselectors.allocator(), &self.subselectors)?,
+            runs: Vec::from_slice(*self.runs.allocator(), &self.runs)?,
+        })
+    }
+}

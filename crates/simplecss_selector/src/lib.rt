@@ -1,0 +1,28 @@
+//! Selectors of CSS 2.1: their tokens, their text and specificity, and the elements that they match.
+#![tactic(auto)]
+
+mod counter;
+mod draft;
+mod element;
+mod equality;
+mod matching;
+mod operator;
+mod printing;
+mod reading;
+mod selector;
+mod specificity;
+mod token;
+mod tokenizer;
+
+pub use counter::Tests;
+pub use element::Element;
+pub use operator::{AttributeOperator, PseudoClass};
+pub use reading::parse_front;
+pub use selector::Selector;
+pub use token::SelectorToken;
+pub use tokenizer::{SelectorTokenizer, at_most_two_errors};
+
+#[cfg(test)]
+mod row;
+#[cfg(test)]
+mod tests;

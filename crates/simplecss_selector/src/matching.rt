@@ -1,0 +1,137 @@
+ghost use Rattle.std.specs.Prelude.{◌≡◌, ◌+◌, ◌*◌, ◌<◌, ◌≤◌, ◌↔◌, IsTrue, length};
+ghost use Rattle.std.specs.Option.{option_map};
+ghost use Rattle.simplecss_selector.specs.Combinators.{combinator_of};
+ghost use Rattle.simplecss_selector.specs.Placements.{Meets, HasPlacement, longest_run};
+ghost use Rattle.simplecss_selector.specs.Runs.{run_ends};
+ghost use Rattle.simplecss_selector.specs.Searches.{component_at, step_from as node_before};
+
+use crate::selector::{Combinator, Selector};
+use crate::{Element, Tests};
+
+// What trying a run of child and adjacent steps at one node has found.
+#[derive(Drop)]
+enum Fit<E> {
+    // A component is not met, or has no node.
+    Misfit,
+    // All are met, and nothing is above them for the components that are left.
+    Alone,
+    // All are met, and no component is left.
+    Whole,
+    // All are met, and the first so many runs are left, to be placed at or above the node.
+    Rest(usize, E),
+}
+
+// The node to which a child or adjacent step leads back.
+#[inline(always)]
+fn step_from<E: Element>(combinator: Combinator, node: &E) -> Option<E>
+    ensures { option_map E.node result
+        ≡ node_before E.tree (combinator_of combinator) (E.node node.now) }
+{
+    match combinator {
+        Combinator::Child => node.parent_element(),
+        Combinator::Adjacent => node.prev_sibling_element(),
+        Combinator::None | Combinator::Descendant => None,
+    }
+}
+
+impl<'a> Selector<'a> {
+    ghost use Rattle.simplecss_selector.specs.Fits.{Finds, TestsPlaced};
+
+    // Whether the element meets the component at this place. This is one test.
+    #[inline(always)]
+    fn is_met_at<E: Element>(&self, place: usize, element: &E, tests: &mut Tests) -> bool
+        requires { place < length self.now }
+        ensures answer { IsTrue result
+            ↔ Meets E.tree (E.node element.now) (component_at self.now place).compound }
+        ensures counted { tests.new ≡ tests.old + 1 }
+    {
+        tests.tick();
+        let (part, subselectors) = self.component(place);
+        if let Some(name) = part.name
+            && !element.has_local_name(name)
+        {
+            return false;
+        }
+        for subselector in subselectors {
+            if !subselector.holds(element) {
+                return false;
+            }
+        }
+        true
+    }
+
+    // Tries the last of the first `runs` runs with its last component on `lowest`.
+    #[inline(always)]
+    fn place_run<E: Element>(&self, runs: usize, lowest: &E, tests: &mut Tests) -> Fit<E>
+        requires some { 0 < runs }
+        requires within { runs ≤ length (run_ends self.now) }
+        ensures finds { Finds E.tree E.node self.now runs (E.node lowest.now) result }
+        ensures placed { TestsPlaced self.now runs tests.old tests.new result }
+        ensures tested { tests.old < tests.new }
+        ensures bounded { tests.new ≤ tests.old + longest_run self.now }
+    {
+        let start = self.run_end(runs - 1);
+        let mut place = self.run_end(runs) - 1;
+        if !self.is_met_at(place, lowest, tests) {
+            return Fit::Misfit;
+        }
+        let mut top: Option<E> = None;
+        while place > start {
+            let node = top.as_ref().unwrap_or(lowest);
+            let Some(before) = step_from(self.combinator(place), node) else {
+                return Fit::Misfit;
+            };
+            place -= 1;
+            if !self.is_met_at(place, &before, tests) {
+                return Fit::Misfit;
+            }
+            top = Some(before);
+        }
+        if start == 0 {
+            return Fit::Whole;
+        }
+        let node = top.as_ref().unwrap_or(lowest);
+        match node.parent_element() {
+            Some(above) => Fit::Rest(runs - 1, above),
+            None => Fit::Alone,
+        }
+    }
+
+    /// Whether the selector matches the element, with a count of the tests that were made.
+    pub fn matches_counted<E: Element>(&self, element: &E, tests: &mut Tests) -> bool
+        ensures answer { IsTrue result ↔ HasPlacement E.tree self.now (E.node element.now) }
+        ensures at_least_one { tests.old < tests.new }
+        ensures all_when_true { IsTrue result → tests.old + length self.now ≤ tests.new }
+        ensures at_most { tests.new
+            ≤ tests.old + length self.now * (E.tree.depth (E.node element.now) + 1) }
+        ensures at_most_by_runs { tests.new
+            ≤ tests.old + longest_run self.now * (E.tree.depth (E.node element.now) + 1) }
+    {
+        let (mut runs, mut candidate) = match self.place_run(self.run_count(), element, tests) {
+            Fit::Misfit | Fit::Alone => return false,
+            Fit::Whole => return true,
+            Fit::Rest(rest, above) => (rest, above),
+        };
+        loop {
+            match self.place_run(runs, &candidate, tests) {
+                Fit::Alone => return false,
+                Fit::Whole => return true,
+                Fit::Misfit => match candidate.parent_element() {
+                    None => return false,
+                    Some(parent) => candidate = parent,
+                },
+                Fit::Rest(rest, above) => {
+                    runs = rest;
+                    candidate = above;
+                }
+            }
+        }
+    }
+
+    /// Whether the selector matches the element.
+    pub fn matches<E: Element>(&self, element: &E) -> bool
+        ensures { IsTrue result ↔ HasPlacement E.tree self.now (E.node element.now) }
+    {
+        self.matches_counted(element, &mut Tests::new())
+    }
+}

@@ -1,0 +1,71 @@
+ghost use Rattle.std.specs.Prelude.{◌≢◌, ◌↔◌, All, IsTrue};
+ghost use Rattle.simplecss_selector.specs.Operators.{StandsIn};
+
+/// What an attribute's value is asked.
+#[derive(Clone, Copy, Debug, PartialEq)]
+pub enum AttributeOperator<'a> {
+    /// `[name]`: any value will do.
+    Exists,
+    /// `[name=text]`: the value is the text.
+    Matches(&'a str),
+    /// `[name~=word]`: the word is one of those that single spaces part the value into.
+    Contains(&'a str),
+    /// `[name|=text]`: the value is the text, or goes on after it with a hyphen.
+    StartsWith(&'a str),
+}
+
+impl<'a> AttributeOperator<'a> {
+    ghost use Rattle.std.specs.Prelude.{◌↔◌, IsTrue};
+    ghost use Rattle.simplecss_selector.specs.Asked.{operator_of};
+    ghost use Rattle.simplecss_selector.specs.Operators.{IsAsAsked};
+
+    /// Whether the value of an attribute is as the operator asks.
+    ///
+    /// Words are parted by the space 0x20 alone, and an empty word stands between two spaces, before a leading one, behind a last one and in the empty value.
+    pub fn matches(&self, value: &str) -> bool
+        ensures { IsTrue result ↔ IsAsAsked (operator_of self.now) value.now }
+    {
+        match *self {
+            AttributeOperator::Exists => true,
+            AttributeOperator::Matches(text) => value == text,
+            AttributeOperator::Contains(word) => has_word(value, word),
+            AttributeOperator::StartsWith(start) => match value.strip_prefix(start) {
+                Some(rest) => rest.is_empty() || rest.starts_with('-'),
+                None => false,
+            },
+        }
+    }
+}
+
+// Whether the word is one of those that single spaces part.
+fn has_word(value: &str, word: &str) -> bool
+    ensures { IsTrue result ↔ (All (λ b. b ≢ 32) word.now × StandsIn word.now value.now) }
+{
+    let mut rest = value;
+    while let Some((first, more)) = rest.split_once(' ') {
+        if first == word {
+            return true;
+        }
+        rest = more;
+    }
+    rest == word
+}
+
+/// A pseudo-class that a selector may ask of an element.
+#[derive(Clone, Copy, Debug, PartialEq)]
+pub enum PseudoClass<'a> {
+    /// `:first-child`
+    FirstChild,
+    /// `:link`
+    Link,
+    /// `:visited`
+    Visited,
+    /// `:hover`
+    Hover,
+    /// `:active`
+    Active,
+    /// `:focus`
+    Focus,
+    /// `:lang(language)`
+    Lang(&'a str),
+}

@@ -1,0 +1,150 @@
+ghost use Rattle.std.specs.Prelude.{◌≡◌, ◌++◌, map};
+ghost use Rattle.std.specs.Fmt.{WritesStyledOnOk};
+ghost use Rattle.std.specs.List.{flat_map};
+ghost use Rattle.std.specs.Option.{option_map};
+ghost use Rattle.simplecss_text.specs.Printing.{class_text, operator_text, subselector_text, combinator_text, type_text, component_text};
+ghost use Rattle.simplecss_selector.specs.Asked.{operator_of, class_of};
+ghost use Rattle.simplecss_selector.specs.Combinators.{combinator_of};
+ghost use Rattle.simplecss_selector.specs.Seen.{subselector_of, component_of_part};
+
+use crate::selector::{Combinator, Part, Selector, SubSelector};
+use crate::{AttributeOperator, PseudoClass};
+use std::fmt;
+
+impl<'a> fmt::Display for PseudoClass<'a> {
+    ghost use Rattle.std.specs.Prelude.{Some};
+    ghost use Rattle.simplecss_text.specs.Printing.{class_text};
+    ghost use Rattle.simplecss_selector.specs.Asked.{class_of};
+
+    ghost output = { λ c. Some (class_text (class_of c)) };
+
+    ghost styled_output = { λ c _. Some (class_text (class_of c)) };
+
+    #[tactic(auto, using(crate::proofs::Styled::plain_of_styled))]
+    fn fmt<W: fmt::Write>(&self, f: &mut fmt::Formatter<W>) -> fmt::Result {
+        write_class(f, *self)
+    }
+}
+
+impl<'a> fmt::Display for Selector<'a> {
+    ghost use Rattle.std.specs.Prelude.{Some};
+    ghost use Rattle.simplecss_text.specs.Printing.{selector_text};
+
+    ghost output = { λ s. Some (selector_text s) };
+
+    ghost styled_output = { λ s _. Some (selector_text s) };
+
+    #[tactic(auto, using(crate::proofs::Styled::plain_of_styled))]
+    fn fmt<W: fmt::Write>(&self, f: &mut fmt::Formatter<W>) -> fmt::Result {
+        for place in 0..self.len() {
+            let (part, subselectors) = self.component(place);
+            write_component(f, part, subselectors)?;
+        }
+        Ok(())
+    }
+}
+
+#[tactic(auto, using(crate::proofs::Styled::styled_three))]
+fn write_component<W: fmt::Write>(
+    f: &mut fmt::Formatter<W>,
+    part: Part,
+    subselectors: &[SubSelector],
+) -> fmt::Result
+    ensures { WritesStyledOnOk W.write_str_gives f.old result (component_text (component_of_part part.entry subselectors.now)) f.new }
+{
+    f.write_str(before(part.combinator))?;
+    f.write_str(name_or_star(part.name))?;
+    write_subselectors(f, subselectors)
+}
+
+// What stands before a component.
+fn before(combinator: Combinator) -> &'static str
+    ensures { result.now ≡ combinator_text (combinator_of combinator) }
+{
+    match combinator {
+        Combinator::None => "",
+        Combinator::Descendant => " ",
+        Combinator::Child => " > ",
+        Combinator::Adjacent => " + ",
+    }
+}
+
+// The type name, or a star.
+fn name_or_star(name: Option<&str>) -> &str
+    ensures { result.now ≡ type_text (option_map (λ n. n.now) name.entry) }
+{
+    match name {
+        Some(name) => name,
+        None => "*",
+    }
+}
+
+fn write_subselectors<W: fmt::Write>(
+    f: &mut fmt::Formatter<W>,
+    subselectors: &[SubSelector],
+) -> fmt::Result
+    ensures { WritesStyledOnOk W.write_str_gives f.old result (flat_map subselector_text (map subselector_of subselectors.now)) f.new }
+{
+    for subselector in subselectors {
+        write_subselector(f, *subselector)?;
+    }
+    Ok(())
+}
+
+#[tactic(auto, using(crate::proofs::Styled::styled_two, crate::proofs::Styled::styled_four))]
+fn write_subselector<W: fmt::Write>(
+    f: &mut fmt::Formatter<W>,
+    subselector: SubSelector,
+) -> fmt::Result
+    ensures { WritesStyledOnOk W.write_str_gives f.old result (subselector_text (subselector_of subselector.entry)) f.new }
+{
+    match subselector {
+        SubSelector::Attribute(name, operator) => {
+            f.write_str("[")?;
+            f.write_str(name)?;
+            write_operator(f, operator)?;
+            f.write_str("]")
+        }
+        SubSelector::PseudoClass(class) => {
+            f.write_str(":")?;
+            write_class(f, class)
+        }
+    }
+}
+
+fn write_operator<W: fmt::Write>(
+    f: &mut fmt::Formatter<W>,
+    operator: AttributeOperator,
+) -> fmt::Result
+    ensures { WritesStyledOnOk W.write_str_gives f.old result (operator_text (operator_of operator.entry)) f.new }
+{
+    match operator {
+        AttributeOperator::Exists => Ok(()),
+        AttributeOperator::Matches(text) => write_three(f, "='", text, "'"),
+        AttributeOperator::Contains(word) => write_three(f, "~='", word, "'"),
+        AttributeOperator::StartsWith(start) => write_three(f, "|='", start, "'"),
+    }
+}
+
+fn write_class<W: fmt::Write>(f: &mut fmt::Formatter<W>, class: PseudoClass) -> fmt::Result
+    ensures { WritesStyledOnOk W.write_str_gives f.old result (class_text (class_of class.entry)) f.new }
+{
+    match class {
+        PseudoClass::FirstChild => f.write_str("first-child"),
+        PseudoClass::Link => f.write_str("link"),
+        PseudoClass::Visited => f.write_str("visited"),
+        PseudoClass::Hover => f.write_str("hover"),
+        PseudoClass::Active => f.write_str("active"),
+        PseudoClass::Focus => f.write_str("focus"),
+        PseudoClass::Lang(language) => write_three(f, "lang(", language, ")"),
+    }
+}
+
+#[tactic(auto, using(crate::proofs::Styled::styled_three))]
+fn write_three<W: fmt::Write>(f: &mut fmt::Formatter<W>, a: &str, b: &str, c: &str) -> fmt::Result
+    ensures { WritesStyledOnOk W.write_str_gives f.old result (a.now ++ b.now ++ c.now) f.new }
+{
+    f.write_str(a)?;
+    f.write_str(b)?;
+    f.write_str(c)
+}

@@ -1,0 +1,408 @@
+//! The tokenizer of selectors.
+ghost use Rattle.std.specs.Prelude.{◌≡◌, ◌<◌, ◌≤◌, ℕ, List, true, false, Some};
+ghost use Rattle.simplecss_text.specs.Reading.{got};
+ghost use Rattle.simplecss_text.specs.Bytes.{all_before, past_one, starts};
+ghost use Rattle.simplecss_text.specs.Errors.{Gives, position_of};
+ghost use Rattle.simplecss_text.specs.Cursor.{text_of, rest_of};
+ghost use Rattle.simplecss_text.specs.ThisEdition.{this_edition};
+ghost use Rattle.simplecss_text.specs.Pieces.{attribute_after as attribute_read, attribute_operator as operator_read, lang_after as language_read, pseudo_class_after as pseudo_class_read, begun as begun_read};
+ghost use Rattle.simplecss_text.specs.TokenRuns.{fault_count, run_of};
+ghost use Rattle.simplecss_selector.specs.Asked.{operator_of};
+ghost use Rattle.simplecss_selector.specs.Given.{token_of};
+ghost use Rattle.simplecss_selector.specs.Announced.{announced, IsSimple, state_after_fault};
+
+use simplecss_text::stream::Stream;
+use simplecss_text::{Error, readers, scan};
+use crate::{AttributeOperator, SelectorToken};
+use std::iter::FusedIterator;
+
+/// What the byte behind a gap announces.
+#[derive(Clone, Copy)]
+enum Follows {
+    /// The end of the text, `,` or `{`.
+    Stop,
+    /// A `/`. It opens no comment, since a gap stands before it.
+    Slash,
+    Child,
+    Adjacent,
+    Universal,
+    Id,
+    Class,
+    Attribute,
+    /// The `:` of a pseudo-class.
+    Colon,
+    /// Any other byte: where a piece stands, a type.
+    Other,
+}
+
+/// Where a tokenizer is.
+#[derive(Clone, Copy)]
+enum State {
+    /// At the start of the text, or behind a combinator.
+    Open,
+    /// Behind a simple selector.
+    Closed,
+    /// Behind a first error: that a selector is missing is still to be told.
+    Missing,
+    Ended,
+}
+
+/// The tokens of a selector's text, in order, up to the first error.
+///
+/// They end where the text ends, or before `,` or `{`, or before a `/` that opens no comment and stands directly behind
+/// a simple selector. Behind an error at most one more comes, that a selector is missing. No memory is taken.
+#[derive(Drop)]
+pub struct SelectorTokenizer<'a> {
+    stream: Stream<'a>,
+    state: State,
+}
+
+#[inline(always)]
+#[tactic(auto, unfolding(crate::specs::Announced::announced))]
+fn what_follows(stream: &Stream<'_>) -> Follows
+    ensures { result ≡ announced (rest_of stream.now) }
+{
+    match readers::peek(stream) {
+        None | Some(b',' | b'{') => Follows::Stop,
+        Some(b'/') => Follows::Slash,
+        Some(b'>') => Follows::Child,
+        Some(b'+') => Follows::Adjacent,
+        Some(b'*') => Follows::Universal,
+        Some(b'#') => Follows::Id,
+        Some(b'.') => Follows::Class,
+        Some(b'[') => Follows::Attribute,
+        Some(b':') => Follows::Colon,
+        Some(_) => Follows::Other,
+    }
+}
+
+/// What is asked of an attribute, behind its name.
+#[inline(always)]
+#[tactic(auto, unfolding(simplecss_text::specs::Pieces::attribute_operator))]
+fn attribute_operator<'a>(stream: &mut Stream<'a>) -> Result<AttributeOperator<'a>, Error>
+    ensures text { text_of stream.new ≡ text_of stream.old }
+    ensures reads { Gives operator_of (text_of stream.old) (operator_read this_edition (rest_of stream.old)) result (rest_of stream.new) }
+{
+    match stream.curr_byte()? {
+        b']' => Ok(AttributeOperator::Exists),
+        b'=' => {
+            stream.consume_byte(b'=')?;
+            Ok(AttributeOperator::Matches(stream.consume_string()?))
+        }
+        b'~' => {
+            stream.try_consume_byte(b'~');
+            stream.consume_byte(b'=')?;
+            Ok(AttributeOperator::Contains(stream.consume_string()?))
+        }
+        b'|' => {
+            stream.try_consume_byte(b'|');
+            stream.consume_byte(b'=')?;
+            Ok(AttributeOperator::StartsWith(stream.consume_string()?))
+        }
+        _ => Err(Error::InvalidAttributeSelector),
+    }
+}
+
+/// An attribute, behind its `[`.
+#[inline(always)]
+#[tactic(auto, unfolding(simplecss_text::specs::Pieces::attribute_after))]
+fn attribute<'a>(stream: &mut Stream<'a>) -> Result<SelectorToken<'a>, Error>
+    ensures text { text_of stream.new ≡ text_of stream.old }
+    ensures reads { Gives token_of (text_of stream.old) (attribute_read this_edition (rest_of stream.old)) result (rest_of stream.new) }
+{
+    let name = stream.consume_ident()?;
+    let operator = attribute_operator(stream)?;
+    stream.consume_byte(b']')?;
+    Ok(SelectorToken::AttributeSelector(name, operator))
+}
+
+/// The language of a `:lang`, behind that name.
+#[inline(always)]
+#[tactic(auto, unfolding(simplecss_text::specs::Pieces::lang_after))]
+fn language<'a>(stream: &mut Stream<'a>) -> Result<SelectorToken<'a>, Error>
+    ensures text { text_of stream.new ≡ text_of stream.old }
+    ensures reads { Gives token_of (text_of stream.old) (language_read (rest_of stream.old)) result (rest_of stream.new) }
+{
+    stream.consume_byte(b'(')?;
+    let language = text_before(stream, b')').trim();
+    stream.consume_byte(b')')?;
+    if language.is_empty() {
+        return Err(Error::InvalidLanguagePseudoClass);
+    }
+    Ok(SelectorToken::LangPseudoClass(language))
+}
+
+/// A pseudo-class, behind its `:`.
+#[inline(always)]
+#[tactic(auto, unfolding(simplecss_text::specs::Pieces::pseudo_class_after))]
+fn pseudo_class<'a>(stream: &mut Stream<'a>) -> Result<SelectorToken<'a>, Error>
+    ensures text { text_of stream.new ≡ text_of stream.old }
+    ensures reads { Gives token_of (text_of stream.old) (pseudo_class_read this_edition (rest_of stream.old)) result (rest_of stream.new) }
+{
+    let name = stream.consume_ident()?;
+    if name == "lang" {
+        return language(stream);
+    }
+    Ok(SelectorToken::PseudoClass(name))
+}
+
+/// Passes all up to the first such byte, or up to the end of the text, and gives it.
+#[inline(always)]
+fn text_before<'a>(stream: &mut Stream<'a>, byte: u8) -> &'a str
+    requires { byte < 128 }
+    ensures text { text_of stream.new ≡ text_of stream.old }
+    ensures reads { all_before byte (rest_of stream.old) ≡ got result.now (rest_of stream.new) }
+{
+    let text = stream.slice_tail();
+    let len = match scan::find_byte(text, byte) {
+        Some(len) => len,
+        None => text.len(),
+    };
+    stream.advance(len);
+    &text[..len]
+}
+
+/// A solid piece, which the byte has announced. At a stop and at a `/` it is read as a type, and fails.
+#[inline(always)]
+#[tactic(auto, unfolding(simplecss_text::specs::Pieces::begun, simplecss_text::specs::Pieces::named, crate::specs::Announced::announced))]
+fn solid_piece<'a>(stream: &mut Stream<'a>, follows: Follows) -> Result<SelectorToken<'a>, Error>
+    requires { announced (rest_of stream.old) ≡ follows }
+    ensures text { text_of stream.new ≡ text_of stream.old }
+    ensures reads { Gives token_of (text_of stream.old) (begun_read this_edition (rest_of stream.old)) result (rest_of stream.new) }
+{
+    match follows {
+        Follows::Child => {
+            stream.try_consume_byte(b'>');
+            Ok(SelectorToken::ChildCombinator)
+        }
+        Follows::Adjacent => {
+            stream.try_consume_byte(b'+');
+            Ok(SelectorToken::AdjacentCombinator)
+        }
+        Follows::Universal => {
+            stream.try_consume_byte(b'*');
+            Ok(SelectorToken::UniversalSelector)
+        }
+        Follows::Id => {
+            stream.try_consume_byte(b'#');
+            Ok(SelectorToken::IdSelector(stream.consume_ident()?))
+        }
+        Follows::Class => {
+            stream.try_consume_byte(b'.');
+            Ok(SelectorToken::ClassSelector(stream.consume_ident()?))
+        }
+        Follows::Attribute => {
+            stream.try_consume_byte(b'[');
+            attribute(stream)
+        }
+        Follows::Colon => {
+            stream.try_consume_byte(b':');
+            pseudo_class(stream)
+        }
+        Follows::Stop | Follows::Slash | Follows::Other => {
+            Ok(SelectorToken::TypeSelector(stream.consume_ident()?))
+        }
+    }
+}
+
+impl<'a> From<&'a str> for SelectorTokenizer<'a> {
+    ghost use Rattle.std.specs.Prelude.{◌≡◌};
+    ghost use Rattle.simplecss_text.specs.ThisEdition.{this_edition};
+    ghost use Rattle.simplecss_text.specs.TokenRuns.{run_of};
+    ghost use Rattle.simplecss_selector.specs.Tokenizer.{source, left_of, still_to_come};
+
+    ghost from_gives = { λ text t. (source t ≡ text.now) × (left_of t ≡ text.now) × (still_to_come t ≡ run_of this_edition text.now) };
+
+    /// The tokens of the selector that the text begins with.
+    fn from(text: &'a str) -> SelectorTokenizer<'a> {
+        SelectorTokenizer {
+            stream: Stream::from(text),
+            state: State::Open,
+        }
+    }
+}
+
+impl<'a> SelectorTokenizer<'a> {
+    ghost use Rattle.simplecss_text.specs.Reading.{got as gives_value};
+    ghost use Rattle.std.specs.Prelude.{drop};
+    ghost use Rattle.std.specs.Str.{IsCharBoundary};
+    ghost use Rattle.simplecss_text.specs.Comments.{gap};
+    ghost use Rattle.simplecss_selector.specs.Tokenizer.{source, left_of, run_in, still_to_come, GivesFirst};
+
+    /// The place up to which the text was read, in bytes from its start.
+    #[inline(always)]
+    pub(crate) fn pos(&self) -> usize
+        ensures rest { drop result (source self.now) ≡ left_of self.now }
+        ensures boundary { IsCharBoundary (source self.now) result }
+    {
+        self.stream.pos()
+    }
+
+    /// What comes at the start of the text or behind a combinator: a token of a simple selector, or an error.
+    #[inline(always)]
+    fn next_open(&mut self) -> Result<SelectorToken<'a>, Error>
+        ensures source { source self.new ≡ source self.old }
+        ensures first { GivesFirst (source self.old) (run_in State.Open (left_of self.old)) (Some result) (left_of self.new) (still_to_come self.new) }
+    {
+        if let Err(error) = readers::consume_gap(&mut self.stream) {
+            self.state = State::Missing;
+            return Err(error);
+        }
+        let follows = what_follows(&self.stream);
+        match follows {
+            Follows::Stop | Follows::Slash => {
+                self.state = State::Ended;
+                Err(Error::SelectorMissing)
+            }
+            Follows::Child | Follows::Adjacent => {
+                self.state = State::Ended;
+                Err(Error::UnexpectedCombinator)
+            }
+            _ => match solid_piece(&mut self.stream, follows) {
+                Ok(token) => {
+                    self.state = State::Closed;
+                    Ok(token)
+                }
+                Err(error) => {
+                    self.state = after_fault(follows);
+                    Err(error)
+                }
+            },
+        }
+    }
+
+    /// What comes behind a simple selector.
+    #[inline(always)]
+    fn next_closed(&mut self) -> Option<Result<SelectorToken<'a>, Error>>
+        requires { self.old.state ≡ State.Closed }
+        ensures source { source self.new ≡ source self.old }
+        ensures first { GivesFirst (source self.old) (run_in State.Closed (left_of self.old)) result (left_of self.new) (still_to_come self.new) }
+    {
+        let spaced = match readers::consume_gap(&mut self.stream) {
+            Ok(spaced) => spaced,
+            Err(error) => {
+                self.state = State::Ended;
+                return Some(Err(error));
+            }
+        };
+        let follows = what_follows(&self.stream);
+        match follows {
+            Follows::Stop => {
+                self.state = State::Ended;
+                None
+            }
+            Follows::Slash if spaced => {
+                self.state = State::Ended;
+                Some(Err(slash_error(&mut self.stream)))
+            }
+            Follows::Slash => {
+                self.state = State::Ended;
+                None
+            }
+            Follows::Child | Follows::Adjacent => {
+                self.state = State::Open;
+                Some(solid_piece(&mut self.stream, follows))
+            }
+            _ if spaced => {
+                self.state = State::Open;
+                Some(Ok(SelectorToken::DescendantCombinator))
+            }
+            _ => Some(self.next_joined(follows)),
+        }
+    }
+
+    /// What comes directly behind a simple selector: a subselector goes on the compound, and another head is refused.
+    #[inline(always)]
+    fn next_joined(&mut self, follows: Follows) -> Result<SelectorToken<'a>, Error>
+        requires state { self.old.state ≡ State.Closed }
+        requires here { announced (left_of self.old) ≡ follows }
+        requires simple { IsSimple follows }
+        ensures source { source self.new ≡ source self.old }
+        ensures first { (text : List ℕ) → gap text ≡ gives_value false (left_of self.old)
+            → GivesFirst (source self.old) (run_in State.Closed text) (Some result) (left_of self.new) (still_to_come self.new) }
+    {
+        if let Follows::Universal = follows {
+            self.state = State::Ended;
+            return Err(Error::UnexpectedSelector);
+        }
+        match solid_piece(&mut self.stream, follows) {
+            Ok(token) => match follows {
+                Follows::Other => {
+                    self.state = State::Ended;
+                    Err(Error::UnexpectedSelector)
+                }
+                _ => Ok(token),
+            },
+            Err(error) => {
+                self.state = State::Ended;
+                Err(error)
+            }
+        }
+    }
+}
+
+/// Where a tokenizer is behind a fault in place of a simple selector: where no head begins, that one is missing is
+/// still to be told.
+#[inline(always)]
+fn after_fault(follows: Follows) -> State
+    ensures { result ≡ state_after_fault follows }
+{
+    match follows {
+        Follows::Other => State::Missing,
+        _ => State::Ended,
+    }
+}
+
+/// Passes a `/` that opens no comment, and tells it as an error.
+fn slash_error(stream: &mut Stream<'_>) -> Error
+    requires { starts 47 (rest_of stream.old) ≡ true }
+    ensures text { text_of stream.new ≡ text_of stream.old }
+    ensures rest { rest_of stream.new ≡ past_one (rest_of stream.old) }
+    ensures error { result ≡ Error.InvalidComment (position_of (text_of stream.old) (rest_of stream.old)) }
+{
+    let pos = stream.gen_text_pos();
+    stream.try_consume_byte(b'/');
+    Error::InvalidComment(pos)
+}
+
+impl<'a> Iterator for SelectorTokenizer<'a> {
+    ghost use Rattle.std.specs.Prelude.{◌≡◌, ⊤};
+    ghost use Rattle.std.specs.Iterator.{YieldsFirstBy, item_count, MakesProgress};
+    ghost use Rattle.simplecss_text.specs.Slices.{StandBetween};
+    ghost use Rattle.simplecss_selector.specs.Given.{item_seen, given_texts};
+    ghost use Rattle.simplecss_selector.specs.Tokenizer.{source, left_of, still_to_come, items_left, GivesFirst};
+
+    type Item = Result<SelectorToken<'a>, Error>;
+
+    ghost next_gives = { YieldsFirstBy item_seen items_left };
+
+    ghost remaining = { item_count items_left };
+
+    /// The next token or error. Names and values are slices of the text, each behind the one before.
+    #[inline(always)]
+    fn next(&mut self) -> Option<Result<SelectorToken<'a>, Error>>
+        ensures steps { YieldsFirstBy item_seen items_left self.old result self.new }
+        ensures goes { MakesProgress (λ _. ⊤) (item_count items_left) self.old result self.new }
+        ensures source { source self.new ≡ source self.old }
+        ensures first { GivesFirst (source self.old) (still_to_come self.old) result (left_of self.new) (still_to_come self.new) }
+        ensures slices { StandBetween (left_of self.old) (left_of self.new) (given_texts result) }
+    {
+        match self.state {
+            State::Open => Some(self.next_open()),
+            State::Closed => self.next_closed(),
+            State::Missing => {
+                self.state = State::Ended;
+                Some(Err(Error::SelectorMissing))
+            }
+            State::Ended => None,
+        }
+    }
+}
+
+impl<'a> FusedIterator for SelectorTokenizer<'a> {}
+
+/// A law: what a tokenizer gives on any text has at most two errors.
+pub fn at_most_two_errors()
+    ensures { (text : List ℕ) → fault_count (run_of this_edition text) ≤ 2 }
+{
+}

@@ -1,0 +1,84 @@
+-- A worked text that is cut, computed.
+use Rattle.std.proofs.Common.{ap, drop, sym, take, ◌++◌, ◌∙◌, Some, false, arith, suc, zero}
+use Rattle.std.specs.List.{Contains}
+use Rattle.std.specs.Prelude.{◌≡◌, refl, ℕ, List, [], ◌∷◌, codes}
+use Rattle.std.specs.Str.{trim_start, trim_end, chars}
+use lib.Utf8.{encode}
+use Rattle.simplecss_text.specs.Reading.{each}
+use Rattle.simplecss_text.specs.Characters.{first_edition, second_edition}
+use Rattle.simplecss_text.specs.Comments.{comment, blank, gap}
+use Rattle.simplecss_text.specs.Names.{past_name_chars, name}
+use Rattle.simplecss_text.specs.Strings.{string_or_name}
+use Rattle.simplecss_text.specs.Components.Combinator.{none}
+use Rattle.simplecss_text.specs.Pieces.{attribute_operator, attribute_after, lang_after, pseudo_class_after, named, begun, solid, piece, ending}
+use Rattle.simplecss_text.specs.TokenRuns.{run_from}
+use Rattle.simplecss_text.specs.Selectors.{reads}
+use Rattle.simplecss_text.specs.Terms.{word, past_number, term}
+use Rattle.simplecss_text.specs.Declarations.{value, importance, trailing, declaration, declarations}
+use Rattle.simplecss_text.specs.Blocks.{block, block_end}
+use Rattle.simplecss_text.specs.Statements.{part, parts, next_block, rule_set, past_at_rule, statement, statements, StyleRule, kept}
+use Rattle.simplecss_text.specs.Sheets.{sheet}
+use Rattle.simplecss_text.specs.Cutting.{rests_behind, statement_ends, KeepsAcross, StatementEndsAt}
+use Rattle.simplecss_text.specs.Printing.{sheet_text}
+
+-- a block of a blank alone takes a further brace, so its statement ends behind the second one
+abbrev pub further_brace : List ℕ
+further_brace = codes "a { }} b { c:d }"
+
+-- the places at which statements end
+pub ends_of_statements :
+    (statement_ends first_edition further_brace ≡ 6 ∷ 16 ∷ [])
+    × (statement_ends second_edition further_brace ≡ 6 ∷ 16 ∷ [])
+    × (statement_ends first_edition (codes "@m x; a{b:c} /**/ @--x{y:z} /* w") ≡ 5 ∷ 12 ∷ 20 ∷ 27 ∷ [])
+    × (statement_ends first_edition (codes " /**/ ") ≡ [])
+unfolding rests_behind each comment blank gap past_name_chars name string_or_name attribute_operator attribute_after lang_after pseudo_class_after named begun solid piece ending run_from chars encode trim_start trim_end reads part parts next_block rule_set past_at_rule statement statements block block_end word past_number term value importance trailing declaration declarations
+ends_of_statements = (refl, refl, refl, refl)
+
+-- the rule `b { c:d; }`
+abbrev rule_b : StyleRule
+rule_b = record {
+  components = record { combinator = none; compound = record { name = Some (codes "b"); subselectors = [] } } ∷ [];
+  properties = record { name = codes "c"; value = codes "d"; important = false } ∷ [];
+}
+
+-- cut where its first statement ends, the two pieces give the rule that the whole gives
+pub cut_at_statement :
+    (kept first_edition further_brace ≡ rule_b ∷ [])
+    × (take 6 further_brace ≡ codes "a { }}")
+    × (kept first_edition (take 6 further_brace) ≡ [])
+    × (kept first_edition (drop 6 further_brace) ≡ rule_b ∷ [])
+unfolding rests_behind each comment blank gap past_name_chars name string_or_name attribute_operator attribute_after lang_after pseudo_class_after named begun solid piece ending run_from chars encode trim_start trim_end reads part parts next_block rule_set past_at_rule statement statements block block_end word past_number term value importance trailing declaration declarations
+cut_at_statement = (refl, refl, refl, refl)
+
+-- (the first end of a statement in it)
+pub ends_at_six : StatementEndsAt first_edition further_brace 6
+ends_at_six = rw ends_of_statements.0 (0, omega arith, refl)
+
+pub across_statement : KeepsAcross first_edition further_brace 6
+across_statement = cut_at_statement.0 ∙ sym (ap (λ (rules : List StyleRule). rules ++ kept first_edition (drop 6 further_brace)) cut_at_statement.2 ∙ cut_at_statement.3)
+
+-- cut a byte before, they give none, since the second piece begins with the further brace
+pub cut_elsewhere :
+    (take 5 further_brace ≡ codes "a { }")
+    × (kept first_edition (take 5 further_brace) ≡ [])
+    × (kept first_edition (drop 5 further_brace) ≡ [])
+    × (sheet first_edition (take 5 further_brace ∷ drop 5 further_brace ∷ []) ≡ [])
+    × (sheet_text (sheet first_edition (further_brace ∷ [])) ≡ codes "b { c:d; }")
+unfolding rests_behind each comment blank gap past_name_chars name string_or_name attribute_operator attribute_after lang_after pseudo_class_after named begun solid piece ending run_from chars encode trim_start trim_end reads part parts next_block rule_set past_at_rule statement statements block block_end word past_number term value importance trailing declaration declarations
+cut_elsewhere = (refl, refl, refl, refl, refl)
+
+-- so there the rules of the whole are not those of the two pieces
+pub not_elsewhere : KeepsAcross first_edition further_brace 5 → ⊥
+not_elsewhere e =
+    let none : kept first_edition further_brace ≡ [] = e ∙ ap (λ (rules : List StyleRule). rules ++ kept first_edition (drop 5 further_brace)) cut_elsewhere.1 ∙ cut_elsewhere.2 in
+    let some : kept first_edition further_brace ≡ rule_b ∷ [] = cut_at_statement.0 in
+    absurd (cc)
+
+-- (no end of a statement in it)
+pub no_end_at_five : StatementEndsAt first_edition further_brace 5 → ⊥
+no_end_at_five h = by (rw ends_of_statements.0 at h)
+  where
+    by : Contains {X = ℕ} (6 ∷ 16 ∷ []) 5 → ⊥
+    by (zero, l, e) = absurd (omega (arith, e))
+    by (suc zero, l, e) = absurd (omega (arith, e))
+    by (suc (suc k), l, e) = absurd (omega (arith, l))

@@ -1,0 +1,40 @@
+-- Where the statements of a text end, and what it is to read a text in pieces that are cut there.
+use Rattle.std.specs.Prelude.{◌≡◌, ℕ, List, [], ◌∷◌, ◌++◌, take, drop, map, Option, IsUtf8}
+use Rattle.std.specs.List.{Contains}
+use Rattle.std.specs.Option.{option_map}
+use Rattle.simplecss_text.specs.Reading.{each, place_of}
+use Rattle.simplecss_text.specs.Characters.{Edition}
+use Rattle.simplecss_text.specs.Statements.{StyleRule, next_statement, kept}
+use Rattle.simplecss_text.specs.Sheets.{sheet}
+
+-- what is left behind a blank and a statement, where the statements go on
+abbrev pub behind_statement : Edition → List ℕ → Option (List ℕ × List ℕ)
+behind_statement edition text = option_map (λ statement. (statement.1, statement.1)) (next_statement edition text)
+
+-- The text is cut into blanks and statements in turn. What is left behind each of its statements.
+unfoldable pub rests_behind : Edition → List ℕ → List (List ℕ)
+rests_behind edition text = (each (behind_statement edition) text).0
+
+-- the places at which the statements of a text end
+abbrev pub statement_ends : Edition → List ℕ → List ℕ
+statement_ends edition text = map (place_of text) (rests_behind edition text)
+
+-- one of the statements of the text ends at the place
+abbrev pub StatementEndsAt : Edition → List ℕ → ℕ → Type 0
+StatementEndsAt edition text place = Contains (statement_ends edition text) place
+
+-- The text has the rules of what stands before the place, and then those of what stands from there on.
+abbrev pub KeepsAcross : Edition → List ℕ → ℕ → Type 0
+KeepsAcross edition text place = kept edition text ≡ kept edition (take place text) ++ kept edition (drop place text)
+
+-- A sheet had the rules `old`, then read `text`, and now has the rules `new`. If `old` are the rules of some texts and of
+-- the front of a further one up to where one of its statements ends, and `text` is the rest of that one, then `new` are
+-- the rules of those texts and of the whole further one.
+abbrev pub GoesOn : Edition → (old : List StyleRule) → (text : List ℕ) → (new : List StyleRule) → Type 0
+GoesOn edition old text new =
+    (texts : List (List ℕ)) (whole : List ℕ) (place : ℕ)
+    → IsUtf8 whole
+    → StatementEndsAt edition whole place
+    → text ≡ drop place whole
+    → old ≡ sheet edition (texts ++ take place whole ∷ [])
+    → new ≡ sheet edition (texts ++ whole ∷ [])
