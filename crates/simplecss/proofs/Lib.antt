@@ -1,0 +1,11 @@
+pub mod Joins
+pub mod ListLemmas
+pub mod RankLemmas
+pub mod OrderLemmas
+pub mod SheetLemmas
+pub mod ByteLemmas
+pub mod FaultLemmas
+pub mod ValueLemmas
+pub mod DeclarationLists
+pub mod BlockLemmas
+pub mod StatementLemmas

@@ -1,3 +1,10 @@
+pub mod Properties
+pub mod StyleRules
+pub mod Equality
+pub mod EqualityLaws
+pub mod Answers
+pub mod Coming
+pub mod SharedBlocks
 pub use Rattle.simplecss_text.specs.Blanks
 pub use Rattle.simplecss_text.specs.Blocks
 pub use Rattle.simplecss_text.specs.Bytes

@@ -1,6 +1,22 @@
-//! CSS 2.1: selectors and the elements that they match.
+//! CSS 2.1: selectors and the elements that they match, declarations, and style sheets whose rules stand in the order of
+//! their specificity.
+//!
+//! ```rust
+//! let mut sheet = StyleSheet::new(alloc);
+//! sheet.parse_more(rt, alloc, "a > .b { color: red }")?;
+//! for rule in &sheet.rules {
+//!     if rule.selector.matches(&element) {
+//!         // rule.declarations
+//!     }
+//! }
+//! ```
 #![tactic(auto)]
 
+mod sheet;
+
+pub use sheet::{
+    Declaration, DeclarationTokenizer, Declarations, Rule, Rules, StyleSheet, laws,
+};
 pub use simplecss_selector::{
     AttributeOperator, Element, PseudoClass, Selector, SelectorToken, SelectorTokenizer, Tests,
 };

@@ -1,0 +1,72 @@
+-- Sheets of several texts.
+use Rattle.std.proofs.Common.{◌≡◌, ℕ, zero, suc, Bool, true, false, cond, ◌&&◌, ◌||◌, ◌==◌, if◌then◌else◌, List, [], ◌∷◌, ◌++◌, length, None, Some, ap, ◌∙◌, sym, subst, refl, append-nil, flat_map, arith}
+use Rattle.std.specs.List.{filter, AllPass}
+use Rattle.std.proofs.lemmas.List.Elements.{filter-append, filter_agree}
+use Rattle.std.proofs.lemmas.Grind.{flat_map-append}
+use Rattle.simplecss_text.specs.Characters.{Edition}
+use Rattle.simplecss_text.specs.Comments.{past_blank, opens_comment}
+use Rattle.simplecss_text.specs.Statements.{has_property, kept, statement, statements, next_statement, ends_statements, is_open_comment}
+use Rattle.simplecss_text.specs.Sheets.{is_smaller, ordered, sheet}
+use Rattle.simplecss_text.proofs.EachLaws.{each-none}
+use Rattle.simplecss.proofs.OrderLemmas.{smaller_order}
+use Rattle.simplecss.proofs.RankLemmas.{ordered_filter, ordered_front, filter_and}
+
+ends_open : (a b : Bool) → b ≡ true → (a || b) ≡ true
+ends_open true b e = refl
+ends_open false b e = e
+
+and_itself : (b : Bool) → (b && b) ≡ b
+and_itself true = refl
+and_itself false = refl
+
+-- a filter a second time leaves nothing out
+filter_again : {X : Type 0} (p : X → Bool) (xs : List X) → filter p (filter p xs) ≡ filter p xs
+filter_again p xs = filter_and p p xs ∙ filter_agree (λ x. p x && p x) p (λ x. and_itself (p x)) xs
+
+-- the kept rules of a text have a declaration each
+pub kept_filled : (e : Edition) (text : List ℕ) → filter has_property (kept e text) ≡ kept e text
+kept_filled e text = filter_again has_property (flat_map (λ rules. rules) (statements e text))
+
+all_filled : (e : Edition) (texts : List (List ℕ)) → filter has_property (flat_map (kept e) texts) ≡ flat_map (kept e) texts
+all_filled e [] = refl
+all_filled e (t ∷ ts) =
+    filter-append has_property (kept e t) (flat_map (kept e) ts)
+    ∙ ap (λ l. l ++ filter has_property (flat_map (kept e) ts)) (kept_filled e t) ∙ ap (λ l. kept e t ++ l) (all_filled e ts)
+
+-- the rules of a sheet have a declaration each
+pub sheet_filled : (e : Edition) (texts : List (List ℕ)) → filter has_property (sheet e texts) ≡ sheet e texts
+sheet_filled e texts = sym (ordered_filter is_smaller smaller_order has_property (flat_map (kept e) texts)) ∙ ap ordered (all_filled e texts)
+
+passing_at : {X : Type 0} (p : X → Bool) (x : X) (xs : List X) (b : Bool) → p x ≡ b → AllPass p xs → AllPass p (cond b (x ∷ xs) xs)
+passing_at p x xs true e h zero d l = e
+passing_at p x xs true e h (suc k) d l = h k d (omega arith)
+passing_at p x xs false e h k d l = h k d l
+
+-- what is left of a list passes
+pub AllPass-filter : {X : Type 0} (p : X → Bool) (xs : List X) → AllPass p (filter p xs)
+AllPass-filter p [] k d l = absurd (omega arith)
+AllPass-filter p (x ∷ xs) k d l = passing_at p x (filter p xs) (p x) refl (AllPass-filter p xs) k d l
+
+-- each rule of a sheet has a declaration
+pub AllPass-sheet : (e : Edition) (texts : List (List ℕ)) → AllPass has_property (sheet e texts)
+AllPass-sheet e texts = subst (AllPass has_property) (sheet_filled e texts) (AllPass-filter has_property (sheet e texts))
+
+-- an open comment alone gives no rules
+pub kept_open : (e : Edition) (text : List ℕ) → is_open_comment text ≡ true → kept e text ≡ []
+unfolding statements
+kept_open e text open_comment =
+    let ends : ends_statements (past_blank text) ≡ true = ends_open (length (past_blank text) == 0) (opens_comment (past_blank text)) open_comment in
+    let none : next_statement e text ≡ None = ap (λ b. if b then None else Some (statement e (past_blank text))) ends in
+    ap (λ r. filter has_property (flat_map (λ rules. rules) r.0)) (each-none (next_statement e) text none)
+
+-- so the sheet with it is the one without it
+pub sheet_open : (e : Edition) (texts : List (List ℕ)) (t : List ℕ) → is_open_comment t ≡ true → sheet e (texts ++ t ∷ []) ≡ sheet e texts
+sheet_open e texts t open_comment =
+    ap ordered (flat_map-append (kept e) texts (t ∷ []) ∙ ap (λ l. flat_map (kept e) texts ++ l) (append-nil (kept e t) ∙ kept_open e t open_comment) ∙ append-nil (flat_map (kept e) texts))
+
+-- one more text
+pub sheet_more : (e : Edition) (texts : List (List ℕ)) (t : List ℕ) → sheet e (texts ++ t ∷ []) ≡ ordered (filter has_property (sheet e texts) ++ kept e t)
+sheet_more e texts t =
+    ap ordered (flat_map-append (kept e) texts (t ∷ []) ∙ ap (λ l. flat_map (kept e) texts ++ l) (append-nil (kept e t)))
+    ∙ sym (ordered_front is_smaller smaller_order (flat_map (kept e) texts) (kept e t))
+    ∙ ap (λ l. ordered (l ++ kept e t)) (sym (sheet_filled e texts))

@@ -1,0 +1,70 @@
+-- A value, a term at a time, and semicolons.
+use Rattle.std.proofs.Common.{◌≡◌, ℕ, ◌<◌, ◌-◌, List, [], ◌∷◌, Bool, true, false, length, take, refl, sym, ap, ◌∙◌, subst, arith, length-take-le, slice_range}
+use Rattle.std.specs.Str.{trim, IsUtf8, IsCharBoundary}
+use Rattle.std.proofs.lemmas.Str.{IsCharBoundary-at_seam}
+use Rattle.simplecss_text.specs.Reading.{Fault, got, fails, each, followed_by, before, Ends}
+use Rattle.simplecss_text.specs.Bytes.{starts, past_one, past_byte, byte}
+use Rattle.simplecss_text.specs.Characters.{Edition}
+use Rattle.simplecss_text.specs.Comments.{past_blank, blank}
+use Rattle.simplecss_text.specs.Names.{name}
+use Rattle.simplecss_text.specs.Slices.{StandBetween}
+use Rattle.simplecss_text.specs.Terms.{term}
+use Rattle.simplecss_text.specs.Declarations.{after_term, term_in_value, last_or, value, semicolon, trailing}
+use Rattle.simplecss_text.proofs.EndsLaws.{no_texts, itself, ends-ends, ends-got, ends-past_byte, stands-got, stand-from, stand-to, stand-append}
+use Rattle.simplecss_text.proofs.StandLaws.{blank-stands, byte-stands, name-stands}
+use Rattle.simplecss_text.proofs.DeclarationStandLaws.{trailing-stands}
+use Rattle.simplecss_text.proofs.EachLaws.{took, each-none, each-some}
+use Rattle.simplecss_text.proofs.DeclarationLaws.{term_in_value-takes, semicolon-takes}
+
+pub terms-some : (edition : Edition) (text rest : List ℕ) → term edition text ≡ got tt rest → each (term_in_value edition) text ≡ followed_by rest (each (term_in_value edition) (past_blank rest))
+terms-some edition text rest e = each-some (term_in_value edition) (term_in_value-takes edition) text (past_blank rest) rest (ap after_term e)
+
+pub terms-none : (edition : Edition) (text rest : List ℕ) (fault : Fault) → term edition text ≡ fails fault rest → each (term_in_value edition) text ≡ ([], text)
+terms-none edition text rest fault e = each-none (term_in_value edition) text (ap after_term e)
+
+-- a term and the blank behind it take a byte or more
+pub term-takes : (edition : Edition) (text rest : List ℕ) → term edition text ≡ got tt rest → length (past_blank rest) < length text
+term-takes edition text rest e = took (term_in_value edition) (term_in_value-takes edition) text (past_blank rest) rest (ap after_term e)
+
+-- the value, where the terms from here on end it as those of the whole do, and none begins here
+pub value-done : (edition : Edition) (text end here rest : List ℕ) (fault : Fault) → last_or end (each (term_in_value edition) here).0 ≡ last_or text (each (term_in_value edition) text).0
+    → (each (term_in_value edition) here).1 ≡ (each (term_in_value edition) text).1 → term edition here ≡ fails fault rest → value edition text ≡ (trim (before text end), rest)
+unfolding value
+value-done edition text end here rest fault last left e =
+    let none : each (term_in_value edition) here ≡ ([], here) = terms-none edition here rest fault e in
+    let ended : last_or text (each (term_in_value edition) text).0 ≡ end = sym last ∙ ap (λ r. last_or end r.0) none in
+    let at : (each (term_in_value edition) text).1 ≡ here = sym left ∙ ap (λ r. r.1) none in
+    rw (ended, at, e) refl
+
+pub semicolons-some : (text : List ℕ) → starts 59 text ≡ true → (each semicolon text).1 ≡ (each semicolon (past_blank (past_one text))).1
+semicolons-some text e = ap (λ r. r.1) (each-some semicolon semicolon-takes text (past_blank (past_one text)) tt (rw e refl))
+
+pub semicolons-none : (text : List ℕ) → starts 59 text ≡ false → (each semicolon text).1 ≡ text
+semicolons-none text e = ap (λ r. r.1) (each-none semicolon text (rw e refl))
+
+pub semicolon-less : (text : List ℕ) → starts 59 text ≡ true → length (past_blank (past_one text)) < length text
+semicolon-less text e = took semicolon semicolon-takes text (past_blank (past_one text)) tt (rw e refl)
+
+-- a text may be cut where an end of it begins
+pub boundary_at_end : (text rest : List ℕ) → Ends text rest → IsUtf8 rest → IsCharBoundary text (length text - length rest)
+boundary_at_end text rest e u =
+    let n : length (before text rest) ≡ length text - length rest = length-take-le _ text (omega arith) in
+    subst (λ (i : ℕ). IsCharBoundary text i) n (IsCharBoundary-at_seam text (before text rest) rest (sym e) u)
+
+pub before-range : (text rest : List ℕ) → slice_range text 0 (length text - length rest) ≡ before text rest
+before-range text rest = ap (λ n. take n text) (omega arith)
+
+-- what is trimmed stands before the end
+pub trimmed : (text rest ranged result : List ℕ) → ranged ≡ slice_range text 0 (length text - length rest) → result ≡ trim ranged → result ≡ trim (before text rest)
+trimmed text rest ranged result r t = t ∙ ap (λ (v : List ℕ). trim v) (r ∙ before-range text rest)
+
+-- A declaration's name and value stand in order, where each of its parts was read from what the one before left.
+pub declaration-slices : (edition : Edition) (text a b n c d start g h v : List ℕ) (important : Bool) → blank text ≡ got tt a → b ≡ past_byte 42 a → name edition b ≡ got n c → blank c ≡ got tt d → byte 58 d ≡ got tt start
+    → (e : List ℕ) → blank start ≡ got tt e → StandBetween e g (v ∷ []) → trailing g ≡ got important h → StandBetween text h (n ∷ v ∷ [])
+declaration-slices edition text a b n c d start g h v important e1 e2 e3 e4 e5 e e6 e7 e8 =
+    let front : Ends text b = ends-ends text a b (ends-got text no_texts (blank text) tt a (blank-stands text) e1) (subst (λ (t : List ℕ). Ends a t) (sym e2) (ends-past_byte 42 a)) in
+    let named : StandBetween text c (n ∷ []) = stand-from text b c (n ∷ []) front (stands-got b itself (name edition b) n c (name-stands edition b) e3) in
+    let colon : Ends c start = ends-ends c d start (ends-got c no_texts (blank c) tt d (blank-stands c) e4) (ends-got d no_texts (byte 58 d) tt start (byte-stands 58 d) e5) in
+    let behind : Ends c e = ends-ends c start e colon (ends-got start no_texts (blank start) tt e (blank-stands start) e6) in
+    let stated : StandBetween c h (v ∷ []) = stand-to c g h (v ∷ []) (stand-from c e g (v ∷ []) behind e7) (ends-got g no_texts (trailing g) important h (trailing-stands g) e8) in
+    stand-append text c h (n ∷ []) (v ∷ []) named stated

@@ -1,0 +1,47 @@
+use Rattle.std.proofs.Common.{◌∷◌, [], sym, ◌∙◌, ap, refl}
+use Rattle.std.proofs.lemmas.List.{map-append}
+use Rattle.simplecss_text.specs.Blocks.{declaration_in_block, past_list}
+use Rattle.simplecss_text.specs.ThisEdition.{this_edition}
+use Rattle.simplecss_text.specs.Cursor.{rest_of}
+use Rattle.simplecss_text.proofs.EachLaws.{done_start, done_step, done_end}
+use Rattle.simplecss.specs.Properties.{property_of}
+use Rattle.simplecss.proofs.BlockLemmas.{list-some, list-less, list-none, list-broken, past_list-end, past_list-broken}
+use Rattle.simplecss.proofs.sheet.blocks.consume_declarations.Goals as goal
+
+pub list-smaller : goal.list-smaller
+list-smaller c = list-less this_edition _ _ _ c.in-Some.ensures.reads
+
+pub list-init : goal.list-init
+list-init c = record { same = refl; read = rw c.new-declarations.ensures.items (done_start (declaration_in_block this_edition) (rest_of c.args.s.now)) }
+
+pub list-preserved : goal.list-preserved
+list-preserved c =
+    let step = list-some this_edition (rest_of c.list.s) (rest_of c.consume_declaration.new.s) (property_of c.in-Some.declaration) (sym c.at_list_end.ensures ∙ c.list-test.true) c.in-Some.ensures.reads in
+    record {
+      same = c.in-Some.ensures.text ∙ c.list.invariant.same;
+      read = rw (c.in_ok-push-in-Some.ensures.items, map-append property_of c.list.declarations.items (c.in-Some.declaration ∷ [])) (done_step (declaration_in_block this_edition) _ _ _ _ _ step c.list.invariant.read);
+    }
+
+pub returns-in-None-clause-values : goal.returns-in-None-clause-values
+returns-in-None-clause-values c =
+    let broken = list-broken this_edition (rest_of c.list.s) (rest_of c.consume_declaration.new.s) c.in-None.ensures.reads in
+    sym (ap (λ r. r.0) (done_end (declaration_in_block this_edition) _ _ _ broken c.list.invariant.read))
+
+pub returns-in-None-clause-rest : goal.returns-in-None-clause-rest
+returns-in-None-clause-rest c =
+    let broken = list-broken this_edition (rest_of c.list.s) (rest_of c.consume_declaration.new.s) c.in-None.ensures.reads in
+    let all = done_end (declaration_in_block this_edition) _ _ _ broken c.list.invariant.read in
+    c.pass_block.ensures.rest
+    ∙ sym (past_list-broken this_edition (rest_of c.list.s) (rest_of c.consume_declaration.new.s) (sym c.at_list_end.ensures ∙ c.list-test.true) c.in-None.ensures.reads)
+    ∙ ap (λ r. past_list this_edition r.1) (sym all)
+
+pub returns-clause-values : goal.returns-clause-values
+returns-clause-values c =
+    let end = list-none this_edition (rest_of c.list.s) (sym c.at_list_end.ensures ∙ c.list-test.false) in
+    sym (ap (λ r. r.0) (done_end (declaration_in_block this_edition) _ _ _ end c.list.invariant.read))
+
+pub returns-clause-rest : goal.returns-clause-rest
+returns-clause-rest c =
+    let here = sym c.at_list_end.ensures ∙ c.list-test.false in
+    let all = done_end (declaration_in_block this_edition) _ _ _ (list-none this_edition (rest_of c.list.s) here) c.list.invariant.read in
+    sym (past_list-end this_edition (rest_of c.list.s) here) ∙ ap (λ r. past_list this_edition r.1) (sym all)

@@ -1,0 +1,11 @@
+use Rattle.std.proofs.Common.{◌<◌, ◌∷◌, length, arith, rules}
+use Rattle.simplecss_text.specs.Printing.{rule_text}
+use Rattle.simplecss.specs.StyleRules.{rule_of}
+use Rattle.simplecss_selector.proofs.Styled.{styled_step}
+use Rattle.simplecss.proofs.sheet.printing.write_lines.Goals as goal
+
+pub loop-rule-preserved : goal.loop-rule-preserved
+loop-rule-preserved g c = λ plain.
+    let so_far = c.loop-rule.invariant plain in
+    let within : c.loop-rule.rule-index < length c.args.rules.now = omega arith in
+    styled_step _ (λ r. 10 ∷ rule_text (rule_of r)) _ _ _ _ _ _ within c.rule-item.is so_far (c.write_line.ensures so_far.flush (search rules))

@@ -1,0 +1,13 @@
+use Rattle.std.proofs.Common.{◌≡◌, ◌++◌, map, length}
+use Rattle.simplecss_text.specs.ThisEdition.{this_edition}
+use Rattle.simplecss_text.specs.Cursor.{rest_of}
+use Rattle.simplecss.specs.StyleRules.{rule_of}
+use Rattle.simplecss.proofs.StatementLemmas.{rules_from}
+use Rattle.simplecss.proofs.sheet.reading.read_rules.Given as goal
+
+-- The rules so far and those of the statements from here on are those of the text.
+abbrev pub invariant-statements : goal.invariant-statements
+invariant-statements g l = map rule_of l.rules.items ++ rules_from this_edition (rest_of l.s) ≡ rules_from this_edition l.text
+
+abbrev pub decreases-statements : goal.decreases-statements
+decreases-statements g l = length (rest_of l.s)

@@ -1,0 +1,16 @@
+use Rattle.std.proofs.Common.{◌≡◌, ◌+◌, drop, Some, None, sym, ap, ◌∙◌, refl}
+use Rattle.simplecss_text.specs.Bytes.{after_byte}
+use Rattle.simplecss_text.specs.ThisEdition.{this_edition}
+use Rattle.simplecss_text.specs.Cursor.{rest_of}
+use Rattle.simplecss.proofs.StatementLemmas.{next_block-some, next_block-none}
+use Rattle.simplecss.proofs.sheet.statements.consume_next_block.Goals as goal
+
+pub returns-in-Some-clause-reads : goal.returns-in-Some-clause-reads
+returns-in-Some-clause-reads c =
+    let behind : after_byte 123 (rest_of c.args.s.now) ≡ Some (rest_of c.advance.new.self) = ap (after_byte 123) (sym c.slice_tail.ensures) ∙ c.in-Some.ensures.found ∙ ap (λ t. Some (drop (c.in-Some.at + 1) t)) c.slice_tail.ensures ∙ ap Some (sym c.advance.ensures.rest) in
+    rw (next_block-some this_edition (rest_of c.args.s.now) (rest_of c.advance.new.self) behind) c.consume_block.ensures.reads
+
+pub returns-in-None-clause-reads : goal.returns-in-None-clause-reads
+returns-in-None-clause-reads c =
+    let none : after_byte 123 (rest_of c.args.s.now) ≡ None = ap (after_byte 123) (sym c.slice_tail.ensures) ∙ c.in-None.ensures.found in
+    rw (next_block-none this_edition (rest_of c.args.s.now) none, c.jump_to_end.ensures.rest, c.from_vec.ensures, c.new.ensures.items) refl

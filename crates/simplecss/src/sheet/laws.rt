@@ -1,0 +1,41 @@
+//! Laws of sheets: each is the contract of a function that does nothing.
+ghost use Rattle.std.specs.Prelude.{◌≡◌, ◌↔◌, ◌<◌, ℕ, List, IsTrue, length, slice_index_or};
+ghost use Rattle.std.specs.List.{AllPass};
+ghost use Rattle.std.specs.List.Sorted.{IsPermutation, IsSortedBy, IsStableBy};
+ghost use Rattle.simplecss_text.specs.Ranks.{rank_by};
+ghost use Rattle.simplecss_text.specs.Declarations.{Property};
+ghost use Rattle.simplecss_text.specs.Statements.{StyleRule, has_property};
+ghost use Rattle.simplecss_text.specs.Sheets.{is_smaller, ordered, sheet};
+ghost use Rattle.simplecss_text.specs.ThisEdition.{this_edition};
+ghost use Rattle.simplecss.specs.Properties.{property_of};
+
+use crate::sheet::{Declaration, Declarations, Rule};
+
+/// The order of the rules in a style sheet: each is kept and stands at its rank, which is the number of rules of smaller
+/// specificity and of earlier ones of equal specificity. So no rule stands before one of smaller specificity, and rules of
+/// equal specificity stay in their order; each list of the same rules with these two properties is this one. To order a
+/// second time changes nothing.
+pub fn order_laws()
+    ensures keeps { (rules : List StyleRule) → IsPermutation rules (ordered rules) }
+    ensures ranks { (rules : List StyleRule) (i : ℕ) (r : StyleRule) → i < length rules → slice_index_or rules i r ≡ r
+        → slice_index_or (ordered rules) (rank_by is_smaller rules i r) r ≡ r }
+    ensures rises { (rules : List StyleRule) → IsSortedBy is_smaller (ordered rules) }
+    ensures stays { (rules : List StyleRule) → IsStableBy is_smaller rules (ordered rules) }
+    ensures one { (rules sorted : List StyleRule) → IsPermutation rules sorted → IsSortedBy is_smaller sorted
+        → IsStableBy is_smaller rules sorted → sorted ≡ ordered rules }
+    ensures twice { (rules : List StyleRule) → ordered (ordered rules) ≡ ordered rules }
+{}
+
+/// Each rule of a style sheet that was read has a declaration.
+pub fn sheet_law()
+    ensures { (texts : List (List ℕ)) → AllPass has_property (sheet this_edition texts) }
+{}
+
+/// Two rules are equal exactly if their selectors and their declarations are; two lists of declarations, if the
+/// declarations are in turn; and two declarations, if their names, their values and whether they are important are.
+pub fn equality_laws()
+    ensures rules { (a b : Rule) → IsTrue (⟦<Rule<'static> as PartialEq>⟧.eq a b) ↔ (a ≡ b) }
+    ensures lists { (a b : List Property) → IsTrue (⟦<Declarations<'static> as PartialEq>⟧.eq a b) ↔ (a ≡ b) }
+    ensures declarations { (a b : Declaration) → IsTrue (⟦<Declaration<'static> as PartialEq>⟧.eq a b)
+        ↔ (property_of a ≡ property_of b) }
+{}

@@ -1,0 +1,45 @@
+//! The rules of a text.
+ghost use Rattle.std.specs.Prelude.{◌≡◌, ◌++◌, IfOk, MatchBool, MatchOption, None, Some, map, true, false};
+ghost use Rattle.std.specs.List.{flat_map};
+ghost use Rattle.simplecss_text.specs.Statements.{statement, next_statement, statements, is_open_comment};
+ghost use Rattle.simplecss_text.specs.ThisEdition.{this_edition};
+ghost use Rattle.simplecss_text.specs.Cursor.{text_of, rest_of};
+ghost use Rattle.simplecss.specs.StyleRules.{rule_of};
+
+use super::rules::Rule;
+use super::statements::consume_statement;
+use log::Log;
+use simplecss_text::readers;
+use simplecss_text::stream::Stream;
+use std::alloc::{AllocError, Global};
+
+/// Passes a blank, and says whether a statement stands behind it.
+fn at_statement(s: &mut Stream<'_>) -> bool
+    ensures text { text_of s.new ≡ text_of s.old }
+    ensures reads { MatchBool result
+        (next_statement this_edition (rest_of s.old) ≡ Some (statement this_edition (rest_of s.new)))
+        (next_statement this_edition (rest_of s.old) ≡ None) }
+{
+    readers::pass_blank(s) && !s.at_end()
+}
+
+/// All rules of a text in order, or `None` where the text is a blank and then an open comment.
+pub(crate) fn read_rules<'a, R: Log>(
+    rt: &R,
+    alloc: Global,
+    text: &'a str,
+) -> Result<Option<Vec<Rule<'a>>>, AllocError>
+    ensures { IfOk result (λ read. MatchOption read (is_open_comment text.now ≡ true)
+        (λ rules. (is_open_comment text.now ≡ false)
+        × (map rule_of rules.items ≡ flat_map (λ given. given) (statements this_edition text.now)))) }
+{
+    let mut s = Stream::new(text);
+    if !readers::pass_blank(&mut s) {
+        return Ok(None);
+    }
+    let mut rules = Vec::new(alloc);
+    'statements: while at_statement(&mut s) {
+        consume_statement(rt, alloc, &mut s, &mut rules)?;
+    }
+    Ok(Some(rules))
+}

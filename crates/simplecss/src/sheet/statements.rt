@@ -1,0 +1,169 @@
+//! Rule sets and at-rules.
+ghost use Rattle.std.specs.Prelude.{◌≡◌, ◌++◌, [], IfOk, OnOk, map, option_to_list};
+ghost use Rattle.simplecss_text.specs.Statements.{StyleRule, part, parts, next_block, rule_set, past_at_rule, past_at_end, statement};
+ghost use Rattle.simplecss_text.specs.Bytes.{is_neither, past};
+ghost use Rattle.simplecss_text.specs.ThisEdition.{this_edition};
+ghost use Rattle.simplecss_text.specs.Cursor.{text_of, rest_of};
+ghost use Rattle.simplecss.specs.StyleRules.{rule_of};
+ghost use Rattle.simplecss.specs.SharedBlocks.{rules_with};
+
+use super::blocks::{consume_block, pass_block};
+use super::declarations::Declarations;
+use super::ends;
+use super::rules::Rule;
+use log::{Log, warn};
+use simplecss_selector::{Selector, parse_front};
+use simplecss_text::stream::Stream;
+use simplecss_text::{readers, scan};
+use std::alloc::{AllocError, Global};
+
+/// Reads a part of a rule set's head, and passes the space bytes behind it.
+#[tactic(auto, unfolding(simplecss_text::specs::Statements::part))]
+fn consume_part<'a, R: Log>(
+    rt: &R,
+    alloc: Global,
+    s: &mut Stream<'a>,
+) -> Result<Option<Selector<'a>>, AllocError>
+    ensures text { text_of s.new ≡ text_of s.old }
+    ensures reads { IfOk result (λ selector. part this_edition (rest_of s.old) ≡ (selector, rest_of s.new)) }
+{
+    let (selector, len) = parse_front(rt, alloc, s.slice_tail())?;
+    s.advance(len);
+    s.skip_spaces();
+    Ok(selector)
+}
+
+/// Adds the selector, if there is one.
+fn push_some<'a>(
+    selectors: &mut Vec<Selector<'a>>,
+    selector: Option<Selector<'a>>,
+) -> Result<(), AllocError>
+    ensures { OnOk result (selectors.new.items ≡ selectors.old.items ++ option_to_list selector.entry) }
+{
+    if let Some(selector) = selector {
+        selectors.push(selector)?;
+    }
+    Ok(())
+}
+
+/// Reads the parts of a rule set's head, with a comma behind each but the last, and gives their selectors.
+fn consume_parts<'a, R: Log>(
+    rt: &R,
+    alloc: Global,
+    s: &mut Stream<'a>,
+) -> Result<Vec<Selector<'a>>, AllocError>
+    ensures text { text_of s.new ≡ text_of s.old }
+    ensures reads { IfOk result (λ selectors. parts this_edition (rest_of s.old) ≡ (selectors.items, rest_of s.new)) }
+{
+    let mut selectors = Vec::new(alloc);
+    'parts: loop {
+        let selector = consume_part(rt, alloc, s)?;
+        push_some(&mut selectors, selector)?;
+        if !readers::pass_byte(s, b',') {
+            return Ok(selectors);
+        }
+    }
+}
+
+/// Reads the block that the next opening brace begins. Without one there are no declarations, and the text is used up.
+fn consume_next_block<'a>(alloc: Global, s: &mut Stream<'a>) -> Result<Declarations<'a>, AllocError>
+    ensures text { text_of s.new ≡ text_of s.old }
+    ensures reads { IfOk result (λ list. next_block this_edition (rest_of s.old) ≡ (list, rest_of s.new)) }
+{
+    match scan::find_byte(s.slice_tail(), b'{') {
+        Some(at) => {
+            s.advance(at + 1);
+            consume_block(alloc, s)
+        }
+        None => {
+            s.jump_to_end();
+            Ok(Declarations::from_vec(Vec::new(alloc)))
+        }
+    }
+}
+
+/// Adds a rule for each selector. Each has its own list of the declarations: the last takes the list, the others copies.
+fn push_rules<'a>(
+    rules: &mut Vec<Rule<'a>>,
+    mut selectors: Vec<Selector<'a>>,
+    declarations: Declarations<'a>,
+) -> Result<(), AllocError>
+    ensures { OnOk result (map rule_of rules.new.items ≡ map rule_of rules.old.items ++ rules_with declarations.entry selectors.entry.items) }
+{
+    let Some(last) = selectors.pop() else {
+        return Ok(());
+    };
+    'others: for selector in selectors {
+        rules.push(Rule {
+            selector,
+            declarations: declarations.clone()?,
+        })?;
+    }
+    rules.push(Rule {
+        selector: last,
+        declarations,
+    })?;
+    Ok(())
+}
+
+/// Reads a rule set, and adds its rules: one for each part that gave a selector, with all declarations of the block.
+#[tactic(auto, unfolding(simplecss_text::specs::Statements::rule_set))]
+fn consume_rule_set<'a, R: Log>(
+    rt: &R,
+    alloc: Global,
+    s: &mut Stream<'a>,
+    rules: &mut Vec<Rule<'a>>,
+) -> Result<(), AllocError>
+    ensures text { text_of s.new ≡ text_of s.old }
+    ensures rules { OnOk result (map rule_of rules.new.items ≡ map rule_of rules.old.items ++ (rule_set this_edition (rest_of s.old)).0) }
+    ensures rest { OnOk result (rest_of s.new ≡ (rule_set this_edition (rest_of s.old)).1) }
+{
+    s.try_consume_byte(b',');
+    let selectors = consume_parts(rt, alloc, s)?;
+    let declarations = consume_next_block(alloc, s)?;
+    push_rules(rules, selectors, declarations)
+}
+
+/// Passes the rest of an at-rule behind its name: up to a semicolon, and it, or up to a block, and that.
+fn pass_to_end(s: &mut Stream<'_>)
+    ensures text { text_of s.new ≡ text_of s.old }
+    ensures rest { rest_of s.new ≡ past_at_end (past (is_neither 59 123) (rest_of s.old)) }
+{
+    s.advance(ends::before_either(s.slice_tail(), b';', b'{'));
+    if readers::pass_byte(s, b'{') {
+        pass_block(s);
+    } else {
+        s.try_consume_byte(b';');
+    }
+}
+
+/// Passes an at-rule behind its sign, and tells the logger that it is passed. A faulty name ends it.
+#[tactic(auto, unfolding(simplecss_text::specs::Statements::past_at_rule))]
+fn pass_at_rule<R: Log>(rt: &R, s: &mut Stream<'_>)
+    ensures text { text_of s.new ≡ text_of s.old }
+    ensures rest { rest_of s.new ≡ past_at_rule this_edition (rest_of s.old) }
+{
+    if let Some(name) = readers::take_name(s) {
+        warn!(rt; "The @{} rule is not supported. Skipped.", name);
+        pass_to_end(s);
+    }
+}
+
+/// Reads a statement, and adds the rules that it gives. An at-rule gives none.
+#[tactic(auto, unfolding(simplecss_text::specs::Statements::statement), using(crate::proofs::ByteLemmas::past_byte_there, crate::proofs::ByteLemmas::past_byte_not))]
+pub fn consume_statement<'a, R: Log>(
+    rt: &R,
+    alloc: Global,
+    s: &mut Stream<'a>,
+    rules: &mut Vec<Rule<'a>>,
+) -> Result<(), AllocError>
+    ensures text { text_of s.new ≡ text_of s.old }
+    ensures rules { OnOk result (map rule_of rules.new.items ≡ map rule_of rules.old.items ++ (statement this_edition (rest_of s.old)).0) }
+    ensures rest { OnOk result (rest_of s.new ≡ (statement this_edition (rest_of s.old)).1) }
+{
+    if readers::pass_byte(s, b'@') {
+        pass_at_rule(rt, s);
+        return Ok(());
+    }
+    consume_rule_set(rt, alloc, s, rules)
+}

@@ -1,0 +1,70 @@
+ghost use Rattle.std.specs.Prelude.{◌≡◌, ◌∷◌, ◌++◌, [], ℕ, List, IfOk, OnErr, OnOk, filter, true, false};
+ghost use Rattle.std.specs.List.{AllPass};
+ghost use Rattle.simplecss_text.specs.Statements.{has_property, kept, is_open_comment};
+ghost use Rattle.simplecss_text.specs.Sheets.{ordered, sheet};
+ghost use Rattle.simplecss_text.specs.ThisEdition.{this_edition};
+
+use crate::sheet::{Rules, reading};
+use log::Log;
+use std::alloc::{AllocError, Global};
+
+/// A style sheet: the rules of the texts that were read into it, in the order of their specificity.
+#[derive(Debug, Drop)]
+pub struct StyleSheet<'a> {
+    /// The rules, those of smaller specificity first.
+    pub rules: Rules<'a>,
+}
+
+impl<'a> StyleSheet<'a> {
+    /// A style sheet without rules. It takes no memory.
+    pub fn new(alloc: Global) -> Self
+        ensures none { result.rules ≡ [] }
+        ensures sheet { result.rules ≡ sheet this_edition [] }
+    {
+        StyleSheet {
+            rules: Rules::from_vec(Vec::new(alloc)),
+        }
+    }
+
+    /// The style sheet of one text. Only memory may be wanting: what CSS 2.1 does not let stand is passed over. Warnings of what is passed over go to `rt`.
+    pub fn parse<R: Log>(rt: &R, alloc: Global, text: &'a str) -> Result<Self, AllocError>
+        ensures { IfOk result (λ s. s.rules ≡ sheet this_edition (text.now ∷ [])) }
+    {
+        let mut sheet = StyleSheet::new(alloc);
+        sheet.parse_more(rt, alloc, text)?;
+        Ok(sheet)
+    }
+
+    /// Reads a text into the style sheet: its rules come behind the others of equal specificity, and rules without a declaration are dropped, those that stood in the sheet too. A text of spaces, comments and then a comment that is not closed changes nothing, and where memory is wanting the sheet is as before. Warnings of what is passed over go to `rt`.
+    pub fn parse_more<R: Log>(
+        &mut self,
+        rt: &R,
+        alloc: Global,
+        text: &'a str,
+    ) -> Result<(), AllocError>
+        // The old rules that have a declaration and then those of the text, in order.
+        ensures ok { OnOk result (is_open_comment text.now ≡ false
+            → self.new.rules ≡ ordered (filter has_property self.old.rules ++ kept this_edition text.now)) }
+        ensures nothing { is_open_comment text.now ≡ true → self.new.rules ≡ self.old.rules }
+        ensures err { OnErr result (self.new.rules ≡ self.old.rules) }
+        // The sheet of some texts is then the sheet of these and of this one, and each of its rules has a declaration.
+        ensures sheet { (texts : List (List ℕ)) → self.old.rules ≡ sheet this_edition texts
+            → OnOk result (self.new.rules ≡ sheet this_edition (texts ++ text.now ∷ [])) }
+        ensures filled { (texts : List (List ℕ)) → self.old.rules ≡ sheet this_edition texts
+            → AllPass has_property self.new.rules }
+    {
+        match reading::read_rules(rt, alloc, text)? {
+            Some(more) => self.rules.merge(more),
+            None => Ok(()),
+        }
+    }
+
+    /// An equal style sheet, for which only memory may be wanting.
+    pub fn clone(&self) -> Result<Self, AllocError>
+        ensures { IfOk result (λ copy. copy ≡ self.now) }
+    {
+        Ok(StyleSheet {
+            rules: self.rules.clone()?,
+        })
+    }
+}

@@ -1,0 +1,198 @@
+use crate::{Declaration, Declarations, Rule, Rules, StyleSheet};
+use log::sink::Discard;
+use std::alloc::AllocError;
+use std::test::Fail;
+
+fn read<'a>(rt: &HostRuntime, text: &'a str) -> Result<StyleSheet<'a>, AllocError> {
+    StyleSheet::parse(&Discard, rt.alloc(), text)
+}
+
+// Whether the sheet prints this text.
+fn prints(rt: &HostRuntime, sheet: &StyleSheet, want: &str) -> Result<bool, AllocError> {
+    let text = sheet.to_string(rt.alloc())?;
+    Ok(text.as_str() == want)
+}
+
+#[test]
+fn prints_rules_in_order(rt: HostRuntime) -> Result<(), Fail> {
+    let sheets = [
+        ("", ""),
+        ("a, b { color:red }", "a { color:red; }\nb { color:red; }"),
+        (
+            "#x { color:red } a { color:blue }",
+            "a { color:blue; }\n*[id='x'] { color:red; }",
+        ),
+        (
+            ".b{x:y}.a{x:y}a{x:y}#c{x:y}b{x:y}*{x:y}",
+            "* { x:y; }\na { x:y; }\nb { x:y; }\n*[class~='b'] { x:y; }\n*[class~='a'] { x:y; }\n*[id='c'] { x:y; }",
+        ),
+        (
+            "a { b:c !important; d:e f ; }",
+            "a { b:c !important;d:e f; }",
+        ),
+        (
+            "a > b + c:first-child d { e:f }",
+            "a > b + c:first-child d { e:f; }",
+        ),
+    ];
+    for (text, want) in sheets {
+        let sheet = read(&rt, text)?;
+        assert!(rt; prints(&rt, &sheet, want)?, "of {text}");
+        let wide = format!(in rt.alloc(); "{sheet:*>200}")?;
+        assert!(rt; wide.as_str() == want, "of {text}");
+    }
+    Ok(())
+}
+
+#[test]
+fn reads_texts_in_turn(rt: HostRuntime) -> Result<(), Fail> {
+    let mut sheet = StyleSheet::new(rt.alloc());
+    assert!(rt; prints(&rt, &sheet, "")?);
+    sheet.parse_more(&Discard, rt.alloc(), "#x { a:b }")?;
+    sheet.parse_more(&Discard, rt.alloc(), "p { c:d }")?;
+    assert!(rt; prints(&rt, &sheet, "p { c:d; }\n*[id='x'] { a:b; }")?);
+    sheet.parse_more(&Discard, rt.alloc(), "/* open")?;
+    assert!(rt; prints(&rt, &sheet, "p { c:d; }\n*[id='x'] { a:b; }")?);
+    sheet.parse_more(&Discard, rt.alloc(), "#y { e:f } q { g:h }")?;
+    let want = "p { c:d; }\nq { g:h; }\n*[id='x'] { a:b; }\n*[id='y'] { e:f; }";
+    assert!(rt; prints(&rt, &sheet, want)?);
+    Ok(())
+}
+
+// Lets the two rules change places, and takes the declarations of the one that is then the last.
+fn turn(sheet: &mut StyleSheet) {
+    if sheet.rules.len() == 2 {
+        sheet.rules.swap(0, 1);
+    }
+    let mut rules = sheet.rules.take();
+    if let Some(last) = rules.last_mut() {
+        let _taken = last.declarations.take();
+    }
+    sheet.rules.put(rules);
+}
+
+#[test]
+fn reads_into_an_edited_sheet(rt: HostRuntime) -> Result<(), Fail> {
+    let mut sheet = read(&rt, "a { x:y } #b { x:y }")?;
+    turn(&mut sheet);
+    sheet.parse_more(&Discard, rt.alloc(), "/* x")?;
+    assert!(rt; prints(&rt, &sheet, "*[id='b'] { x:y; }\na {  }")?);
+    sheet.parse_more(&Discard, rt.alloc(), "")?;
+    assert!(rt; prints(&rt, &sheet, "*[id='b'] { x:y; }")?);
+    Ok(())
+}
+
+// Reads the texts in turn. Where one is refused, the sheet is as before, and the text is read again.
+fn keeps_its_rules(rt: &HostRuntime, texts: &[&'static str]) -> Result<bool, AllocError> {
+    let mut sheet = StyleSheet::new(rt.alloc());
+    let mut kept = true;
+    for text in texts {
+        let before = sheet.to_string(rt.alloc())?;
+        if sheet.parse_more(&Discard, rt.alloc(), text).is_err() {
+            kept &= before.as_str() == sheet.to_string(rt.alloc())?.as_str();
+            sheet.parse_more(&Discard, rt.alloc(), text)?;
+        }
+    }
+    Ok(kept)
+}
+
+#[test]
+fn a_refused_growth_changes_nothing(rt: HostRuntime) {
+    let texts = [
+        "#b { x:y } a { x:y; z:w }",
+        "c, d, .e { x:y }",
+        ".f > g { x:y } h {} #i j { x:y; x:z }",
+        "k { x:y } .l { x:y } * { x:y } m + n { x:y }",
+    ];
+    assert!(rt; keeps_its_rules(&rt, &texts).unwrap_or(true));
+}
+
+// Whether the sheets have equal rules.
+fn equal_rules(a: &StyleSheet, b: &StyleSheet) -> bool {
+    a.rules.len() == b.rules.len() && a.rules.iter().zip(b.rules.iter()).all(|(x, y)| *x == *y)
+}
+
+// Whether each rule of the sheet has an equal copy.
+fn copies_are_equal(sheet: &StyleSheet) -> Result<bool, AllocError> {
+    for rule in &sheet.rules {
+        if rule.clone()? != *rule {
+            return Ok(false);
+        }
+    }
+    Ok(true)
+}
+
+#[test]
+fn copies_are_equal_to_what_they_copy(rt: HostRuntime) -> Result<(), Fail> {
+    let sheets = [
+        "",
+        "a .b { c:d }",
+        "a *[class~=\"b\"] { c:d }",
+        "#x { c:d } [id=x] { c:d }",
+        ".b:lang( en ) { c:d } .- { c:d }",
+        "[x=\"a'b\"] { c:d } e { f:g }",
+        "a { b:\u{3000}(x) }",
+    ];
+    for text in sheets {
+        let sheet = read(&rt, text)?;
+        assert!(rt; equal_rules(&sheet, &sheet.clone()?), "of {text}");
+        assert!(rt; copies_are_equal(&sheet)?, "of {text}");
+    }
+    Ok(())
+}
+
+#[test]
+fn rules_differ_in_any_part(rt: HostRuntime) -> Result<(), Fail> {
+    let texts = [
+        "a b { c:d }",
+        "a > b { c:d }",
+        "a b { c:d !important }",
+        "a b { c:e }",
+        "a b { f:d }",
+        "a b { c:d; c:d }",
+        "a b.g { c:d }",
+    ];
+    for (i, text) in texts.iter().enumerate() {
+        let sheet = read(&rt, text)?;
+        for (j, other) in texts.iter().enumerate() {
+            let same = equal_rules(&sheet, &read(&rt, other)?);
+            assert!(rt; same == (i == j), "of {text} and {other}");
+        }
+    }
+    Ok(())
+}
+
+// A declaration of this name, with the value `x`.
+fn declaration(name: &str) -> Declaration<'_> {
+    Declaration {
+        name,
+        value: "x",
+        important: false,
+    }
+}
+
+#[test]
+fn lists_give_back_what_they_were_made_of(rt: HostRuntime) -> Result<(), Fail> {
+    let items = vec![in rt.alloc(); declaration("a"), declaration("b")]?;
+    let mut declarations = Declarations::from_vec(items);
+    assert_eq!(rt; declarations.len(), 2);
+    declarations.swap(0, 1);
+    let copy = declarations.clone()?;
+    assert!(rt; copy == declarations);
+    assert!(rt; copy.first() == Some(&declaration("b")));
+    let mut names = Vec::new(rt.alloc());
+    for declaration in &declarations {
+        names.push(declaration.name)?;
+    }
+    assert!(rt; names.as_slice() == ["b", "a"].as_slice());
+    assert!(rt; declarations.take().as_slice() == copy.as_slice());
+    assert!(rt; declarations.is_empty());
+    declarations.put(copy.into_vec());
+    assert_eq!(rt; declarations.len(), 2);
+    let sheet = read(&rt, "a { b:c } d { e:f }")?;
+    let rules: Vec<Rule> = sheet.clone()?.rules.into_vec();
+    assert!(rt; rules.first() == sheet.rules.first());
+    assert!(rt; rules.as_slice() == sheet.rules.as_slice());
+    assert!(rt; !Rules::from_vec(rules).is_empty());
+    Ok(())
+}
