@@ -8,3 +8,5 @@ pub mod Attributes
 pub mod Reading
 pub mod Values
 pub mod Written
+pub mod MatchLines
+pub mod Operands

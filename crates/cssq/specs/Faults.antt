@@ -6,12 +6,14 @@ use Rattle.cssq.specs.declared.runs.RunFault.{RunFault}
 use Rattle.cssq.specs.declared.runs.RunFault.TheVariants.{Refused, Tree, Memory, Output}
 use Rattle.cssq.specs.TreeText.{fault_number, fault_line}
 
+-- 1 for a text that is refused or faulty, 3 for want of memory, 4 for a writer that failed
 abbrev pub status_of : RunFault → ℕ
 status_of Refused = 1
 status_of (Tree fault) = 1
 status_of Memory = 3
 status_of Output = 4
 
+-- the line, without its newline
 abbrev pub message_of : RunFault → List ℕ
 message_of Refused = codes "cssq: selector refused"
 message_of (Tree fault) = codes "cssq: tree fault " ++ decimal (fault_number fault) ++ codes " at line " ++ decimal (fault_line fault)

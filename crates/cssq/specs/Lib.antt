@@ -9,3 +9,5 @@ pub mod Command
 pub mod Faults
 pub mod Outcomes
 pub mod SelectorRuns
+pub mod SheetRuns
+pub mod MatchRuns

@@ -14,12 +14,15 @@ abbrev pub fields_in : Option (Bor (List ℕ)) → List (List ℕ)
 fields_in None = []
 fields_in (Some text) = fields_of text.now
 
+-- what a line says
 abbrev pub row : Entry → Row
 row e = record { depth = e.depth; name = e.name.now; attributes = map attribute_of (fields_in e.attributes) }
 
+-- what all lines say
 abbrev pub rows : List Line → List Row
 rows lines = map (λ l. row l.entry) lines
 
+-- the depths of all lines
 abbrev pub depths : List Line → List ℕ
 depths lines = map (λ l. l.entry.depth) lines
 

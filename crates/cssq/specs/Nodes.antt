@@ -14,12 +14,15 @@ pub record Spot : Type 0 where
   pub rows : List Row
   pub place : ℕ
 
+-- the place among these rows
 abbrev pub spot : List Row → ℕ → Spot
 spot rows place = record { rows = rows; place = place }
 
+-- the parent, among the same rows
 abbrev pub parent_of : Spot → Option Spot
 parent_of s = option_map (spot s.rows) (parent_place (depths_of s.rows) s.place)
 
+-- the previous sibling, among the same rows
 abbrev pub previous_of : Spot → Option Spot
 previous_of s = option_map (spot s.rows) (previous_place (depths_of s.rows) s.place)
 
@@ -32,6 +35,7 @@ ancestors_within (suc steps) depths place = elim (parent_place depths place) [ N
 abbrev pub depth_of : Spot → ℕ
 depth_of s = ancestors_within (suc s.place) (depths_of s.rows) s.place
 
+-- the name of the element at a place
 abbrev pub name_at : List Row → ℕ → List ℕ
 name_at rows place = option_map_or (λ row. row.name) (slice_get rows place) []
 
@@ -40,6 +44,7 @@ abbrev pub value_in : List (List ℕ × List ℕ) → List ℕ → Option (List 
 value_in [] key = None
 value_in (attribute ∷ attributes) key = if bytes_eq attribute.0 key then Some attribute.1 else value_in attributes key
 
+-- the value of an attribute of the element at a place, if it has the attribute
 abbrev pub attribute_at : List Row → ℕ → List ℕ → Option (List ℕ)
 attribute_at rows place key = option_map_or (λ row. value_in row.attributes key) (slice_get rows place) None
 
@@ -50,6 +55,7 @@ is_as_asked (equals text) value = bytes_eq value text
 is_as_asked (has_word word) value = list_any (λ part. bytes_eq part word) (slice_split (λ b. b == 32) value)
 is_as_asked (begins_with start) value = bytes_eq value start || starts_with nat_eq value (start ++ 45 ∷ [])
 
+-- names are equal byte by byte
 abbrev pub has_name : Spot → List ℕ → Bool
 has_name s name = bytes_eq (name_at s.rows s.place) name
 

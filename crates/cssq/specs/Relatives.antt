@@ -2,6 +2,7 @@
 use Rattle.std.specs.Prelude.{ℕ, suc, Bool, List, [], ◌∷◌, map, take, Option, None, Some, ◌==◌, if◌then◌else◌, nat_lt, nat_le, slice_index}
 use Rattle.cssq.specs.TreeText.{Row}
 
+-- the depths of all rows, in their order
 abbrev pub depths_of : List Row → List ℕ
 depths_of rows = map (λ row. row.depth) rows
 

@@ -2,10 +2,10 @@
 use Rattle.std.specs.Prelude.{◌≡◌, ℕ, List, [], ◌∷◌, ◌++◌, Option, None, Some, Result, Ok, Err, decimal, map}
 use Rattle.std.specs.List.{join_with_byte}
 use Rattle.simplecss_text.specs.Components.{Component}
+use Rattle.simplecss_text.specs.Selectors.{reads}
+use Rattle.simplecss_text.specs.ThisEdition.{this_edition}
 use Rattle.simplecss_text.specs.Specificity.{specificity}
 use Rattle.simplecss_text.specs.Printing.{selector_text}
-use Rattle.simplecss_text.specs.ThisEdition.{this_edition}
-use Rattle.simplecss_text.specs.Selectors.{reads}
 use Rattle.cssq.specs.declared.runs.RunFault.{RunFault}
 use Rattle.cssq.specs.declared.runs.RunFault.TheVariants.{Refused}
 
@@ -17,6 +17,7 @@ selector_in text = (reads this_edition text).0
 abbrev pub selector_line : List Component → List ℕ
 selector_line selector = selector_text selector ++ (9 ∷ join_with_byte 44 (map decimal (specificity selector)) ++ 10 ∷ [])
 
+-- the line of a selector, or the fault where there is none
 abbrev pub line_or_refused : Option (List Component) → Result (List ℕ) RunFault
 line_or_refused None = Err Refused
 line_or_refused (Some selector) = Ok (selector_line selector)

@@ -6,12 +6,15 @@ use Rattle.std.specs.Str.Parse.{digits_value}
 use Rattle.cssq.specs.declared.tree.TreeFault.{TreeFault}
 use Rattle.cssq.specs.declared.tree.TreeFault.TheVariants.{BadDepth, EmptyName, NoEquals, RepeatedKey, Memory}
 
+-- a newline, which ends a line
 abbrev pub is_newline : ℕ → Bool
 is_newline b = b == 10
 
+-- a TAB, which stands between fields
 abbrev pub is_tab : ℕ → Bool
 is_tab b = b == 9
 
+-- `=`, which stands between a key and its value
 abbrev pub is_equals : ℕ → Bool
 is_equals b = b == 61
 
@@ -42,13 +45,15 @@ name_text fields = slice_index_or fields 1 []
 abbrev pub attribute_fields : List (List ℕ) → List (List ℕ)
 attribute_fields fields = drop 2 fields
 
--- what stands before the first `=` of a field, and what stands behind it
+-- what stands before the first `=` of a field
 abbrev pub key_of : List ℕ → List ℕ
 key_of field = before_first is_equals field
 
+-- what stands behind the first `=` of a field
 abbrev pub value_of : List ℕ → List ℕ
 value_of field = after_first is_equals field
 
+-- the key and the value of a field
 abbrev pub attribute_of : List ℕ → List ℕ × List ℕ
 attribute_of field = (key_of field, value_of field)
 
@@ -58,9 +63,11 @@ pub record Row : Type 0 where
   pub name : List ℕ
   pub attributes : List (List ℕ × List ℕ)
 
+-- the number that the first field spells
 abbrev pub depth_in : List (List ℕ) → ℕ
 depth_in fields = digits_value 10 (depth_text fields)
 
+-- the row of a line, by its fields
 abbrev pub row_of : List (List ℕ) → Row
 row_of fields = record { depth = depth_in fields; name = name_text fields; attributes = map attribute_of (attribute_fields fields) }
 
@@ -79,9 +86,11 @@ depth_of limit field = if is_depth field && nat_le (digits_value 10 field) limit
 abbrev pub depth_fault : ℕ → ℕ → List (List ℕ) → Option TreeFault
 depth_fault number limit fields = if is_none (depth_of limit (depth_text fields)) then Some (BadDepth number) else None
 
+-- the name is missing or empty
 abbrev pub name_fault : ℕ → List (List ℕ) → Option TreeFault
 name_fault number fields = if length (name_text fields) == 0 then Some (EmptyName number) else None
 
+-- whether a `=` stands in a field
 abbrev pub has_equals : List ℕ → Bool
 has_equals field = nat_lt (position_or_len is_equals field) (length field)
 
@@ -148,6 +157,7 @@ IsFaultOf (EmptyName line) text = tree_of text ≡ Err (EmptyName line)
 IsFaultOf (NoEquals line) text = tree_of text ≡ Err (NoEquals line)
 IsFaultOf (RepeatedKey line) text = tree_of text ≡ Err (RepeatedKey line)
 
+-- the number of the kind of fault
 abbrev pub fault_number : TreeFault → ℕ
 fault_number (BadDepth line) = 1
 fault_number (EmptyName line) = 2
@@ -155,6 +165,7 @@ fault_number (NoEquals line) = 3
 fault_number (RepeatedKey line) = 4
 fault_number (Memory line) = 5
 
+-- the number of the line that the fault tells
 abbrev pub fault_line : TreeFault → ℕ
 fault_line (BadDepth line) = line
 fault_line (EmptyName line) = line

@@ -1,10 +1,10 @@
 //! The words of the command line.
 
 ghost use Rattle.std.specs.Prelude.{◌≡◌, map, option_map, string_bytes};
-ghost use Rattle.cssq.specs.Command.{request, request_of, selector_of};
+ghost use Rattle.cssq.specs.Command.{request, request_of, selector_of, sheet_of, match_of};
 
 /// The line that tells which words there are.
-pub const USAGE: &str = "usage: cssq [selector TEXT]";
+pub const USAGE: &str = "usage: cssq [selector TEXT | sheet FILE... | match FILE TREE]";
 
 /// What the words after the program's name ask for.
 #[derive(Clone, Copy, PartialEq, Debug)]
@@ -13,6 +13,10 @@ pub enum Command<'w> {
     Input,
     /// `selector TEXT`: the selector of the text.
     Selector(&'w str),
+    /// `sheet FILE...`: the sheet of the files' texts in turn.
+    Sheet(&'w [String]),
+    /// `match FILE TREE`: which rules of the file's sheet take each element of the tree.
+    Match(&'w str, &'w str),
 }
 
 impl<'w> Command<'w> {
@@ -25,6 +29,8 @@ impl<'w> Command<'w> {
             [] => Some(Command::Input),
             [name, operands @ ..] => match name.as_str() {
                 "selector" => selector(operands),
+                "sheet" => sheet(operands),
+                "match" => match_tree(operands),
                 _ => None,
             },
         }
@@ -36,6 +42,25 @@ fn selector(operands: &[String]) -> Option<Command<'_>>
 {
     match operands {
         [text] => Some(Command::Selector(text.as_str())),
+        _ => None,
+    }
+}
+
+fn sheet(operands: &[String]) -> Option<Command<'_>>
+    ensures { option_map request result ≡ sheet_of (map string_bytes operands.now) }
+{
+    match operands {
+        [] => None,
+        files => Some(Command::Sheet(files)),
+    }
+}
+
+#[tactic(auto, using(crate::proofs::Operands::match_of_few, crate::proofs::Operands::match_of_many))]
+fn match_tree(operands: &[String]) -> Option<Command<'_>>
+    ensures { option_map request result ≡ match_of (map string_bytes operands.now) }
+{
+    match operands {
+        [file, tree] => Some(Command::Match(file.as_str(), tree.as_str())),
         _ => None,
     }
 }

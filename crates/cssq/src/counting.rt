@@ -2,7 +2,7 @@
 
 use crate::tree::{Node, Page};
 use log::sink::Discard;
-use simplecss::{AttributeOperator, Element, PseudoClass, Selector};
+use simplecss::{AttributeOperator, Element, PseudoClass, Selector, Tests};
 use std::alloc::Global;
 use std::cell::Cell;
 use std::test::Fail;
@@ -82,34 +82,147 @@ impl<'a, 'p, 't> Element for Counted<'a, 'p, 't> {
     }
 }
 
-/// Whether the selector takes the element at a place of the tree, by `matches`, and how often names, attributes and
-/// classes were asked.
-fn run(
-    alloc: Global,
-    selector: &str,
-    tree: &str,
-    place: usize,
-) -> Result<(bool, u64, u64, u64), Fail> {
+/// An answer, and how often names, attributes and classes were asked.
+#[derive(Clone, Copy, PartialEq, Debug)]
+struct Run {
+    answer: bool,
+    names: u64,
+    attributes: u64,
+    classes: u64,
+}
+
+/// The run of a selector on the last element of a tree, by `matches_counted` or by `matches`.
+fn asked_on_last(alloc: Global, selector: &str, tree: &str, is_counted: bool) -> Result<Run, Fail> {
     let page = Page::read(alloc, tree)?;
     let selector = Selector::parse(&Discard, alloc, selector)?.ok_or("refused")?;
     let asked = Asked::new();
+    let last = page.len().checked_sub(1).ok_or("empty")?;
     let element = Counted {
-        node: page.node(place).ok_or("no element")?,
+        node: page.node(last).ok_or("no element")?,
         asked: &asked,
     };
-    let answer = selector.matches(&element);
-    Ok((
+    let answer = if is_counted {
+        selector.matches_counted(&element, &mut Tests::new())
+    } else {
+        selector.matches(&element)
+    };
+    Ok(Run {
         answer,
-        asked.names.get(),
-        asked.attributes.get(),
-        asked.classes.get(),
-    ))
+        names: asked.names.get(),
+        attributes: asked.attributes.get(),
+        classes: asked.classes.get(),
+    })
+}
+
+/// A tree of elements that carry their names as their classes: each word is the child of the one before, or its sibling
+/// where a `+` stands between them.
+fn tree_of(alloc: Global, words: &str) -> Result<String, Fail> {
+    use std::fmt::Write;
+    let mut text = String::new(alloc);
+    let mut depth = 0usize;
+    for word in words.split(' ') {
+        if word == "+" {
+            depth = depth.saturating_sub(1);
+        } else {
+            write!(text, "{depth}\t{word}\tclass={word}\n")?;
+            depth = depth.saturating_add(1);
+        }
+    }
+    Ok(text)
 }
 
 #[test]
-fn asks_the_name_once(rt: HostRuntime) -> Result<(), Fail> {
-    let tree = "0\ta\n1\tb\n";
-    assert!(rt; run(rt.alloc(), "b", tree, 1)? == (true, 1, 0, 0));
-    assert!(rt; run(rt.alloc(), "a", tree, 1)? == (false, 1, 0, 0));
+fn counts_tests(rt: HostRuntime) -> Result<(), Fail> {
+    for (by_names, by_classes, tree, answer, tests, bounds) in [
+        ("a > b c", ".a > .b .c", "a b x b c", true, 6, (15, 10)),
+        ("a b + c", ".a .b + .c", "a x b + c", true, 4, (9, 6)),
+        ("b + c", ".b + .c", "b + x + c", false, 2, (2, 2)),
+        (
+            "y a a c",
+            ".y .a .a .c",
+            "a a a a a a a a a a c",
+            false,
+            11,
+            (44, 11),
+        ),
+        (
+            "a > b > c d",
+            ".a > .b > .c .d",
+            "a b c x b c d",
+            true,
+            9,
+            (28, 21),
+        ),
+    ] {
+        let tree = tree_of(rt.alloc(), tree)?;
+        for is_counted in [true, false] {
+            let named = asked_on_last(rt.alloc(), by_names, tree.as_str(), is_counted)?;
+            let wanted = Run {
+                answer,
+                names: tests,
+                attributes: 0,
+                classes: 0,
+            };
+            assert_eq!(rt; named, wanted, "at {by_names:?}");
+            let classed = asked_on_last(rt.alloc(), by_classes, tree.as_str(), is_counted)?;
+            let wanted = Run {
+                answer,
+                names: 0,
+                attributes: tests,
+                classes: 0,
+            };
+            assert_eq!(rt; classed, wanted, "at {by_classes:?}");
+        }
+        assert!(rt; tests <= bounds.0 && tests <= bounds.1, "at {by_names:?}");
+    }
+    Ok(())
+}
+
+#[test]
+fn counts_pseudo_classes(rt: HostRuntime) -> Result<(), Fail> {
+    let tree = tree_of(rt.alloc(), "a b c")?;
+    for is_counted in [true, false] {
+        let got = asked_on_last(
+            rt.alloc(),
+            ":first-child > :first-child",
+            tree.as_str(),
+            is_counted,
+        )?;
+        let wanted = Run {
+            answer: true,
+            names: 0,
+            attributes: 0,
+            classes: 2,
+        };
+        assert_eq!(rt; got, wanted);
+    }
+    Ok(())
+}
+
+const MANY: usize = 100_000;
+
+#[test]
+fn counts_in_a_deep_tree(rt: HostRuntime) -> Result<(), Fail> {
+    use std::fmt::Write;
+    let mut tree = String::new(rt.alloc());
+    let mut selector = String::from_str(rt.alloc(), "a")?;
+    for depth in 0..MANY {
+        write!(tree, "{depth}\ta\n")?;
+        if depth > 0 {
+            selector.push_str(" a")?;
+        }
+    }
+    for is_counted in [true, false] {
+        for (text, answer) in [(selector.as_str(), true), ("x a", false)] {
+            let got = asked_on_last(rt.alloc(), text, tree.as_str(), is_counted)?;
+            let wanted = Run {
+                answer,
+                names: 100_000,
+                attributes: 0,
+                classes: 0,
+            };
+            assert_eq!(rt; got, wanted);
+        }
+    }
     Ok(())
 }

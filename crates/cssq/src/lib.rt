@@ -5,4 +5,6 @@ pub mod command;
 #[cfg(test)]
 mod counting;
 pub mod runs;
+#[cfg(test)]
+mod selecting;
 pub mod tree;

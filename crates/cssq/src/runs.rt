@@ -1,18 +1,24 @@
 //! What the program's commands do, over any writer.
 
-ghost use Rattle.std.specs.Prelude.{◌≡◌, Some, OnOk, OnErr, IfErr, IfOk, string_bytes};
+ghost use Rattle.std.specs.Prelude.{◌≡◌, Some, OnOk, OnErr, IfErr, IfOk, string_bytes, map};
 ghost use Rattle.std.specs.Io.KnownBytes.{Appends};
 ghost use Rattle.cssq.specs.Outcomes.{AppendsProperPart, Runs};
 ghost use Rattle.cssq.specs.Faults.{status_of, message_of, run_fault};
 ghost use Rattle.cssq.specs.SelectorRuns.{selector_line, IsSelectorRun};
+ghost use Rattle.cssq.specs.SheetRuns.{sheet_output, IsSheetRun};
+ghost use Rattle.cssq.specs.MatchRuns.{IsMatchText, IsLineAdded, IsMatchRun};
 ghost use Rattle.cssq.specs.declared.runs.RunFault.TheVariants.{Memory};
+ghost use Rattle.simplecss_text.specs.ThisEdition.{this_edition};
+ghost use Rattle.simplecss_text.specs.Sheets.{sheet};
+ghost use Rattle.simplecss.specs.StyleRules.{rule_of};
 
-use crate::tree::TreeFault;
+use crate::tree::{Node, Page, TreeFault};
 use log::Log;
-use simplecss::Selector;
+use simplecss::{Rule, Selector, StyleSheet};
 use std::alloc::{AllocError, AllocFailed, Global};
 use std::error::Error;
 use std::fmt;
+use std::fmt::Write as _;
 use std::io::Write;
 
 /// Why a run failed.
@@ -130,6 +136,100 @@ pub fn run_selector<R: Log, W: Write>(
     };
     let line = selector_line(alloc, &selector)?;
     write_out(out, line.as_bytes())
+}
+
+/// The sheet of all the texts, read in turn.
+fn read_sheet<'a, R: Log>(
+    rt: &R,
+    alloc: Global,
+    texts: &[&'a str],
+) -> Result<StyleSheet<'a>, AllocError>
+    ensures { IfOk result (λ read. read.rules ≡ sheet this_edition (map (λ text. text.now) texts.now)) }
+{
+    let mut sheet = StyleSheet::new(alloc);
+    for text in texts {
+        sheet.parse_more(rt, alloc, text)?;
+    }
+    Ok(sheet)
+}
+
+/// The printed sheet, and a newline where it has a rule.
+fn sheet_text(alloc: Global, sheet: &StyleSheet<'_>) -> Result<String, AllocError>
+    ensures { IfOk result (λ text. string_bytes text ≡ sheet_output sheet.now.rules) }
+{
+    if sheet.rules.is_empty() {
+        return Ok(String::new(alloc));
+    }
+    format!(in alloc; "{sheet}\n")
+}
+
+/// Reads the texts in turn into one sheet, and writes the printed sheet, and one newline if it has a rule.
+///
+/// The whole output is built first: after `Memory` nothing was written. After `Output` a beginning of it was, and never all
+/// of it. There is no other fault.
+pub fn run_sheet<R: Log, W: Write>(
+    rt: &R,
+    alloc: Global,
+    texts: &[&str],
+    out: &mut W,
+) -> Result<(), RunFault>
+    ensures { Runs (IsSheetRun (map (λ text. text.now) texts.now)) result (W.contents out.old) (W.contents out.new) }
+{
+    let sheet = read_sheet(rt, alloc, texts)?;
+    let text = sheet_text(alloc, &sheet)?;
+    write_out(out, text.as_bytes())
+}
+
+/// Adds the line of an element: its number, and the numbers of the rules that take it.
+fn push_line(
+    out: &mut String,
+    number: usize,
+    rules: &[Rule<'_>],
+    element: &Node<'_, '_>,
+) -> Result<(), AllocError>
+    ensures { OnOk result (IsLineAdded (string_bytes out.old) (string_bytes out.new) number (map rule_of rules.now) element.now) }
+{
+    write!(out, "{number}:")?;
+    for (i, rule) in rules.iter().enumerate() {
+        if rule.selector.matches(element) {
+            let rule_number = i + 1;
+            write!(out, " {rule_number}")?;
+        }
+    }
+    out.push('\n')?;
+    Ok(())
+}
+
+/// The lines of the elements of a page.
+fn match_text(alloc: Global, rules: &[Rule<'_>], page: &Page<'_>) -> Result<String, AllocError>
+    ensures { IfOk result (λ text. IsMatchText (map rule_of rules.now) page.now (string_bytes text)) }
+{
+    let mut text = String::new(alloc);
+    for place in 0..page.len() {
+        let node = page.node(place).unwrap();
+        push_line(&mut text, place + 1, rules, &node)?;
+    }
+    Ok(text)
+}
+
+/// Writes for each element of a tree its number from 1, a colon, a space and the number of each rule of the sheet that takes
+/// it, and a newline.
+///
+/// The sheet is read first, then the tree, and then the whole output is built: after `Tree` and `Memory` nothing was written.
+/// After `Output` a beginning of it was, and never all of it. `Refused` does not come.
+pub fn run_match<R: Log, W: Write>(
+    rt: &R,
+    alloc: Global,
+    sheet: &str,
+    tree: &str,
+    out: &mut W,
+) -> Result<(), RunFault>
+    ensures { Runs (IsMatchRun sheet.now tree.now) result (W.contents out.old) (W.contents out.new) }
+{
+    let sheet = read_sheet(rt, alloc, &[sheet])?;
+    let page = Page::read(alloc, tree)?;
+    let text = match_text(alloc, sheet.rules.as_slice(), &page)?;
+    write_out(out, text.as_bytes())
 }
 
 #[cfg(test)]

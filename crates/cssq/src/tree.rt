@@ -366,6 +366,7 @@ impl<'t> Page<'t> {
         }
     }
 
+    #[inline(always)]
     fn parent(&self, place: usize) -> Option<usize>
         requires { place < length self.now }
         ensures value { result ≡ parent_place (depths_of self.now) place }
@@ -374,6 +375,7 @@ impl<'t> Page<'t> {
         self.lines[place].parent
     }
 
+    #[inline(always)]
     fn previous(&self, place: usize) -> Option<usize>
         requires { place < length self.now }
         ensures value { result ≡ previous_place (depths_of self.now) place }
@@ -382,6 +384,7 @@ impl<'t> Page<'t> {
         self.lines[place].previous
     }
 
+    #[inline(always)]
     fn name(&self, place: usize) -> &'t str
         requires { place < length self.now }
         ensures { result.now ≡ name_at self.now place }
@@ -438,18 +441,21 @@ impl<'p, 't> Element for Node<'p, 't> {
 
     ghost sibling_law = { siblings_share_parents };
 
+    #[inline(always)]
     fn parent_element(&self) -> Option<Self> {
         let page = self.page;
         let place = page.parent(self.place)?;
         Some(Node { page, place })
     }
 
+    #[inline(always)]
     fn prev_sibling_element(&self) -> Option<Self> {
         let page = self.page;
         let place = page.previous(self.place)?;
         Some(Node { page, place })
     }
 
+    #[inline(always)]
     fn has_local_name(&self, name: &str) -> bool {
         self.page.name(self.place) == name
     }
@@ -461,6 +467,7 @@ impl<'p, 't> Element for Node<'p, 't> {
         }
     }
 
+    #[inline(always)]
     fn pseudo_class_matches(&self, class: PseudoClass<'_>) -> bool {
         match class {
             PseudoClass::FirstChild => self.page.previous(self.place).is_none(),

@@ -1,12 +1,12 @@
-//! Shows how a selector reads: its printed form and its specificity.
+//! Shows how selectors and style sheets read, and which rules take the elements of a tree.
 #![tactic(auto)]
 
 use cssq::command::{Command, USAGE};
-use cssq::runs::{RunFault, run_selector};
+use cssq::runs::{RunFault, run_match, run_selector, run_sheet};
 use log::sink::Console;
-use std::env;
 use std::io::Read;
 use std::process::ExitCode;
+use std::{env, fs};
 
 /// The words after the program's name.
 fn words(rt: &HostRuntime) -> Option<Vec<String>> {
@@ -18,6 +18,11 @@ fn read_input(rt: &HostRuntime) -> Option<String> {
     let mut bytes = Vec::new(rt.alloc());
     rt.reader().read_to_end(&mut bytes).ok()?;
     String::from_utf8(bytes).ok()
+}
+
+/// All of a file, as text.
+fn read_file(rt: &HostRuntime, name: &str) -> Option<String> {
+    fs::read_to_string(rt, name).ok()
 }
 
 /// Tells what went wrong. A fault of standard error changes nothing.
@@ -47,6 +52,52 @@ fn show_selector(rt: &HostRuntime, text: &str) -> ExitCode {
     ended(rt, outcome)
 }
 
+/// The texts of the files, or the exit code after the first that cannot be read.
+fn read_files(rt: &HostRuntime, names: &[String]) -> Result<Vec<String>, ExitCode> {
+    let mut texts = Vec::new(rt.alloc());
+    for name in names {
+        let Some(text) = read_file(rt, name.as_str()) else {
+            return Err(unreadable(rt, name.as_str()));
+        };
+        if texts.push(text).is_err() {
+            return Err(ended(rt, Err(RunFault::Memory)));
+        }
+    }
+    Ok(texts)
+}
+
+/// Shows the sheet of the files' texts in turn.
+fn show_sheet(rt: &HostRuntime, names: &[String]) -> ExitCode {
+    let owned = match read_files(rt, names) {
+        Ok(owned) => owned,
+        Err(code) => return code,
+    };
+    let Ok(texts) = owned.iter().map(|text| text.as_str()).collect(rt.alloc()) else {
+        return ended(rt, Err(RunFault::Memory));
+    };
+    let texts: Vec<&str> = texts;
+    let outcome = run_sheet(&Console(rt), rt.alloc(), texts.as_slice(), &mut rt.stdout());
+    ended(rt, outcome)
+}
+
+/// Shows which rules of the file's sheet take each element of the tree.
+fn show_match(rt: &HostRuntime, file: &str, tree: &str) -> ExitCode {
+    let Some(sheet_text) = read_file(rt, file) else {
+        return unreadable(rt, file);
+    };
+    let Some(tree_text) = read_file(rt, tree) else {
+        return unreadable(rt, tree);
+    };
+    let outcome = run_match(
+        &Console(rt),
+        rt.alloc(),
+        sheet_text.as_str(),
+        tree_text.as_str(),
+        &mut rt.stdout(),
+    );
+    ended(rt, outcome)
+}
+
 fn main(rt: HostRuntime) -> ExitCode {
     let Some(words) = words(&rt) else {
         return fail(&rt, 2, USAGE);
@@ -57,6 +108,8 @@ fn main(rt: HostRuntime) -> ExitCode {
             None => unreadable(&rt, "standard input"),
         },
         Some(Command::Selector(text)) => show_selector(&rt, text),
+        Some(Command::Sheet(names)) => show_sheet(&rt, names),
+        Some(Command::Match(file, tree)) => show_match(&rt, file, tree),
         None => fail(&rt, 2, USAGE),
     }
 }

@@ -27,9 +27,29 @@ fn reads_words(rt: HostRuntime) -> Result<(), Fail> {
         ("selectors a", None),
         (" selector a", None),
         ("select a", None),
+        ("sheet", None),
+        ("match", None),
+        ("match a", None),
+        ("match a b", Some(Command::Match("a", "b"))),
+        ("match a b c", None),
+        ("style a b c", None),
     ] {
         let words = words(rt.alloc(), line)?;
         assert_eq!(rt; Command::of(words.as_slice()), command, "at {line:?}");
+    }
+    Ok(())
+}
+
+#[test]
+fn reads_files(rt: HostRuntime) -> Result<(), Fail> {
+    for line in ["sheet a", "sheet a b c", "sheet sheet"] {
+        let words = words(rt.alloc(), line)?;
+        let files = words.as_slice().get(1..).ok_or("no word")?;
+        assert_eq!(rt;
+            Command::of(words.as_slice()),
+            Some(Command::Sheet(files)),
+            "at {line:?}"
+        );
     }
     Ok(())
 }

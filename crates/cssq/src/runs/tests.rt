@@ -1,4 +1,5 @@
 use super::*;
+use log::sink::Discard;
 use std::io;
 use std::test::Fail;
 
@@ -83,6 +84,101 @@ fn stops_at_a_full_writer(rt: HostRuntime) -> Result<(), Fail> {
                 assert_eq!(rt; outcome, Ok(()));
                 assert_eq!(rt; out.refusals, 0);
             }
+        }
+    }
+    Ok(())
+}
+
+#[test]
+fn writes_selectors(rt: HostRuntime) {
+    for (text, outcome, line) in [
+        ("a > .b", Ok(()), "a > *[class~='b']\t0,1,1\n"),
+        ("a > .b\n", Ok(()), "a > *[class~='b']\t0,1,1\n"),
+        ("a, b", Ok(()), "a\t0,0,1\n"),
+        ("", Err(RunFault::Refused), ""),
+        ("a <", Err(RunFault::Refused), ""),
+    ] {
+        let mut out = Vec::new(rt.alloc());
+        let got = run_selector(&Discard, rt.alloc(), text, &mut out);
+        assert_eq!(rt; got, outcome, "at {text:?}");
+        assert_eq!(rt; out.as_slice(), line.as_bytes(), "at {text:?}");
+    }
+}
+
+#[test]
+fn stops_a_selector_at_a_full_writer(rt: HostRuntime) -> Result<(), Fail> {
+    let line = b"a > *[class~='b']\t0,1,1\n".as_slice();
+    for fails in [true, false] {
+        for room in 0..=line.len() {
+            let mut out = Full::new(rt.alloc(), room, fails);
+            let outcome = run_selector(&Discard, rt.alloc(), "a > .b", &mut out);
+            assert_eq!(rt; out.taken.as_slice(), &line[..room], "at {room}");
+            let wanted = if room < line.len() {
+                Err(RunFault::Output)
+            } else {
+                Ok(())
+            };
+            assert_eq!(rt; outcome, wanted, "at {room}");
+        }
+    }
+    Ok(())
+}
+
+#[test]
+fn writes_sheets(rt: HostRuntime) {
+    let row = ["#x { a:b }", "p { c:d }"];
+    for (texts, written) in [
+        ([].as_slice(), ""),
+        ([""].as_slice(), ""),
+        (["a { b:c }"].as_slice(), "a { b:c; }\n"),
+        (row.as_slice(), "p { c:d; }\n*[id='x'] { a:b; }\n"),
+    ] {
+        let mut out = Vec::new(rt.alloc());
+        let outcome = run_sheet(&Discard, rt.alloc(), texts, &mut out);
+        assert_eq!(rt; outcome, Ok(()), "at {texts:?}");
+        assert_eq!(rt; out.as_slice(), written.as_bytes(), "at {texts:?}");
+    }
+}
+
+const SHEET: &str = "a > b { c:d } b { e:f }";
+
+const TREE: &str = "0\ta\n1\tb\n1\tc\n2\tb\n";
+
+const LINES: &[u8] = b"1:\n2: 1 2\n3:\n4: 1\n";
+
+#[test]
+fn writes_matches(rt: HostRuntime) {
+    for (sheet, tree, outcome, lines) in [
+        (SHEET, TREE, Ok(()), LINES),
+        ("", "0\ta\n", Ok(()), b"1:\n".as_slice()),
+        (SHEET, "", Ok(()), b"".as_slice()),
+        (
+            SHEET,
+            "1\ta",
+            Err(RunFault::Tree(TreeFault::BadDepth(1))),
+            b"".as_slice(),
+        ),
+    ] {
+        let mut out = Vec::new(rt.alloc());
+        let got = run_match(&Discard, rt.alloc(), sheet, tree, &mut out);
+        assert_eq!(rt; got, outcome, "at {tree:?}");
+        assert_eq!(rt; out.as_slice(), lines, "at {tree:?}");
+    }
+}
+
+#[test]
+fn stops_matches_at_a_full_writer(rt: HostRuntime) -> Result<(), Fail> {
+    for fails in [true, false] {
+        for room in 0..=LINES.len() {
+            let mut out = Full::new(rt.alloc(), room, fails);
+            let outcome = run_match(&Discard, rt.alloc(), SHEET, TREE, &mut out);
+            assert_eq!(rt; out.taken.as_slice(), &LINES[..room], "at {room}");
+            let wanted = if room < LINES.len() {
+                Err(RunFault::Output)
+            } else {
+                Ok(())
+            };
+            assert_eq!(rt; outcome, wanted, "at {room}");
         }
     }
     Ok(())

@@ -1,0 +1,51 @@
+-- Which rules of a sheet take an element, and what a run over a sheet and a tree is to write.
+use Rattle.std.specs.Prelude.{◌≡◌, ℕ, ◌+◌, ◌↔◌, length, Bool, true, List, [], ◌∷◌, ◌++◌, decimal, Result, Ok, Err}
+use Rattle.std.specs.List.{AllZip, items_where_true, range_with_len, flat_map, concat}
+use Rattle.simplecss_text.specs.ThisEdition.{this_edition}
+use Rattle.simplecss_text.specs.Statements.{StyleRule}
+use Rattle.simplecss_text.specs.Sheets.{sheet}
+use Rattle.simplecss_selector.specs.Placements.{HasPlacement}
+use Rattle.cssq.specs.declared.runs.RunFault.{RunFault}
+use Rattle.cssq.specs.declared.runs.RunFault.TheVariants.{Refused, Tree, Memory, Output}
+use Rattle.cssq.specs.TreeText.{Row, tree_of}
+use Rattle.cssq.specs.Nodes.{Spot, spot, page_tree}
+
+-- the rule's selector has a placement on the element
+abbrev pub Takes : StyleRule → Spot → Type 0
+Takes rule element = HasPlacement page_tree rule.components element
+
+-- the answers tell of each rule whether it takes the element
+abbrev pub AreAnswers : List Bool → List StyleRule → Spot → Type 0
+AreAnswers answers rules element = AllZip (λ answer rule. (answer ≡ true) ↔ Takes rule element) answers rules
+
+-- the numbers of the rules with a yes, the first rule having the number 1
+abbrev pub numbers_of : List Bool → List ℕ
+numbers_of answers = items_where_true answers (range_with_len 1 (length answers))
+
+-- the numbers, a space before each
+abbrev pub numbers_text : List ℕ → List ℕ
+numbers_text numbers = flat_map (λ n. 32 ∷ decimal n) numbers
+
+-- an element's number, a colon, the numbers of the rules that take it, and a newline
+abbrev pub line_text : ℕ → List Bool → List ℕ
+line_text number answers = decimal number ++ (58 ∷ (numbers_text (numbers_of answers) ++ 10 ∷ []))
+
+-- the line of the element at a place
+abbrev pub IsLineOf : List StyleRule → List Row → ℕ → List ℕ → Type 0
+IsLineOf rules rows place line = (answers : List Bool) × AreAnswers answers rules (spot rows place) × (line ≡ line_text (place + 1) answers)
+
+-- the line of an element was added to a text
+abbrev pub IsLineAdded : List ℕ → List ℕ → ℕ → List StyleRule → Spot → Type 0
+IsLineAdded old new number rules element = (answers : List Bool) × AreAnswers answers rules element × (new ≡ old ++ line_text number answers)
+
+-- the lines of all elements, in turn
+abbrev pub IsMatchText : List StyleRule → List Row → List ℕ → Type 0
+IsMatchText rules rows text = (lines : List (List ℕ)) × AllZip (IsLineOf rules rows) (range_with_len 0 (length rows)) lines × (text ≡ concat lines)
+
+-- the lines for the sheet and the tree, or the tree's fault
+abbrev pub IsMatchRun : List ℕ → List ℕ → Result (List ℕ) RunFault → Type 0
+IsMatchRun text tree (Ok lines) = (rows : List Row) × (tree_of tree ≡ Ok rows) × IsMatchText (sheet this_edition (text ∷ [])) rows lines
+IsMatchRun text tree (Err (Tree fault)) = tree_of tree ≡ Err fault
+IsMatchRun text tree (Err Refused) = ⊥
+IsMatchRun text tree (Err Memory) = ⊥
+IsMatchRun text tree (Err Output) = ⊥

@@ -1,0 +1,16 @@
+-- What a run over the texts of a sheet is to write.
+use Rattle.std.specs.Prelude.{◌≡◌, ℕ, List, [], ◌∷◌, ◌++◌, Result, Ok}
+use Rattle.simplecss_text.specs.ThisEdition.{this_edition}
+use Rattle.simplecss_text.specs.Statements.{StyleRule}
+use Rattle.simplecss_text.specs.Sheets.{sheet}
+use Rattle.simplecss_text.specs.Printing.{sheet_text}
+use Rattle.cssq.specs.declared.runs.RunFault.{RunFault}
+
+-- the printed sheet, and a newline where it has a rule
+abbrev pub sheet_output : List StyleRule → List ℕ
+sheet_output [] = []
+sheet_output (rule ∷ rules) = sheet_text (rule ∷ rules) ++ 10 ∷ []
+
+-- the sheet of all texts, read in turn
+abbrev pub IsSheetRun : List (List ℕ) → Result (List ℕ) RunFault → Type 0
+IsSheetRun texts due = due ≡ Ok (sheet_output (sheet this_edition texts))
