@@ -1,15 +1,15 @@
 -- What stands at the front of a text, by what its first byte announces.
-use Rattle.std.proofs.Common.{◌≡◌, ℕ, List, [], ◌∷◌, Bool, true, false, if◌then◌else◌, ◌==◌, refl, sym, subst, bytes_eq, codes, length, arith}
+use Rattle.std.proofs.Common.{◌≡◌, ℕ, List, [], ◌∷◌, Bool, true, false, if◌then◌else◌, ◌==◌, refl, bytes_eq, codes, length, arith}
 use Rattle.std.proofs.lemmas.Bool.{eqb-true}
 use Rattle.std.specs.Str.{trim}
-use Rattle.simplecss_text.specs.Reading.{Reading, got, fails, Reader, follow, before}
-use Rattle.simplecss_text.specs.Bytes.{past_one, past, byte, all_before, starts, starts_by}
+use Rattle.simplecss_text.specs.Reading.{Reading, got, fails, Reader, follow}
+use Rattle.simplecss_text.specs.Bytes.{past_one, byte, all_before, starts, starts_by}
 use Rattle.simplecss_text.specs.Characters.{Edition}
 use Rattle.simplecss_text.specs.Names.{name}
 use Rattle.simplecss_text.specs.Tokens.{Token}
-use Rattle.simplecss_text.specs.Tokens.Token.{universal_selector, type_selector, id_selector, class_selector, attribute_selector, named_pseudo_class, lang_pseudo_class, child_combinator, adjacent_combinator}
+use Rattle.simplecss_text.specs.Tokens.Token.{universal_selector, type_selector, id_selector, class_selector, attribute_selector, child_combinator, adjacent_combinator}
 use Rattle.simplecss_text.specs.Pieces.{begun, named, is_stop, begins_subselector, attribute_operator, attribute_after, lang_of, lang_after, pseudo_class_named, pseudo_class_after}
-use Rattle.simplecss_text.specs.Neighbours.{Follows as Neighbour, follows_as, left_behind}
+use Rattle.simplecss_text.specs.Neighbours.{follows_as, left_behind}
 use Rattle.simplecss_text.specs.Neighbours.Follows.{subselector, type_name}
 use Rattle.simplecss_text.specs.Neighbours.Left.{closed_left}
 use Rattle.simplecss_selector.specs.declared.tokenizer.Follows.{Follows}

@@ -1,6 +1,6 @@
 -- Counts over flat lists.
-use Rattle.std.proofs.Common.{◌≡◌, ℕ, zero, suc, ◌+◌, ◌-◌, ◌<◌, ◌≤◌, List, [], ◌∷◌, ◌++◌, Bool, true, false, Option, Some, None, length, drop, map, refl, sym, ap, ◌∙◌, arith, cond, not, is_some, sum_by, count_by}
-use Rattle.std.proofs.lemmas.List.{drop_all, map-append}
+use Rattle.std.proofs.Common.{◌≡◌, ℕ, ◌+◌, List, [], ◌∷◌, ◌++◌, Bool, true, false, Option, Some, None, length, drop, map, refl, sym, ap, ◌∙◌, arith, cond, not, is_some, sum_by, count_by}
+use Rattle.std.proofs.lemmas.List.{drop_all}
 use Rattle.std.proofs.lemmas.List.Folds.{drop_split}
 use Rattle.std.proofs.lemmas.List.Sums.{sum_by-append, sum_by-cons}
 use Rattle.std.specs.List.{slice_range}
@@ -9,7 +9,6 @@ use Rattle.simplecss_text.specs.Components.{Component, Subselector}
 use Rattle.simplecss_selector.specs.Seen.{subselector_of, component_of_part, components_from, Tile}
 use Rattle.simplecss_selector.specs.declared.selector.Part.{Part}
 use Rattle.simplecss_selector.specs.declared.selector.SubSelector.{SubSelector}
-use Rattle.simplecss_selector.proofs.Flat.{Tile-le}
 
 count_by-cons : {X : Type 0} (p : X → Bool) (x : X) (xs : List X) → count_by p (x ∷ xs) ≡ cond (p x) 1 0 + count_by p xs
 count_by-cons p x xs = sum_by-cons (λ y. cond (p y) 1 0) x xs

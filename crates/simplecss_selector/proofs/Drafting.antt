@@ -1,10 +1,10 @@
 -- Filling a draft role by role gives the selector of the roles.
-use Rattle.std.proofs.Common.{◌≡◌, ℕ, List, [], ◌∷◌, ◌++◌, Option, Some, None, refl, sym, ap, ◌∙◌, append_assoc, append-nil, map}
+use Rattle.std.proofs.Common.{◌≡◌, List, [], ◌∷◌, ◌++◌, Some, refl, sym, ap, ◌∙◌, append_assoc, append-nil, map}
 use Rattle.simplecss_text.specs.Components.{Component}
 use Rattle.simplecss_text.specs.Selectors.{Role, Outcome, cut, type_among, subselectors_among, component_of, components_of, selector_of, with_role}
 use Rattle.simplecss_text.specs.Selectors.Role.{any_type, of_type, with, joint, unknown}
 use Rattle.simplecss_text.specs.Selectors.Outcome.{refused, accepted}
-use Rattle.simplecss_selector.specs.Drafts.{Drafted, begun, finished, drafted_after, continued, selector_after}
+use Rattle.simplecss_selector.specs.Drafts.{Drafted, begun, drafted_after, continued, selector_after}
 
 -- the component with what the roles ask besides
 abbrev pub extended : Component → List Role → Component

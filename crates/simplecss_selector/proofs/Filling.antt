@@ -1,18 +1,18 @@
 -- The flat lists of a selector as it is filled.
-use Rattle.std.proofs.Common.{◌≡◌, ◌≢◌, ℕ, zero, suc, ◌+◌, ◌-◌, ◌<◌, ◌≤◌, ◌↔◌, List, [], ◌∷◌, ◌++◌, Bool, true, false, Option, Some, None, length, get_or, drop, take, map, refl, sym, ap, ◌∙◌, arith, cond, append_assoc, subst}
+use Rattle.std.proofs.Common.{◌≡◌, ◌≢◌, ℕ, zero, suc, ◌+◌, ◌-◌, ◌<◌, ◌≤◌, List, [], ◌∷◌, ◌++◌, Bool, true, false, None, length, get_or, drop, map, refl, sym, ap, ◌∙◌, arith, cond}
 use Rattle.std.proofs.Math.Decide.{dec_lt}
 use Rattle.std.proofs.lemmas.List.{take-append-le, drop-append-le, map-append, length-append, get_or_append_left, get_or_at}
 use Rattle.std.proofs.lemmas.Slice.{between_is, between_to_end}
 use Rattle.std.specs.List.{slice_range}
 use Rattle.std.specs.Option.{option_map}
-use Rattle.simplecss_text.specs.Components.{Component, Combinator, Subselector}
+use Rattle.simplecss_text.specs.Components.{Component, Combinator}
 use Rattle.simplecss_text.specs.Components.Combinator.{none}
 use Rattle.simplecss_selector.specs.Combinators.{combinator_of}
 use Rattle.simplecss_selector.specs.Placements.{is_joined, is_step}
 use Rattle.simplecss_selector.specs.Searches.{component_at, any_component}
-use Rattle.simplecss_selector.specs.Runs.{goes_on, run_ends_after, inner_ends}
+use Rattle.simplecss_selector.specs.Runs.{run_ends_after, inner_ends}
 use Rattle.simplecss_selector.specs.Seen.{subselector_of, component_of_part, components_from, IsSelector, Tile, last_end, drafted, IsFlat, IsFilled}
-use Rattle.simplecss_selector.specs.Drafts.{with_subselector, joined, finished, bare}
+use Rattle.simplecss_selector.specs.Drafts.{with_subselector, joined, finished}
 use Rattle.simplecss_selector.specs.declared.selector.Part.{Part}
 use Rattle.simplecss_selector.specs.declared.selector.SubSelector.{SubSelector}
 

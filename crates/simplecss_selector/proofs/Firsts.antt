@@ -2,19 +2,19 @@
 use Rattle.std.proofs.Common.{◌≡◌, ℕ, List, ◌∷◌, Bool, true, false, Option, Some, None, Result, Ok, Err, ◌⊎◌, inl, inr, refl, sym, ap, ◌∙◌, subst, map, IsUtf8}
 use Rattle.std.specs.Iterator.{YieldsFirstBy}
 use Rattle.std.proofs.lemmas.Str.{IsUtf8-drop, IsUtf8-had}
-use Rattle.simplecss_text.specs.Reading.{Fault, no_comment, no_selector, unexpected_selector, unexpected_combinator, Reading, got, fails, Ends}
-use Rattle.simplecss_text.specs.Bytes.{past_one, starts, starts_by}
+use Rattle.simplecss_text.specs.Reading.{Fault, no_comment, no_selector, unexpected_selector, unexpected_combinator, Reading, got, fails}
+use Rattle.simplecss_text.specs.Bytes.{past_one, starts}
 use Rattle.simplecss_text.specs.Comments.{gap}
-use Rattle.simplecss_text.specs.Errors.{error_of, position_of, byte_error, Gives, FailsBy}
+use Rattle.simplecss_text.specs.Errors.{error_of, position_of, Gives, FailsBy}
 use Rattle.simplecss_text.specs.ThisEdition.{this_edition}
 use Rattle.simplecss_text.specs.Slices.{StandBetween}
 use Rattle.simplecss_text.specs.Tokens.{Token, token_texts}
-use Rattle.simplecss_text.specs.Tokens.Token.{universal_selector, descendant_combinator, child_combinator, adjacent_combinator}
-use Rattle.simplecss_text.specs.Pieces.{begun, begins_subselector}
+use Rattle.simplecss_text.specs.Tokens.Token.{child_combinator, adjacent_combinator}
+use Rattle.simplecss_text.specs.Pieces.{begun}
 use Rattle.simplecss_text.specs.Neighbours.{left_behind}
 use Rattle.simplecss_text.specs.Neighbours.Left.{open_left, closed_left}
-use Rattle.simplecss_text.specs.TokenRuns.{Run, run_from, token_then, fault_run, two_faults_run, items, told_in, item_texts}
-use Rattle.simplecss_text.specs.TokenRuns.Run.{item, run_end}
+use Rattle.simplecss_text.specs.TokenRuns.{Run, run_from, token_then, fault_run, items, told_in}
+use Rattle.simplecss_text.specs.TokenRuns.Run.{item}
 use Rattle.simplecss_text.specs.declared.Error.{Error}
 use Rattle.simplecss_text.specs.declared.Error.TheVariants.{InvalidComment, SelectorMissing, UnexpectedSelector, UnexpectedCombinator}
 use Rattle.simplecss_text.proofs.EndsLaws.{ends-same}
@@ -31,7 +31,7 @@ use Rattle.simplecss_selector.specs.Announced.{announced, IsSimple, state_after_
 use Rattle.simplecss_selector.specs.Given.{token_of, item_seen, given_texts}
 use Rattle.simplecss_selector.specs.Tokenizer.{source, left_of, run_in, still_to_come, items_left, GivesFirst}
 use Rattle.simplecss_selector.proofs.Announcing.{EachToken, IsSolid, IsSub, IsType, Announces, announces}
-use Rattle.simplecss_selector.proofs.Steps.{Closes, open-gap, open-stop, open-slash, open-child, open-adjacent, open-token, open-headless, open-broken, closed-gap, closed-stop, closed-slash, closed-slash_spaced, closed-child, closed-adjacent, closed-spaced, closed-universal, closed-type, closed-sub, closed-broken}
+use Rattle.simplecss_selector.proofs.Steps.{Closes, open-gap, open-stop, open-slash, open-joint, open-token, open-headless, open-broken, closed-gap, closed-stop, closed-slash, closed-slash_spaced, closed-joint, closed-spaced, closed-universal, closed-type, closed-sub, closed-broken}
 
 pub simple_unless : (f : Follows) → (f ≡ Stop → ⊥) → (f ≡ Slash → ⊥) → (f ≡ Child → ⊥) → (f ≡ Adjacent → ⊥) → IsSimple f
 simple_unless Stop a b c d = a refl
@@ -73,6 +73,17 @@ simple-of Attribute start s h = record { is_solid = h.is_solid; closes = sub-clo
 simple-of Colon start s h = record { is_solid = h.is_solid; closes = sub-closes (begun this_edition start) h.tokens }
 simple-of Other start s h = record { is_solid = h.is_solid; closes = type-closes (begun this_edition start) h.tokens }
 
+-- the combinator that is announced
+record Joint (start : List ℕ) : Type 0 where
+  token : Token
+  is_solid : IsSolid start
+  reads : begun this_edition start ≡ got token (past_one start)
+  opens : left_behind token ≡ open_left
+
+joint-of : (f : Follows) (start : List ℕ) → f ≡ announced start → (f ≡ Child) ⊎ (f ≡ Adjacent) → Joint start
+joint-of f start e (inl is) = let h = announced-as Child start (sym is ∙ e) in record { token = child_combinator; is_solid = h.is_solid; reads = h.reads; opens = refl }
+joint-of f start e (inr is) = let h = announced-as Adjacent start (sym is ∙ e) in record { token = adjacent_combinator; is_solid = h.is_solid; reads = h.reads; opens = refl }
+
 first-token : (text left : List ℕ) (before after : Run) (token : SelectorToken) → before ≡ item (Ok (token_of token)) left after → GivesFirst text before (Some (Ok token)) left after
 first-token text left before after token is = (Ok (token_of token), refl, is)
 
@@ -95,12 +106,9 @@ open_none-first text rest start spaced f g e (inl is) = first-fault text start _
 open_none-first text rest start spaced f g e (inr is) = first-fault text start _ _ no_selector SelectorMissing refl (open-slash this_edition rest start spaced g (announced-as Slash start (sym is ∙ e)))
 
 pub open_joint-first : (text rest start : List ℕ) (spaced : Bool) (f : Follows) → gap rest ≡ got spaced start → f ≡ announced start → (f ≡ Child) ⊎ (f ≡ Adjacent) → GivesFirst text (run_in states.Open rest) (Some (Err UnexpectedCombinator)) start (run_in states.Ended start)
-open_joint-first text rest start spaced f g e (inl is) =
-    let h = announced-as Child start (sym is ∙ e) in
-    first-fault text start _ _ unexpected_combinator UnexpectedCombinator refl (open-child this_edition rest start (past_one start) spaced g h.is_solid h.reads)
-open_joint-first text rest start spaced f g e (inr is) =
-    let h = announced-as Adjacent start (sym is ∙ e) in
-    first-fault text start _ _ unexpected_combinator UnexpectedCombinator refl (open-adjacent this_edition rest start (past_one start) spaced g h.is_solid h.reads)
+open_joint-first text rest start spaced f g e is =
+    let joint = joint-of f start e is in
+    first-fault text start _ _ unexpected_combinator UnexpectedCombinator refl (open-joint this_edition rest start (past_one start) spaced joint.token g joint.is_solid joint.reads joint.opens)
 
 closes-got : (start after : List ℕ) (token : Token) → Closes (begun this_edition start) → begun this_edition start ≡ got token after → left_behind token ≡ closed_left
 closes-got start after token h e = subst Closes e h
@@ -154,26 +162,14 @@ closed_end-first text rest start spaced f g without e is =
     let gap_read : gap rest ≡ got false start = g ∙ ap (λ (s : Bool). got s start) without in
     (closed-slash this_edition rest start gap_read (announced-as Slash start (sym is ∙ e)), refl)
 
--- a combinator that is read is no error
+-- a combinator that is announced is read without an error
 pub closed_joint-first : (text rest start after : List ℕ) (spaced : Bool) (f : Follows) (r : Result SelectorToken Error) → gap rest ≡ got spaced start → f ≡ announced start → (f ≡ Child) ⊎ (f ≡ Adjacent) → Gives token_of text (begun this_edition start) r after → GivesFirst text (run_in states.Closed rest) (Some r) after (run_in states.Open after)
-closed_joint-first text rest start after spaced f (Ok token) g e (inl is) read =
-    let h = announced-as Child start (sym is ∙ e) in
-    let same : child_combinator ≡ token_of token = let reads = h.reads in cc in
-    let left : past_one start ≡ after = let reads = h.reads in cc in
-    first-token text after _ _ token
-    (closed-child this_edition rest start (past_one start) spaced g h.is_solid h.reads ∙ ap (λ (t : Token). token_then t (past_one start) (run_from this_edition open_left (past_one start))) same ∙ ap (λ (l : List ℕ). token_then (token_of token) l (run_from this_edition open_left l)) left)
-closed_joint-first text rest start after spaced f (Ok token) g e (inr is) read =
-    let h = announced-as Adjacent start (sym is ∙ e) in
-    let same : adjacent_combinator ≡ token_of token = let reads = h.reads in cc in
-    let left : past_one start ≡ after = let reads = h.reads in cc in
-    first-token text after _ _ token
-    (closed-adjacent this_edition rest start (past_one start) spaced g h.is_solid h.reads ∙ ap (λ (t : Token). token_then t (past_one start) (run_from this_edition open_left (past_one start))) same ∙ ap (λ (l : List ℕ). token_then (token_of token) l (run_from this_edition open_left l)) left)
-closed_joint-first text rest start after spaced f (Err error) g e (inl is) read =
-    let reads = (announced-as Child start (sym is ∙ e)).reads in
-    let told = (fails_by-fault text (begun this_edition start) error after read).1 in
-    absurd (cc)
-closed_joint-first text rest start after spaced f (Err error) g e (inr is) read =
-    let reads = (announced-as Adjacent start (sym is ∙ e)).reads in
+closed_joint-first text rest start after spaced f (Ok token) g e is read =
+    let joint = joint-of f start e is in
+    let opens : left_behind (token_of token) ≡ open_left = let reads = joint.reads in let same : joint.token ≡ token_of token = cc in subst (λ (t : Token). left_behind t ≡ open_left) same joint.opens in
+    first-token text after _ _ token (closed-joint this_edition rest start after spaced (token_of token) g joint.is_solid read opens)
+closed_joint-first text rest start after spaced f (Err error) g e is read =
+    let reads = (joint-of f start e is).reads in
     let told = (fails_by-fault text (begun this_edition start) error after read).1 in
     absurd (cc)
 

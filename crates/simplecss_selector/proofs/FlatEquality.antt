@@ -1,5 +1,5 @@
 -- Selectors kept in flat lists are equal exactly if their components are.
-use Rattle.std.proofs.Common.{◌≡◌, ℕ, zero, suc, ◌+◌, ◌-◌, ◌<◌, ◌≤◌, List, [], ◌∷◌, ◌++◌, Bool, true, false, ◌&&◌, Option, Some, None, length, drop, take, map, refl, sym, ap, ◌∙◌, arith, eqb, flat_map, Bor}
+use Rattle.std.proofs.Common.{◌≡◌, ℕ, zero, suc, ◌+◌, ◌-◌, ◌≤◌, List, [], ◌∷◌, ◌++◌, Bool, ◌&&◌, Option, Some, None, length, drop, take, map, refl, sym, ap, ◌∙◌, arith, eqb, flat_map, Bor}
 use Rattle.std.specs.Bool.{Decides}
 use Rattle.std.specs.Cmp.Derive.Mapped.{pointwise-map}
 use Rattle.std.specs.Cmp.Lexicographic.{pointwise, pointwise_decides}
@@ -11,7 +11,7 @@ use Rattle.std.proofs.lemmas.List.Folds.{drop_split}
 use Rattle.simplecss_text.specs.Components.{Component, Subselector, Combinator}
 use Rattle.simplecss_selector.specs.Asked.{operator_of, class_of}
 use Rattle.simplecss_selector.specs.Combinators.{combinator_of}
-use Rattle.simplecss_selector.specs.Seen.{subselector_of, component_of_part, components_from, Tile}
+use Rattle.simplecss_selector.specs.Seen.{subselector_of, components_from, Tile}
 use Rattle.simplecss_selector.specs.Equality.{text_eq, operator_eq, class_eq, combinator_eq, subselector_eq, selector_eq}
 use Rattle.simplecss_selector.specs.EqualityLaws.{and_left, and_right, and_both, combinator_decides, name_decides, subselector_decides, selector_decides}
 use Rattle.simplecss_selector.specs.declared.operator.AttributeOperator.{AttributeOperator}

@@ -1,5 +1,5 @@
 -- Placing a run at the nearest node that fits loses nothing.
-use Rattle.std.proofs.Common.{refl, ◌≡◌, ℕ, zero, suc, ◌+◌, ◌<◌, ◌≤◌, ◌↔◌, List, length, IsTrue, arith, Some, None, sym, ◌∙◌, add-one, subst}
+use Rattle.std.proofs.Common.{refl, ◌≡◌, ℕ, zero, suc, ◌+◌, ◌<◌, ◌≤◌, ◌↔◌, List, [], ◌∷◌, length, IsTrue, arith, Some, None, sym, ◌∙◌, add-one, subst}
 use Rattle.std.proofs.Math.Seq.{take-length}
 use Rattle.std.proofs.lemmas.Bool.{false≢true}
 use Rattle.simplecss_text.specs.Components.{Component, Combinator}
@@ -135,3 +135,9 @@ pub first_rest : {Node : Type 0} (tree : Tree Node) (cs : List Component) (k res
 first_rest tree cs k rest n v e l =
     let p = placement_of tree cs k n e in
     (λ h. l.nothing_lost n (λ a q. q) (p.0 h), λ h. p.1 (l.enough h))
+
+-- a component that stands alone
+pub alone_reached : {Node : Type 0} (tree : Tree Node) (cs : List Component) (n : Node) (k : ℕ) → length cs ≡ 1 → k ≡ 0 → Meets tree n (component_at cs k).compound → Reaches tree (first_of cs (length cs)) n
+alone_reached tree [] n k one e m = absurd (omega arith)
+alone_reached tree (c ∷ d ∷ cs) n k one e m = absurd (omega arith)
+alone_reached tree (c ∷ []) n k one e m = ((rw e at m), tt)

@@ -7,7 +7,6 @@ pub mod Depths
 pub mod Turns
 pub mod Flat
 pub mod Cuts
-pub mod Building
 pub mod WordLemmas
 pub mod Drafting
 pub mod Filling

@@ -1,17 +1,18 @@
 -- What is first in a run, by the gap and by what stands behind it.
-use Rattle.std.proofs.Common.{◌≡◌, ℕ, List, [], Bool, true, false, if◌then◌else◌, ◌||◌, refl, sym, ap, ◌∙◌}
+use Rattle.std.proofs.Common.{◌≡◌, ℕ, List, [], Bool, true, false, if◌then◌else◌, refl, ap, ◌∙◌}
 use Rattle.simplecss_text.specs.Reading.{Fault, no_comment, no_selector, unexpected_selector, unexpected_combinator, Reading, got, fails}
 use Rattle.simplecss_text.specs.Bytes.{past_one, starts, starts_by}
 use Rattle.simplecss_text.specs.Characters.{Edition}
 use Rattle.simplecss_text.specs.Comments.{gap}
 use Rattle.simplecss_text.specs.Tokens.{Token}
 use Rattle.simplecss_text.specs.Tokens.Token.{universal_selector, type_selector, id_selector, class_selector, attribute_selector, named_pseudo_class, lang_pseudo_class, descendant_combinator, child_combinator, adjacent_combinator}
-use Rattle.simplecss_text.specs.Pieces.{begun, solid, ending, is_stop, begins_subselector}
-use Rattle.simplecss_text.specs.Pieces.Ending.{at_stop, at_slash, without_head, within_piece, within_gap}
-use Rattle.simplecss_text.specs.Neighbours.{Left, Answer, between, follows_as, before_piece, left_behind}
+use Rattle.simplecss_text.specs.Pieces.{begun, solid, is_stop, begins_subselector}
+use Rattle.simplecss_text.specs.Pieces.Ending.{without_head, within_piece}
+use Rattle.simplecss_text.specs.Neighbours.{Left, Answer, between, follows_as, left_behind}
 use Rattle.simplecss_text.specs.Neighbours.Left.{open_left, closed_left}
-use Rattle.simplecss_text.specs.Neighbours.Answer.{nothing}
-use Rattle.simplecss_text.specs.TokenRuns.{Run, run, run_from, answered, token_then, fault_run, two_faults_run}
+use Rattle.simplecss_text.specs.Neighbours.Follows.{combinator}
+use Rattle.simplecss_text.specs.Neighbours.Answer.{nothing, refuses}
+use Rattle.simplecss_text.specs.TokenRuns.{run, run_from, answered, token_then, fault_run, two_faults_run}
 use Rattle.simplecss_text.specs.TokenRuns.Run.{run_end}
 use Rattle.simplecss_text.proofs.RunLaws.{run_from-piece, run_from-ending}
 use Rattle.simplecss_text.proofs.JoiningLaws.{piece_of, piece-read, piece-fault, ending-fault, descends-token, descends-fault, run_from-stop, run_from-slash, run_from-open_gap}
@@ -38,14 +39,6 @@ open-stop edition text start spaced g stop = run_from-stop edition open_left tex
 pub open-slash : (edition : Edition) (text start : List ℕ) (spaced : Bool) → gap text ≡ got spaced start → (is_stop start ≡ false) × (starts 47 start ≡ true) → run_from edition open_left text ≡ fault_run no_selector start
 open-slash edition text start spaced g h = run_from-slash edition open_left text start spaced g h.0 h.1
 
-pub open-child : (edition : Edition) (text start after : List ℕ) (spaced : Bool) → gap text ≡ got spaced start → IsSolid start → begun edition start ≡ got child_combinator after → run_from edition open_left text ≡ fault_run unexpected_combinator start
-open-child edition text start after spaced g h read =
-    run_from-piece edition open_left text after (piece_of spaced start child_combinator after) (piece-read edition text start after spaced child_combinator g (solid-begun edition start h ∙ read))
-
-pub open-adjacent : (edition : Edition) (text start after : List ℕ) (spaced : Bool) → gap text ≡ got spaced start → IsSolid start → begun edition start ≡ got adjacent_combinator after → run_from edition open_left text ≡ fault_run unexpected_combinator start
-open-adjacent edition text start after spaced g h read =
-    run_from-piece edition open_left text after (piece_of spaced start adjacent_combinator after) (piece-read edition text start after spaced adjacent_combinator g (solid-begun edition start h ∙ read))
-
 -- a simple piece stands there without more
 simple-open : (token : Token) (spaced : Bool) (start after : List ℕ) → left_behind token ≡ closed_left → between open_left spaced (follows_as token start after) ≡ nothing
 simple-open universal_selector spaced start after h = refl
@@ -69,6 +62,23 @@ piece-run edition left next text start after spaced token answer g h read table 
 pub open-token : (edition : Edition) (text start after : List ℕ) (spaced : Bool) (token : Token) → gap text ≡ got spaced start → IsSolid start → begun edition start ≡ got token after → left_behind token ≡ closed_left → run_from edition open_left text ≡ token_then token after (run_from edition closed_left after)
 open-token edition text start after spaced token g h read behind =
     piece-run edition open_left closed_left text start after spaced token nothing g h read (simple-open token spaced start after behind) behind
+
+-- what opens the left side behind it is a combinator
+joint-follows : (token : Token) (start after : List ℕ) → left_behind token ≡ open_left → follows_as token start after ≡ combinator start
+joint-follows universal_selector start after h = absurd (cc)
+joint-follows (type_selector n) start after h = absurd (cc)
+joint-follows (id_selector n) start after h = absurd (cc)
+joint-follows (class_selector n) start after h = absurd (cc)
+joint-follows (attribute_selector n o) start after h = absurd (cc)
+joint-follows (named_pseudo_class n) start after h = absurd (cc)
+joint-follows (lang_pseudo_class value) start after h = absurd (cc)
+joint-follows descendant_combinator start after h = refl
+joint-follows child_combinator start after h = refl
+joint-follows adjacent_combinator start after h = refl
+
+pub open-joint : (edition : Edition) (text start after : List ℕ) (spaced : Bool) (token : Token) → gap text ≡ got spaced start → IsSolid start → begun edition start ≡ got token after → left_behind token ≡ open_left → run_from edition open_left text ≡ fault_run unexpected_combinator start
+open-joint edition text start after spaced token g h read opens =
+    piece-run edition open_left open_left text start after spaced token (refuses unexpected_combinator start) g h read (ap (between open_left spaced) (joint-follows token start after opens)) opens
 
 fault-run : (edition : Edition) (left : Left) (text start after : List ℕ) (spaced begins : Bool) (fault : Fault) → gap text ≡ got spaced start → IsSolid start → begun edition start ≡ fails fault after → starts_by begins_subselector start ≡ begins → run_from edition left text ≡ run left [] (if begins then within_piece spaced start fault after else without_head spaced start fault after)
 fault-run edition left text start after spaced begins fault g h read sub =
@@ -97,15 +107,14 @@ closed-slash_spaced edition text start g h = run_from-slash edition closed_left 
 pub closed-slash : (edition : Edition) (text start : List ℕ) → gap text ≡ got false start → (is_stop start ≡ false) × (starts 47 start ≡ true) → run_from edition closed_left text ≡ run_end start
 closed-slash edition text start g h = run_from-slash edition closed_left text start false g h.0 h.1
 
-combinator-closed : (spaced : Bool) (start : List ℕ) → between closed_left spaced (follows_as child_combinator start start) ≡ nothing
+-- a combinator may stand there
+combinator-closed : (spaced : Bool) (start : List ℕ) → between closed_left spaced (combinator start) ≡ nothing
 combinator-closed true start = refl
 combinator-closed false start = refl
 
-pub closed-child : (edition : Edition) (text start after : List ℕ) (spaced : Bool) → gap text ≡ got spaced start → IsSolid start → begun edition start ≡ got child_combinator after → run_from edition closed_left text ≡ token_then child_combinator after (run_from edition open_left after)
-closed-child edition text start after spaced g h read = piece-run edition closed_left open_left text start after spaced child_combinator nothing g h read (combinator-closed spaced start) refl
-
-pub closed-adjacent : (edition : Edition) (text start after : List ℕ) (spaced : Bool) → gap text ≡ got spaced start → IsSolid start → begun edition start ≡ got adjacent_combinator after → run_from edition closed_left text ≡ token_then adjacent_combinator after (run_from edition open_left after)
-closed-adjacent edition text start after spaced g h read = piece-run edition closed_left open_left text start after spaced adjacent_combinator nothing g h read (combinator-closed spaced start) refl
+pub closed-joint : (edition : Edition) (text start after : List ℕ) (spaced : Bool) (token : Token) → gap text ≡ got spaced start → IsSolid start → begun edition start ≡ got token after → left_behind token ≡ open_left → run_from edition closed_left text ≡ token_then token after (run_from edition open_left after)
+closed-joint edition text start after spaced token g h read opens =
+    piece-run edition closed_left open_left text start after spaced token nothing g h read (ap (between closed_left spaced) (joint-follows token start after opens) ∙ combinator-closed spaced start) opens
 
 -- every token that is read is of a simple piece
 abbrev pub Closes : Reading Token → Type 0

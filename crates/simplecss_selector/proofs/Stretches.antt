@@ -1,5 +1,5 @@
 -- How long a stretch of joined components is.
-use Rattle.std.proofs.Common.{◌≡◌, ℕ, zero, suc, ◌+◌, ◌*◌, ◌<◌, ◌≤◌, Bool, true, false, List, [], ◌∷◌, length, IsTrue, arith, cond, subst, refl}
+use Rattle.std.proofs.Common.{◌≡◌, ℕ, zero, suc, ◌+◌, ◌*◌, ◌<◌, ◌≤◌, Bool, true, false, List, [], ◌∷◌, length, IsTrue, arith, cond, subst}
 use Rattle.std.proofs.Math.Decide.{dec_lt}
 use Rattle.std.proofs.Math.Nat.{mul-le-mul_left, mul-le-mul_right}
 use Rattle.simplecss_text.specs.Components.{Component}
@@ -56,40 +56,9 @@ run_times-le cs d = mul-le-mul_right d (longest_run-le cs)
 pub falls : (l a b : ℕ) → a < b → l + l * (a + 1) ≤ l * (b + 1)
 falls l a b h = let p : l * (a + 1) ≤ l * b = mul-le-mul_left l (omega arith) in omega arith
 
-joined_front : (b : Bool) (c : Component) (cs : List Component) (k : ℕ) → is_joined c ≡ b → ((j : ℕ) → j < joined_length cs → IsTrue (is_joined (component_at cs j))) → k < cond b (joined_length cs + 1) 0 → IsTrue (is_joined (component_at (c ∷ cs) k))
-joined_front true c cs zero e rest h = e
-joined_front true c cs (suc k) e rest h = rest k (omega arith)
-joined_front false c cs k e rest h = absurd (omega arith)
+pub longest_run-some : (cs : List Component) → 0 < length cs → 0 < longest_run cs
+longest_run-some [] some = absurd (omega arith)
+longest_run-some (c ∷ cs) some = omega arith
 
-joined_length-joined : (cs : List Component) (k : ℕ) → k < joined_length cs → IsTrue (is_joined (component_at cs k))
-joined_length-joined [] k h = absurd (omega arith)
-joined_length-joined (c ∷ cs) k h = joined_front (is_joined c) c cs k refl (joined_length-joined cs) h
-
--- a stretch of this many components
-abbrev pub HasStretch : List Component → ℕ → Type 0
-HasStretch cs n =
-    (place : ℕ) × (left : ℕ) × (place < left) × (left ≤ length cs) × (left ≡ place + n) × AreJoined cs (place + 1) left
-
-pub longest_run-attained : (cs : List Component) → 0 < length cs → HasStretch cs (longest_run cs)
-longest_run-attained [] some = absurd (omega arith)
-longest_run-attained (c ∷ cs) some =
-    elim (dec_lt (joined_length cs + 1) (longest_run cs)) [
-      | yes more ↦
-          (let nonempty : 0 < length cs = omega (arith, longest_run-le cs) in
-          let s = longest_run-attained cs nonempty in
-          let placed : s.0 < s.1 = s.2 in
-          let bound : s.1 ≤ length cs = s.3 in
-          let size : s.1 ≡ s.0 + longest_run cs = s.4 in
-          (suc s.0, suc s.1, omega arith, omega arith, omega arith, later s.0 s.1 s.5))
-      | no less ↦
-          (let j = joined_length-le cs in
-          (0, joined_length cs + 1, omega arith, omega arith, omega arith, front))
-    ]
-  where
-    later : (p l : ℕ) → AreJoined cs (p + 1) l → AreJoined (c ∷ cs) (suc p + 1) (suc l)
-    later p l j zero from to = absurd (omega arith)
-    later p l j (suc k) from to = j k (omega arith) (omega arith)
-
-    front : AreJoined (c ∷ cs) (0 + 1) (joined_length cs + 1)
-    front zero from to = absurd (omega arith)
-    front (suc k) from to = joined_length-joined cs k (omega arith)
+pub once_le : (l d : ℕ) → 0 < l → 1 ≤ l * (d + 1)
+once_le l d some = let h : 1 * (d + 1) ≤ l * (d + 1) = mul-le-mul_right (d + 1) (omega arith) in omega arith

@@ -1,11 +1,15 @@
 -- What the turns of the search share.
-use Rattle.std.proofs.Common.{◌≡◌, Option, Some, None, refl, ap, sym, ◌∙◌, Bor}
+use Rattle.simplecss_text.specs.Components.{Component}
+use Rattle.simplecss_selector.specs.declared.matching.Fit.{Fit}
+use Rattle.simplecss_selector.specs.declared.matching.Fit.TheVariants.{Misfit, Alone, Whole, Rest}
+use Rattle.std.proofs.Common.{◌≡◌, ℕ, ◌+◌, List, arith, Option, Some, None, refl, ap, sym, ◌∙◌, Bor}
 use Rattle.std.specs.Option.{option_copied, unwrap_or, option_map_or}
 use Rattle.simplecss_text.specs.Components.{Combinator as Seen}
 use Rattle.std.proofs.Common.{IsTrue, false}
 use Rattle.std.proofs.lemmas.Bool.{false≢true}
 use Rattle.simplecss_selector.specs.Placements.{is_step}
 use Rattle.simplecss_selector.specs.Trees.{Tree}
+use Rattle.simplecss_selector.specs.Fits.{TestsPlaced}
 use Rattle.simplecss_selector.specs.Searches.{step_from}
 use Rattle.simplecss_text.specs.Components.Combinator.{none, descendant, child, adjacent}
 
@@ -28,3 +32,10 @@ not_joined adjacent e n = absurd (false≢true (sym e))
 
 pub step_not : (c : Seen) → IsTrue (is_step c) → c ≡ descendant → ⊥
 step_not c s e = false≢true (ap is_step (sym e) ∙ s)
+
+-- the tests, with one made before
+pub tests_before : {E : Type 0} (cs : List Component) (runs before begun after : ℕ) (fit : Fit E) → begun ≡ before + 1 → TestsPlaced cs runs begun (after + 1) fit → TestsPlaced cs runs before after fit
+tests_before cs runs before begun after Misfit e h = tt
+tests_before cs runs before begun after Alone e h = tt
+tests_before cs runs before begun after Whole e h = omega arith
+tests_before cs runs before begun after (Rest node) e h = omega arith

@@ -1,5 +1,5 @@
 -- What trying a run of components at one node has found.
-use Rattle.std.specs.Prelude.{ℕ, ◌+◌, ◌<◌, ◌≤◌, List}
+use Rattle.std.specs.Prelude.{ℕ, ◌+◌, ◌-◌, ◌<◌, ◌≤◌, List}
 use Rattle.simplecss_text.specs.Components.{Component}
 use Rattle.simplecss_selector.specs.Trees.{Tree}
 use Rattle.simplecss_selector.specs.Runs.{run_end}
@@ -21,12 +21,11 @@ Finds tree node cs runs n Misfit = Reaches tree (first_of cs (run_end cs runs)) 
 Finds {Node} tree node cs runs n Alone =
     (m : Node) → IsWithin tree m n → Reaches tree (first_of cs (run_end cs runs)) m → ⊥
 Finds tree node cs runs n Whole = Reaches tree (first_of cs (run_end cs runs)) n
-Finds tree node cs runs n (Rest rest e) =
-    (rest < runs) × LeavesRest tree cs (run_end cs runs) (run_end cs rest) n (node e)
+Finds tree node cs runs n (Rest e) = LeavesRest tree cs (run_end cs runs) (run_end cs (runs - 1)) n (node e)
 
 -- at least one test was made for each component that was placed
 abbrev pub TestsPlaced : {E : Type 0} → List Component → ℕ → ℕ → ℕ → Fit E → Type 0
 TestsPlaced cs runs before after Misfit = Unit {0}
 TestsPlaced cs runs before after Alone = Unit {0}
 TestsPlaced cs runs before after Whole = before + run_end cs runs ≤ after
-TestsPlaced cs runs before after (Rest rest e) = before + run_end cs runs ≤ after + run_end cs rest
+TestsPlaced cs runs before after (Rest e) = before + run_end cs runs ≤ after + run_end cs (runs - 1)

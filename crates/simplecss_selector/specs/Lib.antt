@@ -11,7 +11,7 @@ pub mod Equality
 pub mod EqualityLaws
 pub mod Rows
 pub mod Fits
-pub mod Announced
-pub mod Filled
 pub mod Given
 pub mod Tokenizer
+pub mod Announced
+pub mod Filled

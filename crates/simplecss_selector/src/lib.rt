@@ -23,6 +23,10 @@ pub use token::SelectorToken;
 pub use tokenizer::{SelectorTokenizer, at_most_two_errors};
 
 #[cfg(test)]
+mod reading_tests;
+#[cfg(test)]
 mod row;
 #[cfg(test)]
 mod tests;
+#[cfg(test)]
+mod token_tests;

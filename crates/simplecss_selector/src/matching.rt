@@ -1,8 +1,8 @@
-ghost use Rattle.std.specs.Prelude.{◌≡◌, ◌+◌, ◌*◌, ◌<◌, ◌≤◌, ◌↔◌, IsTrue, length};
+ghost use Rattle.std.specs.Prelude.{◌≡◌, ◌+◌, ◌-◌, ◌*◌, ◌<◌, ◌≤◌, ◌↔◌, IsTrue, length};
 ghost use Rattle.std.specs.Option.{option_map};
 ghost use Rattle.simplecss_selector.specs.Combinators.{combinator_of};
 ghost use Rattle.simplecss_selector.specs.Placements.{Meets, HasPlacement, longest_run};
-ghost use Rattle.simplecss_selector.specs.Runs.{run_ends};
+ghost use Rattle.simplecss_selector.specs.Runs.{run_ends, run_end as end_of_run};
 ghost use Rattle.simplecss_selector.specs.Searches.{component_at, step_from as node_before};
 
 use crate::selector::{Combinator, Selector};
@@ -17,8 +17,8 @@ enum Fit<E> {
     Alone,
     // All are met, and no component is left.
     Whole,
-    // All are met, and the first so many runs are left, to be placed at or above the node.
-    Rest(usize, E),
+    // All are met, and the runs before this one are left, to be placed at or above the node.
+    Rest(E),
 }
 
 // The node to which a child or adjacent step leads back.
@@ -60,21 +60,19 @@ impl<'a> Selector<'a> {
         true
     }
 
-    // Tries the last of the first `runs` runs with its last component on `lowest`.
+    // Goes up the last of the first `runs` runs from `lowest`, which meets its last component.
     #[inline(always)]
-    fn place_run<E: Element>(&self, runs: usize, lowest: &E, tests: &mut Tests) -> Fit<E>
+    fn climb<E: Element>(&self, runs: usize, lowest: &E, tests: &mut Tests) -> Fit<E>
         requires some { 0 < runs }
         requires within { runs ≤ length (run_ends self.now) }
+        requires met { Meets E.tree (E.node lowest.now) (component_at self.now (end_of_run self.now runs - 1)).compound }
         ensures finds { Finds E.tree E.node self.now runs (E.node lowest.now) result }
-        ensures placed { TestsPlaced self.now runs tests.old tests.new result }
-        ensures tested { tests.old < tests.new }
-        ensures bounded { tests.new ≤ tests.old + longest_run self.now }
+        ensures placed { TestsPlaced self.now runs tests.old (tests.new + 1) result }
+        ensures tested { tests.old ≤ tests.new }
+        ensures bounded { tests.new + 1 ≤ tests.old + longest_run self.now }
     {
         let start = self.run_end(runs - 1);
         let mut place = self.run_end(runs) - 1;
-        if !self.is_met_at(place, lowest, tests) {
-            return Fit::Misfit;
-        }
         let mut top: Option<E> = None;
         while place > start {
             let node = top.as_ref().unwrap_or(lowest);
@@ -92,9 +90,26 @@ impl<'a> Selector<'a> {
         }
         let node = top.as_ref().unwrap_or(lowest);
         match node.parent_element() {
-            Some(above) => Fit::Rest(runs - 1, above),
+            Some(above) => Fit::Rest(above),
             None => Fit::Alone,
         }
+    }
+
+    // Tries the last of the first `runs` runs with its last component on `lowest`.
+    #[inline(always)]
+    fn place_run<E: Element>(&self, runs: usize, lowest: &E, tests: &mut Tests) -> Fit<E>
+        requires some { 0 < runs }
+        requires within { runs ≤ length (run_ends self.now) }
+        ensures finds { Finds E.tree E.node self.now runs (E.node lowest.now) result }
+        ensures placed { TestsPlaced self.now runs tests.old tests.new result }
+        ensures tested { tests.old < tests.new }
+        ensures bounded { tests.new ≤ tests.old + longest_run self.now }
+    {
+        let place = self.run_end(runs) - 1;
+        if !self.is_met_at(place, lowest, tests) {
+            return Fit::Misfit;
+        }
+        self.climb(runs, lowest, tests)
     }
 
     /// Whether the selector matches the element, with a count of the tests that were made.
@@ -107,11 +122,20 @@ impl<'a> Selector<'a> {
         ensures at_most_by_runs { tests.new
             ≤ tests.old + longest_run self.now * (E.tree.depth (E.node element.now) + 1) }
     {
-        let (mut runs, mut candidate) = match self.place_run(self.run_count(), element, tests) {
+        let last = self.last_place();
+        if !self.is_met_at(last, element, tests) {
+            return false;
+        }
+        if last == 0 {
+            return true;
+        }
+        let mut runs = self.run_count();
+        let mut candidate = match self.climb(runs, element, tests) {
             Fit::Misfit | Fit::Alone => return false,
             Fit::Whole => return true,
-            Fit::Rest(rest, above) => (rest, above),
+            Fit::Rest(above) => above,
         };
+        runs -= 1;
         loop {
             match self.place_run(runs, &candidate, tests) {
                 Fit::Alone => return false,
@@ -120,8 +144,8 @@ impl<'a> Selector<'a> {
                     None => return false,
                     Some(parent) => candidate = parent,
                 },
-                Fit::Rest(rest, above) => {
-                    runs = rest;
+                Fit::Rest(above) => {
+                    runs -= 1;
                     candidate = above;
                 }
             }

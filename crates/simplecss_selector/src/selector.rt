@@ -1,4 +1,4 @@
-ghost use Rattle.std.specs.Prelude.{◌≢◌, ◌≡◌, ◌<◌, ◌≤◌, ◌↔◌, length, is_some, IsTrue};
+ghost use Rattle.std.specs.Prelude.{◌≢◌, ◌≡◌, ◌+◌, ◌<◌, ◌≤◌, ◌↔◌, length, is_some, IsTrue};
 ghost use Rattle.std.specs.List.{slice_range};
 ghost use Rattle.simplecss_selector.specs.Placements.{Holds, is_step};
 ghost use Rattle.simplecss_selector.specs.Combinators.{combinator_of};
@@ -123,6 +123,14 @@ impl<'a> Selector<'a> {
         ensures { result ≡ length self.now }
     {
         self.parts.len()
+    }
+
+    // The place of the last component.
+    #[inline(always)]
+    pub(crate) fn last_place(&self) -> usize
+        ensures { result + 1 ≡ length self.now }
+    {
+        self.parts.len() - 1
     }
 
     #[inline(always)]

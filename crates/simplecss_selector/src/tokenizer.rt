@@ -11,9 +11,9 @@ ghost use Rattle.simplecss_selector.specs.Asked.{operator_of};
 ghost use Rattle.simplecss_selector.specs.Given.{token_of};
 ghost use Rattle.simplecss_selector.specs.Announced.{announced, IsSimple, state_after_fault};
 
+use crate::{AttributeOperator, SelectorToken};
 use simplecss_text::stream::Stream;
 use simplecss_text::{Error, readers, scan};
-use crate::{AttributeOperator, SelectorToken};
 use std::iter::FusedIterator;
 
 /// What the byte behind a gap announces.
@@ -404,5 +404,4 @@ impl<'a> FusedIterator for SelectorTokenizer<'a> {}
 /// A law: what a tokenizer gives on any text has at most two errors.
 pub fn at_most_two_errors()
     ensures { (text : List ℕ) → fault_count (run_of this_edition text) ≤ 2 }
-{
-}
+{}

@@ -1,4 +1,4 @@
-use Rattle.std.proofs.Common.{◌≡◌, length, ◌+◌, ◌++◌, ◌∷◌, [], refl, sym, ap, ◌∙◌, arith, rules, vec_len}
+use Rattle.std.proofs.Common.{◌≡◌, length, ◌++◌, ◌∷◌, [], ap, ◌∙◌, arith, vec_len}
 use Rattle.simplecss_selector.specs.Seen.{IsFilled}
 use Rattle.simplecss_selector.proofs.Filling.{flat_from, drafted-finished}
 use Rattle.simplecss_selector.proofs.draft.Draft.finish.Goals as goal

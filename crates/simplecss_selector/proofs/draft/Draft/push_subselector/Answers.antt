@@ -1,5 +1,4 @@
-use Rattle.std.proofs.Common.{◌≡◌, ◌+◌, ◌++◌, ◌∷◌, [], refl, sym, ap, ◌∙◌, arith, rules}
-use Rattle.simplecss_selector.specs.Seen.{drafted}
+use Rattle.std.proofs.Common.{refl, arith}
 use Rattle.simplecss_selector.proofs.Filling.{filled_more, drafted-narrowed}
 use Rattle.simplecss_selector.proofs.draft.Draft.push_subselector.Goals as goal
 

@@ -1,5 +1,4 @@
-use Rattle.std.proofs.Common.{◌≡◌, length, true, false, ◌&&◌, refl, sym, ap, ◌∙◌}
-use Rattle.std.specs.Cmp.Lexicographic.{pointwise}
+use Rattle.std.proofs.Common.{length, ◌∙◌}
 use Rattle.simplecss_selector.specs.Seen.{Tile}
 use Rattle.simplecss_selector.proofs.FlatEquality.{flat_eq}
 use Rattle.simplecss_selector.proofs.equality.SelectorPartialEq.eq.Goals as goal

@@ -1,4 +1,4 @@
-use Rattle.std.proofs.Common.{length, ap, ◌∙◌, sym, arith}
+use Rattle.std.proofs.Common.{length, ap, arith}
 use Rattle.simplecss_selector.proofs.Flat.{components_from-length}
 use Rattle.simplecss_selector.proofs.selector.Selector.len.Goals as goal
 

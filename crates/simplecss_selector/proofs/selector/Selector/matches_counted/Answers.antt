@@ -1,21 +1,21 @@
-use Rattle.std.proofs.Common.{◌+◌, refl, sym, arith, inl, inr}
+use Rattle.std.proofs.Common.{◌+◌, ◌-◌, length, refl, sym, arith, inl, inr}
 use Rattle.std.proofs.lemmas.Bool.{false≢true}
 use Rattle.simplecss_selector.specs.Placements.{longest_run}
 use Rattle.simplecss_selector.specs.Searches.IsAtOrAbove.{here}
 use Rattle.simplecss_selector.specs.Runs.{run_end}
 use Rattle.simplecss_selector.proofs.Cuts.{run_end-some}
 use Rattle.simplecss_selector.proofs.Depths.{depth-below}
-use Rattle.simplecss_selector.proofs.Greedy.{placement_of, first_rest, misfit_up, misfit_top, rest_up, alone_fails}
-use Rattle.simplecss_selector.proofs.Stretches.{run_times-le, falls}
+use Rattle.simplecss_selector.proofs.Greedy.{not_met, tracks_from, alone_reached, placement_of, first_rest, misfit_up, misfit_top, rest_up, alone_fails}
+use Rattle.simplecss_selector.proofs.Stretches.{once_le, longest_run-some, run_times-le, falls}
 use Rattle.simplecss_selector.proofs.selector.Selector.matches_counted.Goals as goal
 
 pub returns-in-Misfit-clause-answer : goal.returns-in-Misfit-clause-answer
 returns-in-Misfit-clause-answer g c =
-    let p = placement_of g.E.Element.tree c.args.self.now (run_end c.args.self.now c.run_count.result) (g.E.Element.node c.args.element.now) c.run_count.ensures.whole in (
+    let p = placement_of g.E.Element.tree c.args.self.now (run_end c.args.self.now c.run_count-runs.result) (g.E.Element.node c.args.element.now) c.run_count-runs.ensures.whole in (
       λ e. absurd (false≢true e),
       λ h. elim c.in-Misfit.is [
-        | inl e ↦ absurd ((rw e at c.place_run.ensures.finds) (p.0 h))
-        | inr e ↦ absurd ((rw e at c.place_run.ensures.finds) _ (λ a q. q) (p.0 h))
+        | inl e ↦ absurd ((rw e at c.climb.ensures.finds) (p.0 h))
+        | inr e ↦ absurd ((rw e at c.climb.ensures.finds) _ (λ a q. q) (p.0 h))
       ],
     )
 
@@ -25,7 +25,7 @@ returns-in-Misfit-clause-at_most g c =
 
 pub returns-in-Whole-clause-answer : goal.returns-in-Whole-clause-answer
 returns-in-Whole-clause-answer g c =
-    let p = placement_of g.E.Element.tree c.args.self.now (run_end c.args.self.now c.run_count.result) _ c.run_count.ensures.whole in
+    let p = placement_of g.E.Element.tree c.args.self.now (run_end c.args.self.now c.run_count-runs.result) _ c.run_count-runs.ensures.whole in
     (λ t. p.1 c.in-Whole.ensures.finds, λ h. refl)
 
 pub returns-in-Whole-clause-at_most : goal.returns-in-Whole-clause-at_most
@@ -34,14 +34,14 @@ returns-in-Whole-clause-at_most g c =
 
 pub loop-candidate-init : goal.loop-candidate-init
 loop-candidate-init g c =
-    let f = c.in-Rest.ensures.finds.1 in
+    let f = c.in-Rest.ensures.finds in
     record {
       some = run_end-some c.args.self.now _ f.some;
-      within = omega (arith, c.in-Rest.ensures.finds.0, c.run_count.ensures.count);
-      same = first_rest g.E.Element.tree c.args.self.now (run_end c.args.self.now c.run_count.result) _ _ _ c.run_count.ensures.whole f;
+      within = omega (arith, c.run_count-runs.ensures.count);
+      same = first_rest g.E.Element.tree c.args.self.now (run_end c.args.self.now c.run_count-runs.result) _ _ _ c.run_count-runs.ensures.whole f;
       spent = omega (arith, c.in-Rest.ensures.bounded, falls (longest_run c.args.self.now) _ _ f.higher);
-      placed = omega (arith, c.in-Rest.ensures.placed, c.run_count.ensures.whole);
-      tested = c.in-Rest.ensures.tested;
+      placed = omega (arith, c.in-Rest.ensures.placed, c.run_count-runs.ensures.whole);
+      tested = omega (arith, c.in-Rest.ensures.tested, c.is_met_at.ensures.counted);
     }
 
 pub returns-in-Alone-clause-answer : goal.returns-in-Alone-clause-answer
@@ -84,11 +84,11 @@ pub loop-candidate-preserved : goal.loop-candidate-preserved
 loop-candidate-preserved g c =
     let tree = g.E.Element.tree in
     let i = c.loop-candidate.invariant in
-    let f = c.in-Rest-place_run.ensures.finds.1 in
-    let up = rest_up tree c.args.self.now (run_end c.args.self.now c.loop-candidate.runs) (run_end c.args.self.now c.in-Rest-place_run.rest) _ _ f in
+    let f = c.in-Rest-place_run.ensures.finds in
+    let up = rest_up tree c.args.self.now (run_end c.args.self.now c.loop-candidate.runs) (run_end c.args.self.now (c.loop-candidate.runs - 1)) _ _ f in
     record {
       some = run_end-some c.args.self.now _ f.some;
-      within = omega (arith, i.within, c.in-Rest-place_run.ensures.finds.0);
+      within = omega (arith, i.within);
       same = (λ h. up.0 (i.same.0 h), λ h. i.same.1 (up.1 h));
       spent = omega (arith, i.spent, c.in-Rest-place_run.ensures.bounded, falls (longest_run c.args.self.now) _ _ f.higher);
       placed = omega (arith, i.placed, c.in-Rest-place_run.ensures.placed);
@@ -100,3 +100,27 @@ returns-in-None-clause-answer g c = (
   λ e. absurd (false≢true e),
   λ h. absurd (misfit_top g.E.Element.tree c.args.self.now (run_end c.args.self.now c.loop-candidate.runs) _ (sym c.in-None.ensures) c.in-Misfit-place_run.ensures.finds (c.loop-candidate.invariant.same.0 h)),
 )
+
+pub returns-then-not-is_met_at-clause-answer : goal.returns-then-not-is_met_at-clause-answer
+returns-then-not-is_met_at-clause-answer g c =
+    let tree = g.E.Element.tree in
+    let cs = c.args.self.now in (
+      λ e. absurd (false≢true e),
+      λ h. absurd (not_met tree cs (length cs) c.last_place-last.result _ _ (omega arith) (λ m. false≢true (c.if-not-is_met_at.ensures.answer.1 m))
+          (tracks_from tree cs (length cs) (c.last_place-last.result + 1) _ c.last_place-last.ensures) ((placement_of tree cs (length cs) _ refl).0 h)),
+    )
+
+pub returns-then-last-eq0-clause-answer : goal.returns-then-last-eq0-clause-answer
+returns-then-last-eq0-clause-answer g c =
+    let cs = c.args.self.now in (
+      λ t. (placement_of g.E.Element.tree cs (length cs) _ refl).1 (alone_reached g.E.Element.tree cs _ c.last_place-last.result (omega arith) (omega arith) (c.if-not-is_met_at.ensures.answer.0 refl)),
+      λ h. refl,
+    )
+
+pub returns-then-last-eq0-clause-at_most : goal.returns-then-last-eq0-clause-at_most
+returns-then-last-eq0-clause-at_most g c =
+    omega (arith, c.is_met_at.ensures.counted, once_le (length c.args.self.now) (g.E.Element.tree.depth (g.E.Element.node c.args.element.now)) (omega arith))
+
+pub returns-then-last-eq0-clause-at_most_by_runs : goal.returns-then-last-eq0-clause-at_most_by_runs
+returns-then-last-eq0-clause-at_most_by_runs g c =
+    omega (arith, c.is_met_at.ensures.counted, once_le (longest_run c.args.self.now) (g.E.Element.tree.depth (g.E.Element.node c.args.element.now)) (longest_run-some c.args.self.now (omega arith)))

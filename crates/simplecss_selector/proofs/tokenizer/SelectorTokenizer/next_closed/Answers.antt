@@ -41,5 +41,5 @@ returns-in_default c =
     record {
       source = c.consume_gap.ensures.text;
       first = closed_spaced-first (source c.args.self.now) (left_of c.args.self.now) (rest_of c.consume_gap.new.s) c.in-Ok.spaced c.what_follows-follows.result c.in-Ok.ensures.reads c.if-spaced-2.true c.what_follows-follows.ensures
-      (simple_unless c.what_follows-follows.result f.not-Stop f.not-Slash f.not-Child f.not-Adjacent);
+          (simple_unless c.what_follows-follows.result f.not-Stop f.not-Slash f.not-Child f.not-Adjacent);
     }

@@ -22,7 +22,7 @@ returns-in-Ok c =
     record {
       source = c.solid_piece.ensures.text ∙ c.consume_gap.ensures.text;
       first = open_token-first (source c.args.self.now) (left_of c.args.self.now) (rest_of c.consume_gap.new.s) (rest_of c.solid_piece.new.stream) _ c.what_follows-follows.result c.in-Ok.token c.in_default.ensures.reads c.what_follows-follows.ensures
-      (simple_unless c.what_follows-follows.result f.not-Stop f.not-Slash f.not-Child f.not-Adjacent) c.in-Ok.ensures.reads;
+          (simple_unless c.what_follows-follows.result f.not-Stop f.not-Slash f.not-Child f.not-Adjacent) c.in-Ok.ensures.reads;
     }
 
 pub returns-in-Err-solid_piece : goal.returns-in-Err-solid_piece
@@ -35,5 +35,5 @@ returns-in-Err-solid_piece c =
     record {
       source = c.solid_piece.ensures.text ∙ c.consume_gap.ensures.text;
       first = rw c.after_fault-self.ensures (open_fault-first (source c.args.self.now) (left_of c.args.self.now) start after _ c.what_follows-follows.result c.in-Err-solid_piece.error c.in_default.ensures.reads c.what_follows-follows.ensures
-      (simple_unless c.what_follows-follows.result f.not-Stop f.not-Slash f.not-Child f.not-Adjacent) told);
+          (simple_unless c.what_follows-follows.result f.not-Stop f.not-Slash f.not-Child f.not-Adjacent) told);
     }

@@ -1,7 +1,6 @@
-use Rattle.std.proofs.Common.{Some, Err}
-use Rattle.simplecss_text.specs.declared.Error.TheVariants.{SelectorMissing}
+use Rattle.std.proofs.Common.{Some}
 use Rattle.simplecss_selector.specs.declared.tokenizer.State.TheVariants as states
-use Rattle.simplecss_selector.specs.Tokenizer.{source, left_of, still_to_come, run_in, GivesFirst}
+use Rattle.simplecss_selector.specs.Tokenizer.{left_of, still_to_come}
 use Rattle.simplecss_selector.proofs.Firsts.{missing-first, first-in, gives_steps, given-stands}
 use Rattle.simplecss_selector.proofs.tokenizer.SelectorTokenizerIterator.next.Goals as goal
 

@@ -5,7 +5,7 @@ use Rattle.simplecss_selector.specs.Runs.{run_end}
 use Rattle.simplecss_selector.specs.Searches.{component_at}
 use Rattle.simplecss_selector.proofs.Greedy.{Tracks}
 use Rattle.simplecss_selector.proofs.Stretches.{AreJoined}
-use Rattle.simplecss_selector.proofs.selector.Selector.place_run.Given as goal
+use Rattle.simplecss_selector.proofs.selector.Selector.climb.Given as goal
 
 -- the components from `place` on are met, from `lowest` up to `top`
 abbrev pub invariant-loop-place : goal.invariant-loop-place
