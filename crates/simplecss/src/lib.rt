@@ -14,11 +14,8 @@
 
 mod sheet;
 
-pub use sheet::{
-    Declaration, DeclarationTokenizer, Declarations, Rule, Rules, StyleSheet, laws,
-};
+pub use sheet::{Declaration, DeclarationTokenizer, Declarations, Rule, Rules, StyleSheet, laws};
 pub use simplecss_selector::{
     AttributeOperator, Element, PseudoClass, Selector, SelectorToken, SelectorTokenizer, Tests,
 };
-pub use simplecss_text::stream;
-pub use simplecss_text::{Error, TextPos};
+pub use simplecss_text::{Error, TextPos, stream};

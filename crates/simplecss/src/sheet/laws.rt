@@ -6,6 +6,9 @@ ghost use Rattle.simplecss_text.specs.Ranks.{rank_by};
 ghost use Rattle.simplecss_text.specs.Declarations.{Property};
 ghost use Rattle.simplecss_text.specs.Statements.{StyleRule, has_property};
 ghost use Rattle.simplecss_text.specs.Sheets.{is_smaller, ordered, sheet};
+ghost use Rattle.std.specs.Str.{IsUtf8};
+ghost use Rattle.simplecss_text.specs.Cutting.{StatementEndsAt, KeepsAcross};
+ghost use Rattle.simplecss_text.specs.Editions.{IsCommon, KeepsInBoth};
 ghost use Rattle.simplecss_text.specs.ThisEdition.{this_edition};
 ghost use Rattle.simplecss.specs.Properties.{property_of};
 
@@ -29,6 +32,17 @@ pub fn order_laws()
 /// Each rule of a style sheet that was read has a declaration.
 pub fn sheet_law()
     ensures { (texts : List (List ℕ)) → AllPass has_property (sheet this_edition texts) }
+{}
+
+/// A text has the rules of its front up to a place and then those of what stands from there on, wherever one of its
+/// statements ends. At other places that can be false: a block may be open there.
+pub fn cutting_law()
+    ensures { (text : List ℕ) (place : ℕ) → IsUtf8 text → StatementEndsAt this_edition text place → KeepsAcross this_edition text place }
+{}
+
+/// A text of ASCII bytes without a slash has the same rules in both editions of the grammar.
+pub fn edition_law()
+    ensures { (text : List ℕ) → IsCommon text → KeepsInBoth text }
 {}
 
 /// Two rules are equal exactly if their selectors and their declarations are; two lists of declarations, if the

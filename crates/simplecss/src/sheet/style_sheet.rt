@@ -2,6 +2,7 @@ ghost use Rattle.std.specs.Prelude.{◌≡◌, ◌∷◌, ◌++◌, [], ℕ, Lis
 ghost use Rattle.std.specs.List.{AllPass};
 ghost use Rattle.simplecss_text.specs.Statements.{has_property, kept, is_open_comment};
 ghost use Rattle.simplecss_text.specs.Sheets.{ordered, sheet};
+ghost use Rattle.simplecss_text.specs.Cutting.{GoesOn};
 ghost use Rattle.simplecss_text.specs.ThisEdition.{this_edition};
 
 use crate::sheet::{Rules, reading};
@@ -52,6 +53,8 @@ impl<'a> StyleSheet<'a> {
             → OnOk result (self.new.rules ≡ sheet this_edition (texts ++ text.now ∷ [])) }
         ensures filled { (texts : List (List ℕ)) → self.old.rules ≡ sheet this_edition texts
             → AllPass has_property self.new.rules }
+        // A text may be read in pieces that are cut where a statement ends.
+        ensures pieces { OnOk result (GoesOn this_edition self.old.rules text.now self.new.rules) }
     {
         match reading::read_rules(rt, alloc, text)? {
             Some(more) => self.rules.merge(more),

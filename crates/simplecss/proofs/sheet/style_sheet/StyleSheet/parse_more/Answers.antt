@@ -5,6 +5,7 @@ use Rattle.std.proofs.lemmas.List.Elements.{filter-append}
 use Rattle.simplecss_text.specs.Statements.{has_property, kept, statements}
 use Rattle.simplecss_text.specs.Sheets.{ordered, sheet}
 use Rattle.simplecss_text.specs.ThisEdition.{this_edition}
+use Rattle.simplecss_text.proofs.CuttingLaws.{goes_on, goes_on-ok}
 use Rattle.simplecss.specs.StyleRules.{rule_of}
 use Rattle.simplecss.proofs.SheetLemmas.{AllPass-sheet, sheet_more, sheet_open}
 use Rattle.simplecss.proofs.sheet.style_sheet.StyleSheet.parse_more.Goals as goal
@@ -44,3 +45,11 @@ returns-in-Some-clause-filled g c texts was =
     either_way c.merge.result
     (on_ok_weaker c.merge.result (λ (e : c.merge.new.self ≡ sheet this_edition (texts ++ c.args.text.now ∷ [])). subst (AllPass has_property) (sym e) (AllPass-sheet this_edition (texts ++ c.args.text.now ∷ []))) (merged g c texts was))
     (on_err_weaker c.merge.result (λ (e : c.merge.new.self ≡ c.args.self.now.rules). subst (AllPass has_property) (sym (e ∙ was)) (AllPass-sheet this_edition texts)) c.merge.ensures.err)
+
+pub returns-in-Some-clause-pieces : goal.returns-in-Some-clause-pieces
+returns-in-Some-clause-pieces g c =
+    goes_on-ok c.merge.result this_edition c.args.self.now.rules c.args.text.now c.merge.new.self (merged g c)
+
+pub returns-in-None-clause-pieces : goal.returns-in-None-clause-pieces
+returns-in-None-clause-pieces g c =
+    goes_on this_edition c.args.self.now.rules c.args.text.now c.args.self.now.rules (returns-in-None-clause-sheet g c)

@@ -1,0 +1,5 @@
+use Rattle.simplecss_text.proofs.SheetEditions.{keeps_in_both}
+use Rattle.simplecss.proofs.sheet.laws.edition_law.Goals as goal
+
+pub returns : goal.returns
+returns c = keeps_in_both
