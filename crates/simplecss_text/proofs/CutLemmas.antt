@@ -1,12 +1,12 @@
 -- Where a text may be cut between two characters.
-use Rattle.std.proofs.Common.{◌≡◌, ℕ, zero, suc, ◌+◌, ◌-◌, ◌<◌, ◌≤◌, Bool, true, false, List, [], ◌∷◌, length, get_or, arith, refl, sym, subst, slice_index, inl, inr, drop, ltb-true, Option, Some, None, IfSome}
+use Rattle.std.proofs.Common.{◌≡◌, ℕ, zero, suc, ◌+◌, ◌-◌, ◌<◌, ◌≤◌, Bool, true, false, List, [], ◌∷◌, length, get_or, arith, refl, sym, subst, slice_index, inl, inr, drop, ltb-true, Option, Some, None, IfSome, ◌&&◌, ◌==◌, eqb-true}
 use Rattle.std.specs.Str.{IsUtf8, IsCharBoundary}
 use Rattle.std.specs.List.{prefix_len}
 use Rattle.std.proofs.Math.Nat.{eq-or-lt_of_le}
 use Rattle.std.proofs.lemmas.Bool.Decides.{nat_tests, leb_tells}
 use Rattle.std.proofs.lemmas.List.Sums.{prefix_len-le-length, prefix_len_passes, prefix_len_stops}
 use Rattle.std.proofs.lemmas.Str.{IsUtf8-had, IsCharBoundary-after_ascii, IsCharBoundary-start, lead_after_ascii, IsUtf8-drop}
-use Rattle.simplecss_text.specs.Bytes.{starts_by, is_ascii}
+use Rattle.simplecss_text.specs.Bytes.{starts_by, starts_two, is_ascii}
 use Rattle.simplecss_text.specs.Characters.{is_space}
 use Rattle.simplecss_text.specs.Runs.{IsByteTest, EndsRun}
 
@@ -76,3 +76,19 @@ IsCharBoundary-behind_found text byte None u l h = tt
 IsCharBoundary-behind_found text byte (Some n) u l h =
     let small : slice_index text n < 128 = omega (arith, h.1) in
     IsCharBoundary-after_ascii text n u h.0 small
+
+-- behind two ASCII bytes at the front
+pub IsCharBoundary-behind_comment : (text : List ℕ) → IsUtf8 text → starts_two 47 42 text ≡ true → IsCharBoundary text 2
+IsCharBoundary-behind_comment [] u e = absurd (cc)
+IsCharBoundary-behind_comment (a ∷ []) u e = absurd (false_and (a == 47) e)
+  where
+    false_and : (x : Bool) → (x && false) ≡ true → ⊥
+    false_and true h = cc
+    false_and false h = cc
+IsCharBoundary-behind_comment (a ∷ b ∷ text) u e =
+    let star : b ≡ 42 = eqb-true b 42 (second (a == 47) (b == 42) e) in
+    IsCharBoundary-after_ascii (a ∷ b ∷ text) 1 u (omega arith) (omega (arith, star))
+  where
+    second : (x y : Bool) → (x && y) ≡ true → y ≡ true
+    second true y h = h
+    second false y h = cc

@@ -1,9 +1,13 @@
 -- Names, a character at a time.
-use Rattle.std.proofs.Common.{◌≡◌, ℕ, suc, ◌+◌, ◌-◌, ◌≤◌, List, [], ◌∷◌, ◌++◌, Bool, true, false, length, drop, refl, ap, sym, ◌∙◌, arith, length-append, length-drop, encode_utf8, encode_utf8_all, drop-drop}
+use Rattle.std.proofs.Common.{◌≡◌, ℕ, suc, ◌+◌, ◌-◌, ◌≤◌, List, [], ◌∷◌, ◌++◌, Bool, true, false, length, drop, refl, ap, sym, ◌∙◌, arith, length-append, length-drop, encode_utf8, encode_utf8_all, drop-drop, ◌&&◌, subst, one-add, get_or, ◌<◌, inl, inr, drop-cons, lt-ltb, ltb-true}
 use Rattle.std.specs.Str.{chars, IsUtf8}
 use Rattle.std.specs.List.{take_while, prefix_len}
 use Rattle.std.specs.Char.{len_utf8}
 use Rattle.std.proofs.lemmas.Str.{chars_past_char, length-encode, chars-nil, IsUtf8-past_char, drop_past_char, len_utf8_bounds}
+use lib.Utf8.{encode}
+use Rattle.std.proofs.Math.Nat.{eq-or-lt_of_le}
+use Rattle.std.proofs.lemmas.List.Sums.{prefix_len-le-length, prefix_len_stops}
+use Rattle.simplecss_text.specs.Bytes.{is_ascii}
 use Rattle.simplecss_text.specs.Characters.{Edition, is_name_char}
 use Rattle.simplecss_text.specs.Names.{past_name_chars}
 
@@ -62,3 +66,77 @@ step_over text rest i c w l u e is =
     let after : drop (i + w) text ≡ rest = ap (λ n. drop (i + n) text) is ∙ drop_past_char text rest i c e in
     let lengths : length text - i ≡ len_utf8 c + length rest = sym (length-drop i text) ∙ ap (λ (xs : List ℕ). length xs) e ∙ length-append (encode_utf8 c) rest ∙ ap (λ n. n + length rest) (length-encode c) in
     record { within = omega (arith, lengths, is, len_utf8_bounds c); rest_is = after; utf8 = rw after (IsUtf8-past_char (drop i text) rest c u e) }
+
+-- an ASCII byte that a name goes on with
+abbrev pub is_ascii_name_char : Edition → ℕ → Bool
+is_ascii_name_char edition b = is_ascii b && is_name_char edition b
+
+encode-ascii : (b : ℕ) → is_ascii b ≡ true → encode_utf8 b ≡ b ∷ []
+unfolding encode
+encode-ascii b e = rw e refl
+
+and_left : (x y : Bool) → (x && y) ≡ true → x ≡ true
+and_left true y e = refl
+and_left false y e = e
+
+and_right : (x y : Bool) → (x && y) ≡ true → y ≡ true
+and_right true y e = e
+and_right false y e = cc
+
+-- what an ASCII byte at the front says of the text
+ascii-front : (b : ℕ) (rest : List ℕ) → is_ascii b ≡ true → b ∷ rest ≡ encode_utf8 b ++ rest
+ascii-front b rest e = ap (λ (bs : List ℕ). bs ++ rest) (sym (encode-ascii b e))
+
+-- A run of ASCII name characters is passed at once, and what is left behind it is UTF-8.
+pub record Passed (edition : Edition) (text : List ℕ) : Type 0 where
+  pub same : past_name_chars edition text ≡ past_name_chars edition (drop (prefix_len (is_ascii_name_char edition) text) text)
+  pub utf8 : IsUtf8 (drop (prefix_len (is_ascii_name_char edition) text) text)
+
+pub passed-ascii : (edition : Edition) (text : List ℕ) → IsUtf8 text → Passed edition text
+passed-ascii edition [] u = record { same = refl; utf8 = u }
+passed-ascii edition (b ∷ rest) u = by (is_ascii_name_char edition b) refl (passed-ascii edition rest)
+  where
+    by : (t : Bool) → is_ascii_name_char edition b ≡ t → (IsUtf8 rest → Passed edition rest) → Passed edition (b ∷ rest)
+    by false e more =
+        let none : prefix_len (is_ascii_name_char edition) (b ∷ rest) ≡ 0 = rw e refl in
+        record {
+          same = ap (λ n. past_name_chars edition (drop n (b ∷ rest))) (sym none);
+          utf8 = subst (λ (n : ℕ). IsUtf8 (drop n (b ∷ rest))) (sym none) u;
+        }
+    by true e more =
+        let ascii = and_left (is_ascii b) (is_name_char edition b) e in
+        let front = ascii-front b rest ascii in
+        let tail = more (IsUtf8-past_char (b ∷ rest) rest b u front) in
+        let some : prefix_len (is_ascii_name_char edition) (b ∷ rest) ≡ suc (prefix_len (is_ascii_name_char edition) rest) = rw (e, one-add) refl in
+        let step = past_name_chars-passes edition (b ∷ rest) rest b u front (and_right (is_ascii b) (is_name_char edition b) e) in
+        record {
+          same = step ∙ tail.same ∙ ap (λ n. past_name_chars edition (drop n (b ∷ rest))) (sym some);
+          utf8 = subst (λ (n : ℕ). IsUtf8 (drop n (b ∷ rest))) (sym some) tail.utf8;
+        }
+
+-- behind the run stands no further name character, unless one past ASCII does
+pub passed-stops : (edition : Edition) (text : List ℕ) → IsUtf8 text → (prefix_len (is_ascii_name_char edition) text < length text → get_or text (prefix_len (is_ascii_name_char edition) text) 0 < 128)
+    → past_name_chars edition text ≡ drop (prefix_len (is_ascii_name_char edition) text) text
+passed-stops edition text u ascii =
+    let p = passed-ascii edition text u in
+    let n = prefix_len (is_ascii_name_char edition) text in
+    p.same
+    ∙ elim (eq-or-lt_of_le (prefix_len-le-length (is_ascii_name_char edition) text)) [
+      | inl e ↦ past_name_chars-none edition (drop n text) (length-drop n text ∙ omega arith)
+      | inr l ↦ stops n l (ascii l) (prefix_len_stops (is_ascii_name_char edition) text 0 l) p.utf8
+    ]
+  where
+    and_first : (x y : Bool) → x ≡ true → (x && y) ≡ false → y ≡ false
+    and_first true y e h = h
+    and_first false y e h = cc
+
+    stops : (n : ℕ) → n < length text → get_or text n 0 < 128 → is_ascii_name_char edition (get_or text n 0) ≡ false → IsUtf8 (drop n text) → past_name_chars edition (drop n text) ≡ drop n text
+    stops n l small other v =
+        let b = get_or text n 0 in
+        let shape : drop n text ≡ b ∷ drop (suc n) text = drop-cons text n 0 l in
+        let low : is_ascii b ≡ true = lt-ltb b 128 small in
+        let fails : is_name_char edition b ≡ false = and_first (is_ascii b) (is_name_char edition b) low other in
+        past_name_chars-fails edition (drop n text) (drop (suc n) text) b v (shape ∙ ascii-front b (drop (suc n) text) low) fails
+
+pub is_ascii_name_char-ascii : (edition : Edition) (b : ℕ) → is_ascii_name_char edition b ≡ true → b < 128
+is_ascii_name_char-ascii edition b e = ltb-true b 128 (and_left (is_ascii b) (is_name_char edition b) e)

@@ -1,8 +1,9 @@
 -- Worked slices and blanks.
-use Rattle.std.proofs.Common.{◌≡◌, refl, [], ◌∷◌, codes, arith}
+use Rattle.std.proofs.Common.{◌≡◌, refl, ap, [], ◌∷◌, codes, length, arith, length-append}
 use Rattle.simplecss_text.specs.Slices.{StandBetween}
-use Rattle.simplecss_text.specs.Blanks.{IsComment, IsBlank}
-use Rattle.simplecss_text.specs.Blanks.IsBlank.{empty, space, comment}
+use Rattle.simplecss_text.specs.Blanks.{IsComment, IsBlank, IsComments}
+use Rattle.simplecss_text.specs.Blanks.IsBlank.{empty, space_then, comment_then}
+use Rattle.simplecss_text.specs.Blanks.IsComments.{none, comment_before}
 use Rattle.simplecss_text.specs.Components.Operator.{equals}
 use Rattle.simplecss_text.specs.Tokens.{token_texts}
 use Rattle.simplecss_text.specs.Tokens.Token.{attribute_selector, child_combinator, type_selector}
@@ -30,4 +31,11 @@ pub empty_blank : IsBlank []
 empty_blank = empty
 
 pub space_and_comment : IsBlank (codes " /**/")
-space_and_comment = space 32 (codes "/**/") refl (comment (codes "/**/") [] shortest_comment empty)
+space_and_comment = space_then 32 (codes "/**/") refl (comment_then (codes "/**/") [] shortest_comment empty)
+
+-- the marks of a comment have no byte in common
+marks_apart : ¬ IsComment (codes "/*/")
+marks_apart c = absurd (omega (arith, ap length c.is, length-append c.inside (codes "*/")))
+
+comment_alone : IsComments (codes "/**/")
+comment_alone = comment_before (codes "/**/") [] shortest_comment none

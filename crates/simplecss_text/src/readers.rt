@@ -13,6 +13,7 @@ use crate::stream::Stream;
 use crate::{Error, scan};
 
 /// The byte at the place, if it is not the end of the text.
+#[inline(always)]
 pub fn peek(s: &Stream<'_>) -> Option<u8>
     ensures { MatchOption result (rest_of s.now ≡ []) (λ b. rest_of s.now ≡ b ∷ past_one (rest_of s.now)) }
 {
@@ -21,6 +22,7 @@ pub fn peek(s: &Stream<'_>) -> Option<u8>
 
 /// Passes the byte at the place, which is ASCII.
 #[tactic(auto, using(crate::proofs::CutLemmas::boundary_past_ascii))]
+#[inline(always)]
 pub fn pass_ascii(s: &mut Stream<'_>)
     requires { starts_by is_ascii (rest_of s.old) ≡ true }
     ensures text { text_of s.new ≡ text_of s.old }
@@ -30,6 +32,7 @@ pub fn pass_ascii(s: &mut Stream<'_>)
 }
 
 /// Passes the byte, which is ASCII, if it stands at the place, and says whether it does.
+#[inline(always)]
 pub fn pass_byte(s: &mut Stream<'_>, byte: u8) -> bool
     requires { byte < 128 }
     ensures text { text_of s.new ≡ text_of s.old }
@@ -43,6 +46,7 @@ pub fn pass_byte(s: &mut Stream<'_>, byte: u8) -> bool
 
 /// Passes a name and gives it. Where none begins, a hyphen that stands there is passed.
 #[tactic(auto, unfolding(crate::specs::Names::name))]
+#[inline(always)]
 pub fn take_name<'a>(s: &mut Stream<'a>) -> Option<&'a str>
     ensures text { text_of s.new ≡ text_of s.old }
     ensures reads { Finds (λ found. found.now) (no_name (rest_of s.old)) (name_read this_edition (rest_of s.old)) result (rest_of s.new) }
@@ -63,6 +67,7 @@ pub fn take_name<'a>(s: &mut Stream<'a>) -> Option<&'a str>
 /// Passes the rest of a string behind its opening quote, and gives what stands before the closing one. A string that
 /// is not closed takes the whole text.
 #[tactic(auto, using(crate::proofs::StringLemmas::string_after_closed))]
+#[inline(always)]
 pub fn take_string<'a>(s: &mut Stream<'a>, quote: u8) -> Option<&'a str>
     requires { quote < 128 }
     ensures text { text_of s.new ≡ text_of s.old }
@@ -83,6 +88,7 @@ pub fn take_string<'a>(s: &mut Stream<'a>, quote: u8) -> Option<&'a str>
 
 /// Passes a blank, and says whether no open comment stands behind it; one that does takes the whole text.
 #[tactic(auto, unfolding(crate::specs::Comments::blank))]
+#[inline(always)]
 pub fn pass_blank(s: &mut Stream<'_>) -> bool
     ensures text { text_of s.new ≡ text_of s.old }
     ensures reads { Finds (λ u. u) (no_comment (past_blank (rest_of s.old))) (blank (rest_of s.old)) (if result then Some tt else None) (rest_of s.new) }
@@ -98,6 +104,7 @@ pub fn pass_blank(s: &mut Stream<'_>) -> bool
 /// Passes a gap between two pieces, and says whether it has a space byte. An open comment behind it is
 /// `InvalidComment` with the position of its start, and then the place is the end of the text.
 #[tactic(auto, using(crate::proofs::GapLaws::gap_is_closed, crate::proofs::GapLaws::gap_is_open))]
+#[inline(always)]
 pub fn consume_gap(s: &mut Stream<'_>) -> Result<bool, Error>
     ensures text { text_of s.new ≡ text_of s.old }
     ensures reads { Gives (λ spaced. spaced) (text_of s.old) (gap_read (rest_of s.old)) result (rest_of s.new) }

@@ -1,8 +1,8 @@
 //! Where things end in a text. Each function answers a number of bytes, at which the text may be cut.
-ghost use Rattle.std.specs.Prelude.{◌≡◌, ℕ, ◌+◌, ◌-◌, ◌≤◌, ◌<◌, length, drop, true, false, None, Some, MatchOption, IfSome, IsTrue, slice_index, chars};
+ghost use Rattle.std.specs.Prelude.{◌≡◌, ℕ, ◌+◌, ◌-◌, ◌≤◌, ◌<◌, ◌&&◌, length, drop, true, false, None, Some, MatchOption, IfSome, IsTrue, slice_index, chars};
 ghost use Rattle.std.specs.Str.{IsCharBoundary};
 ghost use Rattle.std.specs.List.{prefix_len};
-ghost use Rattle.simplecss_text.specs.Bytes.{after_byte, starts_by};
+ghost use Rattle.simplecss_text.specs.Bytes.{after_byte, starts_by, is_ascii};
 ghost use Rattle.simplecss_text.specs.Characters.{is_space as is_space_byte, is_name_start as is_name_start_of, is_name_char as is_name_char_of};
 ghost use Rattle.simplecss_text.specs.ThisEdition.{this_edition};
 ghost use Rattle.simplecss_text.specs.Comments.{after_close, opens_comment as opens_comment_of, blank_part, past_blank, has_space};
@@ -12,12 +12,14 @@ ghost use Rattle.simplecss_text.specs.Strings.{from_quote};
 use crate::stream::{is_name_char, is_name_start};
 
 /// Whether the byte is a space, a tab, a newline, a carriage return or a form feed.
+#[inline(always)]
 pub fn is_space(byte: u8) -> bool
     ensures { result ≡ is_space_byte byte }
 {
     matches!(byte, b' ' | b'\t' | b'\n' | b'\r' | b'\x0C')
 }
 
+#[inline(always)]
 fn space_count(bytes: &[u8]) -> usize
     ensures { result ≡ prefix_len is_space_byte bytes.now }
 {
@@ -25,6 +27,7 @@ fn space_count(bytes: &[u8]) -> usize
 }
 
 /// How many space bytes stand at the front.
+#[inline(always)]
 pub fn spaces_len(text: &str) -> usize
     ensures len { result ≡ prefix_len is_space_byte text.now }
     ensures boundary { IsCharBoundary text.now result }
@@ -32,12 +35,20 @@ pub fn spaces_len(text: &str) -> usize
     space_count(text.as_bytes())
 }
 
+#[inline(always)]
+fn starts_comment(bytes: &[u8]) -> bool
+    ensures { result ≡ opens_comment_of bytes.now }
+{
+    matches!(bytes, [b'/', b'*', ..])
+}
+
 /// Whether `/*` stands at the front.
+#[inline(always)]
 pub fn opens_comment(text: &str) -> bool
     ensures value { result ≡ opens_comment_of text.now }
     ensures boundary { IsTrue result → IsCharBoundary text.now 2 }
 {
-    text.starts_with("/*")
+    starts_comment(text.as_bytes())
 }
 
 /// Behind the first `*/`, if there is one.
@@ -89,6 +100,7 @@ pub fn string_len(text: &str, quote: u8) -> Option<usize>
 }
 
 /// Whether a name begins the text.
+#[inline(always)]
 fn begins_name(text: &str) -> bool
     ensures { result ≡ begins_name_of this_edition (chars text.now) }
 {
@@ -103,8 +115,47 @@ fn begins_name(text: &str) -> bool
     }
 }
 
-/// How many bytes the longest run of name characters at the front has.
-fn name_chars_len(text: &str) -> usize
+/// Whether a name may go on with the byte, which is ASCII then.
+#[inline(always)]
+fn is_ascii_name_char(byte: u8) -> bool
+    ensures { result ≡ (is_ascii byte && is_name_char_of this_edition byte) }
+{
+    byte.is_ascii_alphanumeric() || byte == b'-' || byte == b'_'
+}
+
+#[inline(always)]
+fn ascii_name_char_count(bytes: &[u8]) -> usize
+    ensures { result ≡ prefix_len (λ b. is_ascii b && is_name_char_of this_edition b) bytes.now }
+{
+    bytes
+        .iter()
+        .take_while(|byte| is_ascii_name_char(**byte))
+        .count()
+}
+
+/// How many ASCII name characters stand at the front.
+#[inline(always)]
+fn ascii_name_chars_len(text: &str) -> usize
+    ensures len { result ≡ prefix_len (λ b. is_ascii b && is_name_char_of this_edition b) text.now }
+    ensures boundary { IsCharBoundary text.now result }
+{
+    ascii_name_char_count(text.as_bytes())
+}
+
+/// Whether a character past ASCII begins at the place.
+#[inline(always)]
+fn is_wide_at(text: &str, at: usize) -> bool
+    ensures wide { IsTrue result → (at < length text.now) × (128 ≤ slice_index text.now at) }
+    ensures other { result ≡ false → at < length text.now → slice_index text.now at < 128 }
+{
+    match text.as_bytes().get(at) {
+        Some(byte) => *byte >= 128,
+        None => false,
+    }
+}
+
+/// How many bytes the longest run of name characters at the front has, a character at a time.
+fn wide_name_chars_len(text: &str) -> usize
     ensures len { past_name_chars this_edition text.now ≡ drop result text.now }
     ensures boundary { IsCharBoundary text.now result }
 {
@@ -118,7 +169,22 @@ fn name_chars_len(text: &str) -> usize
     len
 }
 
+/// How many bytes the longest run of name characters at the front has.
+#[inline(always)]
+fn name_chars_len(text: &str) -> usize
+    ensures len { past_name_chars this_edition text.now ≡ drop result text.now }
+    ensures boundary { IsCharBoundary text.now result }
+{
+    let len = ascii_name_chars_len(text);
+    if is_wide_at(text, len) {
+        len + wide_name_chars_len(&text[len..])
+    } else {
+        len
+    }
+}
+
 /// How many bytes the name at the front has, if one begins there.
+#[inline(always)]
 pub fn name_len(text: &str) -> Option<usize>
     ensures none { result ≡ None → begins_name_of this_edition (chars text.now) ≡ false }
     ensures some { IfSome result (λ n. (begins_name_of this_edition (chars text.now) ≡ true) × (past_name_chars this_edition text.now ≡ drop n text.now)) }
@@ -143,6 +209,7 @@ pub struct Gap {
 }
 
 /// The gap at the front of the text.
+#[inline(always)]
 pub fn find_gap(text: &str) -> Gap
     ensures rest { past_blank text.now ≡ drop result.len text.now }
     ensures spaced { result.spaced ≡ has_space text.now }
@@ -163,6 +230,7 @@ pub fn find_gap(text: &str) -> Gap
 }
 
 /// The first part of a gap, a space byte or a closed comment.
+#[inline(always)]
 fn blank_part_len(text: &str) -> Option<Part>
     ensures found { MatchOption result (blank_part text.now ≡ None) (λ p. blank_part text.now ≡ Some (p.spaced, drop p.len text.now)) }
     ensures boundary { IfSome result (λ p. IsCharBoundary text.now p.len) }
@@ -194,6 +262,7 @@ struct Part {
 }
 
 /// Whether a space byte stands at the front.
+#[inline(always)]
 fn starts_with_space(text: &str) -> bool
     ensures { result ≡ starts_by is_space_byte text.now }
 {

@@ -12,6 +12,7 @@ const FIRST_WIDE: u32 = 238;
 
 /// Whether a name may begin with the character: an underscore, an ASCII letter, or a character whose number is above
 /// 237. (CSS 2.1 section 4.1.1 has the characters above octal 237.)
+#[inline(always)]
 pub fn is_name_start(c: char) -> bool
     ensures { result ≡ is_name_start this_edition c }
 {
@@ -19,6 +20,7 @@ pub fn is_name_start(c: char) -> bool
 }
 
 /// Whether a name may go on with the character: a name start, an ASCII digit or a hyphen (CSS 2.1 section 4.1.1).
+#[inline(always)]
 pub fn is_name_char(c: char) -> bool
     ensures { result ≡ is_name_char this_edition c }
 {
@@ -90,6 +92,7 @@ impl<'a> Stream<'a> {
     }
 
     /// The byte at the place. At the end of the text that is `UnexpectedEndOfStream`.
+    #[inline(always)]
     pub fn curr_byte(&self) -> Result<u8, Error>
         ensures { MatchResult result (λ b. rest_of self.now ≡ b ∷ past_one (rest_of self.now))
             (λ e. (rest_of self.now ≡ []) × (e ≡ Error.UnexpectedEndOfStream)) }
@@ -120,6 +123,7 @@ impl<'a> Stream<'a> {
     }
 
     /// Passes so many bytes, behind which the text goes on with a character or ends.
+    #[inline(always)]
     pub fn advance(&mut self, n: usize)
         requires { IsCharBoundary (rest_of self.old) n }
         ensures text { text_of self.new ≡ text_of self.old }
@@ -130,6 +134,7 @@ impl<'a> Stream<'a> {
 
     /// Passes the byte, which is ASCII. At the end of the text the error is `UnexpectedEndOfStream`, and where another
     /// byte stands `InvalidByte` with the position there; then the place stays.
+    #[inline(always)]
     pub fn consume_byte(&mut self, c: u8) -> Result<(), Error>
         requires { c < 128 }
         ensures text { text_of self.new ≡ text_of self.old }
@@ -148,6 +153,7 @@ impl<'a> Stream<'a> {
     }
 
     /// Passes the byte, which is ASCII, if it stands at the place.
+    #[inline(always)]
     pub fn try_consume_byte(&mut self, c: u8)
         requires { c < 128 }
         ensures text { text_of self.new ≡ text_of self.old }
@@ -205,6 +211,7 @@ impl<'a> Stream<'a> {
     }
 
     /// What stands between the place and the end of the text.
+    #[inline(always)]
     pub fn slice_tail(&self) -> &'a str
         ensures { result.now ≡ rest_of self.now }
     {
@@ -233,6 +240,7 @@ impl<'a> Stream<'a> {
     /// Passes a name, and gives it (CSS 2.1 section 4.1.3): an optional hyphen, a name start and name characters. A
     /// hyphen that ends the text is a name too. Where none begins, the error is `InvalidIdent` with the position
     /// there, and a hyphen that stands there is passed.
+    #[inline(always)]
     pub fn consume_ident(&mut self) -> Result<&'a str, Error>
         ensures text { text_of self.new ≡ text_of self.old }
         ensures reads { Gives (λ found. found.now) (text_of self.old) (name_read this_edition (rest_of self.old)) result (rest_of self.new) }
@@ -247,6 +255,7 @@ impl<'a> Stream<'a> {
     /// Passes a string or a name, and gives what stands between the quotes or the name. At the end of the text, and
     /// where the string is not closed, the error is `UnexpectedEndOfStream` and the place the end of the text.
     #[tactic(auto, unfolding(crate::specs::Strings::string_or_name))]
+    #[inline(always)]
     pub fn consume_string(&mut self) -> Result<&'a str, Error>
         ensures text { text_of self.new ≡ text_of self.old }
         ensures reads { Gives (λ value. value.now) (text_of self.old) (string_or_name this_edition (rest_of self.old)) result (rest_of self.new) }

@@ -1,5 +1,5 @@
-use crate::{Declaration, Declarations, Rule, Rules, StyleSheet};
-use log::sink::Discard;
+use crate::{Declaration, Declarations, Rules, StyleSheet};
+use log::sink::{Discard, Memory};
 use std::alloc::AllocError;
 use std::test::Fail;
 
@@ -40,6 +40,87 @@ fn prints_rules_in_order(rt: HostRuntime) -> Result<(), Fail> {
         assert!(rt; prints(&rt, &sheet, want)?, "of {text}");
         let wide = format!(in rt.alloc(); "{sheet:*>200}")?;
         assert!(rt; wide.as_str() == want, "of {text}");
+    }
+    Ok(())
+}
+
+#[test]
+fn passes_over_what_may_not_stand(rt: HostRuntime) -> Result<(), Fail> {
+    let sheets = [
+        ("a {}", ""),
+        ("/**/", ""),
+        ("a > { color:red }", ""),
+        ("p { color; color:green }", ""),
+        ("p { color{;color:maroon} color:green; }", ""),
+        (":le>*", ""),
+        ("a { color:red } /**/", "a { color:red; }"),
+        ("a, { color:red }", "a { color:red; }"),
+        ("a,, { color:red }", "a { color:red; }"),
+        (",a { color:red }", "a { color:red; }"),
+        ("@import \"subs.css\";\na { color:red }", "a { color:red; }"),
+        ("a,,b { color:red }", "a { color:red; }\nb { color:red; }"),
+        ("p { color:green; color }", "p { color:green; }"),
+        ("p { color:green; color: }", "p { color:green; }"),
+        (
+            "p { color:green; color:; color:red; }",
+            "p { color:green; }",
+        ),
+        (
+            "h1 { color: green }\nh2 & h3 { color: red }\nh4 { color: black }\n",
+            "h1 { color:green; }\nh4 { color:black; }",
+        ),
+        (":le, b { color:red }", "b { color:red; }"),
+        ("a, b < c { color:red }", "a { color:red; }"),
+        ("a /, b { color:red }", "b { color:red; }"),
+        ("a { }} b { color:red }", "b { color:red; }"),
+        ("a { } } b { color:red }", ""),
+        (
+            "p { font:12px/1.5 serif; color:red } q { color:blue }",
+            "p { font:12px; }\nq { color:blue; }",
+        ),
+        (
+            "p { color:green; color{;color:maroon} }",
+            "p { color:green; }",
+        ),
+        ("@ a { color:red }", "a { color:red; }"),
+        (
+            "@media screen { p:before { content: 'Hello'; } } a { color:red }",
+            "a { color:red; }",
+        ),
+        ("a {}} b { color:red }", ""),
+        ("a { b:c; color:red; /* open", "a { b:c; }"),
+        ("a { color:red 'x", "a { color:red; }"),
+        ("a { color:red", "a { color:red; }"),
+        ("<!-- a { b:c } --> d { e:f }", ""),
+    ];
+    for (text, want) in sheets {
+        assert!(rt; prints(&rt, &read(&rt, text)?, want)?, "of {text}");
+    }
+    Ok(())
+}
+
+#[test]
+fn tells_the_logger_what_is_passed_over(rt: HostRuntime) -> Result<(), Fail> {
+    let texts = [
+        (
+            "> {}",
+            "Selector parsing failed cause unexpected combinator.",
+        ),
+        (
+            "@import 'subs.css';",
+            "The @import rule is not supported. Skipped.",
+        ),
+        (":le {}", "':le' is not supported. Selector skipped."),
+    ];
+    for (text, message) in texts {
+        let sink = Memory::new(rt.alloc());
+        let sheet = StyleSheet::parse(&sink, rt.alloc(), text)?;
+        assert!(rt; sheet.rules.is_empty());
+        let lines = sink.into_lines();
+        assert_eq!(rt; lines.len(), 1);
+        for line in lines.as_slice() {
+            assert!(rt; line.as_str().ends_with(message), "{line:?}");
+        }
     }
     Ok(())
 }
@@ -189,10 +270,18 @@ fn lists_give_back_what_they_were_made_of(rt: HostRuntime) -> Result<(), Fail> {
     assert!(rt; declarations.is_empty());
     declarations.put(copy.into_vec());
     assert_eq!(rt; declarations.len(), 2);
+    Ok(())
+}
+
+#[test]
+fn rules_give_back_what_they_were_made_of(rt: HostRuntime) -> Result<(), Fail> {
     let sheet = read(&rt, "a { b:c } d { e:f }")?;
-    let rules: Vec<Rule> = sheet.clone()?.rules.into_vec();
-    assert!(rt; rules.first() == sheet.rules.first());
-    assert!(rt; rules.as_slice() == sheet.rules.as_slice());
-    assert!(rt; !Rules::from_vec(rules).is_empty());
+    let rules = sheet.clone()?.rules.into_vec();
+    assert_eq!(rt; rules.len(), 2);
+    let again = StyleSheet {
+        rules: Rules::from_vec(rules),
+    };
+    assert!(rt; !again.rules.is_empty());
+    assert!(rt; equal_rules(&again, &sheet));
     Ok(())
 }

@@ -3,7 +3,7 @@ use Rattle.std.specs.Str.Iter.{chars_rest}
 use Rattle.std.specs.Str.{IsUtf8}
 use Rattle.simplecss_text.specs.Names.{past_name_chars}
 use Rattle.simplecss_text.specs.ThisEdition.{this_edition}
-use Rattle.simplecss_text.proofs.scan.name_chars_len.Given as goal
+use Rattle.simplecss_text.proofs.scan.wide_name_chars_len.Given as goal
 
 abbrev pub invariant-loop-c : goal.invariant-loop-c
 invariant-loop-c l = record {

@@ -1,0 +1,5 @@
+use Rattle.simplecss_text.proofs.BlankLaws.{comment-got}
+use Rattle.simplecss_text.proofs.laws.comment_is_closed.Goals as goal
+
+pub returns : goal.returns
+returns c = comment-got

@@ -1,0 +1,37 @@
+//! Laws of the grammar, each the contract of a function that does nothing. They say what the readers of comments and blanks
+//! find in words that know of no reading: what a comment is, and what a blank is.
+
+ghost use Rattle.std.specs.Prelude.{◌≡◌, ℕ, ◌≤◌, ◌↔◌, List, ◌++◌, length, true, false};
+ghost use Rattle.simplecss_text.specs.Reading.{got, before, Ends};
+ghost use Rattle.simplecss_text.specs.Comments.{opens_comment, comment, past_blank, blank, has_space};
+ghost use Rattle.simplecss_text.specs.Blanks.{IsComment, IsBlank, IsComments};
+
+/// A comment is read exactly where what reading passes is a comment.
+pub fn comment_is_closed()
+    ensures { (text rest : List ℕ) →
+        (comment text ≡ got tt rest) ↔ (Ends text rest × IsComment (before text rest)) }
+{}
+
+/// What a blank at the front of a text passes is cut into space bytes and comments.
+pub fn blank_is_cut()
+    ensures ends { (text : List ℕ) → Ends text (past_blank text) }
+    ensures cut { (text : List ℕ) → IsBlank (before text (past_blank text)) }
+{}
+
+/// No longer front of a text is cut into space bytes and comments than the one that the blank at its front passes.
+pub fn blank_is_longest()
+    ensures { (text front rest : List ℕ) → text ≡ front ++ rest → IsBlank front →
+        length front ≤ length (before text (past_blank text)) }
+{}
+
+/// The blank at the front of a text has no space byte exactly where it is cut into comments alone.
+pub fn space_bytes_are_parts()
+    ensures { (text : List ℕ) →
+        (has_space text ≡ false) ↔ IsComments (before text (past_blank text)) }
+{}
+
+/// A comment that opens behind a blank is not closed, and reading the blank is the fault of reading that comment.
+pub fn open_comment_breaks_blank()
+    ensures { (text : List ℕ) → opens_comment (past_blank text) ≡ true →
+        blank text ≡ comment (past_blank text) }
+{}
