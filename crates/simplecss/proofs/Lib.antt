@@ -1,7 +1,5 @@
 pub mod Joins
 pub mod ListLemmas
-pub mod RankLemmas
-pub mod OrderLemmas
 pub mod SheetLemmas
 pub mod ByteLemmas
 pub mod FaultLemmas

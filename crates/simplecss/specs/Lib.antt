@@ -32,3 +32,6 @@ pub use Rattle.simplecss_text.specs.Terms
 pub use Rattle.simplecss_text.specs.ThisEdition
 pub use Rattle.simplecss_text.specs.TokenRuns
 pub use Rattle.simplecss_text.specs.Tokens
+pub use Rattle.simplecss_text.specs.Cutting
+pub use Rattle.simplecss_text.specs.Editions
+pub use Rattle.simplecss_text.specs.PrintingLaws

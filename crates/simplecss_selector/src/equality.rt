@@ -1,5 +1,7 @@
 ghost use Rattle.std.specs.Prelude.{◌≡◌, ◌↔◌, List, IsTrue, IfOk};
 ghost use Rattle.simplecss_text.specs.Components.{Component};
+ghost use Rattle.simplecss_text.specs.ThisEdition.{this_edition};
+ghost use Rattle.simplecss_text.specs.PrintingLaws.{PrintAlikeIfEqual};
 
 use crate::selector::Selector;
 use std::alloc::AllocError;
@@ -21,6 +23,11 @@ impl<'a> PartialEq for Selector<'a> {
 /// Selectors are equal exactly if their components are.
 pub fn equality_law()
     ensures { (a b : List Component) → IsTrue (⟦<Selector<'static> as PartialEq>⟧.eq a b) ↔ (a ≡ b) }
+{}
+
+/// Two clean selectors that were read print alike exactly if they are equal.
+pub fn printing_law()
+    ensures { (a b : List Component) → PrintAlikeIfEqual this_edition a b }
 {}
 
 impl<'a> Selector<'a> {

@@ -104,9 +104,10 @@ fn warn_unknown<R: Log>(rt: &R, token: SelectorToken<'_>) {
 }
 
 impl<'a> Selector<'a> {
-    ghost use Rattle.std.specs.Prelude.{◌≡◌, IfOk};
+    ghost use Rattle.std.specs.Prelude.{◌≡◌, IfOk, IfSome};
     ghost use Rattle.simplecss_text.specs.ThisEdition.{this_edition};
     ghost use Rattle.simplecss_text.specs.Selectors.{reads};
+    ghost use Rattle.simplecss_text.specs.PrintingLaws.{SelectorReadsBack};
 
     /// The selector that a text begins with, or `None` where it is refused (CSS 2.1 section 5).
     ///
@@ -118,7 +119,8 @@ impl<'a> Selector<'a> {
         alloc: Global,
         text: &'a str,
     ) -> Result<Option<Selector<'a>>, AllocError>
-        ensures { IfOk result (λ selector. selector ≡ (reads this_edition text.now).0) }
+        ensures selector { IfOk result (λ selector. selector ≡ (reads this_edition text.now).0) }
+        ensures printed { IfOk result (λ selector. IfSome selector (SelectorReadsBack this_edition)) }
     {
         let (selector, _) = parse_front(rt, alloc, text)?;
         Ok(selector)

@@ -35,7 +35,7 @@ name_unseen-stands edition text = stands-unseen text itself (name edition text) 
 
 -- ---- terms
 
-ends-past_hash : (text : List ℕ) (r : Reading (List ℕ)) → Stands text no_texts r → Ends text (past_hash r)
+pub ends-past_hash : (text : List ℕ) (r : Reading (List ℕ)) → Stands text no_texts r → Ends text (past_hash r)
 ends-past_hash text (got n rest) h = h.at
 ends-past_hash text (fails fault rest) h = ends-ends text rest (past is_hex_digit rest) h.at (ends-past is_hex_digit rest)
 
@@ -46,7 +46,7 @@ ends-if text false x y a b = b
 pub ends-past_decimals : (text : List ℕ) → Ends text (past_decimals text)
 ends-past_decimals text = ends-if text (starts 46 text) (past is_digit (past_one text)) text (ends-ends text (past_one text) (past is_digit (past_one text)) (ends-past_one text) (ends-past is_digit (past_one text))) (ends-same text)
 
-ends-past_unit : (edition : Edition) (text : List ℕ) → Ends text (past_unit edition text)
+pub ends-past_unit : (edition : Edition) (text : List ℕ) → Ends text (past_unit edition text)
 ends-past_unit edition text = ends-if text (starts 37 text) (past_one text) (left_after (name edition text)) (ends-past_one text) (stands-ends text no_texts (name edition text) (name_unseen-stands edition text))
 
 ends-past_number : (edition : Edition) (text : List ℕ) → Ends text (past_number edition text)
@@ -55,7 +55,7 @@ ends-past_number edition text =
     ends-ends text (past is_digit text) (past_unit edition (past_decimals (past is_digit text))) (ends-past is_digit text)
     (ends-ends (past is_digit text) (past_decimals (past is_digit text)) (past_unit edition (past_decimals (past is_digit text))) (ends-past_decimals (past is_digit text)) (ends-past_unit edition (past_decimals (past is_digit text))))
 
-arguments-stands : (text : List ℕ) → Stands text no_texts (arguments text)
+pub arguments-stands : (text : List ℕ) → Stands text no_texts (arguments text)
 arguments-stands text = stands-if text no_texts (starts 40 text) _ _ (closed_or-stands text ended (after_byte 41 text) (after_byte-ends 41 text)) (stands-give text tt)
 
 word-stands : (edition : Edition) (text : List ℕ) → Stands text no_texts (word edition text)

@@ -4,6 +4,7 @@ ghost use Rattle.simplecss_text.specs.Statements.{has_property, kept, is_open_co
 ghost use Rattle.simplecss_text.specs.Sheets.{ordered, sheet};
 ghost use Rattle.simplecss_text.specs.Cutting.{GoesOn};
 ghost use Rattle.simplecss_text.specs.ThisEdition.{this_edition};
+ghost use Rattle.simplecss_text.specs.PrintingLaws.{SelectorsReadBack, has_wide_space, PrintsBack, PrintsBackAfter};
 
 use crate::sheet::{Rules, reading};
 use log::Log;
@@ -29,7 +30,9 @@ impl<'a> StyleSheet<'a> {
 
     /// The style sheet of one text. Only memory may be wanting: what CSS 2.1 does not let stand is passed over. Warnings of what is passed over go to `rt`.
     pub fn parse<R: Log>(rt: &R, alloc: Global, text: &'a str) -> Result<Self, AllocError>
-        ensures { IfOk result (λ s. s.rules ≡ sheet this_edition (text.now ∷ [])) }
+        ensures sheet { IfOk result (λ s. s.rules ≡ sheet this_edition (text.now ∷ [])) }
+        ensures selectors { IfOk result (λ s. SelectorsReadBack this_edition s.rules) }
+        ensures prints_back { has_wide_space text.now ≡ false → IfOk result (λ s. PrintsBack this_edition s.rules) }
     {
         let mut sheet = StyleSheet::new(alloc);
         sheet.parse_more(rt, alloc, text)?;
@@ -55,6 +58,9 @@ impl<'a> StyleSheet<'a> {
             → AllPass has_property self.new.rules }
         // A text may be read in pieces that are cut where a statement ends.
         ensures pieces { OnOk result (GoesOn this_edition self.old.rules text.now self.new.rules) }
+        // Printed selectors and printed sheets read as what was printed.
+        ensures selectors { SelectorsReadBack this_edition self.old.rules → SelectorsReadBack this_edition self.new.rules }
+        ensures prints_back { OnOk result (PrintsBackAfter this_edition self.old.rules text.now self.new.rules) }
     {
         match reading::read_rules(rt, alloc, text)? {
             Some(more) => self.rules.merge(more),

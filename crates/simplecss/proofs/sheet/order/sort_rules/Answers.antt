@@ -8,8 +8,8 @@ use Rattle.simplecss_text.specs.Statements.{StyleRule}
 use Rattle.simplecss_text.specs.Sheets.{is_smaller}
 use Rattle.simplecss.specs.declared.sheet.rules.Rule.{Rule}
 use Rattle.simplecss.specs.StyleRules.{rule_of}
-use Rattle.simplecss.proofs.OrderLemmas.{weight, smaller_order}
-use Rattle.simplecss.proofs.RankLemmas.{ordered_is, arranges_from_sort, arranges-map}
+use Rattle.simplecss_text.proofs.OrderLemmas.{weight, smaller_order}
+use Rattle.simplecss_text.proofs.RankLemmas.{ordered_is, arranges_from_sort, arranges-map}
 use Rattle.simplecss.proofs.sheet.order.sort_rules.Goals as goal
 
 -- the rule that shows what the other does

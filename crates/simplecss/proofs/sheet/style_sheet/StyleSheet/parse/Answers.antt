@@ -1,5 +1,15 @@
-use Rattle.std.proofs.Common.{[]}
+use Rattle.std.proofs.Common.{◌≡◌, [], sym, subst}
+use Rattle.simplecss_text.specs.ThisEdition.{this_edition}
+use Rattle.simplecss_text.specs.PrintingLaws.{SelectorsReadBack, PrintsBack}
+use Rattle.simplecss_text.proofs.KeptSelectors.{text-reads_back}
+use Rattle.simplecss_text.proofs.SheetsAgain.{text-prints_back}
 use Rattle.simplecss.proofs.sheet.style_sheet.StyleSheet.parse.Goals as goal
 
-pub returns : goal.returns
-returns g c = c.in_ok-parse_more.ensures.sheet [] c.new-sheet.ensures.sheet
+pub returns-clause-sheet : goal.returns-clause-sheet
+returns-clause-sheet g c = c.in_ok-parse_more.ensures.sheet [] c.new-sheet.ensures.sheet
+
+pub returns-clause-selectors : goal.returns-clause-selectors
+returns-clause-selectors g c = subst (SelectorsReadBack this_edition) (sym (c.in_ok-parse_more.ensures.sheet [] c.new-sheet.ensures.sheet)) (text-reads_back this_edition c.args.text.now c.utf8.text)
+
+pub returns-clause-prints_back : goal.returns-clause-prints_back
+returns-clause-prints_back g c narrow = subst (PrintsBack this_edition) (sym (c.in_ok-parse_more.ensures.sheet [] c.new-sheet.ensures.sheet)) (text-prints_back this_edition c.args.text.now (c.utf8.text, narrow))

@@ -2,10 +2,13 @@ use Rattle.std.proofs.Common.{◌≡◌, ◌++◌, ◌∷◌, [], ◌∙◌, ℕ
 use Rattle.std.specs.List.{filter, AllPass}
 use Rattle.std.proofs.lemmas.Result.{on_ok_weaker, on_err_weaker}
 use Rattle.std.proofs.lemmas.List.Elements.{filter-append}
-use Rattle.simplecss_text.specs.Statements.{has_property, kept, statements}
+use Rattle.simplecss_text.specs.Statements.{StyleRule, has_property, kept, statements}
+use Rattle.simplecss_text.specs.PrintingLaws.{SelectorsReadBack, PrintsBackAfter}
 use Rattle.simplecss_text.specs.Sheets.{ordered, sheet}
 use Rattle.simplecss_text.specs.ThisEdition.{this_edition}
 use Rattle.simplecss_text.proofs.CuttingLaws.{goes_on, goes_on-ok}
+use Rattle.simplecss_text.proofs.KeptSelectors.{more-reads_back}
+use Rattle.simplecss_text.proofs.SheetsAgain.{prints_back-after, prints_back-same}
 use Rattle.simplecss.specs.StyleRules.{rule_of}
 use Rattle.simplecss.proofs.SheetLemmas.{AllPass-sheet, sheet_more, sheet_open}
 use Rattle.simplecss.proofs.sheet.style_sheet.StyleSheet.parse_more.Goals as goal
@@ -53,3 +56,27 @@ returns-in-Some-clause-pieces g c =
 pub returns-in-None-clause-pieces : goal.returns-in-None-clause-pieces
 returns-in-None-clause-pieces g c =
     goes_on this_edition c.args.self.now.rules c.args.text.now c.args.self.now.rules (returns-in-None-clause-sheet g c)
+
+-- the selectors of the old rules and of the text read back, so do those of both
+pub returns-in-Some-clause-selectors : goal.returns-in-Some-clause-selectors
+returns-in-Some-clause-selectors g c back =
+    let old = c.args.self.now.rules in
+    let text = c.args.text.now in
+    let read : map rule_of c.in-Some.more.items ≡ flat_map (λ given. given) (statements this_edition text) = search rules in
+    either_way c.merge.result
+    (on_ok_weaker c.merge.result (λ (e : c.merge.new.self ≡ ordered (filter has_property (old ++ map rule_of c.in-Some.more.items))).
+    let is : c.merge.new.self ≡ ordered (filter has_property old ++ kept this_edition text) =
+    e ∙ ap (λ l. ordered (filter has_property (old ++ l))) read ∙ ap ordered (filter-append has_property old (flat_map (λ given. given) (statements this_edition text))) in
+    subst (SelectorsReadBack this_edition) (sym is) (more-reads_back this_edition old text back c.utf8.text)) c.merge.ensures.ok)
+    (on_err_weaker c.merge.result (λ (e : c.merge.new.self ≡ old). subst (SelectorsReadBack this_edition) (sym e) back) c.merge.ensures.err)
+
+-- for all texts at once
+ok_for_all : {X E : Type 0} (r : Result X E) (old new : List StyleRule) (text : List ℕ) → ((texts : List (List ℕ)) → old ≡ sheet this_edition texts → OnOk r (new ≡ sheet this_edition (texts ++ text ∷ []))) → OnOk r (PrintsBackAfter this_edition old text new)
+ok_for_all (Ok x) old new text h = prints_back-after this_edition old text new h
+ok_for_all (Err e) old new text h = tt
+
+pub returns-in-Some-clause-prints_back : goal.returns-in-Some-clause-prints_back
+returns-in-Some-clause-prints_back g c = ok_for_all c.merge.result c.args.self.now.rules c.merge.new.self c.args.text.now (merged g c)
+
+pub returns-in-None-clause-prints_back : goal.returns-in-None-clause-prints_back
+returns-in-None-clause-prints_back g c = prints_back-same this_edition c.args.self.now.rules c.args.text.now
