@@ -19,4 +19,8 @@ pub use rules::{Rule, Rules};
 pub use style_sheet::StyleSheet;
 
 #[cfg(test)]
+mod declaration_tests;
+#[cfg(test)]
+mod reading_tests;
+#[cfg(test)]
 mod tests;
