@@ -97,8 +97,8 @@ pub record MatchedSoFar (rules : List StyleRule) (rows : List Row) (place : ℕ)
   pub are : AllZip (IsLineOf rules rows) (range_with_len 0 place) lines
   pub whole : text ≡ concat lines
 
-pub matched_none : (rules : List StyleRule) (rows : List Row) → MatchedSoFar rules rows 0 []
-matched_none rules rows = record { lines = []; are = tt; whole = refl }
+pub matched_none : (rules : List StyleRule) (lines : List Row) → MatchedSoFar rules lines 0 []
+matched_none rules lines = record { lines = []; are = tt; whole = refl }
 
 -- the line of one more element
 pub matched_more : {rules : List StyleRule} {rows : List Row} {place : ℕ} {before : List ℕ} → MatchedSoFar rules rows place before → (text : List ℕ) (element : Spot) → element ≡ spot rows place → IsLineAdded before text (place + 1) rules element → MatchedSoFar rules rows (place + 1) text

@@ -16,6 +16,7 @@ mod tokenizer;
 
 pub use counter::Tests;
 pub use element::Element;
+pub use equality::{equality_law, printing_law};
 pub use operator::{AttributeOperator, PseudoClass};
 pub use reading::parse_front;
 pub use selector::Selector;
