@@ -1,4 +1,4 @@
-ghost use Rattle.std.specs.Prelude.{◌≢◌, ◌≡◌, ◌++◌, ◌∷◌, [], IfOk, OnErr, if◌then◌else◌};
+ghost use Rattle.std.specs.Prelude.{◌≢◌, ◌≡◌, ◌+◌, ◌++◌, ◌∷◌, [], IfOk, OnErr, OnOk, if◌then◌else◌, vec_len};
 ghost use Rattle.simplecss_text.specs.Components.Combinator.{none as no_combinator};
 ghost use Rattle.simplecss_selector.specs.Combinators.{combinator_of};
 ghost use Rattle.simplecss_selector.specs.Drafts.{begun, with_name, with_subselector, joined, finished};
@@ -32,6 +32,21 @@ impl<'a> Model for Draft<'a> {
     ghost view = { λ d. drafted d.parts.items d.subselectors.items (record { combinator = d.combinator; name = d.name; end = vec_len d.subselectors }) };
 
     ghost invariant = { λ d. IsFilled (d.parts.items ++ (record { combinator = d.combinator; name = d.name; end = vec_len d.subselectors }) ∷ []) d.subselectors.items (vec_len d.subselectors) d.runs.items };
+}
+
+// Adds to a list, which is made no longer than it needs to be where it was empty: most selectors have one component and one
+// subselector.
+#[inline(always)]
+fn push_tight<T: Drop>(list: &mut Vec<T>, item: T) -> Result<(), AllocError>
+    ensures items { OnOk result (list.new.items ≡ list.old.items ++ item ∷ []) }
+    ensures len { OnOk result (vec_len list.new ≡ vec_len list.old + 1) }
+    ensures err { OnErr result (list.new.items ≡ list.old.items) }
+{
+    if list.is_empty() {
+        list.reserve_exact(1)?;
+    }
+    list.push(item)?;
+    Ok(())
 }
 
 // Keeps the end of a run, where the next component is not joined to it by a step.
@@ -77,7 +92,7 @@ impl<'a> Draft<'a> {
         ensures ok { IfOk result (λ _. self.new ≡ with_subselector (subselector_of subselector.entry) self.old) }
         ensures err { OnErr result (self.new ≡ self.old) }
     {
-        self.subselectors.push(subselector)?;
+        push_tight(&mut self.subselectors, subselector)?;
         Ok(())
     }
 
@@ -114,12 +129,13 @@ impl<'a> Draft<'a> {
             combinator,
             name,
         } = self;
-        parts.push(Part {
+        let part = Part {
             combinator,
             name,
             end: subselectors.len(),
-        })?;
-        runs.push(parts.len())?;
+        };
+        push_tight(&mut parts, part)?;
+        push_tight(&mut runs, parts.len())?;
         Ok(Selector {
             parts,
             subselectors,
