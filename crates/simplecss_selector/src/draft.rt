@@ -34,8 +34,7 @@ impl<'a> Model for Draft<'a> {
     ghost invariant = { λ d. IsFilled (d.parts.items ++ (record { combinator = d.combinator; name = d.name; end = vec_len d.subselectors }) ∷ []) d.subselectors.items (vec_len d.subselectors) d.runs.items };
 }
 
-// Adds to a list, which is made no longer than it needs to be where it was empty: most selectors have one component and one
-// subselector.
+// Adds to a list, which is made no longer than it needs to be where it was empty: most selectors have one component.
 #[inline(always)]
 fn push_tight<T: Drop>(list: &mut Vec<T>, item: T) -> Result<(), AllocError>
     ensures items { OnOk result (list.new.items ≡ list.old.items ++ item ∷ []) }
@@ -92,7 +91,7 @@ impl<'a> Draft<'a> {
         ensures ok { IfOk result (λ _. self.new ≡ with_subselector (subselector_of subselector.entry) self.old) }
         ensures err { OnErr result (self.new ≡ self.old) }
     {
-        push_tight(&mut self.subselectors, subselector)?;
+        self.subselectors.push(subselector)?;
         Ok(())
     }
 

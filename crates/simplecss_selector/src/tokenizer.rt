@@ -104,7 +104,7 @@ fn attribute_operator<'a>(stream: &mut Stream<'a>) -> Result<AttributeOperator<'
 }
 
 /// An attribute, behind its `[`.
-#[inline(always)]
+#[inline(never)]
 #[tactic(auto, unfolding(simplecss_text::specs::Pieces::attribute_after))]
 fn attribute<'a>(stream: &mut Stream<'a>) -> Result<SelectorToken<'a>, Error>
     ensures text { text_of stream.new ≡ text_of stream.old }
@@ -133,7 +133,7 @@ fn language<'a>(stream: &mut Stream<'a>) -> Result<SelectorToken<'a>, Error>
 }
 
 /// A pseudo-class, behind its `:`.
-#[inline(always)]
+#[inline(never)]
 #[tactic(auto, unfolding(simplecss_text::specs::Pieces::pseudo_class_after))]
 fn pseudo_class<'a>(stream: &mut Stream<'a>) -> Result<SelectorToken<'a>, Error>
     ensures text { text_of stream.new ≡ text_of stream.old }
@@ -162,6 +162,30 @@ fn text_before<'a>(stream: &mut Stream<'a>, byte: u8) -> &'a str
     &text[..len]
 }
 
+/// A child combinator, which the byte has announced.
+#[inline(always)]
+#[tactic(auto, unfolding(simplecss_text::specs::Pieces::begun, crate::specs::Announced::announced))]
+fn child<'a>(stream: &mut Stream<'a>) -> SelectorToken<'a>
+    requires { announced (rest_of stream.old) ≡ Follows.Child }
+    ensures text { text_of stream.new ≡ text_of stream.old }
+    ensures reads { begun_read this_edition (rest_of stream.old) ≡ got (token_of result) (rest_of stream.new) }
+{
+    stream.try_consume_byte(b'>');
+    SelectorToken::ChildCombinator
+}
+
+/// An adjacent combinator, which the byte has announced.
+#[inline(always)]
+#[tactic(auto, unfolding(simplecss_text::specs::Pieces::begun, crate::specs::Announced::announced))]
+fn adjacent<'a>(stream: &mut Stream<'a>) -> SelectorToken<'a>
+    requires { announced (rest_of stream.old) ≡ Follows.Adjacent }
+    ensures text { text_of stream.new ≡ text_of stream.old }
+    ensures reads { begun_read this_edition (rest_of stream.old) ≡ got (token_of result) (rest_of stream.new) }
+{
+    stream.try_consume_byte(b'+');
+    SelectorToken::AdjacentCombinator
+}
+
 /// A solid piece, which the byte has announced. At a stop and at a `/` it is read as a type, and fails.
 #[inline(always)]
 #[tactic(auto, unfolding(simplecss_text::specs::Pieces::begun, simplecss_text::specs::Pieces::named, crate::specs::Announced::announced))]
@@ -171,14 +195,8 @@ fn solid_piece<'a>(stream: &mut Stream<'a>, follows: Follows) -> Result<Selector
     ensures reads { Gives token_of (text_of stream.old) (begun_read this_edition (rest_of stream.old)) result (rest_of stream.new) }
 {
     match follows {
-        Follows::Child => {
-            stream.try_consume_byte(b'>');
-            Ok(SelectorToken::ChildCombinator)
-        }
-        Follows::Adjacent => {
-            stream.try_consume_byte(b'+');
-            Ok(SelectorToken::AdjacentCombinator)
-        }
+        Follows::Child => Ok(child(stream)),
+        Follows::Adjacent => Ok(adjacent(stream)),
         Follows::Universal => {
             stream.try_consume_byte(b'*');
             Ok(SelectorToken::UniversalSelector)
@@ -299,9 +317,13 @@ impl<'a> SelectorTokenizer<'a> {
                 self.state = State::Ended;
                 None
             }
-            Follows::Child | Follows::Adjacent => {
+            Follows::Child => {
                 self.state = State::Open;
-                Some(solid_piece(&mut self.stream, follows))
+                Some(Ok(child(&mut self.stream)))
+            }
+            Follows::Adjacent => {
+                self.state = State::Open;
+                Some(Ok(adjacent(&mut self.stream)))
             }
             _ if spaced => {
                 self.state = State::Open;
@@ -354,6 +376,8 @@ fn after_fault(follows: Follows) -> State
 }
 
 /// Passes a `/` that opens no comment, and tells it as an error.
+#[cold]
+#[inline(never)]
 fn slash_error(stream: &mut Stream<'_>) -> Error
     requires { starts 47 (rest_of stream.old) ≡ true }
     ensures text { text_of stream.new ≡ text_of stream.old }

@@ -1,5 +1,5 @@
 //! Where things end in a text. Each function answers a number of bytes, at which the text may be cut.
-ghost use Rattle.std.specs.Prelude.{◌≡◌, ℕ, ◌+◌, ◌-◌, ◌≤◌, ◌<◌, ◌&&◌, length, drop, true, false, None, Some, MatchOption, IfSome, IsTrue, slice_index, chars};
+ghost use Rattle.std.specs.Prelude.{◌≡◌, ℕ, ◌+◌, ◌-◌, ◌≤◌, ◌<◌, ◌&&◌, ◌||◌, length, drop, true, false, None, Some, MatchOption, IfSome, IsTrue, slice_index, chars};
 ghost use Rattle.std.specs.Str.{IsCharBoundary};
 ghost use Rattle.std.specs.List.{prefix_len};
 ghost use Rattle.simplecss_text.specs.Bytes.{after_byte, starts_by, is_ascii};
@@ -52,6 +52,7 @@ pub fn opens_comment(text: &str) -> bool
 }
 
 /// Behind the first `*/`, if there is one.
+#[inline(never)]
 pub fn close_len(text: &str) -> Option<usize>
     ensures found { MatchOption result (after_close text.now ≡ None) (λ n. after_close text.now ≡ Some (drop n text.now)) }
     ensures boundary { IfSome result (λ n. IsCharBoundary text.now n) }
@@ -155,6 +156,7 @@ fn is_wide_at(text: &str, at: usize) -> bool
 }
 
 /// How many bytes the longest run of name characters at the front has, a character at a time.
+#[inline(never)]
 fn wide_name_chars_len(text: &str) -> usize
     ensures len { past_name_chars this_edition text.now ≡ drop result text.now }
     ensures boundary { IsCharBoundary text.now result }
@@ -184,7 +186,7 @@ fn name_chars_len(text: &str) -> usize
 }
 
 /// How many bytes the name at the front has, if one begins there.
-#[inline(always)]
+#[inline(never)]
 pub fn name_len(text: &str) -> Option<usize>
     ensures none { result ≡ None → begins_name_of this_edition (chars text.now) ≡ false }
     ensures some { IfSome result (λ n. (begins_name_of this_edition (chars text.now) ≡ true) × (past_name_chars this_edition text.now ≡ drop n text.now)) }
@@ -216,6 +218,49 @@ pub fn find_gap(text: &str) -> Gap
     ensures unclosed { result.unclosed ≡ opens_comment_of (past_blank text.now) }
     ensures boundary { IsCharBoundary text.now result.len }
 {
+    if begins_gap(text) {
+        long_gap(text)
+    } else {
+        Gap {
+            len: 0,
+            spaced: false,
+            unclosed: false,
+        }
+    }
+}
+
+/// Whether a space byte or a comment stands at the front.
+#[inline(always)]
+fn begins_gap(text: &str) -> bool
+    ensures { result ≡ (starts_by is_space_byte text.now || opens_comment_of text.now) }
+{
+    starts_with_space(text) || opens_comment(text)
+}
+
+/// Whether a space byte stands at the front, and no other part of a gap and no open comment behind it.
+#[inline(always)]
+fn is_lone_space(text: &str) -> bool
+    ensures space { result ≡ true → starts_by is_space_byte text.now ≡ true }
+    ensures behind { result ≡ true → (starts_by is_space_byte (drop 1 text.now) || opens_comment_of (drop 1 text.now)) ≡ false }
+{
+    starts_with_space(text) && !begins_gap(&text[1..])
+}
+
+/// The gap at the front of the text, by its parts.
+#[inline(never)]
+fn long_gap(text: &str) -> Gap
+    ensures rest { past_blank text.now ≡ drop result.len text.now }
+    ensures spaced { result.spaced ≡ has_space text.now }
+    ensures unclosed { result.unclosed ≡ opens_comment_of (past_blank text.now) }
+    ensures boundary { IsCharBoundary text.now result.len }
+{
+    if is_lone_space(text) {
+        return Gap {
+            len: 1,
+            spaced: true,
+            unclosed: false,
+        };
+    }
     let mut len = 0;
     let mut spaced = false;
     while let Some(part) = blank_part_len(&text[len..]) {

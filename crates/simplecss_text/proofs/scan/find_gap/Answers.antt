@@ -1,29 +1,27 @@
-use Rattle.std.proofs.Common.{◌≡◌, ◌∙◌, sym, ap, drop, Some}
-use Rattle.std.specs.Str.{IsCharBoundary}
-use Rattle.simplecss_text.specs.Comments.{blank_part, opens_comment}
-use Rattle.simplecss_text.proofs.GapSteps.{passed-start, passed-step, passed-rest, passed-space}
+use Rattle.std.proofs.Common.{◌≡◌, ◌∙◌, sym, ap, ◌||◌, false}
+use Rattle.std.proofs.lemmas.Str.{IsCharBoundary-start}
+use Rattle.simplecss_text.specs.Bytes.{starts_by}
+use Rattle.simplecss_text.specs.Characters.{is_space}
+use Rattle.simplecss_text.specs.Comments.{opens_comment}
+use Rattle.simplecss_text.proofs.GapSteps.{passed-start, passed-rest, passed-space, blank_part-none, or_right}
 use Rattle.simplecss_text.proofs.scan.find_gap.Goals as goal
 
-pub loop-part-init : goal.loop-part-init
-loop-part-init c = passed-start c.args.text.now c.utf8.text
+pub returns-else-begins_gap-clause-rest : goal.returns-else-begins_gap-clause-rest
+returns-else-begins_gap-clause-rest c =
+    let text = c.args.text.now in
+    passed-rest text 0 false (passed-start text c.utf8.text) (blank_part-none text (sym c.begins_gap.ensures ∙ c.if-begins_gap.false))
 
-pub loop-part-preserved : goal.loop-part-preserved
-loop-part-preserved c =
-    let rest = c.range_from.ensures.value in
-    let part : blank_part (drop c.loop-part.len c.args.text.now) ≡ Some (c.in-Some.part.spaced, drop c.in-Some.part.len (drop c.loop-part.len c.args.text.now))
-    = rw (← rest) c.in-Some.ensures.found in
-    let boundary : IsCharBoundary (drop c.loop-part.len c.args.text.now) c.in-Some.part.len = rw (← rest) c.in-Some.ensures.boundary in
-    passed-step c.args.text.now c.loop-part.len c.in-Some.part.len c.loop-part.spaced c.in-Some.part.spaced c.loop-part.invariant part boundary
+pub returns-else-begins_gap-clause-spaced : goal.returns-else-begins_gap-clause-spaced
+returns-else-begins_gap-clause-spaced c =
+    let text = c.args.text.now in
+    passed-space text 0 false (passed-start text c.utf8.text) (blank_part-none text (sym c.begins_gap.ensures ∙ c.if-begins_gap.false))
 
-pub returns-clause-rest : goal.returns-clause-rest
-returns-clause-rest c =
-    passed-rest c.args.text.now c.loop-part.len c.loop-part.spaced c.loop-part.invariant (rw (← c.range_from.ensures.value) c.in_default.ensures.found)
+pub returns-else-begins_gap-clause-unclosed : goal.returns-else-begins_gap-clause-unclosed
+returns-else-begins_gap-clause-unclosed c =
+    let text = c.args.text.now in
+    let none : (starts_by is_space text || opens_comment text) ≡ false = sym c.begins_gap.ensures ∙ c.if-begins_gap.false in
+    let rest = passed-rest text 0 false (passed-start text c.utf8.text) (blank_part-none text none) in
+    sym (ap opens_comment rest ∙ or_right (starts_by is_space text) (opens_comment text) none)
 
-pub returns-clause-spaced : goal.returns-clause-spaced
-returns-clause-spaced c =
-    passed-space c.args.text.now c.loop-part.len c.loop-part.spaced c.loop-part.invariant (rw (← c.range_from.ensures.value) c.in_default.ensures.found)
-
-pub returns-clause-unclosed : goal.returns-clause-unclosed
-returns-clause-unclosed c =
-    let rest = passed-rest c.args.text.now c.loop-part.len c.loop-part.spaced c.loop-part.invariant (rw (← c.range_from.ensures.value) c.in_default.ensures.found) in
-    c.opens_comment.ensures.value ∙ ap opens_comment (c.range_from-2.ensures.value ∙ sym rest)
+pub returns-else-begins_gap-clause-boundary : goal.returns-else-begins_gap-clause-boundary
+returns-else-begins_gap-clause-boundary c = IsCharBoundary-start c.args.text.now c.utf8.text

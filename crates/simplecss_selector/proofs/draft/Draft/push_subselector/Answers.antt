@@ -5,9 +5,9 @@ use Rattle.simplecss_selector.proofs.draft.Draft.push_subselector.Goals as goal
 pub invariant_of-self-2 : goal.invariant_of-self-2
 invariant_of-self-2 c =
     let s = c.self.inside in
-    filled_more s.parts.items _ _ s.subselectors.items _ _ _ s.runs.items c.self.invariant refl (omega (arith, c.in_ok-push_tight.ensures.len)) refl
+    filled_more s.parts.items _ _ s.subselectors.items _ _ _ s.runs.items c.self.invariant refl (omega (arith, c.in_ok-push.ensures.len)) refl
 
 pub returns-clause-ok : goal.returns-clause-ok
 returns-clause-ok c =
     let s = c.self.inside in
-    rw (c.in_ok-push_tight.ensures.items, ← c.self.view_is) (drafted-narrowed s.parts.items s.subselectors.items c.args.subselector _ _ _ s.runs.items c.self.invariant s.subselectors.ok.0 refl refl c.in_ok-push_tight.ensures.len)
+    rw (c.in_ok-push.ensures.items, ← c.self.view_is) (drafted-narrowed s.parts.items s.subselectors.items c.args.subselector _ _ _ s.runs.items c.self.invariant s.subselectors.ok.0 refl refl c.in_ok-push.ensures.len)

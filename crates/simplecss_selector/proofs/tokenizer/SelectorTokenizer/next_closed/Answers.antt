@@ -1,9 +1,6 @@
-use Rattle.std.proofs.Common.{ℕ, List, ap, ◌∙◌, subst}
-use Rattle.simplecss_text.specs.Errors.{Gives, position_of}
+use Rattle.std.proofs.Common.{ℕ, List, ap, ◌∙◌, Ok, inl, inr}
+use Rattle.simplecss_text.specs.Errors.{position_of}
 use Rattle.simplecss_text.specs.declared.Error.TheVariants.{InvalidComment}
-use Rattle.simplecss_text.specs.Pieces.{begun}
-use Rattle.simplecss_text.specs.ThisEdition.{this_edition}
-use Rattle.simplecss_selector.specs.Given.{token_of}
 use Rattle.simplecss_text.specs.Cursor.{rest_of}
 use Rattle.simplecss_selector.specs.Tokenizer.{source, left_of}
 use Rattle.simplecss_selector.proofs.Firsts.{simple_unless, closed_gap-first, closed_stop-first, slash-starts, closed_slash-first, closed_end-first, closed_joint-first, closed_spaced-first}
@@ -28,12 +25,10 @@ pub returns-in-Slash-2-clause-first : goal.returns-in-Slash-2-clause-first
 returns-in-Slash-2-clause-first c = closed_end-first (source c.args.self.now) (left_of c.args.self.now) (rest_of c.consume_gap.new.s) c.in-Ok.spaced c.what_follows-follows.result c.in-Ok.ensures.reads c.if-spaced.false c.what_follows-follows.ensures c.in-Slash-2.is
 
 pub returns-in-Child-clause-first : goal.returns-in-Child-clause-first
-returns-in-Child-clause-first c =
-    let start = rest_of c.consume_gap.new.s in
-    let after = rest_of c.solid_piece.new.stream in
-    let read : Gives token_of (source c.args.self.now) (begun this_edition start) c.solid_piece.result after =
-    subst (λ (text : List ℕ). Gives token_of text (begun this_edition start) c.solid_piece.result after) c.consume_gap.ensures.text c.solid_piece.ensures.reads in
-    closed_joint-first (source c.args.self.now) (left_of c.args.self.now) start after c.in-Ok.spaced c.what_follows-follows.result c.solid_piece.result c.in-Ok.ensures.reads c.what_follows-follows.ensures c.in-Child.is read
+returns-in-Child-clause-first c = closed_joint-first (source c.args.self.now) (left_of c.args.self.now) (rest_of c.consume_gap.new.s) (rest_of c.child.new.stream) c.in-Ok.spaced c.what_follows-follows.result (Ok c.child.result) c.in-Ok.ensures.reads c.what_follows-follows.ensures (inl c.in-Child.is) c.child.ensures.reads
+
+pub returns-in-Adjacent-clause-first : goal.returns-in-Adjacent-clause-first
+returns-in-Adjacent-clause-first c = closed_joint-first (source c.args.self.now) (left_of c.args.self.now) (rest_of c.consume_gap.new.s) (rest_of c.adjacent.new.stream) c.in-Ok.spaced c.what_follows-follows.result (Ok c.adjacent.result) c.in-Ok.ensures.reads c.what_follows-follows.ensures (inr c.in-Adjacent.is) c.adjacent.ensures.reads
 
 pub returns-in_default : goal.returns-in_default
 returns-in_default c =
