@@ -7,9 +7,9 @@ use Rattle.std.proofs.lemmas.Str.{chars_past_char, length-encode, chars-nil, IsU
 use lib.Utf8.{encode}
 use Rattle.std.proofs.Math.Nat.{eq-or-lt_of_le}
 use Rattle.std.proofs.lemmas.List.Sums.{prefix_len-le-length, prefix_len_stops}
-use Rattle.simplecss_text.specs.Bytes.{is_ascii}
-use Rattle.simplecss_text.specs.Characters.{Edition, is_name_char}
-use Rattle.simplecss_text.specs.Names.{past_name_chars}
+use Rattle.simplecss_text.specs.Bytes.{is_ascii, starts_by}
+use Rattle.simplecss_text.specs.Characters.{Edition, is_name_start, is_name_char}
+use Rattle.simplecss_text.specs.Names.{begins_name, past_name_chars}
 
 -- the bytes of the characters at the front that pass
 front_len : (p : ℕ → Bool) → List ℕ → ℕ
@@ -140,3 +140,14 @@ passed-stops edition text u ascii =
 
 pub is_ascii_name_char-ascii : (edition : Edition) (b : ℕ) → is_ascii_name_char edition b ≡ true → b < 128
 is_ascii_name_char-ascii edition b e = ltb-true b 128 (and_left (is_ascii b) (is_name_char edition b) e)
+
+-- a name begins with an ASCII name start
+pub begins_name-ascii : (edition : Edition) (text : List ℕ) → IsUtf8 text → starts_by (λ b. is_ascii b && is_name_start edition b) text ≡ true → begins_name edition (chars text) ≡ true
+begins_name-ascii edition [] u e = absurd (cc)
+begins_name-ascii edition (b ∷ rest) u e =
+    let front = ascii-front b rest (and_left (is_ascii b) (is_name_start edition b) e) in
+    rw (chars_past_char (b ∷ rest) rest b u front) (begins (chars rest) (and_right (is_ascii b) (is_name_start edition b) e))
+  where
+    begins : (cs : List ℕ) → is_name_start edition b ≡ true → begins_name edition (b ∷ cs) ≡ true
+    begins [] s = rw s refl
+    begins (c ∷ cs) s = rw s refl

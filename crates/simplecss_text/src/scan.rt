@@ -100,9 +100,35 @@ pub fn string_len(text: &str, quote: u8) -> Option<usize>
     quote_place(text.as_bytes(), quote)
 }
 
+/// Whether a name may begin with the byte, which is ASCII then.
+#[inline(always)]
+fn is_ascii_name_start(byte: u8) -> bool
+    ensures { result ≡ (is_ascii byte && is_name_start_of this_edition byte) }
+{
+    byte.is_ascii_alphabetic() || byte == b'_'
+}
+
+/// Whether an ASCII name start stands at the front.
+#[inline(always)]
+fn starts_with_name_start(bytes: &[u8]) -> bool
+    ensures { result ≡ starts_by (λ b. is_ascii b && is_name_start_of this_edition b) bytes.now }
+{
+    match bytes {
+        [byte, ..] => is_ascii_name_start(*byte),
+        [] => false,
+    }
+}
+
 /// Whether a name begins the text.
 #[inline(always)]
 fn begins_name(text: &str) -> bool
+    ensures { result ≡ begins_name_of this_edition (chars text.now) }
+{
+    starts_with_name_start(text.as_bytes()) || begins_by_characters(text)
+}
+
+/// Whether a name begins the text, by its first one or two characters.
+fn begins_by_characters(text: &str) -> bool
     ensures { result ≡ begins_name_of this_edition (chars text.now) }
 {
     let mut chars = text.chars();

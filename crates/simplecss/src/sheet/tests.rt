@@ -285,3 +285,43 @@ fn rules_give_back_what_they_were_made_of(rt: HostRuntime) -> Result<(), Fail> {
     assert!(rt; equal_rules(&again, &sheet));
     Ok(())
 }
+
+#[test]
+fn reads_again_what_it_printed(rt: HostRuntime) -> Result<(), Fail> {
+    // The last two show what the law of printing leaves out: a bare apostrophe in a value, and white space past ASCII.
+    let sheets = [
+        (
+            "a .b { c:d } .b:lang( en ) { c:d }",
+            "a *[class~='b'] { c:d; }\n*[class~='b']:lang(en) { c:d; }",
+            "a *[class~='b'] { c:d; }\n*[class~='b']:lang(en) { c:d; }",
+        ),
+        (
+            "[x=\"a'b\"] { c:d } e { f:g }",
+            "e { f:g; }\n*[x='a'b'] { c:d; }",
+            "e { f:g; }",
+        ),
+        ("a { b:\u{3000}(x) }", "a { b:(x); }", ""),
+    ];
+    for (text, printed, again) in sheets {
+        let first = read(&rt, text)?.to_string(rt.alloc())?;
+        assert_eq!(rt; first.as_str(), printed, "of {text}");
+        let second = read(&rt, first.as_str())?.to_string(rt.alloc())?;
+        assert_eq!(rt; second.as_str(), again, "of {text}");
+    }
+    Ok(())
+}
+
+#[test]
+fn reads_a_text_in_pieces(rt: HostRuntime) -> Result<(), Fail> {
+    // A statement ends behind the first piece of the first row, and not behind that of the second.
+    for (front, rest, want) in [
+        ("a { }}", " b { c:d }", "b { c:d; }"),
+        ("a { }", "} b { c:d }", ""),
+    ] {
+        let mut sheet = StyleSheet::new(rt.alloc());
+        sheet.parse_more(&Discard, rt.alloc(), front)?;
+        sheet.parse_more(&Discard, rt.alloc(), rest)?;
+        assert!(rt; prints(&rt, &sheet, want)?, "of {front}{rest}");
+    }
+    Ok(())
+}
