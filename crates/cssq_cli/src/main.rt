@@ -3,8 +3,9 @@
 
 use cssq::command::{Command, USAGE};
 use cssq::runs::{RunFault, run_match, run_selector, run_sheet};
-use log::sink::Console;
-use std::io::Read;
+use log::Log;
+use log::sink::Writer;
+use std::io::{BufWriter, Read, Stderr};
 use std::process::ExitCode;
 use std::{env, fs};
 
@@ -46,9 +47,19 @@ fn ended(rt: &HostRuntime, outcome: Result<(), RunFault>) -> ExitCode {
     }
 }
 
+/// A logger of warnings to standard error, which gathers them so that few writes are made.
+fn warnings(rt: &HostRuntime) -> Option<Writer<BufWriter<Stderr>>> {
+    let out = BufWriter::new(rt.alloc(), rt.stderr()).ok()?;
+    Some(Writer::new(out))
+}
+
 /// Shows the selector of the text on standard output, with warnings on standard error.
 fn show_selector(rt: &HostRuntime, text: &str) -> ExitCode {
-    let outcome = run_selector(&Console(rt), rt.alloc(), text, &mut rt.stdout());
+    let Some(log) = warnings(rt) else {
+        return ended(rt, Err(RunFault::Memory));
+    };
+    let outcome = run_selector(&log, rt.alloc(), text, &mut rt.stdout());
+    log.flush();
     ended(rt, outcome)
 }
 
@@ -76,7 +87,11 @@ fn show_sheet(rt: &HostRuntime, names: &[String]) -> ExitCode {
         return ended(rt, Err(RunFault::Memory));
     };
     let texts: Vec<&str> = texts;
-    let outcome = run_sheet(&Console(rt), rt.alloc(), texts.as_slice(), &mut rt.stdout());
+    let Some(log) = warnings(rt) else {
+        return ended(rt, Err(RunFault::Memory));
+    };
+    let outcome = run_sheet(&log, rt.alloc(), texts.as_slice(), &mut rt.stdout());
+    log.flush();
     ended(rt, outcome)
 }
 
@@ -88,13 +103,17 @@ fn show_match(rt: &HostRuntime, file: &str, tree: &str) -> ExitCode {
     let Some(tree_text) = read_file(rt, tree) else {
         return unreadable(rt, tree);
     };
+    let Some(log) = warnings(rt) else {
+        return ended(rt, Err(RunFault::Memory));
+    };
     let outcome = run_match(
-        &Console(rt),
+        &log,
         rt.alloc(),
         sheet_text.as_str(),
         tree_text.as_str(),
         &mut rt.stdout(),
     );
+    log.flush();
     ended(rt, outcome)
 }
 

@@ -1,5 +1,7 @@
 -- Blocks, a declaration at a time.
-use Rattle.std.proofs.Common.{◌≡◌, ℕ, ◌<◌, ◌==◌, ◌&&◌, List, [], Bool, true, false, length, take, slice_index, None, Some, refl, sym, ap, arith, eqb-true, if◌then◌else◌}
+use Rattle.std.proofs.Common.{◌≡◌, ℕ, ◌+◌, ◌-◌, ◌<◌, ◌≤◌, ◌==◌, ◌&&◌, List, [], Bool, true, false, cond, length, take, drop, get_or, slice_index, None, Some, refl, sym, ap, ◌∙◌, arith, eq-eqb, eqb-true, if◌then◌else◌, length-drop, nat_lt, ltb-true, ltb-false}
+use Rattle.std.proofs.lemmas.List.{get_or-drop, get_or-take, take-take, drop-take, length-take, length-take-le, take_rest}
+use Rattle.std.proofs.lemmas.List.Sums.{sum_by-take-drop}
 use Rattle.std.specs.Str.{IsCharBoundary}
 use Rattle.simplecss_text.specs.Reading.{Reading, got, fails, found, each, followed_by}
 use Rattle.simplecss_text.specs.Bytes.{past_byte}
@@ -8,13 +10,95 @@ use Rattle.simplecss_text.specs.Declarations.{Property, declaration, next_declar
 use Rattle.simplecss_text.specs.Blocks.{count_of, closes_block, block_end, from_block_end, ends_list, declaration_in_block, past_broken, past_list}
 use Rattle.simplecss_text.proofs.EachLaws.{took, each-none, each-some}
 use Rattle.simplecss_text.proofs.DeclarationLaws.{next_declaration-takes, declaration_in_block-takes}
-use Rattle.simplecss_text.proofs.LeastLaws.{least-le, least-passes}
+use Rattle.simplecss_text.proofs.LeastLaws.{least-is, least-none, least-le, least-passes}
 use Rattle.simplecss.specs.Answers.{FailsAt}
+use Rattle.simplecss.specs.BlockDepths.{closes_at, ClosesFirst, ClosesNowhere}
 use Rattle.simplecss.proofs.DeclarationLists.{found-none}
 
 first-true : (a b : Bool) → (a && b) ≡ true → a ≡ true
 first-true true b e = refl
 first-true false b e = e
+
+-- so many of the byte stand before a place, and so many more up to a later one
+count_of-take-add : (byte : ℕ) (text : List ℕ) (place len : ℕ) → count_of byte (take (place + len) text) ≡ count_of byte (take place text) + count_of byte (take len (drop place text))
+count_of-take-add byte text place len =
+    let front : take place (take (place + len) text) ≡ take place text = take-take place (place + len) text (omega arith) in
+    let behind : drop place (take (place + len) text) ≡ take len (drop place text) = drop-take place len text in
+    let all : count_of byte (take place (take (place + len) text)) + count_of byte (drop place (take (place + len) text)) ≡ count_of byte (take (place + len) text) = sum_by-take-drop (λ b. cond (b == byte) 1 0) (take (place + len) text) place in
+    sym all ∙ ap (λ t. count_of byte t + count_of byte (drop place (take (place + len) text))) front ∙ ap (λ t. count_of byte (take place text) + count_of byte t) behind
+
+same_test : (a b c d : ℕ) → (a ≡ b → c ≡ d) → (c ≡ d → a ≡ b) → (a == b) ≡ (c == d)
+same_test a b c d there back = by (a == b) (c == d) refl refl
+  where
+    by : (s t : Bool) → (a == b) ≡ s → (c == d) ≡ t → s ≡ t
+    by true true e f = refl
+    by false false e f = refl
+    by true false e f = sym (eq-eqb c d (there (eqb-true a b e))) ∙ f
+    by false true e f = sym e ∙ eq-eqb a b (back (eqb-true c d f))
+
+-- No block ends before the place that the text begins in, and so many of those that begin before it are open there.
+pub record IsInside (text : List ℕ) (place depth : ℕ) : Type 0 where
+  pub counts : depth + count_of 125 (take place text) ≡ count_of 123 (take place text)
+  pub none : (k : ℕ) → k < place → closes_block text k ≡ false
+
+-- so many bytes from a place on are a part of the text
+pub part_len : (text part : List ℕ) (place n : ℕ) → part ≡ take n (drop place text) → place + n ≤ length text → (part ≡ take (length part) (drop place text)) × (length part ≡ n)
+part_len text part place n p l =
+    let len : length part ≡ n = ap length p ∙ length-take-le n (drop place text) (omega (arith, length-drop place text)) in
+    (p ∙ ap (λ m. take m (drop place text)) (sym len), len)
+
+-- so are as many bytes of a rest of which others are left
+pub part_split : (text part left : List ℕ) (place n : ℕ) → place ≤ length text → part ≡ take n (take (length text - place) (drop place text)) → length left + n ≡ length (take (length text - place) (drop place text))
+    → (part ≡ take (length part) (drop place text)) × (length part ≡ n) × (place + n ≤ length text)
+part_split text part left place n l p e =
+    let rest : take (length text - place) (drop place text) ≡ drop place text = take_rest text place in
+    let within : place + n ≤ length text = omega (arith, e, ap length rest, length-drop place text) in
+    let split = part_len text part place n (p ∙ ap (take n) rest) within in
+    (split.0, split.1, within)
+
+-- what closes a part of the text closes the text
+closes_block-part : (text part : List ℕ) (place depth k : ℕ) → IsInside text place depth → part ≡ take (length part) (drop place text) → k < length part → closes_block text (place + k) ≡ closes_at depth part k
+closes_block-part text part place depth k inside p h =
+    let front : take k part ≡ take k (drop place text) = ap (take k) p ∙ take-take k (length part) (drop place text) (omega arith) in
+    let byte : get_or part k 0 ≡ get_or text (place + k) 0 = ap (λ t. get_or t k 0) p ∙ get_or-take (length part) (drop place text) k 0 h ∙ get_or-drop place text k 0 in
+    let begun : count_of 123 (take (place + k) text) ≡ count_of 123 (take place text) + count_of 123 (take k part) = count_of-take-add 123 text place k ∙ ap (λ t. count_of 123 (take place text) + count_of 123 t) (sym front) in
+    let ended : count_of 125 (take (place + k) text) ≡ count_of 125 (take place text) + count_of 125 (take k part) = count_of-take-add 125 text place k ∙ ap (λ t. count_of 125 (take place text) + count_of 125 t) (sym front) in
+    let even : (count_of 123 (take (place + k) text) == count_of 125 (take (place + k) text)) ≡ (depth + count_of 123 (take k part) == count_of 125 (take k part)) =
+    same_test _ _ _ _ (λ e. omega (arith, inside.counts)) (λ e. omega (arith, inside.counts)) in
+    ap (λ b. b == 125 && count_of 123 (take (place + k) text) == count_of 125 (take (place + k) text)) (sym byte) ∙ ap (λ t. get_or part k 0 == 125 && t) even
+
+-- behind a part of the text that nothing closes
+pub inside-passed : (text part : List ℕ) (place depth behind : ℕ) → IsInside text place depth → part ≡ take (length part) (drop place text) → ClosesNowhere depth part behind → IsInside text (place + length part) behind
+inside-passed text part place depth behind inside p nowhere = record {
+  counts = omega (arith, inside.counts, nowhere.counts, count_of-take-add 123 text place (length part), count_of-take-add 125 text place (length part), ap (count_of 123) p, ap (count_of 125) p);
+  none = λ k h. by k h (nat_lt k place) refl;
+}
+  where
+    by : (k : ℕ) → k < place + length part → (before : Bool) → nat_lt k place ≡ before → closes_block text k ≡ false
+    by k h true e = inside.none k (ltb-true k place e)
+    by k h false e =
+        let behind : place ≤ k = ltb-false k place e in
+        let at : place + (k - place) ≡ k = omega arith in
+        ap (closes_block text) (sym at) ∙ closes_block-part text part place depth (k - place) inside p (omega arith) ∙ nowhere.none (k - place) (omega arith)
+
+-- where a part of the text is closed, the block ends that the text begins in
+pub inside-closed : (text part : List ℕ) (place depth at : ℕ) → IsInside text place depth → part ≡ take (length part) (drop place text) → ClosesFirst depth part at → block_end text ≡ place + at
+unfolding block_end
+inside-closed text part place depth at inside p first =
+    let within : place + at < length text = omega (arith, first.within, ap length p, length-take (length part) (drop place text), length-drop place text) in
+    least-is (closes_block text) (length text) (place + at) within (closes_block-part text part place depth at inside p first.within ∙ first.closes) (λ k h. by k h (nat_lt k place) refl)
+  where
+    by : (k : ℕ) → k < place + at → (before : Bool) → nat_lt k place ≡ before → closes_block text k ≡ false
+    by k h true e = inside.none k (ltb-true k place e)
+    by k h false e =
+        let behind : place ≤ k = ltb-false k place e in
+        let here : place + (k - place) ≡ k = omega arith in
+        ap (closes_block text) (sym here) ∙ closes_block-part text part place depth (k - place) inside p (omega (arith, first.within)) ∙ first.before (k - place) (omega arith)
+
+-- without such a brace the block ends where the text does
+pub inside-open : (text : List ℕ) (depth : ℕ) → IsInside text (length text) depth → block_end text ≡ length text
+unfolding block_end
+inside-open text depth inside = least-none (closes_block text) (length text) inside.none
 
 -- a text may be cut where a block ends
 pub boundary_at_block_end : (text : List ℕ) → IsCharBoundary text (block_end text)

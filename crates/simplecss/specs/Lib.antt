@@ -5,6 +5,7 @@ pub mod EqualityLaws
 pub mod Answers
 pub mod Coming
 pub mod SharedBlocks
+pub mod BlockDepths
 pub use Rattle.simplecss_text.specs.Blanks
 pub use Rattle.simplecss_text.specs.Blocks
 pub use Rattle.simplecss_text.specs.Bytes

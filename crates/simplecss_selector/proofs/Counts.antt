@@ -1,5 +1,6 @@
 -- Counts over flat lists.
 use Rattle.std.proofs.Common.{◌≡◌, ℕ, ◌+◌, List, [], ◌∷◌, ◌++◌, Bool, true, false, Option, Some, None, length, drop, map, refl, sym, ap, ◌∙◌, arith, cond, not, is_some, sum_by, count_by}
+use mir.Val.{bool_byte}
 use Rattle.std.proofs.lemmas.List.{drop_all}
 use Rattle.std.proofs.lemmas.List.Folds.{drop_split}
 use Rattle.std.proofs.lemmas.List.Sums.{sum_by-append, sum_by-cons}
@@ -20,6 +21,14 @@ count_by-map p f (x ∷ xs) =
 
 count_by-append : {X : Type 0} (p : X → Bool) (xs ys : List X) → count_by p (xs ++ ys) ≡ count_by p xs + count_by p ys
 count_by-append p xs ys = sum_by-append (λ x. cond (p x) 1 0) xs ys
+
+pub count_by-push : {X : Type 0} (p : X → Bool) (xs : List X) (x : X) → count_by p (xs ++ x ∷ []) ≡ count_by p xs + cond (p x) 1 0
+count_by-push p xs x = omega (arith, count_by-append p xs (x ∷ []), count_by-cons p x [])
+
+-- a number that is made of a bool
+pub bool_byte-is : (b d : Bool) → b ≡ d → bool_byte b ≡ cond d 1 0
+bool_byte-is true d e = rw (← e) refl
+bool_byte-is false d e = rw (← e) refl
 
 one_or_none : (b : Bool) → cond b 1 0 + cond (not b) 1 0 ≡ 1
 one_or_none true = refl

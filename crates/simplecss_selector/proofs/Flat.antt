@@ -1,6 +1,7 @@
--- The components that the three lists of a selector stand for.
-use Rattle.std.proofs.Common.{◌≡◌, ℕ, zero, suc, ◌-◌, sub-one, ◌<◌, ◌≤◌, List, [], ◌∷◌, length, get_or, refl, ap, sym, ◌∙◌, subst, arith}
+-- The components that the lists of a selector stand for.
+use Rattle.std.proofs.Common.{◌≡◌, ℕ, zero, suc, ◌+◌, ◌-◌, sub-one, ◌<◌, ◌≤◌, List, [], ◌∷◌, ◌++◌, length, get_or, refl, ap, sym, ◌∙◌, subst, arith}
 use Rattle.std.specs.List.{slice_range}
+use Rattle.std.proofs.lemmas.List.{length-append}
 use Rattle.simplecss_text.specs.Components.{Component}
 use Rattle.simplecss_selector.specs.Combinators.{combinator_of}
 use Rattle.simplecss_selector.specs.Searches.{component_at}
@@ -40,9 +41,13 @@ pub begin_is : (ps : List Part) (k start : ℕ) (d : Part) → (k ≡ 0 → star
 begin_is ps zero start d first later = first refl
 begin_is ps (suc k) start d first later = rw sub-one at (later (omega arith))
 
-pub place_within : (ps : List Part) (ss : List SubSelector) (cs : List Component) (len k : ℕ) → components_from 0 ps ss ≡ cs → len ≡ length ps → k < length cs → k < len
-place_within ps ss cs len k view ok h =
-    omega (arith, components_from-length 0 ps ss, ap length view)
+pub place_within : (ps : List Part) (last : Part) (ss : List SubSelector) (cs : List Component) (k : ℕ) → components_from 0 (ps ++ last ∷ []) ss ≡ cs → k < length cs → k ≤ length ps
+place_within ps last ss cs k view h =
+    omega (arith, components_from-length 0 (ps ++ last ∷ []) ss, length-append ps (last ∷ []), ap length view)
+
+pub length_is : (ps : List Part) (last : Part) (ss : List SubSelector) (cs : List Component) → components_from 0 (ps ++ last ∷ []) ss ≡ cs → length ps + 1 ≡ length cs
+length_is ps last ss cs view =
+    omega (arith, components_from-length 0 (ps ++ last ∷ []) ss, length-append ps (last ∷ []), ap length view)
 
 pub combinator_is : (ps : List Part) (ss : List SubSelector) (cs : List Component) (k : ℕ) (p : Part) → components_from 0 ps ss ≡ cs → k < length cs → p ≡ get_or ps k p → combinator_of p.combinator ≡ (component_at cs k).combinator
 combinator_is ps ss cs k p view h e =
@@ -56,8 +61,8 @@ component_is ps ss cs k start p view h e b =
     let here = ap (λ (xs : List Component). component_at xs k) view in
     rw b (subst (λ (q : Part). component_of_part q (slice_range ss (begin_of 0 ps k p) q.end) ≡ component_at cs k) (sym e) (sym at ∙ here))
 
-pub bounds_are : (ps : List Part) (n len k start : ℕ) (p : Part) → Tile 0 ps n → len ≡ length ps → k < len → p ≡ get_or ps k p → start ≡ begin_of 0 ps k p → (start ≤ p.end) × (p.end ≤ n)
-bounds_are ps n len k start p t ok h e b =
-    let at = Tile-at 0 ps n k p t (omega arith) in
-    let ends : p.end ≡ (get_or ps k p).end = ap (λ (q : Part). q.end) e in
+pub bounds_are : (ps : List Part) (last : Part) (ss : List SubSelector) (n : ℕ) (cs : List Component) (k start : ℕ) (p : Part) → components_from 0 (ps ++ last ∷ []) ss ≡ cs → Tile 0 (ps ++ last ∷ []) n → k < length cs → p ≡ get_or (ps ++ last ∷ []) k p → start ≡ begin_of 0 (ps ++ last ∷ []) k p → (start ≤ p.end) × (p.end ≤ n)
+bounds_are ps last ss n cs k start p view t h e b =
+    let at = Tile-at 0 (ps ++ last ∷ []) n k p t (omega (arith, components_from-length 0 (ps ++ last ∷ []) ss, ap length view)) in
+    let ends : p.end ≡ (get_or (ps ++ last ∷ []) k p).end = ap (λ (q : Part). q.end) e in
     (omega (arith, at.0), omega (arith, at.1))

@@ -5,6 +5,7 @@ use Rattle.std.specs.Cmp.Derive.Mapped.{pointwise-map}
 use Rattle.std.specs.Cmp.Lexicographic.{pointwise, pointwise_decides}
 use Rattle.std.specs.List.{slice_range}
 use Rattle.std.specs.Option.{option_map, option_eq}
+use Rattle.std.proofs.Math.Bool.{and_assoc, and-true, and-false}
 use Rattle.std.proofs.lemmas.Bool.Decides.{Decides-eqb, same_from_decides}
 use Rattle.std.proofs.lemmas.List.{take-map, drop_all, map-append, length-map, length-take, length-drop}
 use Rattle.std.proofs.lemmas.List.Folds.{drop_split}
@@ -243,3 +244,17 @@ module _ (ps qs : List Part) (ss ts : List SubSelector) (t : Tile 0 ps (length s
       ap (λ b. b && pointwise subselector_test.it ss ts) (pointwise_agree _ _ by_part ps qs ∙ sym (pointwise-map share_of share_eq ps qs))
       ∙ ap (λ b. pointwise share_eq (map share_of ps) (map share_of qs) && b) (pointwise_agree _ _ by_subselector ss ts ∙ sym (pointwise-map subselector_of subselector_eq ss ts))
       ∙ same_from_decides lists_eq _ lists_decide (selector_decides (components_from 0 ps ss) (components_from 0 qs ts))
+
+pointwise-push : {A : Type 0} (E : A → A → Bool) (xs ys : List A) (x y : A) → pointwise E (xs ++ x ∷ []) (ys ++ y ∷ []) ≡ (pointwise E xs ys && E x y)
+pointwise-push E [] [] x y = and-true (E x y)
+pointwise-push E [] (b ∷ []) x y = and-false (E x b)
+pointwise-push E [] (b ∷ c ∷ ys) x y = and-false (E x b)
+pointwise-push E (a ∷ []) [] x y = and-false (E a y)
+pointwise-push E (a ∷ b ∷ xs) [] x y = and-false (E a y)
+pointwise-push E (a ∷ xs) (b ∷ ys) x y = ap (λ t. E a b && t) (pointwise-push E xs ys x y) ∙ sym (and_assoc (E a b) (pointwise E xs ys) (E x y))
+
+-- the last parts stand apart
+pub flat_last_eq : (ps qs : List Part) (p q : Part) (ss ts : List SubSelector) → Tile 0 (ps ++ p ∷ []) (length ss) → Tile 0 (qs ++ q ∷ []) (length ts) → ((pointwise part_test.it ps qs && part_test.it p q) && pointwise subselector_test.it ss ts) ≡ selector_eq (components_from 0 (ps ++ p ∷ []) ss) (components_from 0 (qs ++ q ∷ []) ts)
+flat_last_eq ps qs p q ss ts t u =
+    ap (λ b. b && pointwise subselector_test.it ss ts) (sym (pointwise-push part_test.it ps qs p q))
+    ∙ flat_eq (ps ++ p ∷ []) (qs ++ q ∷ []) ss ts t u

@@ -6,7 +6,6 @@ pub mod Greedy
 pub mod Depths
 pub mod Turns
 pub mod Flat
-pub mod Cuts
 pub mod WordLemmas
 pub mod Drafting
 pub mod Filling

@@ -1,8 +1,7 @@
 -- What the turns of the search share.
-use Rattle.simplecss_text.specs.Components.{Component}
 use Rattle.simplecss_selector.specs.declared.matching.Fit.{Fit}
 use Rattle.simplecss_selector.specs.declared.matching.Fit.TheVariants.{Misfit, Alone, Whole, Rest}
-use Rattle.std.proofs.Common.{◌≡◌, ℕ, ◌+◌, List, arith, Option, Some, None, refl, ap, sym, ◌∙◌, Bor}
+use Rattle.std.proofs.Common.{◌≡◌, ℕ, zero, suc, ◌+◌, ◌<◌, arith, Option, Some, None, refl, ap, sym, ◌∙◌, Bor}
 use Rattle.std.specs.Option.{option_copied, unwrap_or, option_map_or}
 use Rattle.simplecss_text.specs.Components.{Combinator as Seen}
 use Rattle.std.proofs.Common.{IsTrue, false}
@@ -33,9 +32,14 @@ not_joined adjacent e n = absurd (false≢true (sym e))
 pub step_not : (c : Seen) → IsTrue (is_step c) → c ≡ descendant → ⊥
 step_not c s e = false≢true (ap is_step (sym e) ∙ s)
 
+-- a component that a step joins is not the first
+pub step-some : (c : Seen) (k : ℕ) → IsTrue (is_step c) → (k ≡ 0 → c ≡ none) → 0 < k
+step-some c zero s first = absurd (false≢true (ap is_step (sym (first refl)) ∙ s))
+step-some c (suc k) s first = omega arith
+
 -- the tests, with one made before
-pub tests_before : {E : Type 0} (cs : List Component) (runs before begun after : ℕ) (fit : Fit E) → begun ≡ before + 1 → TestsPlaced cs runs begun (after + 1) fit → TestsPlaced cs runs before after fit
-tests_before cs runs before begun after Misfit e h = tt
-tests_before cs runs before begun after Alone e h = tt
-tests_before cs runs before begun after Whole e h = omega arith
-tests_before cs runs before begun after (Rest node) e h = omega arith
+pub tests_before : {E : Type 0} (last before begun after : ℕ) (fit : Fit E) → begun ≡ before + 1 → TestsPlaced last begun (after + 1) fit → TestsPlaced last before after fit
+tests_before last before begun after Misfit e h = tt
+tests_before last before begun after Alone e h = tt
+tests_before last before begun after Whole e h = omega arith
+tests_before last before begun after (Rest node rest) e h = omega arith

@@ -36,6 +36,19 @@ IsSimple Attribute = Unit {0}
 IsSimple Colon = Unit {0}
 IsSimple Other = Unit {0}
 
+-- a name is announced, or nothing that begins another piece
+abbrev pub IsNamed : Follows → Type 0
+IsNamed Stop = Unit {0}
+IsNamed Slash = Unit {0}
+IsNamed Child = ⊥
+IsNamed Adjacent = ⊥
+IsNamed Universal = ⊥
+IsNamed Id = Unit {0}
+IsNamed Class = Unit {0}
+IsNamed Attribute = ⊥
+IsNamed Colon = ⊥
+IsNamed Other = Unit {0}
+
 -- where a tokenizer is behind a fault in its place
 abbrev pub state_after_fault : Follows → State
 state_after_fault Stop = Ended

@@ -5,7 +5,6 @@ pub mod Combinators
 pub mod Operators
 pub mod Searches
 pub mod Drafts
-pub mod Runs
 pub mod Seen
 pub mod Equality
 pub mod EqualityLaws

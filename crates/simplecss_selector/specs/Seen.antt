@@ -1,4 +1,4 @@
--- What contracts see of a selector that is kept in three lists.
+-- What contracts see of a selector that is kept in flat lists.
 use Rattle.std.specs.Prelude.{◌≡◌, ℕ, ◌<◌, ◌≤◌, ◌↔◌, List, [], ◌∷◌, length, map}
 use Rattle.std.specs.List.{slice_range}
 use Rattle.std.specs.Option.{option_map}
@@ -8,7 +8,6 @@ use Rattle.simplecss_text.specs.Components.{Subselector, Component}
 use Rattle.simplecss_text.specs.Components.Combinator.{none}
 use Rattle.simplecss_text.specs.Components.Subselector.{attribute, pseudo_class}
 use Rattle.simplecss_selector.specs.Drafts.{Drafted}
-use Rattle.simplecss_selector.specs.Runs.{run_ends, inner_ends}
 use Rattle.simplecss_selector.specs.Searches.{component_at}
 use Rattle.simplecss_selector.specs.declared.selector.Part.{Part}
 use Rattle.simplecss_selector.specs.declared.selector.SubSelector.{SubSelector}
@@ -53,14 +52,7 @@ drafted ps ss open_part = record {
   last = component_of_part open_part (slice_range ss (last_end 0 ps) open_part.end);
 }
 
--- Flat lists of a selector: its components, whose subselectors tile the n of the one list, and the ends of their runs.
-pub record IsFlat (ps : List Part) (ss : List SubSelector) (n : ℕ) (runs : List ℕ) : Type 0 where
+-- Flat lists of a selector: its components, whose subselectors tile the n of the one list.
+pub record IsFlat (ps : List Part) (ss : List SubSelector) (n : ℕ) : Type 0 where
   pub selector : IsSelector (components_from 0 ps ss)
   pub tiled : Tile 0 ps n
-  pub cut : runs ≡ run_ends (components_from 0 ps ss)
-
--- The same of a draft: the end of the last run isn't known yet.
-pub record IsFilled (ps : List Part) (ss : List SubSelector) (n : ℕ) (runs : List ℕ) : Type 0 where
-  pub selector : IsSelector (components_from 0 ps ss)
-  pub tiled : Tile 0 ps n
-  pub cut : runs ≡ inner_ends 0 (components_from 0 ps ss)

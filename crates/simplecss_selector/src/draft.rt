@@ -1,8 +1,7 @@
-ghost use Rattle.std.specs.Prelude.{◌≢◌, ◌≡◌, ◌+◌, ◌++◌, ◌∷◌, [], IfOk, OnErr, OnOk, if◌then◌else◌, vec_len};
+ghost use Rattle.std.specs.Prelude.{◌≢◌, ◌≡◌, ◌+◌, ◌++◌, ◌∷◌, [], IfOk, OnErr, OnOk, vec_len};
 ghost use Rattle.simplecss_text.specs.Components.Combinator.{none as no_combinator};
 ghost use Rattle.simplecss_selector.specs.Combinators.{combinator_of};
 ghost use Rattle.simplecss_selector.specs.Drafts.{begun, with_name, with_subselector, joined, finished};
-ghost use Rattle.simplecss_selector.specs.Placements.{is_step};
 ghost use Rattle.simplecss_selector.specs.Seen.{subselector_of};
 
 use crate::selector::{Combinator, Part, Selector, SubSelector};
@@ -14,8 +13,6 @@ use std::marker::Model;
 pub(crate) struct Draft<'a> {
     parts: Vec<Part<'a>>,
     subselectors: Vec<SubSelector<'a>>,
-    // The ends of all runs but the last.
-    runs: Vec<usize>,
     // Of the component that is being filled.
     combinator: Combinator,
     name: Option<&'a str>,
@@ -27,36 +24,24 @@ impl<'a> Model for Draft<'a> {
 
     ghost Value = { Drafted };
 
-    ghost use Rattle.simplecss_selector.specs.Seen.{drafted, IsFilled};
+    ghost use Rattle.simplecss_selector.specs.Seen.{drafted, IsFlat};
 
     ghost view = { λ d. drafted d.parts.items d.subselectors.items (record { combinator = d.combinator; name = d.name; end = vec_len d.subselectors }) };
 
-    ghost invariant = { λ d. IsFilled (d.parts.items ++ (record { combinator = d.combinator; name = d.name; end = vec_len d.subselectors }) ∷ []) d.subselectors.items (vec_len d.subselectors) d.runs.items };
+    ghost invariant = { λ d. IsFlat (d.parts.items ++ (record { combinator = d.combinator; name = d.name; end = vec_len d.subselectors }) ∷ []) d.subselectors.items (vec_len d.subselectors) };
 }
 
-// Adds to a list, which is made no longer than it needs to be where it was empty: most selectors have one component.
+// Adds to a list, of which the first growth makes room for two: few components have more subselectors.
 #[inline(always)]
-fn push_tight<T: Drop>(list: &mut Vec<T>, item: T) -> Result<(), AllocError>
-    ensures items { OnOk result (list.new.items ≡ list.old.items ++ item ∷ []) }
+fn push_few<T: Drop>(list: &mut Vec<T>, item: T) -> Result<(), AllocError>
+    ensures ok { OnOk result (list.new.items ≡ list.old.items ++ item ∷ []) }
     ensures len { OnOk result (vec_len list.new ≡ vec_len list.old + 1) }
     ensures err { OnErr result (list.new.items ≡ list.old.items) }
 {
     if list.is_empty() {
-        list.reserve_exact(1)?;
+        list.reserve_exact(2)?;
     }
     list.push(item)?;
-    Ok(())
-}
-
-// Keeps the end of a run, where the next component is not joined to it by a step.
-#[inline(always)]
-fn end_run(runs: &mut Vec<usize>, end: usize, next: Combinator) -> Result<(), AllocError>
-    ensures ok { IfOk result (λ _. runs.new.items ≡ (if is_step (combinator_of next) then runs.old.items else runs.old.items ++ end ∷ [])) }
-    ensures err { OnErr result (runs.new.items ≡ runs.old.items) }
-{
-    if !next.is_step() {
-        runs.push(end)?;
-    }
     Ok(())
 }
 
@@ -68,7 +53,6 @@ impl<'a> Draft<'a> {
         Draft {
             parts: Vec::new(alloc),
             subselectors: Vec::new(alloc),
-            runs: Vec::new(alloc),
             combinator: Combinator::None,
             name: None,
         }
@@ -91,7 +75,7 @@ impl<'a> Draft<'a> {
         ensures ok { IfOk result (λ _. self.new ≡ with_subselector (subselector_of subselector.entry) self.old) }
         ensures err { OnErr result (self.new ≡ self.old) }
     {
-        self.subselectors.push(subselector)?;
+        push_few(&mut self.subselectors, subselector)?;
         Ok(())
     }
 
@@ -108,37 +92,31 @@ impl<'a> Draft<'a> {
             end: self.subselectors.len(),
         };
         self.parts.push(part)?;
-        if let Err(refused) = end_run(&mut self.runs, self.parts.len(), combinator) {
-            self.parts.pop();
-            return Err(refused);
-        }
         self.combinator = combinator;
         self.name = None;
         Ok(())
     }
 
     /// The selector of all the components.
-    pub(crate) fn finish(self) -> Result<Selector<'a>, AllocError>
-        ensures { IfOk result (λ s. s ≡ finished self.entry) }
+    #[inline(always)]
+    pub(crate) fn finish(self) -> Selector<'a>
+        ensures { result ≡ finished self.entry }
     {
         let Draft {
-            mut parts,
+            parts,
             subselectors,
-            mut runs,
             combinator,
             name,
         } = self;
-        let part = Part {
+        let last = Part {
             combinator,
             name,
             end: subselectors.len(),
         };
-        push_tight(&mut parts, part)?;
-        push_tight(&mut runs, parts.len())?;
-        Ok(Selector {
+        Selector {
             parts,
+            last,
             subselectors,
-            runs,
-        })
+        }
     }
 }

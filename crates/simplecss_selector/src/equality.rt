@@ -16,6 +16,7 @@ impl<'a> PartialEq for Selector<'a> {
 
     fn eq(&self, other: &Self) -> bool {
         self.parts.as_slice() == other.parts.as_slice()
+            && self.last == other.last
             && self.subselectors.as_slice() == other.subselectors.as_slice()
     }
 }
@@ -37,8 +38,8 @@ impl<'a> Selector<'a> {
     {
         Ok(Selector {
             parts: Vec::from_slice(*self.parts.allocator(), &self.parts)?,
+            last: self.last,
             subselectors: Vec::from_slice(*self.subselectors.allocator(), &self.subselectors)?,
-            runs: Vec::from_slice(*self.runs.allocator(), &self.runs)?,
         })
     }
 }

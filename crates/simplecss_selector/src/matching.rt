@@ -1,8 +1,7 @@
-ghost use Rattle.std.specs.Prelude.{◌≡◌, ◌+◌, ◌-◌, ◌*◌, ◌<◌, ◌≤◌, ◌↔◌, IsTrue, length};
+ghost use Rattle.std.specs.Prelude.{◌≡◌, ◌+◌, ◌*◌, ◌<◌, ◌≤◌, ◌↔◌, IsTrue, length};
 ghost use Rattle.std.specs.Option.{option_map};
 ghost use Rattle.simplecss_selector.specs.Combinators.{combinator_of};
 ghost use Rattle.simplecss_selector.specs.Placements.{Meets, HasPlacement, longest_run};
-ghost use Rattle.simplecss_selector.specs.Runs.{run_ends, run_end as end_of_run};
 ghost use Rattle.simplecss_selector.specs.Searches.{component_at, step_from as node_before};
 
 use crate::selector::{Combinator, Selector};
@@ -17,8 +16,8 @@ enum Fit<E> {
     Alone,
     // All are met, and no component is left.
     Whole,
-    // All are met, and the runs before this one are left, to be placed at or above the node.
-    Rest(E),
+    // All are met, and the components up to this place are left, to be placed at or above the node.
+    Rest(E, usize),
 }
 
 // The node to which a child or adjacent step leads back.
@@ -60,21 +59,19 @@ impl<'a> Selector<'a> {
         true
     }
 
-    // Goes up the last of the first `runs` runs from `lowest`, which meets its last component.
+    // Goes up the run whose last component is at the place `last`, from `lowest`, which meets it.
     #[inline(always)]
-    fn climb<E: Element>(&self, runs: usize, lowest: &E, tests: &mut Tests) -> Fit<E>
-        requires some { 0 < runs }
-        requires within { runs ≤ length (run_ends self.now) }
-        requires met { Meets E.tree (E.node lowest.now) (component_at self.now (end_of_run self.now runs - 1)).compound }
-        ensures finds { Finds E.tree E.node self.now runs (E.node lowest.now) result }
-        ensures placed { TestsPlaced self.now runs tests.old (tests.new + 1) result }
+    fn climb<E: Element>(&self, last: usize, lowest: &E, tests: &mut Tests) -> Fit<E>
+        requires within { last < length self.now }
+        requires met { Meets E.tree (E.node lowest.now) (component_at self.now last).compound }
+        ensures finds { Finds E.tree E.node self.now last (E.node lowest.now) result }
+        ensures placed { TestsPlaced last tests.old (tests.new + 1) result }
         ensures tested { tests.old ≤ tests.new }
         ensures bounded { tests.new + 1 ≤ tests.old + longest_run self.now }
     {
-        let start = self.run_end(runs - 1);
-        let mut place = self.run_end(runs) - 1;
+        let mut place = last;
         let mut top: Option<E> = None;
-        while place > start {
+        'steps: while self.combinator(place).is_step() {
             let node = top.as_ref().unwrap_or(lowest);
             let Some(before) = step_from(self.combinator(place), node) else {
                 return Fit::Misfit;
@@ -85,31 +82,29 @@ impl<'a> Selector<'a> {
             }
             top = Some(before);
         }
-        if start == 0 {
+        if place == 0 {
             return Fit::Whole;
         }
         let node = top.as_ref().unwrap_or(lowest);
         match node.parent_element() {
-            Some(above) => Fit::Rest(above),
+            Some(above) => Fit::Rest(above, place - 1),
             None => Fit::Alone,
         }
     }
 
-    // Tries the last of the first `runs` runs with its last component on `lowest`.
+    // Tries the run whose last component is at the place `last`, with that one on `lowest`.
     #[inline(always)]
-    fn place_run<E: Element>(&self, runs: usize, lowest: &E, tests: &mut Tests) -> Fit<E>
-        requires some { 0 < runs }
-        requires within { runs ≤ length (run_ends self.now) }
-        ensures finds { Finds E.tree E.node self.now runs (E.node lowest.now) result }
-        ensures placed { TestsPlaced self.now runs tests.old tests.new result }
+    fn place_run<E: Element>(&self, last: usize, lowest: &E, tests: &mut Tests) -> Fit<E>
+        requires { last < length self.now }
+        ensures finds { Finds E.tree E.node self.now last (E.node lowest.now) result }
+        ensures placed { TestsPlaced last tests.old tests.new result }
         ensures tested { tests.old < tests.new }
         ensures bounded { tests.new ≤ tests.old + longest_run self.now }
     {
-        let place = self.run_end(runs) - 1;
-        if !self.is_met_at(place, lowest, tests) {
+        if !self.is_met_at(last, lowest, tests) {
             return Fit::Misfit;
         }
-        self.climb(runs, lowest, tests)
+        self.climb(last, lowest, tests)
     }
 
     /// Whether the selector matches the element, with a count of the tests that were made.
@@ -129,24 +124,22 @@ impl<'a> Selector<'a> {
         if last == 0 {
             return true;
         }
-        let mut runs = self.run_count();
-        let mut candidate = match self.climb(runs, element, tests) {
+        let (mut candidate, mut left) = match self.climb(last, element, tests) {
             Fit::Misfit | Fit::Alone => return false,
             Fit::Whole => return true,
-            Fit::Rest(above) => above,
+            Fit::Rest(above, rest) => (above, rest),
         };
-        runs -= 1;
         loop {
-            match self.place_run(runs, &candidate, tests) {
+            match self.place_run(left, &candidate, tests) {
                 Fit::Alone => return false,
                 Fit::Whole => return true,
                 Fit::Misfit => match candidate.parent_element() {
                     None => return false,
                     Some(parent) => candidate = parent,
                 },
-                Fit::Rest(above) => {
-                    runs -= 1;
+                Fit::Rest(above, rest) => {
                     candidate = above;
+                    left = rest;
                 }
             }
         }

@@ -93,7 +93,7 @@ pub fn parse_front<'a, R: Log>(
             return Ok((None, tokenizer.pos()));
         }
     }
-    Ok((Some(draft.finish()?), tokenizer.pos()))
+    Ok((Some(draft.finish()), tokenizer.pos()))
 }
 
 /// Tells the logger that a pseudo-class has no known name.

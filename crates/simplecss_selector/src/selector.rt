@@ -1,10 +1,9 @@
-ghost use Rattle.std.specs.Prelude.{◌≢◌, ◌≡◌, ◌+◌, ◌<◌, ◌≤◌, ◌↔◌, length, is_some, IsTrue};
+ghost use Rattle.std.specs.Prelude.{◌≡◌, ◌+◌, ◌<◌, ◌≤◌, ◌↔◌, ◌++◌, ◌∷◌, [], length, is_some, slice_index_or, IsTrue};
 ghost use Rattle.std.specs.List.{slice_range};
 ghost use Rattle.simplecss_selector.specs.Placements.{Holds, is_step};
 ghost use Rattle.simplecss_selector.specs.Combinators.{combinator_of};
 ghost use Rattle.simplecss_text.specs.Components.Combinator.{none as no_combinator};
 ghost use Rattle.simplecss_text.specs.Specificity.{is_id};
-ghost use Rattle.simplecss_selector.specs.Runs.{run_ends};
 ghost use Rattle.simplecss_selector.specs.Seen.{component_of_part, subselector_of};
 
 use crate::{AttributeOperator, Element, PseudoClass};
@@ -37,10 +36,10 @@ pub(crate) struct Part<'a> {
 /// A selector: components, each a type name or any type with subselectors, and how it is related to the one before it. There is at least one, and the first alone has no combinator.
 #[derive(Debug, Drop)]
 pub struct Selector<'a> {
+    // All components but the last, so that a selector with one component takes no memory for it.
     pub(crate) parts: Vec<Part<'a>>,
+    pub(crate) last: Part<'a>,
     pub(crate) subselectors: Vec<SubSelector<'a>>,
-    // For each run of child and adjacent steps, how many components there are up to its end.
-    pub(crate) runs: Vec<usize>,
 }
 
 impl<'a> Model for Selector<'a> {
@@ -49,12 +48,12 @@ impl<'a> Model for Selector<'a> {
 
     ghost Value = { List Component };
 
-    ghost use Rattle.std.specs.Prelude.{vec_len};
+    ghost use Rattle.std.specs.Prelude.{◌++◌, ◌∷◌, [], vec_len};
     ghost use Rattle.simplecss_selector.specs.Seen.{components_from, IsFlat};
 
-    ghost view = { λ s. components_from 0 s.parts.items s.subselectors.items };
+    ghost view = { λ s. components_from 0 (s.parts.items ++ s.last ∷ []) s.subselectors.items };
 
-    ghost invariant = { λ s. IsFlat s.parts.items s.subselectors.items (vec_len s.subselectors) s.runs.items };
+    ghost invariant = { λ s. IsFlat (s.parts.items ++ s.last ∷ []) s.subselectors.items (vec_len s.subselectors) };
 }
 
 impl Combinator {
@@ -113,16 +112,28 @@ fn between<'s, 'a>(all: &'s [SubSelector<'a>], start: usize, end: usize) -> &'s 
     &all[start..end]
 }
 
+// The part at this place, where `last` stands behind the others.
+#[inline(always)]
+fn part_at<'a>(parts: &[Part<'a>], last: Part<'a>, place: usize) -> Part<'a>
+    requires { place ≤ length parts.now }
+    ensures { result ≡ slice_index_or (parts.now ++ last.entry ∷ []) place result }
+{
+    if place < parts.len() {
+        parts[place]
+    } else {
+        last
+    }
+}
+
 impl<'a> Selector<'a> {
     ghost use Rattle.simplecss_selector.specs.Searches.{component_at};
-    ghost use Rattle.simplecss_selector.specs.Runs.{run_end as end_of_run};
 
     // How many components there are.
     #[inline(always)]
     pub(crate) fn len(&self) -> usize
         ensures { result ≡ length self.now }
     {
-        self.parts.len()
+        self.parts.len() + 1
     }
 
     // The place of the last component.
@@ -130,15 +141,17 @@ impl<'a> Selector<'a> {
     pub(crate) fn last_place(&self) -> usize
         ensures { result + 1 ≡ length self.now }
     {
-        self.parts.len() - 1
+        self.parts.len()
     }
 
+    // How the component at this place is related to the one before it. The first alone is related to none.
     #[inline(always)]
     pub(crate) fn combinator(&self, place: usize) -> Combinator
         requires { place < length self.now }
-        ensures { combinator_of result ≡ (component_at self.now place).combinator }
+        ensures value { combinator_of result ≡ (component_at self.now place).combinator }
+        ensures first { (combinator_of result ≡ no_combinator) ↔ (place ≡ 0) }
     {
-        let part = &self.parts[place];
+        let part = part_at(&self.parts, self.last, place);
         part.combinator
     }
 
@@ -148,33 +161,12 @@ impl<'a> Selector<'a> {
         requires { place < length self.now }
         ensures { component_of_part result.0 result.1.now ≡ component_at self.now place }
     {
-        let part = self.parts[place];
+        let part = part_at(&self.parts, self.last, place);
         let start = if place == 0 {
             0
         } else {
             self.parts[place - 1].end
         };
         (part, between(&self.subselectors, start, part.end))
-    }
-
-    #[inline(always)]
-    pub(crate) fn run_count(&self) -> usize
-        ensures count { result ≡ length (run_ends self.now) }
-        ensures some { 0 < result }
-        ensures whole { end_of_run self.now result ≡ length self.now }
-    {
-        self.runs.len()
-    }
-
-    // How many components the first `count` runs have.
-    #[inline(always)]
-    pub(crate) fn run_end(&self, count: usize) -> usize
-        requires { count ≤ length (run_ends self.now) }
-        ensures value { result ≡ end_of_run self.now count }
-        ensures begins { 0 < result
-            → result < length self.now
-            → (component_at self.now result).combinator ≢ no_combinator }
-    {
-        if count == 0 { 0 } else { self.runs[count - 1] }
     }
 }

@@ -34,7 +34,7 @@ impl<'a> Selector<'a> {
         [
             at_most_255(ids),
             at_most_255(others),
-            at_most_255(name_count(&self.parts)),
+            at_most_255(name_count(&self.parts)).saturating_add(u8::from(self.last.is_named())),
         ]
     }
 }

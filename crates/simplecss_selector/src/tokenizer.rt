@@ -1,5 +1,5 @@
 //! The tokenizer of selectors.
-ghost use Rattle.std.specs.Prelude.{◌≡◌, ◌<◌, ◌≤◌, ℕ, List, true, false, Some};
+ghost use Rattle.std.specs.Prelude.{◌≡◌, ◌<◌, ◌≤◌, ℕ, List, true, false, Some, if◌then◌else◌};
 ghost use Rattle.simplecss_text.specs.Reading.{got};
 ghost use Rattle.simplecss_text.specs.Bytes.{all_before, past_one, starts};
 ghost use Rattle.simplecss_text.specs.Errors.{Gives, position_of};
@@ -9,7 +9,8 @@ ghost use Rattle.simplecss_text.specs.Pieces.{attribute_after as attribute_read,
 ghost use Rattle.simplecss_text.specs.TokenRuns.{fault_count, run_of};
 ghost use Rattle.simplecss_selector.specs.Asked.{operator_of};
 ghost use Rattle.simplecss_selector.specs.Given.{token_of};
-ghost use Rattle.simplecss_selector.specs.Announced.{announced, IsSimple, state_after_fault};
+ghost use Rattle.simplecss_selector.specs.declared.token.SelectorToken.TheVariants.{AttributeSelector, LangPseudoClass, PseudoClass};
+ghost use Rattle.simplecss_selector.specs.Announced.{announced, IsNamed, IsSimple, state_after_fault};
 
 use crate::{AttributeOperator, SelectorToken};
 use simplecss_text::stream::Stream;
@@ -103,25 +104,25 @@ fn attribute_operator<'a>(stream: &mut Stream<'a>) -> Result<AttributeOperator<'
     }
 }
 
-/// An attribute, behind its `[`.
+/// An attribute's name and what is asked of its value, behind the `[`.
 #[inline(never)]
 #[tactic(auto, unfolding(simplecss_text::specs::Pieces::attribute_after))]
-fn attribute<'a>(stream: &mut Stream<'a>) -> Result<SelectorToken<'a>, Error>
+fn attribute<'a>(stream: &mut Stream<'a>) -> Result<(&'a str, AttributeOperator<'a>), Error>
     ensures text { text_of stream.new ≡ text_of stream.old }
-    ensures reads { Gives token_of (text_of stream.old) (attribute_read this_edition (rest_of stream.old)) result (rest_of stream.new) }
+    ensures reads { Gives (λ asked. token_of (AttributeSelector asked.0 asked.1)) (text_of stream.old) (attribute_read this_edition (rest_of stream.old)) result (rest_of stream.new) }
 {
     let name = stream.consume_ident()?;
     let operator = attribute_operator(stream)?;
     stream.consume_byte(b']')?;
-    Ok(SelectorToken::AttributeSelector(name, operator))
+    Ok((name, operator))
 }
 
 /// The language of a `:lang`, behind that name.
 #[inline(always)]
 #[tactic(auto, unfolding(simplecss_text::specs::Pieces::lang_after))]
-fn language<'a>(stream: &mut Stream<'a>) -> Result<SelectorToken<'a>, Error>
+fn language<'a>(stream: &mut Stream<'a>) -> Result<&'a str, Error>
     ensures text { text_of stream.new ≡ text_of stream.old }
-    ensures reads { Gives token_of (text_of stream.old) (language_read (rest_of stream.old)) result (rest_of stream.new) }
+    ensures reads { Gives (λ language. token_of (LangPseudoClass language)) (text_of stream.old) (language_read (rest_of stream.old)) result (rest_of stream.new) }
 {
     stream.consume_byte(b'(')?;
     let language = text_before(stream, b')').trim();
@@ -129,21 +130,21 @@ fn language<'a>(stream: &mut Stream<'a>) -> Result<SelectorToken<'a>, Error>
     if language.is_empty() {
         return Err(Error::InvalidLanguagePseudoClass);
     }
-    Ok(SelectorToken::LangPseudoClass(language))
+    Ok(language)
 }
 
-/// A pseudo-class, behind its `:`.
+/// The name of a pseudo-class behind its `:`, or the language of a `:lang`, and whether it is a language.
 #[inline(never)]
 #[tactic(auto, unfolding(simplecss_text::specs::Pieces::pseudo_class_after))]
-fn pseudo_class<'a>(stream: &mut Stream<'a>) -> Result<SelectorToken<'a>, Error>
+fn pseudo_class<'a>(stream: &mut Stream<'a>) -> Result<(&'a str, bool), Error>
     ensures text { text_of stream.new ≡ text_of stream.old }
-    ensures reads { Gives token_of (text_of stream.old) (pseudo_class_read this_edition (rest_of stream.old)) result (rest_of stream.new) }
+    ensures reads { Gives (λ told. token_of (if told.1 then LangPseudoClass told.0 else PseudoClass told.0)) (text_of stream.old) (pseudo_class_read this_edition (rest_of stream.old)) result (rest_of stream.new) }
 {
     let name = stream.consume_ident()?;
     if name == "lang" {
-        return language(stream);
+        return Ok((language(stream)?, true));
     }
-    Ok(SelectorToken::PseudoClass(name))
+    Ok((name, false))
 }
 
 /// Passes all up to the first such byte, or up to the end of the text, and gives it.
@@ -186,6 +187,28 @@ fn adjacent<'a>(stream: &mut Stream<'a>) -> SelectorToken<'a>
     SelectorToken::AdjacentCombinator
 }
 
+/// The name of an id or a class behind its sign, or of a type.
+#[inline(always)]
+#[tactic(auto, unfolding(simplecss_text::specs::Pieces::begun, simplecss_text::specs::Pieces::named, crate::specs::Announced::announced))]
+fn name<'a>(stream: &mut Stream<'a>, follows: Follows) -> Result<SelectorToken<'a>, Error>
+    requires here { announced (rest_of stream.old) ≡ follows }
+    requires named { IsNamed follows }
+    ensures text { text_of stream.new ≡ text_of stream.old }
+    ensures reads { Gives token_of (text_of stream.old) (begun_read this_edition (rest_of stream.old)) result (rest_of stream.new) }
+{
+    match follows {
+        Follows::Id => stream.try_consume_byte(b'#'),
+        Follows::Class => stream.try_consume_byte(b'.'),
+        _ => {}
+    }
+    let name = stream.consume_ident()?;
+    Ok(match follows {
+        Follows::Id => SelectorToken::IdSelector(name),
+        Follows::Class => SelectorToken::ClassSelector(name),
+        _ => SelectorToken::TypeSelector(name),
+    })
+}
+
 /// A solid piece, which the byte has announced. At a stop and at a `/` it is read as a type, and fails.
 #[inline(always)]
 #[tactic(auto, unfolding(simplecss_text::specs::Pieces::begun, simplecss_text::specs::Pieces::named, crate::specs::Announced::announced))]
@@ -201,25 +224,19 @@ fn solid_piece<'a>(stream: &mut Stream<'a>, follows: Follows) -> Result<Selector
             stream.try_consume_byte(b'*');
             Ok(SelectorToken::UniversalSelector)
         }
-        Follows::Id => {
-            stream.try_consume_byte(b'#');
-            Ok(SelectorToken::IdSelector(stream.consume_ident()?))
-        }
-        Follows::Class => {
-            stream.try_consume_byte(b'.');
-            Ok(SelectorToken::ClassSelector(stream.consume_ident()?))
-        }
         Follows::Attribute => {
             stream.try_consume_byte(b'[');
-            attribute(stream)
+            let (name, operator) = attribute(stream)?;
+            Ok(SelectorToken::AttributeSelector(name, operator))
         }
         Follows::Colon => {
             stream.try_consume_byte(b':');
-            pseudo_class(stream)
+            Ok(match pseudo_class(stream)? {
+                (language, true) => SelectorToken::LangPseudoClass(language),
+                (name, false) => SelectorToken::PseudoClass(name),
+            })
         }
-        Follows::Stop | Follows::Slash | Follows::Other => {
-            Ok(SelectorToken::TypeSelector(stream.consume_ident()?))
-        }
+        _ => name(stream, follows),
     }
 }
 

@@ -1,16 +1,19 @@
 -- A gap, a part at a time.
-use Rattle.std.proofs.Common.{◌≡◌, ℕ, ◌+◌, Bool, true, false, ◌||◌, List, drop, Some, None, refl, sym, ap, ◌∙◌, [], ◌∷◌}
+use Rattle.std.proofs.Common.{◌≡◌, ℕ, ◌+◌, Bool, true, false, ◌||◌, nat_lt, List, drop, Some, None, refl, sym, ap, ◌∙◌, subst, [], ◌∷◌, arith}
+use Rattle.std.proofs.lemmas.Bool.{lt-ltb}
+use Rattle.std.specs.List.{prefix_len}
 use Rattle.std.specs.Str.{IsUtf8, IsCharBoundary}
 use Rattle.std.proofs.Math.Bool.{or_assoc}
 use Rattle.std.proofs.lemmas.List.{drop-drop}
 use Rattle.std.proofs.lemmas.Str.{IsCharBoundary-start, IsCharBoundary-from_rest}
 use Rattle.simplecss_text.specs.Reading.{each, followed_by}
 use Rattle.simplecss_text.specs.Comments.{blank_part, past_blank, has_space, opens_comment}
-use Rattle.simplecss_text.proofs.CutLemmas.{IsCharBoundary-behind_space}
+use Rattle.simplecss_text.proofs.CutLemmas.{IsCharBoundary-prefix_len, is_space-ascii}
 use Rattle.simplecss_text.proofs.EachLaws.{each-none, each-some}
 use Rattle.simplecss_text.proofs.TakesLaws.{blank_part-takes}
 use Rattle.simplecss_text.specs.Characters.{is_space}
-use Rattle.simplecss_text.specs.Bytes.{starts_by}
+use Rattle.simplecss_text.specs.Bytes.{starts_by, past}
+use Rattle.simplecss_text.proofs.Utf8Laws.{past-yes, past-no}
 
 -- The first bytes of the text are parts of its gap, and this tells whether a space byte is among them.
 pub record Passed (text : List ℕ) (len : ℕ) (spaced : Bool) : Type 0 where
@@ -65,9 +68,50 @@ blank_part-none (b ∷ text) e =
     let closed : opens_comment (b ∷ text) ≡ false = or_right (is_space b) (opens_comment (b ∷ text)) e in
     rw (solid, closed) refl
 
--- behind a space byte at the front
-pub passed-space_byte : (text : List ℕ) → IsUtf8 text → starts_by is_space text ≡ true → Passed text 1 true
-passed-space_byte [] u e = absurd (cc)
-passed-space_byte (b ∷ rest) u e =
-    let part : blank_part (b ∷ rest) ≡ Some (true, rest) = rw e refl in
-    passed-step (b ∷ rest) 0 1 false true (passed-start (b ∷ rest) u) part (IsCharBoundary-behind_space (b ∷ rest) u (sym e))
+-- a space byte at the front is a part of the gap
+each-space : (b : ℕ) (text : List ℕ) → is_space b ≡ true → each blank_part (b ∷ text) ≡ followed_by true (each blank_part text)
+each-space b text e = each-some blank_part blank_part-takes (b ∷ text) text true (rw e refl)
+
+-- the blank at the front goes on behind the space bytes that it begins with
+past_blank-past_spaces : (text : List ℕ) → past_blank text ≡ past_blank (past is_space text)
+past_blank-past_spaces [] = refl
+past_blank-past_spaces (b ∷ text) = by (is_space b) refl (past_blank-past_spaces text)
+  where
+    by : (t : Bool) → is_space b ≡ t → past_blank text ≡ past_blank (past is_space text) → past_blank (b ∷ text) ≡ past_blank (past is_space (b ∷ text))
+    by true e more = ap (λ r. r.1) (each-space b text e) ∙ more ∙ ap past_blank (sym (past-yes is_space b text e))
+    by false e more = ap past_blank (sym (past-no is_space b text e))
+
+has_space-past_spaces : (text : List ℕ) → has_space text ≡ (nat_lt 0 (prefix_len is_space text) || has_space (past is_space text))
+has_space-past_spaces [] = refl
+has_space-past_spaces (b ∷ text) = by (is_space b) refl
+  where
+    by : (t : Bool) → is_space b ≡ t → has_space (b ∷ text) ≡ (nat_lt 0 (prefix_len is_space (b ∷ text)) || has_space (past is_space (b ∷ text)))
+    by true e =
+        let here : has_space (b ∷ text) ≡ true = rw (each-space b text e) refl in
+        let more : prefix_len is_space (b ∷ text) ≡ 1 + prefix_len is_space text = rw e refl in
+        let some : nat_lt 0 (prefix_len is_space (b ∷ text)) ≡ true = lt-ltb 0 (prefix_len is_space (b ∷ text)) (omega arith) in
+        here ∙ sym (ap (λ t. t || has_space (past is_space (b ∷ text))) some)
+    by false e = rw e refl
+
+-- the space bytes at the front
+pub passed-spaces : (text : List ℕ) (len : ℕ) → IsUtf8 text → len ≡ prefix_len is_space text → Passed text len (nat_lt 0 len)
+passed-spaces text len u e = subst (λ (n : ℕ). Passed text n (nat_lt 0 n)) (sym e) (record {
+  boundary = IsCharBoundary-prefix_len is_space is_space-ascii text u;
+  rest = past_blank-past_spaces text;
+  space = has_space-past_spaces text;
+})
+
+-- behind the bytes at the front that pass stands none that passes
+pub starts_by-past : (test : ℕ → Bool) (text : List ℕ) → starts_by test (past test text) ≡ false
+starts_by-past test [] = refl
+starts_by-past test (b ∷ text) = by (test b) refl (starts_by-past test text)
+  where
+    by : (t : Bool) → test b ≡ t → starts_by test (past test text) ≡ false → starts_by test (past test (b ∷ text)) ≡ false
+    by true e more = rw (past-yes test b text e) more
+    by false e more = rw (past-no test b text e) e
+
+-- where no comment opens behind the space bytes at the front, no part of the gap stands there
+pub no_part-behind_spaces : (text : List ℕ) (len : ℕ) → len ≡ prefix_len is_space text → opens_comment (drop len text) ≡ false → blank_part (drop len text) ≡ None
+no_part-behind_spaces text len e closed =
+    let solid : starts_by is_space (drop len text) ≡ false = rw e (starts_by-past is_space text) in
+    blank_part-none (drop len text) (rw (solid, closed) refl)

@@ -1,12 +1,12 @@
 -- Names, a character at a time.
-use Rattle.std.proofs.Common.{◌≡◌, ℕ, suc, ◌+◌, ◌-◌, ◌≤◌, List, [], ◌∷◌, ◌++◌, Bool, true, false, length, drop, refl, ap, sym, ◌∙◌, arith, length-append, length-drop, encode_utf8, encode_utf8_all, drop-drop, ◌&&◌, subst, one-add, get_or, ◌<◌, inl, inr, drop-cons, lt-ltb, ltb-true}
+use Rattle.std.proofs.Common.{◌≡◌, ℕ, suc, ◌+◌, ◌-◌, ◌≤◌, List, [], ◌∷◌, ◌++◌, Bool, true, false, length, drop, refl, ap, sym, ◌∙◌, arith, length-append, length-drop, encode_utf8, encode_utf8_all, drop-drop, ◌&&◌, subst, one-add, get_or, ◌<◌, inl, inr, drop-cons, lt-ltb}
 use Rattle.std.specs.Str.{chars, IsUtf8}
 use Rattle.std.specs.List.{take_while, prefix_len}
 use Rattle.std.specs.Char.{len_utf8}
 use Rattle.std.proofs.lemmas.Str.{chars_past_char, length-encode, chars-nil, IsUtf8-past_char, drop_past_char, len_utf8_bounds}
 use lib.Utf8.{encode}
 use Rattle.std.proofs.Math.Nat.{eq-or-lt_of_le}
-use Rattle.std.proofs.lemmas.List.Sums.{prefix_len-le-length, prefix_len_stops}
+use Rattle.std.proofs.lemmas.List.Sums.{prefix_len-le-length, prefix_len_stops, prefix_len_is}
 use Rattle.simplecss_text.specs.Bytes.{is_ascii, starts_by}
 use Rattle.simplecss_text.specs.Characters.{Edition, is_name_start, is_name_char}
 use Rattle.simplecss_text.specs.Names.{begins_name, past_name_chars}
@@ -88,11 +88,11 @@ ascii-front : (b : ℕ) (rest : List ℕ) → is_ascii b ≡ true → b ∷ rest
 ascii-front b rest e = ap (λ (bs : List ℕ). bs ++ rest) (sym (encode-ascii b e))
 
 -- A run of ASCII name characters is passed at once, and what is left behind it is UTF-8.
-pub record Passed (edition : Edition) (text : List ℕ) : Type 0 where
+record Passed (edition : Edition) (text : List ℕ) : Type 0 where
   pub same : past_name_chars edition text ≡ past_name_chars edition (drop (prefix_len (is_ascii_name_char edition) text) text)
   pub utf8 : IsUtf8 (drop (prefix_len (is_ascii_name_char edition) text) text)
 
-pub passed-ascii : (edition : Edition) (text : List ℕ) → IsUtf8 text → Passed edition text
+passed-ascii : (edition : Edition) (text : List ℕ) → IsUtf8 text → Passed edition text
 passed-ascii edition [] u = record { same = refl; utf8 = u }
 passed-ascii edition (b ∷ rest) u = by (is_ascii_name_char edition b) refl (passed-ascii edition rest)
   where
@@ -115,7 +115,7 @@ passed-ascii edition (b ∷ rest) u = by (is_ascii_name_char edition b) refl (pa
         }
 
 -- behind the run stands no further name character, unless one past ASCII does
-pub passed-stops : (edition : Edition) (text : List ℕ) → IsUtf8 text → (prefix_len (is_ascii_name_char edition) text < length text → get_or text (prefix_len (is_ascii_name_char edition) text) 0 < 128)
+passed-stops : (edition : Edition) (text : List ℕ) → IsUtf8 text → (prefix_len (is_ascii_name_char edition) text < length text → get_or text (prefix_len (is_ascii_name_char edition) text) 0 < 128)
     → past_name_chars edition text ≡ drop (prefix_len (is_ascii_name_char edition) text) text
 passed-stops edition text u ascii =
     let p = passed-ascii edition text u in
@@ -138,8 +138,12 @@ passed-stops edition text u ascii =
         let fails : is_name_char edition b ≡ false = and_first (is_ascii b) (is_name_char edition b) low other in
         past_name_chars-fails edition (drop n text) (drop (suc n) text) b v (shape ∙ ascii-front b (drop (suc n) text) low) fails
 
-pub is_ascii_name_char-ascii : (edition : Edition) (b : ℕ) → is_ascii_name_char edition b ≡ true → b < 128
-is_ascii_name_char-ascii edition b e = ltb-true b 128 (and_left (is_ascii b) (is_name_char edition b) e)
+-- The run of name characters ends behind ASCII ones, at the end of the text or before another ASCII byte.
+pub past_name_chars-at : (edition : Edition) (text : List ℕ) (n : ℕ) → IsUtf8 text → n ≤ length text → ((k : ℕ) → k < n → is_ascii_name_char edition (get_or text k 0) ≡ true)
+    → (n < length text → (is_ascii_name_char edition (get_or text n 0) ≡ false) × (get_or text n 0 < 128)) → past_name_chars edition text ≡ drop n text
+past_name_chars-at edition text n u within passes stops =
+    let run : prefix_len (is_ascii_name_char edition) text ≡ n = prefix_len_is (is_ascii_name_char edition) text n 0 within passes (λ h. (stops h).0) in
+    passed-stops edition text u (subst (λ (i : ℕ). i < length text → get_or text i 0 < 128) (sym run) (λ h. (stops h).1)) ∙ ap (λ i. drop i text) run
 
 -- a name begins with an ASCII name start
 pub begins_name-ascii : (edition : Edition) (text : List ℕ) → IsUtf8 text → starts_by (λ b. is_ascii b && is_name_start edition b) text ≡ true → begins_name edition (chars text) ≡ true

@@ -1,5 +1,5 @@
 //! Where things end in a text. Each function answers a number of bytes, at which the text may be cut.
-ghost use Rattle.std.specs.Prelude.{◌≡◌, ℕ, ◌+◌, ◌-◌, ◌≤◌, ◌<◌, ◌&&◌, ◌||◌, length, drop, true, false, None, Some, MatchOption, IfSome, IsTrue, slice_index, chars};
+ghost use Rattle.std.specs.Prelude.{◌≡◌, ℕ, ◌+◌, ◌-◌, ◌≤◌, ◌<◌, ◌&&◌, ◌||◌, ◌==◌, length, drop, true, false, None, Some, MatchOption, IfSome, IsTrue, slice_index, EachIndex, chars};
 ghost use Rattle.std.specs.Str.{IsCharBoundary};
 ghost use Rattle.std.specs.List.{prefix_len};
 ghost use Rattle.simplecss_text.specs.Bytes.{after_byte, starts_by, is_ascii};
@@ -16,7 +16,7 @@ use crate::stream::{is_name_char, is_name_start};
 pub fn is_space(byte: u8) -> bool
     ensures { result ≡ is_space_byte byte }
 {
-    matches!(byte, b' ' | b'\t' | b'\n' | b'\r' | b'\x0C')
+    byte <= b' ' && matches!(byte, b' ' | b'\t' | b'\n' | b'\r' | b'\x0C')
 }
 
 #[inline(always)]
@@ -100,12 +100,32 @@ pub fn string_len(text: &str, quote: u8) -> Option<usize>
     quote_place(text.as_bytes(), quote)
 }
 
+// ASCII, and a name may go on with it.
+const NAME_CHAR: u8 = 1;
+
+// ASCII, and a name may begin with it.
+const NAME_START: u8 = 2;
+
+// A space byte or a slash, with which a gap may begin.
+const GAP_START: u8 = 4;
+
+// For each byte a digit, whose low three bits are the flags above.
+static BYTES: [u8; 256] = *b"\
+    00000000044044000000000000000000\
+    40000000000001041111111111000000\
+    03333333333333333333333333300003\
+    03333333333333333333333333300000\
+    00000000000000000000000000000000\
+    00000000000000000000000000000000\
+    00000000000000000000000000000000\
+    00000000000000000000000000000000";
+
 /// Whether a name may begin with the byte, which is ASCII then.
 #[inline(always)]
 fn is_ascii_name_start(byte: u8) -> bool
     ensures { result ≡ (is_ascii byte && is_name_start_of this_edition byte) }
 {
-    byte.is_ascii_alphabetic() || byte == b'_'
+    BYTES[usize::from(byte)] & NAME_START != 0
 }
 
 /// Whether an ASCII name start stands at the front.
@@ -120,14 +140,6 @@ fn starts_with_name_start(bytes: &[u8]) -> bool
 }
 
 /// Whether a name begins the text.
-#[inline(always)]
-fn begins_name(text: &str) -> bool
-    ensures { result ≡ begins_name_of this_edition (chars text.now) }
-{
-    starts_with_name_start(text.as_bytes()) || begins_by_characters(text)
-}
-
-/// Whether a name begins the text, by its first one or two characters.
 fn begins_by_characters(text: &str) -> bool
     ensures { result ≡ begins_name_of this_edition (chars text.now) }
 {
@@ -147,38 +159,16 @@ fn begins_by_characters(text: &str) -> bool
 fn is_ascii_name_char(byte: u8) -> bool
     ensures { result ≡ (is_ascii byte && is_name_char_of this_edition byte) }
 {
-    byte.is_ascii_alphanumeric() || byte == b'-' || byte == b'_'
+    BYTES[usize::from(byte)] & NAME_CHAR != 0
 }
 
+/// Where the first byte stands that is no ASCII name character, if there is one.
 #[inline(always)]
-fn ascii_name_char_count(bytes: &[u8]) -> usize
-    ensures { result ≡ prefix_len (λ b. is_ascii b && is_name_char_of this_edition b) bytes.now }
+fn ascii_name_end(bytes: &[u8]) -> Option<usize>
+    ensures none { result ≡ None → EachIndex bytes.now (λ k. (is_ascii (slice_index bytes.now k) && is_name_char_of this_edition (slice_index bytes.now k)) ≡ true) }
+    ensures some { IfSome result (λ n. (n < length bytes.now) × ((is_ascii (slice_index bytes.now n) && is_name_char_of this_edition (slice_index bytes.now n)) ≡ false) × ((k : ℕ) → k < n → (is_ascii (slice_index bytes.now k) && is_name_char_of this_edition (slice_index bytes.now k)) ≡ true)) }
 {
-    bytes
-        .iter()
-        .take_while(|byte| is_ascii_name_char(**byte))
-        .count()
-}
-
-/// How many ASCII name characters stand at the front.
-#[inline(always)]
-fn ascii_name_chars_len(text: &str) -> usize
-    ensures len { result ≡ prefix_len (λ b. is_ascii b && is_name_char_of this_edition b) text.now }
-    ensures boundary { IsCharBoundary text.now result }
-{
-    ascii_name_char_count(text.as_bytes())
-}
-
-/// Whether a character past ASCII begins at the place.
-#[inline(always)]
-fn is_wide_at(text: &str, at: usize) -> bool
-    ensures wide { IsTrue result → (at < length text.now) × (128 ≤ slice_index text.now at) }
-    ensures other { result ≡ false → at < length text.now → slice_index text.now at < 128 }
-{
-    match text.as_bytes().get(at) {
-        Some(byte) => *byte >= 128,
-        None => false,
-    }
+    bytes.iter().position(|byte| !is_ascii_name_char(*byte))
 }
 
 /// How many bytes the longest run of name characters at the front has, a character at a time.
@@ -203,11 +193,11 @@ fn name_chars_len(text: &str) -> usize
     ensures len { past_name_chars this_edition text.now ≡ drop result text.now }
     ensures boundary { IsCharBoundary text.now result }
 {
-    let len = ascii_name_chars_len(text);
-    if is_wide_at(text, len) {
-        len + wide_name_chars_len(&text[len..])
-    } else {
-        len
+    let bytes = text.as_bytes();
+    match ascii_name_end(bytes) {
+        Some(len) if bytes[len] < 128 => len,
+        Some(_) => wide_name_chars_len(text),
+        None => text.len(),
     }
 }
 
@@ -218,7 +208,21 @@ pub fn name_len(text: &str) -> Option<usize>
     ensures some { IfSome result (λ n. (begins_name_of this_edition (chars text.now) ≡ true) × (past_name_chars this_edition text.now ≡ drop n text.now)) }
     ensures boundary { IfSome result (λ n. IsCharBoundary text.now n) }
 {
-    if begins_name(text) {
+    if starts_with_name_start(text.as_bytes()) {
+        Some(name_chars_len(text))
+    } else {
+        other_name_len(text)
+    }
+}
+
+/// How many bytes the name at the front has, if one begins there, by its first one or two characters.
+#[inline(never)]
+fn other_name_len(text: &str) -> Option<usize>
+    ensures none { result ≡ None → begins_name_of this_edition (chars text.now) ≡ false }
+    ensures some { IfSome result (λ n. (begins_name_of this_edition (chars text.now) ≡ true) × (past_name_chars this_edition text.now ≡ drop n text.now)) }
+    ensures boundary { IfSome result (λ n. IsCharBoundary text.now n) }
+{
+    if begins_by_characters(text) {
         Some(name_chars_len(text))
     } else {
         None
@@ -244,7 +248,7 @@ pub fn find_gap(text: &str) -> Gap
     ensures unclosed { result.unclosed ≡ opens_comment_of (past_blank text.now) }
     ensures boundary { IsCharBoundary text.now result.len }
 {
-    if begins_gap(text) {
+    if may_begin_gap(text) {
         long_gap(text)
     } else {
         Gap {
@@ -255,24 +259,26 @@ pub fn find_gap(text: &str) -> Gap
     }
 }
 
-/// Whether a space byte or a comment stands at the front.
+/// Whether the byte is a space byte or a slash.
 #[inline(always)]
-fn begins_gap(text: &str) -> bool
-    ensures { result ≡ (starts_by is_space_byte text.now || opens_comment_of text.now) }
+fn is_gap_start(byte: u8) -> bool
+    ensures { result ≡ (is_space_byte byte || byte == 47) }
 {
-    starts_with_space(text) || opens_comment(text)
+    BYTES[usize::from(byte)] & GAP_START != 0
 }
 
-/// Whether a space byte stands at the front, and no other part of a gap and no open comment behind it.
+/// Whether a gap may stand at the front, by the first byte.
 #[inline(always)]
-fn is_lone_space(text: &str) -> bool
-    ensures space { result ≡ true → starts_by is_space_byte text.now ≡ true }
-    ensures behind { result ≡ true → (starts_by is_space_byte (drop 1 text.now) || opens_comment_of (drop 1 text.now)) ≡ false }
+fn may_begin_gap(text: &str) -> bool
+    ensures { result ≡ false → (starts_by is_space_byte text.now || opens_comment_of text.now) ≡ false }
 {
-    starts_with_space(text) && !begins_gap(&text[1..])
+    match text.as_bytes() {
+        [byte, ..] => is_gap_start(*byte),
+        [] => false,
+    }
 }
 
-/// The gap at the front of the text, by its parts.
+/// The gap at the front of the text. Most gaps have no comment, and are a run of space bytes.
 #[inline(never)]
 fn long_gap(text: &str) -> Gap
     ensures rest { past_blank text.now ≡ drop result.len text.now }
@@ -280,24 +286,45 @@ fn long_gap(text: &str) -> Gap
     ensures unclosed { result.unclosed ≡ opens_comment_of (past_blank text.now) }
     ensures boundary { IsCharBoundary text.now result.len }
 {
-    if is_lone_space(text) {
-        return Gap {
-            len: 1,
-            spaced: true,
+    let len = spaces_len(text);
+    if may_open_comment(&text[len..]) {
+        let closed = closed_part(text);
+        Gap {
+            len: closed.len,
+            spaced: closed.spaced,
+            unclosed: opens_comment(&text[closed.len..]),
+        }
+    } else {
+        Gap {
+            len,
+            spaced: len > 0,
             unclosed: false,
-        };
+        }
     }
+}
+
+/// Whether a comment may open at the front, by the first byte.
+#[inline(always)]
+fn may_open_comment(text: &str) -> bool
+    ensures { result ≡ false → opens_comment_of text.now ≡ false }
+{
+    matches!(text.as_bytes(), [b'/', ..])
+}
+
+/// The space bytes and closed comments at the front of the text, one after another.
+#[inline(never)]
+fn closed_part(text: &str) -> Part
+    ensures rest { past_blank text.now ≡ drop result.len text.now }
+    ensures spaced { result.spaced ≡ has_space text.now }
+    ensures boundary { IsCharBoundary text.now result.len }
+{
     let mut len = 0;
     let mut spaced = false;
     while let Some(part) = blank_part_len(&text[len..]) {
         len += part.len;
         spaced |= part.spaced;
     }
-    Gap {
-        len,
-        spaced,
-        unclosed: opens_comment(&text[len..]),
-    }
+    Part { len, spaced }
 }
 
 /// The first part of a gap, a space byte or a closed comment.
@@ -325,7 +352,7 @@ fn blank_part_len(text: &str) -> Option<Part>
     }
 }
 
-/// A part of a gap: how many bytes it has, and whether it is a space byte.
+/// A part of a gap: how many bytes it has, and whether a space byte is among them, outside the comments.
 #[derive(Clone, Copy)]
 struct Part {
     len: usize,

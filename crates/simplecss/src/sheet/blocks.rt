@@ -1,32 +1,87 @@
 //! Blocks of declarations.
-ghost use Rattle.std.specs.Prelude.{◌≡◌, IfOk, map};
+ghost use Rattle.std.specs.Prelude.{◌≡◌, ◌+◌, ◌<◌, ◌^◌, MatchResult, OnOk, length, map};
 ghost use Rattle.std.specs.Str.{IsCharBoundary};
 ghost use Rattle.simplecss_text.specs.Reading.{each};
 ghost use Rattle.simplecss_text.specs.Bytes.{past_byte};
-ghost use Rattle.simplecss_text.specs.Blocks.{block_end as block_end_of, from_block_end, ends_list, declaration_in_block, past_list, block};
+ghost use Rattle.simplecss_text.specs.Blocks.{count_of, block_end as block_end_of, from_block_end, ends_list, declaration_in_block, past_list, block};
 ghost use Rattle.simplecss_text.specs.ThisEdition.{this_edition};
 ghost use Rattle.simplecss_text.specs.Cursor.{text_of, rest_of};
+ghost use Rattle.simplecss.specs.BlockDepths.{ClosesFirst, ClosesNowhere};
 ghost use Rattle.simplecss.specs.Properties.{property_of};
 
 use super::declaration_reader::consume_declaration;
-use super::declarations::{Declaration, Declarations};
+use super::declarations::Declaration;
 use simplecss_text::readers;
 use simplecss_text::stream::Stream;
-use std::alloc::{AllocError, Global};
+use std::alloc::AllocError;
 
-fn closing_place(bytes: &[u8]) -> usize
-    ensures { result ≡ block_end_of bytes.now }
+/// How many bytes are tested at once.
+const CHUNK: usize = 32;
+
+/// How many opening and how many closing braces there are. Bytes are enough for these numbers, and they are added up
+/// many at once.
+#[inline(always)]
+fn brace_counts(chunk: &[u8; CHUNK]) -> (usize, usize)
+    ensures opening { result.0 ≡ count_of 123 chunk.now }
+    ensures closing { result.1 ≡ count_of 125 chunk.now }
 {
-    let mut open = 0usize;
+    let mut opening = 0u8;
+    let mut closing = 0u8;
+    for byte in chunk {
+        opening += u8::from(*byte == b'{');
+        closing += u8::from(*byte == b'}');
+    }
+    (usize::from(opening), usize::from(closing))
+}
+
+/// Where the first closing brace stands that ends neither a block that begins in these bytes nor one of the `depth` blocks
+/// that are open before them. If there is none, the `Err` says how many blocks are open behind them.
+fn outer_brace(bytes: &[u8], depth: usize) -> Result<usize, usize>
+    requires { depth + length bytes.now < 2 ^ 64 }
+    ensures { MatchResult result (ClosesFirst depth bytes.now) (ClosesNowhere depth bytes.now) }
+{
+    let mut open = depth;
     for (place, byte) in bytes.iter().enumerate() {
         match *byte {
             b'{' => open += 1,
-            b'}' if open == 0 => return place,
+            b'}' if open == 0 => return Ok(place),
             b'}' => open -= 1,
             _ => {}
         }
     }
-    bytes.len()
+    Err(open)
+}
+
+/// The same of a chunk. It is gone through byte by byte only if it has more closing braces than blocks are open before it.
+#[inline(always)]
+fn outer_brace_of_chunk(chunk: &[u8; CHUNK], depth: usize) -> Result<usize, usize>
+    requires { depth + CHUNK < 2 ^ 64 }
+    ensures { MatchResult result (ClosesFirst depth chunk.now) (ClosesNowhere depth chunk.now) }
+{
+    let (opening, closing) = brace_counts(chunk);
+    if closing > depth {
+        return outer_brace(chunk, depth);
+    }
+    Err(depth + opening - closing)
+}
+
+/// Where the block ends that the bytes are in.
+fn closing_place(bytes: &[u8]) -> usize
+    ensures { result ≡ block_end_of bytes.now }
+{
+    let mut depth = 0usize;
+    let mut passed = 0usize;
+    'chunks: while let Some((chunk, _)) = bytes[passed..].split_first_chunk::<CHUNK>() {
+        match outer_brace_of_chunk(chunk, depth) {
+            Ok(place) => return passed + place,
+            Err(deeper) => depth = deeper,
+        }
+        passed += CHUNK;
+    }
+    match outer_brace(&bytes[passed..], depth) {
+        Ok(place) => passed + place,
+        Err(_) => bytes.len(),
+    }
 }
 
 /// How many bytes stand before the end of the block that the text is in: before the first closing brace that has as many
@@ -59,36 +114,40 @@ fn at_list_end(s: &Stream<'_>) -> bool
     }
 }
 
-/// Reads the declarations of a block. A broken one ends their list, and then the block's end and its brace are passed.
+/// Reads the declarations of a block into the list, in the place of those that it held. A broken one ends them, and then
+/// the block's end and its brace are passed.
 fn consume_declarations<'a>(
-    alloc: Global,
     s: &mut Stream<'a>,
-) -> Result<Vec<Declaration<'a>>, AllocError>
+    declarations: &mut Vec<Declaration<'a>>,
+) -> Result<(), AllocError>
     ensures text { text_of s.new ≡ text_of s.old }
-    ensures values { IfOk result (λ list. map property_of list.items ≡ (each (declaration_in_block this_edition) (rest_of s.old)).0) }
-    ensures rest { IfOk result (λ list. rest_of s.new ≡ past_list this_edition (each (declaration_in_block this_edition) (rest_of s.old)).1) }
+    ensures values { OnOk result (map property_of declarations.new.items ≡ (each (declaration_in_block this_edition) (rest_of s.old)).0) }
+    ensures rest { OnOk result (rest_of s.new ≡ past_list this_edition (each (declaration_in_block this_edition) (rest_of s.old)).1) }
 {
-    let mut declarations = Vec::new(alloc);
+    declarations.clear();
     'list: while !at_list_end(s) {
         match consume_declaration(s) {
             Some(declaration) => declarations.push(declaration)?,
             None => {
                 pass_block(s);
-                return Ok(declarations);
+                return Ok(());
             }
         }
     }
-    Ok(declarations)
+    Ok(())
 }
 
 /// Reads a block behind its opening brace, and passes one closing brace that stands directly behind its declarations. So
-/// a block that a broken declaration ended takes a further one.
+/// a block that a broken declaration ended takes a further one. The list then holds the block's declarations alone.
 #[tactic(auto, unfolding(simplecss_text::specs::Blocks::block))]
-pub fn consume_block<'a>(alloc: Global, s: &mut Stream<'a>) -> Result<Declarations<'a>, AllocError>
+pub fn consume_block<'a>(
+    s: &mut Stream<'a>,
+    declarations: &mut Vec<Declaration<'a>>,
+) -> Result<(), AllocError>
     ensures text { text_of s.new ≡ text_of s.old }
-    ensures reads { IfOk result (λ list. block this_edition (rest_of s.old) ≡ (list, rest_of s.new)) }
+    ensures reads { OnOk result (block this_edition (rest_of s.old) ≡ (map property_of declarations.new.items, rest_of s.new)) }
 {
-    let declarations = consume_declarations(alloc, s)?;
+    consume_declarations(s, declarations)?;
     s.try_consume_byte(b'}');
-    Ok(Declarations::from_vec(declarations))
+    Ok(())
 }

@@ -7,7 +7,7 @@ ghost use Rattle.simplecss_text.specs.Cursor.{text_of, rest_of};
 ghost use Rattle.simplecss.specs.StyleRules.{rule_of};
 
 use super::rules::Rule;
-use super::statements::consume_statement;
+use super::statements::RuleReader;
 use log::Log;
 use simplecss_text::readers;
 use simplecss_text::stream::Stream;
@@ -37,9 +37,9 @@ pub(crate) fn read_rules<'a, R: Log>(
     if !readers::pass_blank(&mut s) {
         return Ok(None);
     }
-    let mut rules = Vec::new(alloc);
+    let mut reader = RuleReader::new(alloc);
     'statements: while at_statement(&mut s) {
-        consume_statement(rt, alloc, &mut s, &mut rules)?;
+        reader.consume_statement(rt, alloc, &mut s)?;
     }
-    Ok(Some(rules))
+    Ok(Some(reader.into_rules()))
 }

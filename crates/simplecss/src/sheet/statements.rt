@@ -4,11 +4,12 @@ ghost use Rattle.simplecss_text.specs.Statements.{StyleRule, part, parts, next_b
 ghost use Rattle.simplecss_text.specs.Bytes.{is_neither, past};
 ghost use Rattle.simplecss_text.specs.ThisEdition.{this_edition};
 ghost use Rattle.simplecss_text.specs.Cursor.{text_of, rest_of};
+ghost use Rattle.simplecss.specs.Properties.{property_of};
 ghost use Rattle.simplecss.specs.StyleRules.{rule_of};
 ghost use Rattle.simplecss.specs.SharedBlocks.{rules_with};
 
 use super::blocks::{consume_block, pass_block};
-use super::declarations::Declarations;
+use super::declarations::{Declaration, Declarations};
 use super::ends;
 use super::rules::Rule;
 use log::{Log, warn};
@@ -46,82 +47,67 @@ fn push_some<'a>(
     Ok(())
 }
 
-/// Reads the parts of a rule set's head, with a comma behind each but the last, and gives their selectors.
+/// Reads the parts of a rule set's head, with a comma behind each but the last, and puts their selectors into the list, in
+/// the place of those that it held.
 fn consume_parts<'a, R: Log>(
     rt: &R,
     alloc: Global,
     s: &mut Stream<'a>,
-) -> Result<Vec<Selector<'a>>, AllocError>
+    selectors: &mut Vec<Selector<'a>>,
+) -> Result<(), AllocError>
     ensures text { text_of s.new ≡ text_of s.old }
-    ensures reads { IfOk result (λ selectors. parts this_edition (rest_of s.old) ≡ (selectors.items, rest_of s.new)) }
+    ensures reads { OnOk result (parts this_edition (rest_of s.old) ≡ (selectors.new.items, rest_of s.new)) }
 {
-    let mut selectors = Vec::new(alloc);
+    selectors.clear();
     'parts: loop {
         let selector = consume_part(rt, alloc, s)?;
-        push_some(&mut selectors, selector)?;
+        push_some(selectors, selector)?;
         if !readers::pass_byte(s, b',') {
-            return Ok(selectors);
+            return Ok(());
         }
     }
 }
 
-/// Reads the block that the next opening brace begins. Without one there are no declarations, and the text is used up.
-fn consume_next_block<'a>(alloc: Global, s: &mut Stream<'a>) -> Result<Declarations<'a>, AllocError>
+/// Reads the declarations of the block that the next opening brace begins into the list, in the place of those that it
+/// held. Without such a brace there are none, and the text is used up.
+fn consume_next_block<'a>(
+    s: &mut Stream<'a>,
+    declarations: &mut Vec<Declaration<'a>>,
+) -> Result<(), AllocError>
     ensures text { text_of s.new ≡ text_of s.old }
-    ensures reads { IfOk result (λ list. next_block this_edition (rest_of s.old) ≡ (list, rest_of s.new)) }
+    ensures reads { OnOk result (next_block this_edition (rest_of s.old) ≡ (map property_of declarations.new.items, rest_of s.new)) }
 {
     match scan::find_byte(s.slice_tail(), b'{') {
         Some(at) => {
             s.advance(at + 1);
-            consume_block(alloc, s)
+            consume_block(s, declarations)
         }
         None => {
             s.jump_to_end();
-            Ok(Declarations::from_vec(Vec::new(alloc)))
+            declarations.clear();
+            Ok(())
         }
     }
 }
 
-/// Adds a rule for each selector. Each has its own list of the declarations: the last takes the list, the others copies.
+/// Adds a rule for each selector, and takes the selectors out of their list. Each rule has its own list of the
+/// declarations, which takes no more memory than they need.
 fn push_rules<'a>(
+    alloc: Global,
     rules: &mut Vec<Rule<'a>>,
-    mut selectors: Vec<Selector<'a>>,
-    declarations: Declarations<'a>,
+    selectors: &mut Vec<Selector<'a>>,
+    declarations: &[Declaration<'a>],
 ) -> Result<(), AllocError>
-    ensures { OnOk result (map rule_of rules.new.items ≡ map rule_of rules.old.items ++ rules_with declarations.entry selectors.entry.items) }
+    ensures { OnOk result (map rule_of rules.new.items ≡ map rule_of rules.old.items ++ rules_with (map property_of declarations.now) selectors.old.items) }
 {
-    let Some(last) = selectors.pop() else {
-        return Ok(());
-    };
-    'others: for selector in selectors {
+    'selectors: for selector in selectors.drain(..) {
+        let declarations = Declarations::from_vec(Vec::from_slice(alloc, declarations)?);
         rules.push(Rule {
             selector,
-            declarations: declarations.clone()?,
+            declarations,
         })?;
     }
-    rules.push(Rule {
-        selector: last,
-        declarations,
-    })?;
     Ok(())
-}
-
-/// Reads a rule set, and adds its rules: one for each part that gave a selector, with all declarations of the block.
-#[tactic(auto, unfolding(simplecss_text::specs::Statements::rule_set))]
-fn consume_rule_set<'a, R: Log>(
-    rt: &R,
-    alloc: Global,
-    s: &mut Stream<'a>,
-    rules: &mut Vec<Rule<'a>>,
-) -> Result<(), AllocError>
-    ensures text { text_of s.new ≡ text_of s.old }
-    ensures rules { OnOk result (map rule_of rules.new.items ≡ map rule_of rules.old.items ++ (rule_set this_edition (rest_of s.old)).0) }
-    ensures rest { OnOk result (rest_of s.new ≡ (rule_set this_edition (rest_of s.old)).1) }
-{
-    s.try_consume_byte(b',');
-    let selectors = consume_parts(rt, alloc, s)?;
-    let declarations = consume_next_block(alloc, s)?;
-    push_rules(rules, selectors, declarations)
 }
 
 /// Passes the rest of an at-rule behind its name: up to a semicolon, and it, or up to a block, and that.
@@ -149,21 +135,73 @@ fn pass_at_rule<R: Log>(rt: &R, s: &mut Stream<'_>)
     }
 }
 
-/// Reads a statement, and adds the rules that it gives. An at-rule gives none.
-#[tactic(auto, unfolding(simplecss_text::specs::Statements::statement), using(crate::proofs::ByteLemmas::past_byte_there, crate::proofs::ByteLemmas::past_byte_not))]
-pub fn consume_statement<'a, R: Log>(
-    rt: &R,
-    alloc: Global,
-    s: &mut Stream<'a>,
-    rules: &mut Vec<Rule<'a>>,
-) -> Result<(), AllocError>
-    ensures text { text_of s.new ≡ text_of s.old }
-    ensures rules { OnOk result (map rule_of rules.new.items ≡ map rule_of rules.old.items ++ (statement this_edition (rest_of s.old)).0) }
-    ensures rest { OnOk result (rest_of s.new ≡ (statement this_edition (rest_of s.old)).1) }
-{
-    if readers::pass_byte(s, b'@') {
-        pass_at_rule(rt, s);
-        return Ok(());
+/// Reads statements, and keeps the rules that they give. The lists that a rule set is read into are used again for each.
+#[derive(Drop)]
+pub struct RuleReader<'a> {
+    rules: Vec<Rule<'a>>,
+    selectors: Vec<Selector<'a>>,
+    declarations: Vec<Declaration<'a>>,
+}
+
+impl<'a> RuleReader<'a> {
+    /// A reader that has read nothing. It takes no memory.
+    pub fn new(alloc: Global) -> Self
+        ensures { result.rules.items ≡ [] }
+    {
+        RuleReader {
+            rules: Vec::new(alloc),
+            selectors: Vec::new(alloc),
+            declarations: Vec::new(alloc),
+        }
     }
-    consume_rule_set(rt, alloc, s, rules)
+
+    /// The rules of all statements that were read.
+    pub fn into_rules(self) -> Vec<Rule<'a>>
+        ensures { result.items ≡ self.entry.rules.items }
+    {
+        let RuleReader { rules, .. } = self;
+        rules
+    }
+
+    /// Reads a rule set, and adds its rules: one for each part that gave a selector, with all declarations of the block.
+    #[tactic(auto, unfolding(simplecss_text::specs::Statements::rule_set))]
+    fn consume_rule_set<R: Log>(
+        &mut self,
+        rt: &R,
+        alloc: Global,
+        s: &mut Stream<'a>,
+    ) -> Result<(), AllocError>
+        ensures text { text_of s.new ≡ text_of s.old }
+        ensures rules { OnOk result (map rule_of self.new.rules.items ≡ map rule_of self.old.rules.items ++ (rule_set this_edition (rest_of s.old)).0) }
+        ensures rest { OnOk result (rest_of s.new ≡ (rule_set this_edition (rest_of s.old)).1) }
+    {
+        s.try_consume_byte(b',');
+        consume_parts(rt, alloc, s, &mut self.selectors)?;
+        consume_next_block(s, &mut self.declarations)?;
+        push_rules(
+            alloc,
+            &mut self.rules,
+            &mut self.selectors,
+            self.declarations.as_slice(),
+        )
+    }
+
+    /// Reads a statement, and adds the rules that it gives. An at-rule gives none.
+    #[tactic(auto, unfolding(simplecss_text::specs::Statements::statement), using(crate::proofs::ByteLemmas::past_byte_there, crate::proofs::ByteLemmas::past_byte_not))]
+    pub fn consume_statement<R: Log>(
+        &mut self,
+        rt: &R,
+        alloc: Global,
+        s: &mut Stream<'a>,
+    ) -> Result<(), AllocError>
+        ensures text { text_of s.new ≡ text_of s.old }
+        ensures rules { OnOk result (map rule_of self.new.rules.items ≡ map rule_of self.old.rules.items ++ (statement this_edition (rest_of s.old)).0) }
+        ensures rest { OnOk result (rest_of s.new ≡ (statement this_edition (rest_of s.old)).1) }
+    {
+        if readers::pass_byte(s, b'@') {
+            pass_at_rule(rt, s);
+            return Ok(());
+        }
+        self.consume_rule_set(rt, alloc, s)
+    }
 }

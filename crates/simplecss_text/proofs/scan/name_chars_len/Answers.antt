@@ -1,24 +1,15 @@
-use Rattle.std.proofs.Common.{◌≡◌, ◌∙◌, ap, sym, drop, ◌<◌, ℕ, length, get_or, subst}
-use Rattle.std.proofs.lemmas.List.{drop-drop}
+use Rattle.std.proofs.Common.{arith, length, refl}
 use Rattle.simplecss_text.specs.ThisEdition.{this_edition}
-use Rattle.simplecss_text.specs.Names.{past_name_chars}
-use Rattle.simplecss_text.proofs.NameLemmas.{passed-ascii, passed-stops}
+use Rattle.simplecss_text.proofs.NameLemmas.{past_name_chars-at}
 use Rattle.simplecss_text.proofs.scan.name_chars_len.Goals as goal
 
-pub returns-then-is_wide_at-clause-len : goal.returns-then-is_wide_at-clause-len
-returns-then-is_wide_at-clause-len c =
-    let text = c.args.text.now in
-    let n = c.ascii_name_chars_len-len.result in
-    let passed = passed-ascii this_edition text c.utf8.text in
-    let same : past_name_chars this_edition text ≡ past_name_chars this_edition (drop n text)
-    = passed.same ∙ ap (λ k. past_name_chars this_edition (drop k text)) (sym c.ascii_name_chars_len-len.ensures.len) in
-    same ∙ rw (← c.range_from.ensures.value) c.wide_name_chars_len.ensures.len
-    ∙ ap (drop c.wide_name_chars_len.result) c.range_from.ensures.value ∙ drop-drop c.wide_name_chars_len.result n text
+pub returns-in-Some-clause-len : goal.returns-in-Some-clause-len
+returns-in-Some-clause-len c =
+    let end = rw c.as_bytes-bytes.ensures.value at c.in-Some.ensures.some in
+    let small = rw c.as_bytes-bytes.ensures.value at c.if-bytes-len-lt128.true in
+    past_name_chars-at this_edition c.args.text.now c.in-Some.len c.utf8.text (omega arith) end.2 (λ h. (end.1, small))
 
-pub returns-else-is_wide_at-clause-len : goal.returns-else-is_wide_at-clause-len
-returns-else-is_wide_at-clause-len c =
-    let text = c.args.text.now in
-    let len = c.ascii_name_chars_len-len.ensures.len in
-    let small = c.is_wide_at.ensures.other c.if-is_wide_at.false in
-    passed-stops this_edition text c.utf8.text (subst (λ (n : ℕ). n < length text → get_or text n 0 < 128) len small)
-    ∙ ap (λ k. drop k text) (sym len)
+pub returns-in-None-clause-len : goal.returns-in-None-clause-len
+returns-in-None-clause-len c =
+    let all = rw c.as_bytes-bytes.ensures.value at c.in-None.ensures.none in
+    past_name_chars-at this_edition c.args.text.now (length c.args.text.now) c.utf8.text (omega arith) (all refl) (λ h. absurd (omega arith))

@@ -1,9 +1,12 @@
-use Rattle.std.proofs.Common.{◌≡◌, ℕ, ◌+◌, ◌<◌, false, take}
-use Rattle.simplecss_text.specs.Blocks.{count_of, closes_block}
+use Rattle.std.proofs.Common.{◌≤◌, ◌-◌, length}
+use Rattle.simplecss.proofs.BlockLemmas.{IsInside}
 use Rattle.simplecss.proofs.sheet.blocks.closing_place.Given as goal
 
-abbrev pub invariant-loop-place : goal.invariant-loop-place
-invariant-loop-place l = record {
-  depth : l.open + count_of 125 (take l.place l.bytes) ≡ count_of 123 (take l.place l.bytes);
-  none : (k : ℕ) → k < l.place → closes_block l.bytes k ≡ false;
+abbrev pub invariant-chunks : goal.invariant-chunks
+invariant-chunks l = record {
+  inside : IsInside l.bytes l.passed l.depth;
+  within : l.passed ≤ length l.bytes;
 }
+
+abbrev pub decreases-chunks : goal.decreases-chunks
+decreases-chunks l = length l.bytes - l.passed

@@ -12,7 +12,7 @@ pub list-smaller : goal.list-smaller
 list-smaller c = list-less this_edition _ _ _ c.in-Some.ensures.reads
 
 pub list-init : goal.list-init
-list-init c = record { same = refl; read = rw c.new-declarations.ensures.items (done_start (declaration_in_block this_edition) (rest_of c.args.s.now)) }
+list-init c = record { same = refl; read = rw c.clear.ensures.items (done_start (declaration_in_block this_edition) (rest_of c.args.s.now)) }
 
 pub list-preserved : goal.list-preserved
 list-preserved c =

@@ -17,7 +17,7 @@ pub statements-init : goal.statements-init
 statements-init g c =
     let start : rest_of c.new-s.result ≡ c.args.text.now = ap (λ n. drop n c.new-s.result.text.now) c.new-s.ensures.place ∙ c.new-s.ensures.text in
     let behind = blank-got (rest_of c.new-s.result) (rest_of c.pass_blank.new.s) c.if-not-pass_blank.ensures.reads in
-    rw c.new-rules.ensures.items (ap (rules_from this_edition) (sym behind.1) ∙ rules_from-blank this_edition (rest_of c.new-s.result) ∙ ap (rules_from this_edition) start)
+    rw c.new-reader.ensures (ap (rules_from this_edition) (sym behind.1) ∙ rules_from-blank this_edition (rest_of c.new-s.result) ∙ ap (rules_from this_edition) start)
 
 pub statements-smaller : goal.statements-smaller
 statements-smaller g c =
@@ -29,9 +29,9 @@ statements-preserved g c =
     let read = statement this_edition (rest_of c.at_statement.new.s) in
     let step = rules_from-some this_edition (rest_of c.statements.s) (rest_of c.at_statement.new.s) c.statements-test.ensures.reads in
     ap (λ l. l ++ rules_from this_edition (rest_of c.consume_statement.new.s)) c.in_ok-consume_statement.ensures.rules
-    ∙ append_assoc (map rule_of c.statements.rules.items) read.0 (rules_from this_edition (rest_of c.consume_statement.new.s))
-    ∙ ap (λ (t : List ℕ). map rule_of c.statements.rules.items ++ (read.0 ++ rules_from this_edition t)) c.in_ok-consume_statement.ensures.rest
-    ∙ ap (λ l. map rule_of c.statements.rules.items ++ l) (sym step)
+    ∙ append_assoc (map rule_of c.statements.reader.rules.items) read.0 (rules_from this_edition (rest_of c.consume_statement.new.s))
+    ∙ ap (λ (t : List ℕ). map rule_of c.statements.reader.rules.items ++ (read.0 ++ rules_from this_edition t)) c.in_ok-consume_statement.ensures.rest
+    ∙ ap (λ l. map rule_of c.statements.reader.rules.items ++ l) (sym step)
     ∙ c.statements.invariant
 
 pub returns : goal.returns
@@ -40,5 +40,5 @@ returns g c =
     let behind = blank-got (rest_of c.new-s.result) (rest_of c.pass_blank.new.s) c.if-not-pass_blank.ensures.reads in
     let end = rules_from-none this_edition (rest_of c.statements.s) c.statements-test.ensures.reads in (
       subst (λ (t : List ℕ). opens_comment (past_blank t) ≡ false) start behind.0,
-      sym (append-nil (map rule_of c.statements.rules.items)) ∙ ap (λ l. map rule_of c.statements.rules.items ++ l) (sym end) ∙ c.statements.invariant,
+      ap (map rule_of) c.into_rules.ensures ∙ sym (append-nil (map rule_of c.statements.reader.rules.items)) ∙ ap (λ l. map rule_of c.statements.reader.rules.items ++ l) (sym end) ∙ c.statements.invariant,
     )

@@ -7,7 +7,7 @@ use Rattle.simplecss.proofs.sheet.reading.read_rules.Given as goal
 
 -- The rules so far and those of the statements from here on are those of the text.
 abbrev pub invariant-statements : goal.invariant-statements
-invariant-statements g l = map rule_of l.rules.items ++ rules_from this_edition (rest_of l.s) ≡ rules_from this_edition l.text
+invariant-statements g l = map rule_of l.reader.rules.items ++ rules_from this_edition (rest_of l.s) ≡ rules_from this_edition l.text
 
 abbrev pub decreases-statements : goal.decreases-statements
 decreases-statements g l = length (rest_of l.s)

@@ -13,4 +13,4 @@ returns-in-Some-clause-reads c =
 pub returns-in-None-clause-reads : goal.returns-in-None-clause-reads
 returns-in-None-clause-reads c =
     let none : after_byte 123 (rest_of c.args.s.now) ≡ None = ap (after_byte 123) (sym c.slice_tail.ensures) ∙ c.in-None.ensures.found in
-    rw (next_block-none this_edition (rest_of c.args.s.now) none, c.jump_to_end.ensures.rest, c.from_vec.ensures, c.new.ensures.items) refl
+    rw (next_block-none this_edition (rest_of c.args.s.now) none, c.jump_to_end.ensures.rest, c.clear.ensures.items) refl

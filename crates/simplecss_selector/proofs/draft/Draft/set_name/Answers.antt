@@ -1,8 +1,8 @@
 use Rattle.std.proofs.Common.{refl, arith}
-use Rattle.simplecss_selector.proofs.Filling.{filled_more}
+use Rattle.simplecss_selector.proofs.Filling.{flat_more}
 use Rattle.simplecss_selector.proofs.draft.Draft.set_name.Goals as goal
 
 pub invariant_of-self : goal.invariant_of-self
 invariant_of-self c =
     let s = c.self.inside in
-    filled_more s.parts.items _ _ s.subselectors.items s.subselectors.items _ _ s.runs.items c.self.invariant refl (omega arith) refl
+    flat_more s.parts.items _ _ s.subselectors.items s.subselectors.items _ _ c.self.invariant refl (omega arith) refl

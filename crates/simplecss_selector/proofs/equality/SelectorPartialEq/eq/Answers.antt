@@ -1,24 +1,46 @@
-use Rattle.std.proofs.Common.{length, ◌∙◌}
+use Rattle.std.proofs.Common.{◌≡◌, Bool, true, false, ◌&&◌, ◌++◌, ◌∷◌, [], length, sym, ◌∙◌}
+use Rattle.std.proofs.lemmas.Bool.{false≢true}
+use Rattle.std.specs.Cmp.Lexicographic.{pointwise}
 use Rattle.simplecss_selector.specs.Seen.{Tile}
-use Rattle.simplecss_selector.proofs.FlatEquality.{flat_eq}
+use Rattle.simplecss_selector.specs.contracts.selector.PartPartialEq.TheImpl.{eq-value as part_test}
+use Rattle.simplecss_selector.proofs.FlatEquality.{flat_last_eq}
 use Rattle.simplecss_selector.proofs.equality.SelectorPartialEq.eq.Goals as goal
+use Rattle.simplecss_selector.proofs.equality.SelectorPartialEq.eq.Goals.{then-eq, else-eq}
 
-pub returns-then-eq : goal.returns-then-eq
-returns-then-eq c =
+and_then : (a b r v : Bool) → r ≡ a → r ≡ true → v ≡ b → v ≡ (a && b)
+and_then true b r v e t h = h
+and_then false b r v e t h = absurd (false≢true (sym e ∙ t))
+
+and_not : (a b r v : Bool) → r ≡ a → r ≡ false → v ≡ false → v ≡ (a && b)
+and_not true b r v e f h = absurd (false≢true (sym f ∙ e))
+and_not false b r v e f h = h
+
+pub returns-then-eq-2 : goal.returns-then-eq-2
+returns-then-eq-2 c =
     let a = c.self.inside in
     let b = c.other.inside in
-    let t : Tile 0 a.parts.items (length a.subselectors.items) = rw (← a.subselectors.ok.0) c.self.invariant.tiled in
-    let u : Tile 0 b.parts.items (length b.subselectors.items) = rw (← b.subselectors.ok.0) c.other.invariant.tiled in
-    let parts = rw (c.as_slice.ensures.value, c.as_slice-2.ensures.value) at c.if-eq.ensures in
-    let all = rw (← parts) at (flat_eq a.parts.items b.parts.items a.subselectors.items b.subselectors.items t u) in
-    rw (← c.self.view_is, ← c.other.view_is) ((rw (c.as_slice-then-eq.ensures.value, c.as_slice-then-eq-2.ensures.value) at c.eq-then-eq.ensures) ∙ all)
+    let t : Tile 0 (a.parts.items ++ a.last ∷ []) (length a.subselectors.items) = rw (← a.subselectors.ok.0) c.self.invariant.tiled in
+    let u : Tile 0 (b.parts.items ++ b.last ∷ []) (length b.subselectors.items) = rw (← b.subselectors.ok.0) c.other.invariant.tiled in
+    let parts = rw (c.as_slice.ensures.value, c.as_slice-2.ensures.value) at c.eq.ensures in
+    let all = flat_last_eq a.parts.items b.parts.items a.last b.last a.subselectors.items b.subselectors.items t u in
+    let heads : c.if-eq.value ≡ (pointwise part_test.it a.parts.items b.parts.items && part_test.it a.last b.last) = elim c.if-eq.branch [
+      | then-eq w ↦ and_then _ _ _ _ parts w.if-eq.true (w.value-is ∙ w.eq-then-eq.ensures)
+      | else-eq w ↦ and_not _ _ _ _ parts w.if-eq.false (w.value-is ∙ w.if-eq.false)
+    ] in
+    rw (← c.self.view_is, ← c.other.view_is)
+    (and_then _ _ _ _ heads c.if-eq-2.true (rw (c.as_slice-then-eq-2.ensures.value, c.as_slice-then-eq-2-2.ensures.value) at c.eq-then-eq-2.ensures) ∙ all)
 
-pub returns-else-eq : goal.returns-else-eq
-returns-else-eq c =
+pub returns-else-eq-2 : goal.returns-else-eq-2
+returns-else-eq-2 c =
     let a = c.self.inside in
     let b = c.other.inside in
-    let t : Tile 0 a.parts.items (length a.subselectors.items) = rw (← a.subselectors.ok.0) c.self.invariant.tiled in
-    let u : Tile 0 b.parts.items (length b.subselectors.items) = rw (← b.subselectors.ok.0) c.other.invariant.tiled in
-    let parts = rw (c.as_slice.ensures.value, c.as_slice-2.ensures.value) at c.if-eq.ensures in
-    let all = rw (← parts) at (flat_eq a.parts.items b.parts.items a.subselectors.items b.subselectors.items t u) in
-    rw (← c.self.view_is, ← c.other.view_is) (c.if-eq.false ∙ all)
+    let t : Tile 0 (a.parts.items ++ a.last ∷ []) (length a.subselectors.items) = rw (← a.subselectors.ok.0) c.self.invariant.tiled in
+    let u : Tile 0 (b.parts.items ++ b.last ∷ []) (length b.subselectors.items) = rw (← b.subselectors.ok.0) c.other.invariant.tiled in
+    let parts = rw (c.as_slice.ensures.value, c.as_slice-2.ensures.value) at c.eq.ensures in
+    let all = flat_last_eq a.parts.items b.parts.items a.last b.last a.subselectors.items b.subselectors.items t u in
+    let heads : c.if-eq.value ≡ (pointwise part_test.it a.parts.items b.parts.items && part_test.it a.last b.last) = elim c.if-eq.branch [
+      | then-eq w ↦ and_then _ _ _ _ parts w.if-eq.true (w.value-is ∙ w.eq-then-eq.ensures)
+      | else-eq w ↦ and_not _ _ _ _ parts w.if-eq.false (w.value-is ∙ w.if-eq.false)
+    ] in
+    rw (← c.self.view_is, ← c.other.view_is)
+    (and_not _ _ _ _ heads c.if-eq-2.false c.if-eq-2.false ∙ all)

@@ -1,29 +1,26 @@
-use Rattle.std.proofs.Common.{◌≡◌, ◌+◌, ◌<◌, ◌≤◌}
+use Rattle.std.proofs.Common.{◌≡◌, ◌+◌, ◌≤◌}
 use Rattle.std.specs.Option.{option_map_or}
 use Rattle.simplecss_selector.specs.Placements.{Meets}
-use Rattle.simplecss_selector.specs.Runs.{run_end}
 use Rattle.simplecss_selector.specs.Searches.{component_at}
 use Rattle.simplecss_selector.proofs.Greedy.{Tracks}
 use Rattle.simplecss_selector.proofs.Stretches.{AreJoined}
 use Rattle.simplecss_selector.proofs.selector.Selector.climb.Given as goal
 
 -- the components from `place` on are met, from `lowest` up to `top`
-abbrev pub invariant-loop-place : goal.invariant-loop-place
-invariant-loop-place g l =
+abbrev pub invariant-steps : goal.invariant-steps
+invariant-steps g l =
     let tree = g.E.Element.tree in
     let node = g.E.Element.node in
     let n = node l.lowest in
     let u = option_map_or node l.top n in
-    let end = run_end l.self l.runs in
     record {
-      within_run : l.start ≤ l.place;
-      fewer : l.place < end;
-      tracks : Tracks tree l.self end (l.place + 1) n u;
+      within_run : l.place ≤ l.last;
+      tracks : Tracks tree l.self (l.last + 1) (l.place + 1) n u;
       met : Meets tree u (component_at l.self l.place).compound;
-      joined : AreJoined l.self (l.place + 1) end;
+      joined : AreJoined l.self (l.place + 1) (l.last + 1);
       no_deeper : tree.depth u ≤ tree.depth n;
-      counted : l.tests + l.place ≡ l.initial.tests + l.initial.place;
+      counted : l.tests + l.place ≡ l.initial.tests + l.last;
     }
 
-abbrev pub decreases-loop-place : goal.decreases-loop-place
-decreases-loop-place g l = l.place
+abbrev pub decreases-steps : goal.decreases-steps
+decreases-steps g l = l.place

@@ -1,12 +1,20 @@
+use Rattle.std.proofs.Common.{◌++◌, ◌∷◌, []}
+use Rattle.simplecss_selector.specs.Seen.{IsSelector}
 use Rattle.simplecss_selector.proofs.Flat.{place_within, combinator_is}
 use Rattle.simplecss_selector.proofs.selector.Selector.combinator.Goals as goal
 
-pub index-part-requires : goal.index-part-requires
-index-part-requires c =
+pub part_at-part-requires : goal.part_at-part-requires
+part_at-part-requires c =
     let s = c.self.inside in
-    place_within s.parts.items s.subselectors.items c.args.self.now _ c.args.place c.self.view_is s.parts.ok.0 c.requires
+    rw c.deref.ensures.value (place_within s.parts.items s.last s.subselectors.items c.args.self.now c.args.place c.self.view_is c.requires)
 
-pub returns : goal.returns
-returns c =
+pub returns-clause-value : goal.returns-clause-value
+returns-clause-value c =
     let s = c.self.inside in
-    combinator_is s.parts.items s.subselectors.items c.args.self.now c.args.place c.index-part.result.now c.self.view_is c.requires c.index-part.ensures
+    combinator_is (s.parts.items ++ s.last ∷ []) s.subselectors.items c.args.self.now c.args.place c.part_at-part.result c.self.view_is c.requires
+    (rw c.deref.ensures.value at c.part_at-part.ensures)
+
+pub returns-clause-first : goal.returns-clause-first
+returns-clause-first c =
+    let selector : IsSelector c.args.self.now = rw c.self.view_is at c.self.invariant.selector in
+    rw (returns-clause-value c) (selector.1 c.args.place c.requires)

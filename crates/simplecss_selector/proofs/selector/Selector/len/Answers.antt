@@ -1,8 +1,13 @@
-use Rattle.std.proofs.Common.{length, ap, arith}
-use Rattle.simplecss_selector.proofs.Flat.{components_from-length}
+use Rattle.std.proofs.Common.{arith}
+use Rattle.simplecss_selector.proofs.Flat.{length_is}
 use Rattle.simplecss_selector.proofs.selector.Selector.len.Goals as goal
+
+pub overflow_add-result : goal.overflow_add-result
+overflow_add-result c =
+    let s = c.self.inside in
+    omega (arith, c.len.ensures, s.parts.ok.1, s.parts.small)
 
 pub returns : goal.returns
 returns c =
     let s = c.self.inside in
-    omega (arith, c.len.ensures, s.parts.ok.0, components_from-length 0 s.parts.items s.subselectors.items, ap length c.self.view_is)
+    omega (arith, c.len.ensures, s.parts.ok.0, length_is s.parts.items _ s.subselectors.items c.args.self.now c.self.view_is)

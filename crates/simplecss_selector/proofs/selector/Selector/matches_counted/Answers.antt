@@ -1,9 +1,7 @@
-use Rattle.std.proofs.Common.{◌+◌, ◌-◌, length, refl, sym, arith, inl, inr}
+use Rattle.std.proofs.Common.{◌+◌, length, refl, sym, arith, inl, inr}
 use Rattle.std.proofs.lemmas.Bool.{false≢true}
 use Rattle.simplecss_selector.specs.Placements.{longest_run}
 use Rattle.simplecss_selector.specs.Searches.IsAtOrAbove.{here}
-use Rattle.simplecss_selector.specs.Runs.{run_end}
-use Rattle.simplecss_selector.proofs.Cuts.{run_end-some}
 use Rattle.simplecss_selector.proofs.Depths.{depth-below}
 use Rattle.simplecss_selector.proofs.Greedy.{not_met, tracks_from, alone_reached, placement_of, first_rest, misfit_up, misfit_top, rest_up, alone_fails}
 use Rattle.simplecss_selector.proofs.Stretches.{once_le, longest_run-some, run_times-le, falls}
@@ -11,7 +9,7 @@ use Rattle.simplecss_selector.proofs.selector.Selector.matches_counted.Goals as 
 
 pub returns-in-Misfit-clause-answer : goal.returns-in-Misfit-clause-answer
 returns-in-Misfit-clause-answer g c =
-    let p = placement_of g.E.Element.tree c.args.self.now (run_end c.args.self.now c.run_count-runs.result) (g.E.Element.node c.args.element.now) c.run_count-runs.ensures.whole in (
+    let p = placement_of g.E.Element.tree c.args.self.now (c.last_place-last.result + 1) (g.E.Element.node c.args.element.now) c.last_place-last.ensures in (
       λ e. absurd (false≢true e),
       λ h. elim c.in-Misfit.is [
         | inl e ↦ absurd ((rw e at c.climb.ensures.finds) (p.0 h))
@@ -25,7 +23,7 @@ returns-in-Misfit-clause-at_most g c =
 
 pub returns-in-Whole-clause-answer : goal.returns-in-Whole-clause-answer
 returns-in-Whole-clause-answer g c =
-    let p = placement_of g.E.Element.tree c.args.self.now (run_end c.args.self.now c.run_count-runs.result) _ c.run_count-runs.ensures.whole in
+    let p = placement_of g.E.Element.tree c.args.self.now (c.last_place-last.result + 1) _ c.last_place-last.ensures in
     (λ t. p.1 c.in-Whole.ensures.finds, λ h. refl)
 
 pub returns-in-Whole-clause-at_most : goal.returns-in-Whole-clause-at_most
@@ -36,18 +34,17 @@ pub loop-candidate-init : goal.loop-candidate-init
 loop-candidate-init g c =
     let f = c.in-Rest.ensures.finds in
     record {
-      some = run_end-some c.args.self.now _ f.some;
-      within = omega (arith, c.run_count-runs.ensures.count);
-      same = first_rest g.E.Element.tree c.args.self.now (run_end c.args.self.now c.run_count-runs.result) _ _ _ c.run_count-runs.ensures.whole f;
+      within = omega (arith, f.fewer, c.last_place-last.ensures);
+      same = first_rest g.E.Element.tree c.args.self.now (c.last_place-last.result + 1) _ _ _ c.last_place-last.ensures f;
       spent = omega (arith, c.in-Rest.ensures.bounded, falls (longest_run c.args.self.now) _ _ f.higher);
-      placed = omega (arith, c.in-Rest.ensures.placed, c.run_count-runs.ensures.whole);
+      placed = omega (arith, c.in-Rest.ensures.placed, c.last_place-last.ensures);
       tested = omega (arith, c.in-Rest.ensures.tested, c.is_met_at.ensures.counted);
     }
 
 pub returns-in-Alone-clause-answer : goal.returns-in-Alone-clause-answer
 returns-in-Alone-clause-answer g c = (
   λ e. absurd (false≢true e),
-  λ h. absurd (alone_fails g.E.Element.tree c.args.self.now (run_end c.args.self.now c.loop-candidate.runs) _ c.in-Alone.ensures.finds (c.loop-candidate.invariant.same.0 h)),
+  λ h. absurd (alone_fails g.E.Element.tree c.args.self.now (c.loop-candidate.left + 1) _ c.in-Alone.ensures.finds (c.loop-candidate.invariant.same.0 h)),
 )
 
 pub returns-in-Alone-clause-at_most : goal.returns-in-Alone-clause-at_most
@@ -70,9 +67,8 @@ pub loop-candidate-preserved-in-Some : goal.loop-candidate-preserved-in-Some
 loop-candidate-preserved-in-Some g c =
     let tree = g.E.Element.tree in
     let i = c.loop-candidate.invariant in
-    let up = misfit_up tree c.args.self.now (run_end c.args.self.now c.loop-candidate.runs) _ _ (sym c.in-Some.ensures) c.in-Misfit-place_run.ensures.finds in
+    let up = misfit_up tree c.args.self.now (c.loop-candidate.left + 1) _ _ (sym c.in-Some.ensures) c.in-Misfit-place_run.ensures.finds in
     record {
-      some = i.some;
       within = i.within;
       same = (λ h. up.0 (i.same.0 h), λ h. i.same.1 (up.1 h));
       spent = omega (arith, i.spent, c.in-Misfit-place_run.ensures.bounded, falls (longest_run c.args.self.now) _ _ (depth-below tree g.met.E.Element.depth_law _ _ (sym c.in-Some.ensures)));
@@ -85,10 +81,9 @@ loop-candidate-preserved g c =
     let tree = g.E.Element.tree in
     let i = c.loop-candidate.invariant in
     let f = c.in-Rest-place_run.ensures.finds in
-    let up = rest_up tree c.args.self.now (run_end c.args.self.now c.loop-candidate.runs) (run_end c.args.self.now (c.loop-candidate.runs - 1)) _ _ f in
+    let up = rest_up tree c.args.self.now (c.loop-candidate.left + 1) (c.in-Rest-place_run.rest + 1) _ _ f in
     record {
-      some = run_end-some c.args.self.now _ f.some;
-      within = omega (arith, i.within);
+      within = omega (arith, i.within, f.fewer);
       same = (λ h. up.0 (i.same.0 h), λ h. i.same.1 (up.1 h));
       spent = omega (arith, i.spent, c.in-Rest-place_run.ensures.bounded, falls (longest_run c.args.self.now) _ _ f.higher);
       placed = omega (arith, i.placed, c.in-Rest-place_run.ensures.placed);
@@ -98,7 +93,7 @@ loop-candidate-preserved g c =
 pub returns-in-None-clause-answer : goal.returns-in-None-clause-answer
 returns-in-None-clause-answer g c = (
   λ e. absurd (false≢true e),
-  λ h. absurd (misfit_top g.E.Element.tree c.args.self.now (run_end c.args.self.now c.loop-candidate.runs) _ (sym c.in-None.ensures) c.in-Misfit-place_run.ensures.finds (c.loop-candidate.invariant.same.0 h)),
+  λ h. absurd (misfit_top g.E.Element.tree c.args.self.now (c.loop-candidate.left + 1) _ (sym c.in-None.ensures) c.in-Misfit-place_run.ensures.finds (c.loop-candidate.invariant.same.0 h)),
 )
 
 pub returns-then-not-is_met_at-clause-answer : goal.returns-then-not-is_met_at-clause-answer

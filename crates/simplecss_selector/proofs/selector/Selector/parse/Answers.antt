@@ -1,8 +1,5 @@
 -- A selector that was read reads back.
-use Rattle.std.proofs.Common.{◌≡◌, IfOk, IfSome}
 use Rattle.simplecss_text.specs.ThisEdition.{this_edition}
-use Rattle.simplecss_text.specs.Selectors.{reads}
-use Rattle.simplecss_text.specs.PrintingLaws.{SelectorReadsBack}
 use Rattle.simplecss_text.proofs.ReadSelectors.{found-reads_back}
 use Rattle.simplecss_selector.proofs.selector.Selector.parse.Goals as goal
 

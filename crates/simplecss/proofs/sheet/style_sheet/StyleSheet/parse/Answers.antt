@@ -1,4 +1,4 @@
-use Rattle.std.proofs.Common.{◌≡◌, [], sym, subst}
+use Rattle.std.proofs.Common.{[], sym, subst}
 use Rattle.simplecss_text.specs.ThisEdition.{this_edition}
 use Rattle.simplecss_text.specs.PrintingLaws.{SelectorsReadBack, PrintsBack}
 use Rattle.simplecss_text.proofs.KeptSelectors.{text-reads_back}

@@ -3,11 +3,12 @@ use Rattle.simplecss_text.specs.Bytes.{is_ascii, starts_by}
 use Rattle.simplecss_text.specs.Characters.{is_name_start}
 use Rattle.simplecss_text.specs.ThisEdition.{this_edition}
 use Rattle.simplecss_text.proofs.NameLemmas.{begins_name-ascii}
-use Rattle.simplecss_text.proofs.scan.begins_name.Goals as goal
+use Rattle.simplecss_text.proofs.scan.name_len.Goals as goal
 
-pub returns-then-starts_with_name_start : goal.returns-then-starts_with_name_start
-returns-then-starts_with_name_start c =
+pub returns-then-starts_with_name_start-clause-some :
+    goal.returns-then-starts_with_name_start-clause-some
+returns-then-starts_with_name_start-clause-some c =
     let test : ℕ → Bool = λ b. is_ascii b && is_name_start this_edition b in
     let start : starts_by test c.args.text.now ≡ true
     = sym (c.starts_with_name_start.ensures ∙ ap (starts_by test) c.as_bytes.ensures.value) ∙ c.if-starts_with_name_start.true in
-    c.if-starts_with_name_start.true ∙ sym (begins_name-ascii this_edition c.args.text.now c.utf8.text start)
+    (begins_name-ascii this_edition c.args.text.now c.utf8.text start, c.name_chars_len.ensures.len)

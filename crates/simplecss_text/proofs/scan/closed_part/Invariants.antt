@@ -1,6 +1,6 @@
 use Rattle.std.proofs.Common.{◌-◌, length}
 use Rattle.simplecss_text.proofs.GapSteps.{Passed}
-use Rattle.simplecss_text.proofs.scan.long_gap.Given as goal
+use Rattle.simplecss_text.proofs.scan.closed_part.Given as goal
 
 abbrev pub invariant-loop-part : goal.invariant-loop-part
 invariant-loop-part l = Passed l.text l.len l.spaced

@@ -1,0 +1,10 @@
+use Rattle.std.proofs.Common.{◌≡◌, ℕ, ◌+◌, ◌<◌, false, take}
+use Rattle.simplecss_text.specs.Blocks.{count_of}
+use Rattle.simplecss.specs.BlockDepths.{closes_at}
+use Rattle.simplecss.proofs.sheet.blocks.outer_brace.Given as goal
+
+abbrev pub invariant-loop-place : goal.invariant-loop-place
+invariant-loop-place l = record {
+  counts : l.open + count_of 125 (take l.place l.bytes) ≡ l.depth + count_of 123 (take l.place l.bytes);
+  none : (k : ℕ) → k < l.place → closes_at l.depth l.bytes k ≡ false;
+}
