@@ -1,6 +1,8 @@
 -- The words of a text, one after the other.
-use Rattle.std.proofs.Common.{◌≡◌, ◌≢◌, ℕ, suc, ◌<◌, ◌↔◌, List, [], ◌∷◌, ◌++◌, ◌⊎◌, inl, inr, length, get_or, refl, sym, ap, ◌∙◌, subst, arith, append_assoc, append-nil, eqb, Bool, true, false, IsTrue}
+use Rattle.std.proofs.Common.{◌≡◌, ◌≢◌, ℕ, suc, ◌+◌, ◌<◌, ◌==◌, ◌↔◌, List, [], ◌∷◌, ◌++◌, take, drop, add-one, eqb-true, eq-eqb, ◌⊎◌, inl, inr, length, get_or, refl, sym, ap, ◌∙◌, subst, arith, append_assoc, append-nil, eqb, Bool, true, false, IsTrue}
+use Rattle.std.proofs.Math.Seq.{drop-cons}
 use Rattle.std.proofs.lemmas.Bool.{false≢true}
+use Rattle.std.proofs.lemmas.List.{take-append-drop, get_or-take, length-take}
 use Rattle.std.proofs.lemmas.Slice.Eq.{bytes_eq-Decides}
 use Rattle.std.specs.Cmp.Lexicographic.{pointwise}
 use Rattle.std.specs.List.{All}
@@ -57,6 +59,22 @@ cut_first (b ∷ f) (a ∷ z) t r s e =
       | inl h ↦ inl (cons_same (head_of e) h.0, h.1)
       | inr h ↦ inr (h.0, cons_same (head_of e) h.1, h.2)
     ]
+
+-- where a space stands the text is parted
+pub at_space : (r : List ℕ) (n : ℕ) → n < length r → (get_or r n 0 == 32) ≡ true → r ≡ take n r ++ 32 ∷ drop (n + 1) r
+at_space r n h e =
+    sym (take-append-drop n r) ∙ ap (λ t. take n r ++ t) (rw add-one (drop-cons r n 0 h ∙ ap (λ b. b ∷ drop (suc n) r) (eqb-true _ _ e)))
+
+not_space : (b : ℕ) → (b == 32) ≡ false → b ≢ 32
+not_space b f e = false≢true (sym f ∙ eq-eqb b 32 e)
+
+pub before_space : (r : List ℕ) (n : ℕ) → ((k : ℕ) → k < n → (get_or r k 0 == 32) ≡ false) → (i : ℕ) → i < length (take n r) → get_or (take n r) i 0 ≢ 32
+before_space r n none i h =
+    let before : i < n = omega (arith, h, length-take n r) in
+    rw (get_or-take n r i 0 before) (not_space (get_or r i 0) (none i before))
+
+pub no_space : (r : List ℕ) → ((k : ℕ) → k < length r → (get_or r k 0 == 32) ≡ false) → (i : ℕ) → i < length r → get_or r i 0 ≢ 32
+no_space r none i h = not_space (get_or r i 0) (none i h)
 
 abbrev pub IsWord : List ℕ → List ℕ → Type 0
 IsWord w v = Spaceless w × StandsIn w v

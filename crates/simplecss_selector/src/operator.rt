@@ -1,4 +1,4 @@
-ghost use Rattle.std.specs.Prelude.{◌≢◌, ◌↔◌, All, IsTrue};
+ghost use Rattle.std.specs.Prelude.{◌≡◌, ◌≢◌, ◌↔◌, ◌<◌, ◌==◌, ℕ, length, true, false, None, IfSome, All, IsTrue, EachIndex, slice_index};
 ghost use Rattle.simplecss_selector.specs.Operators.{StandsIn};
 
 /// What an attribute's value is asked.
@@ -37,18 +37,27 @@ impl<'a> AttributeOperator<'a> {
     }
 }
 
+// Where the first space stands, if there is one. Values are short, and a plain walk is faster than a search.
+#[inline(always)]
+fn first_space(bytes: &[u8]) -> Option<usize>
+    ensures none { result ≡ None → EachIndex bytes.now (λ k. (slice_index bytes.now k == 32) ≡ false) }
+    ensures some { IfSome result (λ n. (n < length bytes.now) × ((slice_index bytes.now n == 32) ≡ true) × ((k : ℕ) → k < n → (slice_index bytes.now k == 32) ≡ false)) }
+{
+    bytes.iter().position(|byte| *byte == b' ')
+}
+
 // Whether the word is one of those that single spaces part.
 fn has_word(value: &str, word: &str) -> bool
     ensures { IsTrue result ↔ (All (λ b. b ≢ 32) word.now × StandsIn word.now value.now) }
 {
-    let mut rest = value;
-    while let Some((first, more)) = rest.split_once(' ') {
-        if first == word {
+    let mut rest = value.as_bytes();
+    'words: while let Some(end) = first_space(rest) {
+        if &rest[..end] == word.as_bytes() {
             return true;
         }
-        rest = more;
+        rest = &rest[end + 1..];
     }
-    rest == word
+    rest == word.as_bytes()
 }
 
 /// A pseudo-class that a selector may ask of an element.
