@@ -11,9 +11,9 @@ use Rattle.simplecss_text.specs.Blocks.{count_of, closes_block, block_end, from_
 use Rattle.simplecss_text.proofs.EachLaws.{took, each-none, each-some}
 use Rattle.simplecss_text.proofs.DeclarationLaws.{next_declaration-takes, declaration_in_block-takes}
 use Rattle.simplecss_text.proofs.LeastLaws.{least-is, least-none, least-le, least-passes}
-use Rattle.simplecss.specs.Answers.{FailsAt}
+use Rattle.simplecss_declaration.specs.Answers.{FailsAt}
 use Rattle.simplecss.specs.BlockDepths.{closes_at, ClosesFirst, ClosesNowhere}
-use Rattle.simplecss.proofs.DeclarationLists.{found-none}
+use Rattle.simplecss_declaration.proofs.DeclarationLists.{found-none}
 
 first-true : (a b : Bool) → (a && b) ≡ true → a ≡ true
 first-true true b e = refl

@@ -1,9 +1,5 @@
 pub mod Joins
 pub mod ListLemmas
 pub mod SheetLemmas
-pub mod ByteLemmas
-pub mod FaultLemmas
-pub mod ValueLemmas
-pub mod DeclarationLists
 pub mod BlockLemmas
 pub mod StatementLemmas

@@ -1,11 +1,11 @@
-pub mod Properties
 pub mod StyleRules
-pub mod Equality
-pub mod EqualityLaws
-pub mod Answers
-pub mod Coming
 pub mod SharedBlocks
 pub mod BlockDepths
+pub use Rattle.simplecss_declaration.specs.Properties
+pub use Rattle.simplecss_declaration.specs.Equality
+pub use Rattle.simplecss_declaration.specs.EqualityLaws
+pub use Rattle.simplecss_declaration.specs.Answers
+pub use Rattle.simplecss_declaration.specs.Coming
 pub use Rattle.simplecss_text.specs.Blanks
 pub use Rattle.simplecss_text.specs.Blocks
 pub use Rattle.simplecss_text.specs.Bytes

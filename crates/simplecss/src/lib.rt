@@ -14,7 +14,8 @@
 
 mod sheet;
 
-pub use sheet::{Declaration, DeclarationTokenizer, Declarations, Rule, Rules, StyleSheet, laws};
+pub use sheet::{Rule, Rules, StyleSheet, laws};
+pub use simplecss_declaration::{Declaration, DeclarationTokenizer, Declarations};
 pub use simplecss_selector::{
     AttributeOperator, Element, PseudoClass, Selector, SelectorToken, SelectorTokenizer, Tests,
 };

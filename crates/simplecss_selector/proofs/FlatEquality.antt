@@ -13,7 +13,8 @@ use Rattle.simplecss_text.specs.Components.{Component, Subselector, Combinator}
 use Rattle.simplecss_selector.specs.Asked.{operator_of, class_of}
 use Rattle.simplecss_selector.specs.Combinators.{combinator_of}
 use Rattle.simplecss_selector.specs.Seen.{subselector_of, components_from, Tile}
-use Rattle.simplecss_selector.specs.Equality.{text_eq, operator_eq, class_eq, combinator_eq, subselector_eq, selector_eq}
+use Rattle.simplecss_text.specs.Bytes.{text_eq}
+use Rattle.simplecss_selector.specs.Equality.{operator_eq, class_eq, combinator_eq, subselector_eq, selector_eq}
 use Rattle.simplecss_selector.specs.EqualityLaws.{and_left, and_right, and_both, combinator_decides, name_decides, subselector_decides, selector_decides}
 use Rattle.simplecss_selector.specs.declared.operator.AttributeOperator.{AttributeOperator}
 use Rattle.simplecss_selector.specs.declared.operator.AttributeOperator.TheVariants.{Exists, Matches, Contains, StartsWith}

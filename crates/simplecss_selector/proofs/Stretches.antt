@@ -30,6 +30,11 @@ longest_run-bound (c ∷ cs) (suc p) (suc l) h w j =
     let b : l ≤ p + longest_run cs = longest_run-bound cs p l (omega arith) (omega arith) (λ k a b. j (suc k) (omega arith) (omega arith)) in
     omega arith
 
+-- A run that was gone up from the place `last` to `place`, with one test at each, took no more tests than the longest has components.
+pub run_tests-bound : (cs : List Component) (place last before after : ℕ) → place ≤ last → last < length cs → AreJoined cs (place + 1) (last + 1) → after + place ≡ before + last → after + 1 ≤ before + longest_run cs
+run_tests-bound cs place last before after h w j counted =
+    omega (arith, counted, longest_run-bound cs place (last + 1) (omega (arith, h)) (omega (arith, w)) j)
+
 -- no stretch is longer than the whole
 pub joined_length-le : (cs : List Component) → joined_length cs ≤ length cs
 joined_length-le [] = omega arith

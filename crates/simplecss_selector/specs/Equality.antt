@@ -1,16 +1,13 @@
 -- Equality of selectors, by their components.
-use Rattle.std.specs.Prelude.{ℕ, List, [], Bool, false, ◌&&◌, ◌==◌, nat_eq}
+use Rattle.std.specs.Prelude.{ℕ, List, [], Bool, false, ◌&&◌, ◌==◌}
 use Rattle.std.specs.Cmp.Lexicographic.{pointwise}
 use Rattle.std.specs.Option.{option_eq}
+use Rattle.simplecss_text.specs.Bytes.{text_eq}
 use Rattle.simplecss_text.specs.Components.{Operator, Class, Subselector, Combinator, Component}
 use Rattle.simplecss_text.specs.Components.Operator.{exists, equals, has_word, begins_with}
 use Rattle.simplecss_text.specs.Components.Class.{first_child, link, visited, hover, active, focus, lang}
 use Rattle.simplecss_text.specs.Components.Subselector.{attribute, pseudo_class}
 use Rattle.simplecss_text.specs.Components.Combinator.{none, descendant, child, adjacent}
-
--- the same bytes
-abbrev pub text_eq : List ℕ → List ℕ → Bool
-text_eq = pointwise nat_eq
 
 -- the kind of a thing, and its text where it has one
 abbrev pub operator_key : Operator → ℕ × List ℕ

@@ -11,7 +11,8 @@ use Rattle.simplecss_text.specs.Components.Operator.{exists, equals, has_word, b
 use Rattle.simplecss_text.specs.Components.Class.{first_child, link, visited, hover, active, focus, lang}
 use Rattle.simplecss_text.specs.Components.Subselector.{attribute, pseudo_class}
 use Rattle.simplecss_text.specs.Components.Combinator.{none, descendant, child, adjacent}
-use Rattle.simplecss_selector.specs.Equality.{text_eq, operator_key, class_key, combinator_key, key_eq, operator_eq, class_eq, combinator_eq, subselector_eq, component_eq, selector_eq}
+use Rattle.simplecss_text.specs.Bytes.{text_eq}
+use Rattle.simplecss_selector.specs.Equality.{operator_key, class_key, combinator_key, key_eq, operator_eq, class_eq, combinator_eq, subselector_eq, component_eq, selector_eq}
 
 pub and_left : (a b : Bool) → (a && b) ≡ true → a ≡ true
 and_left true b h = refl

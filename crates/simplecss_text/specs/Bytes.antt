@@ -1,7 +1,12 @@
--- The bytes at the front of a text.
-use Rattle.std.specs.Prelude.{ℕ, Bool, false, not, ◌&&◌, ◌==◌, nat_le, nat_lt, if◌then◌else◌, List, [], ◌∷◌, drop, Option, Some, None}
+-- Bytes: those at the front of a text, and the same bytes.
+use Rattle.std.specs.Prelude.{ℕ, Bool, false, not, ◌&&◌, ◌==◌, nat_eq, nat_le, nat_lt, if◌then◌else◌, List, [], ◌∷◌, drop, Option, Some, None}
 use Rattle.std.specs.List.{prefix_len}
+use Rattle.std.specs.Cmp.Lexicographic.{pointwise}
 use Rattle.simplecss_text.specs.Reading.{Fault, ended, wrong_byte, Reading, got, fails, Reader, before}
+
+-- the same bytes
+abbrev pub text_eq : List ℕ → List ℕ → Bool
+text_eq = pointwise nat_eq
 
 -- what is left after one byte, whichever it is
 abbrev pub past_one : List ℕ → List ℕ

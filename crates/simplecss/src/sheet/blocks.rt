@@ -7,10 +7,9 @@ ghost use Rattle.simplecss_text.specs.Blocks.{count_of, block_end as block_end_o
 ghost use Rattle.simplecss_text.specs.ThisEdition.{this_edition};
 ghost use Rattle.simplecss_text.specs.Cursor.{text_of, rest_of};
 ghost use Rattle.simplecss.specs.BlockDepths.{ClosesFirst, ClosesNowhere};
-ghost use Rattle.simplecss.specs.Properties.{property_of};
+ghost use Rattle.simplecss_declaration.specs.Properties.{property_of};
 
-use super::declaration_reader::consume_declaration;
-use super::declarations::Declaration;
+use simplecss_declaration::{Declaration, consume_declaration};
 use simplecss_text::readers;
 use simplecss_text::stream::Stream;
 use std::alloc::AllocError;

@@ -10,9 +10,10 @@ ghost use Rattle.std.specs.Str.{IsUtf8};
 ghost use Rattle.simplecss_text.specs.Cutting.{StatementEndsAt, KeepsAcross};
 ghost use Rattle.simplecss_text.specs.Editions.{IsCommon, KeepsInBoth};
 ghost use Rattle.simplecss_text.specs.ThisEdition.{this_edition};
-ghost use Rattle.simplecss.specs.Properties.{property_of};
+ghost use Rattle.simplecss_declaration.specs.Properties.{property_of};
 
-use crate::sheet::{Declaration, Declarations, Rule};
+use crate::sheet::Rule;
+use simplecss_declaration::{Declaration, Declarations};
 
 /// The order of the rules in a style sheet: each is kept and stands at its rank, which is the number of rules of smaller
 /// specificity and of earlier ones of equal specificity. So no rule stands before one of smaller specificity, and rules of

@@ -2,10 +2,11 @@ ghost use Rattle.std.specs.Prelude.{◌++◌, ◌∷◌, ◌≡◌, codes, map};
 ghost use Rattle.std.specs.Fmt.{WritesStyledOnOk};
 ghost use Rattle.std.specs.List.{flat_map};
 ghost use Rattle.simplecss_text.specs.Printing.{important_text, property_text, rule_text, sheet_text};
-ghost use Rattle.simplecss.specs.Properties.{property_of};
+ghost use Rattle.simplecss_declaration.specs.Properties.{property_of};
 ghost use Rattle.simplecss.specs.StyleRules.{rule_of};
 
-use crate::sheet::{Declaration, Declarations, Rule, StyleSheet};
+use crate::sheet::{Rule, StyleSheet};
+use simplecss_declaration::{Declaration, Declarations};
 use std::fmt;
 use std::fmt::Display;
 

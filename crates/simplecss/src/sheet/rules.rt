@@ -3,7 +3,8 @@ ghost use Rattle.simplecss_text.specs.Statements.{has_property};
 ghost use Rattle.simplecss_text.specs.Sheets.{ordered};
 ghost use Rattle.simplecss.specs.StyleRules.{rule_of};
 
-use crate::sheet::{Declarations, order};
+use crate::sheet::order;
+use simplecss_declaration::Declarations;
 use simplecss_selector::Selector;
 use std::alloc::AllocError;
 use std::marker::Model;

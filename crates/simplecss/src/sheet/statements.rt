@@ -4,15 +4,15 @@ ghost use Rattle.simplecss_text.specs.Statements.{StyleRule, part, parts, next_b
 ghost use Rattle.simplecss_text.specs.Bytes.{is_neither, past};
 ghost use Rattle.simplecss_text.specs.ThisEdition.{this_edition};
 ghost use Rattle.simplecss_text.specs.Cursor.{text_of, rest_of};
-ghost use Rattle.simplecss.specs.Properties.{property_of};
+ghost use Rattle.simplecss_declaration.specs.Properties.{property_of};
 ghost use Rattle.simplecss.specs.StyleRules.{rule_of};
 ghost use Rattle.simplecss.specs.SharedBlocks.{rules_with};
 
 use super::blocks::{consume_block, pass_block};
-use super::declarations::{Declaration, Declarations};
 use super::ends;
 use super::rules::Rule;
 use log::{Log, warn};
+use simplecss_declaration::{Declaration, Declarations};
 use simplecss_selector::{Selector, parse_front};
 use simplecss_text::stream::Stream;
 use simplecss_text::{readers, scan};
@@ -187,7 +187,7 @@ impl<'a> RuleReader<'a> {
     }
 
     /// Reads a statement, and adds the rules that it gives. An at-rule gives none.
-    #[tactic(auto, unfolding(simplecss_text::specs::Statements::statement), using(crate::proofs::ByteLemmas::past_byte_there, crate::proofs::ByteLemmas::past_byte_not))]
+    #[tactic(auto, unfolding(simplecss_text::specs::Statements::statement), using(simplecss_declaration::proofs::ByteLemmas::past_byte_there, simplecss_declaration::proofs::ByteLemmas::past_byte_not))]
     pub fn consume_statement<R: Log>(
         &mut self,
         rt: &R,

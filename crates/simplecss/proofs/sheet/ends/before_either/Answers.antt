@@ -3,7 +3,7 @@ use Rattle.std.specs.List.{prefix_len}
 use Rattle.std.specs.Str.{IsCharBoundary}
 use Rattle.simplecss_text.specs.Bytes.{is_neither}
 use Rattle.simplecss_text.proofs.CutLemmas.{IsCharBoundary-stops}
-use Rattle.simplecss.proofs.ByteLemmas.{is_neither-ascii}
+use Rattle.simplecss_declaration.proofs.ByteLemmas.{is_neither-ascii}
 use Rattle.simplecss.proofs.sheet.ends.before_either.Goals as goal
 
 pub returns-clause-boundary : goal.returns-clause-boundary

@@ -1,8 +1,8 @@
 use Rattle.std.proofs.lemmas.Bool.Decides.{Decides-and}
 use Rattle.simplecss_selector.specs.Equality.{selector_eq}
 use Rattle.simplecss_selector.specs.EqualityLaws.{selector_decides}
-use Rattle.simplecss.specs.Equality.{properties_eq}
-use Rattle.simplecss.specs.EqualityLaws.{properties_decides}
+use Rattle.simplecss_declaration.specs.Equality.{properties_eq}
+use Rattle.simplecss_declaration.specs.EqualityLaws.{properties_decides}
 use Rattle.simplecss.proofs.sheet.laws.equality_laws.Goals as goal
 
 pub returns-clause-rules : goal.returns-clause-rules

@@ -3,7 +3,7 @@ use Rattle.std.specs.List.{flat_map}
 use Rattle.std.proofs.Output.{has_written_styled_of_eq}
 use Rattle.std.proofs.lemmas.List.Folds.{flat_map-map}
 use Rattle.simplecss_text.specs.Printing.{property_text}
-use Rattle.simplecss.specs.Properties.{property_of}
+use Rattle.simplecss_declaration.specs.Properties.{property_of}
 use Rattle.simplecss.proofs.sheet.printing.write_declarations.Goals as goal
 
 pub returns : goal.returns

@@ -4,7 +4,7 @@ use Rattle.simplecss_text.specs.Components.{Component}
 use Rattle.simplecss_text.specs.Statements.{parts}
 use Rattle.simplecss_text.specs.ThisEdition.{this_edition}
 use Rattle.simplecss_text.specs.Cursor.{rest_of}
-use Rattle.simplecss.proofs.ByteLemmas.{past_byte_there, past_byte_not}
+use Rattle.simplecss_declaration.proofs.ByteLemmas.{past_byte_there, past_byte_not}
 use Rattle.simplecss.proofs.StatementLemmas.{parts-some, parts-last, parts-less, pair-of}
 use Rattle.simplecss.proofs.sheet.statements.consume_parts.Goals as goal
 

@@ -1,5 +1,5 @@
 use Rattle.std.proofs.Common.{◌≡◌, ◌++◌, map}
-use Rattle.simplecss.specs.Properties.{property_of}
+use Rattle.simplecss_declaration.specs.Properties.{property_of}
 use Rattle.simplecss.specs.StyleRules.{rule_of}
 use Rattle.simplecss.specs.SharedBlocks.{rules_with}
 use Rattle.simplecss.proofs.sheet.statements.push_rules.Given as goal

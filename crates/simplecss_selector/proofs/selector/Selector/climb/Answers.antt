@@ -4,7 +4,7 @@ use Rattle.simplecss_selector.specs.Placements.{is_step}
 use Rattle.simplecss_selector.specs.Searches.{component_at}
 use Rattle.simplecss_selector.proofs.Depths.{depth-above, depth-step}
 use Rattle.simplecss_selector.proofs.Greedy.{tracks_step, not_met, no_node, no_rest, leaves_rest, stepped, no_step}
-use Rattle.simplecss_selector.proofs.Stretches.{longest_run-bound, AreJoined-more}
+use Rattle.simplecss_selector.proofs.Stretches.{run_tests-bound, AreJoined-more}
 use Rattle.simplecss_selector.proofs.Turns.{borrowed, step_at, step_not, step-some, not_joined}
 use Rattle.simplecss_selector.proofs.selector.Selector.climb.Goals as goal
 
@@ -23,7 +23,7 @@ returns-in_default-clause-finds g c =
 pub returns-in_default-clause-bounded : goal.returns-in_default-clause-bounded
 returns-in_default-clause-bounded g c =
     let i = c.steps.invariant in
-    omega (arith, i.counted, i.within_run, longest_run-bound c.args.self.now c.steps.place (c.args.last + 1) (omega (arith, i.within_run)) (omega (arith, c.requires.within)) i.joined)
+    run_tests-bound c.args.self.now c.steps.place c.args.last _ _ i.within_run c.requires.within i.joined i.counted
 
 pub returns-then-not-is_met_at-clause-finds : goal.returns-then-not-is_met_at-clause-finds
 returns-then-not-is_met_at-clause-finds g c =
@@ -43,15 +43,8 @@ returns-then-not-is_met_at-clause-bounded g c =
     let i = c.steps.invariant in
     let some = step-some _ c.steps.place (sym c.is_step.ensures ∙ c.steps-test.true) c.combinator.ensures.first.1 in
     let joined : is_step (component_at cs c.steps.place).combinator ≡ true = rw c.combinator.ensures.value at (sym c.is_step.ensures ∙ c.steps-test.true) in
-    omega (
-      arith,
-      i.counted,
-      i.within_run,
-      some,
-      c.is_met_at.ensures.counted,
-      longest_run-bound cs (c.steps.place - 1) (c.args.last + 1) (omega (arith, i.within_run)) (omega (arith, c.requires.within))
-          (AreJoined-more cs c.steps.place (c.steps.place - 1 + 1) (c.args.last + 1) (omega (arith, some)) joined i.joined),
-    )
+    run_tests-bound cs (c.steps.place - 1) c.args.last _ _ (omega (arith, i.within_run)) c.requires.within
+    (AreJoined-more cs c.steps.place (c.steps.place - 1 + 1) (c.args.last + 1) (omega (arith, some)) joined i.joined) (omega (arith, i.counted, some, c.is_met_at.ensures.counted))
 
 pub steps-preserved : goal.steps-preserved
 steps-preserved g c =
@@ -74,17 +67,17 @@ steps-preserved g c =
 pub returns-then-place-eq0-clause-bounded : goal.returns-then-place-eq0-clause-bounded
 returns-then-place-eq0-clause-bounded g c =
     let i = c.steps.invariant in
-    omega (arith, i.counted, i.within_run, longest_run-bound c.args.self.now c.steps.place (c.args.last + 1) (omega (arith, i.within_run)) (omega (arith, c.requires.within)) i.joined)
+    run_tests-bound c.args.self.now c.steps.place c.args.last _ _ i.within_run c.requires.within i.joined i.counted
 
 pub returns-in-Some-parent_element-clause-bounded : goal.returns-in-Some-parent_element-clause-bounded
 returns-in-Some-parent_element-clause-bounded g c =
     let i = c.steps.invariant in
-    omega (arith, i.counted, i.within_run, longest_run-bound c.args.self.now c.steps.place (c.args.last + 1) (omega (arith, i.within_run)) (omega (arith, c.requires.within)) i.joined)
+    run_tests-bound c.args.self.now c.steps.place c.args.last _ _ i.within_run c.requires.within i.joined i.counted
 
 pub returns-clause-bounded : goal.returns-clause-bounded
 returns-clause-bounded g c =
     let i = c.steps.invariant in
-    omega (arith, i.counted, i.within_run, longest_run-bound c.args.self.now c.steps.place (c.args.last + 1) (omega (arith, i.within_run)) (omega (arith, c.requires.within)) i.joined)
+    run_tests-bound c.args.self.now c.steps.place c.args.last _ _ i.within_run c.requires.within i.joined i.counted
 
 pub returns-in-Some-parent_element-clause-finds : goal.returns-in-Some-parent_element-clause-finds
 returns-in-Some-parent_element-clause-finds g c =

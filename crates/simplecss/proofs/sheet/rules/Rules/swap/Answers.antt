@@ -1,6 +1,6 @@
 use Rattle.std.proofs.Common.{◌∙◌, ap, map, swap}
 use Rattle.simplecss.specs.StyleRules.{rule_of}
-use Rattle.simplecss.proofs.ListLemmas.{map-swap}
+use Rattle.simplecss_declaration.proofs.ListLemmas.{map-swap}
 use Rattle.simplecss.proofs.sheet.rules.Rules.swap.Goals as goal
 
 pub returns : goal.returns

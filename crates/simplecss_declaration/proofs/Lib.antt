@@ -1,0 +1,5 @@
+pub mod ListLemmas
+pub mod ByteLemmas
+pub mod FaultLemmas
+pub mod ValueLemmas
+pub mod DeclarationLists

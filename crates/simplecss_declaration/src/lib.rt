@@ -1,0 +1,15 @@
+//! Declarations of CSS 2.1 and their tokenizer. Users depend on the crate `simplecss`, which gives these on.
+#![tactic(auto)]
+
+mod declarations;
+mod digits;
+mod reader;
+mod terms;
+mod tokenizer;
+
+pub use declarations::{Declaration, Declarations};
+pub use reader::consume_declaration;
+pub use tokenizer::DeclarationTokenizer;
+
+#[cfg(test)]
+mod tests;

@@ -1,0 +1,142 @@
+//! Declarations, read from a cursor without telling an error.
+ghost use Rattle.std.specs.Prelude.{◌≡◌, [], ◌∷◌, IfSome};
+ghost use Rattle.simplecss_text.specs.Reading.{got, each};
+ghost use Rattle.simplecss_text.specs.Bytes.{byte as byte_read};
+ghost use Rattle.simplecss_text.specs.Slices.{StandBetween};
+ghost use Rattle.simplecss_text.specs.Comments.{past_blank};
+ghost use Rattle.simplecss_text.specs.Declarations.{value as value_read, important_word, importance, semicolon, trailing, declaration as declaration_read};
+ghost use Rattle.simplecss_text.specs.ThisEdition.{this_edition};
+ghost use Rattle.simplecss_text.specs.Cursor.{text_of, rest_of};
+ghost use Rattle.simplecss_declaration.specs.Answers.{Answers, Passes};
+ghost use Rattle.simplecss_declaration.specs.Properties.{property_of};
+
+use super::declarations::Declaration;
+use super::terms::pass_term;
+use simplecss_text::stream::Stream;
+use simplecss_text::{readers, scan};
+
+/// Passes a blank up to a comment that is not closed, if one stands there.
+#[inline(always)]
+fn pass_gap(s: &mut Stream<'_>)
+    ensures text { text_of s.new ≡ text_of s.old }
+    ensures rest { rest_of s.new ≡ past_blank (rest_of s.old) }
+{
+    s.advance(scan::find_gap(s.slice_tail()).len);
+}
+
+/// Passes the terms of a value, and gives what stands from the first to the end of the last, trimmed. Behind it the first
+/// term that could not be read was passed as far as it goes.
+#[inline(always)]
+fn take_value<'a>(s: &mut Stream<'a>) -> &'a str
+    ensures text { text_of s.new ≡ text_of s.old }
+    ensures reads { value_read this_edition (rest_of s.old) ≡ (result.now, rest_of s.new) }
+    ensures stands { StandBetween (rest_of s.old) (rest_of s.new) (result.now ∷ []) }
+{
+    let start = s.slice_tail();
+    let mut end = start;
+    'terms: while pass_term(s) {
+        end = s.slice_tail();
+        pass_gap(s);
+    }
+    start[..start.len() - end.len()].trim()
+}
+
+/// Passes the word `important`, if the text begins with it, and says whether it does.
+#[inline(always)]
+fn pass_important(s: &mut Stream<'_>) -> bool
+    ensures text { text_of s.new ≡ text_of s.old }
+    ensures reads { important_word (rest_of s.old) ≡ got result (rest_of s.new) }
+{
+    let stands = s.slice_tail().starts_with("important");
+    if stands {
+        s.advance(9);
+    }
+    stands
+}
+
+/// Passes an exclamation mark with a blank and the word `important` behind it, as far as they stand there, and says
+/// whether the word does.
+#[inline(always)]
+#[tactic(auto, unfolding(simplecss_text::specs::Declarations::importance), using(crate::proofs::ByteLemmas::past_byte_there, crate::proofs::ByteLemmas::past_byte_not))]
+fn take_importance(s: &mut Stream<'_>) -> Option<bool>
+    ensures text { text_of s.new ≡ text_of s.old }
+    ensures reads { Answers (λ important. important) (importance (rest_of s.old)) result (rest_of s.new) }
+{
+    if !readers::pass_byte(s, b'!') {
+        return Some(false);
+    }
+    if !readers::pass_blank(s) {
+        return None;
+    }
+    Some(pass_important(s))
+}
+
+/// Passes any number of semicolons, each with the blank behind it.
+#[inline(always)]
+fn pass_semicolons(s: &mut Stream<'_>)
+    ensures text { text_of s.new ≡ text_of s.old }
+    ensures rest { rest_of s.new ≡ (each semicolon (rest_of s.old)).1 }
+{
+    'semicolons: while readers::pass_byte(s, b';') {
+        pass_gap(s);
+    }
+}
+
+/// Passes what stands behind a value, up to the next declaration, and says whether the value is important.
+#[inline(always)]
+#[tactic(auto, unfolding(simplecss_text::specs::Declarations::trailing))]
+fn take_trailing(s: &mut Stream<'_>) -> Option<bool>
+    ensures text { text_of s.new ≡ text_of s.old }
+    ensures reads { Answers (λ important. important) (trailing (rest_of s.old)) result (rest_of s.new) }
+{
+    if !readers::pass_blank(s) {
+        return None;
+    }
+    let important = take_importance(s)?;
+    if !readers::pass_blank(s) {
+        return None;
+    }
+    pass_semicolons(s);
+    if !readers::pass_blank(s) {
+        return None;
+    }
+    Some(important)
+}
+
+/// Passes a colon, if it stands there, and says whether it does.
+#[inline(always)]
+fn pass_colon(s: &mut Stream<'_>) -> bool
+    ensures text { text_of s.new ≡ text_of s.old }
+    ensures reads { Passes (byte_read 58 (rest_of s.old)) result (rest_of s.new) }
+{
+    readers::pass_byte(s, b':')
+}
+
+/// Reads a declaration: a name, a colon, a value, and what stands behind it up to the next declaration. Where there is
+/// none, the place is where reading stopped.
+#[inline(always)]
+#[tactic(auto, unfolding(simplecss_text::specs::Declarations::declaration))]
+pub fn consume_declaration<'a>(s: &mut Stream<'a>) -> Option<Declaration<'a>>
+    ensures text { text_of s.new ≡ text_of s.old }
+    ensures reads { Answers property_of (declaration_read this_edition (rest_of s.old)) result (rest_of s.new) }
+    ensures stands { IfSome result (λ d. StandBetween (rest_of s.old) (rest_of s.new) (d.name.now ∷ d.value.now ∷ [])) }
+{
+    if !readers::pass_blank(s) {
+        return None;
+    }
+    s.try_consume_byte(b'*');
+    let name = readers::take_name(s)?;
+    if !readers::pass_blank(s) || !pass_colon(s) || !readers::pass_blank(s) {
+        return None;
+    }
+    let value = take_value(s);
+    let important = take_trailing(s)?;
+    if value.is_empty() {
+        return None;
+    }
+    Some(Declaration {
+        name,
+        value,
+        important,
+    })
+}

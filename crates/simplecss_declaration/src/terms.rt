@@ -1,0 +1,113 @@
+//! The terms of values.
+ghost use Rattle.std.specs.Prelude.{◌≡◌};
+ghost use Rattle.simplecss_text.specs.Reading.{ended};
+ghost use Rattle.simplecss_text.specs.Bytes.{past, is_digit, after_byte, closed_or};
+ghost use Rattle.simplecss_text.specs.Names.{name as name_read};
+ghost use Rattle.simplecss_text.specs.Terms.{past_hash, past_number, word, term};
+ghost use Rattle.simplecss_text.specs.ThisEdition.{this_edition};
+ghost use Rattle.simplecss_text.specs.Cursor.{text_of, rest_of};
+ghost use Rattle.simplecss_declaration.specs.Answers.{Passes};
+
+use super::digits;
+use simplecss_text::stream::Stream;
+use simplecss_text::{readers, scan};
+
+#[inline(always)]
+fn pass_digits(s: &mut Stream<'_>)
+    ensures text { text_of s.new ≡ text_of s.old }
+    ensures rest { rest_of s.new ≡ past is_digit (rest_of s.old) }
+{
+    s.advance(digits::digits_len(s.slice_tail()));
+}
+
+/// Passes a hash behind its number sign: a name, or where none stands hexadecimal digits.
+#[inline(always)]
+fn pass_hash(s: &mut Stream<'_>)
+    ensures text { text_of s.new ≡ text_of s.old }
+    ensures rest { rest_of s.new ≡ past_hash (name_read this_edition (rest_of s.old)) }
+{
+    if readers::take_name(s).is_none() {
+        s.advance(digits::hex_digits_len(s.slice_tail()));
+    }
+}
+
+/// Passes a number behind its first byte: digits, a point and digits, and a percent sign or a unit.
+#[inline(always)]
+#[tactic(auto, unfolding(simplecss_text::specs::Terms::past_number), using(crate::proofs::ByteLemmas::past_byte_there, crate::proofs::ByteLemmas::past_byte_not))]
+fn pass_number(s: &mut Stream<'_>)
+    ensures text { text_of s.new ≡ text_of s.old }
+    ensures rest { rest_of s.new ≡ past_number this_edition (rest_of s.old) }
+{
+    pass_digits(s);
+    if readers::pass_byte(s, b'.') {
+        pass_digits(s);
+    }
+    if !readers::pass_byte(s, b'%') {
+        let _ = readers::take_name(s);
+    }
+}
+
+/// Passes all up to the first closing parenthesis, and it. Without one the text is used up.
+#[inline(always)]
+fn pass_arguments(s: &mut Stream<'_>) -> bool
+    ensures text { text_of s.new ≡ text_of s.old }
+    ensures reads { Passes (closed_or ended (after_byte 41 (rest_of s.old))) result (rest_of s.new) }
+{
+    match scan::find_byte(s.slice_tail(), b')') {
+        Some(at) => {
+            s.advance(at + 1);
+            true
+        }
+        None => {
+            s.jump_to_end();
+            false
+        }
+    }
+}
+
+/// Passes a name, and where a parenthesis follows directly, the arguments of the function.
+#[inline(always)]
+#[tactic(auto, unfolding(simplecss_text::specs::Terms::word))]
+fn pass_word(s: &mut Stream<'_>) -> bool
+    ensures text { text_of s.new ≡ text_of s.old }
+    ensures reads { Passes (word this_edition (rest_of s.old)) result (rest_of s.new) }
+{
+    if readers::take_name(s).is_none() {
+        return false;
+    }
+    if readers::peek(s) == Some(b'(') {
+        return pass_arguments(s);
+    }
+    true
+}
+
+/// Passes a term: a hash, a number, a string, a comma, a name or a function. Says whether one stood there.
+#[inline(always)]
+#[tactic(auto, unfolding(simplecss_text::specs::Terms::term))]
+pub fn pass_term(s: &mut Stream<'_>) -> bool
+    ensures text { text_of s.new ≡ text_of s.old }
+    ensures reads { Passes (term this_edition (rest_of s.old)) result (rest_of s.new) }
+{
+    match readers::peek(s) {
+        None => false,
+        Some(b'#') => {
+            readers::pass_ascii(s);
+            pass_hash(s);
+            true
+        }
+        Some(b'+' | b'-' | b'.' | b'0'..=b'9') => {
+            readers::pass_ascii(s);
+            pass_number(s);
+            true
+        }
+        Some(quote @ (b'\'' | b'"')) => {
+            readers::pass_ascii(s);
+            readers::take_string(s, quote).is_some()
+        }
+        Some(b',') => {
+            readers::pass_ascii(s);
+            true
+        }
+        Some(_) => pass_word(s),
+    }
+}
