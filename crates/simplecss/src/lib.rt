@@ -20,3 +20,8 @@ pub use simplecss_selector::{
     AttributeOperator, Element, PseudoClass, Selector, SelectorToken, SelectorTokenizer, Tests,
 };
 pub use simplecss_text::{Error, TextPos, stream};
+
+#[cfg(test)]
+mod declaration_tests;
+#[cfg(test)]
+mod stream_tests;

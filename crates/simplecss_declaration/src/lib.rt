@@ -10,6 +10,3 @@ mod tokenizer;
 pub use declarations::{Declaration, Declarations};
 pub use reader::consume_declaration;
 pub use tokenizer::DeclarationTokenizer;
-
-#[cfg(test)]
-mod tests;

@@ -1,6 +1,7 @@
 //! The calls of the cursor on worked texts, and the printed errors.
 use crate::stream::{Stream, is_name_char, is_name_start};
-use crate::{Error, TextPos, readers};
+use crate::{Error, TextPos};
+use simplecss_text::readers;
 
 fn at(row: u32, col: u32) -> TextPos {
     TextPos::new(row, col)
