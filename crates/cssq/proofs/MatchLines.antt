@@ -4,7 +4,7 @@ use Rattle.std.specs.Prelude.{decimal}
 use Rattle.std.specs.List.{AllZip, items_where_true, range_with_len, concat}
 use Rattle.std.proofs.lemmas.List.{take_more, take_all, length-append}
 use Rattle.std.proofs.lemmas.List.Concat.{flat_map-append}
-use Rattle.simplecss_text.specs.Statements.{StyleRule}
+use Rattle.simplecss.specs.Statements.{StyleRule}
 use Rattle.cssq.specs.TreeText.{Row}
 use Rattle.cssq.specs.Nodes.{Spot, spot}
 use Rattle.cssq.specs.MatchRuns.{Takes, AreAnswers, numbers_of, numbers_text, line_text, IsLineOf, IsLineAdded, IsMatchText}

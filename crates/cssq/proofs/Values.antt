@@ -8,9 +8,9 @@ use Rattle.std.proofs.lemmas.Bool.Decides.{nat_tests}
 use Rattle.std.proofs.lemmas.List.{length-append}
 use Rattle.std.proofs.lemmas.List.Splits.{slice_split-cons_yes, slice_split-cons_no}
 use Rattle.std.proofs.lemmas.Slice.Eq.{bytes_eq-Decides}
-use Rattle.simplecss_text.specs.Components.{Operator}
-use Rattle.simplecss_text.specs.Components.Operator.{exists, equals, has_word, begins_with}
-use Rattle.simplecss_selector.specs.Operators.{IsAsAsked}
+use Rattle.simplecss.specs.Components.{Operator}
+use Rattle.simplecss.specs.Components.Operator.{exists, equals, has_word, begins_with}
+use Rattle.simplecss.specs.Operators.{IsAsAsked}
 use Rattle.simplecss_selector.proofs.WordLemmas.{Spaceless, IsWord, next_word, last_word, words_are}
 use Rattle.cssq.specs.Nodes.{is_as_asked}
 

@@ -5,7 +5,7 @@ use Rattle.std.specs.Option.{option_map}
 use Rattle.std.proofs.lemmas.Bool.Decides.{nat_tests}
 use Rattle.std.proofs.lemmas.List.{get_or-take}
 use Rattle.std.proofs.lemmas.Grind.{common_steps}
-use Rattle.simplecss_selector.specs.Trees.{DepthCountsAncestors, SiblingsShareParent}
+use Rattle.simplecss.specs.Trees.{DepthCountsAncestors, SiblingsShareParent}
 use Rattle.cssq.specs.Relatives.{depths_of, last_place, parent_place, nearest_place, previous_place}
 use Rattle.cssq.specs.Nodes.{Spot, spot, parent_of, ancestors_within, depth_of, page_tree}
 use Rattle.cssq.specs.Siblings.{equal_near, equal_at, previous_is, parent_within, nearest_before}

@@ -1,10 +1,10 @@
 -- Which rules of a sheet take an element, and what a run over a sheet and a tree is to write.
 use Rattle.std.specs.Prelude.{◌≡◌, ℕ, ◌+◌, ◌↔◌, length, Bool, true, List, [], ◌∷◌, ◌++◌, decimal, Result, Ok, Err}
 use Rattle.std.specs.List.{AllZip, items_where_true, range_with_len, flat_map, concat}
-use Rattle.simplecss_text.specs.ThisEdition.{this_edition}
-use Rattle.simplecss_text.specs.Statements.{StyleRule}
-use Rattle.simplecss_text.specs.Sheets.{sheet}
-use Rattle.simplecss_selector.specs.Placements.{HasPlacement}
+use Rattle.simplecss.specs.ThisEdition.{this_edition}
+use Rattle.simplecss.specs.Statements.{StyleRule}
+use Rattle.simplecss.specs.Sheets.{sheet}
+use Rattle.simplecss.specs.Placements.{HasPlacement}
 use Rattle.cssq.specs.declared.runs.RunFault.{RunFault}
 use Rattle.cssq.specs.declared.runs.RunFault.TheVariants.{Refused, Tree, Memory, Output}
 use Rattle.cssq.specs.TreeText.{Row, tree_of}

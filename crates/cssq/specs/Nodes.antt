@@ -2,10 +2,10 @@
 use Rattle.std.specs.Prelude.{ℕ, zero, suc, ◌+◌, Bool, false, true, List, [], ◌∷◌, ◌++◌, ◌||◌, Option, None, Some, if◌then◌else◌, bytes_eq, is_none, nat_eq, ◌==◌}
 use Rattle.std.specs.List.{slice_get, slice_split, list_any, starts_with}
 use Rattle.std.specs.Option.{option_map, option_map_or}
-use Rattle.simplecss_text.specs.Components.{Operator, Class}
-use Rattle.simplecss_text.specs.Components.Operator.{exists, equals, has_word, begins_with}
-use Rattle.simplecss_text.specs.Components.Class.{first_child, link, visited, hover, active, focus, lang}
-use Rattle.simplecss_selector.specs.Trees.{Tree}
+use Rattle.simplecss.specs.Components.{Operator, Class}
+use Rattle.simplecss.specs.Components.Operator.{exists, equals, has_word, begins_with}
+use Rattle.simplecss.specs.Components.Class.{first_child, link, visited, hover, active, focus, lang}
+use Rattle.simplecss.specs.Trees.{Tree}
 use Rattle.cssq.specs.TreeText.{Row}
 use Rattle.cssq.specs.Relatives.{depths_of, parent_place, previous_place}
 

@@ -1,11 +1,11 @@
 -- What a run over the text of a selector is to write.
 use Rattle.std.specs.Prelude.{◌≡◌, ℕ, List, [], ◌∷◌, ◌++◌, Option, None, Some, Result, Ok, Err, decimal, map}
 use Rattle.std.specs.List.{join_with_byte}
-use Rattle.simplecss_text.specs.Components.{Component}
-use Rattle.simplecss_text.specs.Selectors.{reads}
-use Rattle.simplecss_text.specs.ThisEdition.{this_edition}
-use Rattle.simplecss_text.specs.Specificity.{specificity}
-use Rattle.simplecss_text.specs.Printing.{selector_text}
+use Rattle.simplecss.specs.Components.{Component}
+use Rattle.simplecss.specs.Selectors.{reads}
+use Rattle.simplecss.specs.ThisEdition.{this_edition}
+use Rattle.simplecss.specs.Specificity.{specificity}
+use Rattle.simplecss.specs.Printing.{selector_text}
 use Rattle.cssq.specs.declared.runs.RunFault.{RunFault}
 use Rattle.cssq.specs.declared.runs.RunFault.TheVariants.{Refused}
 

@@ -1,9 +1,9 @@
 -- What a run over the texts of a sheet is to write.
 use Rattle.std.specs.Prelude.{◌≡◌, ℕ, List, [], ◌∷◌, ◌++◌, Result, Ok}
-use Rattle.simplecss_text.specs.ThisEdition.{this_edition}
-use Rattle.simplecss_text.specs.Statements.{StyleRule}
-use Rattle.simplecss_text.specs.Sheets.{sheet}
-use Rattle.simplecss_text.specs.Printing.{sheet_text}
+use Rattle.simplecss.specs.ThisEdition.{this_edition}
+use Rattle.simplecss.specs.Statements.{StyleRule}
+use Rattle.simplecss.specs.Sheets.{sheet}
+use Rattle.simplecss.specs.Printing.{sheet_text}
 use Rattle.cssq.specs.declared.runs.RunFault.{RunFault}
 
 -- the printed sheet, and a newline where it has a rule

@@ -8,9 +8,9 @@ ghost use Rattle.cssq.specs.SelectorRuns.{selector_line, IsSelectorRun};
 ghost use Rattle.cssq.specs.SheetRuns.{sheet_output, IsSheetRun};
 ghost use Rattle.cssq.specs.MatchRuns.{IsMatchText, IsLineAdded, IsMatchRun};
 ghost use Rattle.cssq.specs.declared.runs.RunFault.TheVariants.{Memory};
-ghost use Rattle.simplecss_text.specs.ThisEdition.{this_edition};
-ghost use Rattle.simplecss_text.specs.Sheets.{sheet};
-ghost use Rattle.simplecss.specs.StyleRules.{rule_of};
+ghost use Rattle.simplecss.specs.ThisEdition.{this_edition};
+ghost use Rattle.simplecss.specs.Sheets.{sheet};
+ghost use Rattle.simplecss.specs.StyleRules.{rules_of};
 
 use crate::tree::{Node, Page, TreeFault};
 use log::Log;
@@ -144,7 +144,7 @@ fn read_sheet<'a, R: Log>(
     alloc: Global,
     texts: &[&'a str],
 ) -> Result<StyleSheet<'a>, AllocError>
-    ensures { IfOk result (λ read. read.rules ≡ sheet this_edition (map (λ text. text.now) texts.now)) }
+    ensures { IfOk result (λ read. rules_of read.rules.items ≡ sheet this_edition (map (λ text. text.now) texts.now)) }
 {
     let mut sheet = StyleSheet::new(alloc);
     for text in texts {
@@ -155,7 +155,7 @@ fn read_sheet<'a, R: Log>(
 
 /// The printed sheet, and a newline where it has a rule.
 fn sheet_text(alloc: Global, sheet: &StyleSheet<'_>) -> Result<String, AllocError>
-    ensures { IfOk result (λ text. string_bytes text ≡ sheet_output sheet.now.rules) }
+    ensures { IfOk result (λ text. string_bytes text ≡ sheet_output (rules_of sheet.now.rules.items)) }
 {
     if sheet.rules.is_empty() {
         return Ok(String::new(alloc));
@@ -187,7 +187,7 @@ fn push_line(
     rules: &[Rule<'_>],
     element: &Node<'_, '_>,
 ) -> Result<(), AllocError>
-    ensures { OnOk result (IsLineAdded (string_bytes out.old) (string_bytes out.new) number (map rule_of rules.now) element.now) }
+    ensures { OnOk result (IsLineAdded (string_bytes out.old) (string_bytes out.new) number (rules_of rules.now) element.now) }
 {
     write!(out, "{number}:")?;
     for (i, rule) in rules.iter().enumerate() {
@@ -202,7 +202,7 @@ fn push_line(
 
 /// The lines of the elements of a page.
 fn match_text(alloc: Global, rules: &[Rule<'_>], page: &Page<'_>) -> Result<String, AllocError>
-    ensures { IfOk result (λ text. IsMatchText (map rule_of rules.now) page.now (string_bytes text)) }
+    ensures { IfOk result (λ text. IsMatchText (rules_of rules.now) page.now (string_bytes text)) }
 {
     let mut text = String::new(alloc);
     for place in 0..page.len() {

@@ -1,11 +1,16 @@
 pub mod StyleRules
 pub mod SharedBlocks
 pub mod BlockDepths
-pub use Rattle.simplecss_declaration.specs.Properties
-pub use Rattle.simplecss_declaration.specs.Equality
-pub use Rattle.simplecss_declaration.specs.EqualityLaws
+-- What contracts of the crates below speak of, under the names of this crate.
 pub use Rattle.simplecss_declaration.specs.Answers
 pub use Rattle.simplecss_declaration.specs.Coming
+pub use Rattle.simplecss_declaration.specs.Properties
+pub use Rattle.simplecss_selector.specs.Asked
+pub use Rattle.simplecss_selector.specs.Given
+pub use Rattle.simplecss_selector.specs.Operators
+pub use Rattle.simplecss_selector.specs.Placements
+pub use Rattle.simplecss_selector.specs.Tokenizer
+pub use Rattle.simplecss_selector.specs.Trees
 pub use Rattle.simplecss_text.specs.Blanks
 pub use Rattle.simplecss_text.specs.Blocks
 pub use Rattle.simplecss_text.specs.Bytes
@@ -13,13 +18,16 @@ pub use Rattle.simplecss_text.specs.Characters
 pub use Rattle.simplecss_text.specs.Comments
 pub use Rattle.simplecss_text.specs.Components
 pub use Rattle.simplecss_text.specs.Cursor
+pub use Rattle.simplecss_text.specs.Cutting
 pub use Rattle.simplecss_text.specs.Declarations
+pub use Rattle.simplecss_text.specs.Editions
 pub use Rattle.simplecss_text.specs.Errors
 pub use Rattle.simplecss_text.specs.Names
 pub use Rattle.simplecss_text.specs.Neighbours
 pub use Rattle.simplecss_text.specs.Pieces
 pub use Rattle.simplecss_text.specs.Positions
 pub use Rattle.simplecss_text.specs.Printing
+pub use Rattle.simplecss_text.specs.PrintingLaws
 pub use Rattle.simplecss_text.specs.Ranks
 pub use Rattle.simplecss_text.specs.Reading
 pub use Rattle.simplecss_text.specs.Runs
@@ -33,6 +41,3 @@ pub use Rattle.simplecss_text.specs.Terms
 pub use Rattle.simplecss_text.specs.ThisEdition
 pub use Rattle.simplecss_text.specs.TokenRuns
 pub use Rattle.simplecss_text.specs.Tokens
-pub use Rattle.simplecss_text.specs.Cutting
-pub use Rattle.simplecss_text.specs.Editions
-pub use Rattle.simplecss_text.specs.PrintingLaws

@@ -1,6 +1,12 @@
--- What contracts see of a rule: the components of its selector, and what its declarations say.
+-- What contracts see of rules: the components of their selectors, and what their declarations say.
+use Rattle.std.specs.Prelude.{List, map}
 use Rattle.simplecss_text.specs.Statements.{StyleRule}
+use Rattle.simplecss_declaration.specs.Properties.{properties_of}
 use Rattle.simplecss.specs.declared.sheet.rules.Rule.{Rule}
 
 abbrev pub rule_of : Rule → StyleRule
-rule_of r = record { components = r.selector; properties = r.declarations }
+rule_of r = record { components = r.selector; properties = properties_of r.declarations.items }
+
+-- what each rule of a list is, in turn
+abbrev pub rules_of : List Rule → List StyleRule
+rules_of rules = map rule_of rules

@@ -14,8 +14,8 @@
 
 mod sheet;
 
-pub use sheet::{Rule, Rules, StyleSheet, laws};
-pub use simplecss_declaration::{Declaration, DeclarationTokenizer, Declarations};
+pub use sheet::{Rule, StyleSheet, laws};
+pub use simplecss_declaration::{Declaration, DeclarationTokenizer};
 pub use simplecss_selector::{
     AttributeOperator, Element, PseudoClass, Selector, SelectorToken, SelectorTokenizer, Tests,
 };

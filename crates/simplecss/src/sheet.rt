@@ -9,7 +9,7 @@ mod rules;
 mod statements;
 mod style_sheet;
 
-pub use rules::{Rule, Rules};
+pub use rules::Rule;
 pub use style_sheet::StyleSheet;
 
 #[cfg(test)]

@@ -1,4 +1,3 @@
-pub mod ListLemmas
 pub mod ByteLemmas
 pub mod FaultLemmas
 pub mod ValueLemmas

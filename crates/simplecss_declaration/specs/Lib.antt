@@ -1,5 +1,3 @@
 pub mod Properties
-pub mod Equality
-pub mod EqualityLaws
 pub mod Answers
 pub mod Coming

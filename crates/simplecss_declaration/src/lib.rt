@@ -3,10 +3,11 @@
 
 mod declarations;
 mod digits;
+mod printing;
 mod reader;
 mod terms;
 mod tokenizer;
 
-pub use declarations::{Declaration, Declarations};
+pub use declarations::Declaration;
 pub use reader::consume_declaration;
 pub use tokenizer::DeclarationTokenizer;

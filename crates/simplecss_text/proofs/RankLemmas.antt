@@ -413,7 +413,7 @@ ordered_filter lt o p xs =
       long = a.counts p;
     })
 
--- ---- lists that a function made, which has an inverse on the right
+-- ---- lists that a function made
 
 filter-map_at : {X Y : Type 0} (f : X → Y) (x : X) (xs : List X) (b : Bool) → cond b (f x ∷ map f xs) (map f xs) ≡ map f (cond b (x ∷ xs) xs)
 filter-map_at f x xs true = refl
@@ -434,13 +434,46 @@ rises-map f lt (x ∷ xs) r = (all-map f (λ y. lt y (f x) ≡ false) xs r.0, ri
 passing-map : {X Y : Type 0} (f : X → Y) (p : Y → Bool) (xs : List X) → passing p (map f xs) ≡ passing (λ x. p (f x)) xs
 passing-map f p xs = ap length (filter-map f p xs) ∙ length-map (filter (λ x. p (f x)) xs) f
 
+-- the first of the part that passes, passes
+filter_head_at : {X : Type 0} (p : X → Bool) (z : X) (zs : List X) (x : X) (rest : List X) (b : Bool) → p z ≡ b → (filter p zs ≡ x ∷ rest → p x ≡ true) → cond b (z ∷ filter p zs) (filter p zs) ≡ x ∷ rest → p x ≡ true
+filter_head_at p z zs x rest true e later h = let same : z ≡ x = cc in ap p (sym same) ∙ e
+filter_head_at p z zs x rest false e later h = later h
+
+filter_head : {X : Type 0} (p : X → Bool) (xs : List X) (x : X) (rest : List X) → filter p xs ≡ x ∷ rest → p x ≡ true
+filter_head p [] x rest h = absurd (cc)
+filter_head p (z ∷ zs) x rest h = filter_head_at p z zs x rest (p z) refl (filter_head p zs x rest) h
+
+same_test : (a b : Bool) → (a ≡ false → b ≡ false) → (b ≡ false → a ≡ false) → a ≡ b
+same_test true true h k = refl
+same_test true false h k = k refl
+same_test false true h k = sym (h refl)
+same_test false false h k = refl
+
+-- of two that tie, each ties with what the other ties with
+ties_alike : {X : Type 0} (lt : X → X → Bool) (o : IsStrictWeakOrder lt) (y x : X) → ties lt y x ≡ true → (z : X) → ties lt y z ≡ ties lt x z
+ties_alike lt o y x tied z =
+    let apart = both_not (lt y x) (lt x y) tied in
+    let under : lt y z ≡ lt x z = same_test (lt y z) (lt x z) (o.chain x y z apart.1) (o.chain y x z apart.0) in
+    let over : lt z y ≡ lt z x = same_test (lt z y) (lt z x) (λ h. o.chain z y x h apart.0) (λ h. o.chain z x y h apart.1) in
+    λ i. not (under i) && not (over i)
+
+-- The elements that tie with y are the same in both lists, where that holds of each y that the function gives: there are as
+-- many of them, and if there is one, y ties with what it gives.
+stable_at : {X Y : Type 0} (f : X → Y) (lt : Y → Y → Bool) (o : IsStrictWeakOrder lt) (xs ys : List X) → ((x : X) → filter (λ z. ties lt (f x) (f z)) ys ≡ filter (λ z. ties lt (f x) (f z)) xs) → (y : Y) (l m : List X) → filter (λ z. ties lt y (f z)) xs ≡ l → filter (λ z. ties lt y (f z)) ys ≡ m → length m ≡ length l → filter (λ z. ties lt y (f z)) ys ≡ filter (λ z. ties lt y (f z)) xs
+stable_at f lt o xs ys stable y [] [] e g n = g ∙ sym e
+stable_at f lt o xs ys stable y [] (x ∷ m) e g n = absurd (omega arith)
+stable_at f lt o xs ys stable y (x ∷ l) m e g n =
+    let tied = ties_alike lt o y (f x) (filter_head (λ z. ties lt y (f z)) xs x l e) in
+    filter_agree (λ z. ties lt y (f z)) (λ z. ties lt (f x) (f z)) (λ z. tied (f z)) ys ∙ stable x
+    ∙ sym (filter_agree (λ z. ties lt y (f z)) (λ z. ties lt (f x) (f z)) (λ z. tied (f z)) xs)
+
 -- a stable sort by what a function shows sorts what it shows
-pub arranges-map : {X Y : Type 0} (f : X → Y) (g : Y → X) (back : (y : Y) → f (g y) ≡ y) (lt : Y → Y → Bool) (xs ys : List X) → Arranges (λ a b. lt (f a) (f b)) xs ys → Arranges lt (map f xs) (map f ys)
-arranges-map f g back lt xs ys a = record {
+pub arranges-map : {X Y : Type 0} (f : X → Y) (lt : Y → Y → Bool) (o : IsStrictWeakOrder lt) (xs ys : List X) → Arranges (λ a b. lt (f a) (f b)) xs ys → Arranges lt (map f xs) (map f ys)
+arranges-map f lt o xs ys a = record {
   rises = rises-map f lt ys a.rises;
   stable = λ y.
       filter-map f (ties lt y) ys
-      ∙ ap (map f) (subst (λ z. filter (λ x. ties lt z (f x)) ys ≡ filter (λ x. ties lt z (f x)) xs) (back y) (a.stable (g y)))
+      ∙ ap (map f) (stable_at f lt o xs ys a.stable y _ _ refl refl (a.counts (λ z. ties lt y (f z))))
       ∙ sym (filter-map f (ties lt y) xs);
   counts = λ p. passing-map f p ys ∙ a.counts (λ x. p (f x)) ∙ sym (passing-map f p xs);
   long = length-map ys f ∙ a.long ∙ sym (length-map xs f);

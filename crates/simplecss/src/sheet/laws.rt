@@ -3,7 +3,6 @@ ghost use Rattle.std.specs.Prelude.{◌≡◌, ◌↔◌, ◌<◌, ℕ, List, Is
 ghost use Rattle.std.specs.List.{AllPass};
 ghost use Rattle.std.specs.List.Sorted.{IsPermutation, IsSortedBy, IsStableBy};
 ghost use Rattle.simplecss_text.specs.Ranks.{rank_by};
-ghost use Rattle.simplecss_text.specs.Declarations.{Property};
 ghost use Rattle.simplecss_text.specs.Statements.{StyleRule, has_property};
 ghost use Rattle.simplecss_text.specs.Sheets.{is_smaller, ordered, sheet};
 ghost use Rattle.std.specs.Str.{IsUtf8};
@@ -11,9 +10,10 @@ ghost use Rattle.simplecss_text.specs.Cutting.{StatementEndsAt, KeepsAcross};
 ghost use Rattle.simplecss_text.specs.Editions.{IsCommon, KeepsInBoth};
 ghost use Rattle.simplecss_text.specs.ThisEdition.{this_edition};
 ghost use Rattle.simplecss_declaration.specs.Properties.{property_of};
+ghost use Rattle.simplecss.specs.StyleRules.{rule_of};
 
 use crate::sheet::Rule;
-use simplecss_declaration::{Declaration, Declarations};
+use simplecss_declaration::Declaration;
 
 /// The order of the rules in a style sheet: each is kept and stands at its rank, which is the number of rules of smaller
 /// specificity and of earlier ones of equal specificity. So no rule stands before one of smaller specificity, and rules of
@@ -46,11 +46,10 @@ pub fn edition_law()
     ensures { (text : List ℕ) → IsCommon text → KeepsInBoth text }
 {}
 
-/// Two rules are equal exactly if their selectors and their declarations are; two lists of declarations, if the
-/// declarations are in turn; and two declarations, if their names, their values and whether they are important are.
+/// Two rules are equal exactly if their selectors and their declarations are, and two declarations, if their names, their
+/// values and whether they are important are.
 pub fn equality_laws()
-    ensures rules { (a b : Rule) → IsTrue (⟦<Rule<'static> as PartialEq>⟧.eq a b) ↔ (a ≡ b) }
-    ensures lists { (a b : List Property) → IsTrue (⟦<Declarations<'static> as PartialEq>⟧.eq a b) ↔ (a ≡ b) }
+    ensures rules { (a b : Rule) → IsTrue (⟦<Rule<'static> as PartialEq>⟧.eq a b) ↔ (rule_of a ≡ rule_of b) }
     ensures declarations { (a b : Declaration) → IsTrue (⟦<Declaration<'static> as PartialEq>⟧.eq a b)
         ↔ (property_of a ≡ property_of b) }
 {}

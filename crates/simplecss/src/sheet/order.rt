@@ -1,16 +1,17 @@
-ghost use Rattle.std.specs.Prelude.{◌≡◌, ◌++◌, OnErr, OnOk, filter, map};
+//! The order of rules by specificity.
+ghost use Rattle.std.specs.Prelude.{◌≡◌, ◌++◌, OnErr, OnOk, filter};
 ghost use Rattle.simplecss_text.specs.Specificity.{specificity};
 ghost use Rattle.simplecss_text.specs.Statements.{has_property};
 ghost use Rattle.simplecss_text.specs.Sheets.{ordered};
-ghost use Rattle.simplecss.specs.StyleRules.{rule_of};
+ghost use Rattle.simplecss.specs.StyleRules.{rule_of, rules_of};
 
 use crate::sheet::Rule;
 use std::alloc::AllocError;
 
-// Puts the rules in the order of specificity, and those of equal specificity in the order in which they stood. An `Err`
-// changes nothing.
+/// Puts the rules in the order of specificity, and those of equal specificity in the order in which they stood. An `Err`
+/// changes nothing.
 fn sort_rules(rules: &mut Vec<Rule>) -> Result<(), AllocError>
-    ensures ok { OnOk result (map rule_of rules.new.items ≡ ordered (map rule_of rules.old.items)) }
+    ensures ok { OnOk result (rules_of rules.new.items ≡ ordered (rules_of rules.old.items)) }
     ensures err { OnErr result (rules.new.items ≡ rules.old.items) }
 {
     rules.sort_by_cached_key(
@@ -20,14 +21,21 @@ fn sort_rules(rules: &mut Vec<Rule>) -> Result<(), AllocError>
     )
 }
 
-// Drops the rules without a declaration.
-fn drop_empty(rules: &mut Vec<Rule>)
-    ensures { map rule_of rules.new.items ≡ filter has_property (map rule_of rules.old.items) }
+/// Whether the rule has a declaration.
+fn has_declaration(rule: &Rule) -> bool
+    ensures { result ≡ has_property (rule_of rule.now) }
 {
-    rules.retain(|rule| !rule.declarations.is_empty());
+    !rule.declarations.is_empty()
 }
 
-// Puts the rules behind the others, which may take them as they are where there are no others. An `Err` changes nothing.
+/// Drops the rules without a declaration.
+fn drop_empty(rules: &mut Vec<Rule>)
+    ensures { rules_of rules.new.items ≡ filter has_property (rules_of rules.old.items) }
+{
+    rules.retain(|rule| has_declaration(rule));
+}
+
+/// Puts the rules behind the others, which may take them as they are where there are no others. An `Err` changes nothing.
 fn join<'a>(rules: &mut Vec<Rule<'a>>, mut more: Vec<Rule<'a>>) -> Result<(), AllocError>
     ensures ok { OnOk result (rules.new.items ≡ rules.old.items ++ more.entry.items) }
     ensures err { OnErr result (rules.new.items ≡ rules.old.items) }
@@ -39,10 +47,10 @@ fn join<'a>(rules: &mut Vec<Rule<'a>>, mut more: Vec<Rule<'a>>) -> Result<(), Al
     rules.append(&mut more)
 }
 
-// Adds rules, orders all that have a declaration, and drops the others. An `Err` changes nothing.
+/// Adds rules, orders all that have a declaration, and drops the others. An `Err` changes nothing.
 pub(crate) fn merge<'a>(rules: &mut Vec<Rule<'a>>, more: Vec<Rule<'a>>) -> Result<(), AllocError>
-    ensures ok { OnOk result (map rule_of rules.new.items
-        ≡ ordered (filter has_property (map rule_of rules.old.items ++ map rule_of more.entry.items))) }
+    ensures ok { OnOk result (rules_of rules.new.items
+        ≡ ordered (filter has_property (rules_of rules.old.items ++ rules_of more.entry.items))) }
     ensures err { OnErr result (rules.new.items ≡ rules.old.items) }
 {
     let len = rules.len();

@@ -12,7 +12,7 @@ use super::blocks::{consume_block, pass_block};
 use super::ends;
 use super::rules::Rule;
 use log::{Log, warn};
-use simplecss_declaration::{Declaration, Declarations};
+use simplecss_declaration::Declaration;
 use simplecss_selector::{Selector, parse_front};
 use simplecss_text::stream::Stream;
 use simplecss_text::{readers, scan};
@@ -101,7 +101,7 @@ fn push_rules<'a>(
     ensures { OnOk result (map rule_of rules.new.items ≡ map rule_of rules.old.items ++ rules_with (map property_of declarations.now) selectors.old.items) }
 {
     'selectors: for selector in selectors.drain(..) {
-        let declarations = Declarations::from_vec(Vec::from_slice(alloc, declarations)?);
+        let declarations = Vec::from_slice(alloc, declarations)?;
         rules.push(Rule {
             selector,
             declarations,

@@ -1,3 +1,4 @@
+//! Style sheets.
 ghost use Rattle.std.specs.Prelude.{◌≡◌, ◌∷◌, ◌++◌, [], ℕ, List, IfOk, OnErr, OnOk, filter, true, false};
 ghost use Rattle.std.specs.List.{AllPass};
 ghost use Rattle.simplecss_text.specs.Statements.{has_property, kept, is_open_comment};
@@ -5,8 +6,9 @@ ghost use Rattle.simplecss_text.specs.Sheets.{ordered, sheet};
 ghost use Rattle.simplecss_text.specs.Cutting.{GoesOn};
 ghost use Rattle.simplecss_text.specs.ThisEdition.{this_edition};
 ghost use Rattle.simplecss_text.specs.PrintingLaws.{SelectorsReadBack, has_wide_space, PrintsBack, PrintsBackAfter};
+ghost use Rattle.simplecss.specs.StyleRules.{rules_of};
 
-use crate::sheet::{Rules, reading};
+use crate::sheet::{Rule, order, reading};
 use log::Log;
 use std::alloc::{AllocError, Global};
 
@@ -14,32 +16,37 @@ use std::alloc::{AllocError, Global};
 #[derive(Debug, Drop)]
 pub struct StyleSheet<'a> {
     /// The rules, those of smaller specificity first.
-    pub rules: Rules<'a>,
+    pub rules: Vec<Rule<'a>>,
 }
 
 impl<'a> StyleSheet<'a> {
     /// A style sheet without rules. It takes no memory.
     pub fn new(alloc: Global) -> Self
-        ensures none { result.rules ≡ [] }
-        ensures sheet { result.rules ≡ sheet this_edition [] }
+        ensures none { rules_of result.rules.items ≡ [] }
+        ensures sheet { rules_of result.rules.items ≡ sheet this_edition [] }
     {
         StyleSheet {
-            rules: Rules::from_vec(Vec::new(alloc)),
+            rules: Vec::new(alloc),
         }
     }
 
-    /// The style sheet of one text. Only memory may be wanting: what CSS 2.1 does not let stand is passed over. Warnings of what is passed over go to `rt`.
+    /// The style sheet of one text. Only memory may be wanting: what CSS 2.1 does not let stand is passed over (section
+    /// 4.2). Warnings of what is passed over go to `rt`.
     pub fn parse<R: Log>(rt: &R, alloc: Global, text: &'a str) -> Result<Self, AllocError>
-        ensures sheet { IfOk result (λ s. s.rules ≡ sheet this_edition (text.now ∷ [])) }
-        ensures selectors { IfOk result (λ s. SelectorsReadBack this_edition s.rules) }
-        ensures prints_back { has_wide_space text.now ≡ false → IfOk result (λ s. PrintsBack this_edition s.rules) }
+        ensures sheet { IfOk result (λ s. rules_of s.rules.items ≡ sheet this_edition (text.now ∷ [])) }
+        ensures selectors { IfOk result (λ s. SelectorsReadBack this_edition (rules_of s.rules.items)) }
+        ensures prints_back { has_wide_space text.now ≡ false
+            → IfOk result (λ s. PrintsBack this_edition (rules_of s.rules.items)) }
     {
         let mut sheet = StyleSheet::new(alloc);
         sheet.parse_more(rt, alloc, text)?;
         Ok(sheet)
     }
 
-    /// Reads a text into the style sheet: its rules come behind the others of equal specificity, and rules without a declaration are dropped, those that stood in the sheet too. A text of spaces, comments and then a comment that is not closed changes nothing, and where memory is wanting the sheet is as before. Warnings of what is passed over go to `rt`.
+    /// Reads a text into the style sheet: its rules come behind the others of equal specificity, and rules without a
+    /// declaration are dropped, those that stood in the sheet too. A text of spaces, comments and then a comment that is
+    /// not closed changes nothing, and where memory is wanting the sheet is as before. Warnings of what is passed over go
+    /// to `rt`.
     pub fn parse_more<R: Log>(
         &mut self,
         rt: &R,
@@ -48,32 +55,39 @@ impl<'a> StyleSheet<'a> {
     ) -> Result<(), AllocError>
         // The old rules that have a declaration and then those of the text, in order.
         ensures ok { OnOk result (is_open_comment text.now ≡ false
-            → self.new.rules ≡ ordered (filter has_property self.old.rules ++ kept this_edition text.now)) }
-        ensures nothing { is_open_comment text.now ≡ true → self.new.rules ≡ self.old.rules }
-        ensures err { OnErr result (self.new.rules ≡ self.old.rules) }
+            → rules_of self.new.rules.items
+                ≡ ordered (filter has_property (rules_of self.old.rules.items) ++ kept this_edition text.now)) }
+        ensures nothing { is_open_comment text.now ≡ true
+            → rules_of self.new.rules.items ≡ rules_of self.old.rules.items }
+        ensures err { OnErr result (rules_of self.new.rules.items ≡ rules_of self.old.rules.items) }
         // The sheet of some texts is then the sheet of these and of this one, and each of its rules has a declaration.
-        ensures sheet { (texts : List (List ℕ)) → self.old.rules ≡ sheet this_edition texts
-            → OnOk result (self.new.rules ≡ sheet this_edition (texts ++ text.now ∷ [])) }
-        ensures filled { (texts : List (List ℕ)) → self.old.rules ≡ sheet this_edition texts
-            → AllPass has_property self.new.rules }
+        ensures sheet { (texts : List (List ℕ)) → rules_of self.old.rules.items ≡ sheet this_edition texts
+            → OnOk result (rules_of self.new.rules.items ≡ sheet this_edition (texts ++ text.now ∷ [])) }
+        ensures filled { (texts : List (List ℕ)) → rules_of self.old.rules.items ≡ sheet this_edition texts
+            → AllPass has_property (rules_of self.new.rules.items) }
         // A text may be read in pieces that are cut where a statement ends.
-        ensures pieces { OnOk result (GoesOn this_edition self.old.rules text.now self.new.rules) }
+        ensures pieces { OnOk result
+            (GoesOn this_edition (rules_of self.old.rules.items) text.now (rules_of self.new.rules.items)) }
         // Printed selectors and printed sheets read as what was printed.
-        ensures selectors { SelectorsReadBack this_edition self.old.rules → SelectorsReadBack this_edition self.new.rules }
-        ensures prints_back { OnOk result (PrintsBackAfter this_edition self.old.rules text.now self.new.rules) }
+        ensures selectors { SelectorsReadBack this_edition (rules_of self.old.rules.items)
+            → SelectorsReadBack this_edition (rules_of self.new.rules.items) }
+        ensures prints_back { OnOk result
+            (PrintsBackAfter this_edition (rules_of self.old.rules.items) text.now (rules_of self.new.rules.items)) }
     {
         match reading::read_rules(rt, alloc, text)? {
-            Some(more) => self.rules.merge(more),
+            Some(more) => order::merge(&mut self.rules, more),
             None => Ok(()),
         }
     }
 
-    /// An equal style sheet, for which only memory may be wanting.
+    /// A style sheet of equal rules, in memory of the same allocator. The error is that a growth was refused.
     pub fn clone(&self) -> Result<Self, AllocError>
-        ensures { IfOk result (λ copy. copy ≡ self.now) }
+        ensures { IfOk result (λ copy. rules_of copy.rules.items ≡ rules_of self.now.rules.items) }
     {
-        Ok(StyleSheet {
-            rules: self.rules.clone()?,
-        })
+        let mut rules = Vec::with_capacity(*self.rules.allocator(), self.rules.len())?;
+        for rule in &self.rules {
+            rules.push(rule.clone()?)?;
+        }
+        Ok(StyleSheet { rules })
     }
 }

@@ -1,4 +1,4 @@
-use crate::{Declaration, Declarations, Rules, StyleSheet};
+use crate::{Declaration, Rule, Selector, StyleSheet};
 use log::sink::{Discard, Memory};
 use std::alloc::AllocError;
 use std::test::Fail;
@@ -7,7 +7,7 @@ fn read<'a>(rt: &HostRuntime, text: &'a str) -> Result<StyleSheet<'a>, AllocErro
     StyleSheet::parse(&Discard, rt.alloc(), text)
 }
 
-// Whether the sheet prints this text.
+/// Whether the sheet prints this text.
 fn prints(rt: &HostRuntime, sheet: &StyleSheet, want: &str) -> Result<bool, AllocError> {
     let text = sheet.to_string(rt.alloc())?;
     Ok(text.as_str() == want)
@@ -140,16 +140,14 @@ fn reads_texts_in_turn(rt: HostRuntime) -> Result<(), Fail> {
     Ok(())
 }
 
-// Lets the two rules change places, and takes the declarations of the one that is then the last.
+/// Lets the two rules change places, and takes the declarations of the one that is then the last.
 fn turn(sheet: &mut StyleSheet) {
     if sheet.rules.len() == 2 {
         sheet.rules.swap(0, 1);
     }
-    let mut rules = sheet.rules.take();
-    if let Some(last) = rules.last_mut() {
-        let _taken = last.declarations.take();
+    if let Some(last) = sheet.rules.last_mut() {
+        last.declarations.clear();
     }
-    sheet.rules.put(rules);
 }
 
 #[test]
@@ -163,7 +161,7 @@ fn reads_into_an_edited_sheet(rt: HostRuntime) -> Result<(), Fail> {
     Ok(())
 }
 
-// Reads the texts in turn. Where one is refused, the sheet is as before, and the text is read again.
+/// Reads the texts in turn. Where one is refused, the sheet is as before, and the text is read again.
 fn keeps_its_rules(rt: &HostRuntime, texts: &[&'static str]) -> Result<bool, AllocError> {
     let mut sheet = StyleSheet::new(rt.alloc());
     let mut kept = true;
@@ -188,12 +186,12 @@ fn a_refused_growth_changes_nothing(rt: HostRuntime) {
     assert!(rt; keeps_its_rules(&rt, &texts).unwrap_or(true));
 }
 
-// Whether the sheets have equal rules.
+/// Whether the sheets have equal rules.
 fn equal_rules(a: &StyleSheet, b: &StyleSheet) -> bool {
     a.rules.len() == b.rules.len() && a.rules.iter().zip(b.rules.iter()).all(|(x, y)| *x == *y)
 }
 
-// Whether each rule of the sheet has an equal copy.
+/// Whether each rule of the sheet has an equal copy.
 fn copies_are_equal(sheet: &StyleSheet) -> Result<bool, AllocError> {
     for rule in &sheet.rules {
         if rule.clone()? != *rule {
@@ -243,46 +241,52 @@ fn rules_differ_in_any_part(rt: HostRuntime) -> Result<(), Fail> {
     Ok(())
 }
 
-// A declaration of this name, with the value `x`.
-fn declaration(name: &str) -> Declaration<'_> {
+/// A declaration of this name, with the value `x`.
+fn declaration(name: &str, important: bool) -> Declaration<'_> {
     Declaration {
         name,
         value: "x",
-        important: false,
+        important,
     }
 }
 
 #[test]
-fn lists_give_back_what_they_were_made_of(rt: HostRuntime) -> Result<(), Fail> {
-    let items = vec![in rt.alloc(); declaration("a"), declaration("b")]?;
-    let mut declarations = Declarations::from_vec(items);
-    assert_eq!(rt; declarations.len(), 2);
-    declarations.swap(0, 1);
-    let copy = declarations.clone()?;
-    assert!(rt; copy == declarations);
-    assert!(rt; copy.first() == Some(&declaration("b")));
-    let mut names = Vec::new(rt.alloc());
-    for declaration in &declarations {
-        names.push(declaration.name)?;
+fn declarations_print_as_in_a_sheet(rt: HostRuntime) -> Result<(), Fail> {
+    for (important, text) in [(false, "a:x;"), (true, "a:x !important;")] {
+        let declaration = declaration("a", important);
+        assert_eq!(rt; format!(in rt.alloc(); "{declaration}")?.as_str(), text);
+        assert_eq!(rt; format!(in rt.alloc(); "{declaration:#}")?.as_str(), text);
+        assert_eq!(rt; format!(in rt.alloc(); "{declaration:>20}")?.as_str(), text);
+        assert_eq!(rt; format!(in rt.alloc(); "{declaration:<5}")?.as_str(), text);
     }
-    assert!(rt; names.as_slice() == ["b", "a"].as_slice());
-    assert!(rt; declarations.take().as_slice() == copy.as_slice());
-    assert!(rt; declarations.is_empty());
-    declarations.put(copy.into_vec());
-    assert_eq!(rt; declarations.len(), 2);
     Ok(())
 }
 
 #[test]
-fn rules_give_back_what_they_were_made_of(rt: HostRuntime) -> Result<(), Fail> {
-    let sheet = read(&rt, "a { b:c } d { e:f }")?;
-    let rules = sheet.clone()?.rules.into_vec();
-    assert_eq!(rt; rules.len(), 2);
-    let again = StyleSheet {
-        rules: Rules::from_vec(rules),
-    };
-    assert!(rt; !again.rules.is_empty());
-    assert!(rt; equal_rules(&again, &sheet));
+fn rules_print_as_in_a_sheet(rt: HostRuntime) -> Result<(), Fail> {
+    let sheet = read(&rt, "#x > .y { a:b; c:d ! important }")?;
+    let text = "*[id='x'] > *[class~='y'] { a:b;c:d !important; }";
+    for rule in &sheet.rules {
+        assert_eq!(rt; format!(in rt.alloc(); "{rule}")?.as_str(), text);
+        assert_eq!(rt; format!(in rt.alloc(); "{rule:#}")?.as_str(), text);
+        assert_eq!(rt; format!(in rt.alloc(); "{rule:>60}")?.as_str(), text);
+        assert_eq!(rt; format!(in rt.alloc(); "{rule:<5}")?.as_str(), text);
+    }
+    assert_eq!(rt; sheet.rules.len(), 1);
+    Ok(())
+}
+
+#[test]
+fn sheets_are_made_of_rules(rt: HostRuntime) -> Result<(), Fail> {
+    let mut sheet = read(&rt, "a { b:c } d { e:f; g:h }")?;
+    sheet.rules.retain(|rule| rule.declarations.len() > 1);
+    let selector = Selector::parse(&Discard, rt.alloc(), ".i")?.ok_or("refused")?;
+    let declarations = vec![in rt.alloc(); declaration("j", true)]?;
+    sheet.rules.push(Rule {
+        selector,
+        declarations,
+    })?;
+    assert!(rt; prints(&rt, &sheet, "d { e:f;g:h; }\n*[class~='i'] { j:x !important; }")?);
     Ok(())
 }
 

@@ -1,7 +1,7 @@
 use Rattle.std.proofs.Common.{◌≡◌, ℕ, ◌++◌, List, ◌∷◌, [], IfOk, string_bytes, get_or, append_assoc, sym, ap, ◌∙◌, subst}
 use Rattle.std.specs.Prelude.{decimal}
 use Rattle.std.specs.List.{join_with_byte}
-use Rattle.simplecss_text.specs.Printing.{selector_text}
+use Rattle.simplecss.specs.Printing.{selector_text}
 use Rattle.cssq.proofs.runs.selector_line.Goals as goal
 
 -- the texts that are printed in turn are the numbers with commas between them

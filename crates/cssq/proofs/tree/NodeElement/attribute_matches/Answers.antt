@@ -1,5 +1,5 @@
 use Rattle.std.proofs.Common.{sym, ap, ◌∙◌}
-use Rattle.simplecss_selector.specs.Asked.{operator_of}
+use Rattle.simplecss.specs.Asked.{operator_of}
 use Rattle.cssq.proofs.Values.{met_by}
 use Rattle.cssq.specs.Nodes.{attribute_at}
 use Rattle.cssq.proofs.tree.NodeElement.attribute_matches.Goals as goal

@@ -1,12 +1,18 @@
-use Rattle.std.proofs.Common.{◌∙◌, ap, sym}
-use Rattle.std.specs.List.{flat_map}
+use Rattle.std.proofs.Common.{◌+◌, ◌<◌, length, arith, rules, sym, take}
 use Rattle.std.proofs.Output.{has_written_styled_of_eq}
 use Rattle.std.proofs.lemmas.List.Folds.{flat_map-map}
 use Rattle.simplecss_text.specs.Printing.{property_text}
 use Rattle.simplecss_declaration.specs.Properties.{property_of}
+use Rattle.simplecss_text.proofs.Styled.{styled_step_at}
 use Rattle.simplecss.proofs.sheet.printing.write_declarations.Goals as goal
 
-pub returns : goal.returns
-returns g c = λ plain ok. has_written_styled_of_eq _ _ _ _ _
-    (sym (flat_map-map property_text property_of c.as_slice.result.now) ∙ ap (flat_map property_text) c.as_slice.ensures)
-    (c.write_each_declaration.ensures plain ok)
+pub loop-declaration-preserved : goal.loop-declaration-preserved
+loop-declaration-preserved g c = λ plain.
+    let so_far = c.loop-declaration.invariant plain in
+    let all = c.args.declarations.now in
+    let i = c.loop-declaration.declaration-index in
+    let within : i < length all = omega arith in
+    has_written_styled_of_eq _ _ _ _ _ (sym (flat_map-map property_text property_of (take (i + 1) all)))
+    (styled_step_at _ (λ d. property_text (property_of d)) _ _ _ _ _ _ within
+    (has_written_styled_of_eq _ _ _ _ _ (flat_map-map property_text property_of (take i all)) so_far)
+    (c.write_declaration.ensures so_far.flush (search rules)))

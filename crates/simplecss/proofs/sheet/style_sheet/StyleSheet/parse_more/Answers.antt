@@ -9,7 +9,7 @@ use Rattle.simplecss_text.specs.ThisEdition.{this_edition}
 use Rattle.simplecss_text.proofs.CuttingLaws.{goes_on, goes_on-ok}
 use Rattle.simplecss_text.proofs.KeptSelectors.{more-reads_back}
 use Rattle.simplecss_text.proofs.SheetsAgain.{prints_back-after, prints_back-same}
-use Rattle.simplecss.specs.StyleRules.{rule_of}
+use Rattle.simplecss.specs.StyleRules.{rule_of, rules_of}
 use Rattle.simplecss.proofs.SheetLemmas.{AllPass-sheet, sheet_more, sheet_open}
 use Rattle.simplecss.proofs.sheet.style_sheet.StyleSheet.parse_more.Goals as goal
 
@@ -23,12 +23,12 @@ pub returns-in-None-clause-sheet : goal.returns-in-None-clause-sheet
 returns-in-None-clause-sheet g c texts was = was ∙ sym (sheet_open this_edition texts c.args.text.now (search rules))
 
 -- the sheet of the texts and this one, where the rules were merged
-merged : (g : _) (c : goal.After-merge g) (texts : List (List ℕ)) → c.args.self.now.rules ≡ sheet this_edition texts → OnOk c.merge.result (c.merge.new.self ≡ sheet this_edition (texts ++ c.args.text.now ∷ []))
+merged : (g : _) (c : goal.After-merge g) (texts : List (List ℕ)) → rules_of c.args.self.now.rules.items ≡ sheet this_edition texts → OnOk c.merge.result (rules_of c.merge.new.rules.items ≡ sheet this_edition (texts ++ c.args.text.now ∷ []))
 merged g c texts was =
-    let old = c.args.self.now.rules in
+    let old = rules_of c.args.self.now.rules.items in
     let text = c.args.text.now in
     let read : map rule_of c.in-Some.more.items ≡ flat_map (λ given. given) (statements this_edition text) = search rules in
-    on_ok_weaker {P = c.merge.new.self ≡ ordered (filter has_property (old ++ map rule_of c.in-Some.more.items))} {Q = c.merge.new.self ≡ sheet this_edition (texts ++ text ∷ [])} c.merge.result
+    on_ok_weaker {P = rules_of c.merge.new.rules.items ≡ ordered (filter has_property (old ++ map rule_of c.in-Some.more.items))} {Q = rules_of c.merge.new.rules.items ≡ sheet this_edition (texts ++ text ∷ [])} c.merge.result
     (λ ok.
     ok ∙ ap (λ l. ordered (filter has_property (old ++ l))) read
     ∙ ap ordered (filter-append has_property old (flat_map (λ given. given) (statements this_edition text)))
@@ -46,29 +46,29 @@ either_way (Err e) ok err = err
 pub returns-in-Some-clause-filled : goal.returns-in-Some-clause-filled
 returns-in-Some-clause-filled g c texts was =
     either_way c.merge.result
-    (on_ok_weaker c.merge.result (λ (e : c.merge.new.self ≡ sheet this_edition (texts ++ c.args.text.now ∷ [])). subst (AllPass has_property) (sym e) (AllPass-sheet this_edition (texts ++ c.args.text.now ∷ []))) (merged g c texts was))
-    (on_err_weaker c.merge.result (λ (e : c.merge.new.self ≡ c.args.self.now.rules). subst (AllPass has_property) (sym (e ∙ was)) (AllPass-sheet this_edition texts)) c.merge.ensures.err)
+    (on_ok_weaker c.merge.result (λ (e : rules_of c.merge.new.rules.items ≡ sheet this_edition (texts ++ c.args.text.now ∷ [])). subst (AllPass has_property) (sym e) (AllPass-sheet this_edition (texts ++ c.args.text.now ∷ []))) (merged g c texts was))
+    (on_err_weaker c.merge.result (λ (e : c.merge.new.rules.items ≡ c.args.self.now.rules.items). subst (AllPass has_property) (sym (ap rules_of e ∙ was)) (AllPass-sheet this_edition texts)) c.merge.ensures.err)
 
 pub returns-in-Some-clause-pieces : goal.returns-in-Some-clause-pieces
 returns-in-Some-clause-pieces g c =
-    goes_on-ok c.merge.result this_edition c.args.self.now.rules c.args.text.now c.merge.new.self (merged g c)
+    goes_on-ok c.merge.result this_edition (rules_of c.args.self.now.rules.items) c.args.text.now (rules_of c.merge.new.rules.items) (merged g c)
 
 pub returns-in-None-clause-pieces : goal.returns-in-None-clause-pieces
 returns-in-None-clause-pieces g c =
-    goes_on this_edition c.args.self.now.rules c.args.text.now c.args.self.now.rules (returns-in-None-clause-sheet g c)
+    goes_on this_edition (rules_of c.args.self.now.rules.items) c.args.text.now (rules_of c.args.self.now.rules.items) (returns-in-None-clause-sheet g c)
 
 -- the selectors of the old rules and of the text read back, so do those of both
 pub returns-in-Some-clause-selectors : goal.returns-in-Some-clause-selectors
 returns-in-Some-clause-selectors g c back =
-    let old = c.args.self.now.rules in
+    let old = rules_of c.args.self.now.rules.items in
     let text = c.args.text.now in
     let read : map rule_of c.in-Some.more.items ≡ flat_map (λ given. given) (statements this_edition text) = search rules in
     either_way c.merge.result
-    (on_ok_weaker c.merge.result (λ (e : c.merge.new.self ≡ ordered (filter has_property (old ++ map rule_of c.in-Some.more.items))).
-    let is : c.merge.new.self ≡ ordered (filter has_property old ++ kept this_edition text) =
+    (on_ok_weaker c.merge.result (λ (e : rules_of c.merge.new.rules.items ≡ ordered (filter has_property (old ++ map rule_of c.in-Some.more.items))).
+    let is : rules_of c.merge.new.rules.items ≡ ordered (filter has_property old ++ kept this_edition text) =
     e ∙ ap (λ l. ordered (filter has_property (old ++ l))) read ∙ ap ordered (filter-append has_property old (flat_map (λ given. given) (statements this_edition text))) in
     subst (SelectorsReadBack this_edition) (sym is) (more-reads_back this_edition old text back c.utf8.text)) c.merge.ensures.ok)
-    (on_err_weaker c.merge.result (λ (e : c.merge.new.self ≡ old). subst (SelectorsReadBack this_edition) (sym e) back) c.merge.ensures.err)
+    (on_err_weaker c.merge.result (λ (e : c.merge.new.rules.items ≡ c.args.self.now.rules.items). subst (SelectorsReadBack this_edition) (sym (ap rules_of e)) back) c.merge.ensures.err)
 
 -- for all texts at once
 ok_for_all : {X E : Type 0} (r : Result X E) (old new : List StyleRule) (text : List ℕ) → ((texts : List (List ℕ)) → old ≡ sheet this_edition texts → OnOk r (new ≡ sheet this_edition (texts ++ text ∷ []))) → OnOk r (PrintsBackAfter this_edition old text new)
@@ -76,7 +76,7 @@ ok_for_all (Ok x) old new text h = prints_back-after this_edition old text new h
 ok_for_all (Err e) old new text h = tt
 
 pub returns-in-Some-clause-prints_back : goal.returns-in-Some-clause-prints_back
-returns-in-Some-clause-prints_back g c = ok_for_all c.merge.result c.args.self.now.rules c.merge.new.self c.args.text.now (merged g c)
+returns-in-Some-clause-prints_back g c = ok_for_all c.merge.result (rules_of c.args.self.now.rules.items) (rules_of c.merge.new.rules.items) c.args.text.now (merged g c)
 
 pub returns-in-None-clause-prints_back : goal.returns-in-None-clause-prints_back
-returns-in-None-clause-prints_back g c = prints_back-same this_edition c.args.self.now.rules c.args.text.now
+returns-in-None-clause-prints_back g c = prints_back-same this_edition (rules_of c.args.self.now.rules.items) c.args.text.now

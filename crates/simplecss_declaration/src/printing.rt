@@ -1,0 +1,44 @@
+//! The printed text of a declaration.
+ghost use Rattle.std.specs.Prelude.{◌++◌, ◌≡◌, codes};
+ghost use Rattle.std.specs.Fmt.{WritesStyledOnOk};
+ghost use Rattle.simplecss_text.specs.Printing.{important_text};
+
+use crate::Declaration;
+use std::fmt;
+use std::fmt::Display;
+
+/// Prints the name, a colon, the value, ` !important` if it is, and a semicolon, as the declaration stands in a printed
+/// sheet. Width, fill and flags of the formatter change nothing.
+impl<'a> Display for Declaration<'a> {
+    ghost use Rattle.std.specs.Prelude.{Some};
+    ghost use Rattle.simplecss_text.specs.Printing.{property_text};
+    ghost use Rattle.simplecss_declaration.specs.Properties.{property_of};
+
+    ghost output = { λ d. Some (property_text (property_of d)) };
+
+    ghost styled_output = { λ d _. Some (property_text (property_of d)) };
+
+    #[tactic(auto, using(simplecss_text::proofs::Styled::plain_of_styled, simplecss_text::proofs::Styled::styled_three))]
+    fn fmt<W: fmt::Write>(&self, f: &mut fmt::Formatter<W>) -> fmt::Result {
+        write_stated(f, self.name, self.value)?;
+        f.write_str(important_mark(self.important))?;
+        f.write_str(";")
+    }
+}
+
+/// Writes the name, a colon and the value.
+#[tactic(auto, using(simplecss_text::proofs::Styled::styled_three))]
+fn write_stated<W: fmt::Write>(f: &mut fmt::Formatter<W>, name: &str, value: &str) -> fmt::Result
+    ensures { WritesStyledOnOk W.write_str_gives f.old result (name.now ++ codes ":" ++ value.now) f.new }
+{
+    f.write_str(name)?;
+    f.write_str(":")?;
+    f.write_str(value)
+}
+
+/// What stands behind an important value.
+fn important_mark(important: bool) -> &'static str
+    ensures { result.now ≡ important_text important }
+{
+    if important { " !important" } else { "" }
+}
