@@ -9,7 +9,6 @@ pub mod Flat
 pub mod WordLemmas
 pub mod Drafting
 pub mod Filling
-pub mod Styled
 pub mod Counts
 pub mod FlatEquality
 pub mod Announcing

@@ -20,7 +20,7 @@ impl<'a> fmt::Display for PseudoClass<'a> {
 
     ghost styled_output = { λ c _. Some (class_text (class_of c)) };
 
-    #[tactic(auto, using(crate::proofs::Styled::plain_of_styled))]
+    #[tactic(auto, using(simplecss_text::proofs::Styled::plain_of_styled))]
     fn fmt<W: fmt::Write>(&self, f: &mut fmt::Formatter<W>) -> fmt::Result {
         write_class(f, *self)
     }
@@ -34,7 +34,7 @@ impl<'a> fmt::Display for Selector<'a> {
 
     ghost styled_output = { λ s _. Some (selector_text s) };
 
-    #[tactic(auto, using(crate::proofs::Styled::plain_of_styled))]
+    #[tactic(auto, using(simplecss_text::proofs::Styled::plain_of_styled))]
     fn fmt<W: fmt::Write>(&self, f: &mut fmt::Formatter<W>) -> fmt::Result {
         for place in 0..self.len() {
             let (part, subselectors) = self.component(place);
@@ -44,7 +44,7 @@ impl<'a> fmt::Display for Selector<'a> {
     }
 }
 
-#[tactic(auto, using(crate::proofs::Styled::styled_three))]
+#[tactic(auto, using(simplecss_text::proofs::Styled::styled_three))]
 fn write_component<W: fmt::Write>(
     f: &mut fmt::Formatter<W>,
     part: Part,
@@ -91,7 +91,7 @@ fn write_subselectors<W: fmt::Write>(
     Ok(())
 }
 
-#[tactic(auto, using(crate::proofs::Styled::styled_two, crate::proofs::Styled::styled_four))]
+#[tactic(auto, using(simplecss_text::proofs::Styled::styled_two, simplecss_text::proofs::Styled::styled_four))]
 fn write_subselector<W: fmt::Write>(
     f: &mut fmt::Formatter<W>,
     subselector: SubSelector,
@@ -140,7 +140,7 @@ fn write_class<W: fmt::Write>(f: &mut fmt::Formatter<W>, class: PseudoClass) -> 
     }
 }
 
-#[tactic(auto, using(crate::proofs::Styled::styled_three))]
+#[tactic(auto, using(simplecss_text::proofs::Styled::styled_three))]
 fn write_three<W: fmt::Write>(f: &mut fmt::Formatter<W>, a: &str, b: &str, c: &str) -> fmt::Result
     ensures { WritesStyledOnOk W.write_str_gives f.old result (a.now ++ b.now ++ c.now) f.new }
 {

@@ -20,7 +20,7 @@ impl<'a> Display for StyleSheet<'a> {
 
     ghost styled_output = { λ s _. Some (sheet_text s.rules) };
 
-    #[tactic(auto, using(simplecss_selector::proofs::Styled::plain_of_styled))]
+    #[tactic(auto, using(simplecss_text::proofs::Styled::plain_of_styled))]
     fn fmt<W: fmt::Write>(&self, f: &mut fmt::Formatter<W>) -> fmt::Result {
         write_rules(f, self.rules.as_slice())
     }
@@ -46,7 +46,7 @@ fn write_lines<W: fmt::Write>(f: &mut fmt::Formatter<W>, rules: &[Rule]) -> fmt:
     Ok(())
 }
 
-#[tactic(auto, using(simplecss_selector::proofs::Styled::styled_two))]
+#[tactic(auto, using(simplecss_text::proofs::Styled::styled_two))]
 fn write_line<W: fmt::Write>(f: &mut fmt::Formatter<W>, rule: &Rule) -> fmt::Result
     ensures { WritesStyledOnOk W.write_str_gives f.old result (10 ∷ rule_text (rule_of rule.now)) f.new }
 {
@@ -54,7 +54,7 @@ fn write_line<W: fmt::Write>(f: &mut fmt::Formatter<W>, rule: &Rule) -> fmt::Res
     write_rule(f, rule)
 }
 
-#[tactic(auto, using(simplecss_selector::proofs::Styled::styled_four))]
+#[tactic(auto, using(simplecss_text::proofs::Styled::styled_four))]
 fn write_rule<W: fmt::Write>(f: &mut fmt::Formatter<W>, rule: &Rule) -> fmt::Result
     ensures { WritesStyledOnOk W.write_str_gives f.old result (rule_text (rule_of rule.now)) f.new }
 {
@@ -85,7 +85,7 @@ fn write_each_declaration<W: fmt::Write>(
     Ok(())
 }
 
-#[tactic(auto, using(simplecss_selector::proofs::Styled::styled_three))]
+#[tactic(auto, using(simplecss_text::proofs::Styled::styled_three))]
 fn write_declaration<W: fmt::Write>(
     f: &mut fmt::Formatter<W>,
     declaration: &Declaration,
@@ -98,7 +98,7 @@ fn write_declaration<W: fmt::Write>(
 }
 
 // The name, a colon and the value.
-#[tactic(auto, using(simplecss_selector::proofs::Styled::styled_three))]
+#[tactic(auto, using(simplecss_text::proofs::Styled::styled_three))]
 fn write_stated<W: fmt::Write>(f: &mut fmt::Formatter<W>, name: &str, value: &str) -> fmt::Result
     ensures { WritesStyledOnOk W.write_str_gives f.old result (name.now ++ codes ":" ++ value.now) f.new }
 {

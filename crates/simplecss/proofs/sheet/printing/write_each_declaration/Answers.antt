@@ -1,7 +1,7 @@
 use Rattle.std.proofs.Common.{◌<◌, length, arith, rules}
 use Rattle.simplecss_text.specs.Printing.{property_text}
 use Rattle.simplecss_declaration.specs.Properties.{property_of}
-use Rattle.simplecss_selector.proofs.Styled.{styled_step_at}
+use Rattle.simplecss_text.proofs.Styled.{styled_step_at}
 use Rattle.simplecss.proofs.sheet.printing.write_each_declaration.Goals as goal
 
 pub loop-declaration-preserved : goal.loop-declaration-preserved
