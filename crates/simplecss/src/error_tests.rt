@@ -13,10 +13,26 @@ fn prints_positions_alike_under_all_options(rt: HostRuntime) -> Result<(), Alloc
     ] {
         let pos = TextPos::new(row, col);
         assert_eq!(rt; format!(in alloc; "{pos}")?.as_str(), text);
-        assert_eq!(rt; format!(in alloc; "{pos:#}")?.as_str(), text, "with the flag");
-        assert_eq!(rt; format!(in alloc; "{pos:>20}")?.as_str(), text, "on the right");
-        assert_eq!(rt; format!(in alloc; "{pos:<5}")?.as_str(), text, "on the left");
-        assert_eq!(rt; format!(in alloc; "{pos:+030.2}")?.as_str(), text, "with zeros");
+        assert_eq!(rt;
+            format!(in alloc; "{pos:#}")?.as_str(),
+            text,
+            "with the flag"
+        );
+        assert_eq!(rt;
+            format!(in alloc; "{pos:>20}")?.as_str(),
+            text,
+            "on the right"
+        );
+        assert_eq!(rt;
+            format!(in alloc; "{pos:<5}")?.as_str(),
+            text,
+            "on the left"
+        );
+        assert_eq!(rt;
+            format!(in alloc; "{pos:+030.2}")?.as_str(),
+            text,
+            "with zeros"
+        );
     }
     Ok(())
 }
@@ -40,11 +56,53 @@ fn prints_errors_alike_under_all_options(rt: HostRuntime) -> Result<(), AllocErr
         ),
     ] {
         assert_eq!(rt; format!(in alloc; "{error}")?.as_str(), text);
-        assert_eq!(rt; format!(in alloc; "{error:#}")?.as_str(), text, "with the flag");
-        assert_eq!(rt; format!(in alloc; "{error:>40}")?.as_str(), text, "on the right");
-        assert_eq!(rt; format!(in alloc; "{error:>20}")?.as_str(), text, "on the right");
-        assert_eq!(rt; format!(in alloc; "{error:<5}")?.as_str(), text, "on the left");
+        assert_eq!(rt;
+            format!(in alloc; "{error:#}")?.as_str(),
+            text,
+            "with the flag"
+        );
+        assert_eq!(rt;
+            format!(in alloc; "{error:>40}")?.as_str(),
+            text,
+            "on the right"
+        );
+        assert_eq!(rt;
+            format!(in alloc; "{error:>20}")?.as_str(),
+            text,
+            "on the right"
+        );
+        assert_eq!(rt;
+            format!(in alloc; "{error:<5}")?.as_str(),
+            text,
+            "on the left"
+        );
         assert_eq!(rt; format!(in alloc; "{error:_^40.3}")?.as_str(), text, "cut");
     }
     Ok(())
+}
+
+#[test]
+fn tells_the_position_of_an_error(rt: HostRuntime) {
+    let pos = TextPos::new(2, 7);
+    for (error, told) in [
+        (Error::UnexpectedEndOfStream, None),
+        (Error::InvalidIdent(pos), Some(pos)),
+        (Error::InvalidComment(pos), Some(pos)),
+        (Error::InvalidValue(pos), Some(pos)),
+        (
+            Error::InvalidByte {
+                expected: b']',
+                actual: b'b',
+                pos,
+            },
+            Some(pos),
+        ),
+        (Error::SelectorMissing, None),
+        (Error::UnexpectedSelector, None),
+        (Error::UnexpectedCombinator, None),
+        (Error::InvalidAttributeSelector, None),
+        (Error::InvalidLanguagePseudoClass, None),
+    ] {
+        assert_eq!(rt; error.pos(), told, "of {error}");
+    }
 }
