@@ -24,4 +24,6 @@ pub use simplecss_text::{Error, TextPos, stream};
 #[cfg(test)]
 mod declaration_tests;
 #[cfg(test)]
+mod error_tests;
+#[cfg(test)]
 mod stream_tests;

@@ -28,6 +28,19 @@ error_of text unexpected_combinator = UnexpectedCombinator
 error_of text no_attribute_form = InvalidAttributeSelector
 error_of text no_language = InvalidLanguagePseudoClass
 
+-- the position that the error tells, if it tells one
+abbrev pub told_position : Error → Option TextPos
+told_position (InvalidIdent pos) = Some pos
+told_position (InvalidComment pos) = Some pos
+told_position (InvalidValue pos) = Some pos
+told_position (InvalidByte expected actual pos) = Some pos
+told_position UnexpectedEndOfStream = None
+told_position SelectorMissing = None
+told_position UnexpectedSelector = None
+told_position UnexpectedCombinator = None
+told_position InvalidAttributeSelector = None
+told_position InvalidLanguagePseudoClass = None
+
 -- the reading has failed, the error tells its fault, and this is left to read
 abbrev pub FailsBy : {A : Type 0} → List ℕ → Reading A → Error → List ℕ → Type 0
 FailsBy text (got x rest) error left = ⊥
@@ -39,10 +52,11 @@ abbrev pub Gives : {X A : Type 0} → (X → A) → List ℕ → Reading A → R
 Gives view text reading (Ok x) left = reading ≡ got (view x) left
 Gives view text reading (Err error) left = FailsBy text reading error left
 
--- row:column
+-- what the position prints: row, colon, column
 abbrev pub position_text : TextPos → List ℕ
 position_text pos = decimal pos.row ++ codes ":" ++ decimal pos.col
 
+-- what the error prints
 abbrev pub error_text : Error → List ℕ
 error_text UnexpectedEndOfStream = codes "unexpected end of stream"
 error_text (InvalidIdent pos) = codes "invalid ident at " ++ position_text pos

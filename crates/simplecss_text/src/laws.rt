@@ -1,10 +1,14 @@
 //! Laws of the grammar, each the contract of a function that does nothing. They say what the readers of comments and blanks
 //! find in words that know of no reading: what a comment is, and what a blank is.
 
-ghost use Rattle.std.specs.Prelude.{◌≡◌, ℕ, ◌≤◌, ◌↔◌, List, ◌++◌, length, true, false};
+ghost use Rattle.std.specs.Prelude.{◌≡◌, ℕ, ◌≤◌, ◌↔◌, List, ◌++◌, length, true, false, IsTrue};
 ghost use Rattle.simplecss_text.specs.Reading.{got, before, Ends};
 ghost use Rattle.simplecss_text.specs.Comments.{opens_comment, comment, past_blank, blank, has_space};
 ghost use Rattle.simplecss_text.specs.Blanks.{IsComment, IsBlank, IsComments};
+ghost use Rattle.simplecss_text.specs.Cursor.{text_of, place_of};
+
+use crate::stream::Stream;
+use crate::{Error, TextPos};
 
 /// A comment is read exactly where what reading passes is a comment.
 pub fn comment_is_closed()
@@ -34,4 +38,13 @@ pub fn space_bytes_are_parts()
 pub fn open_comment_breaks_blank()
     ensures { (text : List ℕ) → opens_comment (past_blank text) ≡ true →
         blank text ≡ comment (past_blank text) }
+{}
+
+/// Two positions are equal exactly if their rows and columns are, two errors if they are the same with the same positions
+/// and bytes, and two cursors if they stand at the same place of texts with the same bytes.
+pub fn equality_laws()
+    ensures positions { (a b : TextPos) → IsTrue (⟦<TextPos as PartialEq>⟧.eq a b) ↔ (a ≡ b) }
+    ensures errors { (a b : Error) → IsTrue (⟦<Error as PartialEq>⟧.eq a b) ↔ (a ≡ b) }
+    ensures cursors { (a b : Stream) → IsTrue (⟦<Stream<'static> as PartialEq>⟧.eq a b)
+        ↔ ((text_of a ≡ text_of b) × (place_of a ≡ place_of b)) }
 {}
