@@ -7,6 +7,7 @@ pub mod Joins
 pub mod Attributes
 pub mod Reading
 pub mod Values
+pub mod Styled
 pub mod Written
 pub mod MatchLines
 pub mod Operands

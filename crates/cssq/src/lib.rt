@@ -2,6 +2,7 @@
 #![tactic(auto)]
 
 pub mod command;
+pub mod laws;
 #[cfg(test)]
 mod counting;
 pub mod runs;

@@ -1,6 +1,7 @@
 //! What the program's commands do, over any writer.
 
-ghost use Rattle.std.specs.Prelude.{◌≡◌, Some, OnOk, OnErr, IfErr, IfOk, string_bytes, map};
+ghost use Rattle.std.specs.Prelude.{◌≡◌, Some, OnOk, OnErr, IfErr, IfOk, string_bytes, map, decimal};
+ghost use Rattle.std.specs.Fmt.{WritesStyledOnOk};
 ghost use Rattle.std.specs.Io.KnownBytes.{Appends};
 ghost use Rattle.cssq.specs.Outcomes.{AppendsProperPart, Runs};
 ghost use Rattle.cssq.specs.Faults.{status_of, message_of, run_fault};
@@ -18,6 +19,7 @@ use simplecss::{Rule, Selector, StyleSheet};
 use std::alloc::{AllocError, AllocFailed, Global};
 use std::error::Error;
 use std::fmt;
+use std::fmt::InlineText;
 use std::fmt::Write as _;
 use std::io::Write;
 
@@ -48,21 +50,42 @@ impl RunFault {
     }
 }
 
+/// Prints the line that the program writes to standard error, without its newline. Width, fill and flags of the formatter
+/// change nothing.
 impl fmt::Display for RunFault {
     ghost output = { λ fault. Some (message_of fault) };
 
+    ghost styled_output = { λ fault _. Some (message_of fault) };
+
+    #[tactic(auto, using(crate::proofs::Styled::plain_of_styled))]
     fn fmt<W: fmt::Write>(&self, f: &mut fmt::Formatter<W>) -> fmt::Result {
-        match self {
-            RunFault::Refused => write!(f, "cssq: selector refused"),
-            RunFault::Tree(fault) => {
-                let number = fault.number();
-                let line = fault.line();
-                write!(f, "cssq: tree fault {number} at line {line}")
-            }
-            RunFault::Memory => write!(f, "cssq: want of memory"),
-            RunFault::Output => write!(f, "cssq: cannot write"),
+        match *self {
+            RunFault::Refused => f.write_str("cssq: selector refused"),
+            RunFault::Tree(fault) => write_tree_fault(f, fault),
+            RunFault::Memory => f.write_str("cssq: want of memory"),
+            RunFault::Output => f.write_str("cssq: cannot write"),
         }
     }
+}
+
+/// Writes the line of a tree's fault: its number and that of the line.
+#[tactic(auto, using(crate::proofs::Styled::styled_four))]
+fn write_tree_fault<W: fmt::Write>(f: &mut fmt::Formatter<W>, fault: TreeFault) -> fmt::Result
+    ensures { WritesStyledOnOk W.write_str_gives f.old result (message_of (RunFault.Tree fault)) f.new }
+{
+    f.write_str("cssq: tree fault ")?;
+    write_decimal(f, usize::from(fault.number()))?;
+    f.write_str(" at line ")?;
+    write_decimal(f, fault.line())
+}
+
+/// Writes the number in decimal digits, which are at most twenty.
+fn write_decimal<W: fmt::Write>(f: &mut fmt::Formatter<W>, number: usize) -> fmt::Result
+    ensures { WritesStyledOnOk W.write_str_gives f.old result (decimal number) f.new }
+{
+    let mut digits = InlineText::<20>::new();
+    write!(digits, "{number}")?;
+    f.write_str(digits.as_str())
 }
 
 impl Error for RunFault {}

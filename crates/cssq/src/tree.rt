@@ -13,13 +13,19 @@ use std::alloc::{AllocError, Global};
 use std::collections::BTreeSet;
 use std::marker::Model;
 
-/// What is wrong at a line, the first being 1.
+/// What is wrong with a tree's text, with the number of the line at which it is, the first being 1.
 #[derive(Clone, Copy, PartialEq, Debug)]
 pub enum TreeFault {
+    /// The first field is no depth: `0`, or digits without a leading zero. Or it is one that may not stand there: on the
+    /// first line a depth is 0, and on another at most that of the line before and one more. So it is at an empty line.
     BadDepth(usize),
+    /// There is no second field, the name, or it is empty.
     EmptyName(usize),
+    /// A further field, an attribute, has no `=`.
     NoEquals(usize),
+    /// An attribute has the key of an earlier one of its line.
     RepeatedKey(usize),
+    /// A growth was refused at this line, and no line up to it has another fault.
     Memory(usize),
 }
 

@@ -23,8 +23,12 @@ fn tells_statuses_and_lines(rt: HostRuntime) -> Result<(), Fail> {
         assert_eq!(rt; fault.status(), status, "at {fault:?}");
         let text = format!(in rt.alloc(); "{fault}")?;
         assert_eq!(rt; text.as_str(), line);
-        let padded = format!(in rt.alloc(); "{fault:>40}")?;
-        assert_eq!(rt; padded.as_str(), line);
+        let flagged = format!(in rt.alloc(); "{fault:#}")?;
+        assert_eq!(rt; flagged.as_str(), line);
+        let right = format!(in rt.alloc(); "{fault:>40}")?;
+        assert_eq!(rt; right.as_str(), line);
+        let left = format!(in rt.alloc(); "{fault:<5}")?;
+        assert_eq!(rt; left.as_str(), line);
     }
     Ok(())
 }
