@@ -7,6 +7,7 @@ pub mod Depths
 pub mod Turns
 pub mod Flat
 pub mod WordLemmas
+pub mod AskedValues
 pub mod Drafting
 pub mod Filling
 pub mod Styled
