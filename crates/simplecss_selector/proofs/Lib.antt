@@ -1,5 +1,6 @@
 pub mod Ancestors
 pub mod Reaching
+pub mod Images
 pub mod Meeting
 pub mod Stretches
 pub mod Greedy

@@ -4,6 +4,7 @@
 mod counter;
 mod draft;
 mod element;
+mod element_laws;
 mod equality;
 mod matching;
 mod operator;
@@ -16,6 +17,7 @@ mod tokenizer;
 
 pub use counter::Tests;
 pub use element::Element;
+pub use element_laws::{components_law, same_meanings_law};
 pub use equality::{equality_law, printing_law};
 pub use operator::{AttributeOperator, PseudoClass};
 pub use reading::parse_front;
