@@ -4,8 +4,9 @@ use Rattle.std.specs.Option.{option_map}
 use Rattle.simplecss_text.specs.Components.{Operator, Class}
 use Rattle.simplecss_selector.specs.Trees.{Tree}
 
--- A map from the nodes of one tree to those of another that keeps all that a selector can ask: the image of a node has the
--- images of its parent and of its previous sibling for its own, and gives the same answers.
+-- A map from the nodes of one tree to those of another that keeps all that a selector can ask: the
+-- image of a node has the images of its parent and of its previous sibling for its own, and gives
+-- the same answers.
 pub record KeepsMeanings {M N : Type 0} (tree : Tree M) (other : Tree N) (image : M → N) : Type 0 where
   pub parents : (n : M) → other.parent (image n) ≡ option_map image (tree.parent n)
   pub siblings : (n : M) → other.previous_sibling (image n) ≡ option_map image (tree.previous_sibling n)

@@ -8,8 +8,8 @@ use Rattle.simplecss_text.specs.Components.Operator.{exists, equals, has_word, b
 abbrev pub is_word_of : List ℕ → List ℕ → Bool
 is_word_of word value = list_any (λ part. bytes_eq part word) (slice_split (λ b. b == 32) value)
 
--- whether the value is as the operator asks: any value will do; it has the same bytes; the word is one of its words; it has
--- the same bytes, or begins with them and a hyphen
+-- whether the value is as the operator asks: any value will do; it has the same bytes; the word is
+-- one of its words; it has the same bytes, or begins with them and a hyphen
 abbrev pub is_as_asked : Operator → List ℕ → Bool
 is_as_asked exists value = true
 is_as_asked (equals text) value = bytes_eq value text
@@ -29,8 +29,8 @@ abbrev pub StandsIn : List ℕ → List ℕ → Type 0
 StandsIn word text =
     (x : List ℕ) × (y : List ℕ) × (text ≡ x ++ (word ++ y)) × IsUpToSpace x × IsFromSpace y
 
--- what the test means: any value will do; it is the text; the word has no space and stands in it between spaces or ends; it is
--- the text, or goes on after it with a hyphen
+-- what the test means: any value will do; it is the text; the word has no space and stands in it
+-- between spaces or ends; it is the text, or goes on after it with a hyphen
 abbrev pub IsAsAsked : Operator → List ℕ → Type 0
 IsAsAsked exists value = Unit {0}
 IsAsAsked (equals text) value = value ≡ text

@@ -8,9 +8,10 @@ ghost use Rattle.simplecss_selector.specs.Shapes.{component_at};
 
 use crate::{Element, Selector};
 
-/// Where each element of one type has an image among those of another that means the same (its parent and its previous
-/// sibling are the images of its own, and the three answers are the same), a selector matches an element exactly if
-/// it matches the image. So no selector can tell the two apart.
+/// Where each element of one type has an image among those of another that means the same (its
+/// parent and its previous sibling are the images of its own, and the three answers are the same),
+/// a selector matches an element exactly if it matches the image. So no selector can tell the two
+/// apart.
 pub fn same_meanings_law<E: Element, F: Element>()
     ensures { (image : E.Node → F.Node) → KeepsMeanings E.tree F.tree image
         → (components : List Component) (n : E.Node)

@@ -28,6 +28,8 @@ pub use token::SelectorToken;
 pub use tokenizer::{SelectorTokenizer, at_most_two_errors};
 
 #[cfg(test)]
+mod operator_tests;
+#[cfg(test)]
 mod reading_tests;
 #[cfg(test)]
 mod row;

@@ -22,8 +22,8 @@ impl<'a> AttributeOperator<'a> {
 
     /// Whether the value of an attribute is as the operator asks.
     ///
-    /// Words are parted by the space 0x20 alone, and an empty word stands between two spaces, before a leading one,
-    /// behind a last one and in the empty value.
+    /// Words are parted by the space 0x20 alone, and an empty word stands between two spaces,
+    /// before a leading one, behind a last one and in the empty value.
     pub fn matches(&self, value: &str) -> bool
         ensures answer { result ≡ is_as_asked (operator_of self.now) value.now }
         ensures means { IsTrue result ↔ IsAsAsked (operator_of self.now) value.now }
@@ -40,7 +40,8 @@ impl<'a> AttributeOperator<'a> {
     }
 }
 
-/// Where the first space stands, if there is one. Values are short, and a plain walk is faster than a search.
+/// Where the first space stands, if there is one. Values are short, and a plain walk is faster than
+/// a search.
 #[inline(always)]
 fn first_space(bytes: &[u8]) -> Option<usize>
     ensures none { result ≡ None → EachIndex bytes.now (λ k. (slice_index bytes.now k == 32) ≡ false) }

@@ -1,5 +1,5 @@
-//! An example of a tree: elements in a row, each the next sibling or a child of the one before. They count what
-//! they are asked.
+//! An example of a tree: elements in a row, each the next sibling or a child of the one before.
+//! They count what they are asked.
 ghost use Rattle.std.specs.Prelude.{◌<◌, length};
 
 use crate::{AttributeOperator, Element, PseudoClass};
@@ -23,8 +23,8 @@ impl Asked {
     }
 }
 
-/// The element at a place of a row: of each element whether it is the next sibling of the one before it, and its
-/// name, which is its class, too.
+/// The element at a place of a row: of each element whether it is the next sibling of the one
+/// before it, and its name, which is its class, too.
 #[derive(Drop)]
 pub(crate) struct Place<'r, 'a> {
     row: &'r [(bool, &'a str)],
