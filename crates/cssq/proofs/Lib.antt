@@ -6,7 +6,6 @@ pub mod Linked
 pub mod Joins
 pub mod Attributes
 pub mod Reading
-pub mod Values
 pub mod Styled
 pub mod Written
 pub mod MatchLines

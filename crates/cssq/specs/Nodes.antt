@@ -1,11 +1,11 @@
 -- The elements of a page as nodes of a tree, and what each answers to a selector.
-use Rattle.std.specs.Prelude.{ℕ, zero, suc, ◌+◌, Bool, false, true, List, [], ◌∷◌, ◌++◌, ◌||◌, Option, None, Some, if◌then◌else◌, bytes_eq, is_none, nat_eq, ◌==◌}
-use Rattle.std.specs.List.{slice_get, slice_split, list_any, starts_with}
+use Rattle.std.specs.Prelude.{ℕ, zero, suc, ◌+◌, Bool, false, List, [], ◌∷◌, Option, None, Some, if◌then◌else◌, bytes_eq, is_none}
+use Rattle.std.specs.List.{slice_get}
 use Rattle.std.specs.Option.{option_map, option_map_or}
 use Rattle.simplecss.specs.Components.{Operator, Class}
-use Rattle.simplecss.specs.Components.Operator.{exists, equals, has_word, begins_with}
 use Rattle.simplecss.specs.Components.Class.{first_child, link, visited, hover, active, focus, lang}
 use Rattle.simplecss.specs.Trees.{Tree}
+use Rattle.simplecss.specs.Operators.{is_as_asked}
 use Rattle.cssq.specs.TreeText.{Row}
 use Rattle.cssq.specs.Relatives.{depths_of, parent_place, previous_place}
 
@@ -47,13 +47,6 @@ value_in (attribute ∷ attributes) key = if bytes_eq attribute.0 key then Some 
 -- the value of an attribute of the element at a place, if it has the attribute
 abbrev pub attribute_at : List Row → ℕ → List ℕ → Option (List ℕ)
 attribute_at rows place key = option_map_or (λ row. value_in row.attributes key) (slice_get rows place) None
-
--- whether a value is as an operator asks; its words stand between single spaces
-abbrev pub is_as_asked : Operator → List ℕ → Bool
-is_as_asked exists value = true
-is_as_asked (equals text) value = bytes_eq value text
-is_as_asked (has_word word) value = list_any (λ part. bytes_eq part word) (slice_split (λ b. b == 32) value)
-is_as_asked (begins_with start) value = bytes_eq value start || starts_with nat_eq value (start ++ 45 ∷ [])
 
 -- names are equal byte by byte
 abbrev pub has_name : Spot → List ℕ → Bool

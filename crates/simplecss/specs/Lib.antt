@@ -7,8 +7,10 @@ pub use Rattle.simplecss_declaration.specs.Coming
 pub use Rattle.simplecss_declaration.specs.Properties
 pub use Rattle.simplecss_selector.specs.Asked
 pub use Rattle.simplecss_selector.specs.Given
+pub use Rattle.simplecss_selector.specs.Meanings
 pub use Rattle.simplecss_selector.specs.Operators
 pub use Rattle.simplecss_selector.specs.Placements
+pub use Rattle.simplecss_selector.specs.Shapes
 pub use Rattle.simplecss_selector.specs.Tokenizer
 pub use Rattle.simplecss_selector.specs.Trees
 pub use Rattle.simplecss_text.specs.Blanks

@@ -34,7 +34,7 @@ use Rattle.simplecss_selector.proofs.Flat.{Tile-le}
 use Rattle.simplecss_selector.specs.contracts.selector.PartPartialEq.TheImpl.{eq-value as part_test}
 
 -- the derived tests compare texts, wherever they stand
-by_operator : (a b : AttributeOperator) → operator_test.it a b ≡ operator_eq (operator_of a) (operator_of b)
+pub by_operator : (a b : AttributeOperator) → operator_test.it a b ≡ operator_eq (operator_of a) (operator_of b)
 by_operator Exists Exists = refl
 by_operator Exists (Matches y) = refl
 by_operator Exists (Contains y) = refl
@@ -52,7 +52,7 @@ by_operator (StartsWith x) (Matches y) = refl
 by_operator (StartsWith x) (Contains y) = refl
 by_operator (StartsWith x) (StartsWith y) = refl
 
-by_class : (a b : PseudoClass) → class_test.it a b ≡ class_eq (class_of a) (class_of b)
+pub by_class : (a b : PseudoClass) → class_test.it a b ≡ class_eq (class_of a) (class_of b)
 by_class FirstChild FirstChild = refl
 by_class FirstChild Link = refl
 by_class FirstChild Visited = refl

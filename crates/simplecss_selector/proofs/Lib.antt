@@ -1,5 +1,6 @@
 pub mod Ancestors
 pub mod Reaching
+pub mod Images
 pub mod Meeting
 pub mod Stretches
 pub mod Greedy
@@ -7,6 +8,7 @@ pub mod Depths
 pub mod Turns
 pub mod Flat
 pub mod WordLemmas
+pub mod AskedValues
 pub mod Drafting
 pub mod Filling
 pub mod Counts

@@ -1,15 +1,14 @@
--- The words of a text, one after the other.
-use Rattle.std.proofs.Common.{◌≡◌, ◌≢◌, ℕ, suc, ◌+◌, ◌<◌, ◌==◌, ◌↔◌, List, [], ◌∷◌, ◌++◌, take, drop, add-one, eqb-true, eq-eqb, ◌⊎◌, inl, inr, length, get_or, refl, sym, ap, ◌∙◌, subst, arith, append_assoc, append-nil, eqb, Bool, true, false, IsTrue}
+-- The words of a text: what stands between its spaces, and the test for one of them.
+use Rattle.std.proofs.Common.{◌≡◌, ◌≢◌, ℕ, zero, suc, ◌+◌, ◌<◌, ◌≤◌, ◌==◌, ◌↔◌, List, [], ◌∷◌, ◌++◌, take, drop, add-one, eqb-true, eq-eqb, ◌⊎◌, inl, inr, length, get_or, refl, sym, ap, ◌∙◌, subst, arith, append_assoc, append-nil, Bool, true, false}
 use Rattle.std.proofs.Math.Seq.{drop-cons}
+use Rattle.std.specs.Prelude.{bytes_eq, ◌||◌}
+use Rattle.std.specs.List.{All, list_any}
 use Rattle.std.proofs.lemmas.Bool.{false≢true}
-use Rattle.std.proofs.lemmas.List.{take-append-drop, get_or-take, length-take}
-use Rattle.std.proofs.lemmas.Slice.Eq.{bytes_eq-Decides}
-use Rattle.std.specs.Cmp.Lexicographic.{pointwise}
-use Rattle.std.specs.List.{All}
+use Rattle.std.proofs.lemmas.List.{take-append-drop, get_or-take, length-take, length-append}
 use Rattle.std.proofs.lemmas.List.Elements.{All-head, All-tail, All-cons}
-use Rattle.simplecss_text.specs.Components.{Operator}
-use Rattle.simplecss_text.specs.Components.Operator.{begins_with}
-use Rattle.simplecss_selector.specs.Operators.{IsAsAsked, IsUpToSpace, IsFromSpace, StandsIn}
+use Rattle.std.proofs.lemmas.List.Splits.{slice_split_none, slice_split_at}
+use Rattle.std.proofs.lemmas.Slice.Eq.{bytes_eq-Decides}
+use Rattle.simplecss_selector.specs.Operators.{IsUpToSpace, IsFromSpace, StandsIn, is_word_of}
 
 -- no byte is a space
 abbrev pub Spaceless : List ℕ → Type 0
@@ -121,35 +120,79 @@ next_word w f r v sf e =
 pub words_are : (w v : List ℕ) → (All (λ b. b ≢ 32) w × StandsIn w v) ↔ IsWord w v
 words_are w v = (λ h. (spaceless_all w h.0, h.1), λ h. (all_spaceless w h.0, h.1))
 
--- a test of two texts byte by byte
-pub same_texts : (a b : List ℕ) → pointwise eqb a b ≡ true → a ≡ b
-same_texts a b = (bytes_eq-Decides a b).0
-
-pub texts_same : (a b : List ℕ) → a ≡ b → pointwise eqb a b ≡ true
-texts_same a b = (bytes_eq-Decides a b).1
-
-pub turn_found : (w v r f m : List ℕ) → pointwise eqb f w ≡ true → r ≡ f ++ 32 ∷ m → ((i : ℕ) → i < length f → get_or f i 0 ≢ 32) → (IsWord w v ↔ IsWord w r) → IsTrue true ↔ (All (λ b. b ≢ 32) w × StandsIn w v)
-turn_found w v r f m e p s i =
-    (λ t. (words_are w v).1 (i.1 ((next_word w f m r (spaceless_from f s) p).1 (inl (same_texts f w e)))), λ h. refl)
-
-pub turn_next : (w v r f m : List ℕ) → pointwise eqb f w ≡ false → r ≡ f ++ 32 ∷ m → ((i : ℕ) → i < length f → get_or f i 0 ≢ 32) → (IsWord w v ↔ IsWord w r) → IsWord w v ↔ IsWord w m
-turn_next w v r f m e p s i =
-    let n = next_word w f m r (spaceless_from f s) p in (
-      λ h. elim (n.0 (i.0 h)) [ inl a ↦ absurd (false≢true (sym e ∙ texts_same f w a)) | inr b ↦ b ],
-      λ h. i.1 (n.1 (inr h)),
-    )
-
-pub turn_last : (w v r : List ℕ) (b : Bool) → b ≡ pointwise eqb r w → ((i : ℕ) → i < length r → get_or r i 0 ≢ 32) → (IsWord w v ↔ IsWord w r) → IsTrue b ↔ (All (λ x. x ≢ 32) w × StandsIn w v)
-turn_last w v r b e s i =
-    let n = last_word w r (spaceless_from r s) in (
-      λ t. (words_are w v).1 (i.1 (n.1 (same_texts r w (sym e ∙ t)))),
-      λ h. e ∙ texts_same r w (n.0 (i.0 ((words_are w v).0 h))),
-    )
-
--- a value that does not go on from the start
-pub starts_not : (o : Operator) (s v : List ℕ) → o ≡ begins_with s → ((rest : List ℕ) → v ≡ s ++ rest → ⊥) → IsAsAsked o v → ⊥
-starts_not o s v e none h = go (rw e at h)
+is_space-Spaceless : (bs : List ℕ) → Spaceless bs → All (λ b. (b == 32) ≡ false) bs
+is_space-Spaceless [] s = λ k d l. absurd (omega arith)
+is_space-Spaceless (b ∷ bs) s = All-cons (λ x. (x == 32) ≡ false) b bs (other (b == 32) refl) (is_space-Spaceless bs s.1)
   where
-    go : IsAsAsked (begins_with s) v → ⊥
-    go (inl a) = none [] (a ∙ sym (append-nil s))
-    go (inr b) = none (45 ∷ b.0) b.1
+    other : (t : Bool) → (b == 32) ≡ t → (b == 32) ≡ false
+    other true e = absurd (s.0 (eqb-true b 32 e))
+    other false e = e
+
+pub or-false : (t : Bool) → (t || false) ≡ t
+or-false true = refl
+or-false false = refl
+
+-- behind the first word stand the others
+pub is_word_of-first : (w f r : List ℕ) → Spaceless f → is_word_of w (f ++ 32 ∷ r) ≡ (bytes_eq f w || is_word_of w r)
+is_word_of-first w f r s =
+    ap (list_any (λ part. bytes_eq part w)) (slice_split_at (λ b. b == 32) f 32 r (is_space-Spaceless f s) refl)
+
+-- a text with no space is its one word
+pub is_word_of-last : (w v : List ℕ) → Spaceless v → is_word_of w v ≡ bytes_eq v w
+is_word_of-last w v s =
+    ap (list_any (λ part. bytes_eq part w)) (slice_split_none (λ b. b == 32) v (is_space-Spaceless v s)) ∙ or-false (bytes_eq v w)
+
+-- the same of a text whose first space stands at a place
+pub is_word_of-at : (w r : List ℕ) (n : ℕ) → n < length r → (get_or r n 0 == 32) ≡ true → ((k : ℕ) → k < n → (get_or r k 0 == 32) ≡ false) → is_word_of w r ≡ (bytes_eq (take n r) w || is_word_of w (drop (n + 1) r))
+is_word_of-at w r n within space none =
+    ap (is_word_of w) (at_space r n within space) ∙ is_word_of-first w (take n r) (drop (n + 1) r) (spaceless_from (take n r) (before_space r n none))
+
+-- and of one that has none
+pub is_word_of-none : (w r : List ℕ) → ((k : ℕ) → k < length r → (get_or r k 0 == 32) ≡ false) → is_word_of w r ≡ bytes_eq r w
+is_word_of-none w r none = is_word_of-last w r (spaceless_from r (no_space r none))
+
+-- a text is one word, or a word and what stands behind the space after it
+data Cut (text : List ℕ) : Type 0 where
+  whole : Spaceless text → Cut text
+  parted : (word rest : List ℕ) → Spaceless word → text ≡ word ++ 32 ∷ rest → Cut text
+
+cut_on : (b : ℕ) (text : List ℕ) (space : Bool) → (b == 32) ≡ space → Cut text → Cut (b ∷ text)
+cut_on b text true e cut = parted [] text tt (ap (λ c. c ∷ text) (eqb-true b 32 e))
+cut_on b text false e (whole none) = whole (not_space b e, none)
+cut_on b text false e (parted word rest none is) = parted (b ∷ word) rest (not_space b e, none) (ap (λ t. b ∷ t) is)
+
+cut_of : (text : List ℕ) → Cut text
+cut_of [] = whole tt
+cut_of (b ∷ text) = cut_on b text (b == 32) refl (cut_of text)
+
+pub or-true : (first rest : Bool) → ((first || rest) ≡ true) ↔ ((first ≡ true) ⊎ (rest ≡ true))
+or-true true rest = (λ e. inl refl, λ e. refl)
+or-true false rest = (λ e. inr e, from)
+  where
+    from : (false ≡ true) ⊎ (rest ≡ true) → rest ≡ true
+    from (inl e) = absurd (false≢true e)
+    from (inr e) = e
+
+-- what the test for a word means, in a text of at most n bytes
+word_in : (n : ℕ) (word text : List ℕ) → length text ≤ n → Cut text → (is_word_of word text ≡ true) ↔ IsWord word text
+word_in n word text few (whole none) =
+    let only = last_word word text none in
+    let same = bytes_eq-Decides text word in
+    let test = is_word_of-last word text none in
+    (λ e. only.1 (same.0 (sym test ∙ e)), λ w. test ∙ same.1 (only.0 w))
+word_in zero word text few (parted first rest none is) = absurd (omega (arith, few, ap length is, length-append first (32 ∷ rest)))
+word_in (suc n) word text few (parted first rest none is) =
+    let next = next_word word first rest text none is in
+    let same = bytes_eq-Decides first word in
+    let later = word_in n word rest (omega (arith, few, ap length is, length-append first (32 ∷ rest))) (cut_of rest) in
+    let test = ap (is_word_of word) is ∙ is_word_of-first word first rest none in
+    let either = or-true (bytes_eq first word) (is_word_of word rest) in (
+      λ e. next.1 (elim (either.0 (sym test ∙ e)) [ inl t ↦ inl (same.0 t) | inr f ↦ inr (later.0 f) ]),
+      λ w. test ∙ either.1 (elim (next.0 w) [ inl t ↦ inl (same.1 t) | inr f ↦ inr (later.1 f) ]),
+    )
+
+pub is_word_of-StandsIn : (word value : List ℕ) → (is_word_of word value ≡ true) ↔ (All (λ b. b ≢ 32) word × StandsIn word value)
+is_word_of-StandsIn word value =
+    let is = word_in (length value) word value (omega arith) (cut_of value) in
+    let words = words_are word value in
+    (λ e. words.1 (is.0 e), λ h. is.1 (words.0 h))

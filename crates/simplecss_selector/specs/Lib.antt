@@ -1,5 +1,7 @@
 pub mod Trees
 pub mod Placements
+pub mod Meanings
+pub mod Shapes
 pub mod Asked
 pub mod Combinators
 pub mod Operators

@@ -1,7 +1,20 @@
--- What an attribute's value is asked by an operator.
-use Rattle.std.specs.Prelude.{◌≡◌, ◌≢◌, ℕ, List, [], ◌∷◌, ◌++◌, ◌⊎◌, All}
+-- What an operator asks of an attribute's value: as a test, and what that test means.
+use Rattle.std.specs.Prelude.{◌≡◌, ◌≢◌, ℕ, Bool, true, List, [], ◌∷◌, ◌++◌, ◌⊎◌, ◌||◌, ◌==◌, All, bytes_eq, nat_eq}
+use Rattle.std.specs.List.{list_any, slice_split, starts_with}
 use Rattle.simplecss_text.specs.Components.{Operator}
 use Rattle.simplecss_text.specs.Components.Operator.{exists, equals, has_word, begins_with}
+
+-- whether the word is one of those that single spaces part the value into
+abbrev pub is_word_of : List ℕ → List ℕ → Bool
+is_word_of word value = list_any (λ part. bytes_eq part word) (slice_split (λ b. b == 32) value)
+
+-- whether the value is as the operator asks: any value will do; it has the same bytes; the word is
+-- one of its words; it has the same bytes, or begins with them and a hyphen
+abbrev pub is_as_asked : Operator → List ℕ → Bool
+is_as_asked exists value = true
+is_as_asked (equals text) value = bytes_eq value text
+is_as_asked (has_word word) value = is_word_of word value
+is_as_asked (begins_with start) value = bytes_eq value start || starts_with nat_eq value (start ++ 45 ∷ [])
 
 -- nothing, or a text whose last byte is a space
 abbrev pub IsUpToSpace : List ℕ → Type 0
@@ -16,7 +29,8 @@ abbrev pub StandsIn : List ℕ → List ℕ → Type 0
 StandsIn word text =
     (x : List ℕ) × (y : List ℕ) × (text ≡ x ++ (word ++ y)) × IsUpToSpace x × IsFromSpace y
 
--- the value is as the operator asks
+-- what the test means: any value will do; it is the text; the word has no space and stands in it
+-- between spaces or ends; it is the text, or goes on after it with a hyphen
 abbrev pub IsAsAsked : Operator → List ℕ → Type 0
 IsAsAsked exists value = Unit {0}
 IsAsAsked (equals text) value = value ≡ text

@@ -29,7 +29,8 @@ Relates tree descendant m n = IsAncestor tree m n
 Relates tree child m n = tree.parent n ≡ Some m
 Relates tree adjacent m n = tree.previous_sibling n ≡ Some m
 
--- the nodes that go on from one node: each meets its component and is related to the node before it, and the last is `end`
+-- the nodes that go on from one node: each meets its component and is related to the node before
+-- it, and the last is `end`
 abbrev pub GoesOn : {Node : Type 0} → Tree Node → Node → List Component → List Node → Node → Type 0
 GoesOn tree before [] [] end = before ≡ end
 GoesOn tree before [] (n ∷ ns) end = ⊥
@@ -37,7 +38,8 @@ GoesOn tree before (c ∷ cs) [] end = ⊥
 GoesOn tree before (c ∷ cs) (n ∷ ns) end =
     Relates tree c.combinator before n × Meets tree n c.compound × GoesOn tree n cs ns end
 
--- one node for each component, each meeting it and related to the node before it, the last being `end`
+-- one node for each component, each meeting it and related to the node before it, the last being
+-- `end`
 abbrev pub IsPlacement : {Node : Type 0} → Tree Node → List Component → List Node → Node → Type 0
 IsPlacement tree [] nodes end = ⊥
 IsPlacement tree (c ∷ cs) [] end = ⊥

@@ -3,8 +3,8 @@ use Rattle.std.specs.Prelude.{◌≡◌, ℕ, zero, suc, ◌+◌, List, [], Bool
 use Rattle.std.specs.Borrow.{Bor}
 use Rattle.std.specs.Option.{option_map_or}
 use Rattle.simplecss_text.specs.Components.{Operator, Class}
-use Rattle.simplecss_text.specs.Components.Operator.{exists, equals, has_word, begins_with}
 use Rattle.simplecss_text.specs.Components.Class.{first_child, link, visited, hover, active, focus, lang}
+use Rattle.simplecss_selector.specs.Operators.{is_as_asked}
 use Rattle.simplecss_selector.specs.Trees.{Tree, DepthCountsAncestors, SiblingsShareParent}
 
 -- whether an element is the next sibling of the one before it, and its name
@@ -30,12 +30,9 @@ abbrev pub depth_of : List Entry → ℕ → ℕ
 depth_of row zero = 0
 depth_of row (suc k) = if is_sibling row (suc k) then depth_of row k else depth_of row k + 1
 
--- The one attribute is `class`, and its value is the name.
+-- the one attribute is `class`, and its value is the name
 abbrev pub has_attribute : List ℕ → List ℕ → Operator → Bool
-has_attribute name key exists = false
-has_attribute name key (equals value) = false
-has_attribute name key (has_word word) = bytes_eq key (codes "class") && bytes_eq name word
-has_attribute name key (begins_with start) = false
+has_attribute name key operator = bytes_eq key (codes "class") && is_as_asked operator name
 
 abbrev pub is_in_class : Option ℕ → Class → Bool
 is_in_class before first_child = is_none before

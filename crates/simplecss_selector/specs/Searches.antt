@@ -1,7 +1,8 @@
 -- What the search for a placement knows as it goes up a tree, from the last component to the first.
-use Rattle.std.specs.Prelude.{◌≡◌, ℕ, List, [], ◌∷◌, Option, Some, None, take, slice_index_or}
+use Rattle.std.specs.Prelude.{◌≡◌, ℕ, List, [], ◌∷◌, Option, Some, None, take}
 use Rattle.simplecss_text.specs.Components.{Component, Combinator}
 use Rattle.simplecss_text.specs.Components.Combinator.{none, descendant, child, adjacent}
+pub use Rattle.simplecss_selector.specs.Shapes.{any_component, component_at}
 use Rattle.simplecss_selector.specs.Trees.{Tree}
 use Rattle.simplecss_selector.specs.Placements.{IsAncestor, Meets, Relates}
 
@@ -37,13 +38,6 @@ backwards (c ∷ cs) after = backwards cs (c ∷ after)
 -- the first n components, the last of them first
 abbrev pub first_of : List Component → ℕ → List Component
 first_of cs n = backwards (take n cs) []
-
--- every type will do
-abbrev pub any_component : Component
-any_component = record { combinator = none; compound = record { name = None; subselectors = [] } }
-
-abbrev pub component_at : List Component → ℕ → Component
-component_at cs k = slice_index_or cs k any_component
 
 -- the node to which a child or adjacent step leads back
 abbrev pub step_from : {Node : Type 0} → Tree Node → Combinator → Node → Option Node

@@ -1,14 +1,13 @@
 -- What contracts see of a selector that is kept in flat lists.
-use Rattle.std.specs.Prelude.{◌≡◌, ℕ, ◌<◌, ◌≤◌, ◌↔◌, List, [], ◌∷◌, length, map}
+use Rattle.std.specs.Prelude.{◌≡◌, ℕ, ◌≤◌, List, [], ◌∷◌, map}
 use Rattle.std.specs.List.{slice_range}
 use Rattle.std.specs.Option.{option_map}
 use Rattle.simplecss_selector.specs.Asked.{operator_of, class_of}
 use Rattle.simplecss_selector.specs.Combinators.{combinator_of}
 use Rattle.simplecss_text.specs.Components.{Subselector, Component}
-use Rattle.simplecss_text.specs.Components.Combinator.{none}
 use Rattle.simplecss_text.specs.Components.Subselector.{attribute, pseudo_class}
 use Rattle.simplecss_selector.specs.Drafts.{Drafted}
-use Rattle.simplecss_selector.specs.Searches.{component_at}
+pub use Rattle.simplecss_selector.specs.Shapes.{IsSelector}
 use Rattle.simplecss_selector.specs.declared.selector.Part.{Part}
 use Rattle.simplecss_selector.specs.declared.selector.SubSelector.{SubSelector}
 use Rattle.simplecss_selector.specs.declared.selector.SubSelector.TheVariants.{Attribute, PseudoClass}
@@ -34,11 +33,6 @@ components_from start (p ∷ ps) subselectors =
 abbrev pub Tile : ℕ → List Part → ℕ → Type 0
 Tile start [] n = start ≡ n
 Tile start (p ∷ ps) n = (start ≤ p.end) × Tile p.end ps n
-
--- there is a component, and a component has no combinator exactly if it is the first
-abbrev pub IsSelector : List Component → Type 0
-IsSelector cs =
-    (0 < length cs) × ((k : ℕ) → k < length cs → ((component_at cs k).combinator ≡ none) ↔ (k ≡ 0))
 
 -- where the subselectors of the last of these parts end
 abbrev pub last_end : ℕ → List Part → ℕ

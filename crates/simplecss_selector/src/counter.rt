@@ -1,9 +1,10 @@
+//! A count of tests, which contracts alone see.
 ghost use Rattle.std.specs.Prelude.{◌≡◌, ℕ, ◌+◌};
 ghost use Rattle.std.specs.Borrow.{ftrue};
 
 use std::marker::Model;
 
-// A number that only contracts see. It takes no bytes.
+/// A number that only contracts see. It takes no bytes.
 #[derive(Drop)]
 struct Count {
     ghost number: { ℕ },
@@ -14,12 +15,14 @@ impl Model for Count {
 }
 
 impl Count {
+    /// The number 0.
     fn zero() -> Count
         ensures { result.number ≡ 0 }
     {
         Count {}
     }
 
+    /// The number that follows.
     fn next(_before: &Count) -> Count
         ensures { result.number ≡ _before.now.number + 1 }
     {
@@ -27,7 +30,8 @@ impl Count {
     }
 }
 
-/// How many tests of a component against an element were made. Contracts see the number, and at run time there is none: it takes no bytes.
+/// How many tests of a component against an element were made. Contracts see the number, and at run
+/// time there is none: it takes no bytes.
 #[derive(Drop)]
 pub struct Tests {
     count: Count,
@@ -50,7 +54,7 @@ impl Tests {
         }
     }
 
-    // One more test. The function that asks an element is the only caller.
+    /// One more test. The function that asks an element is the only caller.
     #[inline(always)]
     pub(crate) fn tick(&mut self)
         ensures { self.new ≡ self.old + 1 }

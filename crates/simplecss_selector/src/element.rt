@@ -1,13 +1,31 @@
+//! Elements, which selectors are asked of.
 use crate::{AttributeOperator, PseudoClass};
 
-/// An element of a document. Each value means a node of a tree, and what it answers depends on that node and on the texts of the arguments alone.
+/// An element of a document. Each value means a node of a tree, and what it answers depends on that
+/// node and on the texts of the arguments alone.
 ///
 /// To make a tree of your own match selectors:
 ///
-/// 1. Say what a value means: a type `Node` of contracts, and `node`, the node of a value. For elements in one list, of which each is the child of the one before, a node is the list of the names and a place in it.
-/// 2. In your `specs/` write the record `tree : Tree Node`: of each node the parent, the previous sibling and the depth, and what it answers about names, attributes and pseudo-classes.
-/// 3. There prove the two laws. `DepthCountsAncestors`: the depth is 0 exactly where there is no parent, and else one more than the parent's. `SiblingsShareParent`: a previous sibling has the same parent, or none where the node has none.
-/// 4. Write the five functions, so that each answers what the record says of the node. They are asked often, so mark those that are short `#[inline(always)]`.
+/// 1. Say what a value means: a type `Node` of contracts, and `node`, the node of a value. For
+///    elements in one list, of which each is the child of the one before, a node is the list of the
+///    names and a place in it.
+/// 2. In your `specs/` write the record `tree : Tree Node`: of each node the parent, the previous
+///    sibling and the depth, and what it answers about names, attributes and pseudo-classes.
+///    `is_as_asked` says whether a value is as an operator asks.
+/// 3. There prove the two laws. `DepthCountsAncestors`: the depth is 0 exactly where there is no
+///    parent, and else one more than the parent's. `SiblingsShareParent`: a previous sibling has
+///    the same parent, or none where the node has none.
+/// 4. Write the five functions, so that each answers what the record says of the node. For the
+///    value of an attribute ask `AttributeOperator::matches`, which answers `is_as_asked`. They are
+///    asked often, so mark those that are short `#[inline(always)]`.
+///
+/// Your `specs/` import these modules, so list both crates in `crates.txt`:
+///
+/// | Module | For |
+/// |---|---|
+/// | `Rattle.simplecss_selector.specs.Trees` | `Tree`, `DepthCountsAncestors`, `SiblingsShareParent` |
+/// | `Rattle.simplecss_selector.specs.Operators` | `is_as_asked` |
+/// | `Rattle.simplecss_text.specs.Components` | `Operator` and `Class`, which the record is asked |
 ///
 /// ```text
 /// pub struct Link<'n> {
@@ -48,7 +66,10 @@ use crate::{AttributeOperator, PseudoClass};
 /// }
 /// ```
 ///
-/// The record of this tree has `parent (names, 0) = None` and `parent (names, suc k) = Some (names, k)`, no previous siblings, and `depth (names, k) = k`. A whole example, with siblings, classes and the proofs of the laws, is `src/row.rt` of this crate with `specs/Rows.antt`.
+/// The record of this tree has `parent (names, 0) = None` and
+/// `parent (names, suc k) = Some (names, k)`, no previous siblings, and `depth (names, k) = k`.
+/// A whole example, with siblings, classes and the proofs of the laws, is `src/row.rt` of this
+/// crate with `specs/Rows.antt`.
 pub trait Element: Drop {
     ghost use Rattle.std.specs.Prelude.{◌≡◌, Option, option_map};
     ghost use Rattle.simplecss_selector.specs.Trees.{Tree, DepthCountsAncestors, SiblingsShareParent};

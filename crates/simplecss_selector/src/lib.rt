@@ -4,9 +4,11 @@
 mod counter;
 mod draft;
 mod element;
+mod element_laws;
 mod equality;
 mod matching;
 mod operator;
+mod operator_laws;
 mod printing;
 mod reading;
 mod selector;
@@ -16,13 +18,17 @@ mod tokenizer;
 
 pub use counter::Tests;
 pub use element::Element;
+pub use element_laws::{components_law, same_meanings_law};
 pub use equality::{equality_law, printing_law};
 pub use operator::{AttributeOperator, PseudoClass};
+pub use operator_laws::operator_equality_laws;
 pub use reading::parse_front;
 pub use selector::Selector;
 pub use token::SelectorToken;
 pub use tokenizer::{SelectorTokenizer, at_most_two_errors};
 
+#[cfg(test)]
+mod operator_tests;
 #[cfg(test)]
 mod reading_tests;
 #[cfg(test)]

@@ -1,5 +1,6 @@
-ghost use Rattle.std.specs.Prelude.{◌≡◌, ◌≢◌, ◌↔◌, ◌<◌, ◌==◌, ℕ, length, true, false, None, IfSome, All, IsTrue, EachIndex, slice_index};
-ghost use Rattle.simplecss_selector.specs.Operators.{StandsIn};
+//! What selectors ask of an attribute's value, and the pseudo-classes that they ask of an element.
+ghost use Rattle.std.specs.Prelude.{◌≡◌, ◌<◌, ◌==◌, ℕ, length, true, false, None, IfSome, EachIndex, slice_index};
+ghost use Rattle.simplecss_selector.specs.Operators.{is_word_of};
 
 /// What an attribute's value is asked.
 #[derive(Clone, Copy, Debug, PartialEq)]
@@ -15,15 +16,17 @@ pub enum AttributeOperator<'a> {
 }
 
 impl<'a> AttributeOperator<'a> {
-    ghost use Rattle.std.specs.Prelude.{◌↔◌, IsTrue};
+    ghost use Rattle.std.specs.Prelude.{◌≡◌, ◌↔◌, IsTrue};
     ghost use Rattle.simplecss_selector.specs.Asked.{operator_of};
-    ghost use Rattle.simplecss_selector.specs.Operators.{IsAsAsked};
+    ghost use Rattle.simplecss_selector.specs.Operators.{is_as_asked, IsAsAsked};
 
     /// Whether the value of an attribute is as the operator asks.
     ///
-    /// Words are parted by the space 0x20 alone, and an empty word stands between two spaces, before a leading one, behind a last one and in the empty value.
+    /// Words are parted by the space 0x20 alone, and an empty word stands between two spaces,
+    /// before a leading one, behind a last one and in the empty value.
     pub fn matches(&self, value: &str) -> bool
-        ensures { IsTrue result ↔ IsAsAsked (operator_of self.now) value.now }
+        ensures answer { result ≡ is_as_asked (operator_of self.now) value.now }
+        ensures means { IsTrue result ↔ IsAsAsked (operator_of self.now) value.now }
     {
         match *self {
             AttributeOperator::Exists => true,
@@ -37,18 +40,21 @@ impl<'a> AttributeOperator<'a> {
     }
 }
 
-// Where the first space stands, if there is one. Values are short, and a plain walk is faster than a search.
+/// Where the first space stands, if there is one. Values are short, and a plain walk is faster than
+/// a search.
 #[inline(always)]
 fn first_space(bytes: &[u8]) -> Option<usize>
     ensures none { result ≡ None → EachIndex bytes.now (λ k. (slice_index bytes.now k == 32) ≡ false) }
-    ensures some { IfSome result (λ n. (n < length bytes.now) × ((slice_index bytes.now n == 32) ≡ true) × ((k : ℕ) → k < n → (slice_index bytes.now k == 32) ≡ false)) }
+    ensures some { IfSome result (λ n. (n < length bytes.now)
+        × ((slice_index bytes.now n == 32) ≡ true)
+        × ((k : ℕ) → k < n → (slice_index bytes.now k == 32) ≡ false)) }
 {
     bytes.iter().position(|byte| *byte == b' ')
 }
 
-// Whether the word is one of those that single spaces part.
+/// Whether the word is one of those that single spaces part the value into.
 fn has_word(value: &str, word: &str) -> bool
-    ensures { IsTrue result ↔ (All (λ b. b ≢ 32) word.now × StandsIn word.now value.now) }
+    ensures { result ≡ is_word_of word.now value.now }
 {
     let mut rest = value.as_bytes();
     'words: while let Some(end) = first_space(rest) {

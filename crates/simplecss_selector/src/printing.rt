@@ -1,3 +1,5 @@
+//! The texts of selectors and of pseudo-classes. They are written as they are, whatever options a
+//! formatter has.
 ghost use Rattle.std.specs.Prelude.{◌≡◌, ◌++◌, map};
 ghost use Rattle.std.specs.Fmt.{WritesStyledOnOk};
 ghost use Rattle.std.specs.List.{flat_map};
@@ -44,20 +46,22 @@ impl<'a> fmt::Display for Selector<'a> {
     }
 }
 
+/// Writes a component, with what stands before it.
 #[tactic(auto, using(simplecss_text::proofs::Styled::styled_three))]
 fn write_component<W: fmt::Write>(
     f: &mut fmt::Formatter<W>,
     part: Part,
     subselectors: &[SubSelector],
 ) -> fmt::Result
-    ensures { WritesStyledOnOk W.write_str_gives f.old result (component_text (component_of_part part.entry subselectors.now)) f.new }
+    ensures { WritesStyledOnOk W.write_str_gives f.old result
+        (component_text (component_of_part part.entry subselectors.now)) f.new }
 {
     f.write_str(before(part.combinator))?;
     f.write_str(name_or_star(part.name))?;
     write_subselectors(f, subselectors)
 }
 
-// What stands before a component.
+/// What stands before a component.
 fn before(combinator: Combinator) -> &'static str
     ensures { result.now ≡ combinator_text (combinator_of combinator) }
 {
@@ -69,7 +73,7 @@ fn before(combinator: Combinator) -> &'static str
     }
 }
 
-// The type name, or a star.
+/// The type name, or a star.
 fn name_or_star(name: Option<&str>) -> &str
     ensures { result.now ≡ type_text (option_map (λ n. n.now) name.entry) }
 {
@@ -79,11 +83,13 @@ fn name_or_star(name: Option<&str>) -> &str
     }
 }
 
+/// Writes subselectors one after another.
 fn write_subselectors<W: fmt::Write>(
     f: &mut fmt::Formatter<W>,
     subselectors: &[SubSelector],
 ) -> fmt::Result
-    ensures { WritesStyledOnOk W.write_str_gives f.old result (flat_map subselector_text (map subselector_of subselectors.now)) f.new }
+    ensures { WritesStyledOnOk W.write_str_gives f.old result
+        (flat_map subselector_text (map subselector_of subselectors.now)) f.new }
 {
     for subselector in subselectors {
         write_subselector(f, *subselector)?;
@@ -91,12 +97,14 @@ fn write_subselectors<W: fmt::Write>(
     Ok(())
 }
 
+/// Writes an attribute in brackets, or a pseudo-class behind its colon.
 #[tactic(auto, using(simplecss_text::proofs::Styled::styled_two, simplecss_text::proofs::Styled::styled_four))]
 fn write_subselector<W: fmt::Write>(
     f: &mut fmt::Formatter<W>,
     subselector: SubSelector,
 ) -> fmt::Result
-    ensures { WritesStyledOnOk W.write_str_gives f.old result (subselector_text (subselector_of subselector.entry)) f.new }
+    ensures { WritesStyledOnOk W.write_str_gives f.old result
+        (subselector_text (subselector_of subselector.entry)) f.new }
 {
     match subselector {
         SubSelector::Attribute(name, operator) => {
@@ -112,11 +120,13 @@ fn write_subselector<W: fmt::Write>(
     }
 }
 
+/// Writes what an attribute is asked, its text in single quotes.
 fn write_operator<W: fmt::Write>(
     f: &mut fmt::Formatter<W>,
     operator: AttributeOperator,
 ) -> fmt::Result
-    ensures { WritesStyledOnOk W.write_str_gives f.old result (operator_text (operator_of operator.entry)) f.new }
+    ensures { WritesStyledOnOk W.write_str_gives f.old result
+        (operator_text (operator_of operator.entry)) f.new }
 {
     match operator {
         AttributeOperator::Exists => Ok(()),
@@ -126,6 +136,7 @@ fn write_operator<W: fmt::Write>(
     }
 }
 
+/// Writes a pseudo-class without its colon.
 fn write_class<W: fmt::Write>(f: &mut fmt::Formatter<W>, class: PseudoClass) -> fmt::Result
     ensures { WritesStyledOnOk W.write_str_gives f.old result (class_text (class_of class.entry)) f.new }
 {
@@ -140,6 +151,7 @@ fn write_class<W: fmt::Write>(f: &mut fmt::Formatter<W>, class: PseudoClass) -> 
     }
 }
 
+/// Writes three texts one after another.
 #[tactic(auto, using(simplecss_text::proofs::Styled::styled_three))]
 fn write_three<W: fmt::Write>(f: &mut fmt::Formatter<W>, a: &str, b: &str, c: &str) -> fmt::Result
     ensures { WritesStyledOnOk W.write_str_gives f.old result (a.now ++ b.now ++ c.now) f.new }

@@ -1,4 +1,5 @@
-// An example of a tree: elements in a row, each the next sibling or a child of the one before. They count what they are asked.
+//! An example of a tree: elements in a row, each the next sibling or a child of the one before.
+//! They count what they are asked.
 ghost use Rattle.std.specs.Prelude.{◌<◌, length};
 
 use crate::{AttributeOperator, Element, PseudoClass};
@@ -22,7 +23,8 @@ impl Asked {
     }
 }
 
-/// The element at a place of a row: of each element whether it is the next sibling of the one before it, and its name, which is its class, too.
+/// The element at a place of a row: of each element whether it is the next sibling of the one
+/// before it, and its name, which is its class, too.
 #[derive(Drop)]
 pub(crate) struct Place<'r, 'a> {
     row: &'r [(bool, &'a str)],
@@ -99,15 +101,8 @@ impl<'r, 'a> Element for Place<'r, 'a> {
 
     fn attribute_matches(&self, local_name: &str, operator: AttributeOperator<'_>) -> bool {
         count(&self.asked.attributes);
-        match operator {
-            AttributeOperator::Contains(word) => {
-                let (_, own_name) = self.row[self.place];
-                local_name == "class" && own_name == word
-            }
-            AttributeOperator::Exists
-            | AttributeOperator::Matches(_)
-            | AttributeOperator::StartsWith(_) => false,
-        }
+        let (_, own_name) = self.row[self.place];
+        local_name == "class" && operator.matches(own_name)
     }
 
     fn pseudo_class_matches(&self, class: PseudoClass<'_>) -> bool {

@@ -141,25 +141,6 @@ fn matches_asks_the_same(rt: HostRuntime) -> Result<(), Fail> {
 }
 
 #[test]
-fn the_relations_of_operators(rt: HostRuntime) -> Result<(), Fail> {
-    assert!(rt; AttributeOperator::Exists.matches(""));
-    assert!(rt; AttributeOperator::Matches("a").matches("a"));
-    assert!(rt; !AttributeOperator::Matches("a").matches("ab"));
-    assert!(rt; AttributeOperator::Contains("").matches(""));
-    assert!(rt; !AttributeOperator::Contains("").matches("a b"));
-    assert!(rt; AttributeOperator::Contains("").matches("a  b"));
-    assert!(rt; !AttributeOperator::Contains("test warn").matches("test warn"));
-    assert!(rt; AttributeOperator::Contains("warn").matches("test warn"));
-    assert!(rt; !AttributeOperator::Contains("war").matches("test warn"));
-    assert!(rt; AttributeOperator::StartsWith("en").matches("en-US"));
-    assert!(rt; AttributeOperator::StartsWith("en").matches("en"));
-    assert!(rt; !AttributeOperator::StartsWith("en").matches("eng"));
-    assert!(rt; AttributeOperator::StartsWith("").matches("-y"));
-    assert!(rt; !AttributeOperator::StartsWith("").matches("y"));
-    Ok(())
-}
-
-#[test]
 fn ends_of_shares(rt: HostRuntime) -> Result<(), Fail> {
     let selector = read(rt.alloc(), "a.b.c > #d")?;
     assert!(rt; selector.len() == 2 && selector.last_place() == 1);
@@ -190,19 +171,6 @@ fn printed_texts(rt: HostRuntime) -> Result<(), Fail> {
     draft.push_subselector(SubSelector::PseudoClass(PseudoClass::Lang("de")))?;
     let selector = draft.finish();
     assert!(rt; format!(in rt.alloc(); "{selector}")?.as_str() == "p[lang|='en']:lang(de)");
-    Ok(())
-}
-
-#[test]
-fn printed_classes(rt: HostRuntime) -> Result<(), Fail> {
-    let alloc = rt.alloc();
-    assert!(rt; format!(in alloc; "{}", PseudoClass::FirstChild)?.as_str() == "first-child");
-    assert!(rt; format!(in alloc; "{}", PseudoClass::Link)?.as_str() == "link");
-    assert!(rt; format!(in alloc; "{}", PseudoClass::Visited)?.as_str() == "visited");
-    assert!(rt; format!(in alloc; "{}", PseudoClass::Hover)?.as_str() == "hover");
-    assert!(rt; format!(in alloc; "{}", PseudoClass::Active)?.as_str() == "active");
-    assert!(rt; format!(in alloc; "{}", PseudoClass::Focus)?.as_str() == "focus");
-    assert!(rt; format!(in alloc; "{:9}", PseudoClass::Lang("en"))?.as_str() == "lang(en)");
     Ok(())
 }
 

@@ -1,11 +1,32 @@
-use Rattle.std.proofs.Common.{ap}
+use Rattle.std.proofs.Common.{◌↔◌, false, IsTrue, ap, arith}
+use Rattle.std.proofs.lemmas.Grind.{common_steps}
 use Rattle.std.proofs.lemmas.Bool.{false≢true}
+use Rattle.simplecss_text.specs.Components.Operator.{has_word}
 use Rattle.simplecss_selector.specs.Asked.{operator_of}
-use Rattle.simplecss_selector.proofs.WordLemmas.{starts_not}
+use Rattle.simplecss_selector.specs.Operators.{IsAsAsked}
+use Rattle.simplecss_selector.proofs.AskedValues.{asked_by, starts_not, is_as_asked-IsAsAsked}
 use Rattle.simplecss_selector.proofs.operator.AttributeOperator.matches.Goals as goal
 
-pub returns-in-None : goal.returns-in-None
-returns-in-None c = (
+pub returns-in-Contains-clause-means : goal.returns-in-Contains-clause-means
+returns-in-Contains-clause-means c =
+    rw (ap operator_of c.in-Contains.is, c.has_word.ensures) (is_as_asked-IsAsAsked (has_word c.in-Contains.word.now) c.args.value.now)
+
+pub returns-then-is_empty-clause-answer : goal.returns-then-is_empty-clause-answer
+returns-then-is_empty-clause-answer c =
+    let means : IsTrue c.is_empty.result ↔ IsAsAsked (operator_of c.args.self.now) c.args.value.now = grind (arith, common_steps) in
+    asked_by (operator_of c.args.self.now) c.args.value.now c.is_empty.result means
+
+pub returns-else-is_empty-clause-answer : goal.returns-else-is_empty-clause-answer
+returns-else-is_empty-clause-answer c =
+    let means : IsTrue c.starts_with.result ↔ IsAsAsked (operator_of c.args.self.now) c.args.value.now = grind (arith, common_steps) in
+    asked_by (operator_of c.args.self.now) c.args.value.now c.starts_with.result means
+
+pub returns-in-None-clause-means : goal.returns-in-None-clause-means
+returns-in-None-clause-means c = (
   λ e. absurd (false≢true e),
   λ h. absurd (starts_not (operator_of c.args.self.now) c.in-StartsWith.start.now c.args.value.now (ap operator_of c.in-StartsWith.is) c.in-None.ensures.cases h),
 )
+
+pub returns-in-None-clause-answer : goal.returns-in-None-clause-answer
+returns-in-None-clause-answer c =
+    asked_by (operator_of c.args.self.now) c.args.value.now false (returns-in-None-clause-means c)

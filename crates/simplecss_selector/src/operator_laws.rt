@@ -1,0 +1,14 @@
+//! Laws of equality, for what selectors ask.
+ghost use Rattle.std.specs.Prelude.{◌≡◌, ◌↔◌, IsTrue};
+ghost use Rattle.simplecss_selector.specs.Asked.{operator_of, class_of};
+
+use crate::{AttributeOperator, PseudoClass};
+
+/// Two operators are equal exactly if they ask the same, with the same text where they have one;
+/// and so are two pseudo-classes.
+pub fn operator_equality_laws()
+    ensures operators { (a b : AttributeOperator)
+        → IsTrue (⟦<AttributeOperator<'static> as PartialEq>⟧.eq a b) ↔ (operator_of a ≡ operator_of b) }
+    ensures classes { (a b : PseudoClass)
+        → IsTrue (⟦<PseudoClass<'static> as PartialEq>⟧.eq a b) ↔ (class_of a ≡ class_of b) }
+{}
