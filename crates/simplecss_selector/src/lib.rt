@@ -18,7 +18,6 @@ pub use counter::Tests;
 pub use element::Element;
 pub use equality::{equality_law, printing_law};
 pub use operator::{AttributeOperator, PseudoClass};
-pub use reading::parse_front;
 pub use selector::Selector;
 pub use token::SelectorToken;
 pub use tokenizer::{SelectorTokenizer, at_most_two_errors};
