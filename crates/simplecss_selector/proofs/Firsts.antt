@@ -1,6 +1,7 @@
 -- What a call of a tokenizer gives is the first item of its run.
-use Rattle.std.proofs.Common.{◌≡◌, ℕ, List, ◌∷◌, Bool, true, false, Option, Some, None, Result, Ok, Err, ◌⊎◌, inl, inr, refl, sym, ap, ◌∙◌, subst, map, IsUtf8}
-use Rattle.std.specs.Iterator.{YieldsFirstBy}
+use Rattle.std.proofs.Common.{◌≡◌, ℕ, List, ◌∷◌, Bool, true, false, Option, Some, None, Result, Ok, Err, ◌⊎◌, inl, inr, refl, sym, ap, ◌∙◌, subst, map, IsUtf8, length, arith}
+use Rattle.std.specs.Prelude.{⊤}
+use Rattle.std.specs.Iterator.{YieldsFirstBy, MakesProgress, item_count}
 use Rattle.std.proofs.lemmas.Str.{IsUtf8-drop, IsUtf8-had}
 use Rattle.simplecss_text.specs.Reading.{Fault, no_comment, no_selector, unexpected_selector, unexpected_combinator, Reading, got, fails}
 use Rattle.simplecss_text.specs.Bytes.{past_one, starts}
@@ -90,6 +91,10 @@ first-token text left before after token is = (Ok (token_of token), refl, is)
 
 first-fault : (text left : List ℕ) (before after : Run) (fault : Fault) (e : Error) → e ≡ error_of text fault → before ≡ item (Err fault) left after → GivesFirst text before (Some (Err e)) left after
 first-fault text left before after fault e told is = (Err fault, ap Err told, is)
+
+-- nothing comes behind the end
+pub ended-first : (text left : List ℕ) → GivesFirst text (run_in states.Ended left) None left (run_in states.Ended left)
+ended-first text left = (refl, refl)
 
 -- that a selector is missing, where it is still to be told
 pub missing-first : (text left : List ℕ) → GivesFirst text (run_in states.Missing left) (Some (Err SelectorMissing)) left (run_in states.Ended left)
@@ -214,6 +219,7 @@ joined_fault-first text rest start after f error g e s h =
 
 -- what was given first is no longer to come
 pub gives_steps : (old new : SelectorTokenizer) (r : Option (Result SelectorToken Error)) (left : List ℕ) → source new ≡ source old → GivesFirst (source old) (still_to_come old) r left (still_to_come new) → YieldsFirstBy item_seen items_left old r new
+unfolding items_left
 gives_steps old new None left s h =
     (ap (λ run. map (told_in (source old)) (items run)) h.0, ap (λ run. map (told_in (source new)) (items run)) h.1)
 gives_steps old new (Some x) left s (told, seen, before) =
@@ -261,3 +267,8 @@ gives-item old new s r is same h =
       slices = stands;
       forward = place-ends old.stream new.stream same (stand-ends (left_of old) (left_of new) (given_texts r) stands);
     }
+
+-- an item that was given is no longer to come
+pub given-fewer : (old new : SelectorTokenizer) (r : Option (Result SelectorToken Error)) → GivesItem old r new → MakesProgress {A = Result SelectorToken Error} (λ t. ⊤) (item_count items_left) old r new
+given-fewer old new None h = record { on = λ f. tt; keeps = tt; rests = λ f. tt }
+given-fewer old new (Some x) h = record { on = λ f. (tt, tt, omega (arith, ap (λ (l : List (Result Token Error)). length l) h.items)); keeps = tt; rests = λ f. tt }

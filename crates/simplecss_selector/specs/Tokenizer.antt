@@ -46,7 +46,7 @@ GivesFirst text before (Some x) left after =
     (told : Result Token Fault) × (item_seen x ≡ told_in text told) × (before ≡ item told left after)
 
 -- the items that are still to come
-abbrev pub items_left : SelectorTokenizer → List (Result Token Error)
+unfoldable pub items_left : SelectorTokenizer → List (Result Token Error)
 items_left t = map (told_in (source t)) (items (still_to_come t))
 
 -- A call of `next` on the tokenizer `before` gave `result` and left the tokenizer `after`.

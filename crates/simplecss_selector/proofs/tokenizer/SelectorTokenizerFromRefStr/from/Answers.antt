@@ -11,6 +11,7 @@ use Rattle.simplecss_selector.specs.Tokenizer.{items_left, GivesItem}
 use Rattle.simplecss_selector.proofs.tokenizer.SelectorTokenizerFromRefStr.from.Goals as goal
 
 pub returns : goal.returns
+unfolding items_left
 returns c =
     let text = c.args.text.now in
     let all : rest_of c.from.result ≡ text = rw (c.from.ensures.0, c.from.ensures.1) refl in
