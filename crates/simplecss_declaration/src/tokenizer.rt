@@ -12,12 +12,9 @@ pub struct DeclarationTokenizer<'a> {
 }
 
 impl<'a> From<&'a str> for DeclarationTokenizer<'a> {
-    ghost use Rattle.std.specs.Prelude.{◌≡◌};
-    ghost use Rattle.simplecss_text.specs.ThisEdition.{this_edition};
-    ghost use Rattle.simplecss_text.specs.Declarations.{declarations};
-    ghost use Rattle.simplecss_declaration.specs.Coming.{source, place_in, still_to_come};
+    ghost use Rattle.simplecss_declaration.specs.Coming.{Begins};
 
-    ghost from_gives = { λ text t. (source t ≡ text.now) × (place_in t ≡ 0) × (still_to_come t ≡ declarations this_edition text.now) };
+    ghost from_gives = { λ text t. Begins text.now t };
 
     /// The tokenizer at the text's start.
     fn from(text: &'a str) -> DeclarationTokenizer<'a> {
@@ -27,29 +24,36 @@ impl<'a> From<&'a str> for DeclarationTokenizer<'a> {
     }
 }
 
+impl<'a> DeclarationTokenizer<'a> {
+    ghost use Rattle.std.specs.Prelude.{◌≡◌, drop};
+    ghost use Rattle.std.specs.Str.{IsCharBoundary};
+    ghost use Rattle.simplecss_declaration.specs.Coming.{source, place_in, left_of};
+
+    /// The place up to which the text was read, in bytes from its start. It is at most the text's length and stands between
+    /// two characters.
+    #[inline(always)]
+    pub fn pos(&self) -> usize
+        ensures place { result ≡ place_in self.now }
+        ensures rest { drop result (source self.now) ≡ left_of self.now }
+        ensures boundary { IsCharBoundary (source self.now) result }
+    {
+        self.stream.pos()
+    }
+}
+
 impl<'a> Iterator for DeclarationTokenizer<'a> {
-    ghost use Rattle.std.specs.Prelude.{◌≡◌, ◌≤◌, ⊤};
-    ghost use Rattle.std.specs.Iterator.{YieldsFirstBy, MakesProgress, item_count};
-    ghost use Rattle.simplecss_text.specs.Slices.{StandBetween};
-    ghost use Rattle.simplecss_declaration.specs.Properties.{property_of};
-    ghost use Rattle.simplecss_declaration.specs.Coming.{source, place_in, left_of, still_to_come, GivesNext, given_texts};
+    ghost use Rattle.std.specs.Iterator.{item_count};
+    ghost use Rattle.simplecss_declaration.specs.Coming.{still_to_come, GivesDeclaration};
 
     type Item = Declaration<'a>;
 
-    ghost next_gives = { YieldsFirstBy property_of still_to_come };
+    ghost next_gives = { GivesDeclaration };
 
     ghost remaining = { item_count still_to_come };
 
     /// The next declaration. Its name and value are slices of what the call passes.
     #[inline(always)]
-    fn next(&mut self) -> Option<Declaration<'a>>
-        ensures steps { YieldsFirstBy property_of still_to_come self.old result self.new }
-        ensures goes { MakesProgress (λ _. ⊤) (item_count still_to_come) self.old result self.new }
-        ensures source { source self.new ≡ source self.old }
-        ensures first { GivesNext (left_of self.old) result (left_of self.new) }
-        ensures slices { StandBetween (left_of self.old) (left_of self.new) (given_texts result) }
-        ensures forward { place_in self.old ≤ place_in self.new }
-    {
+    fn next(&mut self) -> Option<Declaration<'a>> {
         match consume_declaration(&mut self.stream) {
             Some(declaration) => Some(declaration),
             None => {

@@ -1,6 +1,7 @@
 -- What a call of a tokenizer gives is the first item of its run.
-use Rattle.std.proofs.Common.{◌≡◌, ℕ, List, ◌∷◌, Bool, true, false, Option, Some, None, Result, Ok, Err, ◌⊎◌, inl, inr, refl, sym, ap, ◌∙◌, subst, map, IsUtf8}
-use Rattle.std.specs.Iterator.{YieldsFirstBy}
+use Rattle.std.proofs.Common.{◌≡◌, ℕ, List, ◌∷◌, Bool, true, false, Option, Some, None, Result, Ok, Err, ◌⊎◌, inl, inr, refl, sym, ap, ◌∙◌, subst, map, IsUtf8, length, arith}
+use Rattle.std.specs.Prelude.{⊤}
+use Rattle.std.specs.Iterator.{YieldsFirstBy, MakesProgress, item_count}
 use Rattle.std.proofs.lemmas.Str.{IsUtf8-drop, IsUtf8-had}
 use Rattle.simplecss_text.specs.Reading.{Fault, no_comment, no_selector, unexpected_selector, unexpected_combinator, Reading, got, fails}
 use Rattle.simplecss_text.specs.Bytes.{past_one, starts}
@@ -17,7 +18,8 @@ use Rattle.simplecss_text.specs.TokenRuns.{Run, run_from, token_then, fault_run,
 use Rattle.simplecss_text.specs.TokenRuns.Run.{item}
 use Rattle.simplecss_text.specs.declared.Error.{Error}
 use Rattle.simplecss_text.specs.declared.Error.TheVariants.{InvalidComment, SelectorMissing, UnexpectedSelector, UnexpectedCombinator}
-use Rattle.simplecss_text.proofs.EndsLaws.{ends-same}
+use Rattle.simplecss_text.proofs.EndsLaws.{ends-same, stand-ends}
+use Rattle.simplecss_text.proofs.PlaceLaws.{place-ends}
 use Rattle.simplecss_text.proofs.RunStandLaws.{FirstStands, run_from-first}
 use Rattle.simplecss_text.proofs.GivesLaws.{fails_by-fault}
 use Rattle.simplecss_selector.specs.declared.token.SelectorToken.{SelectorToken}
@@ -29,7 +31,7 @@ use Rattle.simplecss_selector.specs.declared.tokenizer.Follows.TheVariants.{Stop
 use Rattle.simplecss_selector.specs.declared.tokenizer.SelectorTokenizer.{SelectorTokenizer}
 use Rattle.simplecss_selector.specs.Announced.{announced, IsSimple, state_after_fault}
 use Rattle.simplecss_selector.specs.Given.{token_of, item_seen, given_texts}
-use Rattle.simplecss_selector.specs.Tokenizer.{source, left_of, run_in, still_to_come, items_left, GivesFirst}
+use Rattle.simplecss_selector.specs.Tokenizer.{source, left_of, run_in, still_to_come, items_left, GivesFirst, GivesItem}
 use Rattle.simplecss_selector.proofs.Announcing.{EachToken, IsSolid, IsSub, IsType, Announces, announces}
 use Rattle.simplecss_selector.proofs.Steps.{Closes, open-gap, open-stop, open-slash, open-joint, open-token, open-headless, open-broken, closed-gap, closed-stop, closed-slash, closed-slash_spaced, closed-joint, closed-spaced, closed-universal, closed-type, closed-sub, closed-broken}
 
@@ -90,9 +92,13 @@ first-token text left before after token is = (Ok (token_of token), refl, is)
 first-fault : (text left : List ℕ) (before after : Run) (fault : Fault) (e : Error) → e ≡ error_of text fault → before ≡ item (Err fault) left after → GivesFirst text before (Some (Err e)) left after
 first-fault text left before after fault e told is = (Err fault, ap Err told, is)
 
+-- nothing comes behind the end
+pub ended-first : (text left : List ℕ) → GivesFirst text (run_in states.Ended left) None left (run_in states.Ended left)
+ended-first text left = (refl, refl)
+
 -- that a selector is missing, where it is still to be told
-pub missing-first : (old : SelectorTokenizer) → old.state ≡ states.Missing → GivesFirst (source old) (still_to_come old) (Some (Err SelectorMissing)) (left_of old) (run_in states.Ended (left_of old))
-missing-first old e = first-fault (source old) (left_of old) _ _ no_selector SelectorMissing refl (ap (λ (s : State). run_in s (left_of old)) e)
+pub missing-first : (text left : List ℕ) → GivesFirst text (run_in states.Missing left) (Some (Err SelectorMissing)) left (run_in states.Ended left)
+missing-first text left = first-fault text left _ _ no_selector SelectorMissing refl refl
 
 -- ---- behind an open left side
 
@@ -213,6 +219,7 @@ joined_fault-first text rest start after f error g e s h =
 
 -- what was given first is no longer to come
 pub gives_steps : (old new : SelectorTokenizer) (r : Option (Result SelectorToken Error)) (left : List ℕ) → source new ≡ source old → GivesFirst (source old) (still_to_come old) r left (still_to_come new) → YieldsFirstBy item_seen items_left old r new
+unfolding items_left
 gives_steps old new None left s h =
     (ap (λ run. map (told_in (source old)) (items run)) h.0, ap (λ run. map (told_in (source new)) (items run)) h.1)
 gives_steps old new (Some x) left s (told, seen, before) =
@@ -247,3 +254,21 @@ given-stands old r left after first = given-first old r left after (state-stands
 -- what comes in a state is what is still to come
 pub first-in : (old : SelectorTokenizer) (s : State) (r : Option (Result SelectorToken Error)) (left : List ℕ) (after : Run) → old.state ≡ s → GivesFirst (source old) (run_in s (left_of old)) r left after → GivesFirst (source old) (still_to_come old) r left after
 first-in old s r left after e h = subst (λ (s : State). GivesFirst (source old) (run_in s (left_of old)) r left after) (sym e) h
+
+-- All that a call of `next` gives, from the first item of what comes in its state.
+pub gives-item : (old new : SelectorTokenizer) (s : State) (r : Option (Result SelectorToken Error)) → old.state ≡ s → source new ≡ source old → GivesFirst (source old) (run_in s (left_of old)) r (left_of new) (still_to_come new) → GivesItem old r new
+gives-item old new s r is same h =
+    let first = first-in old s r (left_of new) (still_to_come new) is h in
+    let stands = given-stands old r (left_of new) (still_to_come new) first in
+    record {
+      items = gives_steps old new r (left_of new) same first;
+      text = same;
+      first = first;
+      slices = stands;
+      forward = place-ends old.stream new.stream same (stand-ends (left_of old) (left_of new) (given_texts r) stands);
+    }
+
+-- an item that was given is no longer to come
+pub given-fewer : (old new : SelectorTokenizer) (r : Option (Result SelectorToken Error)) → GivesItem old r new → MakesProgress {A = Result SelectorToken Error} (λ t. ⊤) (item_count items_left) old r new
+given-fewer old new None h = record { on = λ f. tt; keeps = tt; rests = λ f. tt }
+given-fewer old new (Some x) h = record { on = λ f. (tt, tt, omega (arith, ap (λ (l : List (Result Token Error)). length l) h.items)); keeps = tt; rests = λ f. tt }

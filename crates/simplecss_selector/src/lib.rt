@@ -22,7 +22,6 @@ pub use element_laws::{components_law, same_meanings_law};
 pub use equality::{equality_law, printing_law};
 pub use operator::{AttributeOperator, PseudoClass};
 pub use operator_laws::operator_equality_laws;
-pub use reading::parse_front;
 pub use selector::Selector;
 pub use token::SelectorToken;
 pub use tokenizer::{SelectorTokenizer, at_most_two_errors};

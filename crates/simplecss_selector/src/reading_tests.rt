@@ -1,5 +1,5 @@
 //! What is read from the front of a text, as tables.
-use crate::{Selector, parse_front};
+use crate::Selector;
 use log::sink::Memory;
 use std::alloc::{AllocError, Global};
 use std::process::Abort;
@@ -7,7 +7,7 @@ use std::test::Fail;
 
 /// The selector as it prints, or `refused`, and the place where reading ended.
 fn read(alloc: Global, text: &str) -> Result<(String, usize), AllocError> {
-    let (selector, place) = parse_front(&Memory::new(alloc), alloc, text)?;
+    let (selector, place) = Selector::parse_front(&Memory::new(alloc), alloc, text)?;
     let printed = match selector {
         Some(selector) => format!(in alloc; "{selector}")?,
         None => String::from_str(alloc, "refused")?,

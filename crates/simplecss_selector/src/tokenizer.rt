@@ -241,12 +241,9 @@ fn solid_piece<'a>(stream: &mut Stream<'a>, follows: Follows) -> Result<Selector
 }
 
 impl<'a> From<&'a str> for SelectorTokenizer<'a> {
-    ghost use Rattle.std.specs.Prelude.{◌≡◌};
-    ghost use Rattle.simplecss_text.specs.ThisEdition.{this_edition};
-    ghost use Rattle.simplecss_text.specs.TokenRuns.{run_of};
-    ghost use Rattle.simplecss_selector.specs.Tokenizer.{source, left_of, still_to_come};
+    ghost use Rattle.simplecss_selector.specs.Tokenizer.{Begins};
 
-    ghost from_gives = { λ text t. (source t ≡ text.now) × (left_of t ≡ text.now) × (still_to_come t ≡ run_of this_edition text.now) };
+    ghost from_gives = { λ text t. Begins text.now t };
 
     /// The tokens of the selector that the text begins with.
     fn from(text: &'a str) -> SelectorTokenizer<'a> {
@@ -262,11 +259,13 @@ impl<'a> SelectorTokenizer<'a> {
     ghost use Rattle.std.specs.Prelude.{drop};
     ghost use Rattle.std.specs.Str.{IsCharBoundary};
     ghost use Rattle.simplecss_text.specs.Comments.{gap};
-    ghost use Rattle.simplecss_selector.specs.Tokenizer.{source, left_of, run_in, still_to_come, GivesFirst};
+    ghost use Rattle.simplecss_selector.specs.Tokenizer.{source, place_in, left_of, run_in, still_to_come, GivesFirst};
 
-    /// The place up to which the text was read, in bytes from its start.
+    /// The place up to which the text was read, in bytes from its start. It is at most the text's length and stands between
+    /// two characters.
     #[inline(always)]
-    pub(crate) fn pos(&self) -> usize
+    pub fn pos(&self) -> usize
+        ensures place { result ≡ place_in self.now }
         ensures rest { drop result (source self.now) ≡ left_of self.now }
         ensures boundary { IsCharBoundary (source self.now) result }
     {
@@ -407,27 +406,18 @@ fn slash_error(stream: &mut Stream<'_>) -> Error
 }
 
 impl<'a> Iterator for SelectorTokenizer<'a> {
-    ghost use Rattle.std.specs.Prelude.{◌≡◌, ⊤};
-    ghost use Rattle.std.specs.Iterator.{YieldsFirstBy, item_count, MakesProgress};
-    ghost use Rattle.simplecss_text.specs.Slices.{StandBetween};
-    ghost use Rattle.simplecss_selector.specs.Given.{item_seen, given_texts};
-    ghost use Rattle.simplecss_selector.specs.Tokenizer.{source, left_of, still_to_come, items_left, GivesFirst};
+    ghost use Rattle.std.specs.Iterator.{item_count};
+    ghost use Rattle.simplecss_selector.specs.Tokenizer.{items_left, GivesItem};
 
     type Item = Result<SelectorToken<'a>, Error>;
 
-    ghost next_gives = { YieldsFirstBy item_seen items_left };
+    ghost next_gives = { GivesItem };
 
     ghost remaining = { item_count items_left };
 
     /// The next token or error. Names and values are slices of the text, each behind the one before.
     #[inline(always)]
-    fn next(&mut self) -> Option<Result<SelectorToken<'a>, Error>>
-        ensures steps { YieldsFirstBy item_seen items_left self.old result self.new }
-        ensures goes { MakesProgress (λ _. ⊤) (item_count items_left) self.old result self.new }
-        ensures source { source self.new ≡ source self.old }
-        ensures first { GivesFirst (source self.old) (still_to_come self.old) result (left_of self.new) (still_to_come self.new) }
-        ensures slices { StandBetween (left_of self.old) (left_of self.new) (given_texts result) }
-    {
+    fn next(&mut self) -> Option<Result<SelectorToken<'a>, Error>> {
         match self.state {
             State::Open => Some(self.next_open()),
             State::Closed => self.next_closed(),

@@ -13,7 +13,7 @@ use super::ends;
 use super::rules::Rule;
 use log::{Log, warn};
 use simplecss_declaration::Declaration;
-use simplecss_selector::{Selector, parse_front};
+use simplecss_selector::Selector;
 use simplecss_text::stream::Stream;
 use simplecss_text::{readers, scan};
 use std::alloc::{AllocError, Global};
@@ -28,7 +28,7 @@ fn consume_part<'a, R: Log>(
     ensures text { text_of s.new ≡ text_of s.old }
     ensures reads { IfOk result (λ selector. part this_edition (rest_of s.old) ≡ (selector, rest_of s.new)) }
 {
-    let (selector, len) = parse_front(rt, alloc, s.slice_tail())?;
+    let (selector, len) = Selector::parse_front(rt, alloc, s.slice_tail())?;
     s.advance(len);
     s.skip_spaces();
     Ok(selector)
