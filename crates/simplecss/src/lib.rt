@@ -12,9 +12,10 @@
 //! ```
 #![tactic(auto)]
 
+pub mod laws;
 mod sheet;
 
-pub use sheet::{Rule, StyleSheet, laws};
+pub use sheet::{Rule, StyleSheet};
 pub use simplecss_declaration::{Declaration, DeclarationTokenizer};
 pub use simplecss_selector::{
     AttributeOperator, Element, PseudoClass, Selector, SelectorToken, SelectorTokenizer, Tests,

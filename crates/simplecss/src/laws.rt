@@ -1,0 +1,16 @@
+//! Laws that the definitions keep, each the contract of a function that does nothing. A proof calls the function to have the
+//! law; a program need not.
+//!
+//! Of texts: what comments and blanks are, and equality of positions, errors and cursors. Of selectors: their tokens, their
+//! components, printing, equality, and that elements which mean the same get the same answers. Of sheets: the order of rules,
+//! reading a text in pieces, and equality of rules and declarations.
+
+pub use crate::sheet::laws::{cutting_law, edition_law, equality_laws, order_laws, sheet_law};
+pub use simplecss_selector::{
+    at_most_two_errors, components_law, equality_law as selector_equality_law,
+    operator_equality_laws, printing_law, same_meanings_law,
+};
+pub use simplecss_text::laws::{
+    blank_is_cut, blank_is_longest, comment_is_closed, equality_laws as text_equality_laws,
+    open_comment_breaks_blank, space_bytes_are_parts,
+};
