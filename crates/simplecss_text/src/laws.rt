@@ -1,5 +1,6 @@
-//! Laws of the grammar, each the contract of a function that does nothing. They say what the readers of comments and blanks
-//! find in words that know of no reading: what a comment is, and what a blank is.
+//! Laws, each the contract of a function that does nothing. Those of the grammar say what the readers
+//! of comments and blanks find in words that know of no reading: what a comment is, and what a blank
+//! is. Those of equality say when two values are equal.
 
 ghost use Rattle.std.specs.Prelude.{◌≡◌, ℕ, ◌≤◌, ◌↔◌, List, ◌++◌, length, true, false, IsTrue};
 ghost use Rattle.simplecss_text.specs.Reading.{got, before, Ends};
@@ -22,7 +23,8 @@ pub fn blank_is_cut()
     ensures cut { (text : List ℕ) → IsBlank (before text (past_blank text)) }
 {}
 
-/// No longer front of a text is cut into space bytes and comments than the one that the blank at its front passes.
+/// No longer front of a text is cut into space bytes and comments than the one that the blank at
+/// its front passes.
 pub fn blank_is_longest()
     ensures { (text front rest : List ℕ) → text ≡ front ++ rest → IsBlank front →
         length front ≤ length (before text (past_blank text)) }
@@ -34,14 +36,16 @@ pub fn space_bytes_are_parts()
         (has_space text ≡ false) ↔ IsComments (before text (past_blank text)) }
 {}
 
-/// A comment that opens behind a blank is not closed, and reading the blank is the fault of reading that comment.
+/// A comment that opens behind a blank is not closed, and reading the blank is the fault of reading
+/// that comment.
 pub fn open_comment_breaks_blank()
     ensures { (text : List ℕ) → opens_comment (past_blank text) ≡ true →
         blank text ≡ comment (past_blank text) }
 {}
 
-/// Two positions are equal exactly if their rows and columns are, two errors if they are the same with the same positions
-/// and bytes, and two cursors if they stand at the same place of texts with the same bytes.
+/// Two positions are equal exactly if their rows and columns are, two errors if they are the same
+/// error with the same position and bytes, and two cursors if they stand at the same place of texts
+/// with the same bytes.
 pub fn equality_laws()
     ensures positions { (a b : TextPos) → IsTrue (⟦<TextPos as PartialEq>⟧.eq a b) ↔ (a ≡ b) }
     ensures errors { (a b : Error) → IsTrue (⟦<Error as PartialEq>⟧.eq a b) ↔ (a ≡ b) }

@@ -1,4 +1,4 @@
-//! Rows and columns.
+//! Rows and columns, which begin at 1.
 ghost use Rattle.std.specs.Prelude.{◌≡◌, ℕ, ◌+◌, ◌==◌, length, min, count_by, chars};
 ghost use Rattle.std.specs.List.{after_last};
 
@@ -28,6 +28,7 @@ fn column_behind(before: &str) -> u32
     one_more(char_count(line))
 }
 
+/// How many characters the text has.
 fn char_count(text: &str) -> usize
     ensures { result ≡ length (chars text.now) }
 {

@@ -23,8 +23,9 @@ impl fmt::Display for TextPos {
     }
 }
 
-/// Prints the error in a few words, with the position if it tells one. An `InvalidByte` shows its two
-/// bytes as the characters with their numbers. Width, fill and flags of the formatter change nothing.
+/// Prints the error in a few words, with the position if it tells one. An `InvalidByte` shows its
+/// two bytes as the characters with their numbers. Width, fill and flags of the formatter change
+/// nothing.
 impl fmt::Display for Error {
     ghost use Rattle.std.specs.Prelude.{Some};
     ghost use Rattle.simplecss_text.specs.Errors.{error_text};

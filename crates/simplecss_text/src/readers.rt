@@ -1,4 +1,5 @@
-//! What is read from a cursor without telling an error: a caller that tells none has no position computed.
+//! What is read from a cursor without telling an error: a caller that tells none has no position
+//! computed.
 ghost use Rattle.std.specs.Prelude.{◌≡◌, ◌<◌, ◌∷◌, true, [], None, Some, MatchOption, if◌then◌else◌};
 ghost use Rattle.simplecss_text.specs.Reading.{no_name, no_comment, ended};
 ghost use Rattle.simplecss_text.specs.Bytes.{past_one, past_byte, starts, starts_by, is_ascii};
@@ -15,7 +16,8 @@ use crate::{Error, scan};
 /// The byte at the place, if it is not the end of the text.
 #[inline(always)]
 pub fn peek(s: &Stream<'_>) -> Option<u8>
-    ensures { MatchOption result (rest_of s.now ≡ []) (λ b. rest_of s.now ≡ b ∷ past_one (rest_of s.now)) }
+    ensures { MatchOption result (rest_of s.now ≡ [])
+        (λ b. rest_of s.now ≡ b ∷ past_one (rest_of s.now)) }
 {
     s.slice_tail().as_bytes().first().copied()
 }
@@ -49,7 +51,8 @@ pub fn pass_byte(s: &mut Stream<'_>, byte: u8) -> bool
 #[inline(always)]
 pub fn take_name<'a>(s: &mut Stream<'a>) -> Option<&'a str>
     ensures text { text_of s.new ≡ text_of s.old }
-    ensures reads { Finds (λ found. found.now) (no_name (rest_of s.old)) (name_read this_edition (rest_of s.old)) result (rest_of s.new) }
+    ensures reads { Finds (λ found. found.now) (no_name (rest_of s.old))
+        (name_read this_edition (rest_of s.old)) result (rest_of s.new) }
 {
     let text = s.slice_tail();
     match scan::name_len(text) {
@@ -64,14 +67,15 @@ pub fn take_name<'a>(s: &mut Stream<'a>) -> Option<&'a str>
     }
 }
 
-/// Passes the rest of a string behind its opening quote, and gives what stands before the closing one. A string that
-/// is not closed takes the whole text.
+/// Passes the rest of a string behind its opening quote, and gives what stands before the closing
+/// one. A string that is not closed takes the whole text.
 #[tactic(auto, using(crate::proofs::StringLemmas::string_after_closed))]
 #[inline(always)]
 pub fn take_string<'a>(s: &mut Stream<'a>, quote: u8) -> Option<&'a str>
     requires { quote < 128 }
     ensures text { text_of s.new ≡ text_of s.old }
-    ensures reads { Finds (λ value. value.now) ended (string_after quote (rest_of s.old)) result (rest_of s.new) }
+    ensures reads { Finds (λ value. value.now) ended (string_after quote (rest_of s.old))
+        result (rest_of s.new) }
 {
     let text = s.slice_tail();
     match scan::string_len(text, quote) {
@@ -86,12 +90,14 @@ pub fn take_string<'a>(s: &mut Stream<'a>, quote: u8) -> Option<&'a str>
     }
 }
 
-/// Passes a blank, and says whether no open comment stands behind it; one that does takes the whole text.
+/// Passes a blank, and says whether no open comment stands behind it; one that does takes the whole
+/// text.
 #[tactic(auto, unfolding(crate::specs::Comments::blank))]
 #[inline(always)]
 pub fn pass_blank(s: &mut Stream<'_>) -> bool
     ensures text { text_of s.new ≡ text_of s.old }
-    ensures reads { Finds (λ u. u) (no_comment (past_blank (rest_of s.old))) (blank (rest_of s.old)) (if result then Some tt else None) (rest_of s.new) }
+    ensures reads { Finds (λ u. u) (no_comment (past_blank (rest_of s.old))) (blank (rest_of s.old))
+        (if result then Some tt else None) (rest_of s.new) }
 {
     let gap = scan::find_gap(s.slice_tail());
     s.advance(gap.len);
@@ -101,13 +107,14 @@ pub fn pass_blank(s: &mut Stream<'_>) -> bool
     !gap.unclosed
 }
 
-/// Passes a gap between two pieces, and says whether it has a space byte. An open comment behind it is
-/// `InvalidComment` with the position of its start, and then the place is the end of the text.
+/// Passes a gap between two pieces, and says whether it has a space byte. An open comment behind it
+/// is `InvalidComment` with the position of its start, and then the place is the end of the text.
 #[tactic(auto, using(crate::proofs::GapLaws::gap_is_closed, crate::proofs::GapLaws::gap_is_open))]
 #[inline(always)]
 pub fn consume_gap(s: &mut Stream<'_>) -> Result<bool, Error>
     ensures text { text_of s.new ≡ text_of s.old }
-    ensures reads { Gives (λ spaced. spaced) (text_of s.old) (gap_read (rest_of s.old)) result (rest_of s.new) }
+    ensures reads { Gives (λ spaced. spaced) (text_of s.old) (gap_read (rest_of s.old))
+        result (rest_of s.new) }
 {
     let gap = scan::find_gap(s.slice_tail());
     s.advance(gap.len);

@@ -1,4 +1,5 @@
-//! Where things end in a text. Each function answers a number of bytes, at which the text may be cut.
+//! Where things end in a text. Each function answers a number of bytes, at which the text may be
+//! cut.
 ghost use Rattle.std.specs.Prelude.{◌≡◌, ℕ, ◌+◌, ◌-◌, ◌≤◌, ◌<◌, ◌&&◌, ◌||◌, ◌==◌, length, drop, true, false, None, Some, MatchOption, IfSome, IsTrue, slice_index, EachIndex, chars};
 ghost use Rattle.std.specs.Str.{IsCharBoundary};
 ghost use Rattle.std.specs.List.{prefix_len};
@@ -11,7 +12,8 @@ ghost use Rattle.simplecss_text.specs.Strings.{from_quote};
 
 use crate::stream::{is_name_char, is_name_start};
 
-/// Whether the byte is a space, a tab, a newline, a carriage return or a form feed.
+/// Whether the byte is a space, a tab, a newline, a carriage return or a form feed (CSS 2.1 section
+/// 4.1.1).
 #[inline(always)]
 pub fn is_space(byte: u8) -> bool
     ensures { result ≡ is_space_byte byte }
@@ -19,6 +21,7 @@ pub fn is_space(byte: u8) -> bool
     byte <= b' ' && matches!(byte, b' ' | b'\t' | b'\n' | b'\r' | b'\x0C')
 }
 
+/// How many space bytes stand at the front.
 #[inline(always)]
 fn space_count(bytes: &[u8]) -> usize
     ensures { result ≡ prefix_len is_space_byte bytes.now }
@@ -35,6 +38,7 @@ pub fn spaces_len(text: &str) -> usize
     space_count(text.as_bytes())
 }
 
+/// Whether `/*` stands at the front.
 #[inline(always)]
 fn starts_comment(bytes: &[u8]) -> bool
     ensures { result ≡ opens_comment_of bytes.now }
@@ -54,7 +58,8 @@ pub fn opens_comment(text: &str) -> bool
 /// Behind the first `*/`, if there is one.
 #[inline(never)]
 pub fn close_len(text: &str) -> Option<usize>
-    ensures found { MatchOption result (after_close text.now ≡ None) (λ n. after_close text.now ≡ Some (drop n text.now)) }
+    ensures found { MatchOption result (after_close text.now ≡ None)
+        (λ n. after_close text.now ≡ Some (drop n text.now)) }
     ensures boundary { IfSome result (λ n. IsCharBoundary text.now n) }
 {
     match text.find("*/") {
@@ -66,17 +71,19 @@ pub fn close_len(text: &str) -> Option<usize>
 /// Where the first such byte stands, if there is one.
 pub fn find_byte(text: &str, byte: u8) -> Option<usize>
     requires { byte < 128 }
-    ensures found { MatchOption result (after_byte byte text.now ≡ None) (λ n. after_byte byte text.now ≡ Some (drop (n + 1) text.now)) }
+    ensures found { MatchOption result (after_byte byte text.now ≡ None)
+        (λ n. after_byte byte text.now ≡ Some (drop (n + 1) text.now)) }
     ensures boundary { IfSome result (λ n. IsCharBoundary text.now n) }
     ensures behind { IfSome result (λ n. IsCharBoundary text.now (n + 1)) }
 {
     text.find(char::from(byte))
 }
 
-/// Where the first such quote stands that no backslash stands right before, if there is one. Before the text stands
-/// the quote itself.
+/// Where the first such quote stands that no backslash stands right before, if there is one. Before
+/// the text stands the quote itself.
 fn quote_place(bytes: &[u8], quote: u8) -> Option<usize>
-    ensures found { MatchOption result (from_quote quote quote bytes.now ≡ None) (λ n. from_quote quote quote bytes.now ≡ Some (drop n bytes.now)) }
+    ensures found { MatchOption result (from_quote quote quote bytes.now ≡ None)
+        (λ n. from_quote quote quote bytes.now ≡ Some (drop n bytes.now)) }
     ensures quote { IfSome result (λ n. (n < length bytes.now) × (slice_index bytes.now n ≡ quote)) }
 {
     let mut previous = quote;
@@ -92,7 +99,8 @@ fn quote_place(bytes: &[u8], quote: u8) -> Option<usize>
 /// How many bytes a string has before its closing quote, behind its opening one, if it is closed.
 pub fn string_len(text: &str, quote: u8) -> Option<usize>
     requires { quote < 128 }
-    ensures found { MatchOption result (from_quote quote quote text.now ≡ None) (λ n. from_quote quote quote text.now ≡ Some (drop n text.now)) }
+    ensures found { MatchOption result (from_quote quote quote text.now ≡ None)
+        (λ n. from_quote quote quote text.now ≡ Some (drop n text.now)) }
     ensures boundary { IfSome result (λ n. IsCharBoundary text.now n) }
     ensures behind { IfSome result (λ n. IsCharBoundary text.now (n + 1)) }
     ensures within { IfSome result (λ n. n < length text.now) }
@@ -100,16 +108,16 @@ pub fn string_len(text: &str, quote: u8) -> Option<usize>
     quote_place(text.as_bytes(), quote)
 }
 
-// ASCII, and a name may go on with it.
+/// ASCII, and a name may go on with it.
 const NAME_CHAR: u8 = 1;
 
-// ASCII, and a name may begin with it.
+/// ASCII, and a name may begin with it.
 const NAME_START: u8 = 2;
 
-// A space byte or a slash, with which a gap may begin.
+/// A space byte or a slash, with which a gap may begin.
 const GAP_START: u8 = 4;
 
-// For each byte a digit, whose low three bits are the flags above.
+/// For each byte a digit, whose low three bits are the flags above.
 static BYTES: [u8; 256] = *b"\
     00000000044044000000000000000000\
     40000000000001041111111111000000\
@@ -165,8 +173,14 @@ fn is_ascii_name_char(byte: u8) -> bool
 /// Where the first byte stands that is no ASCII name character, if there is one.
 #[inline(always)]
 fn ascii_name_end(bytes: &[u8]) -> Option<usize>
-    ensures none { result ≡ None → EachIndex bytes.now (λ k. (is_ascii (slice_index bytes.now k) && is_name_char_of this_edition (slice_index bytes.now k)) ≡ true) }
-    ensures some { IfSome result (λ n. (n < length bytes.now) × ((is_ascii (slice_index bytes.now n) && is_name_char_of this_edition (slice_index bytes.now n)) ≡ false) × ((k : ℕ) → k < n → (is_ascii (slice_index bytes.now k) && is_name_char_of this_edition (slice_index bytes.now k)) ≡ true)) }
+    ensures none { result ≡ None → EachIndex bytes.now
+        (λ k. (is_ascii (slice_index bytes.now k)
+        && is_name_char_of this_edition (slice_index bytes.now k)) ≡ true) }
+    ensures some { IfSome result (λ n. (n < length bytes.now)
+        × ((is_ascii (slice_index bytes.now n)
+        && is_name_char_of this_edition (slice_index bytes.now n)) ≡ false)
+        × ((k : ℕ) → k < n → (is_ascii (slice_index bytes.now k)
+        && is_name_char_of this_edition (slice_index bytes.now k)) ≡ true)) }
 {
     bytes.iter().position(|byte| !is_ascii_name_char(*byte))
 }
@@ -205,7 +219,8 @@ fn name_chars_len(text: &str) -> usize
 #[inline(never)]
 pub fn name_len(text: &str) -> Option<usize>
     ensures none { result ≡ None → begins_name_of this_edition (chars text.now) ≡ false }
-    ensures some { IfSome result (λ n. (begins_name_of this_edition (chars text.now) ≡ true) × (past_name_chars this_edition text.now ≡ drop n text.now)) }
+    ensures some { IfSome result (λ n. (begins_name_of this_edition (chars text.now) ≡ true)
+        × (past_name_chars this_edition text.now ≡ drop n text.now)) }
     ensures boundary { IfSome result (λ n. IsCharBoundary text.now n) }
 {
     if starts_with_name_start(text.as_bytes()) {
@@ -215,11 +230,13 @@ pub fn name_len(text: &str) -> Option<usize>
     }
 }
 
-/// How many bytes the name at the front has, if one begins there, by its first one or two characters.
+/// How many bytes the name at the front has, if one begins there, by its first one or two
+/// characters.
 #[inline(never)]
 fn other_name_len(text: &str) -> Option<usize>
     ensures none { result ≡ None → begins_name_of this_edition (chars text.now) ≡ false }
-    ensures some { IfSome result (λ n. (begins_name_of this_edition (chars text.now) ≡ true) × (past_name_chars this_edition text.now ≡ drop n text.now)) }
+    ensures some { IfSome result (λ n. (begins_name_of this_edition (chars text.now) ≡ true)
+        × (past_name_chars this_edition text.now ≡ drop n text.now)) }
     ensures boundary { IfSome result (λ n. IsCharBoundary text.now n) }
 {
     if begins_by_characters(text) {
@@ -330,7 +347,8 @@ fn closed_part(text: &str) -> Part
 /// The first part of a gap, a space byte or a closed comment.
 #[inline(always)]
 fn blank_part_len(text: &str) -> Option<Part>
-    ensures found { MatchOption result (blank_part text.now ≡ None) (λ p. blank_part text.now ≡ Some (p.spaced, drop p.len text.now)) }
+    ensures found { MatchOption result (blank_part text.now ≡ None)
+        (λ p. blank_part text.now ≡ Some (p.spaced, drop p.len text.now)) }
     ensures boundary { IfSome result (λ p. IsCharBoundary text.now p.len) }
     ensures some { IfSome result (λ p. 0 < p.len) }
 {
@@ -352,10 +370,12 @@ fn blank_part_len(text: &str) -> Option<Part>
     }
 }
 
-/// A part of a gap: how many bytes it has, and whether a space byte is among them, outside the comments.
+/// A part of a gap.
 #[derive(Clone, Copy)]
 struct Part {
+    /// How many bytes it has.
     len: usize,
+    /// Whether a space byte is among them, outside the comments.
     spaced: bool,
 }
 

@@ -10,8 +10,8 @@ use crate::{Error, TextPos, readers, scan};
 /// The first character past ASCII that a name may have.
 const FIRST_WIDE: u32 = 238;
 
-/// Whether a name may begin with the character: an underscore, an ASCII letter, or a character whose number is above
-/// 237. (CSS 2.1 section 4.1.1 has the characters above octal 237.)
+/// Whether a name may begin with the character: an underscore, an ASCII letter, or a character
+/// whose number is above 237. (CSS 2.1 section 4.1.1 has the characters above octal 237.)
 #[inline(always)]
 pub fn is_name_start(c: char) -> bool
     ensures { result ≡ is_name_start this_edition c }
@@ -19,7 +19,8 @@ pub fn is_name_start(c: char) -> bool
     c.is_ascii_alphabetic() || c == '_' || u32::from(c) >= FIRST_WIDE
 }
 
-/// Whether a name may go on with the character: a name start, an ASCII digit or a hyphen (CSS 2.1 section 4.1.1).
+/// Whether a name may go on with the character: a name start, an ASCII digit or a hyphen (CSS 2.1
+/// section 4.1.1).
 #[inline(always)]
 pub fn is_name_char(c: char) -> bool
     ensures { result ≡ is_name_char this_edition c }
@@ -27,11 +28,13 @@ pub fn is_name_char(c: char) -> bool
     is_name_start(c) || c.is_ascii_digit() || c == '-'
 }
 
-/// A text and a place in it, at which the text may be cut: the place is at most the text's length and stands between
-/// two characters. Places count bytes.
+/// A text and a place in it, at which the text may be cut: the place is at most the text's length
+/// and stands between two characters. Places count bytes.
 #[derive(Clone, Copy, PartialEq, Debug)]
 pub struct Stream<'a> {
+    /// The text.
     text: &'a str,
+    /// The place.
     pos: usize,
     pub ghost utf8: { ∥ IsUtf8 text.now ∥₁ },
     pub ghost boundary: { IsCharBoundary text.now pos },
@@ -113,7 +116,8 @@ impl<'a> Stream<'a> {
 
     /// The byte behind the one at the place. Where there is none that is `UnexpectedEndOfStream`.
     pub fn next_byte(&self) -> Result<u8, Error>
-        ensures { MatchResult result (λ b. past_one (rest_of self.now) ≡ b ∷ past_one (past_one (rest_of self.now)))
+        ensures { MatchResult result
+            (λ b. past_one (rest_of self.now) ≡ b ∷ past_one (past_one (rest_of self.now)))
             (λ e. (past_one (rest_of self.now) ≡ []) × (e ≡ Error.UnexpectedEndOfStream)) }
     {
         match &self.text.as_bytes()[self.pos..] {
@@ -132,13 +136,15 @@ impl<'a> Stream<'a> {
         self.pos += n;
     }
 
-    /// Passes the byte, which is ASCII. At the end of the text the error is `UnexpectedEndOfStream`, and where another
-    /// byte stands `InvalidByte` with the position there; then the place stays.
+    /// Passes the byte, which is ASCII. At the end of the text the error is
+    /// `UnexpectedEndOfStream`, and where another byte stands `InvalidByte` with the position
+    /// there; then the place stays.
     #[inline(always)]
     pub fn consume_byte(&mut self, c: u8) -> Result<(), Error>
         requires { c < 128 }
         ensures text { text_of self.new ≡ text_of self.old }
-        ensures reads { Gives (λ u. u) (text_of self.old) (byte_read c (rest_of self.old)) result (rest_of self.new) }
+        ensures reads { Gives (λ u. u) (text_of self.old) (byte_read c (rest_of self.old))
+            result (rest_of self.new) }
     {
         let actual = self.curr_byte()?;
         if actual != c {
@@ -164,8 +170,8 @@ impl<'a> Stream<'a> {
         }
     }
 
-    /// Passes the longest run of bytes for which the test answers true. The test answers one and the same for all
-    /// bytes past ASCII, so that the run ends between two characters.
+    /// Passes the longest run of bytes for which the test answers true. The test answers one and
+    /// the same for all bytes past ASCII, so that the run ends between two characters.
     pub fn skip_bytes<F: Fn(u8) -> bool>(&mut self, f: F)
         requires { IsByteTest (F.pre f) (F.post f) (text_of self.old) }
         ensures text { text_of self.new ≡ text_of self.old }
@@ -179,7 +185,8 @@ impl<'a> Stream<'a> {
         self.pos = end;
     }
 
-    /// Passes the longest run of bytes for which the test answers true, as `skip_bytes` does, and gives that run.
+    /// Passes the longest run of bytes for which the test answers true, as `skip_bytes` does, and
+    /// gives that run.
     pub fn consume_bytes<F: Fn(u8) -> bool>(&mut self, f: F) -> &'a str
         requires { IsByteTest (F.pre f) (F.post f) (text_of self.old) }
         ensures text { text_of self.new ≡ text_of self.old }
@@ -218,7 +225,8 @@ impl<'a> Stream<'a> {
         &self.text[self.pos..]
     }
 
-    /// Passes the longest run of space bytes.
+    /// Passes the longest run of space bytes (CSS 2.1 section 4.1.1): spaces, tabs, newlines,
+    /// carriage returns and form feeds.
     pub fn skip_spaces(&mut self)
         ensures text { text_of self.new ≡ text_of self.old }
         ensures rest { rest_of self.new ≡ past is_space (rest_of self.old) }
@@ -226,25 +234,28 @@ impl<'a> Stream<'a> {
         self.advance(scan::spaces_len(self.slice_tail()));
     }
 
-    /// Passes a blank: the longest run of space bytes and comments. A comment behind it that is not closed is
-    /// `InvalidComment` with the position of its start, and then the place is the end of the text.
+    /// Passes a blank: the longest run of space bytes and comments (CSS 2.1 sections 4.1.1 and
+    /// 4.1.9). A comment behind it that is not closed is `InvalidComment` with the position of its
+    /// start, and then the place is the end of the text.
     #[tactic(auto, using(crate::proofs::GapLaws::blank_where_gap_is_got, crate::proofs::GapLaws::blank_where_gap_fails))]
     pub fn skip_spaces_and_comments(&mut self) -> Result<(), Error>
         ensures text { text_of self.new ≡ text_of self.old }
-        ensures reads { Gives (λ u. u) (text_of self.old) (blank (rest_of self.old)) result (rest_of self.new) }
+        ensures reads { Gives (λ u. u) (text_of self.old) (blank (rest_of self.old))
+            result (rest_of self.new) }
     {
         let _spaced = readers::consume_gap(self)?;
         Ok(())
     }
 
-    /// Passes a name, and gives it (CSS 2.1 section 4.1.3): an optional hyphen, a name start and name characters. A
-    /// hyphen that ends the text is a name too. Where none begins, the error is `InvalidIdent` with the position
-    /// there, and a hyphen that stands there is passed.
+    /// Passes a name, and gives it (CSS 2.1 section 4.1.3): an optional hyphen, a name start and
+    /// name characters. A hyphen that ends the text is a name too. Where none begins, the error is
+    /// `InvalidIdent` with the position there, and a hyphen that stands there is passed.
     #[tactic(auto, unfolding(crate::specs::Names::name))]
     #[inline(always)]
     pub fn consume_ident(&mut self) -> Result<&'a str, Error>
         ensures text { text_of self.new ≡ text_of self.old }
-        ensures reads { Gives (λ found. found.now) (text_of self.old) (name_read this_edition (rest_of self.old)) result (rest_of self.new) }
+        ensures reads { Gives (λ found. found.now) (text_of self.old)
+            (name_read this_edition (rest_of self.old)) result (rest_of self.new) }
     {
         let text = self.slice_tail();
         match scan::name_len(text) {
@@ -269,13 +280,17 @@ impl<'a> Stream<'a> {
         Error::InvalidIdent(pos)
     }
 
-    /// Passes a string or a name, and gives what stands between the quotes or the name. At the end of the text, and
-    /// where the string is not closed, the error is `UnexpectedEndOfStream` and the place the end of the text.
+    /// Passes a string or a name, and gives what stands between the quotes or the name. A string
+    /// ends at the first quote like its opening one that no backslash stands right before (CSS 2.1
+    /// section 4.3.7), and its backslashes stay. At the end of the text, and where the string is
+    /// not closed, the error is `UnexpectedEndOfStream` and the place the end of the text. Where
+    /// neither a string nor a name begins, it is that of `consume_ident`.
     #[tactic(auto, unfolding(crate::specs::Strings::string_or_name))]
     #[inline(always)]
     pub fn consume_string(&mut self) -> Result<&'a str, Error>
         ensures text { text_of self.new ≡ text_of self.old }
-        ensures reads { Gives (λ value. value.now) (text_of self.old) (string_or_name this_edition (rest_of self.old)) result (rest_of self.new) }
+        ensures reads { Gives (λ value. value.now) (text_of self.old)
+            (string_or_name this_edition (rest_of self.old)) result (rest_of self.new) }
     {
         let quote = self.curr_byte()?;
         if quote != b'\'' && quote != b'"' {
@@ -288,12 +303,14 @@ impl<'a> Stream<'a> {
         }
     }
 
-    /// Passes a comment. Where none begins, the error is `InvalidComment` with the position there, and a `/` that
-    /// stands there is passed. One that is not closed is the same error, and the place is then the end of the text.
+    /// Passes a comment (CSS 2.1 section 4.1.9). Where none begins, the error is `InvalidComment`
+    /// with the position there, and a `/` that stands there is passed. One that is not closed is
+    /// the same error, and the place is then the end of the text.
     #[tactic(auto, unfolding(crate::specs::Comments::comment))]
     pub fn skip_comment(&mut self) -> Result<(), Error>
         ensures text { text_of self.new ≡ text_of self.old }
-        ensures reads { Gives (λ u. u) (text_of self.old) (comment (rest_of self.old)) result (rest_of self.new) }
+        ensures reads { Gives (λ u. u) (text_of self.old) (comment (rest_of self.old))
+            result (rest_of self.new) }
     {
         let start = *self;
         let text = self.slice_tail();
@@ -313,7 +330,7 @@ impl<'a> Stream<'a> {
         }
     }
 
-    /// The position of the place.
+    /// The position of the place, whose row and column begin at 1.
     #[cold]
     #[inline(never)]
     pub fn gen_text_pos(&self) -> TextPos
