@@ -40,6 +40,7 @@ impl<'a> Selector<'a> {
             parts: Vec::from_slice(*self.parts.allocator(), &self.parts)?,
             last: self.last,
             subselectors: Vec::from_slice(*self.subselectors.allocator(), &self.subselectors)?,
+            run_ends: Vec::from_slice(*self.run_ends.allocator(), &self.run_ends)?,
         })
     }
 }

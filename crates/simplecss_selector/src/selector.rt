@@ -40,6 +40,9 @@ pub struct Selector<'a> {
     pub(crate) parts: Vec<Part<'a>>,
     pub(crate) last: Part<'a>,
     pub(crate) subselectors: Vec<SubSelector<'a>>,
+    // For each run of child and adjacent steps but the last, in order, the number of components up to its end. The last
+    // run ends with the components, so that a selector of one run takes no memory for it.
+    pub(crate) run_ends: Vec<usize>,
 }
 
 impl<'a> Model for Selector<'a> {
@@ -53,7 +56,7 @@ impl<'a> Model for Selector<'a> {
 
     ghost view = { λ s. components_from 0 (s.parts.items ++ s.last ∷ []) s.subselectors.items };
 
-    ghost invariant = { λ s. IsFlat (s.parts.items ++ s.last ∷ []) s.subselectors.items (vec_len s.subselectors) };
+    ghost invariant = { λ s. IsFlat (s.parts.items ++ s.last ∷ []) s.subselectors.items (vec_len s.subselectors) s.run_ends.items };
 }
 
 impl Combinator {
