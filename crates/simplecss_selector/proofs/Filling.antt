@@ -126,7 +126,7 @@ flat_joined ps q ss n m kept f j e done =
     let c = component_of_part q (slice_range ss (last_end 0 ps) q.end) in
     let some : 0 < length cs = f.selector.0 in
     record {
-      selector = rw (components_from-push ps q ss) (IsSelector-push (components_from 0 ps ss) (component_of_part q (slice_range ss (last_end 0 ps) q.end)) f.selector j);
+      selector = rw (components_from-push ps q ss) (IsSelector-push cs c f.selector j);
       tiled = Tile-push 0 ps q n n f.tiled (omega arith) e;
       runs = rw (done ∙ sym (components_from-length 0 ps ss), components_from-push ps q ss) (AreRunEnds-push cs c kept some j f.runs);
     }

@@ -1,5 +1,5 @@
 -- The ends of runs, as a selector is filled and as it is searched.
-use Rattle.std.proofs.Common.{◌≡◌, ◌≢◌, ℕ, ◌+◌, ◌<◌, ◌≤◌, ◌↔◌, List, [], ◌∷◌, ◌++◌, ◌⊎◌, inl, inr, Option, Some, None, length, get_or, refl, add-one, sym, ap, ◌∙◌, arith}
+use Rattle.std.proofs.Common.{◌≡◌, ◌≢◌, ℕ, zero, suc, ◌+◌, ◌-◌, ◌<◌, ◌≤◌, ◌↔◌, List, [], ◌∷◌, ◌++◌, ◌⊎◌, inl, inr, Option, Some, None, length, get_or, refl, add-one, sub-one, sym, ap, ◌∙◌, arith, IsTrue}
 use Rattle.std.proofs.Math.Decide.{dec_lt}
 use Rattle.std.proofs.lemmas.List.{length-append, get_or_append_left, get_or_at, get_or_default}
 use Rattle.std.proofs.lemmas.List.Elements.{All-contains, All-from_get_or, Contains-get_or, Contains-append_left, Contains-push, Contains-push_cases}
@@ -8,6 +8,7 @@ use Rattle.std.specs.List.{Contains, last_or}
 use Rattle.std.specs.List.Sorted.{IsStrictlyIncreasing}
 use Rattle.simplecss_text.specs.Components.{Component, Combinator}
 use Rattle.simplecss_text.specs.Components.Combinator.{none, descendant, child, adjacent}
+use Rattle.simplecss_selector.specs.Placements.{is_step}
 use Rattle.simplecss_selector.specs.Searches.{component_at, any_component}
 use Rattle.simplecss_selector.specs.Runs.{BeginsRun, IsRun, AreRunEnds, all_run_ends, kept_ends_after}
 
@@ -166,3 +167,39 @@ AreRunEnds-run cs kept r first last ends counted begun ended =
       begun = (ends.begins first (omega arith)).1 (rw low (Contains-get_or bounds r 0 (omega arith)));
       unbroken = λ k above below b. none_between bounds r k ends.rising (omega arith) (omega arith) (omega arith) ((ends.begins k (omega arith)).0 b);
     }
+
+-- ---- as a run is gone up
+
+-- within a run each component but the first is joined to the one before by a step
+pub IsRun-step : (cs : List Component) (first last k : ℕ) (joint : Combinator) → IsRun cs first last → first < k → k ≤ last → joint ≡ (component_at cs k).combinator → (joint ≡ none → k ≡ 0) → IsTrue (is_step (component_at cs k).combinator)
+IsRun-step cs first last k joint run above below e start = rw (← e) (by joint e start)
+  where
+    by : (joint : Combinator) → joint ≡ (component_at cs k).combinator → (joint ≡ none → k ≡ 0) → IsTrue (is_step joint)
+    by none e start = let z : k ≡ 0 = start refl in absurd (omega arith)
+    by descendant e start = absurd (run.unbroken k above below (inr (sym e)))
+    by child e start = refl
+    by adjacent e start = refl
+
+-- a run that is not the first of all begins behind a gap
+pub IsRun-gap : (cs : List Component) (first last : ℕ) → IsRun cs first last → 0 < first → (component_at cs first).combinator ≡ descendant
+IsRun-gap cs first last run some = elim run.begun [ inl z ↦ absurd (omega arith) | inr d ↦ d ]
+
+-- ---- from one run to the one before it
+
+pub AreRunEnds-last : (cs : List Component) (kept : List ℕ) (r first last : ℕ) → AreRunEnds cs (all_run_ends cs kept) → r ≡ length kept → first ≡ get_or (0 ∷ kept) r 0 → last + 1 ≡ length cs → IsRun cs first last
+AreRunEnds-last cs kept r first last ends counted begun ended =
+    AreRunEnds-run cs kept r first last ends (omega arith) begun (ended ∙ sym (get_or_at kept (length cs) [] 0 r (sym counted)))
+
+-- a run that does not begin at 0 begins where the one before it ends
+begun-after : (kept : List ℕ) (n first : ℕ) → first ≡ get_or (0 ∷ kept) n 0 → 0 < first → (0 < n) × (get_or kept (n - 1) 0 ≡ first)
+begun-after kept zero first e some = absurd (omega arith)
+begun-after kept (suc n) first e some = (omega arith, (rw sub-one (sym e)))
+
+pub AreRunEnds-before : (cs : List Component) (kept : List ℕ) (n first before last : ℕ) → AreRunEnds cs (all_run_ends cs kept) → n ≤ length kept → first ≡ get_or (0 ∷ kept) n 0 → 0 < first → before ≡ get_or (0 ∷ kept) (n - 1) 0 → last + 1 ≡ get_or kept (n - 1) 0 → (n - 1 < length kept) × IsRun cs before last × (last + 1 ≡ first)
+AreRunEnds-before cs kept n first before last ends counted begun some start ended =
+    let after = begun-after kept n first begun some in
+    let within : n - 1 < length kept = omega (arith, after.0) in (
+      within,
+      AreRunEnds-run cs kept (n - 1) before last ends (omega arith) start (ended ∙ sym (get_or_append_left kept (length cs ∷ []) 0 (n - 1) within)),
+      ended ∙ after.1,
+    )

@@ -1,3 +1,4 @@
+//! A selector that is being made.
 ghost use Rattle.std.specs.Prelude.{◌≢◌, ◌≡◌, ◌+◌, ◌++◌, ◌∷◌, [], IfOk, OnErr, OnOk, vec_len};
 ghost use Rattle.simplecss_text.specs.Components.Combinator.{none as no_combinator};
 ghost use Rattle.simplecss_selector.specs.Combinators.{combinator_of};
@@ -15,7 +16,7 @@ pub(crate) struct Draft<'a> {
     parts: Vec<Part<'a>>,
     subselectors: Vec<SubSelector<'a>>,
     run_ends: Vec<usize>,
-    // Of the component that is being filled.
+    /// Of the component that is being filled.
     combinator: Combinator,
     name: Option<&'a str>,
 }
@@ -28,13 +29,16 @@ impl<'a> Model for Draft<'a> {
 
     ghost use Rattle.simplecss_selector.specs.Seen.{drafted, IsFlat};
 
-    ghost view = { λ d. drafted d.parts.items d.subselectors.items (record { combinator = d.combinator; name = d.name; end = vec_len d.subselectors }) };
+    ghost view = { λ d. drafted d.parts.items d.subselectors.items
+        (record { combinator = d.combinator; name = d.name; end = vec_len d.subselectors }) };
 
-    ghost invariant = { λ d. IsFlat (d.parts.items ++ (record { combinator = d.combinator; name = d.name; end = vec_len d.subselectors }) ∷ []) d.subselectors.items (vec_len d.subselectors) d.run_ends.items };
+    ghost invariant = { λ d. IsFlat
+        (d.parts.items ++ (record { combinator = d.combinator; name = d.name; end = vec_len d.subselectors }) ∷ [])
+        d.subselectors.items (vec_len d.subselectors) d.run_ends.items };
 }
 
-// Adds to a list, of which the first growth makes room for two: few components have more subselectors, and few selectors
-// more runs.
+/// Adds to a list, of which the first growth makes room for two: few components have more
+/// subselectors, and few selectors more runs.
 #[inline(always)]
 fn push_few<T: Drop>(list: &mut Vec<T>, item: T) -> Result<(), AllocError>
     ensures ok { OnOk result (list.new.items ≡ list.old.items ++ item ∷ []) }
@@ -48,7 +52,7 @@ fn push_few<T: Drop>(list: &mut Vec<T>, item: T) -> Result<(), AllocError>
     Ok(())
 }
 
-// Adds the end of a run, where a component that is joined to those before it begins another.
+/// Adds the end of a run, where a component that is joined to those before it begins another.
 #[inline(always)]
 fn push_run_end(
     run_ends: &mut Vec<usize>,

@@ -1,3 +1,4 @@
+//! Equality and copies of selectors.
 ghost use Rattle.std.specs.Prelude.{◌≡◌, ◌↔◌, List, IsTrue, IfOk};
 ghost use Rattle.simplecss_text.specs.Components.{Component};
 ghost use Rattle.simplecss_text.specs.ThisEdition.{this_edition};
