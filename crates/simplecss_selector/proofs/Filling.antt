@@ -1,5 +1,5 @@
 -- The flat lists of a selector as it is filled.
-use Rattle.std.proofs.Common.{◌≡◌, ◌≢◌, ℕ, zero, suc, ◌+◌, ◌-◌, ◌≤◌, List, [], ◌∷◌, ◌++◌, None, length, get_or, drop, map, refl, sym, ap, ◌∙◌, arith}
+use Rattle.std.proofs.Common.{◌≡◌, ◌≢◌, ℕ, zero, suc, ◌+◌, ◌-◌, ◌<◌, ◌≤◌, List, [], ◌∷◌, ◌++◌, None, length, get_or, drop, map, refl, sym, ap, ◌∙◌, arith}
 use Rattle.std.proofs.Math.Decide.{dec_lt}
 use Rattle.std.proofs.lemmas.List.{take-append-le, drop-append-le, map-append, length-append, get_or_append_left, get_or_at}
 use Rattle.std.proofs.lemmas.Slice.{between_is, between_to_end}
@@ -8,11 +8,14 @@ use Rattle.std.specs.Option.{option_map}
 use Rattle.simplecss_text.specs.Components.{Component, Combinator}
 use Rattle.simplecss_text.specs.Components.Combinator.{none}
 use Rattle.simplecss_selector.specs.Combinators.{combinator_of}
-use Rattle.simplecss_selector.specs.Searches.{component_at, any_component}
-use Rattle.simplecss_selector.specs.Seen.{subselector_of, component_of_part, components_from, IsSelector, Tile, last_end, drafted, IsFlat}
+use Rattle.simplecss_selector.specs.Runs.{kept_ends_after}
+use Rattle.simplecss_selector.specs.Shapes.{component_at, any_component, IsSelector}
+use Rattle.simplecss_selector.specs.Seen.{subselector_of, component_of_part, components_from, Tile, last_end, drafted, IsFlat}
 use Rattle.simplecss_selector.specs.Drafts.{with_subselector, joined, finished}
 use Rattle.simplecss_selector.specs.declared.selector.Part.{Part}
 use Rattle.simplecss_selector.specs.declared.selector.SubSelector.{SubSelector}
+use Rattle.simplecss_selector.proofs.Flat.{components_from-length}
+use Rattle.simplecss_selector.proofs.RunEnds.{AreRunEnds-same, AreRunEnds-push}
 
 pub components_from-append : (start : ℕ) (ps qs : List Part) (ss : List SubSelector) → components_from start (ps ++ qs) ss ≡ components_from start ps ss ++ components_from (last_end start ps) qs ss
 components_from-append start [] qs ss = refl
@@ -100,23 +103,32 @@ joints-push ps p q ss ts e =
     ∙ sym (joints-components_from 0 (ps ++ q ∷ []) ts)
 
 -- the last part changes, but for its combinator
-pub flat_more : (ps : List Part) (p q : Part) (ss ts : List SubSelector) (n m : ℕ) → IsFlat (ps ++ p ∷ []) ss n → part_joint p ≡ part_joint q → n ≤ m → q.end ≡ m → IsFlat (ps ++ q ∷ []) ts m
-flat_more ps p q ss ts n m f j h e =
+pub flat_more : (ps : List Part) (p q : Part) (ss ts : List SubSelector) (n m : ℕ) (kept : List ℕ) → IsFlat (ps ++ p ∷ []) ss n kept → part_joint p ≡ part_joint q → n ≤ m → q.end ≡ m → IsFlat (ps ++ q ∷ []) ts m kept
+flat_more ps p q ss ts n m kept f j h e =
     let t = Tile-last 0 ps p n f.tiled in
+    let cs = components_from 0 (ps ++ p ∷ []) ss in
+    let ds = components_from 0 (ps ++ q ∷ []) ts in
+    let same = joints-push ps p q ss ts j in
     record {
-      selector = IsSelector-joints (components_from 0 (ps ++ p ∷ []) ss) (components_from 0 (ps ++ q ∷ []) ts) (joints-push ps p q ss ts j) f.selector;
+      selector = IsSelector-joints cs ds same f.selector;
       tiled = Tile-push 0 ps q (last_end 0 ps) m t.2 (omega (arith, t.0, t.1)) e;
+      runs = AreRunEnds-same cs ds kept (sym (length-joints cs) ∙ ap length same ∙ length-joints ds)
+          (λ k. joint_at cs k ∙ ap (λ js. get_or js k none) same ∙ sym (joint_at ds k)) f.runs;
     }
 
 components_from-push : (ps : List Part) (q : Part) (ss : List SubSelector) → components_from 0 (ps ++ q ∷ []) ss ≡ components_from 0 ps ss ++ component_of_part q (slice_range ss (last_end 0 ps) q.end) ∷ []
 components_from-push ps q ss = components_from-append 0 ps (q ∷ []) ss
 
 -- one more part, which is joined to the others
-pub flat_joined : (ps : List Part) (q : Part) (ss : List SubSelector) (n : ℕ) → IsFlat ps ss n → part_joint q ≢ none → q.end ≡ n → IsFlat (ps ++ q ∷ []) ss n
-flat_joined ps q ss n f j e =
+pub flat_joined : (ps : List Part) (q : Part) (ss : List SubSelector) (n m : ℕ) (kept : List ℕ) → IsFlat ps ss n kept → part_joint q ≢ none → q.end ≡ n → m ≡ length ps → IsFlat (ps ++ q ∷ []) ss n (kept_ends_after (part_joint q) m kept)
+flat_joined ps q ss n m kept f j e done =
+    let cs = components_from 0 ps ss in
+    let c = component_of_part q (slice_range ss (last_end 0 ps) q.end) in
+    let some : 0 < length cs = f.selector.0 in
     record {
-      selector = rw (components_from-push ps q ss) (IsSelector-push (components_from 0 ps ss) (component_of_part q (slice_range ss (last_end 0 ps) q.end)) f.selector j);
+      selector = rw (components_from-push ps q ss) (IsSelector-push cs c f.selector j);
       tiled = Tile-push 0 ps q n n f.tiled (omega arith) e;
+      runs = rw (done ∙ sym (components_from-length 0 ps ss), components_from-push ps q ss) (AreRunEnds-push cs c kept some j f.runs);
     }
 
 pub drafted-finished : (ps : List Part) (ss : List SubSelector) (p : Part) → components_from 0 (ps ++ p ∷ []) ss ≡ finished (drafted ps ss p)
@@ -132,8 +144,8 @@ drafted-joined ps ss p q none_yet e =
     ∙ ap (λ l. record { done = components_from 0 ps ss ++ component_of_part p (slice_range ss (last_end 0 ps) p.end) ∷ []; last = component_of_part q l }) nothing
     ∙ ap (λ o. record { done = components_from 0 ps ss ++ component_of_part p (slice_range ss (last_end 0 ps) p.end) ∷ []; last = record { combinator = part_joint q; compound = record { name = option_map (λ n. n.now) o; subselectors = [] } } }) none_yet
 
-pub drafted-narrowed : (ps : List Part) (ss : List SubSelector) (s : SubSelector) (p q : Part) (n : ℕ) → IsFlat (ps ++ p ∷ []) ss n → n ≡ length ss → q.combinator ≡ p.combinator → q.name ≡ p.name → q.end ≡ p.end + 1 → drafted ps (ss ++ s ∷ []) q ≡ with_subselector (subselector_of s) (drafted ps ss p)
-drafted-narrowed ps ss s p q n f whole j name e =
+pub drafted-narrowed : (ps : List Part) (ss : List SubSelector) (s : SubSelector) (p q : Part) (n : ℕ) (kept : List ℕ) → IsFlat (ps ++ p ∷ []) ss n kept → n ≡ length ss → q.combinator ≡ p.combinator → q.name ≡ p.name → q.end ≡ p.end + 1 → drafted ps (ss ++ s ∷ []) q ≡ with_subselector (subselector_of s) (drafted ps ss p)
+drafted-narrowed ps ss s p q n kept f whole j name e =
     let t = Tile-last 0 ps p n f.tiled in
     let done = components_from-more 0 ps ss (s ∷ []) (last_end 0 ps) t.2 (omega (arith, t.0, t.1)) in
     let here : slice_range (ss ++ s ∷ []) (last_end 0 ps) q.end ≡ slice_range ss (last_end 0 ps) p.end ++ s ∷ [] =

@@ -4,7 +4,7 @@ use Rattle.std.specs.List.{slice_range}
 use Rattle.std.proofs.lemmas.List.{length-append}
 use Rattle.simplecss_text.specs.Components.{Component}
 use Rattle.simplecss_selector.specs.Combinators.{combinator_of}
-use Rattle.simplecss_selector.specs.Searches.{component_at}
+use Rattle.simplecss_selector.specs.Shapes.{component_at}
 use Rattle.simplecss_selector.specs.Seen.{component_of_part, components_from, Tile}
 use Rattle.simplecss_selector.specs.declared.selector.Part.{Part}
 use Rattle.simplecss_selector.specs.declared.selector.SubSelector.{SubSelector}

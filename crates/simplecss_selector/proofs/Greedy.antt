@@ -6,7 +6,8 @@ use Rattle.simplecss_text.specs.Components.{Component, Combinator}
 use Rattle.simplecss_text.specs.Components.Combinator.{none, descendant, child, adjacent}
 use Rattle.simplecss_selector.specs.Trees.{Tree, SiblingsShareParent}
 use Rattle.simplecss_selector.specs.Placements.{Meets, Relates, HasPlacement, is_step}
-use Rattle.simplecss_selector.specs.Searches.{IsAtOrAbove, IsWithin, Reaches, CanPlace, IfMore, first_of, component_at, step_from}
+use Rattle.simplecss_selector.specs.Searches.{IsAtOrAbove, IsWithin, Reaches, CanPlace, IfMore, first_of, step_from}
+use Rattle.simplecss_selector.specs.Shapes.{component_at}
 use Rattle.simplecss_selector.specs.Searches.IsAtOrAbove.{here, above}
 use Rattle.simplecss_selector.specs.Fits.{LeavesRest}
 use Rattle.simplecss_selector.proofs.Ancestors.{same_some, no_some, no_ancestor, ancestor_from, at_or_above_from, within_above, within_step}

@@ -7,6 +7,7 @@ pub mod Greedy
 pub mod Depths
 pub mod Turns
 pub mod Flat
+pub mod RunEnds
 pub mod WordLemmas
 pub mod AskedValues
 pub mod Drafting

@@ -4,7 +4,7 @@ use Rattle.std.proofs.Math.Decide.{dec_lt}
 use Rattle.std.proofs.Math.Nat.{mul-le-mul_left, mul-le-mul_right}
 use Rattle.simplecss_text.specs.Components.{Component}
 use Rattle.simplecss_selector.specs.Placements.{is_joined, joined_length, longest_run}
-use Rattle.simplecss_selector.specs.Searches.{component_at}
+use Rattle.simplecss_selector.specs.Shapes.{component_at}
 
 -- the components from one place to before another are each joined to the one before
 abbrev pub AreJoined : List Component → ℕ → ℕ → Type 0

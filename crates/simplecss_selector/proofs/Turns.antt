@@ -1,16 +1,16 @@
 -- What the turns of the search share.
 use Rattle.simplecss_selector.specs.declared.matching.Fit.{Fit}
 use Rattle.simplecss_selector.specs.declared.matching.Fit.TheVariants.{Misfit, Alone, Whole, Rest}
-use Rattle.std.proofs.Common.{◌≡◌, ℕ, zero, suc, ◌+◌, ◌<◌, arith, Option, Some, None, refl, ap, sym, ◌∙◌, Bor}
+use Rattle.std.proofs.Common.{◌≡◌, ℕ, ◌+◌, arith, Option, Some, None, ap, sym, ◌∙◌, Bor}
 use Rattle.std.specs.Option.{option_copied, unwrap_or, option_map_or}
 use Rattle.simplecss_text.specs.Components.{Combinator as Seen}
-use Rattle.std.proofs.Common.{IsTrue, false}
+use Rattle.std.proofs.Common.{IsTrue}
 use Rattle.std.proofs.lemmas.Bool.{false≢true}
 use Rattle.simplecss_selector.specs.Placements.{is_step}
 use Rattle.simplecss_selector.specs.Trees.{Tree}
 use Rattle.simplecss_selector.specs.Fits.{TestsPlaced}
 use Rattle.simplecss_selector.specs.Searches.{step_from}
-use Rattle.simplecss_text.specs.Components.Combinator.{none, descendant, child, adjacent}
+use Rattle.simplecss_text.specs.Components.Combinator.{descendant}
 
 taken : {T Node : Type 0} (node : T → Node) (r : Option (Bor T)) (top : Option T) (low : Bor T) → option_copied r ≡ top → node (unwrap_or r low).now ≡ option_map_or node top (node low.now)
 taken node None top low e = ap (λ (o : Option _). option_map_or node o (node low.now)) e
@@ -23,23 +23,12 @@ borrowed node r top low b e f = ap (λ (x : Bor _). node x.now) f ∙ taken node
 pub step_at : {Node : Type 0} (tree : Tree Node) (c d : Seen) (x u : Node) (o : Option Node) → c ≡ d → x ≡ u → o ≡ step_from tree c x → step_from tree d u ≡ o
 step_at tree c d x u o e f s = cc
 
-pub not_joined : (c : Seen) → is_step c ≡ false → (c ≡ none → ⊥) → c ≡ descendant
-not_joined none e n = absurd (n refl)
-not_joined descendant e n = refl
-not_joined child e n = absurd (false≢true (sym e))
-not_joined adjacent e n = absurd (false≢true (sym e))
-
 pub step_not : (c : Seen) → IsTrue (is_step c) → c ≡ descendant → ⊥
 step_not c s e = false≢true (ap is_step (sym e) ∙ s)
 
--- a component that a step joins is not the first
-pub step-some : (c : Seen) (k : ℕ) → IsTrue (is_step c) → (k ≡ 0 → c ≡ none) → 0 < k
-step-some c zero s first = absurd (false≢true (ap is_step (sym (first refl)) ∙ s))
-step-some c (suc k) s first = omega arith
-
 -- the tests, with one made before
-pub tests_before : {E : Type 0} (last before begun after : ℕ) (fit : Fit E) → begun ≡ before + 1 → TestsPlaced last begun (after + 1) fit → TestsPlaced last before after fit
-tests_before last before begun after Misfit e h = tt
-tests_before last before begun after Alone e h = tt
-tests_before last before begun after Whole e h = omega arith
-tests_before last before begun after (Rest node rest) e h = omega arith
+pub tests_before : {E : Type 0} (first last before begun after : ℕ) (fit : Fit E) → begun ≡ before + 1 → TestsPlaced first last begun (after + 1) fit → TestsPlaced first last before after fit
+tests_before first last before begun after Misfit e h = tt
+tests_before first last before begun after Alone e h = tt
+tests_before first last before begun after Whole e h = omega arith
+tests_before first last before begun after (Rest node) e h = omega arith

@@ -1,5 +1,5 @@
 -- What trying a run of components at one node has found.
-use Rattle.std.specs.Prelude.{ℕ, ◌+◌, ◌<◌, ◌≤◌, List}
+use Rattle.std.specs.Prelude.{ℕ, ◌+◌, ◌<◌, List}
 use Rattle.simplecss_text.specs.Components.{Component}
 use Rattle.simplecss_selector.specs.Trees.{Tree}
 use Rattle.simplecss_selector.specs.Searches.{IsWithin, Reaches, CanPlace, first_of}
@@ -14,17 +14,17 @@ pub record LeavesRest {Node : Type 0} (tree : Tree Node) (cs : List Component) (
   pub nothing_lost : (m : Node) → IsWithin tree m n → Reaches tree (first_of cs left) m → CanPlace tree (first_of cs rest) node
   pub enough : CanPlace tree (first_of cs rest) node → Reaches tree (first_of cs left) n
 
--- what the answer says of the components up to the place `last`, tried with that one on `n`
-abbrev pub Finds : {Node E : Type 0} → Tree Node → (E → Node) → List Component → ℕ → Node → Fit E → Type 0
-Finds tree node cs last n Misfit = Reaches tree (first_of cs (last + 1)) n → ⊥
-Finds {Node} tree node cs last n Alone =
+-- what the answer says of the components up to the place `last`, tried with that one on `n`, where the run begins at `first`
+abbrev pub Finds : {Node E : Type 0} → Tree Node → (E → Node) → List Component → (first last : ℕ) → Node → Fit E → Type 0
+Finds tree node cs first last n Misfit = Reaches tree (first_of cs (last + 1)) n → ⊥
+Finds {Node} tree node cs first last n Alone =
     (m : Node) → IsWithin tree m n → Reaches tree (first_of cs (last + 1)) m → ⊥
-Finds tree node cs last n Whole = Reaches tree (first_of cs (last + 1)) n
-Finds tree node cs last n (Rest e rest) = LeavesRest tree cs (last + 1) (rest + 1) n (node e)
+Finds tree node cs first last n Whole = Reaches tree (first_of cs (last + 1)) n
+Finds tree node cs first last n (Rest e) = LeavesRest tree cs (last + 1) first n (node e)
 
 -- at least one test was made for each component that was placed
-abbrev pub TestsPlaced : {E : Type 0} → ℕ → ℕ → ℕ → Fit E → Type 0
-TestsPlaced last before after Misfit = Unit {0}
-TestsPlaced last before after Alone = Unit {0}
-TestsPlaced last before after Whole = before + last < after
-TestsPlaced last before after (Rest e rest) = before + last ≤ after + rest
+abbrev pub TestsPlaced : {E : Type 0} → (first last : ℕ) → ℕ → ℕ → Fit E → Type 0
+TestsPlaced first last before after Misfit = Unit {0}
+TestsPlaced first last before after Alone = Unit {0}
+TestsPlaced first last before after Whole = before + last < after
+TestsPlaced first last before after (Rest e) = before + last < after + first

@@ -6,6 +6,7 @@ pub mod Asked
 pub mod Combinators
 pub mod Operators
 pub mod Searches
+pub mod Runs
 pub mod Drafts
 pub mod Seen
 pub mod Equality

@@ -7,7 +7,8 @@ use Rattle.simplecss_selector.specs.Combinators.{combinator_of}
 use Rattle.simplecss_text.specs.Components.{Subselector, Component}
 use Rattle.simplecss_text.specs.Components.Subselector.{attribute, pseudo_class}
 use Rattle.simplecss_selector.specs.Drafts.{Drafted}
-pub use Rattle.simplecss_selector.specs.Shapes.{IsSelector}
+use Rattle.simplecss_selector.specs.Shapes.{IsSelector}
+use Rattle.simplecss_selector.specs.Runs.{AreRunEnds, all_run_ends}
 use Rattle.simplecss_selector.specs.declared.selector.Part.{Part}
 use Rattle.simplecss_selector.specs.declared.selector.SubSelector.{SubSelector}
 use Rattle.simplecss_selector.specs.declared.selector.SubSelector.TheVariants.{Attribute, PseudoClass}
@@ -46,7 +47,8 @@ drafted ps ss open_part = record {
   last = component_of_part open_part (slice_range ss (last_end 0 ps) open_part.end);
 }
 
--- Flat lists of a selector: its components, whose subselectors tile the n of the one list.
-pub record IsFlat (ps : List Part) (ss : List SubSelector) (n : ℕ) : Type 0 where
+-- Flat lists of a selector: its components, whose subselectors tile the n of the one list, and the ends of its runs but the last.
+pub record IsFlat (ps : List Part) (ss : List SubSelector) (n : ℕ) (kept : List ℕ) : Type 0 where
   pub selector : IsSelector (components_from 0 ps ss)
   pub tiled : Tile 0 ps n
+  pub runs : AreRunEnds (components_from 0 ps ss) (all_run_ends (components_from 0 ps ss) kept)

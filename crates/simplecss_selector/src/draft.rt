@@ -1,7 +1,9 @@
+//! A selector that is being made.
 ghost use Rattle.std.specs.Prelude.{◌≢◌, ◌≡◌, ◌+◌, ◌++◌, ◌∷◌, [], IfOk, OnErr, OnOk, vec_len};
 ghost use Rattle.simplecss_text.specs.Components.Combinator.{none as no_combinator};
 ghost use Rattle.simplecss_selector.specs.Combinators.{combinator_of};
 ghost use Rattle.simplecss_selector.specs.Drafts.{begun, with_name, with_subselector, joined, finished};
+ghost use Rattle.simplecss_selector.specs.Runs.{kept_ends_after};
 ghost use Rattle.simplecss_selector.specs.Seen.{subselector_of};
 
 use crate::selector::{Combinator, Part, Selector, SubSelector};
@@ -13,7 +15,8 @@ use std::marker::Model;
 pub(crate) struct Draft<'a> {
     parts: Vec<Part<'a>>,
     subselectors: Vec<SubSelector<'a>>,
-    // Of the component that is being filled.
+    run_ends: Vec<usize>,
+    /// Of the component that is being filled.
     combinator: Combinator,
     name: Option<&'a str>,
 }
@@ -26,12 +29,16 @@ impl<'a> Model for Draft<'a> {
 
     ghost use Rattle.simplecss_selector.specs.Seen.{drafted, IsFlat};
 
-    ghost view = { λ d. drafted d.parts.items d.subselectors.items (record { combinator = d.combinator; name = d.name; end = vec_len d.subselectors }) };
+    ghost view = { λ d. drafted d.parts.items d.subselectors.items
+        (record { combinator = d.combinator; name = d.name; end = vec_len d.subselectors }) };
 
-    ghost invariant = { λ d. IsFlat (d.parts.items ++ (record { combinator = d.combinator; name = d.name; end = vec_len d.subselectors }) ∷ []) d.subselectors.items (vec_len d.subselectors) };
+    ghost invariant = { λ d. IsFlat
+        (d.parts.items ++ (record { combinator = d.combinator; name = d.name; end = vec_len d.subselectors }) ∷ [])
+        d.subselectors.items (vec_len d.subselectors) d.run_ends.items };
 }
 
-// Adds to a list, of which the first growth makes room for two: few components have more subselectors.
+/// Adds to a list, of which the first growth makes room for two: few components have more
+/// subselectors, and few selectors more runs.
 #[inline(always)]
 fn push_few<T: Drop>(list: &mut Vec<T>, item: T) -> Result<(), AllocError>
     ensures ok { OnOk result (list.new.items ≡ list.old.items ++ item ∷ []) }
@@ -45,6 +52,23 @@ fn push_few<T: Drop>(list: &mut Vec<T>, item: T) -> Result<(), AllocError>
     Ok(())
 }
 
+/// Adds the end of a run, where a component that is joined to those before it begins another.
+#[inline(always)]
+fn push_run_end(
+    run_ends: &mut Vec<usize>,
+    end: usize,
+    combinator: Combinator,
+) -> Result<(), AllocError>
+    ensures ok { OnOk result (run_ends.new.items
+        ≡ kept_ends_after (combinator_of combinator) end run_ends.old.items) }
+    ensures err { OnErr result (run_ends.new.items ≡ run_ends.old.items) }
+{
+    match combinator {
+        Combinator::Descendant => push_few(run_ends, end),
+        Combinator::None | Combinator::Child | Combinator::Adjacent => Ok(()),
+    }
+}
+
 impl<'a> Draft<'a> {
     /// One component, of any type, with nothing else asked.
     pub(crate) fn new(alloc: Global) -> Draft<'a>
@@ -53,6 +77,7 @@ impl<'a> Draft<'a> {
         Draft {
             parts: Vec::new(alloc),
             subselectors: Vec::new(alloc),
+            run_ends: Vec::new(alloc),
             combinator: Combinator::None,
             name: None,
         }
@@ -92,6 +117,10 @@ impl<'a> Draft<'a> {
             end: self.subselectors.len(),
         };
         self.parts.push(part)?;
+        if let Err(error) = push_run_end(&mut self.run_ends, self.parts.len(), combinator) {
+            self.parts.pop();
+            return Err(error);
+        }
         self.combinator = combinator;
         self.name = None;
         Ok(())
@@ -105,6 +134,7 @@ impl<'a> Draft<'a> {
         let Draft {
             parts,
             subselectors,
+            run_ends,
             combinator,
             name,
         } = self;
@@ -117,6 +147,7 @@ impl<'a> Draft<'a> {
             parts,
             last,
             subselectors,
+            run_ends,
         }
     }
 }

@@ -1,3 +1,4 @@
+//! Equality and copies of selectors.
 ghost use Rattle.std.specs.Prelude.{◌≡◌, ◌↔◌, List, IsTrue, IfOk};
 ghost use Rattle.simplecss_text.specs.Components.{Component};
 ghost use Rattle.simplecss_text.specs.ThisEdition.{this_edition};
@@ -40,6 +41,7 @@ impl<'a> Selector<'a> {
             parts: Vec::from_slice(*self.parts.allocator(), &self.parts)?,
             last: self.last,
             subselectors: Vec::from_slice(*self.subselectors.allocator(), &self.subselectors)?,
+            run_ends: Vec::from_slice(*self.run_ends.allocator(), &self.run_ends)?,
         })
     }
 }

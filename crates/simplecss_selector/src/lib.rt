@@ -33,6 +33,8 @@ mod reading_tests;
 #[cfg(test)]
 mod row;
 #[cfg(test)]
+mod run_tests;
+#[cfg(test)]
 mod tests;
 #[cfg(test)]
 mod token_tests;

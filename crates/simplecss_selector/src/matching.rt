@@ -1,26 +1,60 @@
-ghost use Rattle.std.specs.Prelude.{◌≡◌, ◌+◌, ◌*◌, ◌<◌, ◌≤◌, ◌↔◌, IsTrue, length};
+//! Whether a selector matches an element: a search that places each run of child and adjacent steps
+//! once.
+ghost use Rattle.std.specs.Prelude.{◌≡◌, ◌+◌, ◌*◌, ◌<◌, ◌≤◌, ◌↔◌, ◌∷◌, IsTrue, length, slice_index};
 ghost use Rattle.std.specs.Option.{option_map};
 ghost use Rattle.simplecss_selector.specs.Combinators.{combinator_of};
 ghost use Rattle.simplecss_selector.specs.Placements.{Meets, HasPlacement, longest_run};
-ghost use Rattle.simplecss_selector.specs.Searches.{component_at, step_from as node_before};
+ghost use Rattle.simplecss_selector.specs.Runs.{IsRun};
+ghost use Rattle.simplecss_selector.specs.Searches.{step_from as node_before};
+ghost use Rattle.simplecss_selector.specs.Shapes.{component_at};
 
 use crate::selector::{Combinator, Selector};
 use crate::{Element, Tests};
 
-// What trying a run of child and adjacent steps at one node has found.
+/// What trying a run of child and adjacent steps at one node has found.
 #[derive(Drop)]
 enum Fit<E> {
-    // A component is not met, or has no node.
+    /// A component is not met, or has no node.
     Misfit,
-    // All are met, and nothing is above them for the components that are left.
+    /// All are met, and nothing is above them for the components that are left.
     Alone,
-    // All are met, and no component is left.
+    /// All are met, and no component is left.
     Whole,
-    // All are met, and the components up to this place are left, to be placed at or above the node.
-    Rest(E, usize),
+    /// All are met, and the components before the run are left, to be placed at or above the node.
+    Rest(E),
 }
 
-// The node to which a child or adjacent step leads back.
+/// A run of child and adjacent steps: the places of its first and of its last component.
+#[derive(Clone, Copy)]
+struct Run {
+    first: usize,
+    last: usize,
+}
+
+/// Where a run begins, before which so many of the runs with these ends stand.
+#[inline(always)]
+fn begin_after(ends: &[usize], count: usize) -> usize
+    requires { count ≤ length ends.now }
+    ensures { result ≡ slice_index (0 ∷ ends.now) count }
+{
+    if count == 0 { 0 } else { ends[count - 1] }
+}
+
+/// The run of this number, from 0 on, of the runs with these ends.
+#[inline(always)]
+fn run_at(ends: &[usize], number: usize) -> Run
+    requires within { number < length ends.now }
+    requires some { 0 < slice_index ends.now number }
+    ensures first { result.first ≡ slice_index (0 ∷ ends.now) number }
+    ensures last { result.last + 1 ≡ slice_index ends.now number }
+{
+    Run {
+        first: begin_after(ends, number),
+        last: ends[number] - 1,
+    }
+}
+
+/// The node to which a child or adjacent step leads back.
 #[inline(always)]
 fn step_from<E: Element>(combinator: Combinator, node: &E) -> Option<E>
     ensures { option_map E.node result
@@ -36,7 +70,7 @@ fn step_from<E: Element>(combinator: Combinator, node: &E) -> Option<E>
 impl<'a> Selector<'a> {
     ghost use Rattle.simplecss_selector.specs.Fits.{Finds, TestsPlaced};
 
-    // Whether the element meets the component at this place. This is one test.
+    /// Whether the element meets the component at this place. This is one test.
     #[inline(always)]
     fn is_met_at<E: Element>(&self, place: usize, element: &E, tests: &mut Tests) -> bool
         requires { place < length self.now }
@@ -59,19 +93,19 @@ impl<'a> Selector<'a> {
         true
     }
 
-    // Goes up the run whose last component is at the place `last`, from `lowest`, which meets it.
+    /// Goes up the run from `lowest`, which meets its last component.
     #[inline(always)]
-    fn climb<E: Element>(&self, last: usize, lowest: &E, tests: &mut Tests) -> Fit<E>
-        requires within { last < length self.now }
-        requires met { Meets E.tree (E.node lowest.now) (component_at self.now last).compound }
-        ensures finds { Finds E.tree E.node self.now last (E.node lowest.now) result }
-        ensures placed { TestsPlaced last tests.old (tests.new + 1) result }
+    fn climb<E: Element>(&self, run: Run, lowest: &E, tests: &mut Tests) -> Fit<E>
+        requires run { IsRun self.now run.first run.last }
+        requires met { Meets E.tree (E.node lowest.now) (component_at self.now run.last).compound }
+        ensures finds { Finds E.tree E.node self.now run.first run.last (E.node lowest.now) result }
+        ensures placed { TestsPlaced run.first run.last tests.old (tests.new + 1) result }
         ensures tested { tests.old ≤ tests.new }
         ensures bounded { tests.new + 1 ≤ tests.old + longest_run self.now }
     {
-        let mut place = last;
+        let mut place = run.last;
         let mut top: Option<E> = None;
-        'steps: while self.combinator(place).is_step() {
+        'steps: while place > run.first {
             let node = top.as_ref().unwrap_or(lowest);
             let Some(before) = step_from(self.combinator(place), node) else {
                 return Fit::Misfit;
@@ -82,29 +116,29 @@ impl<'a> Selector<'a> {
             }
             top = Some(before);
         }
-        if place == 0 {
+        if run.first == 0 {
             return Fit::Whole;
         }
         let node = top.as_ref().unwrap_or(lowest);
         match node.parent_element() {
-            Some(above) => Fit::Rest(above, place - 1),
+            Some(above) => Fit::Rest(above),
             None => Fit::Alone,
         }
     }
 
-    // Tries the run whose last component is at the place `last`, with that one on `lowest`.
+    /// Tries the run with its last component on `lowest`.
     #[inline(always)]
-    fn place_run<E: Element>(&self, last: usize, lowest: &E, tests: &mut Tests) -> Fit<E>
-        requires { last < length self.now }
-        ensures finds { Finds E.tree E.node self.now last (E.node lowest.now) result }
-        ensures placed { TestsPlaced last tests.old tests.new result }
+    fn place_run<E: Element>(&self, run: Run, lowest: &E, tests: &mut Tests) -> Fit<E>
+        requires { IsRun self.now run.first run.last }
+        ensures finds { Finds E.tree E.node self.now run.first run.last (E.node lowest.now) result }
+        ensures placed { TestsPlaced run.first run.last tests.old tests.new result }
         ensures tested { tests.old < tests.new }
         ensures bounded { tests.new ≤ tests.old + longest_run self.now }
     {
-        if !self.is_met_at(last, lowest, tests) {
+        if !self.is_met_at(run.last, lowest, tests) {
             return Fit::Misfit;
         }
-        self.climb(last, lowest, tests)
+        self.climb(run, lowest, tests)
     }
 
     /// Whether the selector matches the element, with a count of the tests that were made.
@@ -124,22 +158,28 @@ impl<'a> Selector<'a> {
         if last == 0 {
             return true;
         }
-        let (mut candidate, mut left) = match self.climb(last, element, tests) {
+        let ends = self.run_ends.as_slice();
+        let mut number = ends.len();
+        let first = begin_after(ends, number);
+        let mut candidate = match self.climb(Run { first, last }, element, tests) {
             Fit::Misfit | Fit::Alone => return false,
             Fit::Whole => return true,
-            Fit::Rest(above, rest) => (above, rest),
+            Fit::Rest(above) => above,
         };
+        number -= 1;
+        let mut run = run_at(ends, number);
         loop {
-            match self.place_run(left, &candidate, tests) {
+            match self.place_run(run, &candidate, tests) {
                 Fit::Alone => return false,
                 Fit::Whole => return true,
                 Fit::Misfit => match candidate.parent_element() {
                     None => return false,
                     Some(parent) => candidate = parent,
                 },
-                Fit::Rest(above, rest) => {
+                Fit::Rest(above) => {
                     candidate = above;
-                    left = rest;
+                    number -= 1;
+                    run = run_at(ends, number);
                 }
             }
         }

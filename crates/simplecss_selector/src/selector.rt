@@ -1,6 +1,7 @@
+//! A selector: components in flat lists, and what is read of them.
 ghost use Rattle.std.specs.Prelude.{◌≡◌, ◌+◌, ◌<◌, ◌≤◌, ◌↔◌, ◌++◌, ◌∷◌, [], length, is_some, slice_index_or, IsTrue};
 ghost use Rattle.std.specs.List.{slice_range};
-ghost use Rattle.simplecss_selector.specs.Placements.{Holds, is_step};
+ghost use Rattle.simplecss_selector.specs.Placements.{Holds};
 ghost use Rattle.simplecss_selector.specs.Combinators.{combinator_of};
 ghost use Rattle.simplecss_text.specs.Components.Combinator.{none as no_combinator};
 ghost use Rattle.simplecss_text.specs.Specificity.{is_id};
@@ -25,7 +26,8 @@ pub(crate) enum SubSelector<'a> {
     PseudoClass(PseudoClass<'a>),
 }
 
-// A component: its subselectors end at `end` in the one list of all, and begin where those of the one before end.
+/// A component: its subselectors end at `end` in the one list of all, and begin where those of the
+/// one before end.
 #[derive(Clone, Copy, Debug, PartialEq)]
 pub(crate) struct Part<'a> {
     pub(crate) combinator: Combinator,
@@ -33,13 +35,18 @@ pub(crate) struct Part<'a> {
     pub(crate) end: usize,
 }
 
-/// A selector: components, each a type name or any type with subselectors, and how it is related to the one before it. There is at least one, and the first alone has no combinator.
+/// A selector: components, each a type name or any type with subselectors, and how it is related to
+/// the one before it. There is at least one, and the first alone has no combinator.
 #[derive(Debug, Drop)]
 pub struct Selector<'a> {
-    // All components but the last, so that a selector with one component takes no memory for it.
+    /// All components but the last, so that a selector with one component takes no memory for it.
     pub(crate) parts: Vec<Part<'a>>,
     pub(crate) last: Part<'a>,
     pub(crate) subselectors: Vec<SubSelector<'a>>,
+    /// For each run of child and adjacent steps but the last, in order, the number of components up
+    /// to its end. The last run ends with the components, so that a selector of one run takes no
+    /// memory for it.
+    pub(crate) run_ends: Vec<usize>,
 }
 
 impl<'a> Model for Selector<'a> {
@@ -53,24 +60,12 @@ impl<'a> Model for Selector<'a> {
 
     ghost view = { λ s. components_from 0 (s.parts.items ++ s.last ∷ []) s.subselectors.items };
 
-    ghost invariant = { λ s. IsFlat (s.parts.items ++ s.last ∷ []) s.subselectors.items (vec_len s.subselectors) };
-}
-
-impl Combinator {
-    // Whether it leads from a node to one node alone: to the parent, or to the previous sibling.
-    #[inline(always)]
-    pub(crate) fn is_step(&self) -> bool
-        ensures { result ≡ is_step (combinator_of self.now) }
-    {
-        match self {
-            Combinator::Child | Combinator::Adjacent => true,
-            Combinator::None | Combinator::Descendant => false,
-        }
-    }
+    ghost invariant = { λ s. IsFlat (s.parts.items ++ s.last ∷ [])
+        s.subselectors.items (vec_len s.subselectors) s.run_ends.items };
 }
 
 impl<'a> SubSelector<'a> {
-    // Whether it is an attribute named `id`.
+    /// Whether it is an attribute named `id`.
     #[inline(always)]
     pub(crate) fn is_id(&self) -> bool
         ensures { result ≡ is_id (subselector_of self.now) }
@@ -81,7 +76,7 @@ impl<'a> SubSelector<'a> {
         }
     }
 
-    // Whether it holds of the element.
+    /// Whether it holds of the element.
     #[inline(always)]
     pub(crate) fn holds<E: Element>(&self, element: &E) -> bool
         ensures { IsTrue result ↔ Holds E.tree (E.node element.now) (subselector_of self.now) }
@@ -94,6 +89,7 @@ impl<'a> SubSelector<'a> {
 }
 
 impl<'a> Part<'a> {
+    /// Whether it has a type name.
     #[inline(always)]
     pub(crate) fn is_named(&self) -> bool
         ensures { result ≡ is_some self.now.name }
@@ -102,7 +98,7 @@ impl<'a> Part<'a> {
     }
 }
 
-// The subselectors from one place to before another.
+/// The subselectors from one place to before another.
 #[inline(always)]
 fn between<'s, 'a>(all: &'s [SubSelector<'a>], start: usize, end: usize) -> &'s [SubSelector<'a>]
     requires rising { start ≤ end }
@@ -112,7 +108,7 @@ fn between<'s, 'a>(all: &'s [SubSelector<'a>], start: usize, end: usize) -> &'s 
     &all[start..end]
 }
 
-// The part at this place, where `last` stands behind the others.
+/// The part at this place, where `last` stands behind the others.
 #[inline(always)]
 fn part_at<'a>(parts: &[Part<'a>], last: Part<'a>, place: usize) -> Part<'a>
     requires { place ≤ length parts.now }
@@ -126,9 +122,9 @@ fn part_at<'a>(parts: &[Part<'a>], last: Part<'a>, place: usize) -> Part<'a>
 }
 
 impl<'a> Selector<'a> {
-    ghost use Rattle.simplecss_selector.specs.Searches.{component_at};
+    ghost use Rattle.simplecss_selector.specs.Shapes.{component_at};
 
-    // How many components there are.
+    /// How many components there are.
     #[inline(always)]
     pub(crate) fn len(&self) -> usize
         ensures { result ≡ length self.now }
@@ -136,7 +132,7 @@ impl<'a> Selector<'a> {
         self.parts.len() + 1
     }
 
-    // The place of the last component.
+    /// The place of the last component.
     #[inline(always)]
     pub(crate) fn last_place(&self) -> usize
         ensures { result + 1 ≡ length self.now }
@@ -144,7 +140,8 @@ impl<'a> Selector<'a> {
         self.parts.len()
     }
 
-    // How the component at this place is related to the one before it. The first alone is related to none.
+    /// How the component at this place is related to the one before it. The first alone is related
+    /// to none.
     #[inline(always)]
     pub(crate) fn combinator(&self, place: usize) -> Combinator
         requires { place < length self.now }
@@ -155,7 +152,7 @@ impl<'a> Selector<'a> {
         part.combinator
     }
 
-    // The component at this place: its part, and its subselectors.
+    /// The component at this place: its part, and its subselectors.
     #[inline(always)]
     pub(crate) fn component(&self, place: usize) -> (Part<'a>, &[SubSelector<'a>])
         requires { place < length self.now }

@@ -3,7 +3,7 @@ use Rattle.std.specs.List.{flat_map}
 use Rattle.std.proofs.lemmas.List.{take_all}
 use Rattle.std.proofs.Output.{has_written_styled_of_eq}
 use Rattle.simplecss_text.specs.Printing.{component_text}
-use Rattle.simplecss_selector.specs.Searches.{any_component}
+use Rattle.simplecss_selector.specs.Shapes.{any_component}
 use Rattle.simplecss_text.proofs.Styled.{plain_of_styled, styled_step_at}
 use Rattle.simplecss_selector.proofs.printing.SelectorDisplay.fmt.Goals as goal
 

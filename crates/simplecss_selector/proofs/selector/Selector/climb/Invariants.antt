@@ -1,7 +1,7 @@
 use Rattle.std.proofs.Common.{◌≡◌, ◌+◌, ◌≤◌}
 use Rattle.std.specs.Option.{option_map_or}
 use Rattle.simplecss_selector.specs.Placements.{Meets}
-use Rattle.simplecss_selector.specs.Searches.{component_at}
+use Rattle.simplecss_selector.specs.Shapes.{component_at}
 use Rattle.simplecss_selector.proofs.Greedy.{Tracks}
 use Rattle.simplecss_selector.proofs.Stretches.{AreJoined}
 use Rattle.simplecss_selector.proofs.selector.Selector.climb.Given as goal
@@ -14,12 +14,13 @@ invariant-steps g l =
     let n = node l.lowest in
     let u = option_map_or node l.top n in
     record {
-      within_run : l.place ≤ l.last;
-      tracks : Tracks tree l.self (l.last + 1) (l.place + 1) n u;
+      from_run : l.run.first ≤ l.place;
+      within_run : l.place ≤ l.run.last;
+      tracks : Tracks tree l.self (l.run.last + 1) (l.place + 1) n u;
       met : Meets tree u (component_at l.self l.place).compound;
-      joined : AreJoined l.self (l.place + 1) (l.last + 1);
+      joined : AreJoined l.self (l.place + 1) (l.run.last + 1);
       no_deeper : tree.depth u ≤ tree.depth n;
-      counted : l.tests + l.place ≡ l.initial.tests + l.last;
+      counted : l.tests + l.place ≡ l.initial.tests + l.run.last;
     }
 
 abbrev pub decreases-steps : goal.decreases-steps

@@ -1,5 +1,5 @@
 use Rattle.std.proofs.Common.{◌++◌, ◌∷◌, []}
-use Rattle.simplecss_selector.specs.Seen.{IsSelector}
+use Rattle.simplecss_selector.specs.Shapes.{IsSelector}
 use Rattle.simplecss_selector.proofs.Flat.{place_within, combinator_is}
 use Rattle.simplecss_selector.proofs.selector.Selector.combinator.Goals as goal
 

@@ -1,6 +1,6 @@
 use Rattle.std.proofs.Common.{◌↔◌, drop, map, All}
 use Rattle.simplecss_selector.specs.Placements.{Meets, Holds}
-use Rattle.simplecss_selector.specs.Searches.{component_at}
+use Rattle.simplecss_selector.specs.Shapes.{component_at}
 use Rattle.simplecss_selector.specs.Seen.{subselector_of}
 use Rattle.simplecss_selector.proofs.selector.Selector.is_met_at.Given as goal
 

@@ -8,16 +8,16 @@ use Rattle.simplecss_selector.proofs.selector.Selector.place_run.Goals as goal
 pub returns-then-not-is_met_at-clause-finds : goal.returns-then-not-is_met_at-clause-finds
 returns-then-not-is_met_at-clause-finds g c =
     let cs = c.args.self.now in
-    not_met g.E.Element.tree cs (c.args.last + 1) c.args.last _ _ c.requires
+    not_met g.E.Element.tree cs (c.args.run.last + 1) c.args.run.last _ _ c.requires.within
     (λ m. false≢true (c.if-not-is_met_at.ensures.answer.1 m))
-    (tracks_from g.E.Element.tree cs (c.args.last + 1) (c.args.last + 1) _ refl)
+    (tracks_from g.E.Element.tree cs (c.args.run.last + 1) (c.args.run.last + 1) _ refl)
 
 pub returns-then-not-is_met_at-clause-bounded : goal.returns-then-not-is_met_at-clause-bounded
 returns-then-not-is_met_at-clause-bounded g c =
-    omega (arith, c.is_met_at.ensures.counted, longest_run-some c.args.self.now (omega (arith, c.requires)))
+    omega (arith, c.is_met_at.ensures.counted, longest_run-some c.args.self.now (omega (arith, c.requires.within)))
 
 pub climb-requires : goal.climb-requires
-climb-requires g c = record { within = c.requires; met = c.if-not-is_met_at.ensures.answer.0 refl }
+climb-requires g c = record { run = c.requires; met = c.if-not-is_met_at.ensures.answer.0 refl }
 
 pub returns-clause-placed : goal.returns-clause-placed
-returns-clause-placed g c = tests_before c.args.last _ _ _ c.climb.result c.is_met_at.ensures.counted c.climb.ensures.placed
+returns-clause-placed g c = tests_before c.args.run.first c.args.run.last _ _ _ c.climb.result c.is_met_at.ensures.counted c.climb.ensures.placed
