@@ -81,7 +81,8 @@ fn pass_word(s: &mut Stream<'_>) -> bool
     true
 }
 
-/// Passes a term: a hash, a number, a string, a comma, a name or a function. Says whether one stood there.
+/// Passes a term: a hash, a number, a string, a comma, a slash that opens no comment, a name or a function. Says whether
+/// one stood there.
 #[inline(always)]
 #[tactic(auto, unfolding(simplecss_text::specs::Terms::term))]
 pub fn pass_term(s: &mut Stream<'_>) -> bool
@@ -105,6 +106,10 @@ pub fn pass_term(s: &mut Stream<'_>) -> bool
             readers::take_string(s, quote).is_some()
         }
         Some(b',') => {
+            readers::pass_ascii(s);
+            true
+        }
+        Some(b'/') if !scan::opens_comment(s.slice_tail()) => {
             readers::pass_ascii(s);
             true
         }

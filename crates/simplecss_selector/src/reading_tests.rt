@@ -44,6 +44,8 @@ fn reads_selectors(rt: HostRuntime) -> Result<(), AllocError> {
             ("-", "-", 1),
             ("#x", "*[id='x']", 2),
             ("a\u{C}", "a", 2),
+            ("\u{A0}", "\u{A0}", 2),
+            ("\u{E9}", "\u{E9}", 2),
             ("\u{EE}", "\u{EE}", 2),
             (
                 "a:first-child + b:lang( en )",
@@ -82,7 +84,7 @@ fn refuses(rt: HostRuntime) -> Result<(), AllocError> {
             ("a\u{B}", "refused", 1),
             ("a/*/.b", "refused", 6),
             (":lang(\u{B})", "refused", 8),
-            ("\u{E9}", "refused", 0),
+            ("\u{9F}", "refused", 0),
             ("\\26", "refused", 0),
             ("[a]b,c{d:e}", "refused", 4),
             ("a*,c{d:e}", "refused", 1),

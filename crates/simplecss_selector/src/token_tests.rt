@@ -206,9 +206,9 @@ fn tells_errors(rt: HostRuntime) -> Result<(), AllocError> {
             ),
             ("[a=\"x\"\u{E9}]", "!expected ']' not '\u{C3}' at 1:7"),
             ("\u{EE}<", "\u{EE}, !invalid ident at 1:2"),
-            ("\u{E9}", "!invalid ident at 1:1, !selector missing"),
-            ("x\u{ED}", "x, !invalid ident at 1:2"),
-            ("[a\u{ED}]", "!invalid or unsupported attribute selector"),
+            ("\u{9F}", "!invalid ident at 1:1, !selector missing"),
+            ("x\u{9F}", "x, !invalid ident at 1:2"),
+            ("[a\u{9F}]", "!invalid or unsupported attribute selector"),
         ],
     )
 }
@@ -231,8 +231,12 @@ fn gives_what_else_a_piece_may_be(rt: HostRuntime) -> Result<(), AllocError> {
             (":lang(\u{B}en-US\u{3000})", ":lang(en-US)"),
             ("a\u{C}", "a"),
             ("a\u{B}", "a, !invalid ident at 1:2"),
+            ("\u{A0}", "\u{A0}"),
+            ("\u{E9}", "\u{E9}"),
             ("\u{EE}", "\u{EE}"),
+            ("x\u{ED}", "x\u{ED}"),
             ("x\u{EE}", "x\u{EE}"),
+            ("[a\u{ED}]", "[a\u{ED}]"),
         ],
     )
 }

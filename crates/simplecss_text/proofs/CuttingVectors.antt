@@ -5,7 +5,7 @@ use Rattle.std.specs.Prelude.{◌≡◌, refl, ℕ, List, [], ◌∷◌, codes}
 use Rattle.std.specs.Str.{trim_start, trim_end, chars}
 use lib.Utf8.{encode}
 use Rattle.simplecss_text.specs.Reading.{each}
-use Rattle.simplecss_text.specs.Characters.{first_edition, second_edition}
+use Rattle.simplecss_text.specs.Characters.{Edition, first_edition, second_edition}
 use Rattle.simplecss_text.specs.Comments.{comment, blank, gap}
 use Rattle.simplecss_text.specs.Names.{past_name_chars, name}
 use Rattle.simplecss_text.specs.Strings.{string_or_name}
@@ -26,13 +26,13 @@ abbrev pub further_brace : List ℕ
 further_brace = codes "a { }} b { c:d }"
 
 -- the places at which statements end
-pub ends_of_statements :
-    (statement_ends first_edition further_brace ≡ 6 ∷ 16 ∷ [])
-    × (statement_ends second_edition further_brace ≡ 6 ∷ 16 ∷ [])
-    × (statement_ends first_edition (codes "@m x; a{b:c} /**/ @--x{y:z} /* w") ≡ 5 ∷ 12 ∷ 20 ∷ 27 ∷ [])
-    × (statement_ends first_edition (codes " /**/ ") ≡ [])
+pub ends_of_statements : (edition : Edition) →
+    (statement_ends edition further_brace ≡ 6 ∷ 16 ∷ [])
+    × (statement_ends edition (codes "@m x; a{b:c} /**/ @--x{y:z} /* w") ≡ 5 ∷ 12 ∷ 20 ∷ 27 ∷ [])
+    × (statement_ends edition (codes " /**/ ") ≡ [])
 unfolding rests_behind each comment blank gap past_name_chars name string_or_name attribute_operator attribute_after lang_after pseudo_class_after named begun solid piece ending run_from chars encode trim_start trim_end reads part parts next_block rule_set past_at_rule statement statements block block_end word past_number term value importance trailing declaration declarations
-ends_of_statements = (refl, refl, refl, refl)
+ends_of_statements first_edition = (refl, refl, refl)
+ends_of_statements second_edition = (refl, refl, refl)
 
 -- the rule `b { c:d; }`
 abbrev rule_b : StyleRule
@@ -42,41 +42,43 @@ rule_b = record {
 }
 
 -- cut where its first statement ends, the two pieces give the rule that the whole gives
-pub cut_at_statement :
-    (kept first_edition further_brace ≡ rule_b ∷ [])
+pub cut_at_statement : (edition : Edition) →
+    (kept edition further_brace ≡ rule_b ∷ [])
     × (take 6 further_brace ≡ codes "a { }}")
-    × (kept first_edition (take 6 further_brace) ≡ [])
-    × (kept first_edition (drop 6 further_brace) ≡ rule_b ∷ [])
+    × (kept edition (take 6 further_brace) ≡ [])
+    × (kept edition (drop 6 further_brace) ≡ rule_b ∷ [])
 unfolding rests_behind each comment blank gap past_name_chars name string_or_name attribute_operator attribute_after lang_after pseudo_class_after named begun solid piece ending run_from chars encode trim_start trim_end reads part parts next_block rule_set past_at_rule statement statements block block_end word past_number term value importance trailing declaration declarations
-cut_at_statement = (refl, refl, refl, refl)
+cut_at_statement first_edition = (refl, refl, refl, refl)
+cut_at_statement second_edition = (refl, refl, refl, refl)
 
 -- (the first end of a statement in it)
-pub ends_at_six : StatementEndsAt first_edition further_brace 6
-ends_at_six = rw ends_of_statements.0 (0, omega arith, refl)
+pub ends_at_six : (edition : Edition) → StatementEndsAt edition further_brace 6
+ends_at_six edition = rw (ends_of_statements edition).0 (0, omega arith, refl)
 
-pub across_statement : KeepsAcross first_edition further_brace 6
-across_statement = cut_at_statement.0 ∙ sym (ap (λ (rules : List StyleRule). rules ++ kept first_edition (drop 6 further_brace)) cut_at_statement.2 ∙ cut_at_statement.3)
+pub across_statement : (edition : Edition) → KeepsAcross edition further_brace 6
+across_statement edition = (cut_at_statement edition).0 ∙ sym (ap (λ (rules : List StyleRule). rules ++ kept edition (drop 6 further_brace)) (cut_at_statement edition).2 ∙ (cut_at_statement edition).3)
 
 -- cut a byte before, they give none, since the second piece begins with the further brace
-pub cut_elsewhere :
+pub cut_elsewhere : (edition : Edition) →
     (take 5 further_brace ≡ codes "a { }")
-    × (kept first_edition (take 5 further_brace) ≡ [])
-    × (kept first_edition (drop 5 further_brace) ≡ [])
-    × (sheet first_edition (take 5 further_brace ∷ drop 5 further_brace ∷ []) ≡ [])
-    × (sheet_text (sheet first_edition (further_brace ∷ [])) ≡ codes "b { c:d; }")
+    × (kept edition (take 5 further_brace) ≡ [])
+    × (kept edition (drop 5 further_brace) ≡ [])
+    × (sheet edition (take 5 further_brace ∷ drop 5 further_brace ∷ []) ≡ [])
+    × (sheet_text (sheet edition (further_brace ∷ [])) ≡ codes "b { c:d; }")
 unfolding rests_behind each comment blank gap past_name_chars name string_or_name attribute_operator attribute_after lang_after pseudo_class_after named begun solid piece ending run_from chars encode trim_start trim_end reads part parts next_block rule_set past_at_rule statement statements block block_end word past_number term value importance trailing declaration declarations
-cut_elsewhere = (refl, refl, refl, refl, refl)
+cut_elsewhere first_edition = (refl, refl, refl, refl, refl)
+cut_elsewhere second_edition = (refl, refl, refl, refl, refl)
 
 -- so there the rules of the whole are not those of the two pieces
-pub not_elsewhere : KeepsAcross first_edition further_brace 5 → ⊥
-not_elsewhere e =
-    let none : kept first_edition further_brace ≡ [] = e ∙ ap (λ (rules : List StyleRule). rules ++ kept first_edition (drop 5 further_brace)) cut_elsewhere.1 ∙ cut_elsewhere.2 in
-    let some : kept first_edition further_brace ≡ rule_b ∷ [] = cut_at_statement.0 in
+pub not_elsewhere : (edition : Edition) → KeepsAcross edition further_brace 5 → ⊥
+not_elsewhere edition e =
+    let none : kept edition further_brace ≡ [] = e ∙ ap (λ (rules : List StyleRule). rules ++ kept edition (drop 5 further_brace)) (cut_elsewhere edition).1 ∙ (cut_elsewhere edition).2 in
+    let some : kept edition further_brace ≡ rule_b ∷ [] = (cut_at_statement edition).0 in
     absurd (cc)
 
 -- (no end of a statement in it)
-pub no_end_at_five : StatementEndsAt first_edition further_brace 5 → ⊥
-no_end_at_five h = by (rw ends_of_statements.0 at h)
+pub no_end_at_five : (edition : Edition) → StatementEndsAt edition further_brace 5 → ⊥
+no_end_at_five edition h = by (rw (ends_of_statements edition).0 at h)
   where
     by : Contains {X = ℕ} (6 ∷ 16 ∷ []) 5 → ⊥
     by (zero, l, e) = absurd (omega (arith, e))

@@ -6,19 +6,20 @@ use Rattle.simplecss_text.specs.Reading.{each}
 use Rattle.simplecss_text.specs.Comments.{comment, blank, gap}
 use Rattle.simplecss_text.specs.Names.{past_name_chars, name}
 use Rattle.simplecss_text.specs.Strings.{string_or_name}
-use Rattle.simplecss_text.specs.Characters.{first_edition}
+use Rattle.simplecss_text.specs.Characters.{Edition, first_edition, second_edition}
 use Rattle.simplecss_text.specs.Components.Combinator.{none}
 use Rattle.simplecss_text.specs.Pieces.{attribute_operator, attribute_after, lang_after, pseudo_class_after, named, begun, solid, piece, ending}
 use Rattle.simplecss_text.specs.TokenRuns.{run_from}
 use Rattle.simplecss_text.specs.Selectors.{reads}
 use Rattle.simplecss_text.specs.Printing.{selector_text, is_clean}
 
-pub lone_hyphen :
-    (reads first_edition (codes "-") ≡ (Some (record { combinator = none; compound = record { name = Some (codes "-"); subselectors = [] } } ∷ []), []))
+pub lone_hyphen : (edition : Edition) →
+    (reads edition (codes "-") ≡ (Some (record { combinator = none; compound = record { name = Some (codes "-"); subselectors = [] } } ∷ []), []))
     × (selector_text (record { combinator = none; compound = record { name = Some (codes "-"); subselectors = [] } } ∷ []) ≡ codes "-")
     × (is_clean (record { combinator = none; compound = record { name = Some (codes "-"); subselectors = [] } } ∷ []) ≡ true)
-    × ((reads first_edition (codes "- {")).0 ≡ None)
-    × ((reads first_edition (codes "-,")).0 ≡ None)
-    × ((reads first_edition (codes "-{")).0 ≡ None)
+    × ((reads edition (codes "- {")).0 ≡ None)
+    × ((reads edition (codes "-,")).0 ≡ None)
+    × ((reads edition (codes "-{")).0 ≡ None)
 unfolding each comment blank gap past_name_chars name string_or_name attribute_operator attribute_after lang_after pseudo_class_after named begun solid piece ending run_from chars encode trim_start trim_end reads
-lone_hyphen = (refl, refl, refl, refl, refl, refl)
+lone_hyphen first_edition = (refl, refl, refl, refl, refl, refl)
+lone_hyphen second_edition = (refl, refl, refl, refl, refl, refl)

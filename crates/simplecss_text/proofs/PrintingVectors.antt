@@ -6,7 +6,7 @@ use Rattle.simplecss_text.specs.Reading.{each}
 use Rattle.simplecss_text.specs.Comments.{comment, blank, gap}
 use Rattle.simplecss_text.specs.Names.{past_name_chars, name}
 use Rattle.simplecss_text.specs.Strings.{string_or_name}
-use Rattle.simplecss_text.specs.Characters.{first_edition}
+use Rattle.simplecss_text.specs.Characters.{Edition, first_edition, second_edition}
 use Rattle.simplecss_text.specs.Pieces.{attribute_operator, attribute_after, lang_after, pseudo_class_after, named, begun, solid, piece, ending}
 use Rattle.simplecss_text.specs.TokenRuns.{run_from}
 use Rattle.simplecss_text.specs.Selectors.{reads}
@@ -19,25 +19,28 @@ use Rattle.simplecss_text.specs.Printing.{sheet_text}
 use Rattle.simplecss_text.specs.PrintingLaws.{has_wide_space, are_clean}
 
 -- an apostrophe that no backslash stands before ends the printed value
-pub bare_apostrophe :
-    (are_clean (sheet first_edition (codes "[a=\"it's\"] { b:c }" ∷ [])) ≡ false)
-    × (sheet_text (sheet first_edition (codes "[a=\"it's\"] { b:c }" ∷ [])) ≡ codes "*[a='it's'] { b:c; }")
-    × (sheet first_edition (codes "*[a='it's'] { b:c; }" ∷ []) ≡ [])
+pub bare_apostrophe : (edition : Edition) →
+    (are_clean (sheet edition (codes "[a=\"it's\"] { b:c }" ∷ [])) ≡ false)
+    × (sheet_text (sheet edition (codes "[a=\"it's\"] { b:c }" ∷ [])) ≡ codes "*[a='it's'] { b:c; }")
+    × (sheet edition (codes "*[a='it's'] { b:c; }" ∷ []) ≡ [])
 unfolding each comment blank gap past_name_chars name string_or_name attribute_operator attribute_after lang_after pseudo_class_after named begun solid piece ending run_from chars encode trim_start trim_end reads part parts next_block rule_set past_at_rule statement statements block block_end word past_number term value importance trailing declaration declarations
-bare_apostrophe = (refl, refl, refl)
+bare_apostrophe first_edition = (refl, refl, refl)
+bare_apostrophe second_edition = (refl, refl, refl)
 
 -- behind a backslash it stays
-pub escaped_apostrophe :
-    (are_clean (sheet first_edition (codes "[a=\"it\\'s\"] { b:c }" ∷ [])) ≡ true)
-    × (sheet_text (sheet first_edition (codes "[a=\"it\\'s\"] { b:c }" ∷ [])) ≡ codes "*[a='it\\'s'] { b:c; }")
-    × (sheet first_edition (codes "*[a='it\\'s'] { b:c; }" ∷ []) ≡ sheet first_edition (codes "[a=\"it\\'s\"] { b:c }" ∷ []))
+pub escaped_apostrophe : (edition : Edition) →
+    (are_clean (sheet edition (codes "[a=\"it\\'s\"] { b:c }" ∷ [])) ≡ true)
+    × (sheet_text (sheet edition (codes "[a=\"it\\'s\"] { b:c }" ∷ [])) ≡ codes "*[a='it\\'s'] { b:c; }")
+    × (sheet edition (codes "*[a='it\\'s'] { b:c; }" ∷ []) ≡ sheet edition (codes "[a=\"it\\'s\"] { b:c }" ∷ []))
 unfolding each comment blank gap past_name_chars name string_or_name attribute_operator attribute_after lang_after pseudo_class_after named begun solid piece ending run_from chars encode trim_start trim_end reads part parts next_block rule_set past_at_rule statement statements block block_end word past_number term value importance trailing declaration declarations
-escaped_apostrophe = (refl, refl, refl)
+escaped_apostrophe first_edition = (refl, refl, refl)
+escaped_apostrophe second_edition = (refl, refl, refl)
 
 -- an ideographic space is a name before a parenthesis, and is trimmed off the value
-pub ideographic_space :
+pub ideographic_space : (edition : Edition) →
     (has_wide_space (codes "a { b:" ++ (227 ∷ 128 ∷ 128 ∷ codes "(c) }")) ≡ true)
-    × (sheet_text (sheet first_edition ((codes "a { b:" ++ (227 ∷ 128 ∷ 128 ∷ codes "(c) }")) ∷ [])) ≡ codes "a { b:(c); }")
-    × (sheet first_edition (codes "a { b:(c); }" ∷ []) ≡ [])
+    × (sheet_text (sheet edition ((codes "a { b:" ++ (227 ∷ 128 ∷ 128 ∷ codes "(c) }")) ∷ [])) ≡ codes "a { b:(c); }")
+    × (sheet edition (codes "a { b:(c); }" ∷ []) ≡ [])
 unfolding each comment blank gap past_name_chars name string_or_name attribute_operator attribute_after lang_after pseudo_class_after named begun solid piece ending run_from chars encode trim_start trim_end reads part parts next_block rule_set past_at_rule statement statements block block_end word past_number term value importance trailing declaration declarations
-ideographic_space = (refl, refl, refl)
+ideographic_space first_edition = (refl, refl, refl)
+ideographic_space second_edition = (refl, refl, refl)

@@ -9,7 +9,7 @@ use Rattle.simplecss_text.specs.Errors.{error_of, error_text, position_text}
 use Rattle.simplecss_text.specs.Comments.{comment, blank, gap}
 use Rattle.simplecss_text.specs.Names.{past_name_chars, name}
 use Rattle.simplecss_text.specs.Strings.{string_or_name}
-use Rattle.simplecss_text.specs.Characters.{first_edition, second_edition}
+use Rattle.simplecss_text.specs.Characters.{Edition, first_edition, second_edition}
 use Rattle.simplecss_text.specs.Terms.{word, past_number, term}
 use Rattle.simplecss_text.specs.Blocks.{block_end}
 use Rattle.std.specs.Fmt.{digits}
@@ -45,44 +45,57 @@ unfolding each comment blank gap past_name_chars name string_or_name word past_n
 gaps = (refl, refl, refl, refl, refl, refl)
 
 -- names
-pub names :
-    (name first_edition (codes "-a1 b") ≡ got (codes "-a1") (codes " b"))
-    × (name first_edition (codes "-") ≡ got (codes "-") [])
-    × (name first_edition (codes "- a") ≡ fails (no_name (codes "- a")) (codes " a"))
-    × (name first_edition (codes "--x") ≡ fails (no_name (codes "--x")) (codes "-x"))
-    × (name first_edition [] ≡ fails (no_name []) [])
-    × (name first_edition (codes "1a") ≡ fails (no_name (codes "1a")) (codes "1a"))
-    × (name first_edition (encode_utf8_all (codes "aé")) ≡ got (codes "a") (encode_utf8_all (codes "é")))
-    × (name second_edition (encode_utf8_all (codes "aé")) ≡ got (encode_utf8_all (codes "aé")) [])
-    × (name first_edition (97 ∷ 227 ∷ 128 ∷ 128 ∷ 98 ∷ 32 ∷ 99 ∷ []) ≡ got (97 ∷ 227 ∷ 128 ∷ 128 ∷ 98 ∷ []) (codes " c"))
+pub names : (edition : Edition) →
+    (name edition (codes "-a1 b") ≡ got (codes "-a1") (codes " b"))
+    × (name edition (codes "-") ≡ got (codes "-") [])
+    × (name edition (codes "- a") ≡ fails (no_name (codes "- a")) (codes " a"))
+    × (name edition (codes "--x") ≡ fails (no_name (codes "--x")) (codes "-x"))
+    × (name edition [] ≡ fails (no_name []) [])
+    × (name edition (codes "1a") ≡ fails (no_name (codes "1a")) (codes "1a"))
+    × (name edition (97 ∷ 227 ∷ 128 ∷ 128 ∷ 98 ∷ 32 ∷ 99 ∷ []) ≡ got (97 ∷ 227 ∷ 128 ∷ 128 ∷ 98 ∷ []) (codes " c"))
 unfolding each comment blank gap past_name_chars name string_or_name word past_number term position block_end chars encode
-names = (refl, refl, refl, refl, refl, refl, refl, refl, refl)
+names first_edition = (refl, refl, refl, refl, refl, refl, refl)
+names second_edition = (refl, refl, refl, refl, refl, refl, refl)
+
+-- and what the two editions read apart
+pub names-editions :
+    (name second_edition (encode_utf8_all (codes "aé")) ≡ got (encode_utf8_all (codes "aé")) [])
+    × (name first_edition (encode_utf8_all (codes "aé")) ≡ got (codes "a") (encode_utf8_all (codes "é")))
+unfolding each comment blank gap past_name_chars name string_or_name word past_number term position block_end chars encode
+names-editions = (refl, refl)
 
 -- strings and what may stand in their place
-pub strings :
-    (string_or_name first_edition (codes "'a\"b' c") ≡ got (codes "a\"b") (codes " c"))
-    × (string_or_name first_edition (codes "''a") ≡ got [] (codes "a"))
-    × (string_or_name first_edition (codes "'a\\'") ≡ fails ended [])
-    × (string_or_name first_edition (codes "ab]") ≡ got (codes "ab") (codes "]"))
-    × (string_or_name first_edition [] ≡ fails ended [])
+pub strings : (edition : Edition) →
+    (string_or_name edition (codes "'a\"b' c") ≡ got (codes "a\"b") (codes " c"))
+    × (string_or_name edition (codes "''a") ≡ got [] (codes "a"))
+    × (string_or_name edition (codes "'a\\'") ≡ fails ended [])
+    × (string_or_name edition (codes "ab]") ≡ got (codes "ab") (codes "]"))
+    × (string_or_name edition [] ≡ fails ended [])
 unfolding each comment blank gap past_name_chars name string_or_name word past_number term position block_end chars encode
-strings = (refl, refl, refl, refl, refl)
+strings first_edition = (refl, refl, refl, refl, refl)
+strings second_edition = (refl, refl, refl, refl, refl)
 
 -- terms
-pub terms :
-    (term first_edition (codes "#fff;") ≡ got tt (codes ";"))
-    × (term first_edition (codes "#-12") ≡ got tt [])
-    × (term first_edition (codes "1-2") ≡ got tt (codes "2"))
-    × (term first_edition (codes ".5%x") ≡ got tt (codes "x"))
-    × (term first_edition (codes "url(a b) c") ≡ got tt (codes " c"))
-    × (term first_edition (codes "url(a") ≡ fails ended [])
-    × (term first_edition (codes "\"a") ≡ fails ended [])
-    × (term first_edition (codes "/1") ≡ fails (no_name (codes "/1")) (codes "/1"))
-    × (term second_edition (codes "/1") ≡ got tt (codes "1"))
-    × (term second_edition (codes "/* */") ≡ fails (no_name (codes "/* */")) (codes "/* */"))
-    × (term first_edition (codes ",a") ≡ got tt (codes "a"))
+pub terms : (edition : Edition) →
+    (term edition (codes "#fff;") ≡ got tt (codes ";"))
+    × (term edition (codes "#-12") ≡ got tt [])
+    × (term edition (codes "1-2") ≡ got tt (codes "2"))
+    × (term edition (codes ".5%x") ≡ got tt (codes "x"))
+    × (term edition (codes "url(a b) c") ≡ got tt (codes " c"))
+    × (term edition (codes "url(a") ≡ fails ended [])
+    × (term edition (codes "\"a") ≡ fails ended [])
+    × (term edition (codes "/* */") ≡ fails (no_name (codes "/* */")) (codes "/* */"))
+    × (term edition (codes ",a") ≡ got tt (codes "a"))
 unfolding each comment blank gap past_name_chars name string_or_name word past_number term position block_end chars encode
-terms = (refl, refl, refl, refl, refl, refl, refl, refl, refl, refl, refl)
+terms first_edition = (refl, refl, refl, refl, refl, refl, refl, refl, refl)
+terms second_edition = (refl, refl, refl, refl, refl, refl, refl, refl, refl)
+
+-- and what the two editions read apart
+pub terms-editions :
+    (term second_edition (codes "/1") ≡ got tt (codes "1"))
+    × (term first_edition (codes "/1") ≡ fails (no_name (codes "/1")) (codes "/1"))
+unfolding each comment blank gap past_name_chars name string_or_name word past_number term position block_end chars encode
+terms-editions = (refl, refl)
 
 -- where a block ends
 pub block_ends :
@@ -127,87 +140,104 @@ unfolding each comment blank gap past_name_chars name string_or_name word past_n
 gaps_at_the_end = (refl, refl, refl, refl, refl, refl)
 
 -- names with hyphens
-pub hyphens :
-    (name first_edition (codes "-") ≡ got (codes "-") [])
-    × (name first_edition (codes "a-") ≡ got (codes "a-") [])
-    × (name first_edition (codes "-a") ≡ got (codes "-a") [])
-    × (name first_edition (codes "-_-1 ") ≡ got (codes "-_-1") (codes " "))
-    × (name first_edition (codes "--") ≡ fails (no_name (codes "--")) (codes "-"))
-    × (name first_edition (codes "-1") ≡ fails (no_name (codes "-1")) (codes "1"))
-    × (name first_edition (codes "-/**/") ≡ fails (no_name (codes "-/**/")) (codes "/**/"))
-    × (name first_edition (codes "_") ≡ got (codes "_") [])
-    × (name first_edition (97 ∷ 90 ∷ 57 ∷ 11 ∷ []) ≡ got (codes "aZ9") (11 ∷ []))
-    × (name first_edition (codes "\\a") ≡ fails (no_name (codes "\\a")) (codes "\\a"))
+pub hyphens : (edition : Edition) →
+    (name edition (codes "-") ≡ got (codes "-") [])
+    × (name edition (codes "a-") ≡ got (codes "a-") [])
+    × (name edition (codes "-a") ≡ got (codes "-a") [])
+    × (name edition (codes "-_-1 ") ≡ got (codes "-_-1") (codes " "))
+    × (name edition (codes "--") ≡ fails (no_name (codes "--")) (codes "-"))
+    × (name edition (codes "-1") ≡ fails (no_name (codes "-1")) (codes "1"))
+    × (name edition (codes "-/**/") ≡ fails (no_name (codes "-/**/")) (codes "/**/"))
+    × (name edition (codes "_") ≡ got (codes "_") [])
+    × (name edition (97 ∷ 90 ∷ 57 ∷ 11 ∷ []) ≡ got (codes "aZ9") (11 ∷ []))
+    × (name edition (codes "\\a") ≡ fails (no_name (codes "\\a")) (codes "\\a"))
 unfolding each comment blank gap past_name_chars name string_or_name word past_number term position block_end chars encode
-hyphens = (refl, refl, refl, refl, refl, refl, refl, refl, refl, refl)
+hyphens first_edition = (refl, refl, refl, refl, refl, refl, refl, refl, refl, refl)
+hyphens second_edition = (refl, refl, refl, refl, refl, refl, refl, refl, refl, refl)
 
 -- names of wide characters, in both editions
-pub wide_names :
-    (name first_edition (encode_utf8_all (codes "-é")) ≡ fails (no_name (encode_utf8_all (codes "-é"))) (encode_utf8_all (codes "é")))
-    × (name second_edition (encode_utf8_all (codes "-é")) ≡ got (encode_utf8_all (codes "-é")) [])
-    × (name first_edition (encode_utf8_all (codes "aîé")) ≡ got (encode_utf8_all (codes "aî")) (encode_utf8_all (codes "é")))
-    × (name second_edition (encode_utf8_all (codes "aîé")) ≡ got (encode_utf8_all (codes "aîé")) [])
-    × (name first_edition (encode_utf8_all (codes "í")) ≡ fails (no_name (encode_utf8_all (codes "í"))) (encode_utf8_all (codes "í")))
-    × (name first_edition (227 ∷ 128 ∷ 128 ∷ []) ≡ got (227 ∷ 128 ∷ 128 ∷ []) [])
+pub wide_names : (edition : Edition) →
+    (name edition (227 ∷ 128 ∷ 128 ∷ []) ≡ got (227 ∷ 128 ∷ 128 ∷ []) [])
 unfolding each comment blank gap past_name_chars name string_or_name word past_number term position block_end chars encode
-wide_names = (refl, refl, refl, refl, refl, refl)
+wide_names first_edition = refl
+wide_names second_edition = refl
+
+-- and what the two editions read apart
+pub wide_names-editions :
+    (name second_edition (encode_utf8_all (codes "-é")) ≡ got (encode_utf8_all (codes "-é")) [])
+    × (name second_edition (encode_utf8_all (codes "aîé")) ≡ got (encode_utf8_all (codes "aîé")) [])
+    × (name second_edition (encode_utf8_all (codes "í")) ≡ got (encode_utf8_all (codes "í")) [])
+    × (name second_edition (194 ∷ 160 ∷ []) ≡ got (194 ∷ 160 ∷ []) [])
+    × (name first_edition (encode_utf8_all (codes "-é")) ≡ fails (no_name (encode_utf8_all (codes "-é"))) (encode_utf8_all (codes "é")))
+    × (name first_edition (encode_utf8_all (codes "aîé")) ≡ got (encode_utf8_all (codes "aî")) (encode_utf8_all (codes "é")))
+    × (name first_edition (encode_utf8_all (codes "í")) ≡ fails (no_name (encode_utf8_all (codes "í"))) (encode_utf8_all (codes "í")))
+unfolding each comment blank gap past_name_chars name string_or_name word past_number term position block_end chars encode
+wide_names-editions = (refl, refl, refl, refl, refl, refl, refl)
 
 -- strings and the quotes and backslashes in them
-pub quotes :
-    (string_or_name first_edition (codes "'\\\\'b' c") ≡ got (codes "\\\\'b") (codes " c"))
-    × (string_or_name first_edition (codes "\"'\"a") ≡ got (codes "'") (codes "a"))
-    × (string_or_name first_edition (codes "\"\"") ≡ got [] [])
-    × (string_or_name first_edition (codes "'a") ≡ fails ended [])
-    × (string_or_name first_edition (codes "'") ≡ fails ended [])
-    × (string_or_name first_edition (codes "'\\'") ≡ fails ended [])
-    × (string_or_name first_edition (codes "'{/*\n' ") ≡ got (codes "{/*\n") (codes " "))
-    × (string_or_name first_edition (codes "-") ≡ got (codes "-") [])
-    × (string_or_name first_edition (codes "-]") ≡ fails (no_name (codes "-]")) (codes "]"))
-    × (string_or_name first_edition (codes "]") ≡ fails (no_name (codes "]")) (codes "]"))
+pub quotes : (edition : Edition) →
+    (string_or_name edition (codes "'\\\\'b' c") ≡ got (codes "\\\\'b") (codes " c"))
+    × (string_or_name edition (codes "\"'\"a") ≡ got (codes "'") (codes "a"))
+    × (string_or_name edition (codes "\"\"") ≡ got [] [])
+    × (string_or_name edition (codes "'a") ≡ fails ended [])
+    × (string_or_name edition (codes "'") ≡ fails ended [])
+    × (string_or_name edition (codes "'\\'") ≡ fails ended [])
+    × (string_or_name edition (codes "'{/*\n' ") ≡ got (codes "{/*\n") (codes " "))
+    × (string_or_name edition (codes "-") ≡ got (codes "-") [])
+    × (string_or_name edition (codes "-]") ≡ fails (no_name (codes "-]")) (codes "]"))
+    × (string_or_name edition (codes "]") ≡ fails (no_name (codes "]")) (codes "]"))
 unfolding each comment blank gap past_name_chars name string_or_name word past_number term position block_end chars encode
-quotes = (refl, refl, refl, refl, refl, refl, refl, refl, refl, refl)
+quotes first_edition = (refl, refl, refl, refl, refl, refl, refl, refl, refl, refl)
+quotes second_edition = (refl, refl, refl, refl, refl, refl, refl, refl, refl, refl)
 
 -- terms that begin with a sign, a point, a digit or a number sign
-pub numbers :
-    (term first_edition (codes "1%%") ≡ got tt (codes "%"))
-    × (term first_edition (codes "1-%") ≡ got tt (codes "%"))
-    × (term first_edition (codes "1.5.5") ≡ got tt (codes ".5"))
-    × (term first_edition (codes "1.px,") ≡ got tt (codes ","))
-    × (term first_edition (codes ".") ≡ got tt [])
-    × (term first_edition (codes "+") ≡ got tt [])
-    × (term first_edition (codes "-") ≡ got tt [])
-    × (term first_edition (codes "--") ≡ got tt [])
-    × (term first_edition (codes "-- ") ≡ got tt (codes " "))
-    × (term first_edition (codes "+-a b") ≡ got tt (codes " b"))
-    × (term first_edition (codes "-2em 3") ≡ got tt (codes " 3"))
-    × (term first_edition (codes ".a(b)") ≡ got tt (codes "(b)"))
-    × (term first_edition (codes "#") ≡ got tt [])
-    × (term first_edition (codes "#-%") ≡ got tt (codes "%"))
-    × (term first_edition (codes "#12g") ≡ got tt (codes "g"))
-    × (term first_edition (codes "#a-g ") ≡ got tt (codes " "))
-    × (term first_edition (codes "#--f") ≡ got tt (codes "-f"))
-    × (term first_edition (codes "#-1g") ≡ got tt (codes "g"))
+pub numbers : (edition : Edition) →
+    (term edition (codes "1%%") ≡ got tt (codes "%"))
+    × (term edition (codes "1-%") ≡ got tt (codes "%"))
+    × (term edition (codes "1.5.5") ≡ got tt (codes ".5"))
+    × (term edition (codes "1.px,") ≡ got tt (codes ","))
+    × (term edition (codes ".") ≡ got tt [])
+    × (term edition (codes "+") ≡ got tt [])
+    × (term edition (codes "-") ≡ got tt [])
+    × (term edition (codes "--") ≡ got tt [])
+    × (term edition (codes "-- ") ≡ got tt (codes " "))
+    × (term edition (codes "+-a b") ≡ got tt (codes " b"))
+    × (term edition (codes "-2em 3") ≡ got tt (codes " 3"))
+    × (term edition (codes ".a(b)") ≡ got tt (codes "(b)"))
+    × (term edition (codes "#") ≡ got tt [])
+    × (term edition (codes "#-%") ≡ got tt (codes "%"))
+    × (term edition (codes "#12g") ≡ got tt (codes "g"))
+    × (term edition (codes "#a-g ") ≡ got tt (codes " "))
+    × (term edition (codes "#--f") ≡ got tt (codes "-f"))
+    × (term edition (codes "#-1g") ≡ got tt (codes "g"))
 unfolding each comment blank gap past_name_chars name string_or_name word past_number term position block_end chars encode
-numbers = (refl, refl, refl, refl, refl, refl, refl, refl, refl, refl, refl, refl, refl, refl, refl, refl, refl, refl)
+numbers first_edition = (refl, refl, refl, refl, refl, refl, refl, refl, refl, refl, refl, refl, refl, refl, refl, refl, refl, refl)
+numbers second_edition = (refl, refl, refl, refl, refl, refl, refl, refl, refl, refl, refl, refl, refl, refl, refl, refl, refl, refl)
 
 -- strings, commas, names and functions, and what is no term
-pub other_terms :
-    (term first_edition (codes "'a'b") ≡ got tt (codes "b"))
-    × (term first_edition (codes ",,") ≡ got tt (codes ","))
-    × (term first_edition (codes "a (b)") ≡ got tt (codes " (b)"))
-    × (term first_edition (codes "a(b)c)") ≡ got tt (codes "c)"))
-    × (term first_edition (codes "a(')')") ≡ got tt (codes "')"))
-    × (term first_edition (codes "(a)") ≡ fails (no_name (codes "(a)")) (codes "(a)"))
-    × (term first_edition (codes ";") ≡ fails (no_name (codes ";")) (codes ";"))
-    × (term first_edition (codes "!") ≡ fails (no_name (codes "!")) (codes "!"))
-    × (term first_edition [] ≡ fails ended [])
-    × (term first_edition (encode_utf8_all (codes "é")) ≡ fails (no_name (encode_utf8_all (codes "é"))) (encode_utf8_all (codes "é")))
-    × (term second_edition (encode_utf8_all (codes "é")) ≡ got tt [])
+pub other_terms : (edition : Edition) →
+    (term edition (codes "'a'b") ≡ got tt (codes "b"))
+    × (term edition (codes ",,") ≡ got tt (codes ","))
+    × (term edition (codes "a (b)") ≡ got tt (codes " (b)"))
+    × (term edition (codes "a(b)c)") ≡ got tt (codes "c)"))
+    × (term edition (codes "a(')')") ≡ got tt (codes "')"))
+    × (term edition (codes "(a)") ≡ fails (no_name (codes "(a)")) (codes "(a)"))
+    × (term edition (codes ";") ≡ fails (no_name (codes ";")) (codes ";"))
+    × (term edition (codes "!") ≡ fails (no_name (codes "!")) (codes "!"))
+    × (term edition [] ≡ fails ended [])
+    × (term edition (codes "/*") ≡ fails (no_name (codes "/*")) (codes "/*"))
+unfolding each comment blank gap past_name_chars name string_or_name word past_number term position block_end chars encode
+other_terms first_edition = (refl, refl, refl, refl, refl, refl, refl, refl, refl, refl)
+other_terms second_edition = (refl, refl, refl, refl, refl, refl, refl, refl, refl, refl)
+
+-- and what the two editions read apart
+pub other_terms-editions :
+    (term second_edition (encode_utf8_all (codes "é")) ≡ got tt [])
     × (term second_edition (codes "/") ≡ got tt [])
     × (term second_edition (codes "//*") ≡ got tt (codes "/*"))
-    × (term second_edition (codes "/*") ≡ fails (no_name (codes "/*")) (codes "/*"))
+    × (term first_edition (encode_utf8_all (codes "é")) ≡ fails (no_name (encode_utf8_all (codes "é"))) (encode_utf8_all (codes "é")))
 unfolding each comment blank gap past_name_chars name string_or_name word past_number term position block_end chars encode
-other_terms = (refl, refl, refl, refl, refl, refl, refl, refl, refl, refl, refl, refl, refl, refl)
+other_terms-editions = (refl, refl, refl, refl)
 
 -- quotes and comments do not hide the end of a block
 pub unread_braces :

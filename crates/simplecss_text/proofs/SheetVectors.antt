@@ -6,7 +6,7 @@ use Rattle.simplecss_text.specs.Reading.{each}
 use Rattle.simplecss_text.specs.Comments.{comment, blank, gap}
 use Rattle.simplecss_text.specs.Names.{past_name_chars, name}
 use Rattle.simplecss_text.specs.Strings.{string_or_name}
-use Rattle.simplecss_text.specs.Characters.{first_edition, second_edition}
+use Rattle.simplecss_text.specs.Characters.{Edition, first_edition, second_edition}
 use Rattle.simplecss_text.specs.Pieces.{attribute_operator, attribute_after, lang_after, pseudo_class_after, named, begun, solid, piece, ending}
 use Rattle.simplecss_text.specs.TokenRuns.{run_from}
 use Rattle.simplecss_text.specs.Selectors.{reads}
@@ -22,177 +22,202 @@ use Rattle.simplecss_text.specs.Components.Subselector.{attribute}
 use Rattle.simplecss_text.specs.Components.Combinator.{none}
 
 -- the parts of a rule set, refused ones among them
-pub rule_sets :
-    (sheet_text (sheet first_edition ((codes "a, b { color:red }") ∷ [])) ≡ (codes "a { color:red; }\nb { color:red; }"))
-    × (sheet_text (sheet first_edition ((codes "#x { color:red } a { color:blue }") ∷ [])) ≡ (codes "a { color:blue; }\n*[id='x'] { color:red; }"))
-    × (sheet_text (sheet first_edition ((codes ":le, b { color:red }") ∷ [])) ≡ (codes "b { color:red; }"))
-    × (sheet_text (sheet first_edition ((codes "a, b < c { color:red }") ∷ [])) ≡ (codes "a { color:red; }"))
-    × (sheet_text (sheet first_edition ((codes "a /, b { color:red }") ∷ [])) ≡ (codes "b { color:red; }"))
+pub rule_sets : (edition : Edition) →
+    (sheet_text (sheet edition ((codes "a, b { color:red }") ∷ [])) ≡ (codes "a { color:red; }\nb { color:red; }"))
+    × (sheet_text (sheet edition ((codes "#x { color:red } a { color:blue }") ∷ [])) ≡ (codes "a { color:blue; }\n*[id='x'] { color:red; }"))
+    × (sheet_text (sheet edition ((codes ":le, b { color:red }") ∷ [])) ≡ (codes "b { color:red; }"))
+    × (sheet_text (sheet edition ((codes "a, b < c { color:red }") ∷ [])) ≡ (codes "a { color:red; }"))
+    × (sheet_text (sheet edition ((codes "a /, b { color:red }") ∷ [])) ≡ (codes "b { color:red; }"))
 unfolding each comment blank gap past_name_chars name string_or_name attribute_operator attribute_after lang_after pseudo_class_after named begun solid piece ending run_from chars encode trim_start trim_end reads part parts next_block rule_set past_at_rule statement statements block block_end word past_number term value importance trailing declaration declarations
-rule_sets = (refl, refl, refl, refl, refl)
+rule_sets first_edition = (refl, refl, refl, refl, refl)
+rule_sets second_edition = (refl, refl, refl, refl, refl)
 
 -- braces behind a block
-pub braces :
-    (sheet_text (sheet first_edition ((codes "a { }} b { color:red }") ∷ [])) ≡ (codes "b { color:red; }"))
-    × (sheet_text (sheet first_edition ((codes "a { } } b { color:red }") ∷ [])) ≡ [])
-    × (sheet_text (sheet first_edition ((codes "a {}} b { color:red }") ∷ [])) ≡ [])
+pub braces : (edition : Edition) →
+    (sheet_text (sheet edition ((codes "a { }} b { color:red }") ∷ [])) ≡ (codes "b { color:red; }"))
+    × (sheet_text (sheet edition ((codes "a { } } b { color:red }") ∷ [])) ≡ [])
+    × (sheet_text (sheet edition ((codes "a {}} b { color:red }") ∷ [])) ≡ [])
 unfolding each comment blank gap past_name_chars name string_or_name attribute_operator attribute_after lang_after pseudo_class_after named begun solid piece ending run_from chars encode trim_start trim_end reads part parts next_block rule_set past_at_rule statement statements block block_end word past_number term value importance trailing declaration declarations
-braces = (refl, refl, refl)
+braces first_edition = (refl, refl, refl)
+braces second_edition = (refl, refl, refl)
 
 -- blocks with a broken declaration
-pub broken_declarations :
-    (sheet_text (sheet first_edition ((codes "p { font:12px/1.5 serif; color:red } q { color:blue }") ∷ [])) ≡ (codes "p { font:12px; }\nq { color:blue; }"))
-    × (sheet_text (sheet second_edition ((codes "p { font:12px/1.5 serif; color:red } q { color:blue }") ∷ [])) ≡ (codes "p { font:12px/1.5 serif;color:red; }\nq { color:blue; }"))
-    × (sheet_text (sheet first_edition ((codes "p { color:green; color{;color:maroon} }") ∷ [])) ≡ (codes "p { color:green; }"))
-    × (sheet_text (sheet first_edition ((codes "a { b:c; color:red; /* open") ∷ [])) ≡ (codes "a { b:c; }"))
-    × (sheet_text (sheet first_edition ((codes "a { color:red 'x") ∷ [])) ≡ (codes "a { color:red; }"))
-    × (sheet_text (sheet first_edition ((codes "a { color:red") ∷ [])) ≡ (codes "a { color:red; }"))
-    × (sheet_text (sheet first_edition ((codes "p { color; color:green }") ∷ [])) ≡ [])
-    × (sheet_text (sheet first_edition ((codes "p { color{;color:maroon} color:green; }") ∷ [])) ≡ [])
+pub broken_declarations : (edition : Edition) →
+    (sheet_text (sheet edition ((codes "p { color:green; color{;color:maroon} }") ∷ [])) ≡ (codes "p { color:green; }"))
+    × (sheet_text (sheet edition ((codes "a { b:c; color:red; /* open") ∷ [])) ≡ (codes "a { b:c; }"))
+    × (sheet_text (sheet edition ((codes "a { color:red 'x") ∷ [])) ≡ (codes "a { color:red; }"))
+    × (sheet_text (sheet edition ((codes "a { color:red") ∷ [])) ≡ (codes "a { color:red; }"))
+    × (sheet_text (sheet edition ((codes "p { color; color:green }") ∷ [])) ≡ [])
+    × (sheet_text (sheet edition ((codes "p { color{;color:maroon} color:green; }") ∷ [])) ≡ [])
 unfolding each comment blank gap past_name_chars name string_or_name attribute_operator attribute_after lang_after pseudo_class_after named begun solid piece ending run_from chars encode trim_start trim_end reads part parts next_block rule_set past_at_rule statement statements block block_end word past_number term value importance trailing declaration declarations
-broken_declarations = (refl, refl, refl, refl, refl, refl, refl, refl)
+broken_declarations first_edition = (refl, refl, refl, refl, refl, refl)
+broken_declarations second_edition = (refl, refl, refl, refl, refl, refl)
+
+-- and what the two editions read apart
+pub broken_declarations-editions :
+    (sheet_text (sheet second_edition ((codes "p { font:12px/1.5 serif; color:red } q { color:blue }") ∷ [])) ≡ (codes "p { font:12px/1.5 serif;color:red; }\nq { color:blue; }"))
+    × (sheet_text (sheet first_edition ((codes "p { font:12px/1.5 serif; color:red } q { color:blue }") ∷ [])) ≡ (codes "p { font:12px; }\nq { color:blue; }"))
+unfolding each comment blank gap past_name_chars name string_or_name attribute_operator attribute_after lang_after pseudo_class_after named begun solid piece ending run_from chars encode trim_start trim_end reads part parts next_block rule_set past_at_rule statement statements block block_end word past_number term value importance trailing declaration declarations
+broken_declarations-editions = (refl, refl)
 
 -- at-rules are passed
-pub at_rules :
-    (sheet_text (sheet first_edition ((codes "@ a { color:red }") ∷ [])) ≡ (codes "a { color:red; }"))
-    × (sheet_text (sheet first_edition ((codes "@media screen { p:before { content: 'Hello'; } } a { color:red }") ∷ [])) ≡ (codes "a { color:red; }"))
-    × (sheet_text (sheet first_edition ((codes "<!-- a { b:c } --> d { e:f }") ∷ [])) ≡ [])
+pub at_rules : (edition : Edition) →
+    (sheet_text (sheet edition ((codes "@ a { color:red }") ∷ [])) ≡ (codes "a { color:red; }"))
+    × (sheet_text (sheet edition ((codes "@media screen { p:before { content: 'Hello'; } } a { color:red }") ∷ [])) ≡ (codes "a { color:red; }"))
+    × (sheet_text (sheet edition ((codes "<!-- a { b:c } --> d { e:f }") ∷ [])) ≡ [])
 unfolding each comment blank gap past_name_chars name string_or_name attribute_operator attribute_after lang_after pseudo_class_after named begun solid piece ending run_from chars encode trim_start trim_end reads part parts next_block rule_set past_at_rule statement statements block block_end word past_number term value importance trailing declaration declarations
-at_rules = (refl, refl, refl)
+at_rules first_edition = (refl, refl, refl)
+at_rules second_edition = (refl, refl, refl)
 
 -- texts read into one sheet in turn
-pub sheets_of_texts :
-    (sheet_text (sheet first_edition ([])) ≡ [])
-    × (sheet_text (sheet first_edition ([] ∷ [])) ≡ [])
-    × (sheet_text (sheet first_edition ((codes "#x { a:b }") ∷ (codes "p { c:d }") ∷ [])) ≡ (codes "p { c:d; }\n*[id='x'] { a:b; }"))
-    × (sheet_text (sheet first_edition ((codes "#x { a:b }") ∷ (codes "p { c:d }") ∷ (codes "/* open") ∷ [])) ≡ (codes "p { c:d; }\n*[id='x'] { a:b; }"))
-    × (sheet_text (sheet first_edition ((codes "a > b { c:d } b { e:f }") ∷ [])) ≡ (codes "b { e:f; }\na > b { c:d; }"))
+pub sheets_of_texts : (edition : Edition) →
+    (sheet_text (sheet edition ([])) ≡ [])
+    × (sheet_text (sheet edition ([] ∷ [])) ≡ [])
+    × (sheet_text (sheet edition ((codes "#x { a:b }") ∷ (codes "p { c:d }") ∷ [])) ≡ (codes "p { c:d; }\n*[id='x'] { a:b; }"))
+    × (sheet_text (sheet edition ((codes "#x { a:b }") ∷ (codes "p { c:d }") ∷ (codes "/* open") ∷ [])) ≡ (codes "p { c:d; }\n*[id='x'] { a:b; }"))
+    × (sheet_text (sheet edition ((codes "a > b { c:d } b { e:f }") ∷ [])) ≡ (codes "b { e:f; }\na > b { c:d; }"))
 unfolding each comment blank gap past_name_chars name string_or_name attribute_operator attribute_after lang_after pseudo_class_after named begun solid piece ending run_from chars encode trim_start trim_end reads part parts next_block rule_set past_at_rule statement statements block block_end word past_number term value importance trailing declaration declarations
-sheets_of_texts = (refl, refl, refl, refl, refl)
+sheets_of_texts first_edition = (refl, refl, refl, refl, refl)
+sheets_of_texts second_edition = (refl, refl, refl, refl, refl)
 
 -- sheets without a rule that is kept
-pub no_rules :
-    (sheet_text (sheet first_edition ((codes "a {}") ∷ [])) ≡ [])
-    × (sheet_text (sheet first_edition ((codes "/**/") ∷ [])) ≡ [])
-    × (sheet_text (sheet first_edition ((codes "a > { color:red }") ∷ [])) ≡ [])
-    × (sheet_text (sheet first_edition ((codes ":le>*") ∷ [])) ≡ [])
-    × (sheet_text (sheet first_edition ((codes "> {}") ∷ [])) ≡ [])
-    × (sheet_text (sheet first_edition ((codes "@import 'subs.css';") ∷ [])) ≡ [])
-    × (sheet_text (sheet first_edition ((codes ":le {}") ∷ [])) ≡ [])
+pub no_rules : (edition : Edition) →
+    (sheet_text (sheet edition ((codes "a {}") ∷ [])) ≡ [])
+    × (sheet_text (sheet edition ((codes "/**/") ∷ [])) ≡ [])
+    × (sheet_text (sheet edition ((codes "a > { color:red }") ∷ [])) ≡ [])
+    × (sheet_text (sheet edition ((codes ":le>*") ∷ [])) ≡ [])
+    × (sheet_text (sheet edition ((codes "> {}") ∷ [])) ≡ [])
+    × (sheet_text (sheet edition ((codes "@import 'subs.css';") ∷ [])) ≡ [])
+    × (sheet_text (sheet edition ((codes ":le {}") ∷ [])) ≡ [])
 unfolding each comment blank gap past_name_chars name string_or_name attribute_operator attribute_after lang_after pseudo_class_after named begun solid piece ending run_from chars encode trim_start trim_end reads part parts next_block rule_set past_at_rule statement statements block block_end word past_number term value importance trailing declaration declarations
-no_rules = (refl, refl, refl, refl, refl, refl, refl)
+no_rules first_edition = (refl, refl, refl, refl, refl, refl, refl)
+no_rules second_edition = (refl, refl, refl, refl, refl, refl, refl)
 
 -- empty parts, comments behind a block, and at-rules without one
-pub commas_and_comments :
-    (sheet_text (sheet first_edition ((codes "a { color:red }") ∷ [])) ≡ (codes "a { color:red; }"))
-    × (sheet_text (sheet first_edition ((codes "a { b:c }") ∷ [])) ≡ (codes "a { b:c; }"))
-    × (sheet_text (sheet first_edition ((codes "#x { a:b }") ∷ [])) ≡ (codes "*[id='x'] { a:b; }"))
-    × (sheet_text (sheet first_edition ((codes "a { color:red } /**/") ∷ [])) ≡ (codes "a { color:red; }"))
-    × (sheet_text (sheet first_edition ((codes "a, { color:red }") ∷ [])) ≡ (codes "a { color:red; }"))
-    × (sheet_text (sheet first_edition ((codes "a,, { color:red }") ∷ [])) ≡ (codes "a { color:red; }"))
-    × (sheet_text (sheet first_edition ((codes ",a { color:red }") ∷ [])) ≡ (codes "a { color:red; }"))
-    × (sheet_text (sheet first_edition ((codes "a,,b { color:red }") ∷ [])) ≡ (codes "a { color:red; }\nb { color:red; }"))
-    × (sheet_text (sheet first_edition ((codes "@import \"subs.css\";\na { color:red }") ∷ [])) ≡ (codes "a { color:red; }"))
-    × (sheet_text (sheet first_edition ((codes "h1 { color: green }\nh2 & h3 { color: red }\nh4 { color: black }\n") ∷ [])) ≡ (codes "h1 { color:green; }\nh4 { color:black; }"))
+pub commas_and_comments : (edition : Edition) →
+    (sheet_text (sheet edition ((codes "a { color:red }") ∷ [])) ≡ (codes "a { color:red; }"))
+    × (sheet_text (sheet edition ((codes "a { b:c }") ∷ [])) ≡ (codes "a { b:c; }"))
+    × (sheet_text (sheet edition ((codes "#x { a:b }") ∷ [])) ≡ (codes "*[id='x'] { a:b; }"))
+    × (sheet_text (sheet edition ((codes "a { color:red } /**/") ∷ [])) ≡ (codes "a { color:red; }"))
+    × (sheet_text (sheet edition ((codes "a, { color:red }") ∷ [])) ≡ (codes "a { color:red; }"))
+    × (sheet_text (sheet edition ((codes "a,, { color:red }") ∷ [])) ≡ (codes "a { color:red; }"))
+    × (sheet_text (sheet edition ((codes ",a { color:red }") ∷ [])) ≡ (codes "a { color:red; }"))
+    × (sheet_text (sheet edition ((codes "a,,b { color:red }") ∷ [])) ≡ (codes "a { color:red; }\nb { color:red; }"))
+    × (sheet_text (sheet edition ((codes "@import \"subs.css\";\na { color:red }") ∷ [])) ≡ (codes "a { color:red; }"))
+    × (sheet_text (sheet edition ((codes "h1 { color: green }\nh2 & h3 { color: red }\nh4 { color: black }\n") ∷ [])) ≡ (codes "h1 { color:green; }\nh4 { color:black; }"))
 unfolding each comment blank gap past_name_chars name string_or_name attribute_operator attribute_after lang_after pseudo_class_after named begun solid piece ending run_from chars encode trim_start trim_end reads part parts next_block rule_set past_at_rule statement statements block block_end word past_number term value importance trailing declaration declarations
-commas_and_comments = (refl, refl, refl, refl, refl, refl, refl, refl, refl, refl)
+commas_and_comments first_edition = (refl, refl, refl, refl, refl, refl, refl, refl, refl, refl)
+commas_and_comments second_edition = (refl, refl, refl, refl, refl, refl, refl, refl, refl, refl)
 
 -- blocks with a declaration that breaks off
-pub cut_blocks :
-    (sheet_text (sheet first_edition ((codes "p { color:green; color }") ∷ [])) ≡ (codes "p { color:green; }"))
-    × (sheet_text (sheet first_edition ((codes "p { color:green; color: }") ∷ [])) ≡ (codes "p { color:green; }"))
-    × (sheet_text (sheet first_edition ((codes "p { color:green; color:; color:red; }") ∷ [])) ≡ (codes "p { color:green; }"))
+pub cut_blocks : (edition : Edition) →
+    (sheet_text (sheet edition ((codes "p { color:green; color }") ∷ [])) ≡ (codes "p { color:green; }"))
+    × (sheet_text (sheet edition ((codes "p { color:green; color: }") ∷ [])) ≡ (codes "p { color:green; }"))
+    × (sheet_text (sheet edition ((codes "p { color:green; color:; color:red; }") ∷ [])) ≡ (codes "p { color:green; }"))
 unfolding each comment blank gap past_name_chars name string_or_name attribute_operator attribute_after lang_after pseudo_class_after named begun solid piece ending run_from chars encode trim_start trim_end reads part parts next_block rule_set past_at_rule statement statements block block_end word past_number term value importance trailing declaration declarations
-cut_blocks = (refl, refl, refl)
+cut_blocks first_edition = (refl, refl, refl)
+cut_blocks second_edition = (refl, refl, refl)
 
 -- the beginnings of a sheet of one rule
-pub beginnings :
-    (sheet_text (sheet first_edition ((codes "a") ∷ [])) ≡ [])
-    × (sheet_text (sheet first_edition ((codes "a ") ∷ [])) ≡ [])
-    × (sheet_text (sheet first_edition ((codes "a {") ∷ [])) ≡ [])
-    × (sheet_text (sheet first_edition ((codes "a { ") ∷ [])) ≡ [])
-    × (sheet_text (sheet first_edition ((codes "a { b") ∷ [])) ≡ [])
-    × (sheet_text (sheet first_edition ((codes "a { b:") ∷ [])) ≡ [])
-    × (sheet_text (sheet first_edition ((codes "a { b:\"") ∷ [])) ≡ [])
-    × (sheet_text (sheet first_edition ((codes "a { b:\"c") ∷ [])) ≡ [])
-    × (sheet_text (sheet first_edition ((codes "a { b:\"c\"") ∷ [])) ≡ (codes "a { b:\"c\"; }"))
-    × (sheet_text (sheet first_edition ((codes "a { b:\"c\" ") ∷ [])) ≡ (codes "a { b:\"c\"; }"))
-    × (sheet_text (sheet first_edition ((codes "a { b:\"c\" }") ∷ [])) ≡ (codes "a { b:\"c\"; }"))
+pub beginnings : (edition : Edition) →
+    (sheet_text (sheet edition ((codes "a") ∷ [])) ≡ [])
+    × (sheet_text (sheet edition ((codes "a ") ∷ [])) ≡ [])
+    × (sheet_text (sheet edition ((codes "a {") ∷ [])) ≡ [])
+    × (sheet_text (sheet edition ((codes "a { ") ∷ [])) ≡ [])
+    × (sheet_text (sheet edition ((codes "a { b") ∷ [])) ≡ [])
+    × (sheet_text (sheet edition ((codes "a { b:") ∷ [])) ≡ [])
+    × (sheet_text (sheet edition ((codes "a { b:\"") ∷ [])) ≡ [])
+    × (sheet_text (sheet edition ((codes "a { b:\"c") ∷ [])) ≡ [])
+    × (sheet_text (sheet edition ((codes "a { b:\"c\"") ∷ [])) ≡ (codes "a { b:\"c\"; }"))
+    × (sheet_text (sheet edition ((codes "a { b:\"c\" ") ∷ [])) ≡ (codes "a { b:\"c\"; }"))
+    × (sheet_text (sheet edition ((codes "a { b:\"c\" }") ∷ [])) ≡ (codes "a { b:\"c\"; }"))
 unfolding each comment blank gap past_name_chars name string_or_name attribute_operator attribute_after lang_after pseudo_class_after named begun solid piece ending run_from chars encode trim_start trim_end reads part parts next_block rule_set past_at_rule statement statements block block_end word past_number term value importance trailing declaration declarations
-beginnings = (refl, refl, refl, refl, refl, refl, refl, refl, refl, refl, refl)
+beginnings first_edition = (refl, refl, refl, refl, refl, refl, refl, refl, refl, refl, refl)
+beginnings second_edition = (refl, refl, refl, refl, refl, refl, refl, refl, refl, refl, refl)
 
 -- a text read in two pieces: cut where a statement ends, and where none does
-pub cut_texts :
-    (sheet_text (sheet first_edition ((codes "a { }} b { c:d }") ∷ [])) ≡ (codes "b { c:d; }"))
-    × (sheet_text (sheet first_edition ((codes "a { }}") ∷ (codes " b { c:d }") ∷ [])) ≡ (codes "b { c:d; }"))
-    × (sheet_text (sheet first_edition ((codes "a { }") ∷ (codes "} b { c:d }") ∷ [])) ≡ [])
-    × (sheet_text (sheet first_edition ((codes "x { y:z }") ∷ (codes "a, b { c:d }") ∷ [])) ≡ (codes "x { y:z; }\na { c:d; }\nb { c:d; }"))
+pub cut_texts : (edition : Edition) →
+    (sheet_text (sheet edition ((codes "a { }} b { c:d }") ∷ [])) ≡ (codes "b { c:d; }"))
+    × (sheet_text (sheet edition ((codes "a { }}") ∷ (codes " b { c:d }") ∷ [])) ≡ (codes "b { c:d; }"))
+    × (sheet_text (sheet edition ((codes "a { }") ∷ (codes "} b { c:d }") ∷ [])) ≡ [])
+    × (sheet_text (sheet edition ((codes "x { y:z }") ∷ (codes "a, b { c:d }") ∷ [])) ≡ (codes "x { y:z; }\na { c:d; }\nb { c:d; }"))
 unfolding each comment blank gap past_name_chars name string_or_name attribute_operator attribute_after lang_after pseudo_class_after named begun solid piece ending run_from chars encode trim_start trim_end reads part parts next_block rule_set past_at_rule statement statements block block_end word past_number term value importance trailing declaration declarations
-cut_texts = (refl, refl, refl, refl)
+cut_texts first_edition = (refl, refl, refl, refl)
+cut_texts second_edition = (refl, refl, refl, refl)
 
 -- a printed sheet read again, where a value has a bare apostrophe or white space past ASCII
-pub printed_sheets :
-    (sheet_text (sheet first_edition ((codes "[x=\"a'b\"] { c:d } e { f:g }") ∷ [])) ≡ (codes "e { f:g; }\n*[x='a'b'] { c:d; }"))
-    × (sheet_text (sheet first_edition ((codes "e { f:g; }\n*[x='a'b'] { c:d; }") ∷ [])) ≡ (codes "e { f:g; }"))
-    × (sheet_text (sheet first_edition ((97 ∷ 32 ∷ 123 ∷ 32 ∷ 98 ∷ 58 ∷ 227 ∷ 128 ∷ 128 ∷ 40 ∷ 120 ∷ 41 ∷ 32 ∷ 125 ∷ []) ∷ [])) ≡ (codes "a { b:(x); }"))
-    × (sheet_text (sheet first_edition ((codes "a { b:(x); }") ∷ [])) ≡ [])
+pub printed_sheets : (edition : Edition) →
+    (sheet_text (sheet edition ((codes "[x=\"a'b\"] { c:d } e { f:g }") ∷ [])) ≡ (codes "e { f:g; }\n*[x='a'b'] { c:d; }"))
+    × (sheet_text (sheet edition ((codes "e { f:g; }\n*[x='a'b'] { c:d; }") ∷ [])) ≡ (codes "e { f:g; }"))
+    × (sheet_text (sheet edition ((97 ∷ 32 ∷ 123 ∷ 32 ∷ 98 ∷ 58 ∷ 227 ∷ 128 ∷ 128 ∷ 40 ∷ 120 ∷ 41 ∷ 32 ∷ 125 ∷ []) ∷ [])) ≡ (codes "a { b:(x); }"))
+    × (sheet_text (sheet edition ((codes "a { b:(x); }") ∷ [])) ≡ [])
 unfolding each comment blank gap past_name_chars name string_or_name attribute_operator attribute_after lang_after pseudo_class_after named begun solid piece ending run_from chars encode trim_start trim_end reads part parts next_block rule_set past_at_rule statement statements block block_end word past_number term value importance trailing declaration declarations
-printed_sheets = (refl, refl, refl, refl)
+printed_sheets first_edition = (refl, refl, refl, refl)
+printed_sheets second_edition = (refl, refl, refl, refl)
 
 -- wide characters of names, in both editions
 pub wide_names :
-    (sheet_text (sheet first_edition ((encode_utf8_all (codes "xí{a:b}")) ∷ [])) ≡ [])
-    × (sheet_text (sheet first_edition ((encode_utf8_all (codes "é { a:b }")) ∷ [])) ≡ [])
-    × (sheet_text (sheet second_edition ((encode_utf8_all (codes "xí{a:b}")) ∷ [])) ≡ (encode_utf8_all (codes "xí { a:b; }")))
+    (sheet_text (sheet second_edition ((encode_utf8_all (codes "xí{a:b}")) ∷ [])) ≡ (encode_utf8_all (codes "xí { a:b; }")))
     × (sheet_text (sheet second_edition ((encode_utf8_all (codes "é { a:b }")) ∷ [])) ≡ (encode_utf8_all (codes "é { a:b; }")))
+    × (sheet_text (sheet first_edition ((encode_utf8_all (codes "xí{a:b}")) ∷ [])) ≡ [])
+    × (sheet_text (sheet first_edition ((encode_utf8_all (codes "é { a:b }")) ∷ [])) ≡ [])
 unfolding each comment blank gap past_name_chars name string_or_name attribute_operator attribute_after lang_after pseudo_class_after named begun solid piece ending run_from chars encode trim_start trim_end reads part parts next_block rule_set past_at_rule statement statements block block_end word past_number term value importance trailing declaration declarations
 wide_names = (refl, refl, refl, refl)
 
 -- where reading goes on after a part that is refused
-pub parts_after_refusals :
-    (sheet_text (sheet first_edition ((codes "[a]b,c{d:e}") ∷ [])) ≡ (codes "c { d:e; }"))
-    × (sheet_text (sheet first_edition ((codes "a*,c{d:e}") ∷ [])) ≡ [])
-    × (sheet_text (sheet first_edition ((codes ">,a{b:c}") ∷ [])) ≡ [])
-    × (sheet_text (sheet first_edition ((codes "-,b{c:d}") ∷ [])) ≡ (codes "b { c:d; }"))
-    × (sheet_text (sheet first_edition ((codes "[a,b{c:d}") ∷ [])) ≡ (codes "b { c:d; }"))
-    × (sheet_text (sheet first_edition ((codes "[a~,b{c:d}") ∷ [])) ≡ (codes "b { c:d; }"))
-    × (sheet_text (sheet first_edition ((codes ":lang,b{c:d}") ∷ [])) ≡ (codes "b { c:d; }"))
-    × (sheet_text (sheet first_edition ((codes ":lang(),b{c:d}") ∷ [])) ≡ (codes "b { c:d; }"))
-    × (sheet_text (sheet first_edition ((codes "a,/*{b:c}") ∷ [])) ≡ [])
-    × (sheet_text (sheet first_edition ((codes "- ,b{c:d}") ∷ [])) ≡ (codes "b { c:d; }"))
-    × (sheet_text (sheet first_edition ((codes "-/**/,b{c:d}") ∷ [])) ≡ [])
-    × (sheet_text (sheet first_edition ((codes "@--x{b:c}") ∷ [])) ≡ (codes "-x { b:c; }"))
-    × (sheet_text (sheet first_edition ((codes "a>,b{c:d}") ∷ [])) ≡ (codes "b { c:d; }"))
-    × (sheet_text (sheet first_edition ((codes "a /,b{c:d}") ∷ [])) ≡ (codes "b { c:d; }"))
-    × (sheet_text (sheet first_edition ((codes "@m}x{y:z}c{d:e}") ∷ [])) ≡ (codes "c { d:e; }"))
-    × (sheet_text (sheet first_edition ((97 ∷ 13 ∷ 98 ∷ 123 ∷ 99 ∷ 58 ∷ 100 ∷ 125 ∷ []) ∷ [])) ≡ (codes "a b { c:d; }"))
+pub parts_after_refusals : (edition : Edition) →
+    (sheet_text (sheet edition ((codes "[a]b,c{d:e}") ∷ [])) ≡ (codes "c { d:e; }"))
+    × (sheet_text (sheet edition ((codes "a*,c{d:e}") ∷ [])) ≡ [])
+    × (sheet_text (sheet edition ((codes ">,a{b:c}") ∷ [])) ≡ [])
+    × (sheet_text (sheet edition ((codes "-,b{c:d}") ∷ [])) ≡ (codes "b { c:d; }"))
+    × (sheet_text (sheet edition ((codes "[a,b{c:d}") ∷ [])) ≡ (codes "b { c:d; }"))
+    × (sheet_text (sheet edition ((codes "[a~,b{c:d}") ∷ [])) ≡ (codes "b { c:d; }"))
+    × (sheet_text (sheet edition ((codes ":lang,b{c:d}") ∷ [])) ≡ (codes "b { c:d; }"))
+    × (sheet_text (sheet edition ((codes ":lang(),b{c:d}") ∷ [])) ≡ (codes "b { c:d; }"))
+    × (sheet_text (sheet edition ((codes "a,/*{b:c}") ∷ [])) ≡ [])
+    × (sheet_text (sheet edition ((codes "- ,b{c:d}") ∷ [])) ≡ (codes "b { c:d; }"))
+    × (sheet_text (sheet edition ((codes "-/**/,b{c:d}") ∷ [])) ≡ [])
+    × (sheet_text (sheet edition ((codes "@--x{b:c}") ∷ [])) ≡ (codes "-x { b:c; }"))
+    × (sheet_text (sheet edition ((codes "a>,b{c:d}") ∷ [])) ≡ (codes "b { c:d; }"))
+    × (sheet_text (sheet edition ((codes "a /,b{c:d}") ∷ [])) ≡ (codes "b { c:d; }"))
+    × (sheet_text (sheet edition ((codes "@m}x{y:z}c{d:e}") ∷ [])) ≡ (codes "c { d:e; }"))
+    × (sheet_text (sheet edition ((97 ∷ 13 ∷ 98 ∷ 123 ∷ 99 ∷ 58 ∷ 100 ∷ 125 ∷ []) ∷ [])) ≡ (codes "a b { c:d; }"))
 unfolding each comment blank gap past_name_chars name string_or_name attribute_operator attribute_after lang_after pseudo_class_after named begun solid piece ending run_from chars encode trim_start trim_end reads part parts next_block rule_set past_at_rule statement statements block block_end word past_number term value importance trailing declaration declarations
-parts_after_refusals = (refl, refl, refl, refl, refl, refl, refl, refl, refl, refl, refl, refl, refl, refl, refl, refl)
+parts_after_refusals first_edition = (refl, refl, refl, refl, refl, refl, refl, refl, refl, refl, refl, refl, refl, refl, refl, refl)
+parts_after_refusals second_edition = (refl, refl, refl, refl, refl, refl, refl, refl, refl, refl, refl, refl, refl, refl, refl, refl)
 
 -- where reading goes on after a declaration that is broken
-pub blocks_after_faults :
-    (sheet_text (sheet first_edition ((codes "a{b:/*}d{e:f}") ∷ [])) ≡ [])
-    × (sheet_text (sheet first_edition ((codes "a{b:'}d{e:f}") ∷ [])) ≡ [])
-    × (sheet_text (sheet first_edition ((codes "a{b:f(}d{e:f}") ∷ [])) ≡ [])
-    × (sheet_text (sheet first_edition ((codes "a{b}c{d:e}") ∷ [])) ≡ (codes "c { d:e; }"))
-    × (sheet_text (sheet first_edition ((codes "a{b:;{}}c{d:e}") ∷ [])) ≡ (codes "c { d:e; }"))
-    × (sheet_text (sheet first_edition ((codes "a{b:;/*}*/}c{d:e}") ∷ [])) ≡ (codes "c { d:e; }"))
-    × (sheet_text (sheet first_edition ((codes "a{b:/c{}}d{e:f}") ∷ [])) ≡ (codes "d { e:f; }"))
-    × (sheet_text (sheet first_edition ((codes "a{b{}}}c{d:e}") ∷ [])) ≡ (codes "c { d:e; }"))
-    × (sheet_text (sheet first_edition ((codes "a{b:c;}}d{e:f}") ∷ [])) ≡ (codes "a { b:c; }"))
-    × (sheet_text (sheet first_edition ((codes "a{b/*}*/}c{d:e}") ∷ [])) ≡ (codes "c { d:e; }"))
-    × (sheet_text (sheet first_edition ((codes "a{/*}*/b}c{d:e}") ∷ [])) ≡ (codes "c { d:e; }"))
+pub blocks_after_faults : (edition : Edition) →
+    (sheet_text (sheet edition ((codes "a{b:/*}d{e:f}") ∷ [])) ≡ [])
+    × (sheet_text (sheet edition ((codes "a{b:'}d{e:f}") ∷ [])) ≡ [])
+    × (sheet_text (sheet edition ((codes "a{b:f(}d{e:f}") ∷ [])) ≡ [])
+    × (sheet_text (sheet edition ((codes "a{b}c{d:e}") ∷ [])) ≡ (codes "c { d:e; }"))
+    × (sheet_text (sheet edition ((codes "a{b:;{}}c{d:e}") ∷ [])) ≡ (codes "c { d:e; }"))
+    × (sheet_text (sheet edition ((codes "a{b:;/*}*/}c{d:e}") ∷ [])) ≡ (codes "c { d:e; }"))
+    × (sheet_text (sheet edition ((codes "a{b{}}}c{d:e}") ∷ [])) ≡ (codes "c { d:e; }"))
+    × (sheet_text (sheet edition ((codes "a{b:c;}}d{e:f}") ∷ [])) ≡ (codes "a { b:c; }"))
+    × (sheet_text (sheet edition ((codes "a{b/*}*/}c{d:e}") ∷ [])) ≡ (codes "c { d:e; }"))
+    × (sheet_text (sheet edition ((codes "a{/*}*/b}c{d:e}") ∷ [])) ≡ (codes "c { d:e; }"))
 unfolding each comment blank gap past_name_chars name string_or_name attribute_operator attribute_after lang_after pseudo_class_after named begun solid piece ending run_from chars encode trim_start trim_end reads part parts next_block rule_set past_at_rule statement statements block block_end word past_number term value importance trailing declaration declarations
-blocks_after_faults = (refl, refl, refl, refl, refl, refl, refl, refl, refl, refl, refl)
+blocks_after_faults first_edition = (refl, refl, refl, refl, refl, refl, refl, refl, refl, refl)
+blocks_after_faults second_edition = (refl, refl, refl, refl, refl, refl, refl, refl, refl, refl)
+
+-- and what the two editions read apart
+pub blocks_after_faults-editions :
+    (sheet_text (sheet second_edition ((codes "a{b:/c{}}d{e:f}") ∷ [])) ≡ (codes "a { b:/c; }\nd { e:f; }"))
+    × (sheet_text (sheet first_edition ((codes "a{b:/c{}}d{e:f}") ∷ [])) ≡ (codes "d { e:f; }"))
+unfolding each comment blank gap past_name_chars name string_or_name attribute_operator attribute_after lang_after pseudo_class_after named begun solid piece ending run_from chars encode trim_start trim_end reads part parts next_block rule_set past_at_rule statement statements block block_end word past_number term value importance trailing declaration declarations
+blocks_after_faults-editions = (refl, refl)
 
 -- rules of equal specificity and declarations of a rule keep their order
-pub order_in_rules :
-    (sheet_text (sheet first_edition ((codes "a{c:x;c:y}a{c:z}") ∷ [])) ≡ (codes "a { c:x;c:y; }\na { c:z; }"))
-    × (sheet_text (sheet first_edition ((codes "a { c:red !important; c:blue } a { c:green }") ∷ [])) ≡ (codes "a { c:red !important;c:blue; }\na { c:green; }"))
-    × (sheet_text (sheet first_edition ((codes "a { c:red } .x { c:blue } a { c:green }") ∷ [])) ≡ (codes "a { c:red; }\na { c:green; }\n*[class~='x'] { c:blue; }"))
-    × (sheet_text (sheet first_edition ((codes ".a{b:c}#a{b:c}a{b:c}*{b:c}[id]{b:d}a b{b:c}") ∷ [])) ≡ (codes "* { b:c; }\na { b:c; }\na b { b:c; }\n*[class~='a'] { b:c; }\n*[id='a'] { b:c; }\n*[id] { b:d; }"))
+pub order_in_rules : (edition : Edition) →
+    (sheet_text (sheet edition ((codes "a{c:x;c:y}a{c:z}") ∷ [])) ≡ (codes "a { c:x;c:y; }\na { c:z; }"))
+    × (sheet_text (sheet edition ((codes "a { c:red !important; c:blue } a { c:green }") ∷ [])) ≡ (codes "a { c:red !important;c:blue; }\na { c:green; }"))
+    × (sheet_text (sheet edition ((codes "a { c:red } .x { c:blue } a { c:green }") ∷ [])) ≡ (codes "a { c:red; }\na { c:green; }\n*[class~='x'] { c:blue; }"))
+    × (sheet_text (sheet edition ((codes ".a{b:c}#a{b:c}a{b:c}*{b:c}[id]{b:d}a b{b:c}") ∷ [])) ≡ (codes "* { b:c; }\na { b:c; }\na b { b:c; }\n*[class~='a'] { b:c; }\n*[id='a'] { b:c; }\n*[id] { b:d; }"))
 unfolding each comment blank gap past_name_chars name string_or_name attribute_operator attribute_after lang_after pseudo_class_after named begun solid piece ending run_from chars encode trim_start trim_end reads part parts next_block rule_set past_at_rule statement statements block block_end word past_number term value importance trailing declaration declarations
-order_in_rules = (refl, refl, refl, refl)
+order_in_rules first_edition = (refl, refl, refl, refl)
+order_in_rules second_edition = (refl, refl, refl, refl)
 
 -- the components of `#b` and of `a`, and what `x:y` says
 abbrev id_of_b : List Component
@@ -205,9 +230,10 @@ abbrev one_property : List Property
 one_property = record { name = codes "x"; value = codes "y"; important = false } ∷ []
 
 -- a text read into a sheet whose rules were edited, and a printed rule without declarations
-pub edited_sheets :
-    (sheet_text (ordered (filter has_property (record { components = id_of_b; properties = one_property } ∷ record { components = type_a; properties = [] } ∷ []) ++ kept first_edition [])) ≡ (codes "*[id='b'] { x:y; }"))
-    × (sheet_text (ordered (filter has_property (record { components = id_of_b; properties = one_property } ∷ record { components = type_a; properties = one_property } ∷ []) ++ kept first_edition (codes "b { c:d } *{}"))) ≡ (codes "a { x:y; }\nb { c:d; }\n*[id='b'] { x:y; }"))
+pub edited_sheets : (edition : Edition) →
+    (sheet_text (ordered (filter has_property (record { components = id_of_b; properties = one_property } ∷ record { components = type_a; properties = [] } ∷ []) ++ kept edition [])) ≡ (codes "*[id='b'] { x:y; }"))
+    × (sheet_text (ordered (filter has_property (record { components = id_of_b; properties = one_property } ∷ record { components = type_a; properties = one_property } ∷ []) ++ kept edition (codes "b { c:d } *{}"))) ≡ (codes "a { x:y; }\nb { c:d; }\n*[id='b'] { x:y; }"))
     × (sheet_text (record { components = type_a; properties = [] } ∷ record { components = id_of_b; properties = one_property } ∷ []) ≡ (codes "a {  }\n*[id='b'] { x:y; }"))
 unfolding each comment blank gap past_name_chars name string_or_name attribute_operator attribute_after lang_after pseudo_class_after named begun solid piece ending run_from chars encode trim_start trim_end reads part parts next_block rule_set past_at_rule statement statements block block_end word past_number term value importance trailing declaration declarations
-edited_sheets = (refl, refl, refl)
+edited_sheets first_edition = (refl, refl, refl)
+edited_sheets second_edition = (refl, refl, refl)

@@ -6,7 +6,7 @@ use Rattle.simplecss_text.specs.Reading.{each}
 use Rattle.simplecss_text.specs.Comments.{comment, blank, gap}
 use Rattle.simplecss_text.specs.Names.{past_name_chars, name}
 use Rattle.simplecss_text.specs.Strings.{string_or_name}
-use Rattle.simplecss_text.specs.Characters.{first_edition}
+use Rattle.simplecss_text.specs.Characters.{Edition, first_edition, second_edition}
 use Rattle.simplecss_text.specs.Pieces.{attribute_operator, attribute_after, lang_after, pseudo_class_after, named, begun, solid, piece, ending}
 use Rattle.simplecss_text.specs.TokenRuns.{run_from}
 use Rattle.simplecss_text.specs.Selectors.{reads}
@@ -18,42 +18,46 @@ use Rattle.simplecss_text.specs.Ranks.{ordered_by}
 use Rattle.simplecss_text.specs.Printing.{selector_text}
 
 -- the declarations of a block behind its brace, and what is left after it
-pub blocks :
-    (block first_edition (codes "a:b; c:d}e") ≡ (record { name = (codes "a"); value = (codes "b"); important = false } ∷ record { name = (codes "c"); value = (codes "d"); important = false } ∷ [], (codes "e")))
-    × (block first_edition (codes "}}a") ≡ ([], (codes "}a")))
-    × (block first_edition (codes " }}a") ≡ ([], (codes "a")))
-    × (block first_edition (codes "a:b;c{}}d") ≡ (record { name = (codes "a"); value = (codes "b"); important = false } ∷ [], (codes "d")))
-    × (block first_edition (codes "a:b") ≡ (record { name = (codes "a"); value = (codes "b"); important = false } ∷ [], []))
+pub blocks : (edition : Edition) →
+    (block edition (codes "a:b; c:d}e") ≡ (record { name = (codes "a"); value = (codes "b"); important = false } ∷ record { name = (codes "c"); value = (codes "d"); important = false } ∷ [], (codes "e")))
+    × (block edition (codes "}}a") ≡ ([], (codes "}a")))
+    × (block edition (codes " }}a") ≡ ([], (codes "a")))
+    × (block edition (codes "a:b;c{}}d") ≡ (record { name = (codes "a"); value = (codes "b"); important = false } ∷ [], (codes "d")))
+    × (block edition (codes "a:b") ≡ (record { name = (codes "a"); value = (codes "b"); important = false } ∷ [], []))
 unfolding each comment blank gap past_name_chars name string_or_name attribute_operator attribute_after lang_after pseudo_class_after named begun solid piece ending run_from chars encode trim_start trim_end reads part parts next_block rule_set past_at_rule statement statements block block_end word past_number term value importance trailing declaration declarations
-blocks = (refl, refl, refl, refl, refl)
+blocks first_edition = (refl, refl, refl, refl, refl)
+blocks second_edition = (refl, refl, refl, refl, refl)
 
 -- what is left after a statement
-pub statement_ends :
-    ((statement first_edition (codes "@m x;y")).1 ≡ (codes "y"))
-    × ((statement first_edition (codes "@m{y{}}}z")).1 ≡ (codes "}z"))
-    × ((statement first_edition (codes "@--x{}")).1 ≡ (codes "-x{}"))
-    × ((statement first_edition (codes "@m")).1 ≡ [])
-    × ((statement first_edition (codes "a{b:c}d")).1 ≡ (codes "d"))
-    × ((statement first_edition (codes ",a, b")).1 ≡ [])
+pub statement_ends : (edition : Edition) →
+    ((statement edition (codes "@m x;y")).1 ≡ (codes "y"))
+    × ((statement edition (codes "@m{y{}}}z")).1 ≡ (codes "}z"))
+    × ((statement edition (codes "@--x{}")).1 ≡ (codes "-x{}"))
+    × ((statement edition (codes "@m")).1 ≡ [])
+    × ((statement edition (codes "a{b:c}d")).1 ≡ (codes "d"))
+    × ((statement edition (codes ",a, b")).1 ≡ [])
 unfolding each comment blank gap past_name_chars name string_or_name attribute_operator attribute_after lang_after pseudo_class_after named begun solid piece ending run_from chars encode trim_start trim_end reads part parts next_block rule_set past_at_rule statement statements block block_end word past_number term value importance trailing declaration declarations
-statement_ends = (refl, refl, refl, refl, refl, refl)
+statement_ends first_edition = (refl, refl, refl, refl, refl, refl)
+statement_ends second_edition = (refl, refl, refl, refl, refl, refl)
 
 -- what is left after a part and the space bytes behind it
-pub part_ends :
-    ((part first_edition (codes "a , b")).1 ≡ (codes ", b"))
-    × ((part first_edition (codes "a {")).1 ≡ (codes "{"))
-    × ((part first_edition (codes ":x  {")).1 ≡ (codes "{"))
-    × ((part first_edition (codes "a/**/,")).1 ≡ (codes ","))
+pub part_ends : (edition : Edition) →
+    ((part edition (codes "a , b")).1 ≡ (codes ", b"))
+    × ((part edition (codes "a {")).1 ≡ (codes "{"))
+    × ((part edition (codes ":x  {")).1 ≡ (codes "{"))
+    × ((part edition (codes "a/**/,")).1 ≡ (codes ","))
 unfolding each comment blank gap past_name_chars name string_or_name attribute_operator attribute_after lang_after pseudo_class_after named begun solid piece ending run_from chars encode trim_start trim_end reads part parts next_block rule_set past_at_rule statement statements block block_end word past_number term value importance trailing declaration declarations
-part_ends = (refl, refl, refl, refl)
+part_ends first_edition = (refl, refl, refl, refl)
+part_ends second_edition = (refl, refl, refl, refl)
 
 -- the selectors that the parts of a rule set give
-pub parts_of_sets :
-    (map selector_text (parts first_edition (codes "a, b > c {")).0 ≡ (codes "a") ∷ (codes "b > c") ∷ [])
-    × (map selector_text (parts first_edition (codes "a, :x, b")).0 ≡ (codes "a") ∷ (codes "b") ∷ [])
-    × (map selector_text (parts first_edition (codes ":x")).0 ≡ [])
+pub parts_of_sets : (edition : Edition) →
+    (map selector_text (parts edition (codes "a, b > c {")).0 ≡ (codes "a") ∷ (codes "b > c") ∷ [])
+    × (map selector_text (parts edition (codes "a, :x, b")).0 ≡ (codes "a") ∷ (codes "b") ∷ [])
+    × (map selector_text (parts edition (codes ":x")).0 ≡ [])
 unfolding each comment blank gap past_name_chars name string_or_name attribute_operator attribute_after lang_after pseudo_class_after named begun solid piece ending run_from chars encode trim_start trim_end reads part parts next_block rule_set past_at_rule statement statements block block_end word past_number term value importance trailing declaration declarations
-parts_of_sets = (refl, refl, refl)
+parts_of_sets first_edition = (refl, refl, refl)
+parts_of_sets second_edition = (refl, refl, refl)
 
 -- a blank and then a comment that is not closed
 pub open_comments :
@@ -74,89 +78,94 @@ unfolding each comment blank gap past_name_chars name string_or_name attribute_o
 ranks = (refl, refl, refl)
 
 -- where a block ends: one further brace is taken behind a declaration that is broken
-pub block_ends :
-    (block first_edition (codes "}a") ≡ ([], (codes "a")))
-    × (block first_edition [] ≡ ([], []))
-    × (block first_edition (codes " ") ≡ ([], []))
-    × (block first_edition (codes " }") ≡ ([], []))
-    × (block first_edition (codes " }a") ≡ ([], (codes "a")))
-    × (block first_edition (codes "/**/}}a") ≡ ([], (codes "a")))
-    × (block first_edition (codes " }}}a") ≡ ([], (codes "}a")))
-    × (block first_edition (codes " } }a") ≡ ([], (codes " }a")))
-    × (block first_edition (codes "a:b}}c") ≡ (record { name = codes "a"; value = codes "b"; important = false } ∷ [], (codes "}c")))
-    × (block first_edition (codes "a:b;/*}c") ≡ ([], []))
-    × (block first_edition (codes "{}}a") ≡ ([], (codes "a")))
-    × (block first_edition (codes "a:{}}b") ≡ ([], (codes "b")))
-    × (block first_edition (codes "a:b;c{d}e;f:g}h") ≡ (record { name = codes "a"; value = codes "b"; important = false } ∷ [], (codes "h")))
-    × (block first_edition (codes "a:'}'}b") ≡ (record { name = codes "a"; value = codes "'}'"; important = false } ∷ [], (codes "b")))
-    × (block first_edition (codes "a'}'}b") ≡ ([], (codes "'}b")))
-    × (block first_edition (codes "a:b") ≡ (record { name = codes "a"; value = codes "b"; important = false } ∷ [], []))
-    × (block first_edition (codes "a:b!important;}c") ≡ (record { name = codes "a"; value = codes "b"; important = true } ∷ [], (codes "c")))
+pub block_ends : (edition : Edition) →
+    (block edition (codes "}a") ≡ ([], (codes "a")))
+    × (block edition [] ≡ ([], []))
+    × (block edition (codes " ") ≡ ([], []))
+    × (block edition (codes " }") ≡ ([], []))
+    × (block edition (codes " }a") ≡ ([], (codes "a")))
+    × (block edition (codes "/**/}}a") ≡ ([], (codes "a")))
+    × (block edition (codes " }}}a") ≡ ([], (codes "}a")))
+    × (block edition (codes " } }a") ≡ ([], (codes " }a")))
+    × (block edition (codes "a:b}}c") ≡ (record { name = codes "a"; value = codes "b"; important = false } ∷ [], (codes "}c")))
+    × (block edition (codes "a:b;/*}c") ≡ ([], []))
+    × (block edition (codes "{}}a") ≡ ([], (codes "a")))
+    × (block edition (codes "a:{}}b") ≡ ([], (codes "b")))
+    × (block edition (codes "a:b;c{d}e;f:g}h") ≡ (record { name = codes "a"; value = codes "b"; important = false } ∷ [], (codes "h")))
+    × (block edition (codes "a:'}'}b") ≡ (record { name = codes "a"; value = codes "'}'"; important = false } ∷ [], (codes "b")))
+    × (block edition (codes "a'}'}b") ≡ ([], (codes "'}b")))
+    × (block edition (codes "a:b") ≡ (record { name = codes "a"; value = codes "b"; important = false } ∷ [], []))
+    × (block edition (codes "a:b!important;}c") ≡ (record { name = codes "a"; value = codes "b"; important = true } ∷ [], (codes "c")))
 unfolding each comment blank gap past_name_chars name string_or_name attribute_operator attribute_after lang_after pseudo_class_after named begun solid piece ending run_from chars encode trim_start trim_end reads part parts next_block rule_set past_at_rule statement statements block block_end word past_number term value importance trailing declaration declarations
-block_ends = (refl, refl, refl, refl, refl, refl, refl, refl, refl, refl, refl, refl, refl, refl, refl, refl, refl)
+block_ends first_edition = (refl, refl, refl, refl, refl, refl, refl, refl, refl, refl, refl, refl, refl, refl, refl, refl, refl)
+block_ends second_edition = (refl, refl, refl, refl, refl, refl, refl, refl, refl, refl, refl, refl, refl, refl, refl, refl, refl)
 
 -- behind a part space bytes are passed and comments are not
-pub parts_and_blanks :
-    ((part first_edition (codes "- ,b")).1 ≡ (codes ",b"))
-    × ((part first_edition (codes "-/**/,b")).1 ≡ (codes "/**/,b"))
-    × ((part first_edition (codes ":x /**/,b")).1 ≡ (codes "/**/,b"))
-    × ((part first_edition (codes "a /**/ ,b")).1 ≡ (codes ",b"))
-    × ((part first_edition (codes "a/b")).1 ≡ (codes "/b"))
-    × ((part first_edition (codes "a /b")).1 ≡ (codes "b"))
-    × ((part first_edition []).1 ≡ [])
-    × ((part first_edition (codes ":x")).1 ≡ [])
-    × ((part first_edition (codes "a,b")).1 ≡ (codes ",b"))
-    × ((part first_edition (codes "-\t\n,")).1 ≡ (codes ","))
+pub parts_and_blanks : (edition : Edition) →
+    ((part edition (codes "- ,b")).1 ≡ (codes ",b"))
+    × ((part edition (codes "-/**/,b")).1 ≡ (codes "/**/,b"))
+    × ((part edition (codes ":x /**/,b")).1 ≡ (codes "/**/,b"))
+    × ((part edition (codes "a /**/ ,b")).1 ≡ (codes ",b"))
+    × ((part edition (codes "a/b")).1 ≡ (codes "/b"))
+    × ((part edition (codes "a /b")).1 ≡ (codes "b"))
+    × ((part edition []).1 ≡ [])
+    × ((part edition (codes ":x")).1 ≡ [])
+    × ((part edition (codes "a,b")).1 ≡ (codes ",b"))
+    × ((part edition (codes "-\t\n,")).1 ≡ (codes ","))
 unfolding each comment blank gap past_name_chars name string_or_name attribute_operator attribute_after lang_after pseudo_class_after named begun solid piece ending run_from chars encode trim_start trim_end reads part parts next_block rule_set past_at_rule statement statements block block_end word past_number term value importance trailing declaration declarations
-parts_and_blanks = (refl, refl, refl, refl, refl, refl, refl, refl, refl, refl)
+parts_and_blanks first_edition = (refl, refl, refl, refl, refl, refl, refl, refl, refl, refl)
+parts_and_blanks second_edition = (refl, refl, refl, refl, refl, refl, refl, refl, refl, refl)
 
 -- the selectors that a rule set gives
-pub rule_sets :
-    (map (λ rule. selector_text rule.components) (rule_set first_edition (codes "a,,b{c:d}")).0 ≡ (codes "a") ∷ (codes "b") ∷ [])
-    × (map (λ rule. selector_text rule.components) (rule_set first_edition (codes ",a{c:d}")).0 ≡ (codes "a") ∷ [])
-    × (map (λ rule. selector_text rule.components) (rule_set first_edition (codes ",,a{c:d}")).0 ≡ (codes "a") ∷ [])
-    × (map (λ rule. selector_text rule.components) (rule_set first_edition (codes "a,{c:d}")).0 ≡ (codes "a") ∷ [])
-    × (map (λ rule. selector_text rule.components) (rule_set first_edition (codes "a,b")).0 ≡ (codes "a") ∷ (codes "b") ∷ [])
-    × (map (λ rule. selector_text rule.components) (rule_set first_edition (codes "a,b <x")).0 ≡ (codes "a") ∷ [])
-    × (map (λ rule. selector_text rule.components) (rule_set first_edition (codes "a/x{c:d}")).0 ≡ (codes "a") ∷ [])
-    × (map (λ rule. selector_text rule.components) (rule_set first_edition (codes ",")).0 ≡ [])
-    × (map (λ rule. selector_text rule.components) (rule_set first_edition (codes "{c:d}")).0 ≡ [])
-    × (map (λ rule. selector_text rule.components) (rule_set first_edition (codes "a:x,b{c:d}")).0 ≡ (codes "b") ∷ [])
-    × (map (λ rule. selector_text rule.components) (rule_set first_edition (codes "a, b,c")).0 ≡ (codes "a") ∷ (codes "b") ∷ (codes "c") ∷ [])
+pub rule_sets : (edition : Edition) →
+    (map (λ rule. selector_text rule.components) (rule_set edition (codes "a,,b{c:d}")).0 ≡ (codes "a") ∷ (codes "b") ∷ [])
+    × (map (λ rule. selector_text rule.components) (rule_set edition (codes ",a{c:d}")).0 ≡ (codes "a") ∷ [])
+    × (map (λ rule. selector_text rule.components) (rule_set edition (codes ",,a{c:d}")).0 ≡ (codes "a") ∷ [])
+    × (map (λ rule. selector_text rule.components) (rule_set edition (codes "a,{c:d}")).0 ≡ (codes "a") ∷ [])
+    × (map (λ rule. selector_text rule.components) (rule_set edition (codes "a,b")).0 ≡ (codes "a") ∷ (codes "b") ∷ [])
+    × (map (λ rule. selector_text rule.components) (rule_set edition (codes "a,b <x")).0 ≡ (codes "a") ∷ [])
+    × (map (λ rule. selector_text rule.components) (rule_set edition (codes "a/x{c:d}")).0 ≡ (codes "a") ∷ [])
+    × (map (λ rule. selector_text rule.components) (rule_set edition (codes ",")).0 ≡ [])
+    × (map (λ rule. selector_text rule.components) (rule_set edition (codes "{c:d}")).0 ≡ [])
+    × (map (λ rule. selector_text rule.components) (rule_set edition (codes "a:x,b{c:d}")).0 ≡ (codes "b") ∷ [])
+    × (map (λ rule. selector_text rule.components) (rule_set edition (codes "a, b,c")).0 ≡ (codes "a") ∷ (codes "b") ∷ (codes "c") ∷ [])
 unfolding each comment blank gap past_name_chars name string_or_name attribute_operator attribute_after lang_after pseudo_class_after named begun solid piece ending run_from chars encode trim_start trim_end reads part parts next_block rule_set past_at_rule statement statements block block_end word past_number term value importance trailing declaration declarations
-rule_sets = (refl, refl, refl, refl, refl, refl, refl, refl, refl, refl, refl)
+rule_sets first_edition = (refl, refl, refl, refl, refl, refl, refl, refl, refl, refl, refl)
+rule_sets second_edition = (refl, refl, refl, refl, refl, refl, refl, refl, refl, refl, refl)
 
 -- what is left after a rule set
-pub rule_set_ends :
-    ((statement first_edition (codes "a")).1 ≡ [])
-    × ((statement first_edition (codes "a{")).1 ≡ [])
-    × ((statement first_edition (codes "a{}b")).1 ≡ (codes "b"))
-    × ((statement first_edition (codes "a{}}b")).1 ≡ (codes "}b"))
-    × ((statement first_edition (codes "a{ }}b")).1 ≡ (codes "b"))
-    × ((statement first_edition (codes "a <x{b:c}d")).1 ≡ (codes "d"))
-    × ((statement first_edition (codes "a <x")).1 ≡ [])
-    × ((statement first_edition (codes "}a{b:c}d")).1 ≡ (codes "d"))
-    × ((statement first_edition (codes "{}a")).1 ≡ (codes "a"))
-    × ((statement first_edition (codes ":x/**/{b:c}d")).1 ≡ (codes "d"))
-    × ((statement first_edition (codes "a;b{c:d}e")).1 ≡ (codes "e"))
+pub rule_set_ends : (edition : Edition) →
+    ((statement edition (codes "a")).1 ≡ [])
+    × ((statement edition (codes "a{")).1 ≡ [])
+    × ((statement edition (codes "a{}b")).1 ≡ (codes "b"))
+    × ((statement edition (codes "a{}}b")).1 ≡ (codes "}b"))
+    × ((statement edition (codes "a{ }}b")).1 ≡ (codes "b"))
+    × ((statement edition (codes "a <x{b:c}d")).1 ≡ (codes "d"))
+    × ((statement edition (codes "a <x")).1 ≡ [])
+    × ((statement edition (codes "}a{b:c}d")).1 ≡ (codes "d"))
+    × ((statement edition (codes "{}a")).1 ≡ (codes "a"))
+    × ((statement edition (codes ":x/**/{b:c}d")).1 ≡ (codes "d"))
+    × ((statement edition (codes "a;b{c:d}e")).1 ≡ (codes "e"))
 unfolding each comment blank gap past_name_chars name string_or_name attribute_operator attribute_after lang_after pseudo_class_after named begun solid piece ending run_from chars encode trim_start trim_end reads part parts next_block rule_set past_at_rule statement statements block block_end word past_number term value importance trailing declaration declarations
-rule_set_ends = (refl, refl, refl, refl, refl, refl, refl, refl, refl, refl, refl)
+rule_set_ends first_edition = (refl, refl, refl, refl, refl, refl, refl, refl, refl, refl, refl)
+rule_set_ends second_edition = (refl, refl, refl, refl, refl, refl, refl, refl, refl, refl, refl)
 
 -- what is left after an at-rule
-pub at_rule_ends :
-    ((statement first_edition (codes "@")).1 ≡ [])
-    × ((statement first_edition (codes "@ a")).1 ≡ (codes " a"))
-    × ((statement first_edition (codes "@--x")).1 ≡ (codes "-x"))
-    × ((statement first_edition (codes "@-")).1 ≡ [])
-    × ((statement first_edition (codes "@-;a")).1 ≡ (codes ";a"))
-    × ((statement first_edition (codes "@m")).1 ≡ [])
-    × ((statement first_edition (codes "@m;;a")).1 ≡ (codes ";a"))
-    × ((statement first_edition (codes "@m x{y")).1 ≡ [])
-    × ((statement first_edition (codes "@m{{}}a")).1 ≡ (codes "a"))
-    × ((statement first_edition (codes "@m{;}a")).1 ≡ (codes "a"))
-    × ((statement first_edition (codes "@m{'}'}a")).1 ≡ (codes "'}a"))
-    × ((statement first_edition (codes "@m';'a")).1 ≡ (codes "'a"))
-    × ((statement first_edition (codes "@m/*;*/a")).1 ≡ (codes "*/a"))
-    × ((statement first_edition (codes "@m}a;b")).1 ≡ (codes "b"))
+pub at_rule_ends : (edition : Edition) →
+    ((statement edition (codes "@")).1 ≡ [])
+    × ((statement edition (codes "@ a")).1 ≡ (codes " a"))
+    × ((statement edition (codes "@--x")).1 ≡ (codes "-x"))
+    × ((statement edition (codes "@-")).1 ≡ [])
+    × ((statement edition (codes "@-;a")).1 ≡ (codes ";a"))
+    × ((statement edition (codes "@m")).1 ≡ [])
+    × ((statement edition (codes "@m;;a")).1 ≡ (codes ";a"))
+    × ((statement edition (codes "@m x{y")).1 ≡ [])
+    × ((statement edition (codes "@m{{}}a")).1 ≡ (codes "a"))
+    × ((statement edition (codes "@m{;}a")).1 ≡ (codes "a"))
+    × ((statement edition (codes "@m{'}'}a")).1 ≡ (codes "'}a"))
+    × ((statement edition (codes "@m';'a")).1 ≡ (codes "'a"))
+    × ((statement edition (codes "@m/*;*/a")).1 ≡ (codes "*/a"))
+    × ((statement edition (codes "@m}a;b")).1 ≡ (codes "b"))
 unfolding each comment blank gap past_name_chars name string_or_name attribute_operator attribute_after lang_after pseudo_class_after named begun solid piece ending run_from chars encode trim_start trim_end reads part parts next_block rule_set past_at_rule statement statements block block_end word past_number term value importance trailing declaration declarations
-at_rule_ends = (refl, refl, refl, refl, refl, refl, refl, refl, refl, refl, refl, refl, refl, refl)
+at_rule_ends first_edition = (refl, refl, refl, refl, refl, refl, refl, refl, refl, refl, refl, refl, refl, refl)
+at_rule_ends second_edition = (refl, refl, refl, refl, refl, refl, refl, refl, refl, refl, refl, refl, refl, refl)

@@ -8,7 +8,7 @@ use Rattle.simplecss_text.specs.Positions.{position}
 use Rattle.simplecss_text.specs.Comments.{comment, blank, gap}
 use Rattle.simplecss_text.specs.Names.{past_name_chars, name}
 use Rattle.simplecss_text.specs.Strings.{string_or_name}
-use Rattle.simplecss_text.specs.Characters.{first_edition, second_edition}
+use Rattle.simplecss_text.specs.Characters.{Edition, first_edition, second_edition}
 use Rattle.simplecss_text.specs.Components.Operator.{exists, equals, has_word, begins_with}
 use Rattle.simplecss_text.specs.Pieces.{attribute_operator, attribute_after, lang_after, pseudo_class_after, named, begun, solid, piece, ending}
 use Rattle.simplecss_text.specs.Tokens.Token.{universal_selector, type_selector, id_selector, class_selector, attribute_selector, named_pseudo_class, lang_pseudo_class, descendant_combinator, child_combinator, adjacent_combinator}
@@ -16,264 +16,292 @@ use Rattle.simplecss_text.specs.TokenRuns.{run_from, tokens_of, run_of}
 use Rattle.simplecss_text.specs.TokenRuns.Run.{item, run_end}
 
 -- one simple piece, up to a stop
-pub simple_pieces :
-    (tokens_of first_edition (codes "*") ≡ Ok universal_selector ∷ [])
-    × (tokens_of first_edition (codes "div") ≡ Ok (type_selector (codes "div")) ∷ [])
-    × (tokens_of first_edition (codes "div {") ≡ Ok (type_selector (codes "div")) ∷ [])
-    × (tokens_of first_edition (codes "div,") ≡ Ok (type_selector (codes "div")) ∷ [])
-    × (tokens_of first_edition (codes "div{") ≡ Ok (type_selector (codes "div")) ∷ [])
-    × (tokens_of first_edition (codes "div ,") ≡ Ok (type_selector (codes "div")) ∷ [])
-    × (tokens_of first_edition (codes "/**/a") ≡ Ok (type_selector (codes "a")) ∷ [])
-    × (tokens_of first_edition (codes "/* */a") ≡ Ok (type_selector (codes "a")) ∷ [])
-    × (tokens_of first_edition (codes "/* comment */a") ≡ Ok (type_selector (codes "a")) ∷ [])
-    × (tokens_of first_edition (codes "/**/ /**/a") ≡ Ok (type_selector (codes "a")) ∷ [])
-    × (tokens_of first_edition (codes "/**/ a /**/") ≡ Ok (type_selector (codes "a")) ∷ [])
-    × (tokens_of first_edition (codes "#div") ≡ Ok (id_selector (codes "div")) ∷ [])
-    × (tokens_of first_edition (codes ".div") ≡ Ok (class_selector (codes "div")) ∷ [])
-    × (tokens_of first_edition (codes ":first-child") ≡ Ok (named_pseudo_class (codes "first-child")) ∷ [])
-    × (tokens_of first_edition (codes ":lang(en)") ≡ Ok (lang_pseudo_class (codes "en")) ∷ [])
-    × (tokens_of first_edition (codes "-") ≡ Ok (type_selector (codes "-")) ∷ [])
+pub simple_pieces : (edition : Edition) →
+    (tokens_of edition (codes "*") ≡ Ok universal_selector ∷ [])
+    × (tokens_of edition (codes "div") ≡ Ok (type_selector (codes "div")) ∷ [])
+    × (tokens_of edition (codes "div {") ≡ Ok (type_selector (codes "div")) ∷ [])
+    × (tokens_of edition (codes "div,") ≡ Ok (type_selector (codes "div")) ∷ [])
+    × (tokens_of edition (codes "div{") ≡ Ok (type_selector (codes "div")) ∷ [])
+    × (tokens_of edition (codes "div ,") ≡ Ok (type_selector (codes "div")) ∷ [])
+    × (tokens_of edition (codes "/**/a") ≡ Ok (type_selector (codes "a")) ∷ [])
+    × (tokens_of edition (codes "/* */a") ≡ Ok (type_selector (codes "a")) ∷ [])
+    × (tokens_of edition (codes "/* comment */a") ≡ Ok (type_selector (codes "a")) ∷ [])
+    × (tokens_of edition (codes "/**/ /**/a") ≡ Ok (type_selector (codes "a")) ∷ [])
+    × (tokens_of edition (codes "/**/ a /**/") ≡ Ok (type_selector (codes "a")) ∷ [])
+    × (tokens_of edition (codes "#div") ≡ Ok (id_selector (codes "div")) ∷ [])
+    × (tokens_of edition (codes ".div") ≡ Ok (class_selector (codes "div")) ∷ [])
+    × (tokens_of edition (codes ":first-child") ≡ Ok (named_pseudo_class (codes "first-child")) ∷ [])
+    × (tokens_of edition (codes ":lang(en)") ≡ Ok (lang_pseudo_class (codes "en")) ∷ [])
+    × (tokens_of edition (codes "-") ≡ Ok (type_selector (codes "-")) ∷ [])
 unfolding each comment blank gap past_name_chars name string_or_name attribute_operator attribute_after lang_after pseudo_class_after named begun solid piece ending run_from position chars encode trim_start trim_end
-simple_pieces = (refl, refl, refl, refl, refl, refl, refl, refl, refl, refl, refl, refl, refl, refl, refl, refl)
+simple_pieces first_edition = (refl, refl, refl, refl, refl, refl, refl, refl, refl, refl, refl, refl, refl, refl, refl, refl)
+simple_pieces second_edition = (refl, refl, refl, refl, refl, refl, refl, refl, refl, refl, refl, refl, refl, refl, refl, refl)
 
 -- attributes, with and without a value
-pub attributes :
-    (tokens_of first_edition (codes "[id]") ≡ Ok (attribute_selector (codes "id") exists) ∷ [])
-    × (tokens_of first_edition (codes "[id=test]") ≡ Ok (attribute_selector (codes "id") (equals (codes "test"))) ∷ [])
-    × (tokens_of first_edition (codes "[id='test']") ≡ Ok (attribute_selector (codes "id") (equals (codes "test"))) ∷ [])
-    × (tokens_of first_edition (codes "[id=\"test\"]") ≡ Ok (attribute_selector (codes "id") (equals (codes "test"))) ∷ [])
-    × (tokens_of first_edition (codes "[id~=test]") ≡ Ok (attribute_selector (codes "id") (has_word (codes "test"))) ∷ [])
-    × (tokens_of first_edition (codes "[id|=test]") ≡ Ok (attribute_selector (codes "id") (begins_with (codes "test"))) ∷ [])
-    × (tokens_of first_edition (codes "[id='te\\'st']") ≡ Ok (attribute_selector (codes "id") (equals (codes "te\\'st"))) ∷ [])
-    × (tokens_of first_edition (codes "[id=\"te\\\"st\"]") ≡ Ok (attribute_selector (codes "id") (equals (codes "te\\\"st"))) ∷ [])
+pub attributes : (edition : Edition) →
+    (tokens_of edition (codes "[id]") ≡ Ok (attribute_selector (codes "id") exists) ∷ [])
+    × (tokens_of edition (codes "[id=test]") ≡ Ok (attribute_selector (codes "id") (equals (codes "test"))) ∷ [])
+    × (tokens_of edition (codes "[id='test']") ≡ Ok (attribute_selector (codes "id") (equals (codes "test"))) ∷ [])
+    × (tokens_of edition (codes "[id=\"test\"]") ≡ Ok (attribute_selector (codes "id") (equals (codes "test"))) ∷ [])
+    × (tokens_of edition (codes "[id~=test]") ≡ Ok (attribute_selector (codes "id") (has_word (codes "test"))) ∷ [])
+    × (tokens_of edition (codes "[id|=test]") ≡ Ok (attribute_selector (codes "id") (begins_with (codes "test"))) ∷ [])
+    × (tokens_of edition (codes "[id='te\\'st']") ≡ Ok (attribute_selector (codes "id") (equals (codes "te\\'st"))) ∷ [])
+    × (tokens_of edition (codes "[id=\"te\\\"st\"]") ≡ Ok (attribute_selector (codes "id") (equals (codes "te\\\"st"))) ∷ [])
 unfolding each comment blank gap past_name_chars name string_or_name attribute_operator attribute_after lang_after pseudo_class_after named begun solid piece ending run_from position chars encode trim_start trim_end
-attributes = (refl, refl, refl, refl, refl, refl, refl, refl)
+attributes first_edition = (refl, refl, refl, refl, refl, refl, refl, refl)
+attributes second_edition = (refl, refl, refl, refl, refl, refl, refl, refl)
 
 -- simple pieces of one compound
-pub compounds :
-    (tokens_of first_edition (codes "div:first-child") ≡ Ok (type_selector (codes "div")) ∷ Ok (named_pseudo_class (codes "first-child")) ∷ [])
-    × (tokens_of first_edition (codes "div.test") ≡ Ok (type_selector (codes "div")) ∷ Ok (class_selector (codes "test")) ∷ [])
-    × (tokens_of first_edition (codes "div.test.warn") ≡ Ok (type_selector (codes "div")) ∷ Ok (class_selector (codes "test")) ∷ Ok (class_selector (codes "warn")) ∷ [])
-    × (tokens_of first_edition (codes "div#id") ≡ Ok (type_selector (codes "div")) ∷ Ok (id_selector (codes "id")) ∷ [])
-    × (tokens_of first_edition (codes "*[id]") ≡ Ok universal_selector ∷ Ok (attribute_selector (codes "id") exists) ∷ [])
-    × (tokens_of first_edition (codes "*.test") ≡ Ok universal_selector ∷ Ok (class_selector (codes "test")) ∷ [])
-    × (tokens_of first_edition (codes "*#id") ≡ Ok universal_selector ∷ Ok (id_selector (codes "id")) ∷ [])
-    × (tokens_of first_edition (codes "div[id=test][color=red]") ≡ Ok (type_selector (codes "div")) ∷ Ok (attribute_selector (codes "id") (equals (codes "test"))) ∷ Ok (attribute_selector (codes "color") (equals (codes "red"))) ∷ [])
-    × (tokens_of first_edition (codes "a.external:visited") ≡ Ok (type_selector (codes "a")) ∷ Ok (class_selector (codes "external")) ∷ Ok (named_pseudo_class (codes "visited")) ∷ [])
+pub compounds : (edition : Edition) →
+    (tokens_of edition (codes "div:first-child") ≡ Ok (type_selector (codes "div")) ∷ Ok (named_pseudo_class (codes "first-child")) ∷ [])
+    × (tokens_of edition (codes "div.test") ≡ Ok (type_selector (codes "div")) ∷ Ok (class_selector (codes "test")) ∷ [])
+    × (tokens_of edition (codes "div.test.warn") ≡ Ok (type_selector (codes "div")) ∷ Ok (class_selector (codes "test")) ∷ Ok (class_selector (codes "warn")) ∷ [])
+    × (tokens_of edition (codes "div#id") ≡ Ok (type_selector (codes "div")) ∷ Ok (id_selector (codes "id")) ∷ [])
+    × (tokens_of edition (codes "*[id]") ≡ Ok universal_selector ∷ Ok (attribute_selector (codes "id") exists) ∷ [])
+    × (tokens_of edition (codes "*.test") ≡ Ok universal_selector ∷ Ok (class_selector (codes "test")) ∷ [])
+    × (tokens_of edition (codes "*#id") ≡ Ok universal_selector ∷ Ok (id_selector (codes "id")) ∷ [])
+    × (tokens_of edition (codes "div[id=test][color=red]") ≡ Ok (type_selector (codes "div")) ∷ Ok (attribute_selector (codes "id") (equals (codes "test"))) ∷ Ok (attribute_selector (codes "color") (equals (codes "red"))) ∷ [])
+    × (tokens_of edition (codes "a.external:visited") ≡ Ok (type_selector (codes "a")) ∷ Ok (class_selector (codes "external")) ∷ Ok (named_pseudo_class (codes "visited")) ∷ [])
 unfolding each comment blank gap past_name_chars name string_or_name attribute_operator attribute_after lang_after pseudo_class_after named begun solid piece ending run_from position chars encode trim_start trim_end
-compounds = (refl, refl, refl, refl, refl, refl, refl, refl, refl)
+compounds first_edition = (refl, refl, refl, refl, refl, refl, refl, refl, refl)
+compounds second_edition = (refl, refl, refl, refl, refl, refl, refl, refl, refl)
 
 -- a gap with a space byte joins two compounds
-pub descendants :
-    (tokens_of first_edition (codes "div p") ≡ Ok (type_selector (codes "div")) ∷ Ok descendant_combinator ∷ Ok (type_selector (codes "p")) ∷ [])
-    × (tokens_of first_edition (codes "a\nb") ≡ Ok (type_selector (codes "a")) ∷ Ok descendant_combinator ∷ Ok (type_selector (codes "b")) ∷ [])
-    × (tokens_of first_edition (codes "a /**/ b") ≡ Ok (type_selector (codes "a")) ∷ Ok descendant_combinator ∷ Ok (type_selector (codes "b")) ∷ [])
-    × (tokens_of first_edition (codes "a /**/b") ≡ Ok (type_selector (codes "a")) ∷ Ok descendant_combinator ∷ Ok (type_selector (codes "b")) ∷ [])
-    × (tokens_of first_edition (codes "a/**/ b") ≡ Ok (type_selector (codes "a")) ∷ Ok descendant_combinator ∷ Ok (type_selector (codes "b")) ∷ [])
-    × (tokens_of first_edition (codes "a/**/ /**/b") ≡ Ok (type_selector (codes "a")) ∷ Ok descendant_combinator ∷ Ok (type_selector (codes "b")) ∷ [])
-    × (tokens_of first_edition (codes "a /**/ /**/ b") ≡ Ok (type_selector (codes "a")) ∷ Ok descendant_combinator ∷ Ok (type_selector (codes "b")) ∷ [])
-    × (tokens_of first_edition (codes "a /**//**/ b") ≡ Ok (type_selector (codes "a")) ∷ Ok descendant_combinator ∷ Ok (type_selector (codes "b")) ∷ [])
-    × (tokens_of first_edition (codes "div p a") ≡ Ok (type_selector (codes "div")) ∷ Ok descendant_combinator ∷ Ok (type_selector (codes "p")) ∷ Ok descendant_combinator ∷ Ok (type_selector (codes "a")) ∷ [])
-    × (tokens_of first_edition (codes "div * p") ≡ Ok (type_selector (codes "div")) ∷ Ok descendant_combinator ∷ Ok universal_selector ∷ Ok descendant_combinator ∷ Ok (type_selector (codes "p")) ∷ [])
-    × (tokens_of first_edition (codes "div .p") ≡ Ok (type_selector (codes "div")) ∷ Ok descendant_combinator ∷ Ok (class_selector (codes "p")) ∷ [])
-    × (tokens_of first_edition (codes "div *") ≡ Ok (type_selector (codes "div")) ∷ Ok descendant_combinator ∷ Ok universal_selector ∷ [])
-    × (tokens_of first_edition (codes "div #p") ≡ Ok (type_selector (codes "div")) ∷ Ok descendant_combinator ∷ Ok (id_selector (codes "p")) ∷ [])
-    × (tokens_of first_edition (codes "div [id]") ≡ Ok (type_selector (codes "div")) ∷ Ok descendant_combinator ∷ Ok (attribute_selector (codes "id") exists) ∷ [])
-    × (tokens_of first_edition (codes "div :link") ≡ Ok (type_selector (codes "div")) ∷ Ok descendant_combinator ∷ Ok (named_pseudo_class (codes "link")) ∷ [])
-    × (tokens_of first_edition (codes ".warn :first-child") ≡ Ok (class_selector (codes "warn")) ∷ Ok descendant_combinator ∷ Ok (named_pseudo_class (codes "first-child")) ∷ [])
+pub descendants : (edition : Edition) →
+    (tokens_of edition (codes "div p") ≡ Ok (type_selector (codes "div")) ∷ Ok descendant_combinator ∷ Ok (type_selector (codes "p")) ∷ [])
+    × (tokens_of edition (codes "a\nb") ≡ Ok (type_selector (codes "a")) ∷ Ok descendant_combinator ∷ Ok (type_selector (codes "b")) ∷ [])
+    × (tokens_of edition (codes "a /**/ b") ≡ Ok (type_selector (codes "a")) ∷ Ok descendant_combinator ∷ Ok (type_selector (codes "b")) ∷ [])
+    × (tokens_of edition (codes "a /**/b") ≡ Ok (type_selector (codes "a")) ∷ Ok descendant_combinator ∷ Ok (type_selector (codes "b")) ∷ [])
+    × (tokens_of edition (codes "a/**/ b") ≡ Ok (type_selector (codes "a")) ∷ Ok descendant_combinator ∷ Ok (type_selector (codes "b")) ∷ [])
+    × (tokens_of edition (codes "a/**/ /**/b") ≡ Ok (type_selector (codes "a")) ∷ Ok descendant_combinator ∷ Ok (type_selector (codes "b")) ∷ [])
+    × (tokens_of edition (codes "a /**/ /**/ b") ≡ Ok (type_selector (codes "a")) ∷ Ok descendant_combinator ∷ Ok (type_selector (codes "b")) ∷ [])
+    × (tokens_of edition (codes "a /**//**/ b") ≡ Ok (type_selector (codes "a")) ∷ Ok descendant_combinator ∷ Ok (type_selector (codes "b")) ∷ [])
+    × (tokens_of edition (codes "div p a") ≡ Ok (type_selector (codes "div")) ∷ Ok descendant_combinator ∷ Ok (type_selector (codes "p")) ∷ Ok descendant_combinator ∷ Ok (type_selector (codes "a")) ∷ [])
+    × (tokens_of edition (codes "div * p") ≡ Ok (type_selector (codes "div")) ∷ Ok descendant_combinator ∷ Ok universal_selector ∷ Ok descendant_combinator ∷ Ok (type_selector (codes "p")) ∷ [])
+    × (tokens_of edition (codes "div .p") ≡ Ok (type_selector (codes "div")) ∷ Ok descendant_combinator ∷ Ok (class_selector (codes "p")) ∷ [])
+    × (tokens_of edition (codes "div *") ≡ Ok (type_selector (codes "div")) ∷ Ok descendant_combinator ∷ Ok universal_selector ∷ [])
+    × (tokens_of edition (codes "div #p") ≡ Ok (type_selector (codes "div")) ∷ Ok descendant_combinator ∷ Ok (id_selector (codes "p")) ∷ [])
+    × (tokens_of edition (codes "div [id]") ≡ Ok (type_selector (codes "div")) ∷ Ok descendant_combinator ∷ Ok (attribute_selector (codes "id") exists) ∷ [])
+    × (tokens_of edition (codes "div :link") ≡ Ok (type_selector (codes "div")) ∷ Ok descendant_combinator ∷ Ok (named_pseudo_class (codes "link")) ∷ [])
+    × (tokens_of edition (codes ".warn :first-child") ≡ Ok (class_selector (codes "warn")) ∷ Ok descendant_combinator ∷ Ok (named_pseudo_class (codes "first-child")) ∷ [])
 unfolding each comment blank gap past_name_chars name string_or_name attribute_operator attribute_after lang_after pseudo_class_after named begun solid piece ending run_from position chars encode trim_start trim_end
-descendants = (refl, refl, refl, refl, refl, refl, refl, refl, refl, refl, refl, refl, refl, refl, refl, refl)
+descendants first_edition = (refl, refl, refl, refl, refl, refl, refl, refl, refl, refl, refl, refl, refl, refl, refl, refl)
+descendants second_edition = (refl, refl, refl, refl, refl, refl, refl, refl, refl, refl, refl, refl, refl, refl, refl, refl)
 
 -- child and adjacent combinators
-pub combinators :
-    (tokens_of first_edition (codes "div>p") ≡ Ok (type_selector (codes "div")) ∷ Ok child_combinator ∷ Ok (type_selector (codes "p")) ∷ [])
-    × (tokens_of first_edition (codes "div >p") ≡ Ok (type_selector (codes "div")) ∷ Ok child_combinator ∷ Ok (type_selector (codes "p")) ∷ [])
-    × (tokens_of first_edition (codes "div> p") ≡ Ok (type_selector (codes "div")) ∷ Ok child_combinator ∷ Ok (type_selector (codes "p")) ∷ [])
-    × (tokens_of first_edition (codes "div > p") ≡ Ok (type_selector (codes "div")) ∷ Ok child_combinator ∷ Ok (type_selector (codes "p")) ∷ [])
-    × (tokens_of first_edition (codes "div+p") ≡ Ok (type_selector (codes "div")) ∷ Ok adjacent_combinator ∷ Ok (type_selector (codes "p")) ∷ [])
-    × (tokens_of first_edition (codes "div +p") ≡ Ok (type_selector (codes "div")) ∷ Ok adjacent_combinator ∷ Ok (type_selector (codes "p")) ∷ [])
-    × (tokens_of first_edition (codes "div+ p") ≡ Ok (type_selector (codes "div")) ∷ Ok adjacent_combinator ∷ Ok (type_selector (codes "p")) ∷ [])
-    × (tokens_of first_edition (codes "div + p") ≡ Ok (type_selector (codes "div")) ∷ Ok adjacent_combinator ∷ Ok (type_selector (codes "p")) ∷ [])
-    × (tokens_of first_edition (codes "div > p:first-child") ≡ Ok (type_selector (codes "div")) ∷ Ok child_combinator ∷ Ok (type_selector (codes "p")) ∷ Ok (named_pseudo_class (codes "first-child")) ∷ [])
+pub combinators : (edition : Edition) →
+    (tokens_of edition (codes "div>p") ≡ Ok (type_selector (codes "div")) ∷ Ok child_combinator ∷ Ok (type_selector (codes "p")) ∷ [])
+    × (tokens_of edition (codes "div >p") ≡ Ok (type_selector (codes "div")) ∷ Ok child_combinator ∷ Ok (type_selector (codes "p")) ∷ [])
+    × (tokens_of edition (codes "div> p") ≡ Ok (type_selector (codes "div")) ∷ Ok child_combinator ∷ Ok (type_selector (codes "p")) ∷ [])
+    × (tokens_of edition (codes "div > p") ≡ Ok (type_selector (codes "div")) ∷ Ok child_combinator ∷ Ok (type_selector (codes "p")) ∷ [])
+    × (tokens_of edition (codes "div+p") ≡ Ok (type_selector (codes "div")) ∷ Ok adjacent_combinator ∷ Ok (type_selector (codes "p")) ∷ [])
+    × (tokens_of edition (codes "div +p") ≡ Ok (type_selector (codes "div")) ∷ Ok adjacent_combinator ∷ Ok (type_selector (codes "p")) ∷ [])
+    × (tokens_of edition (codes "div+ p") ≡ Ok (type_selector (codes "div")) ∷ Ok adjacent_combinator ∷ Ok (type_selector (codes "p")) ∷ [])
+    × (tokens_of edition (codes "div + p") ≡ Ok (type_selector (codes "div")) ∷ Ok adjacent_combinator ∷ Ok (type_selector (codes "p")) ∷ [])
+    × (tokens_of edition (codes "div > p:first-child") ≡ Ok (type_selector (codes "div")) ∷ Ok child_combinator ∷ Ok (type_selector (codes "p")) ∷ Ok (named_pseudo_class (codes "first-child")) ∷ [])
 unfolding each comment blank gap past_name_chars name string_or_name attribute_operator attribute_after lang_after pseudo_class_after named begun solid piece ending run_from position chars encode trim_start trim_end
-combinators = (refl, refl, refl, refl, refl, refl, refl, refl, refl)
+combinators first_edition = (refl, refl, refl, refl, refl, refl, refl, refl, refl)
+combinators second_edition = (refl, refl, refl, refl, refl, refl, refl, refl, refl)
 
 -- pieces where none may stand, and none where one must
-pub misplaced :
-    (tokens_of first_edition (codes ">") ≡ Err UnexpectedCombinator ∷ [])
-    × (tokens_of first_edition (codes "+") ≡ Err UnexpectedCombinator ∷ [])
-    × (tokens_of first_edition (codes "> a") ≡ Err UnexpectedCombinator ∷ [])
-    × (tokens_of first_edition (codes "a > >") ≡ Ok (type_selector (codes "a")) ∷ Ok child_combinator ∷ Err UnexpectedCombinator ∷ [])
-    × (tokens_of first_edition (codes "a >") ≡ Ok (type_selector (codes "a")) ∷ Ok child_combinator ∷ Err SelectorMissing ∷ [])
-    × (tokens_of first_edition (codes "a > ,") ≡ Ok (type_selector (codes "a")) ∷ Ok child_combinator ∷ Err SelectorMissing ∷ [])
-    × (tokens_of first_edition (codes "a > {") ≡ Ok (type_selector (codes "a")) ∷ Ok child_combinator ∷ Err SelectorMissing ∷ [])
-    × (tokens_of first_edition (codes "*a") ≡ Ok universal_selector ∷ Err UnexpectedSelector ∷ [])
-    × (tokens_of first_edition (codes "a*") ≡ Ok (type_selector (codes "a")) ∷ Err UnexpectedSelector ∷ [])
+pub misplaced : (edition : Edition) →
+    (tokens_of edition (codes ">") ≡ Err UnexpectedCombinator ∷ [])
+    × (tokens_of edition (codes "+") ≡ Err UnexpectedCombinator ∷ [])
+    × (tokens_of edition (codes "> a") ≡ Err UnexpectedCombinator ∷ [])
+    × (tokens_of edition (codes "a > >") ≡ Ok (type_selector (codes "a")) ∷ Ok child_combinator ∷ Err UnexpectedCombinator ∷ [])
+    × (tokens_of edition (codes "a >") ≡ Ok (type_selector (codes "a")) ∷ Ok child_combinator ∷ Err SelectorMissing ∷ [])
+    × (tokens_of edition (codes "a > ,") ≡ Ok (type_selector (codes "a")) ∷ Ok child_combinator ∷ Err SelectorMissing ∷ [])
+    × (tokens_of edition (codes "a > {") ≡ Ok (type_selector (codes "a")) ∷ Ok child_combinator ∷ Err SelectorMissing ∷ [])
+    × (tokens_of edition (codes "*a") ≡ Ok universal_selector ∷ Err UnexpectedSelector ∷ [])
+    × (tokens_of edition (codes "a*") ≡ Ok (type_selector (codes "a")) ∷ Err UnexpectedSelector ∷ [])
 unfolding each comment blank gap past_name_chars name string_or_name attribute_operator attribute_after lang_after pseudo_class_after named begun solid piece ending run_from position chars encode trim_start trim_end
-misplaced = (refl, refl, refl, refl, refl, refl, refl, refl, refl)
+misplaced first_edition = (refl, refl, refl, refl, refl, refl, refl, refl, refl)
+misplaced second_edition = (refl, refl, refl, refl, refl, refl, refl, refl, refl)
 
 -- faults inside pieces
-pub faults_in_pieces :
-    (tokens_of first_edition (codes "a < b") ≡ Ok (type_selector (codes "a")) ∷ Ok descendant_combinator ∷ Err (InvalidIdent (record { row = 1; col = 3 })) ∷ Err SelectorMissing ∷ [])
-    × (tokens_of first_edition (codes "::first-child") ≡ Err (InvalidIdent (record { row = 1; col = 2 })) ∷ [])
-    × (tokens_of first_edition (codes ":lang()") ≡ Err InvalidLanguagePseudoClass ∷ [])
-    × (tokens_of first_edition (codes ":lang( )") ≡ Err InvalidLanguagePseudoClass ∷ [])
-    × (tokens_of first_edition (codes "[olor:red") ≡ Err InvalidAttributeSelector ∷ [])
+pub faults_in_pieces : (edition : Edition) →
+    (tokens_of edition (codes "a < b") ≡ Ok (type_selector (codes "a")) ∷ Ok descendant_combinator ∷ Err (InvalidIdent (record { row = 1; col = 3 })) ∷ Err SelectorMissing ∷ [])
+    × (tokens_of edition (codes "::first-child") ≡ Err (InvalidIdent (record { row = 1; col = 2 })) ∷ [])
+    × (tokens_of edition (codes ":lang()") ≡ Err InvalidLanguagePseudoClass ∷ [])
+    × (tokens_of edition (codes ":lang( )") ≡ Err InvalidLanguagePseudoClass ∷ [])
+    × (tokens_of edition (codes "[olor:red") ≡ Err InvalidAttributeSelector ∷ [])
 unfolding each comment blank gap past_name_chars name string_or_name attribute_operator attribute_after lang_after pseudo_class_after named begun solid piece ending run_from position chars encode trim_start trim_end
-faults_in_pieces = (refl, refl, refl, refl, refl)
+faults_in_pieces first_edition = (refl, refl, refl, refl, refl)
+faults_in_pieces second_edition = (refl, refl, refl, refl, refl)
 
 -- a second fault where a head is missing or a comment is open behind an open left side
-pub second_faults :
-    (tokens_of first_edition (codes "<") ≡ Err (InvalidIdent (record { row = 1; col = 1 })) ∷ Err SelectorMissing ∷ [])
-    × (tokens_of first_edition (codes "a <") ≡ Ok (type_selector (codes "a")) ∷ Ok descendant_combinator ∷ Err (InvalidIdent (record { row = 1; col = 3 })) ∷ Err SelectorMissing ∷ [])
-    × (tokens_of first_edition (codes "a<") ≡ Ok (type_selector (codes "a")) ∷ Err (InvalidIdent (record { row = 1; col = 2 })) ∷ [])
-    × (tokens_of first_edition (codes "/* x") ≡ Err (InvalidComment (record { row = 1; col = 1 })) ∷ Err SelectorMissing ∷ [])
-    × (tokens_of first_edition (codes "a /* x") ≡ Ok (type_selector (codes "a")) ∷ Err (InvalidComment (record { row = 1; col = 3 })) ∷ [])
+pub second_faults : (edition : Edition) →
+    (tokens_of edition (codes "<") ≡ Err (InvalidIdent (record { row = 1; col = 1 })) ∷ Err SelectorMissing ∷ [])
+    × (tokens_of edition (codes "a <") ≡ Ok (type_selector (codes "a")) ∷ Ok descendant_combinator ∷ Err (InvalidIdent (record { row = 1; col = 3 })) ∷ Err SelectorMissing ∷ [])
+    × (tokens_of edition (codes "a<") ≡ Ok (type_selector (codes "a")) ∷ Err (InvalidIdent (record { row = 1; col = 2 })) ∷ [])
+    × (tokens_of edition (codes "/* x") ≡ Err (InvalidComment (record { row = 1; col = 1 })) ∷ Err SelectorMissing ∷ [])
+    × (tokens_of edition (codes "a /* x") ≡ Ok (type_selector (codes "a")) ∷ Err (InvalidComment (record { row = 1; col = 3 })) ∷ [])
 unfolding each comment blank gap past_name_chars name string_or_name attribute_operator attribute_after lang_after pseudo_class_after named begun solid piece ending run_from position chars encode trim_start trim_end
-second_faults = (refl, refl, refl, refl, refl)
+second_faults first_edition = (refl, refl, refl, refl, refl)
+second_faults second_edition = (refl, refl, refl, refl, refl)
 
 -- comments, slashes and hyphens between pieces
-pub gaps :
-    (tokens_of first_edition (codes "a/**/b") ≡ Ok (type_selector (codes "a")) ∷ Err UnexpectedSelector ∷ [])
-    × (tokens_of first_edition (codes "a/**/.b") ≡ Ok (type_selector (codes "a")) ∷ Ok (class_selector (codes "b")) ∷ [])
-    × (tokens_of first_edition (codes "a /**/.b") ≡ Ok (type_selector (codes "a")) ∷ Ok descendant_combinator ∷ Ok (class_selector (codes "b")) ∷ [])
-    × (tokens_of first_edition (codes "a/ b") ≡ Ok (type_selector (codes "a")) ∷ [])
-    × (tokens_of first_edition (codes "a / b") ≡ Ok (type_selector (codes "a")) ∷ Err (InvalidComment (record { row = 1; col = 3 })) ∷ [])
-    × (tokens_of first_edition (codes "- a") ≡ Err (InvalidIdent (record { row = 1; col = 1 })) ∷ Err SelectorMissing ∷ [])
-    × (tokens_of first_edition [] ≡ Err SelectorMissing ∷ [])
-    × (tokens_of first_edition (codes " ") ≡ Err SelectorMissing ∷ [])
-    × (tokens_of first_edition (codes "/**/") ≡ Err SelectorMissing ∷ [])
-    × (tokens_of first_edition (codes "a/* */b") ≡ Ok (type_selector (codes "a")) ∷ Err UnexpectedSelector ∷ [])
+pub gaps : (edition : Edition) →
+    (tokens_of edition (codes "a/**/b") ≡ Ok (type_selector (codes "a")) ∷ Err UnexpectedSelector ∷ [])
+    × (tokens_of edition (codes "a/**/.b") ≡ Ok (type_selector (codes "a")) ∷ Ok (class_selector (codes "b")) ∷ [])
+    × (tokens_of edition (codes "a /**/.b") ≡ Ok (type_selector (codes "a")) ∷ Ok descendant_combinator ∷ Ok (class_selector (codes "b")) ∷ [])
+    × (tokens_of edition (codes "a/ b") ≡ Ok (type_selector (codes "a")) ∷ [])
+    × (tokens_of edition (codes "a / b") ≡ Ok (type_selector (codes "a")) ∷ Err (InvalidComment (record { row = 1; col = 3 })) ∷ [])
+    × (tokens_of edition (codes "- a") ≡ Err (InvalidIdent (record { row = 1; col = 1 })) ∷ Err SelectorMissing ∷ [])
+    × (tokens_of edition [] ≡ Err SelectorMissing ∷ [])
+    × (tokens_of edition (codes " ") ≡ Err SelectorMissing ∷ [])
+    × (tokens_of edition (codes "/**/") ≡ Err SelectorMissing ∷ [])
+    × (tokens_of edition (codes "a/* */b") ≡ Ok (type_selector (codes "a")) ∷ Err UnexpectedSelector ∷ [])
 unfolding each comment blank gap past_name_chars name string_or_name attribute_operator attribute_after lang_after pseudo_class_after named begun solid piece ending run_from position chars encode trim_start trim_end
-gaps = (refl, refl, refl, refl, refl, refl, refl, refl, refl, refl)
+gaps first_edition = (refl, refl, refl, refl, refl, refl, refl, refl, refl, refl)
+gaps second_edition = (refl, refl, refl, refl, refl, refl, refl, refl, refl, refl)
 
 -- rows and columns count newlines and characters
-pub positions :
-    (tokens_of first_edition (codes "a\nbc <") ≡ Ok (type_selector (codes "a")) ∷ Ok descendant_combinator ∷ Ok (type_selector (codes "bc")) ∷ Ok descendant_combinator ∷ Err (InvalidIdent (record { row = 2; col = 4 })) ∷ Err SelectorMissing ∷ [])
-    × (tokens_of first_edition (encode_utf8_all (codes "[a=\"x\"é]")) ≡ Err (InvalidByte 93 195 (record { row = 1; col = 7 })) ∷ [])
-    × (tokens_of first_edition (codes "*[x='a'b']") ≡ Ok universal_selector ∷ Err (InvalidByte 93 98 (record { row = 1; col = 8 })) ∷ [])
+pub positions : (edition : Edition) →
+    (tokens_of edition (codes "a\nbc <") ≡ Ok (type_selector (codes "a")) ∷ Ok descendant_combinator ∷ Ok (type_selector (codes "bc")) ∷ Ok descendant_combinator ∷ Err (InvalidIdent (record { row = 2; col = 4 })) ∷ Err SelectorMissing ∷ [])
+    × (tokens_of edition (encode_utf8_all (codes "[a=\"x\"é]")) ≡ Err (InvalidByte 93 195 (record { row = 1; col = 7 })) ∷ [])
+    × (tokens_of edition (codes "*[x='a'b']") ≡ Ok universal_selector ∷ Err (InvalidByte 93 98 (record { row = 1; col = 8 })) ∷ [])
 unfolding each comment blank gap past_name_chars name string_or_name attribute_operator attribute_after lang_after pseudo_class_after named begun solid piece ending run_from position chars encode trim_start trim_end
-positions = (refl, refl, refl)
+positions first_edition = (refl, refl, refl)
+positions second_edition = (refl, refl, refl)
 
 -- the first wide character of a name in both editions
-pub wide_characters :
-    (tokens_of first_edition (encode_utf8_all (codes "é")) ≡ Err (InvalidIdent (record { row = 1; col = 1 })) ∷ Err SelectorMissing ∷ [])
-    × (tokens_of first_edition (encode_utf8_all (codes "î")) ≡ Ok (type_selector (encode_utf8_all (codes "î"))) ∷ [])
-    × (tokens_of second_edition (encode_utf8_all (codes "é")) ≡ Ok (type_selector (encode_utf8_all (codes "é"))) ∷ [])
-    × (tokens_of second_edition (encode_utf8_all (codes "î")) ≡ Ok (type_selector (encode_utf8_all (codes "î"))) ∷ [])
-    × (tokens_of first_edition (codes "\\26") ≡ Err (InvalidIdent (record { row = 1; col = 1 })) ∷ Err SelectorMissing ∷ [])
+pub wide_characters : (edition : Edition) →
+    (tokens_of edition (encode_utf8_all (codes "î")) ≡ Ok (type_selector (encode_utf8_all (codes "î"))) ∷ [])
+    × (tokens_of edition (codes "\\26") ≡ Err (InvalidIdent (record { row = 1; col = 1 })) ∷ Err SelectorMissing ∷ [])
 unfolding each comment blank gap past_name_chars name string_or_name attribute_operator attribute_after lang_after pseudo_class_after named begun solid piece ending run_from position chars encode trim_start trim_end
-wide_characters = (refl, refl, refl, refl, refl)
+wide_characters first_edition = (refl, refl)
+wide_characters second_edition = (refl, refl)
+
+-- and what the two editions read apart
+pub wide_characters-editions :
+    (tokens_of second_edition (encode_utf8_all (codes "é")) ≡ Ok (type_selector (encode_utf8_all (codes "é"))) ∷ [])
+    × (tokens_of first_edition (encode_utf8_all (codes "é")) ≡ Err (InvalidIdent (record { row = 1; col = 1 })) ∷ Err SelectorMissing ∷ [])
+unfolding each comment blank gap past_name_chars name string_or_name attribute_operator attribute_after lang_after pseudo_class_after named begun solid piece ending run_from position chars encode trim_start trim_end
+wide_characters-editions = (refl, refl)
 
 -- pieces that break off or go wrong behind their first byte
-pub unfinished_pieces :
-    (tokens_of first_edition (codes "#") ≡ Err (InvalidIdent (record { row = 1; col = 2 })) ∷ [])
-    × (tokens_of first_edition (codes "[") ≡ Err (InvalidIdent (record { row = 1; col = 2 })) ∷ [])
-    × (tokens_of first_edition (codes "a#") ≡ Ok (type_selector (codes "a")) ∷ Err (InvalidIdent (record { row = 1; col = 3 })) ∷ [])
-    × (tokens_of first_edition (codes "#-]") ≡ Err (InvalidIdent (record { row = 1; col = 2 })) ∷ [])
-    × (tokens_of first_edition (codes "a>[") ≡ Ok (type_selector (codes "a")) ∷ Ok child_combinator ∷ Err (InvalidIdent (record { row = 1; col = 4 })) ∷ [])
-    × (tokens_of first_edition (codes "[a=b") ≡ Err UnexpectedEndOfStream ∷ [])
-    × (tokens_of first_edition (codes "[a~b]") ≡ Err (InvalidByte 61 98 (record { row = 1; col = 4 })) ∷ [])
-    × (tokens_of first_edition (codes ":lang en") ≡ Err (InvalidByte 40 32 (record { row = 1; col = 6 })) ∷ [])
-    × (tokens_of first_edition (codes ":lang(en") ≡ Err UnexpectedEndOfStream ∷ [])
+pub unfinished_pieces : (edition : Edition) →
+    (tokens_of edition (codes "#") ≡ Err (InvalidIdent (record { row = 1; col = 2 })) ∷ [])
+    × (tokens_of edition (codes "[") ≡ Err (InvalidIdent (record { row = 1; col = 2 })) ∷ [])
+    × (tokens_of edition (codes "a#") ≡ Ok (type_selector (codes "a")) ∷ Err (InvalidIdent (record { row = 1; col = 3 })) ∷ [])
+    × (tokens_of edition (codes "#-]") ≡ Err (InvalidIdent (record { row = 1; col = 2 })) ∷ [])
+    × (tokens_of edition (codes "a>[") ≡ Ok (type_selector (codes "a")) ∷ Ok child_combinator ∷ Err (InvalidIdent (record { row = 1; col = 4 })) ∷ [])
+    × (tokens_of edition (codes "[a=b") ≡ Err UnexpectedEndOfStream ∷ [])
+    × (tokens_of edition (codes "[a~b]") ≡ Err (InvalidByte 61 98 (record { row = 1; col = 4 })) ∷ [])
+    × (tokens_of edition (codes ":lang en") ≡ Err (InvalidByte 40 32 (record { row = 1; col = 6 })) ∷ [])
+    × (tokens_of edition (codes ":lang(en") ≡ Err UnexpectedEndOfStream ∷ [])
 unfolding each comment blank gap past_name_chars name string_or_name attribute_operator attribute_after lang_after pseudo_class_after named begun solid piece ending run_from position chars encode trim_start trim_end
-unfinished_pieces = (refl, refl, refl, refl, refl, refl, refl, refl, refl)
+unfinished_pieces first_edition = (refl, refl, refl, refl, refl, refl, refl, refl, refl)
+unfinished_pieces second_edition = (refl, refl, refl, refl, refl, refl, refl, refl, refl)
 
 -- pieces that look like others
-pub near_misses :
-    (tokens_of first_edition (codes "[a='']") ≡ Ok (attribute_selector (codes "a") (equals [])) ∷ [])
-    × (tokens_of first_edition (codes ":langx") ≡ Ok (named_pseudo_class (codes "langx")) ∷ [])
-    × (tokens_of first_edition (codes "a[b]c") ≡ Ok (type_selector (codes "a")) ∷ Ok (attribute_selector (codes "b") exists) ∷ Err UnexpectedSelector ∷ [])
-    × (tokens_of first_edition (codes "a + + b") ≡ Ok (type_selector (codes "a")) ∷ Ok adjacent_combinator ∷ Err UnexpectedCombinator ∷ [])
-    × (tokens_of first_edition (codes "a /b") ≡ Ok (type_selector (codes "a")) ∷ Err (InvalidComment (record { row = 1; col = 3 })) ∷ [])
-    × (tokens_of first_edition (codes "a/*/.b") ≡ Ok (type_selector (codes "a")) ∷ Err (InvalidComment (record { row = 1; col = 2 })) ∷ [])
-    × (tokens_of first_edition (codes "--") ≡ Err (InvalidIdent (record { row = 1; col = 1 })) ∷ Err SelectorMissing ∷ [])
+pub near_misses : (edition : Edition) →
+    (tokens_of edition (codes "[a='']") ≡ Ok (attribute_selector (codes "a") (equals [])) ∷ [])
+    × (tokens_of edition (codes ":langx") ≡ Ok (named_pseudo_class (codes "langx")) ∷ [])
+    × (tokens_of edition (codes "a[b]c") ≡ Ok (type_selector (codes "a")) ∷ Ok (attribute_selector (codes "b") exists) ∷ Err UnexpectedSelector ∷ [])
+    × (tokens_of edition (codes "a + + b") ≡ Ok (type_selector (codes "a")) ∷ Ok adjacent_combinator ∷ Err UnexpectedCombinator ∷ [])
+    × (tokens_of edition (codes "a /b") ≡ Ok (type_selector (codes "a")) ∷ Err (InvalidComment (record { row = 1; col = 3 })) ∷ [])
+    × (tokens_of edition (codes "a/*/.b") ≡ Ok (type_selector (codes "a")) ∷ Err (InvalidComment (record { row = 1; col = 2 })) ∷ [])
+    × (tokens_of edition (codes "--") ≡ Err (InvalidIdent (record { row = 1; col = 1 })) ∷ Err SelectorMissing ∷ [])
 unfolding each comment blank gap past_name_chars name string_or_name attribute_operator attribute_after lang_after pseudo_class_after named begun solid piece ending run_from position chars encode trim_start trim_end
-near_misses = (refl, refl, refl, refl, refl, refl, refl)
+near_misses first_edition = (refl, refl, refl, refl, refl, refl, refl)
+near_misses second_edition = (refl, refl, refl, refl, refl, refl, refl)
 
 -- a vertical tab is white space of a language alone, and a form feed is a space byte
-pub white_space :
-    (tokens_of first_edition (97 ∷ 11 ∷ []) ≡ Ok (type_selector (codes "a")) ∷ Err (InvalidIdent (record { row = 1; col = 2 })) ∷ [])
-    × (tokens_of first_edition (97 ∷ 12 ∷ []) ≡ Ok (type_selector (codes "a")) ∷ [])
-    × (tokens_of first_edition (58 ∷ 108 ∷ 97 ∷ 110 ∷ 103 ∷ 40 ∷ 11 ∷ 41 ∷ []) ≡ Err InvalidLanguagePseudoClass ∷ [])
+pub white_space : (edition : Edition) →
+    (tokens_of edition (97 ∷ 11 ∷ []) ≡ Ok (type_selector (codes "a")) ∷ Err (InvalidIdent (record { row = 1; col = 2 })) ∷ [])
+    × (tokens_of edition (97 ∷ 12 ∷ []) ≡ Ok (type_selector (codes "a")) ∷ [])
+    × (tokens_of edition (58 ∷ 108 ∷ 97 ∷ 110 ∷ 103 ∷ 40 ∷ 11 ∷ 41 ∷ []) ≡ Err InvalidLanguagePseudoClass ∷ [])
 unfolding each comment blank gap past_name_chars name string_or_name attribute_operator attribute_after lang_after pseudo_class_after named begun solid piece ending run_from position chars encode trim_start trim_end
-white_space = (refl, refl, refl)
+white_space first_edition = (refl, refl, refl)
+white_space second_edition = (refl, refl, refl)
 
 -- the characters at the borders of what a name may have
-pub borders_of_names :
-    (tokens_of first_edition (encode_utf8_all (codes "xî")) ≡ Ok (type_selector (encode_utf8_all (codes "xî"))) ∷ [])
-    × (tokens_of first_edition (encode_utf8_all (codes "xí")) ≡ Ok (type_selector (codes "x")) ∷ Err (InvalidIdent (record { row = 1; col = 2 })) ∷ [])
-    × (tokens_of first_edition (encode_utf8_all (codes "[aí]")) ≡ Err InvalidAttributeSelector ∷ [])
-    × (tokens_of first_edition (encode_utf8_all (codes "î<")) ≡ Ok (type_selector (encode_utf8_all (codes "î"))) ∷ Err (InvalidIdent (record { row = 1; col = 2 })) ∷ [])
-    × (tokens_of second_edition (encode_utf8_all (codes "xí")) ≡ Ok (type_selector (encode_utf8_all (codes "xí"))) ∷ [])
+pub borders_of_names : (edition : Edition) →
+    (tokens_of edition (encode_utf8_all (codes "xî")) ≡ Ok (type_selector (encode_utf8_all (codes "xî"))) ∷ [])
+    × (tokens_of edition (encode_utf8_all (codes "î<")) ≡ Ok (type_selector (encode_utf8_all (codes "î"))) ∷ Err (InvalidIdent (record { row = 1; col = 2 })) ∷ [])
+    × (tokens_of edition (194 ∷ 159 ∷ []) ≡ Err (InvalidIdent (record { row = 1; col = 1 })) ∷ Err SelectorMissing ∷ [])
+unfolding each comment blank gap past_name_chars name string_or_name attribute_operator attribute_after lang_after pseudo_class_after named begun solid piece ending run_from position chars encode trim_start trim_end
+borders_of_names first_edition = (refl, refl, refl)
+borders_of_names second_edition = (refl, refl, refl)
+
+-- and what the two editions read apart
+pub borders_of_names-editions :
+    (tokens_of second_edition (encode_utf8_all (codes "xí")) ≡ Ok (type_selector (encode_utf8_all (codes "xí"))) ∷ [])
     × (tokens_of second_edition (encode_utf8_all (codes "[aí]")) ≡ Ok (attribute_selector (encode_utf8_all (codes "aí")) exists) ∷ [])
     × (tokens_of second_edition (194 ∷ 160 ∷ []) ≡ Ok (type_selector (194 ∷ 160 ∷ [])) ∷ [])
-    × (tokens_of second_edition (194 ∷ 159 ∷ []) ≡ Err (InvalidIdent (record { row = 1; col = 1 })) ∷ Err SelectorMissing ∷ [])
+    × (tokens_of first_edition (encode_utf8_all (codes "xí")) ≡ Ok (type_selector (codes "x")) ∷ Err (InvalidIdent (record { row = 1; col = 2 })) ∷ [])
+    × (tokens_of first_edition (encode_utf8_all (codes "[aí]")) ≡ Err InvalidAttributeSelector ∷ [])
 unfolding each comment blank gap past_name_chars name string_or_name attribute_operator attribute_after lang_after pseudo_class_after named begun solid piece ending run_from position chars encode trim_start trim_end
-borders_of_names = (refl, refl, refl, refl, refl, refl, refl, refl)
+borders_of_names-editions = (refl, refl, refl, refl, refl)
 
 -- a slash is no piece in the second edition either
-pub slashes :
-    (tokens_of second_edition (codes "a/ b") ≡ Ok (type_selector (codes "a")) ∷ [])
-    × (tokens_of second_edition (codes "a / b") ≡ Ok (type_selector (codes "a")) ∷ Err (InvalidComment (record { row = 1; col = 3 })) ∷ [])
-    × (tokens_of second_edition (codes "/") ≡ Err SelectorMissing ∷ [])
+pub slashes : (edition : Edition) →
+    (tokens_of edition (codes "a/ b") ≡ Ok (type_selector (codes "a")) ∷ [])
+    × (tokens_of edition (codes "a / b") ≡ Ok (type_selector (codes "a")) ∷ Err (InvalidComment (record { row = 1; col = 3 })) ∷ [])
+    × (tokens_of edition (codes "/") ≡ Err SelectorMissing ∷ [])
 unfolding each comment blank gap past_name_chars name string_or_name attribute_operator attribute_after lang_after pseudo_class_after named begun solid piece ending run_from position chars encode trim_start trim_end
-slashes = (refl, refl, refl)
+slashes first_edition = (refl, refl, refl)
+slashes second_edition = (refl, refl, refl)
 
 -- what is left where a name is missing: a hyphen is passed, and behind an open left side a missing head is told twice
-pub places_of_missing_names :
-    (run_of first_edition (codes "<,b") ≡ item (Err (no_name (codes "<,b"))) (codes "<,b") (item (Err no_selector) (codes "<,b") (run_end (codes "<,b"))))
-    × (run_of first_edition (codes "-,b") ≡ item (Err (no_name (codes "-,b"))) (codes ",b") (item (Err no_selector) (codes ",b") (run_end (codes ",b"))))
-    × (run_of first_edition (codes "#,b") ≡ item (Err (no_name (codes ",b"))) (codes ",b") (run_end (codes ",b")))
-    × (run_of first_edition (codes ".-,b") ≡ item (Err (no_name (codes "-,b"))) (codes ",b") (run_end (codes ",b")))
-    × (run_of first_edition (codes "[-,b") ≡ item (Err (no_name (codes "-,b"))) (codes ",b") (run_end (codes ",b")))
-    × (run_of first_edition (codes ":,b") ≡ item (Err (no_name (codes ",b"))) (codes ",b") (run_end (codes ",b")))
-    × (run_of first_edition (codes "[a=-,b") ≡ item (Err (no_name (codes "-,b"))) (codes ",b") (run_end (codes ",b")))
-    × (run_of first_edition (codes "a <,b") ≡ item (Ok (type_selector (codes "a"))) (codes " <,b") (item (Ok descendant_combinator) (codes "<,b") (item (Err (no_name (codes "<,b"))) (codes "<,b") (item (Err no_selector) (codes "<,b") (run_end (codes "<,b"))))))
-    × (run_of first_edition (codes "a -,b") ≡ item (Ok (type_selector (codes "a"))) (codes " -,b") (item (Ok descendant_combinator) (codes "-,b") (item (Err (no_name (codes "-,b"))) (codes ",b") (item (Err no_selector) (codes ",b") (run_end (codes ",b"))))))
-    × (run_of first_edition (codes "a>-,b") ≡ item (Ok (type_selector (codes "a"))) (codes ">-,b") (item (Ok child_combinator) (codes "-,b") (item (Err (no_name (codes "-,b"))) (codes ",b") (item (Err no_selector) (codes ",b") (run_end (codes ",b"))))))
-    × (run_of first_edition (codes "a .,b") ≡ item (Ok (type_selector (codes "a"))) (codes " .,b") (item (Ok descendant_combinator) (codes ".,b") (item (Err (no_name (codes ",b"))) (codes ",b") (run_end (codes ",b")))))
-    × (run_of first_edition (codes "a/**/<") ≡ item (Ok (type_selector (codes "a"))) (codes "/**/<") (item (Err (no_name (codes "<"))) (codes "<") (run_end (codes "<"))))
+pub places_of_missing_names : (edition : Edition) →
+    (run_of edition (codes "<,b") ≡ item (Err (no_name (codes "<,b"))) (codes "<,b") (item (Err no_selector) (codes "<,b") (run_end (codes "<,b"))))
+    × (run_of edition (codes "-,b") ≡ item (Err (no_name (codes "-,b"))) (codes ",b") (item (Err no_selector) (codes ",b") (run_end (codes ",b"))))
+    × (run_of edition (codes "#,b") ≡ item (Err (no_name (codes ",b"))) (codes ",b") (run_end (codes ",b")))
+    × (run_of edition (codes ".-,b") ≡ item (Err (no_name (codes "-,b"))) (codes ",b") (run_end (codes ",b")))
+    × (run_of edition (codes "[-,b") ≡ item (Err (no_name (codes "-,b"))) (codes ",b") (run_end (codes ",b")))
+    × (run_of edition (codes ":,b") ≡ item (Err (no_name (codes ",b"))) (codes ",b") (run_end (codes ",b")))
+    × (run_of edition (codes "[a=-,b") ≡ item (Err (no_name (codes "-,b"))) (codes ",b") (run_end (codes ",b")))
+    × (run_of edition (codes "a <,b") ≡ item (Ok (type_selector (codes "a"))) (codes " <,b") (item (Ok descendant_combinator) (codes "<,b") (item (Err (no_name (codes "<,b"))) (codes "<,b") (item (Err no_selector) (codes "<,b") (run_end (codes "<,b"))))))
+    × (run_of edition (codes "a -,b") ≡ item (Ok (type_selector (codes "a"))) (codes " -,b") (item (Ok descendant_combinator) (codes "-,b") (item (Err (no_name (codes "-,b"))) (codes ",b") (item (Err no_selector) (codes ",b") (run_end (codes ",b"))))))
+    × (run_of edition (codes "a>-,b") ≡ item (Ok (type_selector (codes "a"))) (codes ">-,b") (item (Ok child_combinator) (codes "-,b") (item (Err (no_name (codes "-,b"))) (codes ",b") (item (Err no_selector) (codes ",b") (run_end (codes ",b"))))))
+    × (run_of edition (codes "a .,b") ≡ item (Ok (type_selector (codes "a"))) (codes " .,b") (item (Ok descendant_combinator) (codes ".,b") (item (Err (no_name (codes ",b"))) (codes ",b") (run_end (codes ",b")))))
+    × (run_of edition (codes "a/**/<") ≡ item (Ok (type_selector (codes "a"))) (codes "/**/<") (item (Err (no_name (codes "<"))) (codes "<") (run_end (codes "<"))))
 unfolding each comment blank gap past_name_chars name string_or_name attribute_operator attribute_after lang_after pseudo_class_after named begun solid piece ending run_from position chars encode trim_start trim_end
-places_of_missing_names = (refl, refl, refl, refl, refl, refl, refl, refl, refl, refl, refl, refl)
+places_of_missing_names first_edition = (refl, refl, refl, refl, refl, refl, refl, refl, refl, refl, refl, refl)
+places_of_missing_names second_edition = (refl, refl, refl, refl, refl, refl, refl, refl, refl, refl, refl, refl)
 
 -- what is left after a fault of an attribute or a language
-pub places_within_attributes :
-    (run_of first_edition (codes "[a") ≡ item (Err ended) [] (run_end []))
-    × (run_of first_edition (codes "[a,b") ≡ item (Err no_attribute_form) (codes ",b") (run_end (codes ",b")))
-    × (run_of first_edition (codes "[a ]") ≡ item (Err no_attribute_form) (codes " ]") (run_end (codes " ]")))
-    × (run_of first_edition (codes "[a~,b") ≡ item (Err (wrong_byte 61 (codes ",b"))) (codes ",b") (run_end (codes ",b")))
-    × (run_of first_edition (codes "[a|,b") ≡ item (Err (wrong_byte 61 (codes ",b"))) (codes ",b") (run_end (codes ",b")))
-    × (run_of first_edition (codes "[a|") ≡ item (Err ended) [] (run_end []))
-    × (run_of first_edition (codes "[a=") ≡ item (Err ended) [] (run_end []))
-    × (run_of first_edition (codes "[a='x,b") ≡ item (Err ended) [] (run_end []))
-    × (run_of first_edition (codes "[a=b,c") ≡ item (Err (wrong_byte 93 (codes ",c"))) (codes ",c") (run_end (codes ",c")))
-    × (run_of first_edition (codes "[a='b'c]") ≡ item (Err (wrong_byte 93 (codes "c]"))) (codes "c]") (run_end (codes "c]")))
-    × (run_of first_edition (codes ":lang,b") ≡ item (Err (wrong_byte 40 (codes ",b"))) (codes ",b") (run_end (codes ",b")))
-    × (run_of first_edition (codes ":lang") ≡ item (Err ended) [] (run_end []))
-    × (run_of first_edition (codes ":lang(a,b") ≡ item (Err ended) [] (run_end []))
-    × (run_of first_edition (codes ":lang(),b") ≡ item (Err no_language) (codes ",b") (run_end (codes ",b")))
+pub places_within_attributes : (edition : Edition) →
+    (run_of edition (codes "[a") ≡ item (Err ended) [] (run_end []))
+    × (run_of edition (codes "[a,b") ≡ item (Err no_attribute_form) (codes ",b") (run_end (codes ",b")))
+    × (run_of edition (codes "[a ]") ≡ item (Err no_attribute_form) (codes " ]") (run_end (codes " ]")))
+    × (run_of edition (codes "[a~,b") ≡ item (Err (wrong_byte 61 (codes ",b"))) (codes ",b") (run_end (codes ",b")))
+    × (run_of edition (codes "[a|,b") ≡ item (Err (wrong_byte 61 (codes ",b"))) (codes ",b") (run_end (codes ",b")))
+    × (run_of edition (codes "[a|") ≡ item (Err ended) [] (run_end []))
+    × (run_of edition (codes "[a=") ≡ item (Err ended) [] (run_end []))
+    × (run_of edition (codes "[a='x,b") ≡ item (Err ended) [] (run_end []))
+    × (run_of edition (codes "[a=b,c") ≡ item (Err (wrong_byte 93 (codes ",c"))) (codes ",c") (run_end (codes ",c")))
+    × (run_of edition (codes "[a='b'c]") ≡ item (Err (wrong_byte 93 (codes "c]"))) (codes "c]") (run_end (codes "c]")))
+    × (run_of edition (codes ":lang,b") ≡ item (Err (wrong_byte 40 (codes ",b"))) (codes ",b") (run_end (codes ",b")))
+    × (run_of edition (codes ":lang") ≡ item (Err ended) [] (run_end []))
+    × (run_of edition (codes ":lang(a,b") ≡ item (Err ended) [] (run_end []))
+    × (run_of edition (codes ":lang(),b") ≡ item (Err no_language) (codes ",b") (run_end (codes ",b")))
 unfolding each comment blank gap past_name_chars name string_or_name attribute_operator attribute_after lang_after pseudo_class_after named begun solid piece ending run_from position chars encode trim_start trim_end
-places_within_attributes = (refl, refl, refl, refl, refl, refl, refl, refl, refl, refl, refl, refl, refl, refl)
+places_within_attributes first_edition = (refl, refl, refl, refl, refl, refl, refl, refl, refl, refl, refl, refl, refl, refl)
+places_within_attributes second_edition = (refl, refl, refl, refl, refl, refl, refl, refl, refl, refl, refl, refl, refl, refl)
 
 -- what is left after each token, at a stop, and after a neighbour that may not stand there
-pub places_of_neighbours :
-    (run_of first_edition (codes "> a") ≡ item (Err unexpected_combinator) (codes "> a") (run_end (codes "> a")))
-    × (run_of first_edition (codes "a>+b") ≡ item (Ok (type_selector (codes "a"))) (codes ">+b") (item (Ok child_combinator) (codes "+b") (item (Err unexpected_combinator) (codes "+b") (run_end (codes "+b")))))
-    × (run_of first_edition (codes " ,b") ≡ item (Err no_selector) (codes ",b") (run_end (codes ",b")))
-    × (run_of first_edition (codes " /b") ≡ item (Err no_selector) (codes "/b") (run_end (codes "/b")))
-    × (run_of first_edition (codes "a> {") ≡ item (Ok (type_selector (codes "a"))) (codes "> {") (item (Ok child_combinator) (codes " {") (item (Err no_selector) (codes "{") (run_end (codes "{")))))
-    × (run_of first_edition (codes "a*,b") ≡ item (Ok (type_selector (codes "a"))) (codes "*,b") (item (Err unexpected_selector) (codes "*,b") (run_end (codes "*,b"))))
-    × (run_of first_edition (codes "[a]b,c") ≡ item (Ok (attribute_selector (codes "a") exists)) (codes "b,c") (item (Err unexpected_selector) (codes ",c") (run_end (codes ",c"))))
-    × (run_of first_edition (codes "a/* */b,c") ≡ item (Ok (type_selector (codes "a"))) (codes "/* */b,c") (item (Err unexpected_selector) (codes ",c") (run_end (codes ",c"))))
-    × (run_of first_edition (codes "a b,c") ≡ item (Ok (type_selector (codes "a"))) (codes " b,c") (item (Ok descendant_combinator) (codes "b,c") (item (Ok (type_selector (codes "b"))) (codes ",c") (run_end (codes ",c")))))
-    × (run_of first_edition (codes "a ,b") ≡ item (Ok (type_selector (codes "a"))) (codes " ,b") (run_end (codes ",b")))
-    × (run_of first_edition (codes "a/**/ {") ≡ item (Ok (type_selector (codes "a"))) (codes "/**/ {") (run_end (codes "{")))
-    × (run_of first_edition (codes "a/b") ≡ item (Ok (type_selector (codes "a"))) (codes "/b") (run_end (codes "/b")))
-    × (run_of first_edition (codes "a/**//b") ≡ item (Ok (type_selector (codes "a"))) (codes "/**//b") (run_end (codes "/b")))
-    × (run_of first_edition (codes "a /b") ≡ item (Ok (type_selector (codes "a"))) (codes " /b") (item (Err (no_comment (codes "/b"))) (codes "b") (run_end (codes "b"))))
-    × (run_of first_edition (codes "a/*b") ≡ item (Ok (type_selector (codes "a"))) (codes "/*b") (item (Err (no_comment (codes "/*b"))) [] (run_end [])))
-    × (run_of first_edition (codes "a>/*b") ≡ item (Ok (type_selector (codes "a"))) (codes ">/*b") (item (Ok child_combinator) (codes "/*b") (item (Err (no_comment (codes "/*b"))) [] (item (Err no_selector) [] (run_end [])))))
-    × (run_of first_edition (codes "a /*/b") ≡ item (Ok (type_selector (codes "a"))) (codes " /*/b") (item (Err (no_comment (codes "/*/b"))) [] (run_end [])))
+pub places_of_neighbours : (edition : Edition) →
+    (run_of edition (codes "> a") ≡ item (Err unexpected_combinator) (codes "> a") (run_end (codes "> a")))
+    × (run_of edition (codes "a>+b") ≡ item (Ok (type_selector (codes "a"))) (codes ">+b") (item (Ok child_combinator) (codes "+b") (item (Err unexpected_combinator) (codes "+b") (run_end (codes "+b")))))
+    × (run_of edition (codes " ,b") ≡ item (Err no_selector) (codes ",b") (run_end (codes ",b")))
+    × (run_of edition (codes " /b") ≡ item (Err no_selector) (codes "/b") (run_end (codes "/b")))
+    × (run_of edition (codes "a> {") ≡ item (Ok (type_selector (codes "a"))) (codes "> {") (item (Ok child_combinator) (codes " {") (item (Err no_selector) (codes "{") (run_end (codes "{")))))
+    × (run_of edition (codes "a*,b") ≡ item (Ok (type_selector (codes "a"))) (codes "*,b") (item (Err unexpected_selector) (codes "*,b") (run_end (codes "*,b"))))
+    × (run_of edition (codes "[a]b,c") ≡ item (Ok (attribute_selector (codes "a") exists)) (codes "b,c") (item (Err unexpected_selector) (codes ",c") (run_end (codes ",c"))))
+    × (run_of edition (codes "a/* */b,c") ≡ item (Ok (type_selector (codes "a"))) (codes "/* */b,c") (item (Err unexpected_selector) (codes ",c") (run_end (codes ",c"))))
+    × (run_of edition (codes "a b,c") ≡ item (Ok (type_selector (codes "a"))) (codes " b,c") (item (Ok descendant_combinator) (codes "b,c") (item (Ok (type_selector (codes "b"))) (codes ",c") (run_end (codes ",c")))))
+    × (run_of edition (codes "a ,b") ≡ item (Ok (type_selector (codes "a"))) (codes " ,b") (run_end (codes ",b")))
+    × (run_of edition (codes "a/**/ {") ≡ item (Ok (type_selector (codes "a"))) (codes "/**/ {") (run_end (codes "{")))
+    × (run_of edition (codes "a/b") ≡ item (Ok (type_selector (codes "a"))) (codes "/b") (run_end (codes "/b")))
+    × (run_of edition (codes "a/**//b") ≡ item (Ok (type_selector (codes "a"))) (codes "/**//b") (run_end (codes "/b")))
+    × (run_of edition (codes "a /b") ≡ item (Ok (type_selector (codes "a"))) (codes " /b") (item (Err (no_comment (codes "/b"))) (codes "b") (run_end (codes "b"))))
+    × (run_of edition (codes "a/*b") ≡ item (Ok (type_selector (codes "a"))) (codes "/*b") (item (Err (no_comment (codes "/*b"))) [] (run_end [])))
+    × (run_of edition (codes "a>/*b") ≡ item (Ok (type_selector (codes "a"))) (codes ">/*b") (item (Ok child_combinator) (codes "/*b") (item (Err (no_comment (codes "/*b"))) [] (item (Err no_selector) [] (run_end [])))))
+    × (run_of edition (codes "a /*/b") ≡ item (Ok (type_selector (codes "a"))) (codes " /*/b") (item (Err (no_comment (codes "/*/b"))) [] (run_end [])))
 unfolding each comment blank gap past_name_chars name string_or_name attribute_operator attribute_after lang_after pseudo_class_after named begun solid piece ending run_from position chars encode trim_start trim_end
-places_of_neighbours = (refl, refl, refl, refl, refl, refl, refl, refl, refl, refl, refl, refl, refl, refl, refl, refl, refl)
+places_of_neighbours first_edition = (refl, refl, refl, refl, refl, refl, refl, refl, refl, refl, refl, refl, refl, refl, refl, refl, refl)
+places_of_neighbours second_edition = (refl, refl, refl, refl, refl, refl, refl, refl, refl, refl, refl, refl, refl, refl, refl, refl, refl)

@@ -1,5 +1,5 @@
 -- The edition of the rules that this crate keeps.
-use Rattle.simplecss_text.specs.Characters.{Edition, first_edition}
+use Rattle.simplecss_text.specs.Characters.{Edition, second_edition}
 
 abbrev pub this_edition : Edition
-this_edition = first_edition
+this_edition = second_edition

@@ -7,11 +7,12 @@ ghost use Rattle.simplecss_text.specs.ThisEdition.{this_edition};
 use crate::position::position_behind;
 use crate::{Error, TextPos, readers, scan};
 
-/// The first character past ASCII that a name may have.
-const FIRST_WIDE: u32 = 238;
+/// The first character past ASCII that a name may have: U+00A0, which is octal 240.
+const FIRST_WIDE: u32 = 0xA0;
 
-/// Whether a name may begin with the character: an underscore, an ASCII letter, or a character
-/// whose number is above 237. (CSS 2.1 section 4.1.1 has the characters above octal 237.)
+/// Whether a name may begin with the character: an underscore, an ASCII letter, or a character from
+/// U+00A0 on. (CSS 2.1 section 4.1.1 counts in octal: past ASCII it has the characters from octal
+/// 240 on.)
 #[inline(always)]
 pub fn is_name_start(c: char) -> bool
     ensures { result ≡ is_name_start this_edition c }

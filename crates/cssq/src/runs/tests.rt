@@ -135,6 +135,10 @@ fn writes_sheets(rt: HostRuntime) {
         ([].as_slice(), ""),
         ([""].as_slice(), ""),
         (["a { b:c }"].as_slice(), "a { b:c; }\n"),
+        (
+            ["p { font:12px/1.5 serif; color:red } q { color:blue }"].as_slice(),
+            "p { font:12px/1.5 serif;color:red; }\nq { color:blue; }\n",
+        ),
         (row.as_slice(), "p { c:d; }\n*[id='x'] { a:b; }\n"),
     ] {
         let mut out = Vec::new(rt.alloc());

@@ -45,7 +45,7 @@ fn reads_rules(rt: HostRuntime) -> Result<(), AllocError> {
         ("a { } } b { color:red }", ""),
         (
             "p { font:12px/1.5 serif; color:red } q { color:blue }",
-            "p{font:12px;}q{color:blue;}",
+            "p{font:12px/1.5 serif;color:red;}q{color:blue;}",
         ),
         ("p { color:green; color{;color:maroon} }", "p{color:green;}"),
         ("p { color{;color:maroon} color:green; }", ""),
@@ -71,6 +71,9 @@ fn reads_rules(rt: HostRuntime) -> Result<(), AllocError> {
             "h1{color:green;}h4{color:black;}",
         ),
         ("a, b", ""),
+        ("x\u{ED}{a:b}", "x\u{ED}{a:b;}"),
+        ("\u{E9} { a:b }", "\u{E9}{a:b;}"),
+        ("a { b:c/d e / f; g:/ }", "a{b:c/d e / f;g:/;}"),
     ] {
         let read = rules_of(rt.alloc(), text)?;
         assert_eq!(rt; read.as_str(), want, "at {text}");

@@ -1,6 +1,8 @@
 //! Style sheets.
 ghost use Rattle.std.specs.Prelude.{◌≡◌, ◌∷◌, ◌++◌, [], ℕ, List, IfOk, OnErr, OnOk, filter, true, false};
 ghost use Rattle.std.specs.List.{AllPass};
+ghost use Rattle.simplecss_text.specs.Characters.{first_edition};
+ghost use Rattle.simplecss_text.specs.Editions.{IsCommon};
 ghost use Rattle.simplecss_text.specs.Statements.{has_property, kept, is_open_comment};
 ghost use Rattle.simplecss_text.specs.Sheets.{ordered, sheet};
 ghost use Rattle.simplecss_text.specs.Cutting.{GoesOn};
@@ -37,6 +39,9 @@ impl<'a> StyleSheet<'a> {
         ensures selectors { IfOk result (λ s. SelectorsReadBack this_edition (rules_of s.rules.items)) }
         ensures prints_back { has_wide_space text.now ≡ false
             → IfOk result (λ s. PrintsBack this_edition (rules_of s.rules.items)) }
+        // The first edition of the grammar has the same sheet of a text of ASCII bytes without a slash.
+        ensures editions { IsCommon text.now
+            → IfOk result (λ s. rules_of s.rules.items ≡ sheet first_edition (text.now ∷ [])) }
     {
         let mut sheet = StyleSheet::new(alloc);
         sheet.parse_more(rt, alloc, text)?;
@@ -56,7 +61,7 @@ impl<'a> StyleSheet<'a> {
         // The old rules that have a declaration and then those of the text, in order.
         ensures ok { OnOk result (is_open_comment text.now ≡ false
             → rules_of self.new.rules.items
-                ≡ ordered (filter has_property (rules_of self.old.rules.items) ++ kept this_edition text.now)) }
+            ≡ ordered (filter has_property (rules_of self.old.rules.items) ++ kept this_edition text.now)) }
         ensures nothing { is_open_comment text.now ≡ true
             → rules_of self.new.rules.items ≡ rules_of self.old.rules.items }
         ensures err { OnErr result (rules_of self.new.rules.items ≡ rules_of self.old.rules.items) }

@@ -76,7 +76,7 @@ fn passes_over_what_may_not_stand(rt: HostRuntime) -> Result<(), Fail> {
         ("a { } } b { color:red }", ""),
         (
             "p { font:12px/1.5 serif; color:red } q { color:blue }",
-            "p { font:12px; }\nq { color:blue; }",
+            "p { font:12px/1.5 serif;color:red; }\nq { color:blue; }",
         ),
         (
             "p { color:green; color{;color:maroon} }",
@@ -92,6 +92,8 @@ fn passes_over_what_may_not_stand(rt: HostRuntime) -> Result<(), Fail> {
         ("a { color:red 'x", "a { color:red; }"),
         ("a { color:red", "a { color:red; }"),
         ("<!-- a { b:c } --> d { e:f }", ""),
+        ("x\u{ED}{a:b}", "x\u{ED} { a:b; }"),
+        ("\u{E9} { a:b }", "\u{E9} { a:b; }"),
     ];
     for (text, want) in sheets {
         assert!(rt; prints(&rt, &read(&rt, text)?, want)?, "of {text}");
@@ -286,7 +288,13 @@ fn sheets_are_made_of_rules(rt: HostRuntime) -> Result<(), Fail> {
         selector,
         declarations,
     })?;
-    assert!(rt; prints(&rt, &sheet, "d { e:f;g:h; }\n*[class~='i'] { j:x !important; }")?);
+    assert!(rt;
+        prints(
+            &rt,
+            &sheet,
+            "d { e:f;g:h; }\n*[class~='i'] { j:x !important; }"
+        )?
+    );
     Ok(())
 }
 
