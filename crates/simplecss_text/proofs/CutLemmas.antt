@@ -92,3 +92,7 @@ IsCharBoundary-behind_comment (a ∷ b ∷ text) u e =
     second : (x y : Bool) → (x && y) ≡ true → y ≡ true
     second true y h = h
     second false y h = cc
+
+-- a text may be cut at its start
+pub boundary_at_start : (text : List ℕ) → IsUtf8 text → IsCharBoundary text 0
+boundary_at_start text u = IsCharBoundary-start text u

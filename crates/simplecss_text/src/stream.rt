@@ -65,6 +65,7 @@ impl<'a> Stream<'a> {
     ghost use Rattle.simplecss_text.specs.Runs.{IsByteTest, EndsRun};
 
     /// The text, at its start.
+    #[tactic(auto, using(crate::proofs::CutLemmas::boundary_at_start))]
     pub fn new(text: &'a str) -> Stream<'a>
         ensures text { text_of result ≡ text.now }
         ensures place { place_of result ≡ 0 }

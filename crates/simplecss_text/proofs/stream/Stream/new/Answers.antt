@@ -1,5 +1,4 @@
-use Rattle.std.proofs.lemmas.Str.{IsCharBoundary-start}
 use Rattle.simplecss_text.proofs.stream.Stream.new.Goals as goal
 
-pub invariant_of-result : goal.invariant_of-result
-invariant_of-result c = record { utf8 = ∣ c.utf8.text ∣₁; boundary = IsCharBoundary-start _ c.utf8.text }
+pub invariant_of-result-clause-utf8 : goal.invariant_of-result-clause-utf8
+invariant_of-result-clause-utf8 c = ∣ c.utf8.text ∣₁
