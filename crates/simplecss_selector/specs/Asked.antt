@@ -7,12 +7,14 @@ use Rattle.simplecss_selector.specs.declared.operator.AttributeOperator.TheVaria
 use Rattle.simplecss_selector.specs.declared.operator.PseudoClass.{PseudoClass}
 use Rattle.simplecss_selector.specs.declared.operator.PseudoClass.TheVariants.{FirstChild, Link, Visited, Hover, Active, Focus, Lang}
 
+-- the operator, with the bytes of its text
 abbrev pub operator_of : AttributeOperator → Operator
 operator_of Exists = exists
 operator_of (Matches value) = equals value.now
 operator_of (Contains word) = has_word word.now
 operator_of (StartsWith start) = begins_with start.now
 
+-- the pseudo-class, with the bytes of its language
 abbrev pub class_of : PseudoClass → Class
 class_of FirstChild = first_child
 class_of Link = link

@@ -10,10 +10,12 @@ pub data IsAncestor {Node : Type 0} (tree : Tree Node) : Node → Node → Type 
   is_parent : {m n : Node} → tree.parent n ≡ Some m → IsAncestor tree m n
   is_further : {m p n : Node} → tree.parent n ≡ Some p → IsAncestor tree m p → IsAncestor tree m n
 
+-- the node has the type name, or there is none to have
 abbrev pub HasName : {Node : Type 0} → Tree Node → Node → Option (List ℕ) → Type 0
 HasName tree n None = Unit {0}
 HasName tree n (Some name) = IsTrue (tree.is_named n name)
 
+-- the node has an attribute of the name whose value is as asked, or is in the pseudo-class
 abbrev pub Holds : {Node : Type 0} → Tree Node → Node → Subselector → Type 0
 Holds tree n (attribute name operator) = IsTrue (tree.has_attribute n name operator)
 Holds tree n (pseudo_class class) = IsTrue (tree.is_in_class n class)
@@ -45,9 +47,11 @@ IsPlacement tree [] nodes end = ⊥
 IsPlacement tree (c ∷ cs) [] end = ⊥
 IsPlacement tree (c ∷ cs) (n ∷ ns) end = Meets tree n c.compound × GoesOn tree n cs ns end
 
+-- there is a placement: some nodes, one for each component, of which the last is `end`
 abbrev pub HasPlacement : {Node : Type 0} → Tree Node → List Component → Node → Type 0
 HasPlacement {Node} tree components end = (nodes : List Node) × IsPlacement tree components nodes end
 
+-- whether the combinator leads back to one node at most: to the parent, or to the previous sibling
 abbrev pub is_step : Combinator → Bool
 is_step none = false
 is_step descendant = false

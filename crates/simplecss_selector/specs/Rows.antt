@@ -11,9 +11,11 @@ use Rattle.simplecss_selector.specs.Trees.{Tree, DepthCountsAncestors, SiblingsS
 abbrev pub Entry : Type 0
 Entry = Bool × Bor (List ℕ)
 
+-- whether the element at a place is the next sibling of the one before it
 abbrev pub is_sibling : List Entry → ℕ → Bool
 is_sibling row k = option_map_or (λ e. e.0) (slice_get row k) false
 
+-- the name of the element at a place
 abbrev pub name_at : List Entry → ℕ → List ℕ
 name_at row k = option_map_or (λ e. e.1.now) (slice_get row k) []
 
@@ -22,10 +24,12 @@ abbrev pub parent_place : List Entry → ℕ → Option ℕ
 parent_place row zero = None
 parent_place row (suc k) = if is_sibling row (suc k) then parent_place row k else Some k
 
+-- the element before this one, if this one is its next sibling
 abbrev pub sibling_place : List Entry → ℕ → Option ℕ
 sibling_place row zero = None
 sibling_place row (suc k) = if is_sibling row (suc k) then Some k else None
 
+-- how many ancestors the element at a place has
 abbrev pub depth_of : List Entry → ℕ → ℕ
 depth_of row zero = 0
 depth_of row (suc k) = if is_sibling row (suc k) then depth_of row k else depth_of row k + 1
@@ -34,6 +38,7 @@ depth_of row (suc k) = if is_sibling row (suc k) then depth_of row k else depth_
 abbrev pub has_attribute : List ℕ → List ℕ → Operator → Bool
 has_attribute name key operator = bytes_eq key (codes "class") && is_as_asked operator name
 
+-- the first child has no sibling before it; an element is in no other state
 abbrev pub is_in_class : Option ℕ → Class → Bool
 is_in_class before first_child = is_none before
 is_in_class before link = false
@@ -47,10 +52,12 @@ is_in_class before (lang language) = false
 abbrev pub Node : Type 0
 Node = List Entry × ℕ
 
+-- the place among the same elements
 abbrev pub placed : List Entry → Option ℕ → Option Node
 placed row None = None
 placed row (Some k) = Some (row, k)
 
+-- the elements of all rows
 abbrev pub rows : Tree Node
 rows =
     record {

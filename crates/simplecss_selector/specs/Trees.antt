@@ -2,6 +2,9 @@
 use Rattle.std.specs.Prelude.{◌≡◌, ℕ, ◌+◌, List, Bool, Option, MatchOption, IfSome}
 use Rattle.simplecss_text.specs.Components.{Operator, Class}
 
+-- A tree: of each node the parent and the previous sibling, if there are any, the number of its
+-- ancestors, and what it answers to a type name, to an attribute's name with an operator, and to a
+-- pseudo-class.
 pub record Tree (Node : Type 0) : Type 0 where
   pub parent : Node → Option Node
   pub previous_sibling : Node → Option Node
