@@ -5,6 +5,7 @@ mod counter;
 mod draft;
 mod element;
 mod equality;
+pub mod laws;
 mod matching;
 mod operator;
 mod printing;
@@ -20,7 +21,7 @@ pub use equality::{equality_law, printing_law};
 pub use operator::{AttributeOperator, PseudoClass};
 pub use selector::Selector;
 pub use token::SelectorToken;
-pub use tokenizer::{SelectorTokenizer, at_most_two_errors};
+pub use tokenizer::SelectorTokenizer;
 
 #[cfg(test)]
 mod reading_tests;
