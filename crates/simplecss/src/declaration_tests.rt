@@ -156,3 +156,26 @@ fn gives_several(rt: HostRuntime) {
         ],
     );
 }
+
+/// Each text, and the place behind each call of `next`, those that give `None` too.
+#[test]
+fn tells_the_place_behind_each_declaration(rt: HostRuntime) {
+    let rows: &[(&str, &[usize])] = &[
+        ("color:red", &[9, 9, 9]),
+        ("color: red; a:b", &[12, 15, 15]),
+        ("a:b !importantly:x", &[14, 18, 18]),
+        ("a:b } c", &[4, 7, 7]),
+        ("color:; x:y", &[11, 11]),
+        ("a:b /* x", &[8, 8]),
+        (" /**/ ", &[6, 6]),
+        ("", &[0, 0]),
+    ];
+    for (text, places) in rows {
+        let mut declarations = DeclarationTokenizer::from(*text);
+        assert_eq!(rt; declarations.pos(), 0, "at {text}");
+        for place in *places {
+            let _ = declarations.next();
+            assert_eq!(rt; declarations.pos(), *place, "at {text}");
+        }
+    }
+}

@@ -6,6 +6,7 @@ mod draft;
 mod element;
 mod element_laws;
 mod equality;
+pub mod laws;
 mod matching;
 mod operator;
 mod operator_laws;
@@ -24,7 +25,7 @@ pub use operator::{AttributeOperator, PseudoClass};
 pub use operator_laws::operator_equality_laws;
 pub use selector::Selector;
 pub use token::SelectorToken;
-pub use tokenizer::{SelectorTokenizer, at_most_two_errors};
+pub use tokenizer::SelectorTokenizer;
 
 #[cfg(test)]
 mod operator_tests;

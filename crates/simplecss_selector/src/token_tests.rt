@@ -325,3 +325,33 @@ fn ends_behind_faults(rt: HostRuntime) -> Result<(), AllocError> {
         ],
     )
 }
+
+/// Each text, and the place behind each call of `next`, those that give `None` too.
+#[test]
+fn tells_the_place_behind_each_item(rt: HostRuntime) {
+    let rows: &[(&str, &[usize])] = &[
+        ("a b", &[1, 2, 3, 3]),
+        ("a > .b", &[1, 3, 6, 6]),
+        ("a, b", &[1, 1, 1]),
+        ("a {", &[1, 2, 2]),
+        ("a/ b", &[1, 1, 1]),
+        ("a / b", &[1, 3, 3]),
+        ("a <", &[1, 2, 2, 2, 2]),
+        ("a<", &[1, 1, 1]),
+        ("<", &[0, 0, 0]),
+        ("/* x", &[4, 4, 4]),
+        ("a /* x", &[1, 6, 6]),
+        ("> a", &[0, 0]),
+        ("a*", &[1, 1, 1]),
+        ("*a", &[1, 2, 2]),
+        ("", &[0, 0]),
+    ];
+    for (text, places) in rows {
+        let mut tokenizer = SelectorTokenizer::from(*text);
+        assert_eq!(rt; tokenizer.pos(), 0, "at {text}");
+        for place in *places {
+            let _ = tokenizer.next();
+            assert_eq!(rt; tokenizer.pos(), *place, "at {text}");
+        }
+    }
+}

@@ -6,7 +6,6 @@ ghost use Rattle.simplecss_text.specs.Errors.{Gives, position_of};
 ghost use Rattle.simplecss_text.specs.Cursor.{text_of, rest_of};
 ghost use Rattle.simplecss_text.specs.ThisEdition.{this_edition};
 ghost use Rattle.simplecss_text.specs.Pieces.{attribute_after as attribute_read, attribute_operator as operator_read, lang_after as language_read, pseudo_class_after as pseudo_class_read, begun as begun_read};
-ghost use Rattle.simplecss_text.specs.TokenRuns.{fault_count, run_of};
 ghost use Rattle.simplecss_selector.specs.Asked.{operator_of};
 ghost use Rattle.simplecss_selector.specs.Given.{token_of};
 ghost use Rattle.simplecss_selector.specs.declared.token.SelectorToken.TheVariants.{AttributeSelector, LangPseudoClass, PseudoClass};
@@ -431,8 +430,3 @@ impl<'a> Iterator for SelectorTokenizer<'a> {
 }
 
 impl<'a> FusedIterator for SelectorTokenizer<'a> {}
-
-/// A law: what a tokenizer gives on any text has at most two errors.
-pub fn at_most_two_errors()
-    ensures { (text : List ℕ) → fault_count (run_of this_edition text) ≤ 2 }
-{}

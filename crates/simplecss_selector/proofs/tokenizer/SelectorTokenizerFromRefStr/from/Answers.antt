@@ -1,10 +1,10 @@
-use Rattle.std.proofs.Common.{◌≡◌, ◌≤◌, ◌+◌, ◌∙◌, ℕ, List, Result, length, map, refl, ap, arith}
+use Rattle.std.proofs.Common.{◌≡◌, ◌≤◌, ◌+◌, length, map, refl, ap, arith}
 use Rattle.std.proofs.lemmas.List.{length-map}
 use Rattle.std.proofs.iter.runs.Sources.{from_front}
 use Rattle.simplecss_text.specs.Cursor.{rest_of}
 use Rattle.simplecss_text.specs.ThisEdition.{this_edition}
 use Rattle.simplecss_text.specs.Neighbours.Left.{open_left}
-use Rattle.simplecss_text.specs.TokenRuns.{Run, run_of, tokens_of, items, told_in}
+use Rattle.simplecss_text.specs.TokenRuns.{run_of, tokens_of, items, told_in}
 use Rattle.simplecss_text.proofs.CountLaws.{length-run_from}
 use Rattle.simplecss_selector.specs.Given.{item_seen}
 use Rattle.simplecss_selector.specs.Tokenizer.{items_left, GivesItem}

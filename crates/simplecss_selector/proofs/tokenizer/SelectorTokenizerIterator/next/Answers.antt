@@ -1,4 +1,4 @@
-use Rattle.std.proofs.Common.{Some, None, Err, refl, ◌∙◌}
+use Rattle.std.proofs.Common.{Some, None, Err, refl}
 use Rattle.simplecss_text.specs.declared.Error.TheVariants.{SelectorMissing}
 use Rattle.simplecss_selector.specs.declared.tokenizer.State.TheVariants as states
 use Rattle.simplecss_selector.specs.Tokenizer.{source, left_of}

@@ -1,0 +1,26 @@
+use super::*;
+use log::sink::Discard;
+use std::test::Fail;
+
+#[test]
+fn edits_a_sheet(rt: HostRuntime) -> Result<(), Fail> {
+    let text = "a { b:c !important; d:e } f { g:h } #i { j:k ! important }";
+    let mut sheet = StyleSheet::parse(&Discard, rt.alloc(), text)?;
+    keep_important(&mut sheet);
+    let selector = Selector::parse(&Discard, rt.alloc(), "l > .m")?.ok_or("refused")?;
+    let declaration = Declaration {
+        name: "n",
+        value: "o",
+        important: false,
+    };
+    push_rule(rt.alloc(), &mut sheet, selector, declaration)?;
+    let printed = sheet.to_string(rt.alloc())?;
+    let want = "a { b:c !important; }\n*[id='i'] { j:k !important; }\nl > *[class~='m'] { n:o; }";
+    assert_eq!(rt; printed.as_str(), want);
+    // A text that is read then takes the rule to its place in the order.
+    sheet.parse_more(&Discard, rt.alloc(), "p { q:r }")?;
+    let printed = sheet.to_string(rt.alloc())?;
+    let want = "a { b:c !important; }\np { q:r; }\nl > *[class~='m'] { n:o; }\n*[id='i'] { j:k !important; }";
+    assert_eq!(rt; printed.as_str(), want);
+    Ok(())
+}
