@@ -6,9 +6,10 @@
 //! reading a text in pieces, and equality of rules and declarations.
 
 pub use crate::sheet::laws::{cutting_law, edition_law, equality_laws, order_laws, sheet_law};
+pub use simplecss_selector::laws::{at_most_two_errors, token_equality_law};
 pub use simplecss_selector::{
-    at_most_two_errors, components_law, equality_law as selector_equality_law,
-    operator_equality_laws, printing_law, same_meanings_law,
+    components_law, equality_law as selector_equality_law, operator_equality_laws, printing_law,
+    same_meanings_law,
 };
 pub use simplecss_text::laws::{
     blank_is_cut, blank_is_longest, comment_is_closed, equality_laws as text_equality_laws,

@@ -1,11 +1,9 @@
 //! What the loops and chains give.
-use crate::{
+use super::{
     all_declarations, all_items, declaration_count, error_count, first_error, first_important,
     important_count, important_count_by_chain, item_count,
 };
-use simplecss_declaration::Declaration;
-use simplecss_selector::SelectorToken;
-use simplecss_text::{Error, TextPos};
+use simplecss::{Declaration, Error, SelectorToken, TextPos};
 use std::test::Fail;
 
 const STYLE: &str = "color: red; background: url(\"img.png\") !important; a:b!importantly:x";
