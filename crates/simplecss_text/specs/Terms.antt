@@ -53,7 +53,8 @@ is_slash_term second_edition b text = b == 47 && not (starts 42 text)
 abbrev pub begins_number : ℕ → Bool
 begins_number b = b == 43 || b == 45 || b == 46 || is_digit b
 
--- A term: a hash, a number, a string, a comma, a name or a function, by its first byte.
+-- A term: a hash, a number, a string, a comma, in the second edition a slash that opens no comment, a name or a function, by its
+-- first byte.
 unfoldable pub term : Edition → Reader (Unit {0})
 term edition [] = fails ended []
 term edition (b ∷ text) =
