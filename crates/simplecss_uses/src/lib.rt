@@ -1,0 +1,97 @@
+//! What a user writes with the tokenizers: loops and chains, with no measure, no invariant and no proof file.
+#![tactic(auto)]
+
+ghost use Rattle.std.specs.Prelude.{◌≡◌, length, map, count_by, IfOk, IfSome, IfNone, IsTrue, IsErr, All, false};
+ghost use Rattle.simplecss_text.specs.ThisEdition.{this_edition};
+ghost use Rattle.simplecss_text.specs.Declarations.{declarations};
+ghost use Rattle.simplecss_text.specs.TokenRuns.{tokens_of};
+ghost use Rattle.simplecss_declaration.specs.Properties.{property_of};
+ghost use Rattle.simplecss_selector.specs.Given.{item_seen};
+
+use simplecss_declaration::{Declaration, DeclarationTokenizer};
+use simplecss_selector::{SelectorToken, SelectorTokenizer};
+use simplecss_text::Error;
+use std::alloc::{AllocError, Global};
+
+#[cfg(test)]
+mod tests;
+
+/// How many of the text's declarations are important.
+pub fn important_count(text: &str) -> usize {
+    let mut count = 0_usize;
+    for declaration in DeclarationTokenizer::from(text) {
+        if declaration.important {
+            count = count.saturating_add(1);
+        }
+    }
+    count
+}
+
+/// The same by a chain.
+pub fn important_count_by_chain(text: &str) -> usize
+    ensures { result ≡ count_by (λ p. p.important) (declarations this_edition text.now) }
+{
+    DeclarationTokenizer::from(text)
+        .filter(|declaration| declaration.important)
+        .count()
+}
+
+/// How many declarations the text has.
+pub fn declaration_count(text: &str) -> usize
+    ensures { result ≡ length (declarations this_edition text.now) }
+{
+    DeclarationTokenizer::from(text).count()
+}
+
+/// The text's declarations.
+pub fn all_declarations<'a>(
+    alloc: Global,
+    text: &'a str,
+) -> Result<Vec<Declaration<'a>>, AllocError>
+    ensures { IfOk result (λ all. map property_of all.items ≡ declarations this_edition text.now) }
+{
+    DeclarationTokenizer::from(text).collect(alloc)
+}
+
+/// The first of the text's declarations that is important.
+pub fn first_important<'a>(text: &'a str) -> Option<Declaration<'a>>
+    ensures some { IfSome result (λ declaration. IsTrue declaration.important) }
+    ensures none { IfNone result (All (λ p. p.important ≡ false) (declarations this_edition text.now)) }
+{
+    DeclarationTokenizer::from(text).find(|declaration| declaration.important)
+}
+
+/// How many errors the tokens of the text's selector end by.
+pub fn error_count(text: &str) -> usize {
+    let mut count = 0_usize;
+    for item in SelectorTokenizer::from(text) {
+        if item.is_err() {
+            count = count.saturating_add(1);
+        }
+    }
+    count
+}
+
+/// How many tokens and errors the text's selector has.
+pub fn item_count(text: &str) -> usize
+    ensures { result ≡ length (tokens_of this_edition text.now) }
+{
+    SelectorTokenizer::from(text).count()
+}
+
+/// The tokens and errors of the text's selector.
+pub fn all_items<'a>(
+    alloc: Global,
+    text: &'a str,
+) -> Result<Vec<Result<SelectorToken<'a>, Error>>, AllocError>
+    ensures { IfOk result (λ all. map item_seen all.items ≡ tokens_of this_edition text.now) }
+{
+    SelectorTokenizer::from(text).collect(alloc)
+}
+
+/// The first error of the text's selector.
+pub fn first_error<'a>(text: &'a str) -> Option<Result<SelectorToken<'a>, Error>>
+    ensures { IfSome result IsErr }
+{
+    SelectorTokenizer::from(text).find(|item| item.is_err())
+}

@@ -1,0 +1,116 @@
+//! What the loops and chains give.
+use crate::{
+    all_declarations, all_items, declaration_count, error_count, first_error, first_important,
+    important_count, important_count_by_chain, item_count,
+};
+use simplecss_declaration::Declaration;
+use simplecss_selector::SelectorToken;
+use simplecss_text::{Error, TextPos};
+use std::test::Fail;
+
+const STYLE: &str = "color: red; background: url(\"img.png\") !important; a:b!importantly:x";
+
+#[test]
+fn counts_important_declarations(rt: HostRuntime) {
+    for (text, want) in [
+        (STYLE, 2),
+        ("color:red !important", 1),
+        ("color:red", 0),
+        ("color:; x:y !important", 0),
+        ("", 0),
+    ] {
+        assert_eq!(rt; important_count(text), want, "at {text}");
+        assert_eq!(rt; important_count_by_chain(text), want, "at {text}");
+    }
+}
+
+#[test]
+fn counts_declarations(rt: HostRuntime) {
+    for (text, want) in [
+        (STYLE, 4),
+        ("color:red", 1),
+        ("color:; x:y", 0),
+        ("/**/", 0),
+    ] {
+        assert_eq!(rt; declaration_count(text), want, "at {text}");
+    }
+}
+
+#[test]
+fn gathers_declarations(rt: HostRuntime) -> Result<(), Fail> {
+    let all = all_declarations(rt.alloc(), STYLE)?;
+    let want = [
+        ("color", "red", false),
+        ("background", "url(\"img.png\")", true),
+        ("a", "b", true),
+        ("ly", "x", false),
+    ];
+    assert_eq!(rt; all.len(), want.len());
+    for (declaration, (name, value, important)) in all.iter().zip(&want) {
+        assert_eq!(rt; declaration.name, *name);
+        assert_eq!(rt; declaration.value, *value);
+        assert_eq!(rt; declaration.important, *important);
+    }
+    Ok(())
+}
+
+#[test]
+fn finds_an_important_declaration(rt: HostRuntime) {
+    let found = first_important(STYLE);
+    let want = Some(Declaration {
+        name: "background",
+        value: "url(\"img.png\")",
+        important: true,
+    });
+    assert!(rt; found == want);
+    assert!(rt; first_important("color:red").is_none());
+}
+
+#[test]
+fn counts_errors(rt: HostRuntime) {
+    for (text, want) in [
+        ("a > b", 0),
+        ("a <", 2),
+        ("a<", 1),
+        ("/* x", 2),
+        ("a / b", 1),
+        ("a/ b", 0),
+        ("", 1),
+    ] {
+        assert_eq!(rt; error_count(text), want, "at {text}");
+    }
+}
+
+#[test]
+fn counts_items(rt: HostRuntime) {
+    for (text, want) in [
+        ("a > b", 3),
+        ("a <", 4),
+        ("a<", 2),
+        ("<", 2),
+        ("", 1),
+        ("a, b", 1),
+    ] {
+        assert_eq!(rt; item_count(text), want, "at {text}");
+    }
+}
+
+#[test]
+fn gathers_items(rt: HostRuntime) -> Result<(), Fail> {
+    let all = all_items(rt.alloc(), "a <")?;
+    let want = [
+        Ok(SelectorToken::TypeSelector("a")),
+        Ok(SelectorToken::DescendantCombinator),
+        Err(Error::InvalidIdent(TextPos::new(1, 3))),
+        Err(Error::SelectorMissing),
+    ];
+    assert!(rt; all.as_slice() == want.as_slice());
+    Ok(())
+}
+
+#[test]
+fn finds_an_error(rt: HostRuntime) {
+    let want = Some(Err(Error::InvalidIdent(TextPos::new(1, 3))));
+    assert!(rt; first_error("a < b") == want);
+    assert!(rt; first_error("a > b").is_none());
+}
