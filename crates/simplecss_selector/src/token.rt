@@ -12,13 +12,15 @@ pub enum SelectorToken<'a> {
     ClassSelector(&'a str),
     /// `#name`: an id.
     IdSelector(&'a str),
-    /// `[name]`, `[name=value]`, `[name~=value]` or `[name|=value]`: an attribute, and what is asked of its value.
+    /// `[name]`, `[name=value]`, `[name~=value]` or `[name|=value]`: an attribute, and what is
+    /// asked of its value.
     AttributeSelector(&'a str, AttributeOperator<'a>),
     /// `:name`: a pseudo-class other than `:lang`.
     PseudoClass(&'a str),
     /// `:lang(language)`: a language, without the white space round it.
     LangPseudoClass(&'a str),
-    /// A gap with a space byte between two simple selectors: the second is met by some descendant of the first.
+    /// A gap with a space byte between two simple selectors: the second is met by some descendant
+    /// of the first.
     DescendantCombinator,
     /// `>`: the second is met by a child of the first.
     ChildCombinator,

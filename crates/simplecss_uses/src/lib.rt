@@ -1,4 +1,5 @@
-//! What a user writes with the tokenizers: loops and chains, with no measure, no invariant and no proof file.
+//! What a user writes with the tokenizers: loops and chains, with no measure, no invariant and no
+//! proof file.
 #![tactic(auto)]
 
 ghost use Rattle.std.specs.Prelude.{◌≡◌, length, map, count_by, IfOk, IfSome, IfNone, IsTrue, IsErr, All, false};
