@@ -26,7 +26,8 @@ left_of t = rest_of t.stream
 abbrev pub still_to_come : DeclarationTokenizer → List Property
 still_to_come t = declarations this_edition (left_of t)
 
--- A call read the declaration at the front of a text and left `left`, or there was none, and then nothing is left.
+-- A call read the declaration at the front of a text and left `left`, or there was none, and then
+-- nothing is left.
 abbrev pub GivesNext : List ℕ → Option Declaration → (left : List ℕ) → Type 0
 GivesNext text None left = (next_declaration this_edition text ≡ None) × (left ≡ [])
 GivesNext text (Some d) left = next_declaration this_edition text ≡ Some (property_of d, left)
@@ -38,7 +39,8 @@ given_texts (Some d) = d.name.now ∷ d.value.now ∷ []
 
 -- A call of `next` on the tokenizer `before` gave `result` and left the tokenizer `after`.
 pub record GivesDeclaration (before : DeclarationTokenizer) (result : Option Declaration) (after : DeclarationTokenizer) : Type 0 where
-  -- the first of the declarations that were to come, and the others still are; or none was to come, and none is
+  -- the first of the declarations that were to come, and the others still are; or none was to
+  -- come, and none is
   pub items : YieldsFirstBy property_of still_to_come before result after
   -- the text stays
   pub text : source after ≡ source before
@@ -49,8 +51,8 @@ pub record GivesDeclaration (before : DeclarationTokenizer) (result : Option Dec
   -- the place does not fall
   pub forward : place_in before ≤ place_in after
 
--- What calls of `next` give, from any tokenizer on, is the front of the declarations that are still to come there, and all of
--- them where the calls went on to `None`.
+-- What calls of `next` give, from any tokenizer on, is the front of the declarations that are
+-- still to come there, and all of them where the calls went on to `None`.
 abbrev pub GivesInTurn : Type 0
 GivesInTurn = EveryRun GivesDeclaration (λ calls. ItemsMapTo calls property_of (still_to_come calls.from))
 

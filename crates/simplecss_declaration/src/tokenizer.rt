@@ -4,8 +4,9 @@ use super::reader::consume_declaration;
 use simplecss_text::stream::Stream;
 use std::iter::FusedIterator;
 
-/// The declarations of a text, as that of a block or of a `style` attribute, in order, up to the first that is broken.
-/// After them it gives `None` for ever, and does not tell what is wrong with the broken one. No memory is taken.
+/// The declarations of a text, as that of a block or of a `style` attribute, in order, up to the
+/// first that is broken. After them it gives `None` for ever, and does not tell what is wrong with
+/// the broken one. No memory is taken.
 #[derive(Drop)]
 pub struct DeclarationTokenizer<'a> {
     stream: Stream<'a>,
@@ -29,8 +30,8 @@ impl<'a> DeclarationTokenizer<'a> {
     ghost use Rattle.std.specs.Str.{IsCharBoundary};
     ghost use Rattle.simplecss_declaration.specs.Coming.{source, place_in, left_of};
 
-    /// The place up to which the text was read, in bytes from its start. It is at most the text's length and stands between
-    /// two characters.
+    /// The place up to which the text was read, in bytes from its start. It is at most the text's
+    /// length and stands between two characters.
     #[inline(always)]
     pub fn pos(&self) -> usize
         ensures place { result ≡ place_in self.now }

@@ -39,7 +39,8 @@ run_in Ended text = run_end text
 abbrev pub still_to_come : SelectorTokenizer → Run
 still_to_come t = run_in t.state (left_of t)
 
--- A call on a text gave the first item of a run, left `left` to read, and the run `after` to come; or nothing was to come.
+-- A call on a text gave the first item of a run, left `left` to read, and the run `after` to come;
+-- or nothing was to come.
 abbrev pub GivesFirst : List ℕ → Run → Option (Result SelectorToken Error) → (left : List ℕ) → (after : Run) → Type 0
 GivesFirst text before None left after = (before ≡ run_end left) × (after ≡ run_end left)
 GivesFirst text before (Some x) left after =
@@ -51,7 +52,8 @@ items_left t = map (told_in (source t)) (items (still_to_come t))
 
 -- A call of `next` on the tokenizer `before` gave `result` and left the tokenizer `after`.
 pub record GivesItem (before : SelectorTokenizer) (result : Option (Result SelectorToken Error)) (after : SelectorTokenizer) : Type 0 where
-  -- the first of the tokens and errors that were to come, and the others still are; or none was to come, and none is
+  -- the first of the tokens and errors that were to come, and the others still are; or none was to
+  -- come, and none is
   pub items : YieldsFirstBy item_seen items_left before result after
   -- the text stays
   pub text : source after ≡ source before
@@ -62,8 +64,8 @@ pub record GivesItem (before : SelectorTokenizer) (result : Option (Result Selec
   -- the place does not fall
   pub forward : place_in before ≤ place_in after
 
--- What calls of `next` give, from any tokenizer on, is the front of the tokens and errors that are still to come there, and all
--- of them where the calls went on to `None`.
+-- What calls of `next` give, from any tokenizer on, is the front of the tokens and errors that are
+-- still to come there, and all of them where the calls went on to `None`.
 abbrev pub GivesInTurn : Type 0
 GivesInTurn = EveryRun GivesItem (λ calls. ItemsMapTo calls item_seen (items_left calls.from))
 
@@ -72,7 +74,8 @@ pub record Begins (text : List ℕ) (t : SelectorTokenizer) : Type 0 where
   pub source_is : source t ≡ text
   pub at_start : place_in t ≡ 0
   pub left : left_of t ≡ text
-  -- the run of the text is still to come: at most as many tokens and errors as it has bytes, and two more
+  -- the run of the text is still to come: at most as many tokens and errors as it has bytes, and
+  -- two more
   pub run : still_to_come t ≡ run_of this_edition text
   pub to_come : items_left t ≡ tokens_of this_edition text
   pub few : length (items_left t) ≤ length text + 2

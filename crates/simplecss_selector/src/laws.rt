@@ -11,7 +11,9 @@ pub fn at_most_two_errors()
     ensures { (text : List ℕ) → fault_count (run_of this_edition text) ≤ 2 }
 {}
 
-/// Tokens are equal exactly if they are of the same kind and their names and values have the same bytes.
+/// Tokens are equal exactly if they are of the same kind and their names and values have the same
+/// bytes.
 pub fn token_equality_law()
-    ensures { (a b : SelectorToken) → IsTrue (⟦<SelectorToken<'static> as PartialEq>⟧.eq a b) ↔ (token_of a ≡ token_of b) }
+    ensures { (a b : SelectorToken)
+        → IsTrue (⟦<SelectorToken<'static> as PartialEq>⟧.eq a b) ↔ (token_of a ≡ token_of b) }
 {}

@@ -27,13 +27,14 @@ fn pseudo_class<'a>(name: &str) -> Option<PseudoClass<'a>>
     }
 }
 
-/// Puts a token into the selector that is being made, and says whether it is known: a pseudo-class of another name is
-/// not, and changes nothing. A class is an attribute `class` that has a word, and an id an attribute `id` that equals a
-/// text.
+/// Puts a token into the selector that is being made, and says whether it is known: a pseudo-class
+/// of another name is not, and changes nothing. A class is an attribute `class` that has a word,
+/// and an id an attribute `id` that equals a text.
 #[inline(always)]
 fn fill<'a>(draft: &mut Draft<'a>, token: SelectorToken<'a>) -> Result<bool, AllocError>
     ensures known { IfOk result (λ known. known ≡ is_known (role_of (token_of token.entry))) }
-    ensures filled { IfOk result (λ _. draft.new ≡ drafted_after (role_of (token_of token.entry)) draft.old) }
+    ensures filled { IfOk result
+        (λ _. draft.new ≡ drafted_after (role_of (token_of token.entry)) draft.old) }
 {
     match token {
         SelectorToken::UniversalSelector => {}
@@ -77,8 +78,9 @@ impl<'a> Selector<'a> {
     ghost use Rattle.simplecss_text.specs.Selectors.{reads};
     ghost use Rattle.simplecss_text.specs.PrintingLaws.{SelectorReadsBack};
 
-    /// The selector that a text begins with, or `None` where it is refused, and the place where reading stopped: before what
-    /// follows the selector, or behind what it was refused for. The place counts bytes from the start of the text.
+    /// The selector that a text begins with, or `None` where it is refused, and the place where
+    /// reading stopped: before what follows the selector, or behind what it was refused for. The
+    /// place counts bytes from the start of the text.
     ///
     /// It reads as `parse` does. The place tells where to read on, as behind a comma.
     pub fn parse_front<R: Log>(
@@ -111,9 +113,10 @@ impl<'a> Selector<'a> {
 
     /// The selector that a text begins with, or `None` where it is refused (CSS 2.1 section 5).
     ///
-    /// It ends where the text ends, before `,` or `{`, or before a `/` that opens no comment and stands directly behind
-    /// a simple selector. It is refused at the first error of its tokens, and at a pseudo-class of no known name; the
-    /// logger is told so. The error is that a growth was refused.
+    /// It ends where the text ends, before `,` or `{`, or before a `/` that opens no comment and
+    /// stands directly behind a simple selector. It is refused at the first error of its tokens,
+    /// and at a pseudo-class of no known name; the logger is told so. The error is that a growth
+    /// was refused.
     pub fn parse<R: Log>(
         rt: &R,
         alloc: Global,

@@ -49,8 +49,9 @@ enum State {
 
 /// The tokens of a selector's text, in order, up to the first error.
 ///
-/// They end where the text ends, or before `,` or `{`, or before a `/` that opens no comment and stands directly behind
-/// a simple selector. Behind an error at most one more comes, that a selector is missing. No memory is taken.
+/// They end where the text ends, or before `,` or `{`, or before a `/` that opens no comment and
+/// stands directly behind a simple selector. Behind an error at most one more comes, that a
+/// selector is missing. No memory is taken.
 #[derive(Drop)]
 pub struct SelectorTokenizer<'a> {
     stream: Stream<'a>,
@@ -81,7 +82,8 @@ fn what_follows(stream: &Stream<'_>) -> Follows
 #[tactic(auto, unfolding(simplecss_text::specs::Pieces::attribute_operator))]
 fn attribute_operator<'a>(stream: &mut Stream<'a>) -> Result<AttributeOperator<'a>, Error>
     ensures text { text_of stream.new ≡ text_of stream.old }
-    ensures reads { Gives operator_of (text_of stream.old) (operator_read this_edition (rest_of stream.old)) result (rest_of stream.new) }
+    ensures reads { Gives operator_of (text_of stream.old)
+        (operator_read this_edition (rest_of stream.old)) result (rest_of stream.new) }
 {
     match stream.curr_byte()? {
         b']' => Ok(AttributeOperator::Exists),
@@ -108,7 +110,8 @@ fn attribute_operator<'a>(stream: &mut Stream<'a>) -> Result<AttributeOperator<'
 #[tactic(auto, unfolding(simplecss_text::specs::Pieces::attribute_after))]
 fn attribute<'a>(stream: &mut Stream<'a>) -> Result<(&'a str, AttributeOperator<'a>), Error>
     ensures text { text_of stream.new ≡ text_of stream.old }
-    ensures reads { Gives (λ asked. token_of (AttributeSelector asked.0 asked.1)) (text_of stream.old) (attribute_read this_edition (rest_of stream.old)) result (rest_of stream.new) }
+    ensures reads { Gives (λ asked. token_of (AttributeSelector asked.0 asked.1)) (text_of stream.old)
+        (attribute_read this_edition (rest_of stream.old)) result (rest_of stream.new) }
 {
     let name = stream.consume_ident()?;
     let operator = attribute_operator(stream)?;
@@ -121,7 +124,8 @@ fn attribute<'a>(stream: &mut Stream<'a>) -> Result<(&'a str, AttributeOperator<
 #[tactic(auto, unfolding(simplecss_text::specs::Pieces::lang_after))]
 fn language<'a>(stream: &mut Stream<'a>) -> Result<&'a str, Error>
     ensures text { text_of stream.new ≡ text_of stream.old }
-    ensures reads { Gives (λ language. token_of (LangPseudoClass language)) (text_of stream.old) (language_read (rest_of stream.old)) result (rest_of stream.new) }
+    ensures reads { Gives (λ language. token_of (LangPseudoClass language)) (text_of stream.old)
+        (language_read (rest_of stream.old)) result (rest_of stream.new) }
 {
     stream.consume_byte(b'(')?;
     let language = text_before(stream, b')').trim();
@@ -132,12 +136,14 @@ fn language<'a>(stream: &mut Stream<'a>) -> Result<&'a str, Error>
     Ok(language)
 }
 
-/// The name of a pseudo-class behind its `:`, or the language of a `:lang`, and whether it is a language.
+/// The name of a pseudo-class behind its `:`, or the language of a `:lang`, and whether it is a
+/// language.
 #[inline(never)]
 #[tactic(auto, unfolding(simplecss_text::specs::Pieces::pseudo_class_after))]
 fn pseudo_class<'a>(stream: &mut Stream<'a>) -> Result<(&'a str, bool), Error>
     ensures text { text_of stream.new ≡ text_of stream.old }
-    ensures reads { Gives (λ told. token_of (if told.1 then LangPseudoClass told.0 else PseudoClass told.0)) (text_of stream.old) (pseudo_class_read this_edition (rest_of stream.old)) result (rest_of stream.new) }
+    ensures reads { Gives (λ told. token_of (if told.1 then LangPseudoClass told.0 else PseudoClass told.0))
+        (text_of stream.old) (pseudo_class_read this_edition (rest_of stream.old)) result (rest_of stream.new) }
 {
     let name = stream.consume_ident()?;
     if name == "lang" {
@@ -193,7 +199,8 @@ fn name<'a>(stream: &mut Stream<'a>, follows: Follows) -> Result<SelectorToken<'
     requires here { announced (rest_of stream.old) ≡ follows }
     requires named { IsNamed follows }
     ensures text { text_of stream.new ≡ text_of stream.old }
-    ensures reads { Gives token_of (text_of stream.old) (begun_read this_edition (rest_of stream.old)) result (rest_of stream.new) }
+    ensures reads { Gives token_of (text_of stream.old)
+        (begun_read this_edition (rest_of stream.old)) result (rest_of stream.new) }
 {
     match follows {
         Follows::Id => stream.try_consume_byte(b'#'),
@@ -208,13 +215,15 @@ fn name<'a>(stream: &mut Stream<'a>, follows: Follows) -> Result<SelectorToken<'
     })
 }
 
-/// A solid piece, which the byte has announced. At a stop and at a `/` it is read as a type, and fails.
+/// A solid piece, which the byte has announced. At a stop and at a `/` it is read as a type, and
+/// fails.
 #[inline(always)]
 #[tactic(auto, unfolding(simplecss_text::specs::Pieces::begun, simplecss_text::specs::Pieces::named, crate::specs::Announced::announced))]
 fn solid_piece<'a>(stream: &mut Stream<'a>, follows: Follows) -> Result<SelectorToken<'a>, Error>
     requires { announced (rest_of stream.old) ≡ follows }
     ensures text { text_of stream.new ≡ text_of stream.old }
-    ensures reads { Gives token_of (text_of stream.old) (begun_read this_edition (rest_of stream.old)) result (rest_of stream.new) }
+    ensures reads { Gives token_of (text_of stream.old)
+        (begun_read this_edition (rest_of stream.old)) result (rest_of stream.new) }
 {
     match follows {
         Follows::Child => Ok(child(stream)),
@@ -260,8 +269,8 @@ impl<'a> SelectorTokenizer<'a> {
     ghost use Rattle.simplecss_text.specs.Comments.{gap};
     ghost use Rattle.simplecss_selector.specs.Tokenizer.{source, place_in, left_of, run_in, still_to_come, GivesFirst};
 
-    /// The place up to which the text was read, in bytes from its start. It is at most the text's length and stands between
-    /// two characters.
+    /// The place up to which the text was read, in bytes from its start. It is at most the text's
+    /// length and stands between two characters.
     #[inline(always)]
     pub fn pos(&self) -> usize
         ensures place { result ≡ place_in self.now }
@@ -271,11 +280,13 @@ impl<'a> SelectorTokenizer<'a> {
         self.stream.pos()
     }
 
-    /// What comes at the start of the text or behind a combinator: a token of a simple selector, or an error.
+    /// What comes at the start of the text or behind a combinator: a token of a simple selector, or
+    /// an error.
     #[inline(always)]
     fn next_open(&mut self) -> Result<SelectorToken<'a>, Error>
         ensures source { source self.new ≡ source self.old }
-        ensures first { GivesFirst (source self.old) (run_in State.Open (left_of self.old)) (Some result) (left_of self.new) (still_to_come self.new) }
+        ensures first { GivesFirst (source self.old) (run_in State.Open (left_of self.old)) (Some result)
+            (left_of self.new) (still_to_come self.new) }
     {
         if let Err(error) = readers::consume_gap(&mut self.stream) {
             self.state = State::Missing;
@@ -309,7 +320,8 @@ impl<'a> SelectorTokenizer<'a> {
     fn next_closed(&mut self) -> Option<Result<SelectorToken<'a>, Error>>
         requires { self.old.state ≡ State.Closed }
         ensures source { source self.new ≡ source self.old }
-        ensures first { GivesFirst (source self.old) (run_in State.Closed (left_of self.old)) result (left_of self.new) (still_to_come self.new) }
+        ensures first { GivesFirst (source self.old) (run_in State.Closed (left_of self.old)) result
+            (left_of self.new) (still_to_come self.new) }
     {
         let spaced = match readers::consume_gap(&mut self.stream) {
             Ok(spaced) => spaced,
@@ -348,7 +360,8 @@ impl<'a> SelectorTokenizer<'a> {
         }
     }
 
-    /// What comes directly behind a simple selector: a subselector goes on the compound, and another head is refused.
+    /// What comes directly behind a simple selector: a subselector goes on the compound, and
+    /// another head is refused.
     #[inline(always)]
     fn next_joined(&mut self, follows: Follows) -> Result<SelectorToken<'a>, Error>
         requires state { self.old.state ≡ State.Closed }
@@ -356,7 +369,8 @@ impl<'a> SelectorTokenizer<'a> {
         requires simple { IsSimple follows }
         ensures source { source self.new ≡ source self.old }
         ensures first { (text : List ℕ) → gap text ≡ gives_value false (left_of self.old)
-            → GivesFirst (source self.old) (run_in State.Closed text) (Some result) (left_of self.new) (still_to_come self.new) }
+            → GivesFirst (source self.old) (run_in State.Closed text) (Some result)
+            (left_of self.new) (still_to_come self.new) }
     {
         if let Follows::Universal = follows {
             self.state = State::Ended;
@@ -378,8 +392,8 @@ impl<'a> SelectorTokenizer<'a> {
     }
 }
 
-/// Where a tokenizer is behind a fault in place of a simple selector: where no head begins, that one is missing is
-/// still to be told.
+/// Where a tokenizer is behind a fault in place of a simple selector: where no head begins, that
+/// one is missing is still to be told.
 #[inline(always)]
 fn after_fault(follows: Follows) -> State
     ensures { result ≡ state_after_fault follows }

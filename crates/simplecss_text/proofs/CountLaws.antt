@@ -77,22 +77,14 @@ gap-takes text start spaced e = by (opens_comment (past_blank text)) refl
 
 -- an answer adds an item only where a gap has a space byte, or stands alone
 length-between : (left : Left) (spaced : Bool) (f : Follows) (start : List ℕ) (next : Run) (n : ℕ) → 1 ≤ n → length (items next) ≤ n → length (items (answered (between left spaced f) start next)) ≤ space_of spaced + n
-length-between open_left false subselector start next n one h = omega arith
-length-between open_left true subselector start next n one h = omega arith
-length-between open_left false (universal at) start next n one h = omega arith
-length-between open_left true (universal at) start next n one h = omega arith
-length-between open_left false (type_name after) start next n one h = omega arith
-length-between open_left true (type_name after) start next n one h = omega arith
-length-between open_left false (combinator at) start next n one h = omega arith
-length-between open_left true (combinator at) start next n one h = omega arith
-length-between open_left false (stop at) start next n one h = omega arith
-length-between open_left true (stop at) start next n one h = omega arith
-length-between open_left false (slash at) start next n one h = omega arith
-length-between open_left true (slash at) start next n one h = omega arith
-length-between open_left false faulty_piece start next n one h = omega arith
-length-between open_left true faulty_piece start next n one h = omega arith
-length-between open_left false faulty_gap start next n one h = omega arith
-length-between open_left true faulty_gap start next n one h = omega arith
+length-between open_left spaced subselector start next n one h = omega arith
+length-between open_left spaced (universal at) start next n one h = omega arith
+length-between open_left spaced (type_name after) start next n one h = omega arith
+length-between open_left spaced (combinator at) start next n one h = omega arith
+length-between open_left spaced (stop at) start next n one h = omega arith
+length-between open_left spaced (slash at) start next n one h = omega arith
+length-between open_left spaced faulty_piece start next n one h = omega arith
+length-between open_left spaced faulty_gap start next n one h = omega arith
 length-between closed_left false subselector start next n one h = omega arith
 length-between closed_left false (universal at) start next n one h = omega arith
 length-between closed_left false (type_name after) start next n one h = omega arith
