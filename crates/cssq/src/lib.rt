@@ -2,9 +2,9 @@
 #![tactic(auto)]
 
 pub mod command;
-pub mod laws;
 #[cfg(test)]
 mod counting;
+pub mod laws;
 pub mod runs;
 #[cfg(test)]
 mod selecting;

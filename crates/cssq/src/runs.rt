@@ -19,8 +19,7 @@ use simplecss::{Rule, Selector, StyleSheet};
 use std::alloc::{AllocError, AllocFailed, Global};
 use std::error::Error;
 use std::fmt;
-use std::fmt::InlineText;
-use std::fmt::Write as _;
+use std::fmt::{InlineText, Write as _};
 use std::io::Write;
 
 /// Why a run failed.

@@ -20,7 +20,8 @@ fn edits_a_sheet(rt: HostRuntime) -> Result<(), Fail> {
     // A text that is read then takes the rule to its place in the order.
     sheet.parse_more(&Discard, rt.alloc(), "p { q:r }")?;
     let printed = sheet.to_string(rt.alloc())?;
-    let want = "a { b:c !important; }\np { q:r; }\nl > *[class~='m'] { n:o; }\n*[id='i'] { j:k !important; }";
+    let want =
+        "a { b:c !important; }\np { q:r; }\nl > *[class~='m'] { n:o; }\n*[id='i'] { j:k !important; }";
     assert_eq!(rt; printed.as_str(), want);
     Ok(())
 }
