@@ -1,16 +1,11 @@
 //! Style sheets that are edited: rules and declarations are plain vectors.
+ghost use Rattle.std.specs.Prelude.{◌≡◌, ◌++◌, ◌∷◌, [], OnOk};
+ghost use Rattle.simplecss.specs.Properties.{property_of};
+ghost use Rattle.simplecss.specs.Statements.{StyleRule};
+ghost use Rattle.simplecss.specs.StyleRules.{rules_of};
 
 use simplecss::{Declaration, Rule, Selector, StyleSheet};
 use std::alloc::{AllocError, Global};
-
-/// Keeps the important declarations alone, and the rules that have some.
-pub fn keep_important(sheet: &mut StyleSheet<'_>) {
-    for rule in sheet.rules.iter_mut() {
-        rule.declarations
-            .retain(|declaration| declaration.important);
-    }
-    sheet.rules.retain(|rule| !rule.declarations.is_empty());
-}
 
 /// Adds a rule of one declaration behind the others.
 pub fn push_rule<'a>(
@@ -18,7 +13,10 @@ pub fn push_rule<'a>(
     sheet: &mut StyleSheet<'a>,
     selector: Selector<'a>,
     declaration: Declaration<'a>,
-) -> Result<(), AllocError> {
+) -> Result<(), AllocError>
+    ensures { let rule : StyleRule = record { components = selector.entry; properties = property_of declaration.entry ∷ [] } in
+        OnOk result (rules_of sheet.new.rules.items ≡ rules_of sheet.old.rules.items ++ rule ∷ []) }
+{
     let declarations = vec![in alloc; declaration]?;
     sheet.rules.push(Rule {
         selector,

@@ -6,7 +6,11 @@ use std::test::Fail;
 fn edits_a_sheet(rt: HostRuntime) -> Result<(), Fail> {
     let text = "a { b:c !important; d:e } f { g:h } #i { j:k ! important }";
     let mut sheet = StyleSheet::parse(&Discard, rt.alloc(), text)?;
-    keep_important(&mut sheet);
+    for rule in sheet.rules.iter_mut() {
+        rule.declarations
+            .retain(|declaration| declaration.important);
+    }
+    sheet.rules.retain(|rule| !rule.declarations.is_empty());
     let selector = Selector::parse(&Discard, rt.alloc(), "l > .m")?.ok_or("refused")?;
     let declaration = Declaration {
         name: "n",
