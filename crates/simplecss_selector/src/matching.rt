@@ -1,5 +1,4 @@
-//! Whether a selector matches an element: a search that places each run of child and adjacent steps
-//! once.
+//! Matching: a search that places each run of child and adjacent steps once.
 ghost use Rattle.std.specs.Prelude.{◌≡◌, ◌+◌, ◌*◌, ◌<◌, ◌≤◌, ◌↔◌, ◌∷◌, IsTrue, length, slice_index};
 ghost use Rattle.std.specs.Option.{option_map};
 ghost use Rattle.simplecss_selector.specs.Combinators.{combinator_of};
