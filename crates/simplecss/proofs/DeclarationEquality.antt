@@ -1,6 +1,6 @@
 -- Lists of declarations are equal in turn exactly if what they say is. Serves the laws of equality.
-use Rattle.std.specs.Prelude.{◌≡◌, List, Bool, ◌&&◌, IsTrue}
-use Rattle.std.proofs.Common.{◌↔◌, ◌∙◌, sym, subst, ap, map}
+use Rattle.std.specs.Prelude.{◌≡◌, List, Bool, ◌&&◌}
+use Rattle.std.proofs.Common.{subst}
 use Rattle.std.specs.Bool.{Decides, beq}
 use Rattle.std.specs.Cmp.{booleans_Decides}
 use Rattle.std.specs.Cmp.Derive.Mapped.{pointwise-map}
