@@ -7,7 +7,7 @@ use Rattle.std.proofs.lemmas.List.{take_more, take_all, length-map, get_or-map}
 use Rattle.simplecss.specs.Declarations.{Property}
 use Rattle.simplecss.specs.Properties.{property_of, properties_of}
 use Rattle.simplecss.specs.declared.Declaration.{Declaration}
-use Rattle.cssq.specs.Winners.{Standing, weight, Beats, WinsAt, NoneStands, Wins}
+use Rattle.cssq.specs.Winners.{Standing, weight, Beats, WinsAt, NoneStands, Wins, IsEarlier}
 use Rattle.cssq.specs.Candidates.{InRule, better_of}
 use Rattle.cssq.specs.Winners.Beats.{by_importance, by_rule, by_place}
 
@@ -29,7 +29,7 @@ beats_earlier (by_importance a) h = a
 beats_earlier (by_rule a b) h = absurd (omega (arith, b, h))
 beats_earlier (by_place a b d) h = absurd (omega (arith, b, h))
 
-beats_same : {x y : Property} {i j k l : ℕ} → i ≡ k → j ≡ l → x ≡ y → Beats x i j y k l → ⊥
+pub beats_same : {x y : Property} {i j k l : ℕ} → i ≡ k → j ≡ l → x ≡ y → Beats x i j y k l → ⊥
 beats_same e f g (by_importance a) = let same = ap (λ p. weight p.important) g in omega (arith, a, same)
 beats_same e f g (by_rule a b) = omega (arith, e, b)
 beats_same e f g (by_place a b d) = omega (arith, f, d)
@@ -45,13 +45,24 @@ beats_trans (by_place a b d) (by_importance f) = by_importance (omega (arith, a,
 beats_trans (by_place a b d) (by_rule f g) = by_rule (a ∙ f) (omega (arith, b, g))
 beats_trans (by_place a b d) (by_place f g h) = by_place (a ∙ f) (g ∙ b) (omega (arith, d, h))
 
--- it stands earlier
-abbrev pub IsEarlier : ℕ → ℕ → ℕ → ℕ → Type 0
-IsEarlier k l i j = (k < i) ⊎ ((k ≡ i) × (l < j))
-
-beats_as_later : {x y : Property} {i j k l : ℕ} → weight x.important ≡ weight y.important → IsEarlier k l i j → Beats x i j y k l
+pub beats_as_later : {x y : Property} {i j k l : ℕ} → weight x.important ≡ weight y.important → IsEarlier k l i j → Beats x i j y k l
 beats_as_later e (inl lt) = by_rule e lt
 beats_as_later e (inr h) = by_place e h.0 h.1
+
+not_two_by : (stands : Standing) (name : List ℕ) (i k j l : ℕ) (p q : Property) → IsEarlier i k j l → WinsAt stands name i k p → WinsAt stands name j l q → (q.important ≡ p.important) ⊎ ((weight p.important < weight q.important) ⊎ (weight q.important < weight p.important)) → ⊥
+not_two_by stands name i k j l p q lt won other (inl e) = won.unbeaten j l q other.stated other.named (beats_as_later (ap weight e) lt)
+not_two_by stands name i k j l p q lt won other (inr (inl less)) = won.unbeaten j l q other.stated other.named (by_importance less)
+not_two_by stands name i k j l p q lt won other (inr (inr less)) = other.unbeaten i k p won.stated won.named (by_importance less)
+
+weights : (b d : Bool) → (b ≡ d) ⊎ ((weight d < weight b) ⊎ (weight b < weight d))
+weights true true = inl refl
+weights true false = inr (inl (omega arith))
+weights false true = inr (inr (omega arith))
+weights false false = inl refl
+
+-- no two places win
+pub not_two : (stands : Standing) (name : List ℕ) (i k j l : ℕ) (p q : Property) → IsEarlier i k j l → WinsAt stands name i k p → WinsAt stands name j l q → ⊥
+not_two stands name i k j l p q lt won other = not_two_by stands name i k j l p q lt won other (weights q.important p.important)
 
 -- ---- one more that stands behind all others
 
@@ -67,24 +78,23 @@ module _ (before after : Standing) (i j : ℕ) (p : Property) (more : OneMore be
   other_at k l q not_named named (inl h) = h
   other_at k l q not_named named (inr h) = absurd (not_named (ap (λ x. x.name) (sym h.2) ∙ named))
 
+  pub others_stay : (m n : ℕ) (v : Property) → (p.name ≡ name → ⊥) → WinsAt before name m n v → WinsAt after name m n v
+  others_stay m n v not_named won = record {
+    stated = more.kept m n v won.stated;
+    named = won.named;
+    unbeaten = λ k l q stands named. won.unbeaten k l q (other_at k l q not_named named (more.either k l q stands)) named;
+  }
+
   -- one of another name changes nothing
   pub more_other : (w : Option Property) → (p.name ≡ name → ⊥) → Wins before name w → Wins after name w
   more_other None not_named none = λ k l q stands named. none k l q (other_at k l q not_named named (more.either k l q stands)) named
-  more_other (Some v) not_named won = (
-    won.0,
-    won.1,
-    record {
-      stated = more.kept won.0 won.1 v won.2.stated;
-      named = won.2.named;
-      unbeaten = λ k l q stands named. won.2.unbeaten k l q (other_at k l q not_named named (more.either k l q stands)) named;
-    },
-  )
+  more_other (Some v) not_named won = (won.0, won.1, others_stay won.0 won.1 v not_named won.2)
 
   first_unbeaten : (k l : ℕ) (q : Property) → NoneStands before name → q.name ≡ name → Beats q k l p i j → before k l q ⊎ ((k ≡ i) × (l ≡ j) × (q ≡ p)) → ⊥
   first_unbeaten k l q none named beats (inl h) = none k l q h named
   first_unbeaten k l q none named beats (inr h) = beats_same h.0 h.1 h.2 beats
 
-  first : NoneStands before name → p.name ≡ name → WinsAt after name i j p
+  pub first : NoneStands before name → p.name ≡ name → WinsAt after name i j p
   first none named = record {
     stated = more.new;
     named = named;
@@ -96,7 +106,7 @@ module _ (before after : Standing) (i j : ℕ) (p : Property) (more : OneMore be
     taken_unbeaten k l q over named beats (inl h) = won.unbeaten k l q h named (beats_trans beats over)
     taken_unbeaten k l q over named beats (inr h) = beats_same h.0 h.1 h.2 beats
 
-    takes_over : p.name ≡ name → Beats p i j v m n → WinsAt after name i j p
+    pub takes_over : p.name ≡ name → Beats p i j v m n → WinsAt after name i j p
     takes_over named over = record {
       stated = more.new;
       named = named;
@@ -110,7 +120,7 @@ module _ (before after : Standing) (i j : ℕ) (p : Property) (more : OneMore be
         let heavy = beats_weight beats in
         omega (arith, same, heavy, lighter)
 
-    stays : weight p.important < weight v.important → WinsAt after name m n v
+    pub stays : weight p.important < weight v.important → WinsAt after name m n v
     stays lighter = record {
       stated = more.kept m n v won.stated;
       named = won.named;
@@ -130,18 +140,18 @@ module _ (before after : Standing) (i j : ℕ) (p : Property) (more : OneMore be
 
 -- ---- the declarations of one rule
 
-slice_get_push : {X : Type 0} (xs : List X) (x : X) (l : ℕ) (q : X) → slice_get (xs ++ x ∷ []) l ≡ Some q → (slice_get xs l ≡ Some q) ⊎ ((l ≡ length xs) × (q ≡ x))
+pub slice_get_push : {X : Type 0} (xs : List X) (x : X) (l : ℕ) (q : X) → slice_get (xs ++ x ∷ []) l ≡ Some q → (slice_get xs l ≡ Some q) ⊎ ((l ≡ length xs) × (q ≡ x))
 slice_get_push [] x zero q e = inr (refl, sym (same_Some x q e))
 slice_get_push [] x (suc l) q e = absurd (cc)
 slice_get_push (y ∷ ys) x zero q e = inl e
 slice_get_push (y ∷ ys) x (suc l) q e = elim (slice_get_push ys x l q e) [ inl h ↦ inl h | inr h ↦ inr (ap suc h.0, h.1) ]
 
-slice_get_kept : {X : Type 0} (xs : List X) (x : X) (l : ℕ) (q : X) → slice_get xs l ≡ Some q → slice_get (xs ++ x ∷ []) l ≡ Some q
+pub slice_get_kept : {X : Type 0} (xs : List X) (x : X) (l : ℕ) (q : X) → slice_get xs l ≡ Some q → slice_get (xs ++ x ∷ []) l ≡ Some q
 slice_get_kept [] x l q e = absurd (cc)
 slice_get_kept (y ∷ ys) x zero q e = e
 slice_get_kept (y ∷ ys) x (suc l) q e = slice_get_kept ys x l q e
 
-slice_get_last : {X : Type 0} (xs : List X) (x : X) → slice_get (xs ++ x ∷ []) (length xs) ≡ Some x
+pub slice_get_last : {X : Type 0} (xs : List X) (x : X) → slice_get (xs ++ x ∷ []) (length xs) ≡ Some x
 slice_get_last [] x = refl
 slice_get_last (y ∷ ys) x = slice_get_last ys x
 

@@ -9,10 +9,10 @@ use Rattle.simplecss.specs.StyleRules.{rule_of, rules_of}
 use Rattle.simplecss.specs.declared.sheet.rules.Rule.{Rule}
 use Rattle.simplecss.specs.Trees.{Tree}
 use Rattle.simplecss.specs.Placements.{HasPlacement}
-use Rattle.cssq.specs.Winners.{Standing, weight, Beats, NoneStands, Wins, IsStated}
+use Rattle.cssq.specs.Winners.{Standing, weight, Beats, WinsAt, NoneStands, Wins, IsStated, IsEarlier}
 use Rattle.cssq.specs.Candidates.{InRule, IsCandidate, IsPassedOver}
 use Rattle.cssq.specs.Winners.Beats.{by_importance}
-use Rattle.cssq.proofs.Cascading.{weight_small, beats_weight, beats_earlier}
+use Rattle.cssq.proofs.Cascading.{weight_small, beats_weight, beats_earlier, not_two}
 
 -- ---- what wins within a rule
 
@@ -36,16 +36,27 @@ pub record KnownFrom (stands : Standing) (name : List ℕ) (place : ℕ) (w : Op
   pub wins : Wins (From stands place) name w
   pub light : IfSome w (λ p. p.important ≡ false)
 
-here_or_later : (place k : ℕ) → place ≤ k → (k ≡ place) ⊎ (place + 1 ≤ k)
+pub here_or_later : (place k : ℕ) → place ≤ k → (k ≡ place) ⊎ (place + 1 ≤ k)
 here_or_later zero zero h = inl refl
 here_or_later zero (suc k) h = inr (omega arith)
 here_or_later (suc place) zero h = absurd (omega arith)
 here_or_later (suc place) (suc k) h = elim (here_or_later place k (omega arith)) [ inl e ↦ inl (ap suc e) | inr lt ↦ inr (omega (arith, lt)) ]
 
-before_or_from : (place k : ℕ) → (k < place) ⊎ (place ≤ k)
+pub before_or_from : (place k : ℕ) → (k < place) ⊎ (place ≤ k)
 before_or_from zero k = inr (omega arith)
 before_or_from (suc place) zero = inl (omega arith)
 before_or_from (suc place) (suc k) = elim (before_or_from place k) [ inl lt ↦ inl (omega (arith, lt)) | inr le ↦ inr (omega (arith, le)) ]
+
+-- the rule at a place
+module _ {Node : Type 0} (tree : Tree Node) (n : Node) (rules : List StyleRule) (place : ℕ) (rule : StyleRule) (at : slice_get rules place ≡ Some rule) where
+  stated_rule : (k l : ℕ) (q : Property) → k ≡ place → (stated : IsStated tree n rules k l q) → stated.rule ≡ rule
+  stated_rule k l q e stated = same_Some stated.rule rule (sym stated.rule_at ∙ ap (slice_get rules) e ∙ at)
+
+  pub stated_takes : (k l : ℕ) (q : Property) → k ≡ place → IsStated tree n rules k l q → HasPlacement tree rule.components n
+  stated_takes k l q e stated = subst (λ r. HasPlacement tree r.components n) (stated_rule k l q e stated) stated.takes
+
+  pub stated_here : (k l : ℕ) (q : Property) → k ≡ place → IsStated tree n rules k l q → slice_get rule.properties l ≡ Some q
+  stated_here k l q e stated = ap (λ r. slice_get r.properties l) (sym (stated_rule k l q e stated)) ∙ stated.declared
 
 module _ {Node : Type 0} (tree : Tree Node) (n : Node) (rules : List StyleRule) (name : List ℕ) where
   -- behind the last rule there is nothing
@@ -87,26 +98,17 @@ module _ {Node : Type 0} (tree : Tree Node) (n : Node) (rules : List StyleRule) 
   )
 
   module _ (place : ℕ) (rule : StyleRule) (at : slice_get rules place ≡ Some rule) where
-    stated_rule : (k l : ℕ) (q : Property) → k ≡ place → (stated : IsStated tree n rules k l q) → stated.rule ≡ rule
-    stated_rule k l q e stated = same_Some stated.rule rule (sym stated.rule_at ∙ ap (slice_get rules) e ∙ at)
-
-    stated_takes : (k l : ℕ) (q : Property) → k ≡ place → IsStated tree n rules k l q → HasPlacement tree rule.components n
-    stated_takes k l q e stated = subst (λ r. HasPlacement tree r.components n) (stated_rule k l q e stated) stated.takes
-
-    stated_here : (k l : ℕ) (q : Property) → k ≡ place → IsStated tree n rules k l q → slice_get rule.properties l ≡ Some q
-    stated_here k l q e stated = ap (λ r. slice_get r.properties l) (sym (stated_rule k l q e stated)) ∙ stated.declared
-
     module _ {A : Type 0} (f : A → Property) (known : Bool) where
       -- the rule at the place was passed over
       passed_unbeaten : (v : Property) (m j : ℕ) → place + 1 ≤ m → v.important ≡ false → IsPassedOver tree n rule name known → (k l : ℕ) (q : Property) → IsStated tree n rules k l q → q.name ≡ name → Beats q k l v m j → k ≡ place → ⊥
       passed_unbeaten v m j behind light passed k l q stated named beats e =
-          let q_light = (passed (stated_takes k l q e stated) l q (stated_here k l q e stated) named).1 in
+          let q_light = (passed (stated_takes tree n rules place rule at k l q e stated) l q (stated_here tree n rules place rule at k l q e stated) named).1 in
           omega (arith, ap weight q_light, beats_earlier beats (omega (arith, behind, e)))
 
       pub known_passed : (w : Option A) → known ≡ is_some w → IsPassedOver tree n rule name known → KnownFrom (IsStated tree n rules) name (place + 1) (option_map f w) → KnownFrom (IsStated tree n rules) name place (option_map f w)
       known_passed None is passed so_far = record {
         wins = λ k l q stands named. elim (here_or_later place k stands.0) [
-          | inl e ↦ (let yes = (passed (stated_takes k l q e stands.1) l q (stated_here k l q e stands.1) named).0 in absurd (cc))
+          | inl e ↦ (let yes = (passed (stated_takes tree n rules place rule at k l q e stands.1) l q (stated_here tree n rules place rule at k l q e stands.1) named).0 in absurd (cc))
           | inr late ↦ so_far.wins k l q (late, stands.1) named
         ];
         light = tt;
@@ -146,7 +148,7 @@ module _ {Node : Type 0} (tree : Tree Node) (n : Node) (rules : List StyleRule) 
               stated = (omega arith, record { rule = rule; rule_at = at; takes = candidate.takes; declared = here.1 });
               named = won.2.named;
               unbeaten = λ k l q stands named beats. elim (here_or_later place k stands.0) [
-                | inl e ↦ won.2.unbeaten k l q (e, stated_here k l q e stands.1) named (subst (λ i. Beats q k l b i won.1) (sym here.0) beats)
+                | inl e ↦ won.2.unbeaten k l q (e, stated_here tree n rules place rule at k l q e stands.1) named (subst (λ i. Beats q k l b i won.1) (sym here.0) beats)
                 | inr late ↦ over_later b won.1 w is heavy so_far k l q (late, stands.1) named beats
               ];
             },
@@ -154,6 +156,35 @@ module _ {Node : Type 0} (tree : Tree Node) (n : Node) (rules : List StyleRule) 
 
 pub known_on : (stands : Standing) (name : List ℕ) (place : ℕ) (b : Property) → Wins (From stands place) name (Some b) → b.important ≡ false → KnownFrom stands name place (Some b)
 known_on stands name place b won light = record { wins = won; light = light }
+
+-- ---- there is one winner
+
+later_places : (i k j l : ℕ) → (i ≡ j) ⊎ (j + 1 ≤ i) → (k < l) ⊎ (l ≤ k) → IsEarlier i k j l ⊎ (((i ≡ j) × (k ≡ l)) ⊎ IsEarlier j l i k)
+later_places i k j l (inr lt) c = inr (inr (inl (omega (arith, lt))))
+later_places i k j l (inl e) (inl lt) = inl (inr (e, lt))
+later_places i k j l (inl e) (inr le) = elim (here_or_later l k le) [ inl f ↦ inr (inl (e, f)) | inr lt ↦ inr (inr (inr (sym e, (omega (arith, lt))))) ]
+
+any_places : (i k j l : ℕ) → (i < j) ⊎ (j ≤ i) → (k < l) ⊎ (l ≤ k) → IsEarlier i k j l ⊎ (((i ≡ j) × (k ≡ l)) ⊎ IsEarlier j l i k)
+any_places i k j l (inl lt) c = inl (inl lt)
+any_places i k j l (inr le) c = later_places i k j l (here_or_later j i le) c
+
+module _ {Node : Type 0} (tree : Tree Node) (n : Node) (rules : List StyleRule) (name : List ℕ) where
+  stated_once : (i k j l : ℕ) (p q : Property) → IsStated tree n rules i k p → IsStated tree n rules j l q → i ≡ j → k ≡ l → p ≡ q
+  stated_once i k j l p q stated other e f =
+      same_Some p q (sym (stated_here tree n rules j other.rule other.rule_at i k p e stated) ∙ ap (slice_get other.rule.properties) f ∙ other.declared)
+
+  one_at : (i k j l : ℕ) (p q : Property) → WinsAt (IsStated tree n rules) name i k p → WinsAt (IsStated tree n rules) name j l q → IsEarlier i k j l ⊎ (((i ≡ j) × (k ≡ l)) ⊎ IsEarlier j l i k) → p ≡ q
+  one_at i k j l p q won other (inl lt) = absurd (not_two _ name i k j l p q lt won other)
+  one_at i k j l p q won other (inr (inl e)) = stated_once i k j l p q won.stated other.stated e.0 e.1
+  one_at i k j l p q won other (inr (inr lt)) = absurd (not_two _ name j l i k q p lt other won)
+
+  one_winner : (p q : Property) → Wins (IsStated tree n rules) name (Some p) → Wins (IsStated tree n rules) name (Some q) → p ≡ q
+  one_winner p q won other = one_at won.0 won.1 other.0 other.1 p q won.2 other.2 (any_places won.0 won.1 other.0 other.1 (before_or_from other.0 won.0) (before_or_from other.1 won.1))
+
+  -- what is answered is the winner, and there is no other
+  pub winner_only : {A : Type 0} (f : A → Property) (r : Option A) → Wins (IsStated tree n rules) name (option_map f r) → (p : Property) → Wins (IsStated tree n rules) name (Some p) ↔ (option_map f r ≡ Some p)
+  winner_only f None none p = (λ won. absurd (none won.0 won.1 p won.2.stated won.2.named), λ e. absurd (cc))
+  winner_only f (Some d) won p = (λ other. ap Some (one_winner (f d) p won other), λ e. subst (λ q. Wins (IsStated tree n rules) name (Some q)) (same_Some (f d) p e) won)
 
 -- ---- what the walk answers
 

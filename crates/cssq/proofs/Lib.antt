@@ -12,3 +12,5 @@ pub mod MatchLines
 pub mod Operands
 pub mod Cascading
 pub mod FromLast
+pub mod Listing
+pub mod BestPlaces

@@ -1,11 +1,15 @@
--- What wins within one rule, and what a rule that is passed over says.
-use Rattle.std.specs.Prelude.{◌≡◌, ℕ, Bool, true, false, not, ◌&&◌, if◌then◌else◌, List, Option, None, Some}
+-- What wins within one rule or one list, and what a rule that is passed over says.
+use Rattle.std.specs.Prelude.{◌≡◌, ℕ, ◌<◌, ◌≤◌, Bool, true, false, not, ◌&&◌, if◌then◌else◌, List, Option, None, Some}
 use Rattle.std.specs.List.{slice_get}
 use Rattle.simplecss.specs.Declarations.{Property}
 use Rattle.simplecss.specs.Statements.{StyleRule}
 use Rattle.simplecss.specs.Trees.{Tree}
 use Rattle.simplecss.specs.Placements.{HasPlacement}
-use Rattle.cssq.specs.Winners.{Standing, Wins}
+use Rattle.std.specs.Borrow.{Bor}
+use Rattle.std.specs.BTreeMap.{BTreeMap, get_by}
+use Rattle.std.specs.Ordering.{nat_cmp}
+use Rattle.std.specs.Cmp.Lexicographic.{slice_cmp}
+use Rattle.cssq.specs.Winners.{Standing, weight, Wins, WinsAt, NoneStands}
 
 -- the declarations of one rule, which is at place i
 abbrev pub InRule : ℕ → List Property → Standing
@@ -26,3 +30,22 @@ abbrev pub IsPassedOver : {Node : Type 0} → Tree Node → Node → StyleRule �
 IsPassedOver tree n rule name is_later_known =
     HasPlacement tree rule.components n
     → (j : ℕ) (p : Property) → slice_get rule.properties j ≡ Some p → p.name ≡ name → (is_later_known ≡ true) × (p.important ≡ false)
+
+-- the place that a map has for a name
+abbrev pub place_for : BTreeMap (Bor (List ℕ)) ℕ → List ℕ → Option ℕ
+place_for places name = get_by (λ key. slice_cmp nat_cmp name key.now) places
+
+-- the place of what wins for the name among the properties of a list, or none where none has the name
+abbrev pub IsBestPlace : List Property → List ℕ → Option ℕ → Type 0
+IsBestPlace properties name None = NoneStands (InRule 0 properties) name
+IsBestPlace properties name (Some k) = (p : Property) × WinsAt (InRule 0 properties) name 0 k p
+
+-- the map has for each name the place of what wins for it
+abbrev pub HasBestPlaces : BTreeMap (Bor (List ℕ)) ℕ → List Property → Type 0
+HasBestPlaces places properties = (name : List ℕ) → IsBestPlace properties name (place_for places name)
+
+-- whether the later takes over from what stands at the known place, if one is known: it is no lighter
+abbrev pub TellsWhether : Bool → List Property → Option ℕ → Property → Type 0
+TellsWhether takes_over properties None later = takes_over ≡ true
+TellsWhether true properties (Some k) later = (p : Property) → slice_get properties k ≡ Some p → weight p.important ≤ weight later.important
+TellsWhether false properties (Some k) later = (p : Property) → slice_get properties k ≡ Some p → weight later.important < weight p.important

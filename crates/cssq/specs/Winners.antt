@@ -1,5 +1,5 @@
 -- Which declarations win on an element: the cascade (CSS 2.1 section 6.4.1) within one style sheet.
-use Rattle.std.specs.Prelude.{◌≡◌, ℕ, ◌<◌, Bool, true, false, List, Option, None, Some}
+use Rattle.std.specs.Prelude.{◌≡◌, ◌⊎◌, ℕ, ◌<◌, Bool, true, false, List, map, Option, None, Some}
 use Rattle.std.specs.List.{slice_get}
 use Rattle.simplecss.specs.Declarations.{Property}
 use Rattle.simplecss.specs.Statements.{StyleRule}
@@ -51,3 +51,29 @@ IsWinner tree n name rules p = Wins (IsStated tree n rules) name (Some p)
 -- no rule that has a placement on the node has a declaration of the name
 abbrev pub HasNoWinner : {Node : Type 0} → Tree Node → Node → List ℕ → List StyleRule → Type 0
 HasNoWinner tree n name rules = NoneStands (IsStated tree n rules) name
+
+-- What wins on the node for its own name.
+abbrev pub WinsForItsName : {Node : Type 0} → Tree Node → Node → List StyleRule → Standing
+WinsForItsName tree n rules i j p = WinsAt (IsStated tree n rules) p.name i j p
+
+-- a declaration and where it stands: the place of its rule, and its place in the rule
+pub record Placed : Type 0 where
+  pub rule : ℕ
+  pub place : ℕ
+  pub property : Property
+
+-- the place k of rule i is before the place l of rule j
+abbrev pub IsEarlier : ℕ → ℕ → ℕ → ℕ → Type 0
+IsEarlier i k j l = (i < j) ⊎ ((i ≡ j) × (k < l))
+
+-- The properties are all that stand somewhere, once for each place at which one does, in the order of their places.
+pub record ListsInOrder (stands : Standing) (properties : List Property) : Type 0 where
+  pub placed : List Placed
+  pub are : map (λ a. a.property) placed ≡ properties
+  pub stand : (k : ℕ) (a : Placed) → slice_get placed k ≡ Some a → stands a.rule a.place a.property
+  pub rise : (k l : ℕ) (a b : Placed) → k < l → slice_get placed k ≡ Some a → slice_get placed l ≡ Some b → IsEarlier a.rule a.place b.rule b.place
+  pub all : (i j : ℕ) (p : Property) → stands i j p → (k : ℕ) × (slice_get placed k ≡ Some (record { rule = i; place = j; property = p }))
+
+-- no two of the properties have one name
+abbrev pub HaveOwnNames : List Property → Type 0
+HaveOwnNames properties = (k l : ℕ) (p q : Property) → k < l → slice_get properties k ≡ Some p → slice_get properties l ≡ Some q → p.name ≡ q.name → ⊥

@@ -1,13 +1,16 @@
 //! Which declarations of a style sheet win on an element: the cascade (CSS 2.1 section 6.4.1).
 
-ghost use Rattle.std.specs.Prelude.{◌≡◌, ◌↔◌, ℕ, IfSome, IsNone, IsTrue, Some};
+ghost use Rattle.std.specs.Prelude.{◌≡◌, ◌↔◌, ℕ, ◌<◌, length, Contains, IfOk, IfSome, IsNone, IsTrue, Some};
 ghost use Rattle.std.specs.Option.{option_map};
+ghost use Rattle.simplecss.specs.Declarations.{Property};
 ghost use Rattle.simplecss.specs.Properties.{property_of, properties_of};
 ghost use Rattle.simplecss.specs.StyleRules.{rule_of, rules_of};
-ghost use Rattle.cssq.specs.Winners.{Wins, IsWinner, HasNoWinner};
-ghost use Rattle.cssq.specs.Candidates.{better_of, InRule, IsCandidate, IsPassedOver};
+ghost use Rattle.cssq.specs.Winners.{Wins, IsStated, IsWinner, HasNoWinner, WinsForItsName, ListsInOrder, HaveOwnNames};
+ghost use Rattle.cssq.specs.Candidates.{better_of, InRule, IsCandidate, IsPassedOver, TellsWhether, HasBestPlaces};
 
 use simplecss::{Declaration, Element, Rule, StyleSheet};
+use std::alloc::{AllocError, Global};
+use std::collections::BTreeMap;
 
 /// The later of two declarations of a rule, unless the earlier alone is important.
 fn better_of<'a>(earlier: Option<Declaration<'a>>, later: Declaration<'a>) -> Declaration<'a>
@@ -68,6 +71,10 @@ pub fn winning<'a, E: Element>(
     ensures winner { IfSome result
         (λ d. IsWinner E.tree (E.node element.now) name.now (rules_of sheet.now.rules.items) (property_of d)) }
     ensures none { IsNone result ↔ HasNoWinner E.tree (E.node element.now) name.now (rules_of sheet.now.rules.items) }
+
+    // And there is no other winner.
+    ensures only { (p : Property) → IsWinner E.tree (E.node element.now) name.now (rules_of sheet.now.rules.items) p
+        ↔ (option_map property_of result ≡ Some p) }
 {
     let rules = sheet.rules.as_slice();
     let mut winner: Option<Declaration<'a>> = None;
@@ -81,6 +88,83 @@ pub fn winning<'a, E: Element>(
         winner = Some(best);
     }
     winner
+}
+
+/// The declarations of the rules that take the element, in the order of their places.
+fn stated_on<'a, E: Element>(
+    alloc: Global,
+    rules: &[Rule<'a>],
+    element: &E,
+) -> Result<Vec<Declaration<'a>>, AllocError>
+    ensures { IfOk result
+        (λ all. ListsInOrder (IsStated E.tree (E.node element.now) (rules_of rules.now)) (properties_of all.items)) }
+{
+    let mut all = Vec::new(alloc);
+    for rule in rules {
+        if rule.selector.matches(element) {
+            all.extend_from_slice(&rule.declarations)?;
+        }
+    }
+    Ok(all)
+}
+
+/// Whether a declaration wins over the one of its name that stands earlier in the list, if one does.
+fn takes_over(
+    declarations: &[Declaration<'_>],
+    known: Option<usize>,
+    later: &Declaration<'_>,
+) -> bool
+    requires { IfSome known (λ k. k < length declarations.now) }
+    ensures { TellsWhether result (properties_of declarations.now) known (property_of later.now) }
+{
+    let Some(place) = known else {
+        return true;
+    };
+    later.important || !declarations[place].important
+}
+
+/// The place in the list of the declaration that wins for each name.
+fn best_places<'a>(
+    alloc: Global,
+    declarations: &[Declaration<'a>],
+) -> Result<BTreeMap<&'a str, usize>, AllocError>
+    ensures { IfOk result (λ places. HasBestPlaces places (properties_of declarations.now)) }
+{
+    let mut places: BTreeMap<&'a str, usize> = BTreeMap::new(alloc);
+    for (place, declaration) in declarations.iter().enumerate() {
+        let known = places.get(declaration.name).copied();
+        if takes_over(declarations, known, declaration) {
+            places.insert(declaration.name, place)?;
+        }
+    }
+    Ok(places)
+}
+
+/// The declarations that win on the element: for each name the one that `winning` gives, in the order of their places. The error
+/// is that a growth was refused. Each rule is asked once whether it takes the element, and the time that the rest takes grows as
+/// that of sorting the declarations of the rules that do.
+pub fn winners<'a, E: Element>(
+    alloc: Global,
+    sheet: &StyleSheet<'a>,
+    element: &E,
+) -> Result<Vec<Declaration<'a>>, AllocError>
+    ensures order { IfOk result (λ all.
+        ListsInOrder (WinsForItsName E.tree (E.node element.now) (rules_of sheet.now.rules.items)) (properties_of all.items)) }
+
+    // So it has what wins for each name, and each name once.
+    ensures winners { IfOk result (λ all. (p : Property) → Contains (properties_of all.items) p
+        ↔ IsWinner E.tree (E.node element.now) p.name (rules_of sheet.now.rules.items) p) }
+    ensures names { IfOk result (λ all. HaveOwnNames (properties_of all.items)) }
+{
+    let stated = stated_on(alloc, &sheet.rules, element)?;
+    let places = best_places(alloc, &stated)?;
+    let mut all = Vec::new(alloc);
+    for (place, declaration) in stated.iter().enumerate() {
+        if places.get(declaration.name).copied() == Some(place) {
+            all.push(*declaration)?;
+        }
+    }
+    Ok(all)
 }
 
 #[cfg(test)]

@@ -1,6 +1,6 @@
 //! Elements of a page that count what they are asked.
 
-use crate::cascade::winning;
+use crate::cascade::{winners, winning};
 use crate::tree::{Node, Page};
 use log::sink::Discard;
 use simplecss::{AttributeOperator, Element, PseudoClass, Selector, StyleSheet, Tests};
@@ -228,8 +228,8 @@ fn counts_in_a_deep_tree(rt: HostRuntime) -> Result<(), Fail> {
     Ok(())
 }
 
-/// How often the one element of a tree is asked its name while the winner for the name `c` is sought.
-fn asked_for_the_winner(alloc: Global, sheet: &str) -> Result<u64, Fail> {
+/// How often the one element of a tree is asked its name while the winner for the name `c` is sought, and while all are.
+fn asked_for_winners(alloc: Global, sheet: &str) -> Result<(u64, u64), Fail> {
     let sheet = StyleSheet::parse(&Discard, alloc, sheet)?;
     let page = Page::read(alloc, "0\ta")?;
     let asked = Asked::new();
@@ -238,26 +238,26 @@ fn asked_for_the_winner(alloc: Global, sheet: &str) -> Result<u64, Fail> {
         asked: &asked,
     };
     let _ = winning(&sheet, &element, "c");
-    Ok(asked.names.get())
+    let for_one = asked.names.get();
+    let _ = winners(alloc, &sheet, &element)?;
+    let for_both = asked.names.get();
+    Ok((for_one, for_both.saturating_sub(for_one)))
 }
 
 #[test]
-fn asks_few_rules_for_a_winner(rt: HostRuntime) -> Result<(), Fail> {
+fn asks_few_rules_for_winners(rt: HostRuntime) -> Result<(), Fail> {
     for (sheet, times) in [
-        ("a{d:x} a{e:x}", 0),
-        ("a{c:x} a{c:y}", 1),
-        ("a{c:x} a{c:y} a{d:z}", 1),
-        ("a{c:x;c:y;c:z}", 1),
-        ("b{c:x} b{c:y} b{c:z}", 3),
-        ("a{c:x !important} a{c:y} a{c:z}", 2),
-        ("a{c:x !important} a{c:y !important} a{c:z}", 2),
-        ("a{c:x !important} b{c:y} b{c:z}", 3),
+        ("a{d:x} a{e:x}", (0, 2)),
+        ("a{c:x} a{c:y}", (1, 2)),
+        ("a{c:x} a{c:y} a{d:z}", (1, 3)),
+        ("a{c:x;c:y;c:z}", (1, 1)),
+        ("b{c:x} b{c:y} b{c:z}", (3, 3)),
+        ("a{c:x !important} a{c:y} a{c:z}", (2, 3)),
+        ("a{c:x !important} a{c:y !important} a{c:z}", (2, 3)),
+        ("a{c:x !important} b{c:y} b{c:z}", (3, 3)),
     ] {
-        assert_eq!(rt;
-            asked_for_the_winner(rt.alloc(), sheet)?,
-            times,
-            "at {sheet:?}"
-        );
+        let asked = asked_for_winners(rt.alloc(), sheet)?;
+        assert_eq!(rt; asked, times, "at {sheet:?}");
     }
     Ok(())
 }

@@ -54,3 +54,68 @@ fn wins_by_place_in_an_edited_sheet(rt: HostRuntime) -> Result<(), Fail> {
     assert!(rt; wins(rt.alloc(), &sheet, tree, Some(("red", false)))?);
     Ok(())
 }
+
+/// The texts of the declarations that win on the one element of the tree, with spaces between them. Fails where `winning` gives
+/// another for one of their names.
+fn all_that_win(alloc: Global, sheet: &StyleSheet<'_>, tree: &str) -> Result<String, Fail> {
+    use std::fmt::Write;
+    let page = Page::read(alloc, tree)?;
+    let element = page.node(0).ok_or("no element")?;
+    let mut text = String::new(alloc);
+    for declaration in &winners(alloc, sheet, &element)? {
+        if winning(sheet, &element, declaration.name) != Some(*declaration) {
+            return Err(Fail::from("the two calls differ"));
+        }
+        let gap = if text.is_empty() { "" } else { " " };
+        let mark = if declaration.important { "!" } else { "" };
+        write!(
+            text,
+            "{gap}{}:{}{mark}",
+            declaration.name, declaration.value
+        )?;
+    }
+    Ok(text)
+}
+
+#[test]
+fn lists_all_that_win(rt: HostRuntime) -> Result<(), Fail> {
+    for (text, wanted) in [
+        ("", ""),
+        ("b{c:x}", ""),
+        ("a{c:x}", "c:x"),
+        ("a{c:x;d:y;e:z}", "c:x d:y e:z"),
+        ("a{c:x;d:y}a{e:z;c:w}", "d:y e:z c:w"),
+        ("a{c:x !important;d:y}a{c:z;d:w}", "c:x! d:w"),
+        ("a{c:x;c:y;d:z !important;d:w}", "c:y d:z!"),
+        ("a{c:x !important;c:x !important}a{c:y}", "c:x!"),
+        ("a{c:x}b{c:y !important}a:first-child{d:z}", "c:x d:z"),
+        ("a{d:x;c:x}*{d:y;b:y}", "b:y d:x c:x"),
+    ] {
+        let sheet = sheet_of(rt.alloc(), text)?;
+        let all = all_that_win(rt.alloc(), &sheet, "0\ta")?;
+        assert_eq!(rt; all.as_str(), wanted, "at {text:?}");
+    }
+    Ok(())
+}
+
+const NAMES: usize = 3000;
+
+#[test]
+fn lists_many_that_win(rt: HostRuntime) -> Result<(), Fail> {
+    use std::fmt::Write;
+    let mut text = String::new(rt.alloc());
+    for round in 0..2 {
+        write!(text, "a {{")?;
+        for name in 0..NAMES {
+            write!(text, " n{name}: {round};")?;
+        }
+        write!(text, " }}")?;
+    }
+    let sheet = sheet_of(rt.alloc(), text.as_str())?;
+    let page = Page::read(rt.alloc(), "0\ta")?;
+    let element = page.node(0).ok_or("no element")?;
+    let all = winners(rt.alloc(), &sheet, &element)?;
+    assert_eq!(rt; all.len(), NAMES);
+    assert!(rt; all.iter().all(|declaration| declaration.value == "1"));
+    Ok(())
+}

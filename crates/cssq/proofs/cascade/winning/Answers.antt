@@ -3,7 +3,7 @@ use Rattle.std.specs.Option.{option_map}
 use Rattle.simplecss.specs.Properties.{property_of}
 use Rattle.simplecss.specs.StyleRules.{rule_of, rules_of}
 use Rattle.cssq.specs.Winners.{IsStated, Wins}
-use Rattle.cssq.proofs.FromLast.{From, KnownFrom, known_all, known_passed, known_here, known_on, important_wins, winner_found, winner_none, rule_read}
+use Rattle.cssq.proofs.FromLast.{From, KnownFrom, known_all, known_passed, known_here, known_on, important_wins, winner_found, winner_none, winner_only, rule_read}
 use Rattle.cssq.proofs.cascade.winning.Given.{Over}
 use Rattle.cssq.proofs.cascade.winning.Goals.{In-Some, After-loop-place}
 use Rattle.cssq.proofs.cascade.winning.Goals as goal
@@ -40,7 +40,11 @@ pub returns-then-best : goal.returns-then-best
 returns-then-best g c =
     let stands = IsStated g.E.Element.tree (g.E.Element.node c.args.element.now) in
     let won = subst (λ rules. Wins (stands (rules_of rules)) c.args.name.now (Some (property_of c.in-Some.best))) c.as_slice-rules.ensures.value (important_wins _ _ _ _ _ _ (wins_from g (goal.at.returns-then-best g c).In-Some) c.if-best.true) in
-    record { winner = won; none = winner_none property_of (stands (rules_of c.args.sheet.now.rules.items)) c.args.name.now (Some c.in-Some.best) won }
+    record {
+      winner = won;
+      none = winner_none property_of (stands (rules_of c.args.sheet.now.rules.items)) c.args.name.now (Some c.in-Some.best) won;
+      only = winner_only g.E.Element.tree (g.E.Element.node c.args.element.now) (rules_of c.args.sheet.now.rules.items) c.args.name.now property_of (Some c.in-Some.best) won;
+    }
 
 pub returns : goal.returns
 returns g c =
@@ -51,4 +55,5 @@ returns g c =
     record {
       winner = winner_found property_of (stands (rules_of c.args.sheet.now.rules.items)) c.args.name.now c.loop-place.winner won;
       none = winner_none property_of (stands (rules_of c.args.sheet.now.rules.items)) c.args.name.now c.loop-place.winner won;
+      only = winner_only g.E.Element.tree (g.E.Element.node c.args.element.now) (rules_of c.args.sheet.now.rules.items) c.args.name.now property_of c.loop-place.winner won;
     }
