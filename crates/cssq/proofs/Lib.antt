@@ -10,3 +10,5 @@ pub mod Styled
 pub mod Written
 pub mod MatchLines
 pub mod Operands
+pub mod Cascading
+pub mod FromLast

@@ -7,7 +7,7 @@ use Rattle.std.proofs.lemmas.List.Concat.{flat_map-append}
 use Rattle.simplecss.specs.Statements.{StyleRule}
 use Rattle.cssq.specs.TreeText.{Row}
 use Rattle.cssq.specs.Nodes.{Spot, spot}
-use Rattle.cssq.specs.MatchRuns.{Takes, AreAnswers, numbers_of, numbers_text, line_text, IsLineOf, IsLineAdded, IsMatchText}
+use Rattle.cssq.specs.MatchRuns.{Takes, AreAnswers, numbers_of, numbers_text, line_text, IsLineOf, IsLineAdded, AreLines}
 
 all_zip_push : {A B : Type 0} (R : A → B → Type 0) (xs : List A) (ys : List B) (x : A) (y : B) → AllZip R xs ys → R x y → AllZip R (xs ++ x ∷ []) (ys ++ y ∷ [])
 all_zip_push R [] [] x y all r = (r, tt)
@@ -91,28 +91,31 @@ concat_push : (lines : List (List ℕ)) (line : List ℕ) → concat (lines ++ l
 concat_push [] line = append-nil line
 concat_push (l ∷ lines) line = ap (λ t. l ++ t) (concat_push lines line) ∙ sym (append_assoc l (concat lines) line)
 
--- the lines of the first elements
-pub record MatchedSoFar (rules : List StyleRule) (rows : List Row) (place : ℕ) (text : List ℕ) : Type 0 where
+-- the lines of the first places
+pub record LinesSoFar (IsLine : ℕ → List ℕ → Type 0) (place : ℕ) (text : List ℕ) : Type 0 where
   pub lines : List (List ℕ)
-  pub are : AllZip (IsLineOf rules rows) (range_with_len 0 place) lines
+  pub are : AllZip IsLine (range_with_len 0 place) lines
   pub whole : text ≡ concat lines
 
-pub matched_none : (rules : List StyleRule) (lines : List Row) → MatchedSoFar rules lines 0 []
-matched_none rules lines = record { lines = []; are = tt; whole = refl }
+pub lines_none : (IsLine : ℕ → List ℕ → Type 0) → LinesSoFar IsLine 0 []
+lines_none IsLine = record { lines = []; are = tt; whole = refl }
 
--- the line of one more element
-pub matched_more : {rules : List StyleRule} {rows : List Row} {place : ℕ} {before : List ℕ} → MatchedSoFar rules rows place before → (text : List ℕ) (element : Spot) → element ≡ spot rows place → IsLineAdded before text (place + 1) rules element → MatchedSoFar rules rows (place + 1) text
-matched_more {rules} {rows} {place} {before} so_far text element is added =
-    let line : List ℕ = line_text (place + 1) added.0 in
-    let here : IsLineOf rules rows place line = (added.0, subst (AreAnswers added.0 rules) is added.1, refl) in
+-- one more line
+pub lines_more : {IsLine : ℕ → List ℕ → Type 0} {place : ℕ} {before : List ℕ} → LinesSoFar IsLine place before → (line text : List ℕ) → IsLine place line → text ≡ before ++ line → LinesSoFar IsLine (place + 1) text
+lines_more {IsLine} {place} {before} so_far line text here added =
     let places : range_with_len 0 (suc place) ≡ range_with_len 0 place ++ place ∷ [] = range_push 0 place ∙ (let same : 0 + place ≡ place = omega arith in ap (λ n. range_with_len 0 place ++ n ∷ []) same) in
     let next : suc place ≡ place + 1 = omega arith in
     record {
       lines = so_far.lines ++ line ∷ [];
-      are = subst (λ ps. AllZip (IsLineOf rules rows) ps (so_far.lines ++ line ∷ [])) (sym places ∙ ap (range_with_len 0) next)
-          (all_zip_push (IsLineOf rules rows) (range_with_len 0 place) so_far.lines place line so_far.are here);
-      whole = added.2 ∙ ap (λ t. t ++ line) so_far.whole ∙ sym (concat_push so_far.lines line);
+      are = subst (λ ps. AllZip IsLine ps (so_far.lines ++ line ∷ [])) (sym places ∙ ap (range_with_len 0) next)
+          (all_zip_push IsLine (range_with_len 0 place) so_far.lines place line so_far.are here);
+      whole = added ∙ ap (λ t. t ++ line) so_far.whole ∙ sym (concat_push so_far.lines line);
     }
 
-pub matched_all : {rules : List StyleRule} {rows : List Row} {place : ℕ} {text : List ℕ} → MatchedSoFar rules rows place text → place ≡ length rows → IsMatchText rules rows text
-matched_all {rules} {rows} {place} {text} so_far all = (so_far.lines, subst (λ n. AllZip (IsLineOf rules rows) (range_with_len 0 n) so_far.lines) all so_far.are, so_far.whole)
+pub lines_all : {IsLine : ℕ → List ℕ → Type 0} {place : ℕ} {text : List ℕ} → LinesSoFar IsLine place text → (count : ℕ) → place ≡ count → AreLines IsLine count text
+lines_all {IsLine} {place} {text} so_far count all = (so_far.lines, subst (λ n. AllZip IsLine (range_with_len 0 n) so_far.lines) all so_far.are, so_far.whole)
+
+-- the line of one more element
+pub matched_more : {rules : List StyleRule} {rows : List Row} {place : ℕ} {before : List ℕ} → LinesSoFar (IsLineOf rules rows) place before → (text : List ℕ) (element : Spot) → element ≡ spot rows place → IsLineAdded before text (place + 1) rules element → LinesSoFar (IsLineOf rules rows) (place + 1) text
+matched_more {rules} {rows} {place} {before} so_far text element is added =
+    lines_more so_far (line_text (place + 1) added.0) text (added.0, subst (AreAnswers added.0 rules) is added.1, refl) added.2

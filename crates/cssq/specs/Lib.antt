@@ -11,3 +11,6 @@ pub mod Outcomes
 pub mod SelectorRuns
 pub mod SheetRuns
 pub mod MatchRuns
+pub mod Winners
+pub mod Candidates
+pub mod StyleRuns

@@ -38,9 +38,13 @@ IsLineOf rules rows place line = (answers : List Bool) × AreAnswers answers rul
 abbrev pub IsLineAdded : List ℕ → List ℕ → ℕ → List StyleRule → Spot → Type 0
 IsLineAdded old new number rules element = (answers : List Bool) × AreAnswers answers rules element × (new ≡ old ++ line_text number answers)
 
+-- the text is a line for each place below the count, in turn
+abbrev pub AreLines : (ℕ → List ℕ → Type 0) → ℕ → List ℕ → Type 0
+AreLines IsLine count text = (lines : List (List ℕ)) × AllZip IsLine (range_with_len 0 count) lines × (text ≡ concat lines)
+
 -- the lines of all elements, in turn
 abbrev pub IsMatchText : List StyleRule → List Row → List ℕ → Type 0
-IsMatchText rules rows text = (lines : List (List ℕ)) × AllZip (IsLineOf rules rows) (range_with_len 0 (length rows)) lines × (text ≡ concat lines)
+IsMatchText rules rows = AreLines (IsLineOf rules rows) (length rows)
 
 -- the lines for the sheet and the tree, or the tree's fault
 abbrev pub IsMatchRun : List ℕ → List ℕ → Result (List ℕ) RunFault → Type 0

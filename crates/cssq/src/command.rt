@@ -1,10 +1,11 @@
 //! The words of the command line.
 
 ghost use Rattle.std.specs.Prelude.{◌≡◌, map, option_map, string_bytes};
-ghost use Rattle.cssq.specs.Command.{request, request_of, selector_of, sheet_of, match_of};
+ghost use Rattle.cssq.specs.Command.{request, request_of, selector_of, sheet_of, match_of, style_of};
 
 /// The line that tells which words there are.
-pub const USAGE: &str = "usage: cssq [selector TEXT | sheet FILE... | match FILE TREE]";
+pub const USAGE: &str =
+    "usage: cssq [selector TEXT | sheet FILE... | match FILE TREE | style FILE TREE NAME]";
 
 /// What the words after the program's name ask for.
 #[derive(Clone, Copy, PartialEq, Debug)]
@@ -17,6 +18,8 @@ pub enum Command<'w> {
     Sheet(&'w [String]),
     /// `match FILE TREE`: which rules of the file's sheet take each element of the tree.
     Match(&'w str, &'w str),
+    /// `style FILE TREE NAME`: which declaration of the name in the file's sheet wins on each element of the tree.
+    Style(&'w str, &'w str, &'w str),
 }
 
 impl<'w> Command<'w> {
@@ -31,6 +34,7 @@ impl<'w> Command<'w> {
                 "selector" => selector(operands),
                 "sheet" => sheet(operands),
                 "match" => match_tree(operands),
+                "style" => style_tree(operands),
                 _ => None,
             },
         }
@@ -61,6 +65,16 @@ fn match_tree(operands: &[String]) -> Option<Command<'_>>
 {
     match operands {
         [file, tree] => Some(Command::Match(file.as_str(), tree.as_str())),
+        _ => None,
+    }
+}
+
+#[tactic(auto, using(crate::proofs::Operands::style_of_few, crate::proofs::Operands::style_of_many))]
+fn style_tree(operands: &[String]) -> Option<Command<'_>>
+    ensures { option_map request result ≡ style_of (map string_bytes operands.now) }
+{
+    match operands {
+        [file, tree, name] => Some(Command::Style(file.as_str(), tree.as_str(), name.as_str())),
         _ => None,
     }
 }

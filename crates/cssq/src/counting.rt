@@ -1,8 +1,9 @@
 //! Elements of a page that count what they are asked.
 
+use crate::cascade::winning;
 use crate::tree::{Node, Page};
 use log::sink::Discard;
-use simplecss::{AttributeOperator, Element, PseudoClass, Selector, Tests};
+use simplecss::{AttributeOperator, Element, PseudoClass, Selector, StyleSheet, Tests};
 use std::alloc::Global;
 use std::cell::Cell;
 use std::test::Fail;
@@ -223,6 +224,40 @@ fn counts_in_a_deep_tree(rt: HostRuntime) -> Result<(), Fail> {
             };
             assert_eq!(rt; got, wanted);
         }
+    }
+    Ok(())
+}
+
+/// How often the one element of a tree is asked its name while the winner for the name `c` is sought.
+fn asked_for_the_winner(alloc: Global, sheet: &str) -> Result<u64, Fail> {
+    let sheet = StyleSheet::parse(&Discard, alloc, sheet)?;
+    let page = Page::read(alloc, "0\ta")?;
+    let asked = Asked::new();
+    let element = Counted {
+        node: page.node(0).ok_or("no element")?,
+        asked: &asked,
+    };
+    let _ = winning(&sheet, &element, "c");
+    Ok(asked.names.get())
+}
+
+#[test]
+fn asks_few_rules_for_a_winner(rt: HostRuntime) -> Result<(), Fail> {
+    for (sheet, times) in [
+        ("a{d:x} a{e:x}", 0),
+        ("a{c:x} a{c:y}", 1),
+        ("a{c:x} a{c:y} a{d:z}", 1),
+        ("a{c:x;c:y;c:z}", 1),
+        ("b{c:x} b{c:y} b{c:z}", 3),
+        ("a{c:x !important} a{c:y} a{c:z}", 2),
+        ("a{c:x !important} a{c:y !important} a{c:z}", 2),
+        ("a{c:x !important} b{c:y} b{c:z}", 3),
+    ] {
+        assert_eq!(rt;
+            asked_for_the_winner(rt.alloc(), sheet)?,
+            times,
+            "at {sheet:?}"
+        );
     }
     Ok(())
 }

@@ -1,6 +1,7 @@
 //! What the program `cssq` does: trees of elements from their texts, and runs over selectors, sheets and trees.
 #![tactic(auto)]
 
+pub mod cascade;
 pub mod command;
 #[cfg(test)]
 mod counting;

@@ -1,6 +1,7 @@
 //! What the program's commands do, over any writer.
 
-ghost use Rattle.std.specs.Prelude.{◌≡◌, Some, OnOk, OnErr, IfErr, IfOk, string_bytes, map, decimal};
+ghost use Rattle.std.specs.Prelude.{◌≡◌, ◌++◌, Some, OnOk, OnErr, IfErr, IfOk, string_bytes, map, decimal};
+ghost use Rattle.std.specs.Option.{option_map};
 ghost use Rattle.std.specs.Fmt.{WritesStyledOnOk};
 ghost use Rattle.std.specs.Io.KnownBytes.{Appends};
 ghost use Rattle.cssq.specs.Outcomes.{AppendsProperPart, Runs};
@@ -8,14 +9,17 @@ ghost use Rattle.cssq.specs.Faults.{status_of, message_of, run_fault};
 ghost use Rattle.cssq.specs.SelectorRuns.{selector_line, IsSelectorRun};
 ghost use Rattle.cssq.specs.SheetRuns.{sheet_output, IsSheetRun};
 ghost use Rattle.cssq.specs.MatchRuns.{IsMatchText, IsLineAdded, IsMatchRun};
+ghost use Rattle.cssq.specs.StyleRuns.{style_line, IsStyleText, IsStyleRun};
 ghost use Rattle.cssq.specs.declared.runs.RunFault.TheVariants.{Memory};
+ghost use Rattle.simplecss.specs.Properties.{property_of};
 ghost use Rattle.simplecss.specs.ThisEdition.{this_edition};
 ghost use Rattle.simplecss.specs.Sheets.{sheet};
 ghost use Rattle.simplecss.specs.StyleRules.{rules_of};
 
+use crate::cascade::winning;
 use crate::tree::{Node, Page, TreeFault};
 use log::Log;
-use simplecss::{Rule, Selector, StyleSheet};
+use simplecss::{Declaration, Rule, Selector, StyleSheet};
 use std::alloc::{AllocError, AllocFailed, Global};
 use std::error::Error;
 use std::fmt;
@@ -251,6 +255,65 @@ pub fn run_match<R: Log, W: Write>(
     let sheet = read_sheet(rt, alloc, &[sheet])?;
     let page = Page::read(alloc, tree)?;
     let text = match_text(alloc, sheet.rules.as_slice(), &page)?;
+    write_out(out, text.as_bytes())
+}
+
+/// Adds the line of an element: its number, and the value of the declaration that wins there, if one does.
+fn push_winner(
+    out: &mut String,
+    number: usize,
+    winner: Option<Declaration<'_>>,
+) -> Result<(), AllocError>
+    ensures { OnOk result (string_bytes out.new ≡ string_bytes out.old ++ style_line number (option_map property_of winner.entry)) }
+{
+    write!(out, "{number}:")?;
+    if let Some(declaration) = winner {
+        out.push(' ')?;
+        out.push_str(declaration.value)?;
+        if declaration.important {
+            out.push_str(" !important")?;
+        }
+    }
+    out.push('\n')?;
+    Ok(())
+}
+
+/// The lines of the elements of a page, with what wins for the name on each.
+fn style_text(
+    alloc: Global,
+    sheet: &StyleSheet<'_>,
+    page: &Page<'_>,
+    name: &str,
+) -> Result<String, AllocError>
+    ensures { IfOk result (λ text. IsStyleText name.now (rules_of sheet.now.rules.items) page.now (string_bytes text)) }
+{
+    let mut text = String::new(alloc);
+    for place in 0..page.len() {
+        let node = page.node(place).unwrap();
+        let winner = winning(sheet, &node, name);
+        push_winner(&mut text, place + 1, winner)?;
+    }
+    Ok(text)
+}
+
+/// Writes for each element of a tree its number from 1, a colon, and where a declaration of the name wins there, a space, its
+/// value and, if it is important, ` !important`; and a newline.
+///
+/// The sheet is read first, then the tree, and then the whole output is built: after `Tree` and `Memory` nothing was written.
+/// After `Output` a beginning of it was, and never all of it. `Refused` does not come.
+pub fn run_style<R: Log, W: Write>(
+    rt: &R,
+    alloc: Global,
+    sheet: &str,
+    tree: &str,
+    name: &str,
+    out: &mut W,
+) -> Result<(), RunFault>
+    ensures { Runs (IsStyleRun sheet.now tree.now name.now) result (W.contents out.old) (W.contents out.new) }
+{
+    let sheet = read_sheet(rt, alloc, &[sheet])?;
+    let page = Page::read(alloc, tree)?;
+    let text = style_text(alloc, &sheet, &page, name)?;
     write_out(out, text.as_bytes())
 }
 

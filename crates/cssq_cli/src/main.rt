@@ -1,8 +1,8 @@
-//! Shows how selectors and style sheets read, and which rules take the elements of a tree.
+//! Shows how selectors and style sheets read, which rules take the elements of a tree, and which declarations win there.
 #![tactic(auto)]
 
 use cssq::command::{Command, USAGE};
-use cssq::runs::{RunFault, run_match, run_selector, run_sheet};
+use cssq::runs::{RunFault, run_match, run_selector, run_sheet, run_style};
 use log::Log;
 use log::sink::Writer;
 use std::io::{BufWriter, Read, Stderr};
@@ -117,6 +117,29 @@ fn show_match(rt: &HostRuntime, file: &str, tree: &str) -> ExitCode {
     ended(rt, outcome)
 }
 
+/// Shows which declaration of the name in the file's sheet wins on each element of the tree.
+fn show_style(rt: &HostRuntime, file: &str, tree: &str, name: &str) -> ExitCode {
+    let Some(sheet_text) = read_file(rt, file) else {
+        return unreadable(rt, file);
+    };
+    let Some(tree_text) = read_file(rt, tree) else {
+        return unreadable(rt, tree);
+    };
+    let Some(log) = warnings(rt) else {
+        return ended(rt, Err(RunFault::Memory));
+    };
+    let outcome = run_style(
+        &log,
+        rt.alloc(),
+        sheet_text.as_str(),
+        tree_text.as_str(),
+        name,
+        &mut rt.stdout(),
+    );
+    log.flush();
+    ended(rt, outcome)
+}
+
 fn main(rt: HostRuntime) -> ExitCode {
     let Some(words) = words(&rt) else {
         return fail(&rt, 2, USAGE);
@@ -129,6 +152,7 @@ fn main(rt: HostRuntime) -> ExitCode {
         Some(Command::Selector(text)) => show_selector(&rt, text),
         Some(Command::Sheet(names)) => show_sheet(&rt, names),
         Some(Command::Match(file, tree)) => show_match(&rt, file, tree),
+        Some(Command::Style(file, tree, name)) => show_style(&rt, file, tree, name),
         None => fail(&rt, 2, USAGE),
     }
 }

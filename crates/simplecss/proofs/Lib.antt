@@ -5,3 +5,4 @@ pub mod DeclarationEquality
 pub mod SheetLemmas
 pub mod BlockLemmas
 pub mod StatementLemmas
+pub mod RulePlaces

@@ -1,4 +1,5 @@
 pub mod StyleRules
+pub mod RulePlaces
 pub mod SharedBlocks
 pub mod BlockDepths
 -- What contracts of the crates below speak of, under the names of this crate.

@@ -3,9 +3,11 @@
 //!
 //! Of texts: what comments and blanks are, and equality of positions, errors and cursors. Of selectors: their tokens, their
 //! components, printing, equality, and that elements which mean the same get the same answers. Of sheets: the order of rules,
-//! reading a text in pieces, and equality of rules and declarations.
+//! what a rule's place means, reading a text in pieces, and equality of rules and declarations.
 
-pub use crate::sheet::laws::{cutting_law, edition_law, equality_laws, order_laws, sheet_law};
+pub use crate::sheet::laws::{
+    cutting_law, edition_law, equality_laws, order_laws, place_law, sheet_law,
+};
 pub use simplecss_selector::laws::{at_most_two_errors, token_equality_law};
 pub use simplecss_selector::{
     components_law, equality_law as selector_equality_law, operator_equality_laws, printing_law,

@@ -140,23 +140,18 @@ impl<'a> Selector<'a> {
         self.climb(run, lowest, tests)
     }
 
-    /// Whether the selector matches the element, with a count of the tests that were made.
-    pub fn matches_counted<E: Element>(&self, element: &E, tests: &mut Tests) -> bool
+    /// Goes on from the element, which meets the last component, through the runs. Out of line, since
+    /// most elements do not meet the last component.
+    #[inline(never)]
+    fn goes_on<E: Element>(&self, last: usize, element: &E, tests: &mut Tests) -> bool
+        requires last { last + 1 ≡ length self.now }
+        requires met { Meets E.tree (E.node element.now) (component_at self.now last).compound }
         ensures answer { IsTrue result ↔ HasPlacement E.tree self.now (E.node element.now) }
-        ensures at_least_one { tests.old < tests.new }
-        ensures all_when_true { IsTrue result → tests.old + length self.now ≤ tests.new }
-        ensures at_most { tests.new
-            ≤ tests.old + length self.now * (E.tree.depth (E.node element.now) + 1) }
-        ensures at_most_by_runs { tests.new
+        ensures tested { tests.old ≤ tests.new }
+        ensures all_when_true { IsTrue result → tests.old + last ≤ tests.new }
+        ensures bounded { tests.new + 1
             ≤ tests.old + longest_run self.now * (E.tree.depth (E.node element.now) + 1) }
     {
-        let last = self.last_place();
-        if !self.is_met_at(last, element, tests) {
-            return false;
-        }
-        if last == 0 {
-            return true;
-        }
         let ends = self.run_ends.as_slice();
         let mut number = ends.len();
         let first = begin_after(ends, number);
@@ -182,6 +177,26 @@ impl<'a> Selector<'a> {
                 }
             }
         }
+    }
+
+    /// Whether the selector matches the element, with a count of the tests that were made.
+    pub fn matches_counted<E: Element>(&self, element: &E, tests: &mut Tests) -> bool
+        ensures answer { IsTrue result ↔ HasPlacement E.tree self.now (E.node element.now) }
+        ensures at_least_one { tests.old < tests.new }
+        ensures all_when_true { IsTrue result → tests.old + length self.now ≤ tests.new }
+        ensures at_most { tests.new
+            ≤ tests.old + length self.now * (E.tree.depth (E.node element.now) + 1) }
+        ensures at_most_by_runs { tests.new
+            ≤ tests.old + longest_run self.now * (E.tree.depth (E.node element.now) + 1) }
+    {
+        let last = self.last_place();
+        if !self.is_met_at(last, element, tests) {
+            return false;
+        }
+        if last == 0 {
+            return true;
+        }
+        self.goes_on(last, element, tests)
     }
 
     /// Whether the selector matches the element.

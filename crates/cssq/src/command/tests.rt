@@ -32,7 +32,13 @@ fn reads_words(rt: HostRuntime) -> Result<(), Fail> {
         ("match a", None),
         ("match a b", Some(Command::Match("a", "b"))),
         ("match a b c", None),
-        ("style a b c", None),
+        ("style", None),
+        ("style a b", None),
+        ("style a b c", Some(Command::Style("a", "b", "c"))),
+        ("style a b ", Some(Command::Style("a", "b", ""))),
+        ("style a b c d", None),
+        ("styles a b c", None),
+        ("Style a b c", None),
     ] {
         let words = words(rt.alloc(), line)?;
         assert_eq!(rt; Command::of(words.as_slice()), command, "at {line:?}");

@@ -191,3 +191,69 @@ fn stops_matches_at_a_full_writer(rt: HostRuntime) -> Result<(), Fail> {
     }
     Ok(())
 }
+
+const STYLED: &str = "a { c:red !important; c:blue } a { c:green }";
+
+#[test]
+fn writes_styles(rt: HostRuntime) {
+    let later = "a { c:red } .x { c:blue } a { c:green }";
+    let important = "a { c:red !important } .x { c:blue }";
+    let twice = "a { c:red !important; c:blue !important }";
+    for (sheet, tree, name, lines) in [
+        (STYLED, "0\ta", "c", "1: red !important\n"),
+        (STYLED, "0\ta", "d", "1:\n"),
+        (later, "0\ta\tclass=x", "c", "1: blue\n"),
+        (important, "0\ta\tclass=x", "c", "1: red !important\n"),
+        (twice, "0\ta", "c", "1: blue !important\n"),
+        ("a { c:red }", "0\ta\n1\tb\n", "c", "1: red\n2:\n"),
+        ("a { c:red }", "0\ta", "", "1:\n"),
+        ("a{c:x;c:y}a{c:z}", "0\ta", "c", "1: z\n"),
+        ("a{c:x;c:y}", "0\ta", "c", "1: y\n"),
+        ("a { c:red }", "0\ta", "C", "1:\n"),
+        ("a { c:red }", "", "c", ""),
+        ("", "0\ta", "c", "1:\n"),
+    ] {
+        let mut out = Vec::new(rt.alloc());
+        let outcome = run_style(&Discard, rt.alloc(), sheet, tree, name, &mut out);
+        assert_eq!(rt; outcome, Ok(()), "at {sheet:?}");
+        assert_eq!(rt;
+            out.as_slice(),
+            lines.as_bytes(),
+            "at {sheet:?} and {name:?}"
+        );
+    }
+}
+
+#[test]
+fn tells_a_faulty_tree_of_styles(rt: HostRuntime) {
+    for (tree, fault) in [
+        ("1\ta", TreeFault::BadDepth(1)),
+        ("0\ta\n0\t\n", TreeFault::EmptyName(2)),
+        ("0\ta\tk", TreeFault::NoEquals(1)),
+        ("0\ta\tk=\tk=", TreeFault::RepeatedKey(1)),
+    ] {
+        let mut out = Vec::new(rt.alloc());
+        let outcome = run_style(&Discard, rt.alloc(), STYLED, tree, "c", &mut out);
+        assert_eq!(rt; outcome, Err(RunFault::Tree(fault)), "at {tree:?}");
+        assert_eq!(rt; out.as_slice(), b"".as_slice(), "at {tree:?}");
+    }
+}
+
+#[test]
+fn stops_styles_at_a_full_writer(rt: HostRuntime) -> Result<(), Fail> {
+    let lines = b"1: red !important\n".as_slice();
+    for fails in [true, false] {
+        for room in 0..=lines.len() {
+            let mut out = Full::new(rt.alloc(), room, fails);
+            let outcome = run_style(&Discard, rt.alloc(), STYLED, "0\ta", "c", &mut out);
+            assert_eq!(rt; out.taken.as_slice(), &lines[..room], "at {room}");
+            let wanted = if room < lines.len() {
+                Err(RunFault::Output)
+            } else {
+                Ok(())
+            };
+            assert_eq!(rt; outcome, wanted, "at {room}");
+        }
+    }
+    Ok(())
+}

@@ -1,15 +1,16 @@
 //! Laws of sheets: each is the contract of a function that does nothing.
-ghost use Rattle.std.specs.Prelude.{◌≡◌, ◌↔◌, ◌<◌, ℕ, List, IsTrue, length, slice_index_or};
-ghost use Rattle.std.specs.List.{AllPass};
+ghost use Rattle.std.specs.Prelude.{◌≡◌, ◌↔◌, ◌<◌, ℕ, List, IsTrue, Some, length, slice_index_or};
+ghost use Rattle.std.specs.List.{AllPass, flat_map, slice_get};
 ghost use Rattle.std.specs.List.Sorted.{IsPermutation, IsSortedBy, IsStableBy};
 ghost use Rattle.simplecss_text.specs.Ranks.{rank_by};
-ghost use Rattle.simplecss_text.specs.Statements.{StyleRule, has_property};
+ghost use Rattle.simplecss_text.specs.Statements.{StyleRule, has_property, kept};
 ghost use Rattle.simplecss_text.specs.Sheets.{is_smaller, ordered, sheet};
 ghost use Rattle.std.specs.Str.{IsUtf8};
 ghost use Rattle.simplecss_text.specs.Cutting.{StatementEndsAt, KeepsAcross};
 ghost use Rattle.simplecss_text.specs.Editions.{IsCommon, KeepsInBoth};
 ghost use Rattle.simplecss_text.specs.ThisEdition.{this_edition};
 ghost use Rattle.simplecss_declaration.specs.Properties.{property_of};
+ghost use Rattle.simplecss.specs.RulePlaces.{ComesBefore};
 ghost use Rattle.simplecss.specs.StyleRules.{rule_of};
 
 use crate::sheet::Rule;
@@ -28,6 +29,14 @@ pub fn order_laws()
     ensures one { (rules sorted : List StyleRule) → IsPermutation rules sorted → IsSortedBy is_smaller sorted
         → IsStableBy is_smaller rules sorted → sorted ≡ ordered rules }
     ensures twice { (rules : List StyleRule) → ordered (ordered rules) ≡ ordered rules }
+{}
+
+/// What the place of a rule in a style sheet means. Of two rules of a sheet that was read the one at the lesser place has a
+/// smaller specificity, or an equal one and stands earlier in the source: the rules of all texts in turn.
+pub fn place_law()
+    ensures { (texts : List (List ℕ)) (i j : ℕ) (a b : StyleRule) → i < j
+        → slice_get (sheet this_edition texts) i ≡ Some a → slice_get (sheet this_edition texts) j ≡ Some b
+        → ComesBefore (flat_map (kept this_edition) texts) i j a b }
 {}
 
 /// Each rule of a style sheet that was read has a declaration.

@@ -1,0 +1,176 @@
+-- What wins as the rules are looked at from the last to the first.
+use Rattle.std.proofs.Common.{◌≡◌, ℕ, zero, suc, ◌+◌, ◌<◌, ◌≤◌, ◌⊎◌, inl, inr, ◌↔◌, Bool, true, false, List, length, get_or, Option, None, Some, IfSome, IsNone, refl, sym, ap, ◌∙◌, subst, arith}
+use Rattle.std.specs.Option.{option_map, is_some}
+use Rattle.std.specs.List.{slice_get}
+use Rattle.std.proofs.lemmas.Option.{slice_get_within, slice_get-map, slice_get_read, same_Some}
+use Rattle.simplecss.specs.Declarations.{Property}
+use Rattle.simplecss.specs.Statements.{StyleRule}
+use Rattle.simplecss.specs.StyleRules.{rule_of, rules_of}
+use Rattle.simplecss.specs.declared.sheet.rules.Rule.{Rule}
+use Rattle.simplecss.specs.Trees.{Tree}
+use Rattle.simplecss.specs.Placements.{HasPlacement}
+use Rattle.cssq.specs.Winners.{Standing, weight, Beats, NoneStands, Wins, IsStated}
+use Rattle.cssq.specs.Candidates.{InRule, IsCandidate, IsPassedOver}
+use Rattle.cssq.specs.Winners.Beats.{by_importance}
+use Rattle.cssq.proofs.Cascading.{weight_small, beats_weight, beats_earlier}
+
+-- ---- what wins within a rule
+
+heavier_at : (ps : List Property) (name : List ℕ) (b : Property) (won : Wins (InRule 0 ps) name (Some b)) → b.important ≡ false → (j : ℕ) (p : Property) (a : Bool) → p.important ≡ a → slice_get ps j ≡ Some p → p.name ≡ name → a ≡ false
+heavier_at ps name b won light j p false e at named = refl
+heavier_at ps name b won light j p true e at named =
+    absurd (won.2.unbeaten 0 j p (refl, at) named (by_importance (omega (arith, ap weight e, ap weight light))))
+
+-- where what wins is not important, none of the name is
+pub none_important : (ps : List Property) (name : List ℕ) (b : Property) → Wins (InRule 0 ps) name (Some b) → b.important ≡ false → (j : ℕ) (p : Property) → slice_get ps j ≡ Some p → p.name ≡ name → p.important ≡ false
+none_important ps name b won light j p = heavier_at ps name b won light j p p.important refl
+
+-- ---- the rules from a place on
+
+-- what stands in the rules from a place on
+abbrev pub From : Standing → ℕ → Standing
+From stands place k l q = (place ≤ k) × stands k l q
+
+-- what wins in the rules from a place on is known, and is not important
+pub record KnownFrom (stands : Standing) (name : List ℕ) (place : ℕ) (w : Option Property) : Type 0 where
+  pub wins : Wins (From stands place) name w
+  pub light : IfSome w (λ p. p.important ≡ false)
+
+here_or_later : (place k : ℕ) → place ≤ k → (k ≡ place) ⊎ (place + 1 ≤ k)
+here_or_later zero zero h = inl refl
+here_or_later zero (suc k) h = inr (omega arith)
+here_or_later (suc place) zero h = absurd (omega arith)
+here_or_later (suc place) (suc k) h = elim (here_or_later place k (omega arith)) [ inl e ↦ inl (ap suc e) | inr lt ↦ inr (omega (arith, lt)) ]
+
+before_or_from : (place k : ℕ) → (k < place) ⊎ (place ≤ k)
+before_or_from zero k = inr (omega arith)
+before_or_from (suc place) zero = inl (omega arith)
+before_or_from (suc place) (suc k) = elim (before_or_from place k) [ inl lt ↦ inl (omega (arith, lt)) | inr le ↦ inr (omega (arith, le)) ]
+
+module _ {Node : Type 0} (tree : Tree Node) (n : Node) (rules : List StyleRule) (name : List ℕ) where
+  -- behind the last rule there is nothing
+  pub known_none : KnownFrom (IsStated tree n rules) name (length rules) None
+  known_none = record {
+    wins = λ k l q stands named. let within = slice_get_within rules k stands.1.rule stands.1.rule_at in omega (arith, within, stands.0);
+    light = tt;
+  }
+
+  pub known_all : (w : Option Property) → KnownFrom (IsStated tree n rules) name 0 w → Wins (IsStated tree n rules) name w
+  known_all None known = λ k l q stands named. known.wins k l q (omega arith, stands) named
+  known_all (Some v) known =
+      let won = known.wins in (
+        won.0,
+        won.1,
+        record {
+          stated = won.2.stated.1;
+          named = won.2.named;
+          unbeaten = λ k l q stands. won.2.unbeaten k l q (omega arith, stands);
+        },
+      )
+
+  important_unbeaten : (place : ℕ) (b : Property) (won : Wins (From (IsStated tree n rules) place) name (Some b)) → b.important ≡ true → (k l : ℕ) (q : Property) → IsStated tree n rules k l q → q.name ≡ name → Beats q k l b won.0 won.1 → (k < place) ⊎ (place ≤ k) → ⊥
+  important_unbeaten place b won heavy k l q stated named beats (inr late) = won.2.unbeaten k l q (late, stated) named beats
+  important_unbeaten place b won heavy k l q stated named beats (inl early) =
+      let behind = won.2.stated.0 in
+      omega (arith, ap weight heavy, weight_small q.important, beats_earlier beats (omega (arith, early, behind)))
+
+  -- an important one of a later rule wins over all of earlier rules
+  pub important_wins : (place : ℕ) (b : Property) → Wins (From (IsStated tree n rules) place) name (Some b) → b.important ≡ true → Wins (IsStated tree n rules) name (Some b)
+  important_wins place b won heavy = (
+    won.0,
+    won.1,
+    record {
+      stated = won.2.stated.1;
+      named = won.2.named;
+      unbeaten = λ k l q stands named beats. important_unbeaten place b won heavy k l q stands named beats (before_or_from place k);
+    },
+  )
+
+  module _ (place : ℕ) (rule : StyleRule) (at : slice_get rules place ≡ Some rule) where
+    stated_rule : (k l : ℕ) (q : Property) → k ≡ place → (stated : IsStated tree n rules k l q) → stated.rule ≡ rule
+    stated_rule k l q e stated = same_Some stated.rule rule (sym stated.rule_at ∙ ap (slice_get rules) e ∙ at)
+
+    stated_takes : (k l : ℕ) (q : Property) → k ≡ place → IsStated tree n rules k l q → HasPlacement tree rule.components n
+    stated_takes k l q e stated = subst (λ r. HasPlacement tree r.components n) (stated_rule k l q e stated) stated.takes
+
+    stated_here : (k l : ℕ) (q : Property) → k ≡ place → IsStated tree n rules k l q → slice_get rule.properties l ≡ Some q
+    stated_here k l q e stated = ap (λ r. slice_get r.properties l) (sym (stated_rule k l q e stated)) ∙ stated.declared
+
+    module _ {A : Type 0} (f : A → Property) (known : Bool) where
+      -- the rule at the place was passed over
+      passed_unbeaten : (v : Property) (m j : ℕ) → place + 1 ≤ m → v.important ≡ false → IsPassedOver tree n rule name known → (k l : ℕ) (q : Property) → IsStated tree n rules k l q → q.name ≡ name → Beats q k l v m j → k ≡ place → ⊥
+      passed_unbeaten v m j behind light passed k l q stated named beats e =
+          let q_light = (passed (stated_takes k l q e stated) l q (stated_here k l q e stated) named).1 in
+          omega (arith, ap weight q_light, beats_earlier beats (omega (arith, behind, e)))
+
+      pub known_passed : (w : Option A) → known ≡ is_some w → IsPassedOver tree n rule name known → KnownFrom (IsStated tree n rules) name (place + 1) (option_map f w) → KnownFrom (IsStated tree n rules) name place (option_map f w)
+      known_passed None is passed so_far = record {
+        wins = λ k l q stands named. elim (here_or_later place k stands.0) [
+          | inl e ↦ (let yes = (passed (stated_takes k l q e stands.1) l q (stated_here k l q e stands.1) named).0 in absurd (cc))
+          | inr late ↦ so_far.wins k l q (late, stands.1) named
+        ];
+        light = tt;
+      }
+      known_passed (Some x) is passed so_far =
+          let won = so_far.wins in
+          record {
+            wins = (
+              won.0,
+              won.1,
+              record {
+                stated = (let late = won.2.stated.0 in omega (arith, late), won.2.stated.1);
+                named = won.2.named;
+                unbeaten = λ k l q stands named beats. elim (here_or_later place k stands.0) [
+                  | inl e ↦ passed_unbeaten (f x) won.0 won.1 won.2.stated.0 so_far.light passed k l q stands.1 named beats e
+                  | inr late ↦ won.2.unbeaten k l q (late, stands.1) named beats
+                ];
+              },
+            );
+            light = so_far.light;
+          }
+
+      -- the rule at the place has a candidate, which is important if one of a later rule is known
+      over_later : (b : Property) (j : ℕ) (w : Option A) → known ≡ is_some w → (known ≡ true → b.important ≡ true) → KnownFrom (IsStated tree n rules) name (place + 1) (option_map f w) → (k l : ℕ) (q : Property) → From (IsStated tree n rules) (place + 1) k l q → q.name ≡ name → Beats q k l b place j → ⊥
+      over_later b j None is heavy so_far k l q stands named beats = so_far.wins k l q stands named
+      over_later b j (Some x) is heavy so_far k l q stands named beats =
+          so_far.wins.2.unbeaten k l q stands named
+          (by_importance (omega (arith, ap weight so_far.light, ap weight (heavy is), beats_weight beats)))
+
+      pub known_here : (b : Property) (w : Option A) → known ≡ is_some w → (known ≡ true → b.important ≡ true) → IsCandidate tree n rule name b → KnownFrom (IsStated tree n rules) name (place + 1) (option_map f w) → Wins (From (IsStated tree n rules) place) name (Some b)
+      known_here b w is heavy candidate so_far =
+          let won = candidate.best place in
+          let here = won.2.stated in (
+            place,
+            won.1,
+            record {
+              stated = (omega arith, record { rule = rule; rule_at = at; takes = candidate.takes; declared = here.1 });
+              named = won.2.named;
+              unbeaten = λ k l q stands named beats. elim (here_or_later place k stands.0) [
+                | inl e ↦ won.2.unbeaten k l q (e, stated_here k l q e stands.1) named (subst (λ i. Beats q k l b i won.1) (sym here.0) beats)
+                | inr late ↦ over_later b won.1 w is heavy so_far k l q (late, stands.1) named beats
+              ];
+            },
+          )
+
+pub known_on : (stands : Standing) (name : List ℕ) (place : ℕ) (b : Property) → Wins (From stands place) name (Some b) → b.important ≡ false → KnownFrom stands name place (Some b)
+known_on stands name place b won light = record { wins = won; light = light }
+
+-- ---- what the walk answers
+
+module _ {A : Type 0} (f : A → Property) (stands : Standing) (name : List ℕ) where
+  pub winner_found : (r : Option A) → Wins stands name (option_map f r) → IfSome r (λ d. Wins stands name (Some (f d)))
+  winner_found None wins = tt
+  winner_found (Some d) wins = wins
+
+  pub winner_none : (r : Option A) → Wins stands name (option_map f r) → IsNone r ↔ NoneStands stands name
+  winner_none None wins = (λ _. wins, λ _. refl)
+  winner_none (Some d) wins = (λ e. absurd (cc), λ none. absurd (none wins.0 wins.1 (f d) wins.2.stated wins.2.named))
+
+  -- the two clauses of an answer say what wins
+  pub winner_known : (r : Option A) → IfSome r (λ d. Wins stands name (Some (f d))) → IsNone r ↔ NoneStands stands name → Wins stands name (option_map f r)
+  winner_known None found none = none.0 refl
+  winner_known (Some d) found none = found
+
+-- a rule that was read from its place
+pub rule_read : (rules : List Rule) (k : ℕ) (r : Rule) → k < length rules → r ≡ get_or rules k r → slice_get (rules_of rules) k ≡ Some (rule_of r)
+rule_read rules k r within is = slice_get-map rule_of rules k ∙ ap (option_map rule_of) (slice_get_read rules (length rules) k r refl within is)

@@ -1,0 +1,43 @@
+-- What a run over a sheet, a tree and a name is to write.
+use Rattle.std.specs.Prelude.{◌≡◌, ℕ, ◌+◌, length, Bool, true, false, List, [], ◌∷◌, ◌++◌, decimal, codes, Option, None, Some, Result, Ok, Err}
+use Rattle.simplecss.specs.ThisEdition.{this_edition}
+use Rattle.simplecss.specs.Declarations.{Property}
+use Rattle.simplecss.specs.Statements.{StyleRule}
+use Rattle.simplecss.specs.Sheets.{sheet}
+use Rattle.cssq.specs.declared.runs.RunFault.{RunFault}
+use Rattle.cssq.specs.declared.runs.RunFault.TheVariants.{Refused, Tree, Memory, Output}
+use Rattle.cssq.specs.TreeText.{Row, tree_of}
+use Rattle.cssq.specs.Nodes.{spot, page_tree}
+use Rattle.cssq.specs.MatchRuns.{AreLines}
+use Rattle.cssq.specs.Winners.{Wins, IsStated}
+
+-- what stands behind a value
+abbrev pub mark : Bool → List ℕ
+mark true = codes " !important"
+mark false = []
+
+-- a space, the value, and the mark of an important one; nothing where none wins
+abbrev pub winner_text : Option Property → List ℕ
+winner_text None = []
+winner_text (Some p) = 32 ∷ (p.value ++ mark p.important)
+
+-- an element's number, a colon, what wins there, and a newline
+abbrev pub style_line : ℕ → Option Property → List ℕ
+style_line number winner = decimal number ++ (58 ∷ (winner_text winner ++ 10 ∷ []))
+
+-- the line of the element at a place
+abbrev pub IsStyleLineOf : List ℕ → List StyleRule → List Row → ℕ → List ℕ → Type 0
+IsStyleLineOf name rules rows place line =
+    (winner : Option Property) × Wins (IsStated page_tree (spot rows place) rules) name winner × (line ≡ style_line (place + 1) winner)
+
+-- the lines of all elements, in turn
+abbrev pub IsStyleText : List ℕ → List StyleRule → List Row → List ℕ → Type 0
+IsStyleText name rules rows = AreLines (IsStyleLineOf name rules rows) (length rows)
+
+-- the lines for the sheet, the tree and the name, or the tree's fault
+abbrev pub IsStyleRun : List ℕ → List ℕ → List ℕ → Result (List ℕ) RunFault → Type 0
+IsStyleRun text tree name (Ok lines) = (rows : List Row) × (tree_of tree ≡ Ok rows) × IsStyleText name (sheet this_edition (text ∷ [])) rows lines
+IsStyleRun text tree name (Err (Tree fault)) = tree_of tree ≡ Err fault
+IsStyleRun text tree name (Err Refused) = ⊥
+IsStyleRun text tree name (Err Memory) = ⊥
+IsStyleRun text tree name (Err Output) = ⊥

@@ -1,0 +1,53 @@
+-- Which declarations win on an element: the cascade (CSS 2.1 section 6.4.1) within one style sheet.
+use Rattle.std.specs.Prelude.{◌≡◌, ℕ, ◌<◌, Bool, true, false, List, Option, None, Some}
+use Rattle.std.specs.List.{slice_get}
+use Rattle.simplecss.specs.Declarations.{Property}
+use Rattle.simplecss.specs.Statements.{StyleRule}
+use Rattle.simplecss.specs.Trees.{Tree}
+use Rattle.simplecss.specs.Placements.{HasPlacement}
+
+-- Where declarations stand: of which rule's place and which place in it, and which of them.
+abbrev pub Standing : Type 1
+Standing = ℕ → ℕ → Property → Type 0
+
+-- The property is the declaration at place j of the rule at place i, and this rule has a placement on the node.
+pub record IsStated {Node : Type 0} (tree : Tree Node) (n : Node) (rules : List StyleRule) (i j : ℕ) (p : Property) : Type 0 where
+  pub rule : StyleRule
+  pub rule_at : slice_get rules i ≡ Some rule
+  pub takes : HasPlacement tree rule.components n
+  pub declared : slice_get rule.properties j ≡ Some p
+
+-- an important declaration weighs more
+abbrev pub weight : Bool → ℕ
+weight true = 1
+weight false = 0
+
+-- A declaration x at place j of the rule at place i beats y at place l of the rule at place k: x is more important; or as
+-- important and of a later rule; or as important, of the same rule, and later in it.
+pub data Beats (x : Property) (i j : ℕ) (y : Property) (k l : ℕ) : Type 0 where
+  by_importance : weight y.important < weight x.important → Beats x i j y k l
+  by_rule : weight x.important ≡ weight y.important → k < i → Beats x i j y k l
+  by_place : weight x.important ≡ weight y.important → k ≡ i → l < j → Beats x i j y k l
+
+-- The property of the name stands at this place, and no other of the name that stands somewhere beats it there.
+pub record WinsAt (stands : Standing) (name : List ℕ) (i j : ℕ) (p : Property) : Type 0 where
+  pub stated : stands i j p
+  pub named : p.name ≡ name
+  pub unbeaten : (k l : ℕ) (q : Property) → stands k l q → q.name ≡ name → Beats q k l p i j → ⊥
+
+-- none of the name stands anywhere
+abbrev pub NoneStands : Standing → List ℕ → Type 0
+NoneStands stands name = (i j : ℕ) (p : Property) → stands i j p → p.name ≡ name → ⊥
+
+-- what wins, or none where none of the name stands anywhere
+abbrev pub Wins : Standing → List ℕ → Option Property → Type 0
+Wins stands name None = NoneStands stands name
+Wins stands name (Some p) = (i : ℕ) × (j : ℕ) × WinsAt stands name i j p
+
+-- Among the declarations of a name in the rules that have a placement on the node, a winner is one that no other beats.
+abbrev pub IsWinner : {Node : Type 0} → Tree Node → Node → List ℕ → List StyleRule → Property → Type 0
+IsWinner tree n name rules p = Wins (IsStated tree n rules) name (Some p)
+
+-- no rule that has a placement on the node has a declaration of the name
+abbrev pub HasNoWinner : {Node : Type 0} → Tree Node → Node → List ℕ → List StyleRule → Type 0
+HasNoWinner tree n name rules = NoneStands (IsStated tree n rules) name
