@@ -65,6 +65,7 @@ for words, stdin in [
     (["sheet", sheet, other], b""),
     (["match", sheet, tree], b""),
     (["match", sheet, broken], b""),
+    (["style", sheet, tree, "e"], b""),
 ]:
     path = put("stdin", stdin)
     with open(path, "rb") as file:
@@ -99,6 +100,9 @@ for words, status, out, line in [
     (["sheet", sheet, other], 0, "b { e:f; }\na > b { c:d; }\n*[id='x'] { c:d !important; }\n", None),
     (["match", sheet, tree], 0, "1:\n2: 1 2\n3:\n4: 1\n", None),
     (["match", sheet, broken], 1, "", "cssq: tree fault 1 at line 2"),
+    (["style", sheet, tree, "e"], 0, "1:\n2: f\n3:\n4: f\n", None),
+    (["style", sheet, broken, "e"], 1, "", "cssq: tree fault 1 at line 2"),
+    (["style", sheet, tree], 2, "", USAGE),
     (["sheet"], 2, "", USAGE),
     (["selector"], 2, "", USAGE),
     (["selector", "a", "b"], 2, "", USAGE),
@@ -120,7 +124,7 @@ expect(got[0] == 4 and got[2] == ["cssq: cannot read standard input"], f"standar
 # ---- closed and full streams
 
 closed = os.open(os.devnull, os.O_RDONLY)
-for words in (["selector", "a > .b"], ["sheet", sheet], ["match", sheet, tree]):
+for words in (["selector", "a > .b"], ["sheet", sheet], ["match", sheet, tree], ["style", sheet, tree, "e"]):
     with open("/dev/full", "wb") as full:
         got = run(words, stdout=full)
     expect(got[0] == 4 and got[2][-1:] == ["cssq: cannot write"], f"{words} on a full device: {got}")

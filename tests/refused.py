@@ -65,7 +65,7 @@ def sweep(name, words, answers):
     total = 0
     for logger in ("lost", "kept"):
         status, whole, _ = run([logger, *words], 0)
-        expect(status == 0 and "refused" not in whole, f"{words} with ample memory: {status} {whole!r}")
+        expect(status == 0 and not whole.startswith("refused"), f"{words} with ample memory: {status} {whole!r}")
         number = 0
         while True:
             number += 1
@@ -108,6 +108,8 @@ for tree in TREES:
 for text in SHEETS[:3]:
     add("run_match", ["run_match", text, MATCHED[1]], unwritten)
 add("run_match", ["run_match", *MATCHED], unwritten)
+for sheet, tree, name in [("a { c:red !important; c:blue } a { c:green }", "0\ta", "c"), (*MATCHED, "e")]:
+    add("run_style", ["run_style", sheet, tree, name], unwritten)
 
 # After a refused request the sheet is as it was, and the same call then gives all.
 BEFORE, AFTER = "x { y:z; }\n", "x { y:z; }\na { c:d; }\nb { c:d; }\n"

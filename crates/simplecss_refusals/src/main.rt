@@ -2,7 +2,7 @@
 //! refuses the requests for memory that are made between the marks, one after the other.
 #![tactic(auto)]
 
-use cssq::runs::{RunFault, run_match, run_selector, run_sheet};
+use cssq::runs::{RunFault, run_match, run_selector, run_sheet, run_style};
 use cssq::tree::{Page, TreeFault};
 use log::Log;
 use log::sink::{Discard, Memory};
@@ -197,6 +197,12 @@ fn show<R: Log>(rt: &HostRuntime, log: &R, words: &[&str]) -> io::Result<()> {
         ["run_match", text, tree] => {
             begin(rt);
             let outcome = run_match(log, rt.alloc(), text, tree, &mut out);
+            end(rt);
+            show_run(rt, outcome, &out)
+        }
+        ["run_style", text, tree, name] => {
+            begin(rt);
+            let outcome = run_style(log, rt.alloc(), text, tree, name, &mut out);
             end(rt);
             show_run(rt, outcome, &out)
         }
