@@ -1,0 +1,222 @@
+//! Makes one call of the libraries, between two marks on standard error, and shows what it answered. The sweep in `tests/`
+//! refuses the requests for memory that are made between the marks, one after the other.
+#![tactic(auto)]
+
+use cssq::runs::{RunFault, run_match, run_selector, run_sheet, run_style};
+use cssq::tree::{Page, TreeFault};
+use log::Log;
+use log::sink::{Discard, Memory};
+use simplecss::stream::{is_name_char, is_name_start};
+use simplecss::{
+    AttributeOperator, DeclarationTokenizer, Element, Selector, SelectorTokenizer, StyleSheet,
+    Tests, TextPos,
+};
+use std::alloc::AllocError;
+use std::process::ExitCode;
+use std::{env, io};
+
+/// A writer that counts what it is given.
+#[derive(Drop)]
+struct Counted {
+    bytes: usize,
+}
+
+impl io::Write for Counted {
+    fn write(&mut self, buf: &[u8]) -> io::Result<usize> {
+        self.bytes = self.bytes.saturating_add(buf.len());
+        Ok(buf.len())
+    }
+
+    fn flush(&mut self) -> io::Result<()> {
+        Ok(())
+    }
+}
+
+/// Marks that what follows is tried.
+fn begin(rt: &HostRuntime) {
+    let _ = eprint!(rt; "begin");
+}
+
+/// Marks that what came before was tried.
+fn end(rt: &HostRuntime) {
+    let _ = eprint!(rt; "end");
+}
+
+fn show_selector<R: Log>(rt: &HostRuntime, log: &R, text: &str) -> io::Result<()> {
+    begin(rt);
+    let read = Selector::parse(log, rt.alloc(), text);
+    end(rt);
+    match read {
+        Err(_) => println!(rt; "refused"),
+        Ok(None) => println!(rt; "none"),
+        Ok(Some(selector)) => println!(rt; "{selector}"),
+    }
+}
+
+fn show_sheet<R: Log>(rt: &HostRuntime, log: &R, text: &str) -> io::Result<()> {
+    begin(rt);
+    let read = StyleSheet::parse(log, rt.alloc(), text);
+    end(rt);
+    match read {
+        Err(_) => println!(rt; "refused"),
+        Ok(sheet) => println!(rt; "{sheet}"),
+    }
+}
+
+/// Reads a second text into the sheet of a first one. Where that is refused, the sheet is shown as it is, and the second
+/// text is read again.
+fn show_more<R: Log>(rt: &HostRuntime, log: &R, text: &str, more: &str) -> io::Result<()> {
+    let mut sheet = StyleSheet::parse(log, rt.alloc(), text)?;
+    begin(rt);
+    let read = sheet.parse_more(log, rt.alloc(), more);
+    end(rt);
+    if read.is_err() {
+        println!(rt; "refused")?;
+        println!(rt; "{sheet}")?;
+        sheet.parse_more(log, rt.alloc(), more)?;
+    }
+    println!(rt; "{sheet}")
+}
+
+fn show_equality(rt: &HostRuntime, equal: Result<bool, AllocError>) -> io::Result<()> {
+    match equal {
+        Err(_) => println!(rt; "refused"),
+        Ok(true) => println!(rt; "equal"),
+        Ok(false) => println!(rt; "other"),
+    }
+}
+
+/// Copies the sheet of the text, and its rules and their selectors each by itself.
+fn show_copies(rt: &HostRuntime, text: &str) -> io::Result<()> {
+    let sheet = StyleSheet::parse(&Discard, rt.alloc(), text)?;
+    for rule in &sheet.rules {
+        begin(rt);
+        let selector = rule.selector.clone().map(|copy| copy == rule.selector);
+        end(rt);
+        show_equality(rt, selector)?;
+        begin(rt);
+        let copied = rule.clone().map(|copy| copy == *rule);
+        end(rt);
+        show_equality(rt, copied)?;
+    }
+    begin(rt);
+    let copied = sheet.clone();
+    end(rt);
+    let equal = match copied {
+        Ok(copy) => Ok(have_equal_rules(&copy, &sheet)),
+        Err(error) => Err(error),
+    };
+    show_equality(rt, equal)
+}
+
+fn have_equal_rules(a: &StyleSheet<'_>, b: &StyleSheet<'_>) -> bool {
+    a.rules.len() == b.rules.len() && a.rules.iter().zip(b.rules.iter()).all(|(x, y)| *x == *y)
+}
+
+fn show_page(rt: &HostRuntime, text: &str) -> io::Result<()> {
+    begin(rt);
+    let read = Page::read(rt.alloc(), text);
+    end(rt);
+    match read {
+        Err(TreeFault::Memory(line)) => println!(rt; "refused at {line}"),
+        Err(fault) => println!(rt; "fault {} at {}", fault.number(), fault.line()),
+        Ok(page) => println!(rt; "{} elements", page.len()),
+    }
+}
+
+fn show_run(rt: &HostRuntime, outcome: Result<(), RunFault>, out: &Counted) -> io::Result<()> {
+    let bytes = out.bytes;
+    match outcome {
+        Err(RunFault::Memory) => println!(rt; "refused after {bytes} bytes"),
+        Err(fault) => println!(rt; "{fault} after {bytes} bytes"),
+        Ok(()) => println!(rt; "{bytes} bytes"),
+    }
+}
+
+/// Makes the calls that take no memory, on what is there.
+fn show_free(rt: &HostRuntime, text: &str, tree: &str) -> io::Result<()> {
+    let sheet = StyleSheet::parse(&Discard, rt.alloc(), text)?;
+    let page = match Page::read(rt.alloc(), tree) {
+        Ok(page) => page,
+        Err(_) => return println!(rt; "no tree"),
+    };
+    begin(rt);
+    let mut answers = 0usize;
+    for _ in SelectorTokenizer::from(text) {
+        answers = answers.saturating_add(1);
+    }
+    for _ in DeclarationTokenizer::from(text) {
+        answers = answers.saturating_add(1);
+    }
+    for place in 0..page.len() {
+        if let Some(element) = page.node(place) {
+            let _is_root = element.parent_element().is_none();
+            let _is_first = element.prev_sibling_element().is_none();
+            for rule in &sheet.rules {
+                let _is_equal = rule == rule;
+                let _numbers = rule.selector.specificity();
+                let mut tests = Tests::new();
+                if rule.selector.matches(&element)
+                    && rule.selector.matches_counted(&element, &mut tests)
+                {
+                    answers = answers.saturating_add(1);
+                }
+            }
+        }
+    }
+    let _empty = StyleSheet::new(rt.alloc());
+    let _pos = TextPos::new(1, 1);
+    let _names = is_name_start('a') && is_name_char('-');
+    let _asked = AttributeOperator::Contains("a").matches("b a");
+    end(rt);
+    println!(rt; "{answers} answers")
+}
+
+/// Makes the call that the words name, on their texts.
+fn show<R: Log>(rt: &HostRuntime, log: &R, words: &[&str]) -> io::Result<()> {
+    let mut out = Counted { bytes: 0 };
+    match words {
+        ["selector", text] => show_selector(rt, log, text),
+        ["sheet", text] => show_sheet(rt, log, text),
+        ["more", text, more] => show_more(rt, log, text, more),
+        ["copies", text] => show_copies(rt, text),
+        ["page", text] => show_page(rt, text),
+        ["free", text, tree] => show_free(rt, text, tree),
+        ["run_selector", text] => {
+            begin(rt);
+            let outcome = run_selector(log, rt.alloc(), text, &mut out);
+            end(rt);
+            show_run(rt, outcome, &out)
+        }
+        ["run_sheet", texts @ ..] => {
+            begin(rt);
+            let outcome = run_sheet(log, rt.alloc(), texts, &mut out);
+            end(rt);
+            show_run(rt, outcome, &out)
+        }
+        ["run_match", text, tree] => {
+            begin(rt);
+            let outcome = run_match(log, rt.alloc(), text, tree, &mut out);
+            end(rt);
+            show_run(rt, outcome, &out)
+        }
+        ["run_style", text, tree, name] => {
+            begin(rt);
+            let outcome = run_style(log, rt.alloc(), text, tree, name, &mut out);
+            end(rt);
+            show_run(rt, outcome, &out)
+        }
+        _ => println!(rt; "no such call"),
+    }
+}
+
+fn main(rt: HostRuntime) -> Result<ExitCode, io::Error> {
+    let owned: Vec<String> = env::args(&rt)?.skip(1).collect(rt.alloc())?;
+    let words: Vec<&str> = owned.iter().map(|word| word.as_str()).collect(rt.alloc())?;
+    match words.as_slice() {
+        ["kept", others @ ..] => show(&rt, &Memory::new(rt.alloc()), others)?,
+        ["lost", others @ ..] => show(&rt, &Discard, others)?,
+        _ => println!(&rt; "no such logger")?,
+    }
+    Ok(ExitCode::SUCCESS)
+}

@@ -1,0 +1,126 @@
+"""Each request for memory that a call of the libraries makes is refused in turn.
+
+    refused.py CALLS SHIM     CALLS is the built `simplecss_refusals`, SHIM the built tests/refuse.c
+
+A call answers its want of memory where the refused request was its own, and what it answers with ample memory where the
+request was the logger's; nothing else takes its place. Calls that take no memory make no request. Prints a line for each
+call with the number of refused requests, then 'N passed, M failed'; the status is 1 if something failed.
+"""
+import os
+import re
+import subprocess
+import sys
+
+calls, shim = map(os.path.abspath, sys.argv[1:3])
+passed = failed = 0
+
+
+def expect(holds, what):
+    global passed, failed
+    if holds:
+        passed += 1
+    else:
+        failed += 1
+        print("FAILED", what)
+
+
+def run(words, refuse):
+    environment = dict(os.environ)
+    reader, writer = os.pipe()
+    environment.update(LD_PRELOAD=shim, REFUSE=str(refuse), REFUSE_FD=str(writer), REFUSE_MARKED="1")
+    child = subprocess.Popen([calls, *words], env=environment, pass_fds=[writer], stdout=subprocess.PIPE, stderr=subprocess.PIPE, stdin=subprocess.DEVNULL)
+    os.close(writer)
+    out, _ = child.communicate()
+    with os.fdopen(reader, "rb") as counted:
+        requests = counted.read()
+    return child.returncode, out.decode(), requests
+
+
+SHEETS = [
+    "a, b { color:red }",
+    "#x { color:red } a { color:blue }",
+    ":le, b { color:red }",
+    "a, b < c { color:red }",
+    "a /, b { color:red }",
+    "a { }} b { color:red }",
+    "a { } } b { color:red }",
+    "p { font:12px/1.5 serif; color:red } q { color:blue }",
+    "p { color:green; color{;color:maroon} }",
+    "@ a { color:red }",
+    "@media screen { p:before { content: 'Hello'; } } a { color:red }",
+    "#x { a:b }",
+    "a > b { c:d } b { e:f }",
+]
+SELECTORS = ["[x=\"a'][y='b\"]", "[x=\"a\\'b\"]", "[x=\"a'b\"]", "a > .b", "a b > c d + e#f.g:hover", "a < b", ":le"]
+TREES = ["0\ta\n1\tb\n1\tc\n2\tb\n", "1\ta", "0\ta\n2\tb", "0\ta\n\n", "0", "0\ta\tk", "0\ta\tk=1\tk=2", "0\ta\t" + "\t".join(f"k{i}={i}" for i in range(40)) + "\n1\tb"]
+MATCHED = ("a > b { c:d } b { e:f }", "0\ta\n1\tb\n1\tc\n2\tb\n")
+
+def line_limit(tree):
+    """The first faulty line of a tree that has one among TREES, else the number of lines."""
+    return {"1\ta": 0, "0\ta\n2\tb": 1, "0\ta\n\n": 1, "0": 0, "0\ta\tk": 0, "0\ta\tk=1\tk=2": 0}.get(tree, tree.rstrip("\n").count("\n") + 1)
+
+
+def sweep(name, words, answers):
+    """Refuses the requests of a call one by one. `answers(out)` says whether an answer is want of memory."""
+    total = 0
+    for logger in ("lost", "kept"):
+        status, whole, _ = run([logger, *words], 0)
+        expect(status == 0 and not whole.startswith("refused"), f"{words} with ample memory: {status} {whole!r}")
+        number = 0
+        while True:
+            number += 1
+            status, out, requests = run([logger, *words], number)
+            if b"x" not in requests:
+                break
+            total += 1
+            lost = logger == "kept" and out == whole
+            expect(status == 0 and (lost or answers(out, whole)), f"{logger} {words} with request {number} refused: {status} {out!r}")
+            # No answer but the whole one where nothing was lost.
+            expect(logger == "kept" or out != whole or name == "page", f"{words} took no notice of request {number}")
+    return total
+
+
+counts = {}
+
+
+def add(name, words, answers):
+    counts[name] = counts.get(name, 0) + sweep(name, words, answers)
+
+
+def plain(out, whole):
+    return out == "refused\n"
+
+
+def unwritten(out, whole):
+    return out == "refused after 0 bytes\n"
+
+
+for text in SELECTORS:
+    add("Selector::parse", ["selector", text], plain)
+    add("run_selector", ["run_selector", text], unwritten)
+for text in SHEETS:
+    add("StyleSheet::parse", ["sheet", text], plain)
+    add("clone", ["copies", text], lambda out, whole: "other" not in out and out.count("refused") == 1 and len(out.splitlines()) == len(whole.splitlines()))
+    add("run_sheet", ["run_sheet", text, "#x { a:b }"], unwritten)
+for tree in TREES:
+    limit = line_limit(tree)
+    add("Page::read", ["page", tree], lambda out, whole: out == whole or (re.fullmatch(r"refused at \d+\n", out) is not None and 1 <= int(out.split()[2]) <= limit))
+for text in SHEETS[:3]:
+    add("run_match", ["run_match", text, MATCHED[1]], unwritten)
+add("run_match", ["run_match", *MATCHED], unwritten)
+for sheet, tree, name in [("a { c:red !important; c:blue } a { c:green }", "0\ta", "c"), (*MATCHED, "e")]:
+    add("run_style", ["run_style", sheet, tree, name], unwritten)
+
+# After a refused request the sheet is as it was, and the same call then gives all.
+BEFORE, AFTER = "x { y:z; }\n", "x { y:z; }\na { c:d; }\nb { c:d; }\n"
+add("parse_more", ["more", "x { y:z }", "a, b { c:d }"], lambda out, whole: whole == AFTER and out == "refused\n" + BEFORE + AFTER)
+add("parse_more", ["more", "#x { a:b }", "p { c:d } q, r > s { e:f; g:h } @media { } :le { }"], lambda out, whole: out.startswith("refused\n*[id='x'] { a:b; }\n") and out.endswith(whole))
+
+for name, number in counts.items():
+    expect(number > 0, f"{name} makes no request")
+    print(f"{name}: {number} refused requests")
+for text, tree in [MATCHED, ("#a .b:first-child + [c] { d:e !important }", "0\ta\tid=a\n1\tb\tclass=b\n1\tc\tc=\n")]:
+    status, out, requests = run(["lost", "free", text, tree], 1)
+    expect(status == 0 and requests == b"" and "answers" in out, f"calls that take no memory made {len(requests)} requests")
+print(f"{passed} passed, {failed} failed")
+sys.exit(1 if failed else 0)
