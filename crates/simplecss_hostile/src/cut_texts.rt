@@ -50,10 +50,12 @@ fn ends_in_each_way(alloc: Global, text: &str) -> Result<bool, AllocError> {
     let _declarations = declarations.by_ref().count();
     let _selector = Selector::parse(&Discard, alloc, text)?;
     let _sheet = StyleSheet::parse(&Discard, alloc, text)?;
-    Ok(tokens.next().is_none()
-        && tokens.next().is_none()
-        && declarations.next().is_none()
-        && declarations.next().is_none())
+    Ok(
+        tokens.next().is_none()
+            && tokens.next().is_none()
+            && declarations.next().is_none()
+            && declarations.next().is_none(),
+    )
 }
 
 #[test]
