@@ -19,13 +19,13 @@ use crate::{AttributeOperator, PseudoClass};
 ///    value of an attribute ask `AttributeOperator::matches`, which answers `is_as_asked`. They are
 ///    asked often, so mark those that are short `#[inline(always)]`.
 ///
-/// Your `specs/` import these modules, so list both crates in `crates.txt`:
+/// Your `specs/` import these modules of the crate `simplecss`:
 ///
 /// | Module | For |
 /// |---|---|
-/// | `Rattle.simplecss_selector.specs.Trees` | `Tree`, `DepthCountsAncestors`, `SiblingsShareParent` |
-/// | `Rattle.simplecss_selector.specs.Operators` | `is_as_asked` |
-/// | `Rattle.simplecss_text.specs.Components` | `Operator` and `Class`, which the record is asked |
+/// | `Rattle.simplecss.specs.Trees` | `Tree`, `DepthCountsAncestors`, `SiblingsShareParent` |
+/// | `Rattle.simplecss.specs.Operators` | `is_as_asked` |
+/// | `Rattle.simplecss.specs.Components` | `Operator` and `Class`, which the record is asked |
 ///
 /// ```text
 /// pub struct Link<'n> {
@@ -68,8 +68,8 @@ use crate::{AttributeOperator, PseudoClass};
 ///
 /// The record of this tree has `parent (names, 0) = None` and
 /// `parent (names, suc k) = Some (names, k)`, no previous siblings, and `depth (names, k) = k`.
-/// A whole example, with siblings, classes and the proofs of the laws, is `src/row.rt` of this
-/// crate with `specs/Rows.antt`.
+/// A whole example, with siblings, classes and the proofs of the laws, is `tree.rt` of the crate
+/// `cssq`, with its `specs/`; a short one is `row.rt` beside this file, with `specs/Rows.antt`.
 pub trait Element: Drop {
     ghost use Rattle.std.specs.Prelude.{◌≡◌, Option, option_map};
     ghost use Rattle.simplecss_selector.specs.Trees.{Tree, DepthCountsAncestors, SiblingsShareParent};
