@@ -1,0 +1,79 @@
+"""How the time of the program grows with what it reads: each input at a size and at ten times that size.
+
+    cost.py PROGRAM     PROGRAM is the built `cssq`
+
+Prints a line for each input: processor time in milliseconds at both sizes, least of some runs, and their ratio. Time that
+grows no faster than N log N has a ratio of about 10 to 12. Inputs are made by this script; nothing else is needed.
+"""
+import os
+import resource
+import subprocess
+import sys
+import tempfile
+
+program = os.path.abspath(sys.argv[1])
+folder = tempfile.mkdtemp()
+
+
+def put(name, text):
+    path = os.path.join(folder, name)
+    with open(path, "w", encoding="utf-8") as file:
+        file.write(text)
+    return path
+
+
+def milliseconds(words, stdin=None, runs=5):
+    """The least processor time of some runs, and the status."""
+    best, status = float("inf"), 0
+    for _ in range(runs):
+        before = resource.getrusage(resource.RUSAGE_CHILDREN)
+        with open(stdin or os.devnull, "rb") as given:
+            status = subprocess.run([program, *words], stdin=given, stdout=subprocess.DEVNULL, stderr=subprocess.DEVNULL, check=False).returncode
+        after = resource.getrusage(resource.RUSAGE_CHILDREN)
+        spent = after.ru_utime + after.ru_stime - before.ru_utime - before.ru_stime
+        best = min(best, 1000 * spent)
+    return best, status
+
+
+def deep(n):
+    return "".join(f"{depth}\ta\n" for depth in range(n))
+
+
+def chain(n):
+    return " ".join(["a"] * n)
+
+
+def sheet_of(text):
+    return lambda n: (["sheet", put("text.css", text(n))], None)
+
+
+def selector_of(text):
+    return lambda n: ([], put("text", text(n)))
+
+
+def match_of(sheet, tree):
+    return lambda n: (["match", put("text.css", sheet(n)), put("text.tree", tree(n))], None)
+
+
+INPUTS = [
+    ("a selector behind comments", 10_000, selector_of(lambda n: "/**/" * n + "a")),
+    ("comments within a compound", 10_000, selector_of(lambda n: "a" + "/**/" * n + ".b")),
+    ("comments within a gap", 10_000, selector_of(lambda n: "a " + "/**/" * n + "b")),
+    ("a selector of components", 100_000, selector_of(chain)),
+    ("closing braces", 400_000, sheet_of(lambda n: "}" * n + "a { b:c }")),
+    ("opening braces", 400_000, sheet_of(lambda n: "{" * n + "}")),
+    ("a comment", 800_000, sheet_of(lambda n: "/*" + "x" * n + "*/ a { b:c }")),
+    ("a rule set of selectors", 4_000, sheet_of(lambda n: ", ".join(f"a{i}" for i in range(n)) + " { b:c }")),
+    ("a block of declarations", 40_000, sheet_of(lambda n: "a { " + "b:c; " * n + "}")),
+    ("refused rule sets", 50_000, sheet_of(lambda n: "a < b { c:d } " * n)),
+    ("rule sets of one specificity", 20_000, sheet_of(lambda n: "".join(f".c{i} {{ d:e }}\n" for i in range(n)))),
+    ("a line of attributes", 40_000, match_of(lambda n: "a { b:c }", lambda n: "0\ta\t" + "\t".join(f"k{i}=v" for i in range(n)))),
+    ("a chain of elements, and one step", 10_000, match_of(lambda n: "x > a { b:c }", deep)),
+    ("siblings", 50_000, match_of(lambda n: "b + a { b:c }", lambda n: "0\tr\n" + "1\ta\n" * n)),
+]
+
+print(f"{'input':36} {'size':>9} {'ms':>9} {'ten times':>10} {'ms':>9} {'ratio':>6}")
+for name, size, words_of in INPUTS:
+    small, _ = milliseconds(*words_of(size))
+    large, _ = milliseconds(*words_of(10 * size), runs=3)
+    print(f"{name:36} {size:9} {small:9.1f} {10 * size:10} {large:9.1f} {large / max(small, 0.1):6.1f}", flush=True)
