@@ -5,26 +5,20 @@
 Prints a line for each part with what was tried, then 'N passed, M failed'; the status is 1 if something failed.
 """
 import os
-import subprocess
 import sys
 import tempfile
+
+from common import Counts, run as run_refused
 
 program, shim = map(os.path.abspath, sys.argv[1:3])
 USAGE = "usage: cssq [selector TEXT | sheet FILE... | match FILE TREE | style FILE TREE NAME]"
 folder = tempfile.mkdtemp()
-passed = failed = 0
-
-
-def expect(holds, what):
-    global passed, failed
-    if holds:
-        passed += 1
-    else:
-        failed += 1
-        print("FAILED", what)
+checks = Counts()
+expect = checks.expect
 
 
 def put(name, data):
+    """A file of these bytes."""
     path = os.path.join(folder, name)
     with open(path, "wb") as file:
         file.write(data)
@@ -33,18 +27,8 @@ def put(name, data):
 
 def run(words, refuse=0, **streams):
     """Status, output, lines on standard error, and the requests that were counted."""
-    environment = dict(os.environ)
-    reader, writer = os.pipe()
-    environment.update(LD_PRELOAD=shim, REFUSE=str(refuse), REFUSE_FD=str(writer))
-    streams.setdefault("stdin", subprocess.DEVNULL)
-    streams.setdefault("stdout", subprocess.PIPE)
-    streams.setdefault("stderr", subprocess.PIPE)
-    child = subprocess.Popen([program, *words], env=environment, pass_fds=[writer], **streams)
-    os.close(writer)
-    out, err = child.communicate()
-    with os.fdopen(reader, "rb") as counted:
-        requests = counted.read()
-    return child.returncode, out, (err or b"").decode().splitlines(), requests
+    status, out, err, requests = run_refused(program, shim, words, refuse, **streams)
+    return status, out, err.decode().splitlines(), requests
 
 
 sheet = put("a.css", b"a > b { c:d } b { e:f } @x; g < { h:i }")
@@ -92,7 +76,7 @@ print(f"the program: {refused} refused requests")
 
 # ---- what it answers: words, status, output, last line
 
-before = passed
+before = checks.passed
 for words, status, out, line in [
     (["selector", "a > .b"], 0, "a > *[class~='b']\t0,1,1\n", ""),
     (["selector", "a, b"], 0, "a\t0,0,1\n", ""),
@@ -140,6 +124,5 @@ for words in (["selector", "a > .b"], ["sheet", sheet], ["match", sheet, tree], 
 closed_input = os.open(os.devnull, os.O_WRONLY)
 got = run([], stdin=closed_input)
 expect(got[0] == 4 and got[2] == ["cssq: cannot read standard input"], f"a closed standard input: {got}")
-print(f"the program: {passed - before} answers, files and streams")
-print(f"{passed} passed, {failed} failed")
-sys.exit(1 if failed else 0)
+print(f"the program: {checks.passed - before} answers, files and streams")
+sys.exit(checks.end())

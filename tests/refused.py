@@ -8,32 +8,19 @@ call with the number of refused requests, then 'N passed, M failed'; the status 
 """
 import os
 import re
-import subprocess
 import sys
 
+from common import Counts, run as run_refused
+
 calls, shim = map(os.path.abspath, sys.argv[1:3])
-passed = failed = 0
-
-
-def expect(holds, what):
-    global passed, failed
-    if holds:
-        passed += 1
-    else:
-        failed += 1
-        print("FAILED", what)
+checks = Counts()
+expect = checks.expect
 
 
 def run(words, refuse):
-    environment = dict(os.environ)
-    reader, writer = os.pipe()
-    environment.update(LD_PRELOAD=shim, REFUSE=str(refuse), REFUSE_FD=str(writer), REFUSE_MARKED="1")
-    child = subprocess.Popen([calls, *words], env=environment, pass_fds=[writer], stdout=subprocess.PIPE, stderr=subprocess.PIPE, stdin=subprocess.DEVNULL)
-    os.close(writer)
-    out, _ = child.communicate()
-    with os.fdopen(reader, "rb") as counted:
-        requests = counted.read()
-    return child.returncode, out.decode(), requests
+    """Status, output, and the requests that were counted between the marks."""
+    status, out, _, requests = run_refused(calls, shim, words, refuse, marked=True)
+    return status, out.decode(), requests
 
 
 SHEETS = [
@@ -122,5 +109,4 @@ for name, number in counts.items():
 for text, tree in [MATCHED, ("#a .b:first-child + [c] { d:e !important }", "0\ta\tid=a\n1\tb\tclass=b\n1\tc\tc=\n")]:
     status, out, requests = run(["lost", "free", text, tree], 1)
     expect(status == 0 and requests == b"" and "answers" in out, f"calls that take no memory made {len(requests)} requests")
-print(f"{passed} passed, {failed} failed")
-sys.exit(1 if failed else 0)
+sys.exit(checks.end())

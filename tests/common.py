@@ -1,0 +1,38 @@
+"""What the scripts of this folder share: counted expectations, and runs in which one request for memory is refused."""
+import os
+import subprocess
+
+
+class Counts:
+    """How many expectations held, and how many did not."""
+
+    def __init__(self):
+        self.passed = self.failed = 0
+
+    def expect(self, holds, what):
+        """Counts an expectation, and tells it where it does not hold."""
+        if holds:
+            self.passed += 1
+        else:
+            self.failed += 1
+            print("FAILED", what)
+
+    def end(self):
+        """Prints the last line, and gives the exit status."""
+        print(f"{self.passed} passed, {self.failed} failed")
+        return 1 if self.failed else 0
+
+
+def run(program, shim, words, refuse, marked=False, **streams):
+    """Runs a program with the request of this number refused, 0 for none. Gives its status, what it wrote to standard output
+    and to standard error, and a byte for each request that was counted, `x` for the refused one."""
+    environment = dict(os.environ)
+    reader, writer = os.pipe()
+    environment.update(LD_PRELOAD=shim, REFUSE=str(refuse), REFUSE_FD=str(writer), REFUSE_MARKED=str(int(marked)))
+    streams = {"stdin": subprocess.DEVNULL, "stdout": subprocess.PIPE, "stderr": subprocess.PIPE, **streams}
+    child = subprocess.Popen([program, *words], env=environment, pass_fds=[writer], **streams)
+    os.close(writer)
+    out, err = child.communicate()
+    with os.fdopen(reader, "rb") as counted:
+        requests = counted.read()
+    return child.returncode, out, err or b"", requests
