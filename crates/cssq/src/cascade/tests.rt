@@ -50,7 +50,7 @@ fn wins_by_place_in_an_edited_sheet(rt: HostRuntime) -> Result<(), Fail> {
     let tree = "0\ta\tclass=x";
     let mut sheet = sheet_of(rt.alloc(), "a { c:red } .x { c:blue }")?;
     assert!(rt; wins(rt.alloc(), &sheet, tree, Some(("blue", false)))?);
-    sheet.rules.swap(0, 1);
+    sheet.rules.reverse();
     assert!(rt; wins(rt.alloc(), &sheet, tree, Some(("red", false)))?);
     Ok(())
 }
