@@ -1,0 +1,6 @@
+pub mod Adding
+pub mod LastPlaces
+pub mod Following
+pub mod Chaining
+pub mod Candidates
+pub mod Keeping
