@@ -1,21 +1,22 @@
 -- The places of the selectors whose key an element has.
 use Rattle.std.proofs.Common.{◌≡◌, ℕ, ◌<◌, ◌↔◌, ◌⊎◌, inl, inr, List, [], Option, None, Some, IsTrue, length, get_or, refl, sym, ap, ◌∙◌, subst, arith}
-use Rattle.std.specs.List.{All, Contains}
+use Rattle.std.specs.List.{All, Contains, sum_by, range_with_len}
 use Rattle.std.specs.List.Sorted.{IsStrictlyIncreasing}
 use Rattle.std.proofs.lemmas.List.{length-map}
 use Rattle.std.proofs.lemmas.List.Elements.{Contains-get_or}
 use Rattle.simplecss.specs.Components.{Component}
-use Rattle.simplecss.specs.Keys.{Key, has_key}
+use Rattle.simplecss.specs.Keys.{Key, key_of, has_key}
 use Rattle.simplecss.specs.Placements.{HasPlacement}
 use Rattle.simplecss.specs.Trees.{Tree}
 use Rattle.simplecss.proofs.KeyLemmas.{key_needed}
 use Rattle.simplecss_index.specs.Chains.{selectors_of, IsLastBefore, AreChained}
 use Rattle.simplecss_index.specs.Lasts.{last_for, KeyLeads}
-use Rattle.simplecss_index.specs.Matching.{AreMatches, AreCandidates}
+use Rattle.simplecss_index.specs.Matching.{AreMatches, AreCandidates, keyed_for}
 use Rattle.simplecss_index.specs.Places.{selector_at, key_at, Adds}
 use Rattle.simplecss_index.specs.declared.index.Link.{Link}
 use Rattle.simplecss_index.specs.declared.lasts.Lasts.{Lasts}
 use Rattle.simplecss_index.proofs.Adding.{contains_none, added}
+use Rattle.simplecss_index.proofs.Ascending.{places_are, sum_of_values, values_at}
 use Rattle.simplecss_index.proofs.Following.{Behind}
 
 -- each key leads to the last of all selectors with it
@@ -90,3 +91,9 @@ are_matches tree n selectors candidates final are up kept = record {
 
 pub candidate_within : {Node : Type 0} (tree : Tree Node) (n : Node) (selectors : List (List Component)) (candidates : List ℕ) → AreCandidates tree n selectors candidates → All (λ place. place < length selectors) candidates
 candidate_within tree n selectors candidates are k d lt = ((are.exactly (get_or candidates k d)).0 (Contains-get_or candidates k d lt)).0
+
+-- a sum over the candidates is one over the selectors whose key the element has
+pub sum_of_candidates : {Node : Type 0} (tree : Tree Node) (n : Node) (selectors : List (List Component)) (candidates : List ℕ) (cost : List Component → ℕ) → AreCandidates tree n selectors candidates → sum_by (λ place. cost (selector_at selectors place)) candidates ≡ sum_by cost (keyed_for tree n selectors)
+sum_of_candidates tree n selectors candidates cost are =
+    let all = range_with_len 0 (length selectors) in
+    ap (sum_by (λ place. cost (selector_at selectors place))) (places_are (λ place. has_key tree n (key_at selectors place)) (length selectors) candidates are) ∙ sum_of_values (selector_at selectors) (λ selector. has_key tree n (key_of selector)) cost all ∙ ap (λ ss. sum_by cost (keyed_for tree n ss)) (values_at selectors [])

@@ -1,11 +1,12 @@
 -- The places that are kept of a list.
 use Rattle.std.proofs.Common.{◌≡◌, ◌≢◌, ℕ, ◌+◌, ◌<◌, ◌≤◌, ◌↔◌, ◌⊎◌, inl, inr, List, [], ◌∷◌, ◌++◌, length, map, take, drop, get_or, set, refl, sym, ap, ◌∙◌, subst, arith, length-append, get_or-set_other}
-use Rattle.std.specs.List.{All, Contains}
+use Rattle.std.specs.List.{All, Contains, sum_by}
 use Rattle.std.specs.List.Sorted.{IsStrictlyIncreasing}
 use Rattle.std.proofs.Math.Seq.{get_or-append_seam, take-append_seam}
 use Rattle.std.proofs.lemmas.Grind.{common_steps}
 use Rattle.std.proofs.lemmas.List.{get_or-map, get_or_read, take_more, take_more_set, take_all, length-take, get_or-take, get_or_append_left}
 use Rattle.std.proofs.lemmas.List.Elements.{Contains-get_or, Contains-append_left, Contains-push, Contains-push_cases}
+use Rattle.std.proofs.lemmas.List.Sums.{sum_by_more}
 use Rattle.std.proofs.lemmas.List.Kept.{AllPairs-from_increasing}
 use Rattle.simplecss_index.proofs.Adding.{contains_none}
 
@@ -134,6 +135,13 @@ module _ {V S : Type 0} (f : V → List S) (IsMet : List S → Type 0) (vs : Lis
 
     pub keeps_unmet : (IsMet (f (get_or vs (get_or now i 0) v)) → ⊥) → Keeps Met places now kept (i + 1)
     keeps_unmet h = keep_no Met places now kept i (get_or now i 0) before lt still (λ x. h (subst IsMet at x))
+
+    -- and it was asked
+    pub asked_more : (cost : List S → ℕ) (old tests new : ℕ) → tests ≤ old + sum_by (λ place. cost (get_or (map f vs) place [])) (take i places) → new ≤ tests + cost (f (get_or vs (get_or now i 0) v)) → new ≤ old + sum_by (λ place. cost (get_or (map f vs) place [])) (take (i + 1) places)
+    asked_more cost old tests new so_far one =
+        let total : sum_by (λ place. cost (get_or (map f vs) place [])) (take (i + 1) places) ≡ sum_by (λ place. cost (get_or (map f vs) place [])) (take i places) + cost (get_or (map f vs) (get_or places i 0) []) = sum_by_more (λ place. cost (get_or (map f vs) place [])) places i 0 lt in
+        let last : cost (get_or (map f vs) (get_or places i 0) []) ≡ cost (f (get_or vs (get_or now i 0) v)) = ap (λ place. cost (get_or (map f vs) place [])) (sym here) ∙ ap cost at in
+        omega (arith, so_far, one, total, last)
 
 -- what a slice of a vector's items left there, if it is as long as before
 pub written_back : {V : Type 0} (old new : List V) (n : ℕ) → n ≡ length old → length new ≡ length old → take n (new ++ drop (length new) old) ≡ new

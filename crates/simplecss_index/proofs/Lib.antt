@@ -1,4 +1,5 @@
 pub mod Adding
+pub mod Ascending
 pub mod LastPlaces
 pub mod Following
 pub mod Chaining

@@ -1,6 +1,7 @@
 //! The index.
-ghost use Rattle.std.specs.Prelude.{◌≡◌, IfOk, OnOk, map};
-ghost use Rattle.simplecss_index.specs.Matching.{AreMatches};
+ghost use Rattle.std.specs.Prelude.{◌≡◌, ◌+◌, ◌≤◌, [], IfOk, OnOk, OnErr, map};
+ghost use Rattle.std.specs.List.{sum_by};
+ghost use Rattle.simplecss_index.specs.Matching.{AreMatches, most_tests, keyed_for};
 
 use crate::keep::keep_matching;
 use crate::lasts::Lasts;
@@ -75,8 +76,9 @@ impl<'a> RuleIndex<'a> {
     /// The places of the rules that match the element, in order: what asking each rule would give. The rules are those that
     /// the index was made of.
     ///
-    /// What stood in `places` is dropped, and what it has grown to is all the memory that the call takes: so many places as
-    /// there are rules and words in the element's class, at most, and three more. The error is that its growth was refused.
+    /// What stood in `places` is dropped, and what `places` grows by is all the memory that the call takes: at most so many
+    /// places as there are rules, and words in the element's class, and three more. Once it has grown, further calls take
+    /// none. The error is that the growth was refused.
     pub fn matching<E: Keyed>(
         &self,
         rules: &[Rule<'a>],
@@ -84,12 +86,13 @@ impl<'a> RuleIndex<'a> {
         places: &mut Vec<usize>,
     ) -> Result<(), AllocError>
         requires { self.now ≡ map (λ rule. rule.selector) rules.now }
-        ensures { OnOk result (AreMatches E.tree (E.node element.now) self.now places.new.items) }
+        ensures matches { OnOk result (AreMatches E.tree (E.node element.now) self.now places.new.items) }
+        ensures err { OnErr result (places.new.items ≡ []) }
     {
         self.matching_counted(rules, element, places, &mut Tests::new())
     }
 
-    /// `matching`, with a count of the tests that were made.
+    /// `matching`, with a count of the tests that were made. No rule is asked whose key the element has not.
     pub fn matching_counted<E: Keyed>(
         &self,
         rules: &[Rule<'a>],
@@ -98,9 +101,16 @@ impl<'a> RuleIndex<'a> {
         tests: &mut Tests,
     ) -> Result<(), AllocError>
         requires { self.now ≡ map (λ rule. rule.selector) rules.now }
-        ensures { OnOk result (AreMatches E.tree (E.node element.now) self.now places.new.items) }
+        ensures matches { OnOk result (AreMatches E.tree (E.node element.now) self.now places.new.items) }
+        ensures at_most { tests.new ≤ tests.old + sum_by (most_tests E.tree (E.node element.now))
+            (keyed_for E.tree (E.node element.now) self.now) }
+        ensures err { OnErr result (places.new.items ≡ []) }
+        ensures untested { OnErr result (tests.new ≡ tests.old) }
     {
-        self.candidates(element, places)?;
+        if let Err(error) = self.candidates(element, places) {
+            places.clear();
+            return Err(error);
+        }
         let kept = keep_matching(rules, element, places, tests);
         places.truncate(kept);
         Ok(())
