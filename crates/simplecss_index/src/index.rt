@@ -76,9 +76,9 @@ impl<'a> RuleIndex<'a> {
     /// The places of the rules that match the element, in order: what asking each rule would give. The rules are those that
     /// the index was made of.
     ///
-    /// What stood in `places` is dropped, and what `places` grows by is all the memory that the call takes: at most so many
-    /// places as there are rules, and words in the element's class, and three more. Once it has grown, further calls take
-    /// none. The error is that the growth was refused.
+    /// What stood in `places` is dropped, and what it grows by is all the memory that the call takes: it never holds more
+    /// places than there are rules, or than words in the element's class and three. Once it has grown, further calls take
+    /// none. The error is that a growth was refused.
     pub fn matching<E: Keyed>(
         &self,
         rules: &[Rule<'a>],
