@@ -3,7 +3,6 @@ use Rattle.std.specs.Prelude.{ℕ, zero, suc, ◌+◌, List, [], false, Option, 
 use Rattle.std.specs.Borrow.{Bor}
 use Rattle.std.specs.List.{slice_get}
 use Rattle.std.specs.Option.{option_map, option_map_or}
-use Rattle.simplecss.specs.Components.{Operator, Class}
 use Rattle.simplecss.specs.Keys.{is_value_as_asked}
 use Rattle.simplecss.specs.Trees.{Tree, DepthCountsAncestors, SiblingsShareParent}
 

@@ -109,7 +109,8 @@ fn what_an_index_finds(rt: HostRuntime) -> Result<(), Fail> {
     Ok(())
 }
 
-/// Rules of all kinds of keys, some with the same key, and some of which ask for a parent or a class besides.
+/// Rules of all kinds of keys, some with the same key, and some of which ask for a parent or a
+/// class besides.
 const SHEET: &str =
     "*{n:1} a{n:2} p{n:3} .b{n:4} .c{n:5} #x{n:6} #y{n:7} p a{n:8} p>a{n:9} .b a{n:10} .b .c{n:11} \
     a.b{n:12} a.c.b{n:13} #x.b{n:14} a#x{n:15} [id=x]{n:16} [class='b c']{n:17} [class~='']{n:18} p *{n:19} \
@@ -176,7 +177,8 @@ fn repeated(alloc: Global, text: &str, count: usize) -> Result<String, AllocErro
     Ok(all)
 }
 
-/// A hundred times the class of a hundred rules: the places have room for words and rules, and not for each pair of them.
+/// A hundred times the class of a hundred rules: the places have room for words and rules, and not
+/// for each pair of them.
 #[test]
 fn a_repeated_class_takes_little_memory(rt: HostRuntime) -> Result<(), Fail> {
     let alloc = rt.alloc();
