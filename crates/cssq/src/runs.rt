@@ -164,21 +164,6 @@ pub fn run_selector<R: Log, W: Write>(
     write_out(out, line.as_bytes())
 }
 
-/// The sheet of all the texts, read in turn.
-fn read_sheet<'a, R: Log>(
-    rt: &R,
-    alloc: Global,
-    texts: &[&'a str],
-) -> Result<StyleSheet<'a>, AllocError>
-    ensures { IfOk result (λ read. rules_of read.rules.items ≡ sheet this_edition (map (λ text. text.now) texts.now)) }
-{
-    let mut sheet = StyleSheet::new(alloc);
-    for text in texts {
-        sheet.parse_more(rt, alloc, text)?;
-    }
-    Ok(sheet)
-}
-
 /// The printed sheet, and a newline where it has a rule.
 fn sheet_text(alloc: Global, sheet: &StyleSheet<'_>) -> Result<String, AllocError>
     ensures { IfOk result (λ text. string_bytes text ≡ sheet_output (rules_of sheet.now.rules.items)) }
@@ -193,6 +178,7 @@ fn sheet_text(alloc: Global, sheet: &StyleSheet<'_>) -> Result<String, AllocErro
 ///
 /// The whole output is built first: after `Memory` nothing was written. After `Output` a beginning of it was, and never all
 /// of it. There is no other fault.
+#[tactic(auto, using(crate::proofs::Written::runs_written))]
 pub fn run_sheet<R: Log, W: Write>(
     rt: &R,
     alloc: Global,
@@ -201,7 +187,7 @@ pub fn run_sheet<R: Log, W: Write>(
 ) -> Result<(), RunFault>
     ensures { Runs (IsSheetRun (map (λ text. text.now) texts.now)) result (W.contents out.old) (W.contents out.new) }
 {
-    let sheet = read_sheet(rt, alloc, texts)?;
+    let sheet = StyleSheet::parse_all(rt, alloc, texts)?;
     let text = sheet_text(alloc, &sheet)?;
     write_out(out, text.as_bytes())
 }
@@ -243,6 +229,7 @@ fn match_text(alloc: Global, rules: &[Rule<'_>], page: &Page<'_>) -> Result<Stri
 ///
 /// The sheet is read first, then the tree, and then the whole output is built: after `Tree` and `Memory` nothing was written.
 /// After `Output` a beginning of it was, and never all of it. `Refused` does not come.
+#[tactic(auto, using(crate::proofs::Written::runs_written))]
 pub fn run_match<R: Log, W: Write>(
     rt: &R,
     alloc: Global,
@@ -252,7 +239,7 @@ pub fn run_match<R: Log, W: Write>(
 ) -> Result<(), RunFault>
     ensures { Runs (IsMatchRun sheet.now tree.now) result (W.contents out.old) (W.contents out.new) }
 {
-    let sheet = read_sheet(rt, alloc, &[sheet])?;
+    let sheet = StyleSheet::parse(rt, alloc, sheet)?;
     let page = Page::read(alloc, tree)?;
     let text = match_text(alloc, sheet.rules.as_slice(), &page)?;
     write_out(out, text.as_bytes())
@@ -301,6 +288,7 @@ fn style_text(
 ///
 /// The sheet is read first, then the tree, and then the whole output is built: after `Tree` and `Memory` nothing was written.
 /// After `Output` a beginning of it was, and never all of it. `Refused` does not come.
+#[tactic(auto, using(crate::proofs::Written::runs_written))]
 pub fn run_style<R: Log, W: Write>(
     rt: &R,
     alloc: Global,
@@ -311,7 +299,7 @@ pub fn run_style<R: Log, W: Write>(
 ) -> Result<(), RunFault>
     ensures { Runs (IsStyleRun sheet.now tree.now name.now) result (W.contents out.old) (W.contents out.new) }
 {
-    let sheet = read_sheet(rt, alloc, &[sheet])?;
+    let sheet = StyleSheet::parse(rt, alloc, sheet)?;
     let page = Page::read(alloc, tree)?;
     let text = style_text(alloc, &sheet, &page, name)?;
     write_out(out, text.as_bytes())
