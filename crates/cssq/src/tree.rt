@@ -11,7 +11,7 @@ ghost use Rattle.cssq.specs.Lines.{depths, AreLinked, IsToldOf, Says};
 mod entry;
 
 use entry::Entry;
-use simplecss::{AttributeOperator, Element, PseudoClass};
+use simplecss::{AttributeOperator, Element, Keyed, PseudoClass};
 use std::alloc::{AllocError, Global};
 use std::collections::BTreeSet;
 use std::marker::Model;
@@ -495,6 +495,23 @@ impl<'p, 't> Element for Node<'p, 't> {
             PseudoClass::FirstChild => self.page.previous(self.place).is_none(),
             _ => false,
         }
+    }
+}
+
+impl<'p, 't> Keyed for Node<'p, 't> {
+    #[inline(always)]
+    fn local_name(&self) -> &str {
+        self.page.name(self.place)
+    }
+
+    #[inline(always)]
+    fn id_value(&self) -> Option<&str> {
+        self.page.attribute(self.place, "id")
+    }
+
+    #[inline(always)]
+    fn class_value(&self) -> Option<&str> {
+        self.page.attribute(self.place, "class")
     }
 }
 
