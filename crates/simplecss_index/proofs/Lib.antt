@@ -1,0 +1,7 @@
+pub mod Adding
+pub mod Ascending
+pub mod LastPlaces
+pub mod Following
+pub mod Chaining
+pub mod Candidates
+pub mod Keeping

@@ -1,0 +1,4 @@
+pub mod Places
+pub mod Matching
+pub mod Chains
+pub mod Lasts
