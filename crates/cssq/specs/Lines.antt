@@ -1,5 +1,5 @@
 -- The lines that a page keeps, and how each is tied to others.
-use Rattle.std.specs.Prelude.{◌≡◌, ℕ, List, [], map, Option, None, Some}
+use Rattle.std.specs.Prelude.{◌≡◌, ℕ, List, [], map, Some}
 use Rattle.std.specs.List.{slice_get}
 use Rattle.cssq.specs.declared.tree.entry.Entry.{Entry}
 use Rattle.cssq.specs.declared.tree.Line.{Line}
