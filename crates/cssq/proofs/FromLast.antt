@@ -225,11 +225,6 @@ module _ {A : Type 0} (f : A → Property) (stands : Standing) (name : List ℕ)
   winner_none None wins = (λ _. wins, λ _. refl)
   winner_none (Some d) wins = (λ e. absurd (cc), λ none. absurd (none wins.0 wins.1 (f d) wins.2.stated wins.2.named))
 
-  -- the two clauses of an answer say what wins
-  pub winner_known : (r : Option A) → IfSome r (λ d. Wins stands name (Some (f d))) → IsNone r ↔ NoneStands stands name → Wins stands name (option_map f r)
-  winner_known None found none = none.0 refl
-  winner_known (Some d) found none = found
-
 -- a rule that was read from its place
 pub rule_read : (rules : List Rule) (k : ℕ) (r : Rule) → k < length rules → r ≡ get_or rules k r → slice_get (rules_of rules) k ≡ Some (rule_of r)
 rule_read rules k r within is = slice_get-map rule_of rules k ∙ ap (option_map rule_of) (slice_get_read rules (length rules) k r refl within is)

@@ -111,7 +111,8 @@ pub(crate) fn winning_by<'a, E: Keyed>(
     places: &mut Vec<usize>,
 ) -> Result<Option<Declaration<'a>>, AllocError>
     requires { index.now ≡ map (λ rule. rule.selector) rules.now }
-    ensures { IfOk result (λ winner. Wins (IsStated E.tree (E.node element.now) (rules_of rules.now)) name.now (option_map property_of winner)) }
+    ensures { IfOk result (λ winner.
+        Wins (IsStated E.tree (E.node element.now) (rules_of rules.now)) name.now (option_map property_of winner)) }
 {
     index.matching(rules, element, places)?;
     let places = places.as_slice();

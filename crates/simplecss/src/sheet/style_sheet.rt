@@ -54,11 +54,7 @@ impl<'a> StyleSheet<'a> {
     /// The style sheet of all these texts, read in turn: the one that [`StyleSheet::parse_more`] gives of them one after
     /// another, but that its rules are put in order once, so that many short texts take no more time than a long one.
     /// Warnings of what is passed over go to `rt`.
-    pub fn parse_all<R: Log>(
-        rt: &R,
-        alloc: Global,
-        texts: &[&'a str],
-    ) -> Result<Self, AllocError>
+    pub fn parse_all<R: Log>(rt: &R, alloc: Global, texts: &[&'a str]) -> Result<Self, AllocError>
         ensures sheet { IfOk result
             (λ s. rules_of s.rules.items ≡ sheet this_edition (map (λ text. text.now) texts.now)) }
         ensures filled { IfOk result (λ s. AllPass has_property (rules_of s.rules.items)) }
