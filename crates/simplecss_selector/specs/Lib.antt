@@ -18,3 +18,5 @@ pub mod Given
 pub mod Tokenizer
 pub mod Announced
 pub mod Filled
+pub mod Keys
+pub mod KeyValues

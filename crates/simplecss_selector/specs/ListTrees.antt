@@ -23,17 +23,25 @@ earlier i None = None
 earlier i (Some p) = if nat_lt p i then Some p else None
 
 -- The parent of a place: the one that is named, where it stands before.
+abbrev pub parent_by : (ℕ → Option ℕ) → ℕ → Option ℕ
+parent_by named i = earlier i (named i)
+
+-- the parent of a place in a list
 abbrev pub parent_place : {Rows : Type 0} → ListOf Rows → Rows → ℕ → Option ℕ
-parent_place list rows i = earlier i (list.parent rows i)
+parent_place list rows i = parent_by (list.parent rows) i
 
 -- a place, where its parent is this one
-abbrev pub with_parent : {Rows : Type 0} → ListOf Rows → Rows → Option ℕ → Option ℕ → Option ℕ
-with_parent list rows parent None = None
-with_parent list rows parent (Some s) = if option_eq nat_eq (parent_place list rows s) parent then Some s else None
+abbrev pub with_parent : (ℕ → Option ℕ) → Option ℕ → Option ℕ → Option ℕ
+with_parent named parent None = None
+with_parent named parent (Some s) = if option_eq nat_eq (parent_by named s) parent then Some s else None
 
 -- The previous sibling of a place: the one that is named, where it stands before and has the same parent.
+abbrev pub sibling_by : (ℕ → Option ℕ) → (ℕ → Option ℕ) → ℕ → Option ℕ
+sibling_by named previous i = with_parent named (parent_by named i) (earlier i (previous i))
+
+-- the previous sibling of a place in a list
 abbrev pub sibling_place : {Rows : Type 0} → ListOf Rows → Rows → ℕ → Option ℕ
-sibling_place list rows i = with_parent list rows (parent_place list rows i) (earlier i (list.previous_sibling rows i))
+sibling_place list rows i = sibling_by (list.parent rows) (list.previous_sibling rows) i
 
 -- a parent, if there is one, and what stands above it
 abbrev pub with_those_above : (ℕ → List ℕ) → Option ℕ → List ℕ
@@ -45,9 +53,10 @@ abbrev pub ancestors_within : (ℕ → Option ℕ) → ℕ → ℕ → List ℕ
 ancestors_within parent zero i = []
 ancestors_within parent (suc steps) i = with_those_above (ancestors_within parent steps) (parent i)
 
--- The ancestors of a place, the nearest first. Each stands before the one below it, so that no more steps lead up than places.
-abbrev pub ancestors : {Rows : Type 0} → ListOf Rows → Rows → ℕ → List ℕ
-ancestors list rows i = ancestors_within (parent_place list rows) (suc i) i
+-- The ancestors of a place, the nearest first. Each stands before the one below it, so that no more
+-- steps lead up than places.
+abbrev pub ancestors : (ℕ → Option ℕ) → ℕ → List ℕ
+ancestors named i = ancestors_within (parent_by named) (suc i) i
 
 -- the place among the same rows
 abbrev pub spot : {Rows : Type 0} → Rows → ℕ → Rows × ℕ
@@ -58,7 +67,7 @@ abbrev pub list_tree : {Rows : Type 0} → ListOf Rows → Tree (Rows × ℕ)
 list_tree list = record {
   parent = λ n. option_map (spot n.0) (parent_place list n.0 n.1);
   previous_sibling = λ n. option_map (spot n.0) (sibling_place list n.0 n.1);
-  depth = λ n. length (ancestors list n.0 n.1);
+  depth = λ n. length (ancestors (list.parent n.0) n.1);
   is_named = λ n. list.is_named n.0 n.1;
   has_attribute = λ n. list.has_attribute n.0 n.1;
   is_in_class = λ n. list.is_in_class n.0 n.1;
@@ -87,18 +96,18 @@ module _ (parent : ℕ → Option ℕ) (before : (i : ℕ) → IfSome (parent i)
   climbed i None lt = refl
   climbed i (Some p) lt = ap (λ ps. p ∷ ps) (enough i (suc p) p lt (omega arith))
 
-module _ {Rows : Type 0} (list : ListOf Rows) where
-  -- The ancestors are the parent and its ancestors.
-  pub ancestors_step : (rows : Rows) (i : ℕ) → ancestors list rows i ≡ with_those_above (ancestors list rows) (parent_place list rows i)
-  ancestors_step rows i = climbed (parent_place list rows) (λ j. earlier_before j (list.parent rows j)) i (parent_place list rows i) (earlier_before i (list.parent rows i))
+-- The ancestors are the parent and its ancestors.
+pub ancestors_step : (named : ℕ → Option ℕ) (i : ℕ) → ancestors named i ≡ with_those_above (ancestors named) (parent_by named i)
+ancestors_step named i = climbed (parent_by named) (λ j. earlier_before j (named j)) i (parent_by named i) (earlier_before i (named i))
 
-  counted : (rows : Rows) (i : ℕ) (r : Option ℕ) → ancestors list rows i ≡ with_those_above (ancestors list rows) r → MatchOption (option_map (spot rows) r) ((list_tree list).depth (rows, i) ≡ 0) (λ s. (list_tree list).depth (rows, i) ≡ (list_tree list).depth s + 1)
+module _ {Rows : Type 0} (list : ListOf Rows) where
+  counted : (rows : Rows) (i : ℕ) (r : Option ℕ) → ancestors (list.parent rows) i ≡ with_those_above (ancestors (list.parent rows)) r → MatchOption (option_map (spot rows) r) ((list_tree list).depth (rows, i) ≡ 0) (λ s. (list_tree list).depth (rows, i) ≡ (list_tree list).depth s + 1)
   counted rows i None is = ap length is
   counted rows i (Some p) is = ap length is ∙ omega arith
 
   -- The depth in a tree of lists counts the ancestors.
   pub list_counts_ancestors : DepthCountsAncestors (list_tree list)
-  list_counts_ancestors n = counted n.0 n.1 (parent_place list n.0 n.1) (ancestors_step n.0 n.1)
+  list_counts_ancestors n = counted n.0 n.1 (parent_place list n.0 n.1) (ancestors_step (list.parent n.0) n.1)
 
   same_place : (r s : Option ℕ) → option_eq nat_eq r s ≡ true → r ≡ s
   same_place None None is = refl
@@ -110,7 +119,7 @@ module _ {Rows : Type 0} (list : ListOf Rows) where
   kept_sharing rows parent s true is = ap (option_map (spot rows)) (same_place (parent_place list rows s) parent is)
   kept_sharing rows parent s false is = tt
 
-  sharing : (rows : Rows) (parent r : Option ℕ) → IfSome (option_map (spot rows) (with_parent list rows parent r)) (λ n. option_map (spot n.0) (parent_place list n.0 n.1) ≡ option_map (spot rows) parent)
+  sharing : (rows : Rows) (parent r : Option ℕ) → IfSome (option_map (spot rows) (with_parent (list.parent rows) parent r)) (λ n. option_map (spot n.0) (parent_place list n.0 n.1) ≡ option_map (spot rows) parent)
   sharing rows parent None = tt
   sharing rows parent (Some s) = kept_sharing rows parent s (option_eq nat_eq (parent_place list rows s) parent) refl
 
