@@ -1,23 +1,30 @@
 -- What entries say of last children, where one more stands behind them.
-use Rattle.std.proofs.Common.{◌≡◌, ◌≢◌, ℕ, zero, suc, ◌<◌, Bool, true, false, cond, List, [], ◌∷◌, ◌++◌, length, map, get_or, set, Option, None, Some, refl, sym, ap, ◌∙◌, subst, arith}
+use Rattle.std.proofs.Common.{◌≡◌, ◌≢◌, ℕ, zero, suc, ◌<◌, Bool, true, false, List, [], ◌∷◌, ◌++◌, length, map, get_or, set, Option, None, Some, refl, sym, ap, ◌∙◌, arith}
 use Rattle.std.specs.Prelude.{nat_eq, if◌then◌else◌}
 use Rattle.std.specs.Option.{option_eq}
 use Rattle.std.proofs.Math.Seq.{map-set_same}
-use Rattle.std.proofs.lemmas.List.{get_or-set_same, get_or-set_other, map-set, map-append, length-map, length-append}
+use Rattle.std.proofs.lemmas.Simd.{map-map}
+use Rattle.std.proofs.lemmas.List.{get_or-set_same, get_or-set_other, map-set, map-append, length-map, get_or-map}
 use Rattle.std.proofs.lemmas.Bool.Decides.{nat_tests}
 use Rattle.simplecss_tree.specs.declared.tree.Entry.{Entry}
-use Rattle.simplecss_tree.specs.Rows.{Row, row_of, last_child, KnowsLast}
+use Rattle.simplecss_tree.specs.Rows.{Row, row_of, last_naming, last_child, nobody, KnowsLast}
 
 later : (b : Bool) (k : ℕ) (r : Option ℕ) (c : Bool) → elim (if b then Some k else r) [ Some i ↦ Some (suc i) | None ↦ (if c then Some 0 else None) ] ≡ (if b then Some (suc k) else elim r [ Some i ↦ Some (suc i) | None ↦ (if c then Some 0 else None) ])
 later true k r c = refl
 later false k r c = refl
 
+last_naming-append : (parents : List (Option ℕ)) (named parent : Option ℕ) → last_naming (parents ++ named ∷ []) parent ≡ (if option_eq nat_eq named parent then Some (length parents) else last_naming parents parent)
+last_naming-append [] named parent = refl
+last_naming-append (p ∷ parents) named parent =
+    ap (λ x. elim x [ Some i ↦ Some (suc i) | None ↦ (if option_eq nat_eq p parent then Some 0 else None) ]) (last_naming-append parents named parent)
+    ∙ later (option_eq nat_eq named parent) (length parents) (last_naming parents parent) (option_eq nat_eq p parent)
+
 -- the last child among one row more
-pub last_child-append : (rows : List Row) (row : Row) (parent : Option ℕ) → last_child (rows ++ row ∷ []) parent ≡ (if option_eq nat_eq row.parent parent then Some (length rows) else last_child rows parent)
-last_child-append [] row parent = refl
-last_child-append (r ∷ rows) row parent =
-    ap (λ x. elim x [ Some i ↦ Some (suc i) | None ↦ (if option_eq nat_eq r.parent parent then Some 0 else None) ]) (last_child-append rows row parent)
-    ∙ later (option_eq nat_eq row.parent parent) (length rows) (last_child rows parent) (option_eq nat_eq r.parent parent)
+last_child-append : (rows : List Row) (row : Row) (parent : Option ℕ) → last_child (rows ++ row ∷ []) parent ≡ (if option_eq nat_eq row.parent parent then Some (length rows) else last_child rows parent)
+last_child-append rows row parent =
+    ap (λ ps. last_naming ps parent) (map-append (λ row. row.parent) rows (row ∷ []))
+    ∙ last_naming-append (map (λ row. row.parent) rows) row.parent parent
+    ∙ ap (λ n. if option_eq nat_eq row.parent parent then Some n else last_child rows parent) (length-map rows (λ row. row.parent))
 
 -- nothing behind a list is as nothing
 get_or-append_default : {X : Type 0} (xs : List (Option X)) (i : ℕ) → get_or (xs ++ None ∷ []) i None ≡ get_or xs i None
@@ -88,3 +95,22 @@ module _ (entries : List Entry) (last_root : Option ℕ) (e : Entry) (knows : Kn
             root = knows.root ∙ sym (known (Some k) None false is refl) ∙ ap (λ rows. last_child rows None) rows;
             each = λ i. told_each i (nat_eq k i) refl ∙ ap (λ rows. last_child rows (Some i)) rows;
           }
+
+-- an entry in whose place one with the same parent and the same last child stands
+module _ (entries : List Entry) (last_root : Option ℕ) (knows : KnowsLast entries last_root) (k : ℕ) (told d : Entry) (parent : told.parent ≡ (get_or entries k d).parent) (last : told.last_child ≡ (get_or entries k d).last_child) where
+  same_children : (parent : Option ℕ) → last_child (map row_of (set entries k told)) parent ≡ last_child (map row_of entries) parent
+  same_children asked =
+      ap (λ ps. last_naming ps asked)
+      (map-map (λ row. row.parent) row_of (set entries k told) ∙ map-set_same (λ e. e.parent) entries k told d parent ∙ sym (map-map (λ row. row.parent) row_of entries))
+
+  pub knows_kept : KnowsLast (set entries k told) last_root
+  knows_kept = record {
+    root = knows.root ∙ sym (same_children None);
+    each = λ i. ap (λ xs. get_or xs i None) (map-set_same (λ e. e.last_child) entries k told d last) ∙ knows.each i ∙ sym (same_children (Some i));
+  }
+
+-- the rows, of which one is changed
+pub rows_changed : (entries : List Entry) (k : ℕ) (told d : Entry) (change : Row → Row) → k < length entries → row_of told ≡ change (row_of (get_or entries k d)) → map row_of (set entries k told) ≡ set (map row_of entries) k (change (get_or (map row_of entries) k nobody))
+rows_changed entries k told d change within is =
+    map-set row_of entries k told
+    ∙ ap (set (map row_of entries) k) (is ∙ ap change (sym (get_or-map row_of entries k d nobody within)))

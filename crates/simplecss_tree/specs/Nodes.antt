@@ -3,12 +3,13 @@ use Rattle.std.specs.Prelude.{ℕ, Bool, true, false, List, [], ◌∷◌, ◌&&
 use Rattle.std.specs.List.{slice_get}
 use Rattle.std.specs.Option.{option_map_or, option_and_then, option_or}
 use Rattle.std.specs.Str.{str_eq_ignore_ascii_case}
-use Rattle.simplecss.specs.Components.{Operator, Class}
+use Rattle.simplecss.specs.Components.{Class}
 use Rattle.simplecss.specs.Components.Class.{first_child, link, visited, hover, active, focus, lang}
 use Rattle.simplecss.specs.ListTrees.{ListOf, ancestors, sibling_by, list_tree}
 use Rattle.simplecss.specs.Operators.{is_as_asked}
 use Rattle.simplecss.specs.Trees.{Tree}
-use Rattle.simplecss_tree.specs.Rows.{Row}
+use Rattle.simplecss_tree.specs.Rows.{Row, no_states}
+use Rattle.simplecss_tree.specs.declared.tree.States.{States}
 
 -- the parent that the element at a place names
 abbrev pub named_parent : List Row → ℕ → Option ℕ
@@ -30,6 +31,10 @@ value_in (attribute ∷ attributes) name = if bytes_eq attribute.0 name then Som
 -- the value of an attribute of the element at a place, if it has the attribute
 abbrev pub attribute_at : List Row → ℕ → List ℕ → Option (List ℕ)
 attribute_at rows i name = option_and_then (λ row. value_in row.attributes name) (slice_get rows i)
+
+-- the states of the element at a place
+abbrev pub states_at : List Row → ℕ → States
+states_at rows i = option_map_or (λ row. row.states) (slice_get rows i) no_states
 
 -- the value of an attribute at the first of these places where there is one
 abbrev pub first_value : List Row → List ℕ → List ℕ → Option (List ℕ)
@@ -55,11 +60,11 @@ is_in_language tag language =
 -- The first child has no previous sibling; of the other pseudo-classes the states tell, and the language.
 abbrev pub is_in : List Row → ℕ → Class → Bool
 is_in rows i first_child = is_none (sibling_by (named_parent rows) (named_previous rows) i)
-is_in rows i link = option_map_or (λ row. row.states.link) (slice_get rows i) false
-is_in rows i visited = option_map_or (λ row. row.states.visited) (slice_get rows i) false
-is_in rows i hover = option_map_or (λ row. row.states.hover) (slice_get rows i) false
-is_in rows i active = option_map_or (λ row. row.states.active) (slice_get rows i) false
-is_in rows i focus = option_map_or (λ row. row.states.focus) (slice_get rows i) false
+is_in rows i link = (states_at rows i).link
+is_in rows i visited = (states_at rows i).visited
+is_in rows i hover = (states_at rows i).hover
+is_in rows i active = (states_at rows i).active
+is_in rows i focus = (states_at rows i).focus
 is_in rows i (lang tag) = option_map_or (is_in_language tag) (language_at rows i) false
 
 -- what a list of elements says of each

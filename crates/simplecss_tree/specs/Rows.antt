@@ -1,5 +1,5 @@
 -- The elements of a tree, and how each is tied to others.
-use Rattle.std.specs.Prelude.{◌≡◌, ◌≤◌, ◌++◌, ℕ, zero, suc, false, slice_index_or, List, [], ◌∷◌, map, Option, None, Some, nat_eq, if◌then◌else◌}
+use Rattle.std.specs.Prelude.{◌≡◌, ◌≤◌, ◌++◌, ◌-◌, ℕ, suc, false, length, slice_index_or, slice_set, List, [], ◌∷◌, map, Option, None, Some, nat_eq, if◌then◌else◌}
 use Rattle.std.specs.Option.{option_eq}
 use Rattle.std.specs.Borrow.{Bor}
 use Rattle.simplecss_tree.specs.declared.tree.States.{States}
@@ -28,13 +28,17 @@ row_of e = record {
   states = e.states;
 }
 
--- The last child of a parent, or the last element without one: the last place that names it.
-abbrev pub last_child : List Row → Option ℕ → Option ℕ
-last_child [] parent = None
-last_child (row ∷ rows) parent = elim (last_child rows parent) [
+-- the last place of a list that names the parent, or none
+abbrev pub last_naming : List (Option ℕ) → Option ℕ → Option ℕ
+last_naming [] parent = None
+last_naming (named ∷ more) parent = elim (last_naming more parent) [
   | Some i ↦ Some (suc i)
-  | None ↦ (if option_eq nat_eq row.parent parent then Some 0 else None)
+  | None ↦ (if option_eq nat_eq named parent then Some 0 else None)
 ]
+
+-- The last child of a parent, or the last element without one.
+abbrev pub last_child : List Row → Option ℕ → Option ℕ
+last_child rows parent = last_naming (map (λ row. row.parent) rows) parent
 
 -- in no state
 abbrev pub no_states : States
@@ -50,6 +54,10 @@ new_child rows parent name = record {
   states = no_states;
 }
 
+-- an element of no name
+abbrev pub nobody : Row
+nobody = record { name = []; attributes = []; parent = None; previous = None; states = no_states }
+
 -- the element with one attribute more, behind the others
 abbrev pub row_with : Row → List ℕ → List ℕ → Row
 row_with row name value = record {
@@ -62,9 +70,8 @@ row_with row name value = record {
 
 -- The elements, of which the last has one attribute more.
 abbrev pub with_attribute : List Row → List ℕ → List ℕ → List Row
-with_attribute [] name value = []
-with_attribute (row ∷ []) name value = row_with row name value ∷ []
-with_attribute (row ∷ rows) name value = row ∷ with_attribute rows name value
+with_attribute rows name value =
+    slice_set rows (length rows - 1) (row_with (slice_index_or rows (length rows - 1) nobody) name value)
 
 -- the element in these states
 abbrev pub row_in : Row → States → Row
@@ -78,9 +85,7 @@ row_in row states = record {
 
 -- The elements, of which the one at the place is in these states.
 abbrev pub with_states : List Row → ℕ → States → List Row
-with_states [] place states = []
-with_states (row ∷ rows) zero states = row_in row states ∷ rows
-with_states (row ∷ rows) (suc place) states = row ∷ with_states rows place states
+with_states rows place states = slice_set rows place (row_in (slice_index_or rows place nobody) states)
 
 -- the place is named, and no element stands there
 abbrev pub IsMissing : Option ℕ → ℕ → Type 0

@@ -1,5 +1,5 @@
 //! The elements of a tree, as selectors ask them.
-ghost use Rattle.std.specs.Prelude.{◌≡◌, ◌<◌, length, IfSome, Some, map};
+ghost use Rattle.std.specs.Prelude.{◌≡◌, ◌<◌, length, IfSome, Some, map, false};
 ghost use Rattle.std.specs.Option.{option_map, option_map_or};
 ghost use Rattle.simplecss_tree.specs.Nodes.{is_in_language, value_in};
 ghost use Rattle.simplecss_tree.specs.Rows.{attribute_of};
@@ -41,7 +41,7 @@ fn is_in_language(tag: &str, language: &str) -> bool
 
 impl<'t> Tree<'t> {
     ghost use Rattle.simplecss.specs.ListTrees.{parent_by, sibling_by};
-    ghost use Rattle.simplecss_tree.specs.Nodes.{named_parent, named_previous, name_at, attribute_at, language_at};
+    ghost use Rattle.simplecss_tree.specs.Nodes.{named_parent, named_previous, name_at, attribute_at, states_at, language_at};
 
     /// The place of the parent.
     #[inline(always)]
@@ -86,6 +86,15 @@ impl<'t> Tree<'t> {
         value_in(&self.entries[place].attributes, name)
     }
 
+    /// The states.
+    #[inline(always)]
+    fn states(&self, place: usize) -> States
+        requires { place < length self.now }
+        ensures { result ≡ states_at self.now place }
+    {
+        self.entries[place].states
+    }
+
     /// The value of the attribute `lang` of the nearest among an element and its ancestors that has
     /// one.
     fn language(&self, place: usize) -> Option<&'t str>
@@ -98,6 +107,17 @@ impl<'t> Tree<'t> {
                 return Some(language);
             }
             nearest = self.parent(nearest)?;
+        }
+    }
+
+    /// Whether the element is in the language of the tag.
+    fn is_in_language(&self, place: usize, tag: &str) -> bool
+        requires { place < length self.now }
+        ensures { result ≡ option_map_or (is_in_language tag.now) (language_at self.now place) false }
+    {
+        match self.language(place) {
+            Some(language) => is_in_language(tag, language),
+            None => false,
         }
     }
 }
@@ -185,7 +205,7 @@ impl<'p, 't> Element for Node<'p, 't> {
     }
 
     fn pseudo_class_matches(&self, class: PseudoClass<'_>) -> bool {
-        let states = self.tree.entries[self.place].states;
+        let states = self.tree.states(self.place);
         match class {
             PseudoClass::FirstChild => self.tree.previous(self.place).is_none(),
             PseudoClass::Link => states.link,
@@ -193,10 +213,7 @@ impl<'p, 't> Element for Node<'p, 't> {
             PseudoClass::Hover => states.hover,
             PseudoClass::Active => states.active,
             PseudoClass::Focus => states.focus,
-            PseudoClass::Lang(tag) => match self.tree.language(self.place) {
-                Some(language) => is_in_language(tag, language),
-                None => false,
-            },
+            PseudoClass::Lang(tag) => self.tree.is_in_language(self.place, tag),
         }
     }
 }
@@ -212,7 +229,7 @@ impl<'p, 't> Keyed for Node<'p, 't> {
         self.tree.attribute(self.place, "id")
     }
 
-    fn class_value(&self) -> &str {
-        self.tree.attribute(self.place, "class").unwrap_or("")
+    fn class_value(&self) -> Option<&str> {
+        self.tree.attribute(self.place, "class")
     }
 }

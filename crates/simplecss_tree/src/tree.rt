@@ -2,7 +2,6 @@
 ghost use Rattle.std.specs.Prelude.{◌≡◌, ◌<◌, ◌≤◌, ◌++◌, ◌∷◌, ◌↔◌, [], length, IfSome, IfOk, IfErr, MatchOption, MatchResult, Err, OnOk, OnErr};
 ghost use Rattle.simplecss_tree.specs.declared.tree.TreeError.TheVariants.{NoElement, Memory};
 
-
 use crate::Node;
 use std::alloc::{AllocError, AllocFailed, Global};
 use std::error::Error;
@@ -159,24 +158,24 @@ impl<'t> Tree<'t> {
         ensures no_element { (result ≡ Err NoElement) ↔ (self.old ≡ []) }
         ensures err { OnErr result (self.new ≡ self.old) }
     {
-        let Some(entry) = self.entries.last_mut() else {
+        let Some(last) = self.entries.len().checked_sub(1) else {
             return Err(TreeError::NoElement);
         };
-        entry.attributes.push((name, value))?;
+        self.entries[last].attributes.push((name, value))?;
         Ok(())
     }
 
     /// Puts the element at a place into these states, and into no other.
     pub fn set_states(&mut self, place: usize, states: States) -> Result<(), TreeError>
-        ensures ok { OnOk result (self.new ≡ with_states self.old place states.entry) }
+        ensures ok { OnOk result (self.new ≡ with_states self.old place states) }
         ensures no_element { MatchResult result (λ _. place < length self.old)
             (λ fault. (fault ≡ NoElement) × (length self.old ≤ place)) }
         ensures err { OnErr result (self.new ≡ self.old) }
     {
-        let Some(entry) = self.entries.get_mut(place) else {
+        if place >= self.entries.len() {
             return Err(TreeError::NoElement);
-        };
-        entry.states = states;
+        }
+        self.entries[place].states = states;
         Ok(())
     }
 

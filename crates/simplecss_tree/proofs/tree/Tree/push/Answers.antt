@@ -1,4 +1,4 @@
-use Rattle.std.proofs.Common.{◌≡◌, ◌++◌, ◌∷◌, [], refl, sym, ap, ◌∙◌, ◌<◌, ◌+◌, length, map, IfSome, subst, arith, rules}
+use Rattle.std.proofs.Common.{◌≡◌, ◌++◌, ◌∷◌, [], refl, sym, ap, ◌∙◌, ◌<◌, ◌+◌, length, map, IfSome, subst, arith}
 use Rattle.std.proofs.lemmas.List.{length-map, length-append}
 use Rattle.simplecss_tree.specs.Rows.{row_of, attribute_of, last_child}
 use Rattle.simplecss_tree.proofs.Growing.{knows_root, knows_child, rows_told}
