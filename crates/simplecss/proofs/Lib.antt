@@ -5,4 +5,5 @@ pub mod DeclarationEquality
 pub mod SheetLemmas
 pub mod BlockLemmas
 pub mod StatementLemmas
+pub mod StatementPlaces
 pub mod RulePlaces
