@@ -8,6 +8,9 @@ pub use Rattle.simplecss_declaration.specs.Coming
 pub use Rattle.simplecss_declaration.specs.Properties
 pub use Rattle.simplecss_selector.specs.Asked
 pub use Rattle.simplecss_selector.specs.Given
+pub use Rattle.simplecss_selector.specs.Keys
+pub use Rattle.simplecss_selector.specs.KeyValues
+pub use Rattle.simplecss_selector.specs.ListTrees
 pub use Rattle.simplecss_selector.specs.Meanings
 pub use Rattle.simplecss_selector.specs.Operators
 pub use Rattle.simplecss_selector.specs.Placements

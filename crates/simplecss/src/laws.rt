@@ -2,16 +2,16 @@
 //! law; a program need not.
 //!
 //! Of texts: what comments and blanks are, and equality of positions, errors and cursors. Of selectors: their tokens, their
-//! components, printing, equality, and that elements which mean the same get the same answers. Of sheets: the order of rules,
-//! what a rule's place means, reading a text in pieces, and equality of rules and declarations.
+//! components, their keys, printing, equality, and that elements which mean the same get the same answers. Of sheets: the
+//! order of rules, what a rule's place means, reading a text in pieces, and equality of rules and declarations.
 
 pub use crate::sheet::laws::{
     cutting_law, edition_law, equality_laws, order_laws, place_law, sheet_law,
 };
 pub use simplecss_selector::laws::{at_most_two_errors, token_equality_law};
 pub use simplecss_selector::{
-    components_law, equality_law as selector_equality_law, operator_equality_laws, printing_law,
-    same_meanings_law,
+    components_law, equality_law as selector_equality_law, key_equality_law, key_law,
+    operator_equality_laws, printing_law, same_meanings_law,
 };
 pub use simplecss_text::laws::{
     blank_is_cut, blank_is_longest, comment_is_closed, equality_laws as text_equality_laws,

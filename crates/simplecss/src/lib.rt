@@ -18,7 +18,8 @@ mod sheet;
 pub use sheet::{Rule, StyleSheet};
 pub use simplecss_declaration::{Declaration, DeclarationTokenizer};
 pub use simplecss_selector::{
-    AttributeOperator, Element, PseudoClass, Selector, SelectorToken, SelectorTokenizer, Tests,
+    AttributeOperator, Element, Key, Keyed, PseudoClass, Selector, SelectorToken,
+    SelectorTokenizer, Tests,
 };
 pub use simplecss_text::{Error, TextPos, stream};
 

@@ -17,3 +17,4 @@ pub mod FlatEquality
 pub mod Announcing
 pub mod Steps
 pub mod Firsts
+pub mod KeyLemmas

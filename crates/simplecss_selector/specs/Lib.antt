@@ -1,4 +1,5 @@
 pub mod Trees
+pub mod ListTrees
 pub mod Placements
 pub mod Meanings
 pub mod Shapes
@@ -17,3 +18,5 @@ pub mod Given
 pub mod Tokenizer
 pub mod Announced
 pub mod Filled
+pub mod Keys
+pub mod KeyValues

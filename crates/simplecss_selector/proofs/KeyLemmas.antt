@@ -1,0 +1,78 @@
+-- An element that a selector matches has the selector's key.
+use Rattle.std.proofs.Common.{◌≡◌, ℕ, suc, ◌+◌, ◌-◌, ◌<◌, List, [], ◌∷◌, Option, Some, None, Bool, true, false, IsTrue, length, map, drop, get_or, refl, ◌∙◌, ap, subst, arith, All}
+use Rattle.std.specs.Prelude.{bytes_eq, codes, if◌then◌else◌}
+use Rattle.std.specs.Option.{option_or}
+use Rattle.std.proofs.lemmas.List.{drop_more}
+use Rattle.std.proofs.lemmas.Slice.Eq.{bytes_eq-Decides}
+use Rattle.std.proofs.lemmas.List.Elements.{All-head, All-tail}
+use Rattle.simplecss_text.specs.Components.{Operator, Subselector, Compound, Component}
+use Rattle.simplecss_text.specs.Components.Operator.{exists, equals, has_word, begins_with}
+use Rattle.simplecss_text.specs.Components.Subselector.{attribute, pseudo_class}
+use Rattle.simplecss_selector.specs.Trees.{Tree}
+use Rattle.simplecss_selector.specs.Placements.{HasPlacement, Meets, HasName, Holds}
+use Rattle.simplecss_selector.specs.Searches.{Reaches, first_of}
+use Rattle.simplecss_selector.specs.Shapes.{component_at}
+use Rattle.simplecss_selector.specs.Keys.{equal_text, wanted_word, asked_id, asked_class, first_asked, key_among, compound_key, key_of, has_key}
+use Rattle.simplecss_selector.proofs.Reaching.{first_of-suc}
+use Rattle.simplecss_selector.proofs.Greedy.{placement_of}
+
+-- the first that is asked is asked by one of the subselectors, and so it is of all that hold
+first_held : (asked : Subselector → Option (List ℕ)) (P : Subselector → Type 0) (Q : List ℕ → Type 0) (ss : List Subselector) (v : List ℕ) → ((s : Subselector) → asked s ≡ Some v → P s → Q v) → first_asked asked ss ≡ Some v → All P ss → Q v
+first_held asked P Q [] v gives e h = absurd (cc)
+first_held asked P Q (s ∷ ss) v gives e h =
+    at (asked s) refl e (λ f. first_held asked P Q ss v gives f (All-tail P s ss h))
+  where
+    at : (r : Option (List ℕ)) → asked s ≡ r → option_or r (first_asked asked ss) ≡ Some v → (first_asked asked ss ≡ Some v → Q v) → Q v
+    at None is f later = later f
+    at (Some w) is f later = gives s (is ∙ f) (All-head P s ss h)
+
+-- what an attribute of this name is asked is asked of the node
+attribute_held : {Node : Type 0} (tree : Tree Node) (n : Node) (name key : List ℕ) (asked : Operator → Option (List ℕ)) (back : List ℕ → Operator) (v : List ℕ) (o : Operator) → (asked o ≡ Some v → o ≡ back v) → (if bytes_eq name key then asked o else None) ≡ Some v → IsTrue (tree.has_attribute n name o) → IsTrue (tree.has_attribute n key (back v))
+attribute_held tree n name key asked back v o undone e h = at (bytes_eq name key) refl e
+  where
+    at : (b : Bool) → bytes_eq name key ≡ b → (if b then asked o else None) ≡ Some v → IsTrue (tree.has_attribute n key (back v))
+    at false is f = absurd (cc)
+    at true is f = subst (λ x. IsTrue (tree.has_attribute n x (back v))) ((bytes_eq-Decides name key).0 is) (subst (λ x. IsTrue (tree.has_attribute n name x)) (undone f) h)
+
+equal_back : (o : Operator) (v : List ℕ) → equal_text o ≡ Some v → o ≡ equals v
+equal_back exists v e = absurd (cc)
+equal_back (equals w) v e = let same : w ≡ v = cc in ap equals same
+equal_back (has_word w) v e = absurd (cc)
+equal_back (begins_with w) v e = absurd (cc)
+
+word_back : (o : Operator) (v : List ℕ) → wanted_word o ≡ Some v → o ≡ has_word v
+word_back exists v e = absurd (cc)
+word_back (equals w) v e = absurd (cc)
+word_back (has_word w) v e = let same : w ≡ v = cc in ap has_word same
+word_back (begins_with w) v e = absurd (cc)
+
+id_held : {Node : Type 0} (tree : Tree Node) (n : Node) (v : List ℕ) (s : Subselector) → asked_id s ≡ Some v → Holds tree n s → IsTrue (tree.has_attribute n (codes "id") (equals v))
+id_held tree n v (pseudo_class class) e h = absurd (cc)
+id_held tree n v (attribute name o) e h = attribute_held tree n name (codes "id") equal_text equals v o (equal_back o v) e h
+
+class_held : {Node : Type 0} (tree : Tree Node) (n : Node) (v : List ℕ) (s : Subselector) → asked_class s ≡ Some v → Holds tree n s → IsTrue (tree.has_attribute n (codes "class") (has_word v))
+class_held tree n v (pseudo_class class) e h = absurd (cc)
+class_held tree n v (attribute name o) e h = attribute_held tree n name (codes "class") wanted_word has_word v o (word_back o v) e h
+
+met_has_key : {Node : Type 0} (tree : Tree Node) (n : Node) (c : Compound) → Meets tree n c → IsTrue (has_key tree n (compound_key c))
+met_has_key tree n c m = at (first_asked asked_id c.subselectors) refl (first_asked asked_class c.subselectors) refl c.name m.0
+  where
+    at : (i : Option (List ℕ)) → first_asked asked_id c.subselectors ≡ i → (k : Option (List ℕ)) → first_asked asked_class c.subselectors ≡ k → (name : Option (List ℕ)) → HasName tree n name → IsTrue (has_key tree n (key_among i k name))
+    at (Some v) is k ks name h = first_held asked_id (Holds tree n) (λ w. IsTrue (tree.has_attribute n (codes "id") (equals w))) c.subselectors v (λ s. id_held tree n v s) is m.1
+    at None is (Some v) ks name h = first_held asked_class (Holds tree n) (λ w. IsTrue (tree.has_attribute n (codes "class") (has_word w))) c.subselectors v (λ s. class_held tree n v s) ks m.1
+    at None is None ks (Some name) h = h
+    at None is None ks None h = refl
+
+-- a placement needs the selector's key
+pub key_needed : {Node : Type 0} (tree : Tree Node) (cs : List Component) (n : Node) → HasPlacement tree cs n → IsTrue (has_key tree n (key_of cs))
+key_needed tree [] n (ns, p) = absurd p
+key_needed tree (c ∷ cs) n h =
+    let within : length cs < length (c ∷ cs) = omega arith in
+    let last : length cs ≡ length (c ∷ cs) - 1 = omega arith in
+    let at = component_at (c ∷ cs) (length cs) in
+    let reached : Reaches tree (at ∷ first_of (c ∷ cs) (length cs)) n = subst (λ xs. Reaches tree xs n) (first_of-suc (c ∷ cs) (length cs) within) ((placement_of tree (c ∷ cs) (suc (length cs)) n refl).0 h) in
+    subst (λ k. IsTrue (has_key tree n (compound_key (component_at (c ∷ cs) k).compound))) last (met_has_key tree n at.compound reached.0)
+
+-- one more that asks nothing
+pub first_asked-drop : {X : Type 0} (asked : Subselector → Option (List ℕ)) (f : X → Subselector) (xs : List X) (i : ℕ) (d : X) → i < length xs → first_asked asked (map f (drop i xs)) ≡ option_or (asked (f (get_or xs i d))) (first_asked asked (map f (drop (i + 1) xs)))
+first_asked-drop asked f xs i d h = ap (λ ys. first_asked asked (map f ys)) (drop_more xs i d h)

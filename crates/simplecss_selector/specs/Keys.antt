@@ -1,0 +1,73 @@
+-- What the last component of a selector asks at least, and what an element tells of itself: by the two an index finds the
+-- selectors that can match an element.
+use Rattle.std.specs.Prelude.{ℕ, ◌-◌, List, [], ◌∷◌, Option, Some, None, Bool, true, false, bytes_eq, codes, length, if◌then◌else◌}
+use Rattle.std.specs.Option.{option_or, option_map_or}
+use Rattle.simplecss_text.specs.Components.{Operator, Subselector, Compound, Component}
+use Rattle.simplecss_text.specs.Components.Operator.{exists, equals, has_word, begins_with}
+use Rattle.simplecss_text.specs.Components.Subselector.{attribute, pseudo_class}
+use Rattle.simplecss_selector.specs.Operators.{is_as_asked}
+use Rattle.simplecss_selector.specs.Shapes.{component_at}
+use Rattle.simplecss_selector.specs.Trees.{Tree}
+
+-- an id, a class, a type name, or nothing
+pub data Key : Type 0 where
+  by_id : List ℕ → Key
+  by_class : List ℕ → Key
+  by_name : List ℕ → Key
+  by_nothing : Key
+
+-- the text that the value is to equal, if the operator asks this
+abbrev pub equal_text : Operator → Option (List ℕ)
+equal_text exists = None
+equal_text (equals text) = Some text
+equal_text (has_word word) = None
+equal_text (begins_with start) = None
+
+-- the word that the value is to have, if the operator asks this
+abbrev pub wanted_word : Operator → Option (List ℕ)
+wanted_word exists = None
+wanted_word (equals text) = None
+wanted_word (has_word word) = Some word
+wanted_word (begins_with start) = None
+
+-- the id that a subselector asks: the text that an attribute `id` is to equal
+abbrev pub asked_id : Subselector → Option (List ℕ)
+asked_id (attribute name operator) = if bytes_eq name (codes "id") then equal_text operator else None
+asked_id (pseudo_class class) = None
+
+-- the class that a subselector asks: the word that an attribute `class` is to have
+abbrev pub asked_class : Subselector → Option (List ℕ)
+asked_class (attribute name operator) = if bytes_eq name (codes "class") then wanted_word operator else None
+asked_class (pseudo_class class) = None
+
+-- the first that is asked by one of the subselectors
+abbrev pub first_asked : (Subselector → Option (List ℕ)) → List Subselector → Option (List ℕ)
+first_asked asked [] = None
+first_asked asked (s ∷ ss) = option_or (asked s) (first_asked asked ss)
+
+-- the id, or else the class, or else the type name, or else nothing
+abbrev pub key_among : Option (List ℕ) → Option (List ℕ) → Option (List ℕ) → Key
+key_among (Some text) class name = by_id text
+key_among None (Some word) name = by_class word
+key_among None None (Some name) = by_name name
+key_among None None None = by_nothing
+
+-- the first id that a compound asks, or else the first class, or else its type name, or else nothing
+abbrev pub compound_key : Compound → Key
+compound_key compound =
+    key_among (first_asked asked_id compound.subselectors) (first_asked asked_class compound.subselectors) compound.name
+
+-- the key of a selector is that of its last component
+abbrev pub key_of : List Component → Key
+key_of components = compound_key (component_at components (length components - 1)).compound
+
+-- whether the node has what the key asks
+abbrev pub has_key : {Node : Type 0} → Tree Node → Node → Key → Bool
+has_key tree n (by_id text) = tree.has_attribute n (codes "id") (equals text)
+has_key tree n (by_class word) = tree.has_attribute n (codes "class") (has_word word)
+has_key tree n (by_name name) = tree.is_named n name
+has_key tree n by_nothing = true
+
+-- whether there is a value, and it is as the operator asks
+abbrev pub is_value_as_asked : Operator → Option (List ℕ) → Bool
+is_value_as_asked operator value = option_map_or (is_as_asked operator) value false
