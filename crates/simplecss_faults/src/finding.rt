@@ -71,6 +71,17 @@ fn declarations_len(text: &str) -> usize {
     passed
 }
 
+/// Where the next statement begins and ends.
+fn next_places(
+    reader: &mut StatementReader<'_>,
+    alloc: Global,
+) -> Result<Option<(usize, usize)>, AllocError> {
+    match reader.read_next(&Discard, alloc)? {
+        Some(statement) => Ok(Some((statement.start, statement.end))),
+        None => Ok(None),
+    }
+}
+
 impl<'a> Finder<'a> {
     /// Tells that what begins at a place is passed over. Places are told in their order.
     fn tell(&mut self, place: usize, text: &'a str, reason: Reason) -> Result<(), AllocError> {
@@ -131,6 +142,41 @@ impl<'a> Finder<'a> {
         }
         self.tell(place, before(left, ';', '}'), Reason::Declaration)
     }
+
+    /// Looks at the statement that begins at a place.
+    fn look_at_statement(&mut self, alloc: Global, start: usize) -> Result<(), AllocError> {
+        let left = tail(self.text, start);
+        if left.starts_with('@') {
+            return self.tell(start, before(left, '{', ';'), Reason::AtRule);
+        }
+        let behind = self.look_at_selectors(alloc, start)?;
+        self.look_at_block(behind)
+    }
+
+    /// Looks at what stands behind the last statement.
+    fn look_at_end(&mut self, end: usize) -> Result<(), AllocError> {
+        let (passed, is_open) = blank(tail(self.text, end));
+        if !is_open {
+            return Ok(());
+        }
+        let place = end.saturating_add(passed);
+        let left = tail(self.text, place);
+        self.tell(place, before(left, '\n', '\r'), Reason::Comment)
+    }
+
+    /// Looks at the whole text.
+    fn look_at_all(&mut self, alloc: Global) -> Result<(), AllocError> {
+        let mut reader = StatementReader::new(self.text);
+        let mut end = 0;
+        for _ in 0..=self.text.len() {
+            let Some((start, behind)) = next_places(&mut reader, alloc)? else {
+                break;
+            };
+            end = behind;
+            self.look_at_statement(alloc, start)?;
+        }
+        self.look_at_end(end)
+    }
 }
 
 /// What of the style sheet's text is passed over, in the order in which it stands: selectors that are
@@ -143,26 +189,7 @@ pub fn find_faults<'a>(alloc: Global, text: &'a str) -> Result<Vec<Fault<'a>>, A
         place: 0,
         pos: TextPos::new(1, 1),
     };
-    let mut reader = StatementReader::new(text);
-    let mut end = 0;
-    for _ in 0..=text.len() {
-        let Some(statement) = reader.read_next(&Discard, alloc)? else {
-            break;
-        };
-        end = statement.end;
-        let left = tail(text, statement.start);
-        if left.starts_with('@') {
-            finder.tell(statement.start, before(left, '{', ';'), Reason::AtRule)?;
-        } else {
-            let behind = finder.look_at_selectors(alloc, statement.start)?;
-            finder.look_at_block(behind)?;
-        }
-    }
-    let left = tail(text, end);
-    let (passed, is_open) = blank(left);
-    if is_open {
-        let place = end.saturating_add(passed);
-        finder.tell(place, before(tail(text, place), '\n', '\r'), Reason::Comment)?;
-    }
-    Ok(finder.faults)
+    finder.look_at_all(alloc)?;
+    let Finder { faults, .. } = finder;
+    Ok(faults)
 }

@@ -8,3 +8,6 @@ mod finding;
 
 pub use fault::{Fault, Reason};
 pub use finding::find_faults;
+
+#[cfg(test)]
+mod tests;
