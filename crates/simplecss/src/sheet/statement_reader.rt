@@ -81,3 +81,6 @@ impl<'a> StatementReader<'a> {
         }))
     }
 }
+
+#[cfg(test)]
+mod tests;
