@@ -1,3 +1,4 @@
+pub use Rattle.simplecss_selector.proofs.KeyLemmas
 pub use Rattle.simplecss_text.proofs.Styled
 pub mod Joins
 pub mod ListLemmas
