@@ -205,6 +205,3 @@ pub fn winners<'a, E: Element>(
     }
     Ok(all)
 }
-
-#[cfg(test)]
-mod tests;

@@ -3,5 +3,6 @@ pub mod Ascending
 pub mod LastPlaces
 pub mod Following
 pub mod Chaining
+pub mod Answers
 pub mod Candidates
 pub mod Keeping

@@ -2,3 +2,4 @@ pub mod Places
 pub mod Matching
 pub mod Chains
 pub mod Lasts
+pub mod Lines

@@ -1,5 +1,6 @@
 -- Which selectors match an element.
-use Rattle.std.specs.Prelude.{ℕ, ◌+◌, ◌*◌, List, length, filter, IsTrue}
+use Rattle.std.specs.Prelude.{◌≡◌, ◌↔◌, ℕ, ◌+◌, ◌*◌, Bool, true, List, length, filter, IsTrue}
+use Rattle.std.specs.List.{AllZip, items_where_true, range_with_len}
 use Rattle.simplecss.specs.Components.{Component}
 use Rattle.simplecss.specs.Keys.{has_key, key_of}
 use Rattle.simplecss.specs.Placements.{HasPlacement, longest_run}
@@ -22,3 +23,11 @@ most_tests tree element selector = longest_run selector * (tree.depth element + 
 -- the selectors whose key the element has
 abbrev pub keyed_for : {Node : Type 0} → Tree Node → Node → List (List Component) → List (List Component)
 keyed_for tree element selectors = filter (λ selector. has_key tree element (key_of selector)) selectors
+
+-- the answers tell of each selector whether it has a placement on the element
+abbrev pub AreAnswers : {Node : Type 0} → Tree Node → Node → List (List Component) → List Bool → Type 0
+AreAnswers tree element selectors answers = AllZip (λ answer selector. (answer ≡ true) ↔ HasPlacement tree selector element) answers selectors
+
+-- the places with a yes
+abbrev pub places_with_yes : List Bool → List ℕ
+places_with_yes answers = items_where_true answers (range_with_len 0 (length answers))

@@ -116,3 +116,6 @@ impl<'a> RuleIndex<'a> {
         Ok(())
     }
 }
+
+#[cfg(test)]
+mod tests;

@@ -5,5 +5,9 @@ mod find;
 mod index;
 mod keep;
 mod lasts;
+pub mod laws;
 
 pub use index::RuleIndex;
+
+#[cfg(test)]
+mod line;
