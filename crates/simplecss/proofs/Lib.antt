@@ -6,4 +6,5 @@ pub mod DeclarationEquality
 pub mod SheetLemmas
 pub mod BlockLemmas
 pub mod StatementLemmas
+pub mod StatementPlaces
 pub mod RulePlaces

@@ -2,6 +2,7 @@ pub mod StyleRules
 pub mod RulePlaces
 pub mod SharedBlocks
 pub mod BlockDepths
+pub mod SheetPlaces
 -- What contracts of the crates below speak of, under the names of this crate.
 pub use Rattle.simplecss_declaration.specs.Answers
 pub use Rattle.simplecss_declaration.specs.Coming
@@ -10,6 +11,7 @@ pub use Rattle.simplecss_selector.specs.Asked
 pub use Rattle.simplecss_selector.specs.Given
 pub use Rattle.simplecss_selector.specs.Keys
 pub use Rattle.simplecss_selector.specs.KeyValues
+pub use Rattle.simplecss_selector.specs.ListTrees
 pub use Rattle.simplecss_selector.specs.Meanings
 pub use Rattle.simplecss_selector.specs.Operators
 pub use Rattle.simplecss_selector.specs.Placements

@@ -1,4 +1,5 @@
 pub mod Trees
+pub mod ListTrees
 pub mod Placements
 pub mod Meanings
 pub mod Shapes

@@ -1,0 +1,193 @@
+//! A tree that grows: each element stands behind its parent and behind its previous siblings.
+ghost use Rattle.std.specs.Prelude.{◌≡◌, ◌<◌, ◌≤◌, ◌++◌, ◌∷◌, ◌↔◌, [], length, IfSome, IfOk, IfErr, MatchOption, MatchResult, Err, OnOk, OnErr};
+ghost use Rattle.simplecss_tree.specs.declared.tree.TreeError.TheVariants.{NoElement, Memory};
+
+use crate::Node;
+use std::alloc::{AllocError, AllocFailed, Global};
+use std::error::Error;
+use std::fmt;
+use std::marker::Model;
+
+/// Which of the pseudo-classes that depend on the user, and not on the tree, an element is in (CSS
+/// 2.1 sections 5.11.2 and 5.11.3).
+#[derive(Clone, Copy, Debug, Default, PartialEq)]
+pub struct States {
+    /// `:link`
+    pub link: bool,
+    /// `:visited`
+    pub visited: bool,
+    /// `:hover`
+    pub hover: bool,
+    /// `:active`
+    pub active: bool,
+    /// `:focus`
+    pub focus: bool,
+}
+
+/// Why a tree stayed as it was.
+#[derive(Clone, Copy, Debug, PartialEq)]
+pub enum TreeError {
+    /// There is no such element.
+    NoElement,
+    /// A growth was refused.
+    Memory,
+}
+
+impl fmt::Display for TreeError {
+    fn fmt<W: fmt::Write>(&self, f: &mut fmt::Formatter<W>) -> fmt::Result {
+        match self {
+            TreeError::NoElement => f.write_str("no such element"),
+            TreeError::Memory => f.write_str("want of memory"),
+        }
+    }
+}
+
+impl Error for TreeError {}
+
+impl From<AllocError> for TreeError {
+    ghost from_gives = { λ _ fault. fault ≡ Memory };
+
+    fn from(_error: AllocError) -> TreeError {
+        TreeError::Memory
+    }
+}
+
+impl<T: Drop> From<AllocFailed<T>> for TreeError {
+    ghost from_gives = { λ _ fault. fault ≡ Memory };
+
+    fn from(_error: AllocFailed<T>) -> TreeError {
+        TreeError::Memory
+    }
+}
+
+/// An element's own data, and the places of its relatives.
+#[derive(Debug, Drop)]
+pub(crate) struct Entry<'t> {
+    pub(crate) name: &'t str,
+    pub(crate) attributes: Vec<(&'t str, &'t str)>,
+    pub(crate) parent: Option<usize>,
+    pub(crate) previous: Option<usize>,
+    pub(crate) states: States,
+    last_child: Option<usize>,
+}
+
+/// Elements in the order in which they were added. Names and attributes are slices of the document's
+/// text, so that an element without attributes takes no memory of its own.
+#[derive(Debug, Drop)]
+pub struct Tree<'t> {
+    pub(crate) entries: Vec<Entry<'t>>,
+    last_root: Option<usize>,
+}
+
+impl<'t> Model for Tree<'t> {
+    ghost use Rattle.std.specs.Prelude.{List, map};
+    ghost use Rattle.simplecss_tree.specs.Rows.{Row, row_of, KnowsLast};
+
+    ghost Value = { List Row };
+
+    ghost view = { λ t. map row_of t.entries.items };
+
+    ghost invariant = { λ t. KnowsLast t.entries.items t.last_root };
+}
+
+impl<'t> Tree<'t> {
+    ghost use Rattle.simplecss.specs.ListTrees.{spot};
+    ghost use Rattle.simplecss_tree.specs.Rows.{IsMissing, last_child, new_child, with_attribute, with_states};
+
+    /// A tree without elements. It takes no memory.
+    pub fn new(alloc: Global) -> Tree<'t>
+        ensures { result ≡ [] }
+    {
+        Tree {
+            entries: Vec::new(alloc),
+            last_root: None,
+        }
+    }
+
+    /// How many elements there are.
+    pub fn len(&self) -> usize
+        ensures { result ≡ length self.now }
+    {
+        self.entries.len()
+    }
+
+    /// The last child of the parent, or the last element without one.
+    fn last_child(&self, parent: Option<usize>) -> Result<Option<usize>, TreeError>
+        ensures ok { IfOk result (λ last. last ≡ last_child self.now parent) }
+        ensures there { OnOk result (IfSome parent (λ above. above < length self.now)) }
+        ensures err { IfErr result (λ fault. (fault ≡ NoElement) × IsMissing parent (length self.now)) }
+    {
+        match parent {
+            None => Ok(self.last_root),
+            Some(above) => match self.entries.get(above) {
+                None => Err(TreeError::NoElement),
+                Some(entry) => Ok(entry.last_child),
+            },
+        }
+    }
+
+    /// Adds an element as the last child of the parent, or without one, and gives its place.
+    pub fn push(&mut self, parent: Option<usize>, name: &'t str) -> Result<usize, TreeError>
+        ensures place { IfOk result (λ place. place ≡ length self.old) }
+        ensures added { OnOk result (self.new ≡ self.old ++ new_child self.old parent name.now ∷ []) }
+        ensures no_parent { (result ≡ Err NoElement) ↔ IsMissing parent (length self.old) }
+        ensures err { OnErr result (self.new ≡ self.old) }
+    {
+        let place = self.entries.len();
+        let previous = self.last_child(parent)?;
+        let alloc = *self.entries.allocator();
+        self.entries.push(Entry {
+            name,
+            attributes: Vec::new(alloc),
+            parent,
+            previous,
+            states: States::default(),
+            last_child: None,
+        })?;
+        match parent {
+            None => self.last_root = Some(place),
+            Some(above) => self.entries[above].last_child = Some(place),
+        }
+        Ok(place)
+    }
+
+    /// Adds an attribute to the element that was added last. Of two attributes of one name the first
+    /// counts.
+    pub fn set_attribute(&mut self, name: &'t str, value: &'t str) -> Result<(), TreeError>
+        ensures ok { OnOk result (self.new ≡ with_attribute self.old name.now value.now) }
+        ensures no_element { (result ≡ Err NoElement) ↔ (self.old ≡ []) }
+        ensures err { OnErr result (self.new ≡ self.old) }
+    {
+        let Some(last) = self.entries.len().checked_sub(1) else {
+            return Err(TreeError::NoElement);
+        };
+        self.entries[last].attributes.push((name, value))?;
+        Ok(())
+    }
+
+    /// Puts the element at a place into these states, and into no other.
+    pub fn set_states(&mut self, place: usize, states: States) -> Result<(), TreeError>
+        ensures ok { OnOk result (self.new ≡ with_states self.old place states) }
+        ensures no_element { MatchResult result (λ _. place < length self.old)
+            (λ fault. (fault ≡ NoElement) × (length self.old ≤ place)) }
+        ensures err { OnErr result (self.new ≡ self.old) }
+    {
+        if place >= self.entries.len() {
+            return Err(TreeError::NoElement);
+        }
+        self.entries[place].states = states;
+        Ok(())
+    }
+
+    /// The element at a place, if there is one.
+    pub fn node(&self, place: usize) -> Option<Node<'_, 't>>
+        ensures { MatchOption result (length self.now ≤ place)
+            (λ node. (place < length self.now) × (node ≡ spot self.now place)) }
+    {
+        if place < self.len() {
+            Some(Node { tree: self, place })
+        } else {
+            None
+        }
+    }
+}
