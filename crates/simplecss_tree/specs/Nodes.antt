@@ -85,7 +85,11 @@ element_tree = list_tree elements
 
 -- the name of the element at a place, and the values of its attributes `id` and `class`
 abbrev pub told_at : List Row × ℕ → Told
-told_at (rows, i) = record { name = name_at rows i; id = attribute_at rows i (codes "id"); class = attribute_at rows i (codes "class") }
+told_at (rows, i) = record {
+  name = name_at rows i;
+  id = attribute_at rows i (codes "id");
+  class = attribute_at rows i (codes "class");
+}
 
 pub keys_told : (n : List Row × ℕ) → TellsKeys element_tree n (told_at n)
 keys_told n (by_id text) h = h
