@@ -33,7 +33,16 @@ pub enum TreeError {
     Memory,
 }
 
+/// Prints the fault in a few words. Width, fill and flags of the formatter change nothing.
 impl fmt::Display for TreeError {
+    ghost use Rattle.std.specs.Prelude.{Some};
+    ghost use Rattle.simplecss_tree.specs.Messages.{message_of};
+
+    ghost output = { λ error. Some (message_of error) };
+
+    ghost styled_output = { λ error _. Some (message_of error) };
+
+    #[tactic(auto, using(crate::proofs::Styled::plain_of_styled))]
     fn fmt<W: fmt::Write>(&self, f: &mut fmt::Formatter<W>) -> fmt::Result {
         match self {
             TreeError::NoElement => f.write_str("no such element"),
@@ -71,8 +80,9 @@ pub(crate) struct Entry<'t> {
     last_child: Option<usize>,
 }
 
-/// Elements in the order in which they were added. Names and attributes are slices of the document's
-/// text, so that an element without attributes takes no memory of its own.
+/// Elements in the order in which they were added. Names, attributes and their values are slices of
+/// the document's text and are not copied; an element without attributes takes no memory of its own
+/// beside its place in the list.
 #[derive(Debug, Drop)]
 pub struct Tree<'t> {
     pub(crate) entries: Vec<Entry<'t>>,
