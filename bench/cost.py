@@ -3,7 +3,8 @@
     cost.py PROGRAM     PROGRAM is the built `cssq`
 
 Prints a line for each input: processor time in milliseconds at both sizes, least of some runs, and their ratio. Time that
-grows no faster than N log N has a ratio of about 10 to 12. Inputs are made by this script; nothing else is needed.
+grows no faster than N log N has a ratio of about 10 to 12. The last input is a product by its meaning, since each of its N
+rules has N declarations of its own: its ratio nears 100. Inputs are made by this script; nothing else is needed.
 """
 import os
 import resource
@@ -70,6 +71,7 @@ INPUTS = [
     ("a line of attributes", 40_000, match_of(lambda n: "a { b:c }", lambda n: "0\ta\t" + "\t".join(f"k{i}=v" for i in range(n)))),
     ("a chain of elements, and one step", 10_000, match_of(lambda n: "x > a { b:c }", deep)),
     ("siblings", 50_000, match_of(lambda n: "b + a { b:c }", lambda n: "0\tr\n" + "1\ta\n" * n)),
+    ("selectors times declarations", 300, sheet_of(lambda n: ",".join(["a"] * n) + "{" + "b:c;" * n + "}")),
 ]
 
 print(f"{'input':36} {'size':>9} {'ms':>9} {'ten times':>10} {'ms':>9} {'ratio':>6}")

@@ -1,60 +1,91 @@
-"""Every check of the repository: each request for memory refused in turn, the built program with its files and streams, and
-then `rt ci`: every proof from nothing, every test and every wrong body that must be refused.
+#!/usr/bin/env python3
+"""Every check of the repository. First `rt ci`: every proof from nothing, every test, every wrong body that must be refused,
+and the stored run. Then, over the programs that it has built, each request for memory refused in turn, and the program `cssq`
+with its words, files and streams. So nothing is proved twice.
 
 The last line is 'N passed, M failed', of all together.
 """
 import os
 import re
+import shutil
 import subprocess
 import sys
+import tempfile
 
-top = os.path.dirname(os.path.dirname(os.path.abspath(__file__)))
-out = os.path.join(top, "out")
-os.makedirs(out, exist_ok=True)
+TOP = os.path.dirname(os.path.dirname(os.path.abspath(__file__)))
+# Each script of this folder, and the crate of the program that it runs.
+SWEEPS = (("refused.py", "simplecss_refusals"), ("program.py", "cssq_cli"))
 passed = failed = 0
 
 
-def add(line, what):
+def fail(line):
+    """Counts a check that could not be made, and tells why."""
+    global failed
+    failed += 1
+    print(f"tests/all.py: {line}", flush=True)
+
+
+def shown(words, what):
+    """Runs a command at the top, shows what it prints, and adds the counts of its last line."""
     global passed, failed
-    counts = re.fullmatch(r"(\d+) passed, (\d+) failed", line.strip())
+    last = b""
+    with subprocess.Popen(words, cwd=TOP, stdin=subprocess.DEVNULL, stdout=subprocess.PIPE, stderr=subprocess.STDOUT) as child:
+        for line in child.stdout:
+            sys.stdout.buffer.write(line)
+            sys.stdout.buffer.flush()
+            last = line.strip() or last
+    counts = re.fullmatch(rb"(\d+) passed, (\d+) failed", last)
     if counts:
         passed += int(counts[1])
         failed += int(counts[2])
+    if not counts or child.returncode and not int(counts[2]):
+        fail(f"{what} ended with status {child.returncode}, and its last line is no count of what failed")
+
+
+def program_of(crate):
+    """Where `rt ci` leaves the program of a crate."""
+    return os.path.join(TOP, "crates", crate, "out", crate)
+
+
+def shim_in(folder):
+    """Builds what refuses requests for memory, by the clang of the toolchain. Gives its path, or none where that fails."""
+    page = subprocess.run(["rt", "doc"], stdout=subprocess.PIPE, text=True, check=False).stdout.strip()
+    clang = os.path.join(os.path.dirname(page), "toolchain", "bin", "clang")
+    if not os.path.exists(clang):
+        fail(f"there is no clang at {clang}: the sweeps of tests/ were not made")
+        return None
+    shim = os.path.join(folder, "refuse.so")
+    words = [clang, "-O1", "-shared", "-fPIC", "-nostdlib", "-o", shim, os.path.join(TOP, "tests", "refuse.c")]
+    if subprocess.run(words, check=False).returncode:
+        fail("clang did not build tests/refuse.c: the sweeps of tests/ were not made")
+        return None
+    return shim
+
+
+def sweep(shim):
+    """Runs the scripts over the programs that `rt ci` has built."""
+    for script, crate in SWEEPS:
+        if os.path.exists(program_of(crate)):
+            shown([sys.executable, os.path.join(TOP, "tests", script), program_of(crate), shim], script)
+        else:
+            fail(f"rt ci built no program of {crate}: {script} was not run")
+
+
+def main():
+    for _, crate in SWEEPS:
+        # What an earlier run left is not swept in the place of what this one builds.
+        if os.path.exists(program_of(crate)):
+            os.remove(program_of(crate))
+    if shutil.which("rt"):
+        shown(["rt", "ci"], "rt ci")
+        with tempfile.TemporaryDirectory() as folder:
+            shim = shim_in(folder)
+            if shim:
+                sweep(shim)
     else:
-        failed += 1
-        print(f"{what} ended without its count: {line}", flush=True)
+        fail("there is no rt: nothing was proved or run")
+    print(f"{passed} passed, {failed} failed")
+    return 1 if failed else 0
 
 
-def shown(words, what, folder=top):
-    """Runs a command, shows what it prints, and adds the counts of its last line."""
-    last = ""
-    with subprocess.Popen(words, cwd=folder, stdout=subprocess.PIPE, stderr=subprocess.STDOUT, text=True, errors="replace") as child:
-        for line in child.stdout:
-            print(line, end="", flush=True)
-            if line.strip():
-                last = line
-    add(last, what)
-
-
-def built(crate):
-    """The built program of a crate, or none where it is not proved."""
-    path = os.path.join(top, "crates", crate, "out", crate)
-    if os.path.exists(path):
-        os.remove(path)
-    subprocess.run(["rt", "run"], cwd=os.path.join(top, "crates", crate), stdin=subprocess.DEVNULL, stdout=subprocess.DEVNULL, stderr=subprocess.DEVNULL, check=False)
-    return path if os.path.exists(path) else None
-
-
-page = subprocess.run(["rt", "doc"], capture_output=True, text=True, check=True).stdout.split()[0]
-clang = os.path.join(os.path.dirname(page), "toolchain", "bin", "clang")
-shim = os.path.join(out, "refuse.so")
-subprocess.run([clang, "-O1", "-shared", "-fPIC", "-nostdlib", "-o", shim, os.path.join(top, "tests", "refuse.c")], check=True)
-for script, crate in (("refused.py", "simplecss_refusals"), ("program.py", "cssq_cli")):
-    program = built(crate)
-    if program:
-        shown([sys.executable, os.path.join(top, "tests", script), program, shim], script)
-    else:
-        add("no program", script)
-shown(["rt", "ci"], "rt ci")
-print(f"{passed} passed, {failed} failed")
-sys.exit(1 if failed else 0)
+sys.exit(main())

@@ -98,10 +98,25 @@ add("run_match", ["run_match", *MATCHED], unwritten)
 for sheet, tree, name in [("a { c:red !important; c:blue } a { c:green }", "0\ta", "c"), (*MATCHED, "e")]:
     add("run_style", ["run_style", sheet, tree, name], unwritten)
 
-# After a refused request the sheet is as it was, and the same call then gives all.
-BEFORE, AFTER = "x { y:z; }\n", "x { y:z; }\na { c:d; }\nb { c:d; }\n"
-add("parse_more", ["more", "x { y:z }", "a, b { c:d }"], lambda out, whole: whole == AFTER and out == "refused\n" + BEFORE + AFTER)
-add("parse_more", ["more", "#x { a:b }", "p { c:d } q, r > s { e:f; g:h } @media { } :le { }"], lambda out, whole: out.startswith("refused\n*[id='x'] { a:b; }\n") and out.endswith(whole))
+# After a refused request the sheet is as it was, and the same call then gives all: the sheet's text, the one that is read into
+# it, and what the sheet prints before and after.
+MORE = [
+    ("x { y:z }", "a, b { c:d }", "x { y:z; }\n", "x { y:z; }\na { c:d; }\nb { c:d; }\n"),
+    (
+        "#x { a:b }",
+        "p { c:d } q, r > s { e:f; g:h } @media { } :le { }",
+        "*[id='x'] { a:b; }\n",
+        "p { c:d; }\nq { e:f;g:h; }\nr > s { e:f;g:h; }\n*[id='x'] { a:b; }\n",
+    ),
+    (
+        "#b { x:y } a { x:y; z:w } .e { x:y }",
+        ".f > g { x:y } h {} #i j { x:y; x:z } * { x:y } m + n { x:y }",
+        "a { x:y;z:w; }\n*[class~='e'] { x:y; }\n*[id='b'] { x:y; }\n",
+        "* { x:y; }\na { x:y;z:w; }\nm + n { x:y; }\n*[class~='e'] { x:y; }\n*[class~='f'] > g { x:y; }\n*[id='b'] { x:y; }\n*[id='i'] j { x:y;x:z; }\n",
+    ),
+]
+for text, more, printed, after in MORE:
+    add("parse_more", ["more", text, more], lambda out, whole: whole == after and out == "refused\n" + printed + after)
 
 for name, number in counts.items():
     expect(number > 0, f"{name} makes no request")

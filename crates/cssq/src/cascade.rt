@@ -166,6 +166,3 @@ pub fn winners<'a, E: Element>(
     }
     Ok(all)
 }
-
-#[cfg(test)]
-mod tests;

@@ -78,6 +78,3 @@ fn style_tree(operands: &[String]) -> Option<Command<'_>>
         _ => None,
     }
 }
-
-#[cfg(test)]
-mod tests;

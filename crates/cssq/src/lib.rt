@@ -4,10 +4,6 @@
 
 pub mod cascade;
 pub mod command;
-#[cfg(test)]
-mod counting;
 pub mod laws;
 pub mod runs;
-#[cfg(test)]
-mod selecting;
 pub mod tree;

@@ -316,6 +316,3 @@ pub fn run_style<R: Log, W: Write>(
     let text = style_text(alloc, &sheet, &page, name)?;
     write_out(out, text.as_bytes())
 }
-
-#[cfg(test)]
-mod tests;

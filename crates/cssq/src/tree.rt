@@ -481,6 +481,3 @@ impl<'p, 't> Element for Node<'p, 't> {
         }
     }
 }
-
-#[cfg(test)]
-mod tests;

@@ -209,13 +209,3 @@ fn clones_and_equality(rt: HostRuntime) -> Result<(), Fail> {
     assert!(rt; read(alloc, "#b")? != read(alloc, ".b")?);
     Ok(())
 }
-
-// Where the first selector is refused for want of memory, nothing is left of it.
-#[test]
-fn a_refused_growth_is_told(rt: HostRuntime) -> Result<(), Fail> {
-    match read(rt.alloc(), "a.b > c d.e") {
-        Ok(selector) => assert!(rt; selector.len() == 3),
-        Err(AllocError) => {}
-    }
-    Ok(())
-}

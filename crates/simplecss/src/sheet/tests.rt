@@ -163,31 +163,6 @@ fn reads_into_an_edited_sheet(rt: HostRuntime) -> Result<(), Fail> {
     Ok(())
 }
 
-/// Reads the texts in turn. Where one is refused, the sheet is as before, and the text is read again.
-fn keeps_its_rules(rt: &HostRuntime, texts: &[&'static str]) -> Result<bool, AllocError> {
-    let mut sheet = StyleSheet::new(rt.alloc());
-    let mut kept = true;
-    for text in texts {
-        let before = sheet.to_string(rt.alloc())?;
-        if sheet.parse_more(&Discard, rt.alloc(), text).is_err() {
-            kept &= before.as_str() == sheet.to_string(rt.alloc())?.as_str();
-            sheet.parse_more(&Discard, rt.alloc(), text)?;
-        }
-    }
-    Ok(kept)
-}
-
-#[test]
-fn a_refused_growth_changes_nothing(rt: HostRuntime) {
-    let texts = [
-        "#b { x:y } a { x:y; z:w }",
-        "c, d, .e { x:y }",
-        ".f > g { x:y } h {} #i j { x:y; x:z }",
-        "k { x:y } .l { x:y } * { x:y } m + n { x:y }",
-    ];
-    assert!(rt; keeps_its_rules(&rt, &texts).unwrap_or(true));
-}
-
 /// Whether the sheets have equal rules.
 fn equal_rules(a: &StyleSheet, b: &StyleSheet) -> bool {
     a.rules.len() == b.rules.len() && a.rules.iter().zip(b.rules.iter()).all(|(x, y)| *x == *y)

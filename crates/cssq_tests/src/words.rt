@@ -1,4 +1,6 @@
-use super::*;
+//! What the words of a command line ask for.
+
+use cssq::command::Command;
 use std::alloc::Global;
 use std::test::Fail;
 

@@ -1,4 +1,8 @@
-use super::*;
+//! Texts of trees: their faults, their elements, and what these answer.
+
+use cssq::tree::{Node, Page, TreeFault};
+use simplecss::{AttributeOperator, Element, PseudoClass};
+use std::alloc::Global;
 use std::test::Fail;
 
 /// The number of elements, or the fault.
@@ -53,32 +57,6 @@ fn reads_sound_texts(rt: HostRuntime) {
     }
 }
 
-#[test]
-fn reads_each_front_of_a_text(rt: HostRuntime) {
-    let text = "0\ta\n1\tb\tk=v\n";
-    let name_missing = Err(TreeFault::EmptyName(1));
-    let second_name_missing = Err(TreeFault::EmptyName(2));
-    let no_equals = Err(TreeFault::NoEquals(2));
-    for (size, answer) in [
-        (0, Ok(0)),
-        (1, name_missing),
-        (2, name_missing),
-        (3, Ok(1)),
-        (4, Ok(1)),
-        (5, second_name_missing),
-        (6, second_name_missing),
-        (7, Ok(2)),
-        (8, no_equals),
-        (9, no_equals),
-        (10, Ok(2)),
-        (11, Ok(2)),
-        (12, Ok(2)),
-    ] {
-        let front = text.get(..size).expect(&rt, "a boundary");
-        assert_eq!(rt; read(rt.alloc(), front), answer, "at {size}");
-    }
-}
-
 /// A line of attributes `k0=` to the one before the count, and then a text.
 fn long_line(alloc: Global, count: usize, end: &str) -> Result<String, Fail> {
     use std::fmt::Write;
@@ -113,9 +91,22 @@ fn checks_many_attributes(rt: HostRuntime) -> Result<(), Fail> {
     Ok(())
 }
 
+/// The place of an element among those that are named by these letters in turn.
+fn place_of(element: &Node<'_, '_>) -> Option<usize> {
+    for (place, name) in ["a", "b", "c", "d", "e", "f", "g", "h", "i"]
+        .iter()
+        .enumerate()
+    {
+        if element.has_local_name(name) {
+            return Some(place);
+        }
+    }
+    None
+}
+
 #[test]
 fn ties_elements(rt: HostRuntime) -> Result<(), Fail> {
-    let text = "0\ta\n1\tb\n2\td\n1\tb\n0\ta\n1\tc\n2\te\n2\tf\n0\ta\n";
+    let text = "0\ta\n1\tb\n2\tc\n1\td\n0\te\n1\tf\n2\tg\n2\th\n0\ti\n";
     let page = Page::read(rt.alloc(), text)?;
     assert_eq!(rt; page.len(), 9);
     let ties = [
@@ -131,10 +122,11 @@ fn ties_elements(rt: HostRuntime) -> Result<(), Fail> {
     ];
     for (place, (parent, previous)) in ties.into_iter().enumerate() {
         let node = page.node(place).ok_or("no node")?;
-        let parent_place = node.parent_element().map(|n| n.place);
-        assert_eq!(rt; parent_place, parent, "at {place}");
-        let previous_place = node.prev_sibling_element().map(|n| n.place);
-        assert_eq!(rt; previous_place, previous, "at {place}");
+        assert_eq!(rt; place_of(&node), Some(place));
+        let parent_place = node.parent_element().map(|n| place_of(&n));
+        assert_eq!(rt; parent_place, parent.map(Some), "at {place}");
+        let previous_place = node.prev_sibling_element().map(|n| place_of(&n));
+        assert_eq!(rt; previous_place, previous.map(Some), "at {place}");
     }
     assert!(rt; page.node(9).is_none());
     Ok(())
@@ -197,7 +189,7 @@ fn numbers_faults(rt: HostRuntime) {
     }
 }
 
-/// A line for each depth that a function of the place gives.
+/// Lines of elements `a`, each the child of the one before, or its sibling.
 fn deep_or_wide(alloc: Global, count: usize, is_deep: bool) -> Result<String, Fail> {
     use std::fmt::Write;
     let mut text = String::new(alloc);
@@ -227,11 +219,12 @@ fn reads_a_deep_tree(rt: HostRuntime) -> Result<(), Fail> {
 
 #[test]
 fn reads_many_siblings(rt: HostRuntime) -> Result<(), Fail> {
-    let text = deep_or_wide(rt.alloc(), 750_000, false)?;
+    let mut text = deep_or_wide(rt.alloc(), 749_998, false)?;
+    text.push_str("0\tb\n0\ta\n")?;
     let page = Page::read(rt.alloc(), text.as_str())?;
     assert_eq!(rt; page.len(), 750_000);
     let last = page.node(749_999).ok_or("no node")?;
-    let before = last.prev_sibling_element().map(|n| n.place);
-    assert_eq!(rt; before, Some(749_998));
+    let before = last.prev_sibling_element().ok_or("no sibling")?;
+    assert!(rt; before.has_local_name("b"));
     Ok(())
 }

@@ -1,6 +1,6 @@
 //! Which elements of small trees each selector takes.
 
-use crate::tree::Page;
+use cssq::tree::Page;
 use log::sink::Discard;
 use simplecss::{Selector, Tests};
 use std::alloc::Global;

@@ -1,7 +1,7 @@
 //! Elements of a page that count what they are asked.
 
-use crate::cascade::{winners, winning};
-use crate::tree::{Node, Page};
+use cssq::cascade::{winners, winning};
+use cssq::tree::{Node, Page};
 use log::sink::Discard;
 use simplecss::{AttributeOperator, Element, PseudoClass, Selector, StyleSheet, Tests};
 use std::alloc::Global;

@@ -1,6 +1,9 @@
-use super::*;
-use crate::tree::Page;
+//! Which declarations win on an element, and which of all names.
+
+use cssq::cascade::{winners, winning};
+use cssq::tree::Page;
 use log::sink::Discard;
+use simplecss::StyleSheet;
 use std::alloc::Global;
 use std::test::Fail;
 

@@ -1,6 +1,8 @@
-use super::*;
+//! What each run answers and writes, and what a fault says.
+
+use cssq::runs::{RunFault, run_match, run_selector, run_sheet, run_style};
+use cssq::tree::TreeFault;
 use log::sink::Discard;
-use std::io;
 use std::test::Fail;
 
 #[test]
@@ -33,66 +35,6 @@ fn tells_statuses_and_lines(rt: HostRuntime) -> Result<(), Fail> {
     Ok(())
 }
 
-/// A writer that takes some bytes, one at a time, and then fails or takes none.
-#[derive(Drop)]
-pub(crate) struct Full {
-    pub(crate) taken: Vec<u8>,
-    pub(crate) room: usize,
-    pub(crate) fails: bool,
-    pub(crate) refusals: usize,
-}
-
-impl Full {
-    pub(crate) fn new(alloc: Global, room: usize, fails: bool) -> Full {
-        Full {
-            taken: Vec::new(alloc),
-            room,
-            fails,
-            refusals: 0,
-        }
-    }
-}
-
-impl Write for Full {
-    fn write(&mut self, buf: &[u8]) -> io::Result<usize> {
-        let (Some(first), true) = (buf.first(), self.room > 0) else {
-            self.refusals = self.refusals.saturating_add(1);
-            return if self.fails {
-                Err(io::Error::from(io::ErrorKind::StorageFull))
-            } else {
-                Ok(0)
-            };
-        };
-        self.taken.push(*first)?;
-        self.room -= 1;
-        Ok(1)
-    }
-
-    fn flush(&mut self) -> io::Result<()> {
-        Err(io::Error::from(io::ErrorKind::StorageFull))
-    }
-}
-
-#[test]
-fn stops_at_a_full_writer(rt: HostRuntime) -> Result<(), Fail> {
-    let bytes = b"a > *[class~='b']\t0,1,1\n".as_slice();
-    for fails in [true, false] {
-        for room in 0..=bytes.len() {
-            let mut out = Full::new(rt.alloc(), room, fails);
-            let outcome = write_out(&mut out, bytes);
-            assert_eq!(rt; out.taken.as_slice(), &bytes[..room], "at {room}");
-            if room < bytes.len() {
-                assert_eq!(rt; outcome, Err(RunFault::Output), "at {room}");
-                assert_eq!(rt; out.refusals, 1, "at {room}");
-            } else {
-                assert_eq!(rt; outcome, Ok(()));
-                assert_eq!(rt; out.refusals, 0);
-            }
-        }
-    }
-    Ok(())
-}
-
 #[test]
 fn writes_selectors(rt: HostRuntime) {
     for (text, outcome, line) in [
@@ -107,25 +49,6 @@ fn writes_selectors(rt: HostRuntime) {
         assert_eq!(rt; got, outcome, "at {text:?}");
         assert_eq!(rt; out.as_slice(), line.as_bytes(), "at {text:?}");
     }
-}
-
-#[test]
-fn stops_a_selector_at_a_full_writer(rt: HostRuntime) -> Result<(), Fail> {
-    let line = b"a > *[class~='b']\t0,1,1\n".as_slice();
-    for fails in [true, false] {
-        for room in 0..=line.len() {
-            let mut out = Full::new(rt.alloc(), room, fails);
-            let outcome = run_selector(&Discard, rt.alloc(), "a > .b", &mut out);
-            assert_eq!(rt; out.taken.as_slice(), &line[..room], "at {room}");
-            let wanted = if room < line.len() {
-                Err(RunFault::Output)
-            } else {
-                Ok(())
-            };
-            assert_eq!(rt; outcome, wanted, "at {room}");
-        }
-    }
-    Ok(())
 }
 
 #[test]
@@ -174,24 +97,6 @@ fn writes_matches(rt: HostRuntime) {
     }
 }
 
-#[test]
-fn stops_matches_at_a_full_writer(rt: HostRuntime) -> Result<(), Fail> {
-    for fails in [true, false] {
-        for room in 0..=LINES.len() {
-            let mut out = Full::new(rt.alloc(), room, fails);
-            let outcome = run_match(&Discard, rt.alloc(), SHEET, TREE, &mut out);
-            assert_eq!(rt; out.taken.as_slice(), &LINES[..room], "at {room}");
-            let wanted = if room < LINES.len() {
-                Err(RunFault::Output)
-            } else {
-                Ok(())
-            };
-            assert_eq!(rt; outcome, wanted, "at {room}");
-        }
-    }
-    Ok(())
-}
-
 const STYLED: &str = "a { c:red !important; c:blue } a { c:green }";
 
 #[test]
@@ -237,23 +142,4 @@ fn tells_a_faulty_tree_of_styles(rt: HostRuntime) {
         assert_eq!(rt; outcome, Err(RunFault::Tree(fault)), "at {tree:?}");
         assert_eq!(rt; out.as_slice(), b"".as_slice(), "at {tree:?}");
     }
-}
-
-#[test]
-fn stops_styles_at_a_full_writer(rt: HostRuntime) -> Result<(), Fail> {
-    let lines = b"1: red !important\n".as_slice();
-    for fails in [true, false] {
-        for room in 0..=lines.len() {
-            let mut out = Full::new(rt.alloc(), room, fails);
-            let outcome = run_style(&Discard, rt.alloc(), STYLED, "0\ta", "c", &mut out);
-            assert_eq!(rt; out.taken.as_slice(), &lines[..room], "at {room}");
-            let wanted = if room < lines.len() {
-                Err(RunFault::Output)
-            } else {
-                Ok(())
-            };
-            assert_eq!(rt; outcome, wanted, "at {room}");
-        }
-    }
-    Ok(())
 }
