@@ -1,5 +1,5 @@
 -- The trees of lists of entries.
-use Rattle.std.specs.Prelude.{List, Bool, false, ◌&&◌, bytes_eq, codes, slice_get}
+use Rattle.std.specs.Prelude.{List, false, ◌&&◌, bytes_eq, codes, slice_get}
 use Rattle.std.specs.Option.{option_map_or, option_and_then}
 use Rattle.simplecss.specs.ListTrees.{ListOf}
 use Rattle.simplecss.specs.Operators.{is_as_asked}
