@@ -98,23 +98,21 @@ fn print(rt: &HostRuntime, sheet: &StyleSheet<'_>, tree: &Tree<'_>) -> io::Resul
     Ok(())
 }
 
-fn run(rt: &HostRuntime, sheet: &str, picture: &str) -> io::Result<ExitCode> {
+fn run(rt: &HostRuntime, sheet: &str, picture: &str) -> io::Result<()> {
     let sheet_text = fs::read_to_string(rt, sheet)?;
     let picture_text = fs::read_to_string(rt, picture)?;
     let sheet = StyleSheet::parse(&Discard, rt.alloc(), sheet_text.as_str())?;
-    match read_picture(rt.alloc(), picture_text.as_str()) {
-        Ok(tree) => print(rt, &sheet, &tree).map(|()| ExitCode::SUCCESS),
-        Err(error) => {
-            eprintln!(rt; "example_resolver: {error}")?;
-            Ok(ExitCode::from(1))
-        }
-    }
+    let tree = read_picture(rt.alloc(), picture_text.as_str())?;
+    print(rt, &sheet, &tree)
 }
 
 fn main(rt: HostRuntime) -> io::Result<ExitCode> {
     let words: Vec<String> = env::args(&rt)?.skip(1).collect(rt.alloc())?;
     match words.as_slice() {
-        [sheet, picture] => run(&rt, sheet.as_str(), picture.as_str()),
+        [sheet, picture] => {
+            run(&rt, sheet.as_str(), picture.as_str())?;
+            Ok(ExitCode::SUCCESS)
+        }
         _ => {
             eprintln!(rt; "usage: example_resolver SHEET PICTURE")?;
             Ok(ExitCode::from(2))

@@ -2,6 +2,7 @@ use crate::{States, Tree, TreeError};
 use log::sink::Discard;
 use simplecss::{Element, Keyed, Selector};
 use std::alloc::Global;
+use std::io;
 use std::test::Fail;
 
 /// Two trees:
@@ -170,6 +171,8 @@ fn answers_that_there_is_no_element(rt: HostRuntime) -> Result<(), Fail> {
     );
     assert_eq!(rt; tree.len(), 1);
     let text = TreeError::NoElement.to_string(rt.alloc())?;
+    assert_eq!(rt; text.as_str(), "no such element");
+    let text = io::Error::from(TreeError::NoElement).to_string(rt.alloc())?;
     assert_eq!(rt; text.as_str(), "no such element");
     Ok(())
 }

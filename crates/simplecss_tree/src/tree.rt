@@ -5,8 +5,9 @@ ghost use Rattle.simplecss_tree.specs.declared.tree.TreeError.TheVariants.{NoEle
 use crate::Node;
 use std::alloc::{AllocError, AllocFailed, Global};
 use std::error::Error;
-use std::fmt;
+use std::io::ErrorKind;
 use std::marker::Model;
+use std::{fmt, io};
 
 /// Which of the pseudo-classes that depend on the user, and not on the tree, an element is in (CSS
 /// 2.1 sections 5.11.2 and 5.11.3).
@@ -66,6 +67,21 @@ impl<T: Drop> From<AllocFailed<T>> for TreeError {
 
     fn from(_error: AllocFailed<T>) -> TreeError {
         TreeError::Memory
+    }
+}
+
+/// So that `?` takes the error of a tree to an `io::Result`, as it takes want of memory there.
+impl From<TreeError> for io::Error {
+    ghost use Rattle.std.specs.IoError.{error_kind};
+    ghost use Rattle.simplecss_tree.specs.Messages.{kind_of};
+
+    ghost from_gives = { λ error fault. error_kind fault ≡ kind_of error };
+
+    fn from(error: TreeError) -> io::Error {
+        match error {
+            TreeError::NoElement => io::Error::new(ErrorKind::NotFound, "no such element"),
+            TreeError::Memory => io::Error::from(ErrorKind::OutOfMemory),
+        }
     }
 }
 
