@@ -1,13 +1,17 @@
 //! Shows how selectors and style sheets read, which rules take the elements of a tree, and which declarations win there.
 #![tactic(auto)]
 
+mod notice;
+
 use cssq::command::{Command, USAGE};
 use cssq::runs::{RunFault, run_match, run_selector, run_sheet, run_style};
 use log::Log;
 use log::sink::Writer;
-use std::io::{BufWriter, Read, Stderr};
+use notice::Notice;
+use simplecss_faults::{Reason, find_faults};
+use std::io::{BufWriter, Read, Stderr, Write};
 use std::process::ExitCode;
-use std::{env, fs};
+use std::{env, fs, io};
 
 /// The words after the program's name.
 fn words(rt: &HostRuntime) -> Option<Vec<String>> {
@@ -77,6 +81,27 @@ fn read_files(rt: &HostRuntime, names: &[String]) -> Result<Vec<String>, ExitCod
     Ok(texts)
 }
 
+/// Tells on standard error what of a sheet's text was passed over with a warning: the file, the row and
+/// the column in it, the text that stands there, and why. Where memory or standard error is wanting,
+/// less is told.
+fn tell_faults(rt: &HostRuntime, name: &str, text: &str) -> io::Result<()> {
+    let mut out = BufWriter::new(rt.alloc(), rt.stderr())?;
+    let faults = find_faults(rt.alloc(), text)?;
+    for fault in &faults {
+        match fault.reason {
+            Reason::Selector(_) | Reason::PseudoClass | Reason::AtRule => {
+                writeln!(
+                    out,
+                    "{name}:{}: '{}': {}",
+                    fault.pos, fault.text, fault.reason
+                )?;
+            }
+            Reason::Declaration | Reason::Comment => {}
+        }
+    }
+    out.flush()
+}
+
 /// Shows the sheet of the files' texts in turn.
 fn show_sheet(rt: &HostRuntime, names: &[String]) -> ExitCode {
     let owned = match read_files(rt, names) {
@@ -87,11 +112,13 @@ fn show_sheet(rt: &HostRuntime, names: &[String]) -> ExitCode {
         return ended(rt, Err(RunFault::Memory));
     };
     let texts: Vec<&str> = texts;
-    let Some(log) = warnings(rt) else {
-        return ended(rt, Err(RunFault::Memory));
-    };
-    let outcome = run_sheet(&log, rt.alloc(), texts.as_slice(), &mut rt.stdout());
-    log.flush();
+    let notice = Notice::new();
+    let outcome = run_sheet(&notice, rt.alloc(), texts.as_slice(), &mut rt.stdout());
+    if notice.is_given() {
+        for (name, text) in names.iter().zip(texts.iter()) {
+            let _ = tell_faults(rt, name.as_str(), text);
+        }
+    }
     ended(rt, outcome)
 }
 
@@ -103,17 +130,17 @@ fn show_match(rt: &HostRuntime, file: &str, tree: &str) -> ExitCode {
     let Some(tree_text) = read_file(rt, tree) else {
         return unreadable(rt, tree);
     };
-    let Some(log) = warnings(rt) else {
-        return ended(rt, Err(RunFault::Memory));
-    };
+    let notice = Notice::new();
     let outcome = run_match(
-        &log,
+        &notice,
         rt.alloc(),
         sheet_text.as_str(),
         tree_text.as_str(),
         &mut rt.stdout(),
     );
-    log.flush();
+    if notice.is_given() {
+        let _ = tell_faults(rt, file, sheet_text.as_str());
+    }
     ended(rt, outcome)
 }
 
@@ -125,18 +152,18 @@ fn show_style(rt: &HostRuntime, file: &str, tree: &str, name: &str) -> ExitCode 
     let Some(tree_text) = read_file(rt, tree) else {
         return unreadable(rt, tree);
     };
-    let Some(log) = warnings(rt) else {
-        return ended(rt, Err(RunFault::Memory));
-    };
+    let notice = Notice::new();
     let outcome = run_style(
-        &log,
+        &notice,
         rt.alloc(),
         sheet_text.as_str(),
         tree_text.as_str(),
         name,
         &mut rt.stdout(),
     );
-    log.flush();
+    if notice.is_given() {
+        let _ = tell_faults(rt, file, sheet_text.as_str());
+    }
     ended(rt, outcome)
 }
 

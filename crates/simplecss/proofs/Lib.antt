@@ -1,3 +1,4 @@
+pub use Rattle.simplecss_selector.proofs.KeyLemmas
 pub use Rattle.simplecss_text.proofs.Styled
 pub mod Joins
 pub mod ListLemmas
@@ -5,4 +6,5 @@ pub mod DeclarationEquality
 pub mod SheetLemmas
 pub mod BlockLemmas
 pub mod StatementLemmas
+pub mod StatementPlaces
 pub mod RulePlaces

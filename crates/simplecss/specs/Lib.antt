@@ -2,6 +2,7 @@ pub mod StyleRules
 pub mod RulePlaces
 pub mod SharedBlocks
 pub mod BlockDepths
+pub mod SheetPlaces
 -- What contracts of the crates below speak of, under the names of this crate.
 pub use Rattle.simplecss_declaration.specs.Answers
 pub use Rattle.simplecss_declaration.specs.Coming

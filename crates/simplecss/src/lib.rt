@@ -16,7 +16,7 @@
 pub mod laws;
 mod sheet;
 
-pub use sheet::{Rule, StyleSheet};
+pub use sheet::{Rule, Statement, StatementReader, StyleSheet};
 pub use simplecss_declaration::{Declaration, DeclarationTokenizer};
 pub use simplecss_selector::{
     AttributeOperator, Element, Key, Keyed, PseudoClass, Selector, SelectorToken,

@@ -6,10 +6,12 @@ mod order;
 mod printing;
 mod reading;
 mod rules;
+mod statement_reader;
 mod statements;
 mod style_sheet;
 
 pub use rules::Rule;
+pub use statement_reader::{Statement, StatementReader};
 pub use style_sheet::StyleSheet;
 
 #[cfg(test)]

@@ -34,6 +34,8 @@ pub use token::SelectorToken;
 pub use tokenizer::SelectorTokenizer;
 
 #[cfg(test)]
+mod key_tests;
+#[cfg(test)]
 mod operator_tests;
 #[cfg(test)]
 mod reading_tests;

@@ -1,11 +1,19 @@
 -- Rows and columns.
-use Rattle.std.specs.Prelude.{ℕ, ◌+◌, List, ◌==◌, length, take, min, count_by, chars}
+use Rattle.std.specs.Prelude.{ℕ, ◌+◌, ◌-◌, List, ◌==◌, if◌then◌else◌, length, take, min, count_by, chars}
 use Rattle.std.specs.List.{after_last}
 use Rattle.simplecss_text.specs.declared.TextPos.{TextPos}
 
 -- the greatest `u32`
 abbrev pub greatest : ℕ
 greatest = 0xFFFF_FFFF
+
+-- The position in a whole text of what stands at `inner` in a part of it that begins at `start`: rows add
+-- up, and so do columns on the part's first row. Both stop at the greatest `u32`.
+abbrev pub in_whole : TextPos → TextPos → TextPos
+in_whole start inner = record {
+  row = min greatest (start.row + (inner.row - 1));
+  col = if inner.row == 1 then min greatest (start.col + (inner.col - 1)) else inner.col;
+}
 
 -- The position of a place: 1 more than the newlines before it, and 1 more than the characters since the last of them.
 -- Both stop at the greatest `u32`.

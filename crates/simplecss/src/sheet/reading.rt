@@ -1,6 +1,7 @@
 //! The rules of a text.
-ghost use Rattle.std.specs.Prelude.{◌≡◌, ◌++◌, IfOk, MatchBool, MatchOption, None, Some, map, true, false};
+ghost use Rattle.std.specs.Prelude.{◌≡◌, ◌++◌, IfOk, IsTrue, MatchBool, MatchOption, None, Some, map, true, false};
 ghost use Rattle.std.specs.List.{flat_map};
+ghost use Rattle.simplecss_text.specs.Comments.{past_blank};
 ghost use Rattle.simplecss_text.specs.Statements.{statement, next_statement, statements, is_open_comment};
 ghost use Rattle.simplecss_text.specs.ThisEdition.{this_edition};
 ghost use Rattle.simplecss_text.specs.Cursor.{text_of, rest_of};
@@ -14,11 +15,12 @@ use simplecss_text::stream::Stream;
 use std::alloc::{AllocError, Global};
 
 /// Passes a blank, and says whether a statement stands behind it.
-fn at_statement(s: &mut Stream<'_>) -> bool
+pub(crate) fn at_statement(s: &mut Stream<'_>) -> bool
     ensures text { text_of s.new ≡ text_of s.old }
     ensures reads { MatchBool result
         (next_statement this_edition (rest_of s.old) ≡ Some (statement this_edition (rest_of s.new)))
         (next_statement this_edition (rest_of s.old) ≡ None) }
+    ensures rest { IsTrue result → rest_of s.new ≡ past_blank (rest_of s.old) }
 {
     readers::pass_blank(s) && !s.at_end()
 }

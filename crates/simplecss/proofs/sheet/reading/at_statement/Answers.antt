@@ -1,8 +1,9 @@
+use Rattle.std.proofs.Common.{sym}
 use Rattle.simplecss_text.specs.Comments.{past_blank}
 use Rattle.simplecss_text.specs.Reading.{no_comment}
 use Rattle.simplecss_text.specs.ThisEdition.{this_edition}
 use Rattle.simplecss_text.specs.Cursor.{rest_of}
-use Rattle.simplecss.proofs.StatementLemmas.{next_statement-open, next_statement-behind}
+use Rattle.simplecss.proofs.StatementLemmas.{next_statement-open, next_statement-behind, blank-got}
 use Rattle.simplecss.proofs.sheet.reading.at_statement.Goals as goal
 
 pub returns-then-pass_blank-clause-reads : goal.returns-then-pass_blank-clause-reads
@@ -12,3 +13,6 @@ returns-then-pass_blank-clause-reads c =
 pub returns-else-pass_blank-clause-reads : goal.returns-else-pass_blank-clause-reads
 returns-else-pass_blank-clause-reads c =
     rw c.if-pass_blank.false (next_statement-open this_edition (rest_of c.args.s.now) (rest_of c.pass_blank.new.s) (no_comment (past_blank (rest_of c.args.s.now))) c.if-pass_blank.ensures.reads)
+
+pub returns-then-pass_blank-clause-rest : goal.returns-then-pass_blank-clause-rest
+returns-then-pass_blank-clause-rest c = λ stands. sym (blank-got (rest_of c.args.s.now) (rest_of c.pass_blank.new.s) c.if-pass_blank.ensures.reads).1

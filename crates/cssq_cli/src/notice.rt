@@ -1,0 +1,48 @@
+//! A logger that keeps nothing but whether a warning was given.
+ghost use Rattle.std.specs.Prelude.{[], Some, true};
+
+use log::kv::Source;
+use log::span::Spans;
+use log::{Log, Metadata, Record};
+use std::cell::Cell;
+use std::fmt::Display;
+
+/// Whether a warning was given.
+#[derive(Drop)]
+pub struct Notice {
+    given: Cell<bool>,
+}
+
+impl Notice {
+    /// None was given yet.
+    pub fn new() -> Notice {
+        Notice {
+            given: Cell::new(false),
+        }
+    }
+
+    /// Whether one was given.
+    pub fn is_given(&self) -> bool {
+        self.given.get()
+    }
+}
+
+impl Log for Notice {
+    ghost enables = { λ _ _ _. Some true };
+
+    ghost target_of = { λ _. Some [] };
+
+    fn enabled(&self, _metadata: &Metadata<'_>) -> bool {
+        true
+    }
+
+    fn log<D: Display, K: Source, S: Spans>(&self, _record: &Record<'_, D, K, S>) {
+        self.given.set(true);
+    }
+
+    fn flush(&self) {}
+
+    fn target(&self) -> &str {
+        ""
+    }
+}

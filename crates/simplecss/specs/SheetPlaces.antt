@@ -1,0 +1,17 @@
+-- Where the statements of a style sheet stand in its text.
+use Rattle.std.specs.Prelude.{◌≡◌, ℕ, ◌<◌, ◌≤◌, List, length, drop, Some, map}
+use Rattle.std.specs.Str.{IsCharBoundary}
+use Rattle.simplecss_text.specs.Comments.{past_blank}
+use Rattle.simplecss_text.specs.Statements.{next_statement}
+use Rattle.simplecss_text.specs.ThisEdition.{this_edition}
+use Rattle.simplecss.specs.declared.sheet.statement_reader.Statement.{Statement}
+use Rattle.simplecss.specs.StyleRules.{rules_of}
+
+-- The statement is the one that stands next behind a place of the text: it begins behind the blank there,
+-- gives the rules of the grammar, and what is left behind it is what the grammar leaves.
+pub record StandsNext (text : List ℕ) (place : ℕ) (statement : Statement) : Type 0 where
+  pub start : drop statement.start text ≡ past_blank (drop place text)
+  pub reads : next_statement this_edition (drop place text) ≡ Some (rules_of statement.rules.items, drop statement.end text)
+  pub rising : (place ≤ statement.start) × (statement.start < statement.end) × (statement.end ≤ length text)
+  pub starts_at : IsCharBoundary text statement.start
+  pub ends_at : IsCharBoundary text statement.end

@@ -1,0 +1,86 @@
+//! The statements of a style sheet, one by one.
+ghost use Rattle.std.specs.Prelude.{◌≡◌, IfOk, MatchOption, None, OnErr, drop};
+ghost use Rattle.simplecss_text.specs.Statements.{next_statement};
+ghost use Rattle.simplecss_text.specs.ThisEdition.{this_edition};
+ghost use Rattle.simplecss.specs.SheetPlaces.{StandsNext};
+
+use super::reading::at_statement;
+use super::rules::Rule;
+use super::statements::RuleReader;
+use log::Log;
+use simplecss_text::stream::Stream;
+use std::alloc::{AllocError, Global};
+use std::marker::Model;
+
+/// A statement of a style sheet (CSS 2.1 section 4.1.5), and where it stands in the text. Places count
+/// bytes from the start of the text and stand between two characters.
+#[derive(Debug, Drop)]
+pub struct Statement<'a> {
+    /// Where it begins.
+    pub start: usize,
+    /// Where it ends.
+    pub end: usize,
+    /// The rules that it gives, as they stand: an at-rule gives none.
+    pub rules: Vec<Rule<'a>>,
+}
+
+/// Reads the statements of a text one by one, for those who ask where each stands.
+///
+/// A style sheet of the text has the rules of all statements that have a declaration, in the order of
+/// their specificity.
+#[derive(Debug, Drop)]
+pub struct StatementReader<'a> {
+    stream: Stream<'a>,
+}
+
+impl<'a> Model for StatementReader<'a> {
+    ghost use Rattle.std.specs.Prelude.{ℕ, List};
+    ghost use Rattle.simplecss_text.specs.Cursor.{text_of, place_of};
+
+    ghost Value = { List ℕ × ℕ };
+
+    ghost view = { λ r. (text_of r.stream, place_of r.stream) };
+}
+
+impl<'a> StatementReader<'a> {
+    /// A reader at the start of the text.
+    pub fn new(text: &'a str) -> StatementReader<'a>
+        ensures { result ≡ (text.now, 0) }
+    {
+        StatementReader {
+            stream: Stream::new(text),
+        }
+    }
+
+    /// The next statement, or `None` for ever where there is none: at the end of the text, and at a
+    /// comment that is not closed. Only memory may be wanting, and then the reader stays where it is.
+    /// Warnings of what is passed over go to `rt`.
+    pub fn read_next<R: Log>(
+        &mut self,
+        rt: &R,
+        alloc: Global,
+    ) -> Result<Option<Statement<'a>>, AllocError>
+        ensures text { self.new.0 ≡ self.old.0 }
+        ensures ok { IfOk result (λ read. MatchOption read
+            ((next_statement this_edition (drop self.old.1 self.old.0) ≡ None) × (self.new ≡ self.old))
+            (λ statement. StandsNext self.old.0 self.old.1 statement × (self.new.1 ≡ statement.end))) }
+        ensures err { OnErr result (self.new ≡ self.old) }
+    {
+        let mut stream = self.stream;
+        if !at_statement(&mut stream) {
+            return Ok(None);
+        }
+        let start = stream.pos();
+        let mut reader = RuleReader::new(alloc);
+        reader.consume_statement(rt, alloc, &mut stream)?;
+        self.stream = stream;
+        Ok(Some(Statement {
+            start,
+            end: stream.pos(),
+            rules: reader.into_rules(),
+        }))
+    }
+}
+
+#[cfg(test)]
+mod tests;

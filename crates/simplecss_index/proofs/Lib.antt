@@ -1,0 +1,8 @@
+pub mod Adding
+pub mod Ascending
+pub mod LastPlaces
+pub mod Following
+pub mod Chaining
+pub mod Answers
+pub mod Candidates
+pub mod Keeping

@@ -1,0 +1,5 @@
+pub mod Places
+pub mod Matching
+pub mod Chains
+pub mod Lasts
+pub mod Lines

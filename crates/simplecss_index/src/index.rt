@@ -1,0 +1,121 @@
+//! The index.
+ghost use Rattle.std.specs.Prelude.{◌≡◌, ◌+◌, ◌≤◌, [], IfOk, OnOk, OnErr, map};
+ghost use Rattle.std.specs.List.{sum_by};
+ghost use Rattle.simplecss_index.specs.Matching.{AreMatches, most_tests, keyed_for};
+
+use crate::keep::keep_matching;
+use crate::lasts::Lasts;
+use simplecss::{Keyed, Rule, Selector, Tests};
+use std::alloc::{AllocError, Global};
+use std::marker::Model;
+use std::snapshot::Snapshot;
+
+/// What an index keeps of a rule.
+#[derive(Drop)]
+pub(crate) struct Link<'a> {
+    /// The place of the last earlier rule with the same key.
+    pub(crate) earlier: Option<usize>,
+    /// The selector, which contracts alone see. It takes no bytes.
+    selector: Snapshot<Selector<'a>>,
+}
+
+impl<'a> Link<'a> {
+    /// The link of a selector.
+    #[inline(always)]
+    fn new(earlier: Option<usize>, selector: &Selector<'a>) -> Link<'a>
+        ensures earlier { result.earlier ≡ earlier }
+        ensures selector { result.selector.value ≡ selector.now }
+    {
+        Link {
+            earlier,
+            selector: Snapshot::of(selector),
+        }
+    }
+}
+
+/// An index of rules by the keys of their selectors: it finds the rules that match an element, and asks only those whose key
+/// the element has.
+///
+/// It keeps places and not the rules, so it may stand beside its sheet in one value. It is of the rules as they stood when it
+/// was made: after an edit of their selectors, or of their number or order, make another.
+#[derive(Drop)]
+pub struct RuleIndex<'a> {
+    /// The last place of each key.
+    pub(crate) lasts: Lasts<'a>,
+    /// For each rule, in order, how it is chained to the earlier ones.
+    pub(crate) links: Vec<Link<'a>>,
+}
+
+impl<'a> Model for RuleIndex<'a> {
+    ghost use Rattle.std.specs.Prelude.{List, map};
+    ghost use Rattle.simplecss.specs.Components.{Component};
+
+    ghost Value = { List (List Component) };
+
+    ghost use Rattle.simplecss_index.specs.Chains.{selectors_of, AreChained};
+
+    ghost view = { λ index. selectors_of index.links.items };
+
+    ghost invariant = { λ index. AreChained index.lasts index.links.items };
+}
+
+impl<'a> RuleIndex<'a> {
+    /// The index of these rules. The error is that a growth was refused.
+    pub fn new(alloc: Global, rules: &[Rule<'a>]) -> Result<Self, AllocError>
+        ensures { IfOk result (λ index. index ≡ map (λ rule. rule.selector) rules.now) }
+    {
+        let mut lasts = Lasts::new(alloc);
+        let mut links = Vec::with_capacity(alloc, rules.len())?;
+        for (place, rule) in rules.iter().enumerate() {
+            let earlier = lasts.replace(rule.selector.key(), place)?;
+            links.push(Link::new(earlier, &rule.selector))?;
+        }
+        Ok(RuleIndex { lasts, links })
+    }
+
+    /// The places of the rules that match the element, in order: what asking each rule would give. The rules are those that
+    /// the index was made of.
+    ///
+    /// What stood in `places` is dropped, and what `places` grows by is all the memory that the call takes: at most so many
+    /// places as there are rules, and words in the element's class, and three more. Once it has grown, further calls take
+    /// none. The error is that the growth was refused.
+    pub fn matching<E: Keyed>(
+        &self,
+        rules: &[Rule<'a>],
+        element: &E,
+        places: &mut Vec<usize>,
+    ) -> Result<(), AllocError>
+        requires { self.now ≡ map (λ rule. rule.selector) rules.now }
+        ensures matches { OnOk result (AreMatches E.tree (E.node element.now) self.now places.new.items) }
+        ensures err { OnErr result (places.new.items ≡ []) }
+    {
+        self.matching_counted(rules, element, places, &mut Tests::new())
+    }
+
+    /// `matching`, with a count of the tests that were made. No rule is asked whose key the element has not.
+    pub fn matching_counted<E: Keyed>(
+        &self,
+        rules: &[Rule<'a>],
+        element: &E,
+        places: &mut Vec<usize>,
+        tests: &mut Tests,
+    ) -> Result<(), AllocError>
+        requires { self.now ≡ map (λ rule. rule.selector) rules.now }
+        ensures matches { OnOk result (AreMatches E.tree (E.node element.now) self.now places.new.items) }
+        ensures at_most { tests.new ≤ tests.old + sum_by (most_tests E.tree (E.node element.now))
+            (keyed_for E.tree (E.node element.now) self.now) }
+        ensures err { OnErr result (places.new.items ≡ []) }
+        ensures untested { OnErr result (tests.new ≡ tests.old) }
+    {
+        if let Err(error) = self.candidates(element, places) {
+            places.clear();
+            return Err(error);
+        }
+        let kept = keep_matching(rules, element, places, tests);
+        places.truncate(kept);
+        Ok(())
+    }
+}
+
+#[cfg(test)]
+mod tests;

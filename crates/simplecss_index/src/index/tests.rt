@@ -1,0 +1,177 @@
+//! Tests of what an index finds.
+use crate::RuleIndex;
+use crate::laws::answers_law;
+use crate::line::{Entry, Place};
+use simplecss::{Rule, StyleSheet, Tests};
+use std::alloc::{AllocError, Global};
+use std::test::Fail;
+
+/// A sheet, a line of elements, and the values of the rules that match the last of them, in order.
+const FOUND: &[(&str, &[Entry<'static>], &str)] = &[
+    // By each kind of key, in the order of the rules, which is that of their specificity.
+    (
+        "#x{n:1} .b{n:2} a{n:3} *{n:4} #y{n:5} .c{n:6} p{n:7}",
+        &[("a", Some("x"), Some("b"))],
+        "4 3 2 1",
+    ),
+    // The key is of the last component, and the others are asked too.
+    ("p a{n:1} .b .c{n:2} .c .b{n:3}", &[("p", None, Some("b")), ("a", None, Some("c"))], "1 2"),
+    ("p > a{n:1} q > a{n:2}", &[("p", None, None), ("a", None, None)], "1"),
+    // The first id is the key, or else the first class, and all are asked.
+    ("#x#y{n:1} .b.c{n:2} a.b{n:3} a#x.b{n:4}", &[("a", Some("x"), Some("b"))], "3 4"),
+    (".b.c{n:1} .c.b{n:2}", &[("a", None, Some("c b"))], "1 2"),
+    // `[id=x]` has an id's key and `[class~=b]` a class's; other operators have none.
+    (
+        "[id=x]{n:1} [class~=b]{n:2} [class='b c']{n:3} [class|=b]{n:4} [class]{n:5} [id]{n:6} [id~=x]{n:7}",
+        &[("a", Some("x"), Some("b c"))],
+        "2 3 5 1 6 7",
+    ),
+    ("[type=text]{n:1} [class='a b']{n:2}", &[("a", None, Some("a b"))], "2"),
+    // A class that the value repeats matches once.
+    (".b{n:1} .c{n:2}", &[("a", None, Some("b b c b"))], "1 2"),
+    // Words stand between single spaces 0x20; a tab parts none.
+    (".b{n:1} .c{n:2}", &[("a", None, Some(" b  c "))], "1 2"),
+    (".b{n:1} .c{n:2}", &[("a", None, Some("b\tc"))], ""),
+    ("[class~='']{n:1}", &[("a", None, Some("b  c"))], "1"),
+    ("[class~='']{n:1}", &[("a", None, Some("b c"))], ""),
+    ("[class~='']{n:1}", &[("a", None, Some(""))], "1"),
+    ("[class~='']{n:1}", &[("a", None, None)], ""),
+    // Names and values match byte by byte.
+    ("A{n:1} #X{n:2} .B{n:3}", &[("a", Some("x"), Some("b"))], ""),
+    // An id is no class and no name.
+    ("#b{n:1} .x{n:2} x{n:3} b{n:4}", &[("a", Some("x"), Some("b"))], ""),
+    ("[id='']{n:1}", &[("a", Some(""), None)], "1"),
+    ("[id='']{n:1}", &[("a", None, None)], ""),
+    ("p{n:1} #x{n:2} .b{n:3}", &[("a", None, None)], ""),
+    ("", &[("a", Some("x"), Some("b"))], ""),
+];
+
+/// The values of the first declarations of the rules at these places, with a space between.
+fn values_at<'a>(
+    alloc: Global,
+    rules: &[Rule<'a>],
+    places: &[usize],
+) -> Result<String, AllocError> {
+    let mut text = String::new(alloc);
+    for place in places {
+        let value = match rules.get(*place) {
+            Some(rule) => match rule.declarations.first() {
+                Some(declaration) => declaration.value,
+                None => "none",
+            },
+            None => "outside",
+        };
+        if !text.is_empty() {
+            text.push(' ')?;
+        }
+        text.push_str(value)?;
+    }
+    Ok(text)
+}
+
+#[test]
+fn what_an_index_finds(rt: HostRuntime) -> Result<(), Fail> {
+    let alloc = rt.alloc();
+    for (text, line, expected) in FOUND {
+        let mut sheet = StyleSheet::new(alloc);
+        sheet.parse_more(&rt, alloc, text)?;
+        let rules = sheet.rules.as_slice();
+        let index = RuleIndex::new(alloc, rules)?;
+        let element = Place::last(line).ok_or("no element")?;
+        let mut places = Vec::new(alloc);
+        index.matching(rules, &element, &mut places)?;
+        assert_eq!(rt; values_at(alloc, rules, &places)?.as_str(), *expected, "{text}");
+    }
+    Ok(())
+}
+
+/// Rules of all kinds of keys, some with the same key, and some of which ask for a parent or a class besides.
+const SHEET: &str = "*{n:1} a{n:2} p{n:3} .b{n:4} .c{n:5} #x{n:6} #y{n:7} p a{n:8} p>a{n:9} .b a{n:10} .b .c{n:11} \
+    a.b{n:12} a.c.b{n:13} #x.b{n:14} a#x{n:15} [id=x]{n:16} [class='b c']{n:17} [class~='']{n:18} p *{n:19} \
+    *.c{n:20} [class|=b]{n:21} a:first-child{n:22} .c .b{n:23} #x .b{n:24} #x #y{n:25} a+a{n:26} .b.c{n:27}";
+
+/// Lines of elements, the last of which is asked.
+const LINES: &[&[Entry<'static>]] = &[
+    &[("a", None, None)],
+    &[("a", Some("x"), Some("b"))],
+    &[("a", Some("y"), Some("c b c"))],
+    &[("p", Some("x"), Some("b c")), ("a", Some("y"), Some("c"))],
+    &[("p", None, Some(" b")), ("q", None, None), ("a", Some("x"), Some("b "))],
+    &[("a", Some("x"), None), ("p", Some("y"), Some("c  b"))],
+    &[("q", Some(""), Some(""))],
+    &[("q", Some("z"), Some("d e"))],
+    &[("p", None, Some("c")), ("p", None, Some("b\tc"))],
+];
+
+/// The places of the rules that match, each rule asked in turn.
+fn asked_in_turn(
+    alloc: Global,
+    rules: &[Rule<'_>],
+    element: &Place<'_, '_>,
+) -> Result<Vec<usize>, AllocError> {
+    let mut places = Vec::new(alloc);
+    for (place, rule) in rules.iter().enumerate() {
+        if rule.selector.matches(element) {
+            places.push(place)?;
+        }
+    }
+    Ok(places)
+}
+
+/// One vector serves all questions, and what stood in it is dropped.
+#[test]
+fn as_if_each_rule_were_asked(rt: HostRuntime) -> Result<(), Fail> {
+    let alloc = rt.alloc();
+    let mut sheet = StyleSheet::new(alloc);
+    sheet.parse_more(&rt, alloc, SHEET)?;
+    let rules = sheet.rules.as_slice();
+    assert_eq!(rt; rules.len(), 27);
+    let index = RuleIndex::new(alloc, rules)?;
+    let mut places = Vec::new(alloc);
+    places.push(7)?;
+    for line in LINES {
+        let element = Place::last(line).ok_or("no element")?;
+        index.matching_counted(rules, &element, &mut places, &mut Tests::new())?;
+        let expected = asked_in_turn(alloc, rules, &element)?;
+        assert!(rt; places == expected, "{line:?}: {places:?} and {expected:?}");
+    }
+    Ok(())
+}
+
+/// The text, so many times.
+fn repeated(alloc: Global, text: &str, count: usize) -> Result<String, AllocError> {
+    let mut all = String::new(alloc);
+    for _ in 0..count {
+        all.push_str(text)?;
+    }
+    Ok(all)
+}
+
+/// A hundred times the class of a hundred rules: the places have room for words and rules, and not for each pair of them.
+#[test]
+fn a_repeated_class_takes_little_memory(rt: HostRuntime) -> Result<(), Fail> {
+    let alloc = rt.alloc();
+    let text = repeated(alloc, ".b{n:1} ", 100)?;
+    let class = repeated(alloc, "b ", 100)?;
+    let mut sheet = StyleSheet::new(alloc);
+    sheet.parse_more(&rt, alloc, &text)?;
+    let rules = sheet.rules.as_slice();
+    let index = RuleIndex::new(alloc, rules)?;
+    let line = [("a", None, Some(class.as_str()))];
+    let element = Place::last(&line).ok_or("no element")?;
+    let mut places = Vec::new(alloc);
+    index.matching(rules, &element, &mut places)?;
+    assert_eq!(rt; places.len(), 100);
+    assert!(rt; places.capacity() <= 512);
+
+    // And once there is room, further questions take none.
+    let room = places.capacity();
+    index.matching(rules, &element, &mut places)?;
+    assert_eq!(rt; places.capacity(), room);
+    Ok(())
+}
+
+#[test]
+fn the_law_is_called(_rt: HostRuntime) {
+    answers_law::<Place<'static, 'static>>();
+}
