@@ -3,8 +3,8 @@
     docs.py PROGRAM     PROGRAM is the built `cssq`
 
 A block of code below a line `<!-- from FILE -->` stands in that file, apart from indentation; so does one in the documentation of
-an item. Every other block of Rust is refused. What the README's table of commands shows is what the program answers, with the
-files of the blocks below lines `<!-- file NAME -->`. Prints 'N passed, M failed' in the end; the status is 1 if something failed.
+an item. What the README's table of commands shows is what the program answers, with the files of the blocks below lines
+`<!-- file NAME -->`. There are no other blocks. Prints 'N passed, M failed' in the end; the status is 1 if something failed.
 """
 import os
 import re
@@ -42,14 +42,14 @@ def stands_in(block, text):
 
 
 def blocks(text):
-    """Of each block of code its language, the line above it, and its lines."""
+    """Of each block of code the line above it, and its lines."""
     found = []
     lines = text.split("\n")
     at = 0
     while at < len(lines):
         if lines[at].startswith("```"):
             end = lines.index("```", at + 1)
-            found.append((lines[at][3:], lines[at - 1] if at else "", lines[at + 1 : end]))
+            found.append((lines[at - 1] if at else "", lines[at + 1 : end]))
             at = end
         at += 1
     return found
@@ -67,22 +67,22 @@ documents = [(name, read(name)) for name in names if name == "README.md" or re.f
 documents += [(name, documentation(read(name))) for name in names if name.endswith(".rt") and "<!-- from " in read(name)]
 named = 0
 for name, text in documents:
-    expect(text.count("<!-- from ") == sum(above.startswith("<!-- from ") for _, above, _ in blocks(text)), f"{name}: a source is named and no block follows")
-    for language, above, block in blocks(text):
+    expect(text.count("<!-- from ") == sum(above.startswith("<!-- from ") for above, _ in blocks(text)), f"{name}: a source is named and no block follows")
+    for above, block in blocks(text):
         source = re.fullmatch(r"<!-- from (\S+) -->", above)
         if source:
             named += 1
             where = os.path.join(top, source[1])
             expect(os.path.isfile(where) and stands_in(block, read(source[1])), f"{name}: {source[1]} has no {block[:1]}..")
         else:
-            expect(language != "rust", f"{name}: no source is named of {block[:1]}..")
+            expect(above.startswith("<!-- file "), f"{name}: no source is named of {block[:1]}..")
 expect(named > 0, "no document names a source")
 
 # ---- the README's table of commands
 
 readme = read("README.md")
 with tempfile.TemporaryDirectory() as folder:
-    for _, above, block in blocks(readme):
+    for above, block in blocks(readme):
         file = re.fullmatch(r"<!-- file (\S+) -->", above)
         if file:
             with open(os.path.join(folder, file[1]), "w", encoding="utf-8") as made:

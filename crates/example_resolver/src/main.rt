@@ -7,7 +7,8 @@
 #![tactic(auto)]
 
 use log::sink::Discard;
-use simplecss::{Declaration, DeclarationTokenizer, Element, Rule, StyleSheet};
+use simplecss::{Declaration, DeclarationTokenizer, Rule, StyleSheet};
+use simplecss_index::RuleIndex;
 use simplecss_tree::{Tree, TreeError};
 use std::alloc::{AllocError, Global};
 use std::process::ExitCode;
@@ -44,21 +45,19 @@ fn read_picture(alloc: Global, text: &str) -> Result<Tree<'_>, TreeError> {
     Ok(tree)
 }
 
-/// Adds the declarations of this importance: those of the rules that match, and then the element's
-/// own ones.
-fn push_declarations<'a, E: Element>(
+/// Adds the declarations of this importance: those of the rules at these places, and then the
+/// element's own ones.
+fn push_declarations<'a>(
     found: &mut Vec<Declaration<'a>>,
     rules: &[Rule<'a>],
-    element: &E,
+    places: &[usize],
     own: &'a str,
     important: bool,
 ) -> Result<(), AllocError> {
-    for rule in rules {
-        if rule.selector.matches(element) {
-            for declaration in &rule.declarations {
-                if declaration.important == important {
-                    found.push(*declaration)?;
-                }
+    for rule in places.iter().filter_map(|place| rules.get(*place)) {
+        for declaration in &rule.declarations {
+            if declaration.important == important {
+                found.push(*declaration)?;
             }
         }
     }
@@ -70,28 +69,32 @@ fn push_declarations<'a, E: Element>(
     Ok(())
 }
 
-/// The declarations that apply to an element whose attribute `style` is `own`, the weakest first.
-fn resolve<'a, E: Element>(
+/// The declarations that apply to an element, the weakest first: the rules at these places match it,
+/// and its attribute `style` is `own`.
+fn resolve<'a>(
     alloc: Global,
     rules: &[Rule<'a>],
-    element: &E,
+    places: &[usize],
     own: &'a str,
 ) -> Result<Vec<Declaration<'a>>, AllocError> {
     let mut found = Vec::new(alloc);
-    push_declarations(&mut found, rules, element, own, false)?;
-    push_declarations(&mut found, rules, element, own, true)?;
+    push_declarations(&mut found, rules, places, own, false)?;
+    push_declarations(&mut found, rules, places, own, true)?;
     Ok(found)
 }
 
-/// Prints each element with its declarations.
+/// Prints each element with its declarations. The rules that match are found by an index.
 fn print(rt: &HostRuntime, sheet: &StyleSheet<'_>, tree: &Tree<'_>) -> io::Result<()> {
+    let index = RuleIndex::new(rt.alloc(), &sheet.rules)?;
+    let mut places = Vec::new(rt.alloc());
     for place in 0..tree.len() {
         let Some(element) = tree.node(place) else {
             break;
         };
+        index.matching(&sheet.rules, &element, &mut places)?;
         println!(rt; "{}", element.name())?;
         let own = element.attribute("style").unwrap_or("");
-        for declaration in &resolve(rt.alloc(), &sheet.rules, &element, own)? {
+        for declaration in &resolve(rt.alloc(), &sheet.rules, &places, own)? {
             println!(rt; "    {declaration}")?;
         }
     }
