@@ -66,6 +66,34 @@ module _ {Node : Type 0} (tree : Tree Node) (n : Node) (rules : List StyleRule) 
     light = tt;
   }
 
+  -- nothing stands in the rules from a place up to another, where none of them takes the node
+  pub known_skipped : (place later : ℕ) → place ≤ later → ((k : ℕ) (rule : StyleRule) → place ≤ k → k < later → slice_get rules k ≡ Some rule → HasPlacement tree rule.components n → ⊥)
+      → (w : Option Property) → KnownFrom (IsStated tree n rules) name later w → KnownFrom (IsStated tree n rules) name place w
+  known_skipped place later le none None known = record {
+    wins = λ k l q stands named. elim (before_or_from later k) [
+      | inl less ↦ none k stands.1.rule stands.0 less stands.1.rule_at stands.1.takes
+      | inr late ↦ known.wins k l q (late, stands.1) named
+    ];
+    light = tt;
+  }
+  known_skipped place later le none (Some v) known =
+      let won = known.wins in
+      record {
+        wins = (
+          won.0,
+          won.1,
+          record {
+            stated = (let late = won.2.stated.0 in omega (arith, late, le), won.2.stated.1);
+            named = won.2.named;
+            unbeaten = λ k l q stands named beats. elim (before_or_from later k) [
+              | inl less ↦ none k stands.1.rule stands.0 less stands.1.rule_at stands.1.takes
+              | inr late ↦ won.2.unbeaten k l q (late, stands.1) named beats
+            ];
+          },
+        );
+        light = known.light;
+      }
+
   pub known_all : (w : Option Property) → KnownFrom (IsStated tree n rules) name 0 w → Wins (IsStated tree n rules) name w
   known_all None known = λ k l q stands named. known.wins k l q (omega arith, stands) named
   known_all (Some v) known =
@@ -196,11 +224,6 @@ module _ {A : Type 0} (f : A → Property) (stands : Standing) (name : List ℕ)
   pub winner_none : (r : Option A) → Wins stands name (option_map f r) → IsNone r ↔ NoneStands stands name
   winner_none None wins = (λ _. wins, λ _. refl)
   winner_none (Some d) wins = (λ e. absurd (cc), λ none. absurd (none wins.0 wins.1 (f d) wins.2.stated wins.2.named))
-
-  -- the two clauses of an answer say what wins
-  pub winner_known : (r : Option A) → IfSome r (λ d. Wins stands name (Some (f d))) → IsNone r ↔ NoneStands stands name → Wins stands name (option_map f r)
-  winner_known None found none = none.0 refl
-  winner_known (Some d) found none = found
 
 -- a rule that was read from its place
 pub rule_read : (rules : List Rule) (k : ℕ) (r : Rule) → k < length rules → r ≡ get_or rules k r → slice_get (rules_of rules) k ≡ Some (rule_of r)

@@ -5,7 +5,7 @@ use Rattle.std.specs.List.{slice_get}
 use Rattle.std.proofs.lemmas.Bool.{cases_lt}
 use Rattle.std.proofs.lemmas.List.{length-map, map-append}
 use Rattle.std.proofs.lemmas.Option.{slice_get_within, slice_get-get_or}
-use Rattle.cssq.specs.declared.tree.Entry.{Entry}
+use Rattle.cssq.specs.declared.tree.entry.Entry.{Entry}
 use Rattle.cssq.specs.declared.tree.Line.{Line}
 use Rattle.cssq.specs.Relatives.{last_place, parent_place, previous_place}
 use Rattle.cssq.specs.Lines.{depths, AreLinked}

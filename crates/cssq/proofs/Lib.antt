@@ -14,3 +14,5 @@ pub mod Cascading
 pub mod FromLast
 pub mod Listing
 pub mod BestPlaces
+pub mod Indexed
+pub mod Among

@@ -1,13 +1,11 @@
 -- The line of an element, a rule after another, and the lines of all elements.
-use Rattle.std.proofs.Common.{◌≡◌, ℕ, zero, suc, ◌+◌, ◌<◌, ◌↔◌, Bool, true, false, cond, List, [], ◌∷◌, ◌++◌, length, take, get_or, refl, sym, ap, ◌∙◌, subst, arith, append_assoc, append-nil}
-use Rattle.std.specs.Prelude.{decimal}
+use Rattle.std.proofs.Common.{◌≡◌, ℕ, zero, suc, ◌+◌, ◌<◌, ◌↔◌, Bool, true, false, cond, List, [], ◌∷◌, ◌++◌, length, map, take, get_or, refl, sym, ap, ◌∙◌, subst, arith, append_assoc, append-nil}
 use Rattle.std.specs.List.{AllZip, items_where_true, range_with_len, concat}
-use Rattle.std.proofs.lemmas.List.{take_more, take_all, length-append}
-use Rattle.std.proofs.lemmas.List.Concat.{flat_map-append}
+use Rattle.std.proofs.lemmas.List.{take_more, length-append, map-append}
 use Rattle.simplecss.specs.Statements.{StyleRule}
 use Rattle.cssq.specs.TreeText.{Row}
 use Rattle.cssq.specs.Nodes.{Spot, spot}
-use Rattle.cssq.specs.MatchRuns.{Takes, AreAnswers, numbers_of, numbers_text, line_text, IsLineOf, IsLineAdded, AreLines}
+use Rattle.cssq.specs.MatchRuns.{Takes, AreAnswers, numbers_of, line_text, IsLineOf, IsLineAdded, AreLines}
 
 all_zip_push : {A B : Type 0} (R : A → B → Type 0) (xs : List A) (ys : List B) (x : A) (y : B) → AllZip R xs ys → R x y → AllZip R (xs ++ x ∷ []) (ys ++ y ∷ [])
 all_zip_push R [] [] x y all r = (r, tt)
@@ -27,20 +25,17 @@ numbers_push first (false ∷ answers) answer =
     let at : first + 1 + length answers ≡ first + suc (length answers) = omega arith in
     numbers_push (first + 1) answers answer ∙ ap (λ n. items_where_true answers (range_with_len (first + 1) (length answers)) ++ cond answer (n ∷ []) []) at
 
-text_push : (answers : List Bool) (answer : Bool) → numbers_text (numbers_of (answers ++ answer ∷ [])) ≡ numbers_text (numbers_of answers) ++ numbers_text (cond answer ((1 + length answers) ∷ []) [])
-text_push answers answer = ap numbers_text (numbers_push 1 answers answer) ∙ flat_map-append (λ n. 32 ∷ decimal n) (numbers_of answers) (cond answer ((1 + length answers) ∷ []) [])
-
--- what was written for the first rules
-pub record WrittenSoFar (start out : List ℕ) (rules : List StyleRule) (element : Spot) (count : ℕ) : Type 0 where
+-- the answers for the first rules, of which those at these places are a yes
+pub record AnsweredSoFar (rules : List StyleRule) (element : Spot) (count : ℕ) (places : List ℕ) : Type 0 where
   pub answers : List Bool
   pub are : AreAnswers answers (take count rules) element
   pub counted : length answers ≡ count
-  pub text : out ≡ start ++ numbers_text (numbers_of answers)
+  pub numbers : numbers_of answers ≡ map (λ place. place + 1) places
 
-pub written_none : (start : List ℕ) (rules : List StyleRule) (element : Spot) → WrittenSoFar start start rules element 0
-written_none start rules element = record { answers = []; are = tt; counted = refl; text = sym (append-nil start) }
+pub answered_none : (rules : List StyleRule) (element : Spot) → AnsweredSoFar rules element 0 []
+answered_none rules element = record { answers = []; are = tt; counted = refl; numbers = refl }
 
-module _ {start out : List ℕ} {rules : List StyleRule} {element : Spot} {i : ℕ} (so_far : WrittenSoFar start out rules element i) (rule : StyleRule) (within : i < length rules) (at : get_or rules i rule ≡ rule) where
+module _ {rules : List StyleRule} {element : Spot} {i : ℕ} {places : List ℕ} (so_far : AnsweredSoFar rules element i places) (rule : StyleRule) (within : i < length rules) (at : get_or rules i rule ≡ rule) where
   more : (answer : Bool) → ((answer ≡ true) ↔ Takes rule element) → AreAnswers (so_far.answers ++ answer ∷ []) (take (i + 1) rules) element
   more answer tells =
       subst (λ rs. AreAnswers (so_far.answers ++ answer ∷ []) rs element) (sym (take_more rules i rule within ∙ ap (λ r. take i rules ++ r ∷ []) at))
@@ -49,37 +44,24 @@ module _ {start out : List ℕ} {rules : List StyleRule} {element : Spot} {i : �
   longer : (answer : Bool) → length (so_far.answers ++ answer ∷ []) ≡ i + 1
   longer answer = length-append so_far.answers (answer ∷ []) ∙ ap (λ n. n + 1) so_far.counted
 
-  pub written_yes : (new : List ℕ) → Takes rule element → new ≡ out ++ (32 ∷ decimal (i + 1)) → WrittenSoFar start new rules element (i + 1)
-  written_yes new takes wrote =
-      let at : i + 1 ≡ 1 + length so_far.answers = omega (arith, so_far.counted) in
-      let one : numbers_text ((1 + length so_far.answers) ∷ []) ≡ 32 ∷ decimal (1 + length so_far.answers) = append-nil (32 ∷ decimal (1 + length so_far.answers)) in
+  pub answered_yes : Takes rule element → AnsweredSoFar rules element (i + 1) (places ++ i ∷ [])
+  answered_yes takes =
+      let next : 1 + length so_far.answers ≡ i + 1 = omega (arith, so_far.counted) in
       record {
         answers = so_far.answers ++ true ∷ [];
         are = more true (λ _. takes, λ _. refl);
         counted = longer true;
-        text = wrote ∙ ap (λ l. l ++ (32 ∷ decimal (i + 1))) so_far.text ∙ append_assoc start (numbers_text (numbers_of so_far.answers)) (32 ∷ decimal (i + 1))
-            ∙ ap (λ n. start ++ (numbers_text (numbers_of so_far.answers) ++ (32 ∷ decimal n))) at
-            ∙ ap (λ l. start ++ (numbers_text (numbers_of so_far.answers) ++ l)) (sym one)
-            ∙ ap (λ l. start ++ l) (sym (text_push so_far.answers true));
+        numbers = numbers_push 1 so_far.answers true ∙ ap (λ ns. ns ++ (1 + length so_far.answers) ∷ []) so_far.numbers
+            ∙ ap (λ n. map (λ place. place + 1) places ++ n ∷ []) next ∙ sym (map-append (λ place. place + 1) places (i ∷ []));
       }
 
-  pub written_no : (Takes rule element → ⊥) → WrittenSoFar start out rules element (i + 1)
-  written_no not_taken = record {
+  pub answered_no : (Takes rule element → ⊥) → AnsweredSoFar rules element (i + 1) places
+  answered_no not_taken = record {
     answers = so_far.answers ++ false ∷ [];
     are = more false (λ e. absurd (cc), λ takes. absurd (not_taken takes));
     counted = longer false;
-    text = so_far.text ∙ ap (λ l. start ++ l) (sym (append-nil (numbers_text (numbers_of so_far.answers)))) ∙ ap (λ l. start ++ l) (sym (text_push so_far.answers false));
+    numbers = numbers_push 1 so_far.answers false ∙ append-nil (numbers_of so_far.answers) ∙ so_far.numbers;
   }
-
-regrouped : (old number rest : List ℕ) → ((old ++ (number ++ 58 ∷ [])) ++ rest) ++ 10 ∷ [] ≡ old ++ (number ++ (58 ∷ (rest ++ 10 ∷ [])))
-regrouped old number rest = simp append_assoc
-
-pub line_added : (old start out new : List ℕ) (number : ℕ) (rules : List StyleRule) (element : Spot) → start ≡ old ++ (decimal number ++ 58 ∷ []) → WrittenSoFar start out rules element (length rules) → new ≡ out ++ 10 ∷ [] → IsLineAdded old new number rules element
-line_added old start out new number rules element head so_far end = (
-  so_far.answers,
-  subst (λ rs. AreAnswers so_far.answers rs element) (take_all (length rules) rules (omega arith)) so_far.are,
-  end ∙ ap (λ l. l ++ 10 ∷ []) (so_far.text ∙ ap (λ l. l ++ numbers_text (numbers_of so_far.answers)) head) ∙ regrouped old (decimal number) (numbers_text (numbers_of so_far.answers)),
-)
 
 range_push : (first n : ℕ) → range_with_len first (suc n) ≡ range_with_len first n ++ (first + n) ∷ []
 range_push first zero = let same : first ≡ first + 0 = omega arith in ap (λ n. n ∷ []) same

@@ -5,7 +5,7 @@ use Rattle.std.specs.Result.{IsErrAnd}
 use Rattle.std.proofs.Math.ListN.{replicate}
 use Rattle.std.proofs.lemmas.List.{take-append-le, take_all, map-append, length-append, length-map, length-replicate, replicate_more}
 use Rattle.std.proofs.lemmas.List.Elements.{All-replicate}
-use Rattle.cssq.specs.declared.tree.Entry.{Entry}
+use Rattle.cssq.specs.declared.tree.entry.Entry.{Entry}
 use Rattle.cssq.specs.declared.tree.Line.{Line}
 use Rattle.cssq.specs.declared.tree.TreeFault.{TreeFault}
 use Rattle.cssq.specs.declared.tree.TreeFault.TheVariants.{BadDepth, EmptyName, NoEquals, RepeatedKey, Memory}

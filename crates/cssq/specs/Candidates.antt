@@ -25,11 +25,14 @@ pub record IsCandidate {Node : Type 0} (tree : Tree Node) (n : Node) (rule : Sty
   pub takes : HasPlacement tree rule.components n
   pub best : (i : ℕ) → Wins (InRule i rule.properties) name (Some p)
 
--- If the rule has a placement on the node, then one of a later rule is known, and none in this one of the name is important.
+-- whatever declaration of the name the rule has, one of a later rule is known, and this one is not important
+abbrev pub IsOutdone : StyleRule → List ℕ → Bool → Type 0
+IsOutdone rule name is_later_known =
+    (j : ℕ) (p : Property) → slice_get rule.properties j ≡ Some p → p.name ≡ name → (is_later_known ≡ true) × (p.important ≡ false)
+
+-- if the rule has a placement on the node, it is outdone
 abbrev pub IsPassedOver : {Node : Type 0} → Tree Node → Node → StyleRule → List ℕ → Bool → Type 0
-IsPassedOver tree n rule name is_later_known =
-    HasPlacement tree rule.components n
-    → (j : ℕ) (p : Property) → slice_get rule.properties j ≡ Some p → p.name ≡ name → (is_later_known ≡ true) × (p.important ≡ false)
+IsPassedOver tree n rule name is_later_known = HasPlacement tree rule.components n → IsOutdone rule name is_later_known
 
 -- the place that a map has for a name
 abbrev pub place_for : BTreeMap (Bor (List ℕ)) ℕ → List ℕ → Option ℕ

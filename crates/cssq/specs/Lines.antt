@@ -1,18 +1,12 @@
 -- The lines that a page keeps, and how each is tied to others.
-use Rattle.std.specs.Prelude.{◌≡◌, ℕ, List, [], map, Option, None, Some}
-use Rattle.std.specs.Borrow.{Bor}
+use Rattle.std.specs.Prelude.{◌≡◌, ℕ, List, [], map, Some}
 use Rattle.std.specs.List.{slice_get}
-use Rattle.cssq.specs.declared.tree.Entry.{Entry}
+use Rattle.cssq.specs.declared.tree.entry.Entry.{Entry}
 use Rattle.cssq.specs.declared.tree.Line.{Line}
 use Rattle.cssq.specs.declared.tree.TreeFault.{TreeFault}
 use Rattle.cssq.specs.declared.tree.TreeFault.TheVariants.{BadDepth, EmptyName, NoEquals, RepeatedKey, Memory}
-use Rattle.cssq.specs.TreeText.{Row, fields_of, attribute_of, row_of, faults_of_line}
+use Rattle.cssq.specs.TreeText.{Row, fields_of, fields_in, attribute_of, row_of, faults_of_line}
 use Rattle.cssq.specs.Relatives.{parent_place, previous_place}
-
--- the fields of a text of fields, where there is one
-abbrev pub fields_in : Option (Bor (List ℕ)) → List (List ℕ)
-fields_in None = []
-fields_in (Some text) = fields_of text.now
 
 -- what a line says
 abbrev pub row : Entry → Row

@@ -26,6 +26,10 @@ numbers_of answers = items_where_true answers (range_with_len 1 (length answers)
 abbrev pub numbers_text : List ℕ → List ℕ
 numbers_text numbers = flat_map (λ n. 32 ∷ decimal n) numbers
 
+-- an element's number, a colon, numbers of rules with a space before each, and a newline
+abbrev pub numbers_line : ℕ → List ℕ → List ℕ
+numbers_line number numbers = decimal number ++ (58 ∷ (numbers_text numbers ++ 10 ∷ []))
+
 -- an element's number, a colon, the numbers of the rules that take it, and a newline
 abbrev pub line_text : ℕ → List Bool → List ℕ
 line_text number answers = decimal number ++ (58 ∷ (numbers_text (numbers_of answers) ++ 10 ∷ []))

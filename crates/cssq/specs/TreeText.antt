@@ -1,5 +1,6 @@
 -- The text of a tree: a line for each element, of fields between TABs.
 use Rattle.std.specs.Prelude.{◌≡◌, ℕ, ◌+◌, ◌<◌, ◌≤◌, Bool, false, not, ◌&&◌, List, [], ◌∷◌, length, map, take, drop, Option, None, Some, Result, Ok, Err, ◌==◌, if◌then◌else◌, nat_lt, nat_le, bytes_eq, is_none}
+use Rattle.std.specs.Borrow.{Bor}
 use Rattle.std.specs.List.{All, slice_split, slice_index_or, before_first, after_first, position_or_len, list_any, list_all, zip, flat_map, filter_map, cons_option, range_with_len, enumerate_from}
 use Rattle.std.specs.Char.{is_ascii_digit}
 use Rattle.std.specs.Str.Parse.{digits_value}
@@ -32,6 +33,11 @@ lines_of text = without_empty_last (slice_split is_newline text)
 -- the fields of a line, between TABs
 abbrev pub fields_of : List ℕ → List (List ℕ)
 fields_of line = slice_split is_tab line
+
+-- the fields of a text of fields, where there is one
+abbrev pub fields_in : Option (Bor (List ℕ)) → List (List ℕ)
+fields_in None = []
+fields_in (Some text) = fields_of text.now
 
 -- the first field, which spells the depth
 abbrev pub depth_text : List (List ℕ) → List ℕ

@@ -1,14 +1,15 @@
 //! Which declarations of a style sheet win on an element: the cascade (CSS 2.1 section 6.4.1).
 
-ghost use Rattle.std.specs.Prelude.{◌≡◌, ◌↔◌, ℕ, ◌<◌, length, Contains, IfOk, IfSome, IsNone, IsTrue, Some};
+ghost use Rattle.std.specs.Prelude.{◌≡◌, ◌↔◌, ℕ, ◌<◌, length, map, Contains, IfOk, IfSome, IsNone, IsTrue, Some};
 ghost use Rattle.std.specs.Option.{option_map};
 ghost use Rattle.simplecss.specs.Declarations.{Property};
 ghost use Rattle.simplecss.specs.Properties.{property_of, properties_of};
 ghost use Rattle.simplecss.specs.StyleRules.{rule_of, rules_of};
 ghost use Rattle.cssq.specs.Winners.{Wins, IsStated, IsWinner, HasNoWinner, WinsForItsName, ListsInOrder, HaveOwnNames};
-ghost use Rattle.cssq.specs.Candidates.{better_of, InRule, IsCandidate, IsPassedOver, TellsWhether, HasBestPlaces};
+ghost use Rattle.cssq.specs.Candidates.{better_of, InRule, IsCandidate, IsOutdone, IsPassedOver, TellsWhether, HasBestPlaces};
 
-use simplecss::{Declaration, Element, Rule, StyleSheet};
+use simplecss::{Declaration, Element, Keyed, Rule, StyleSheet};
+use simplecss_index::RuleIndex;
 use std::alloc::{AllocError, Global};
 use std::collections::BTreeMap;
 
@@ -36,8 +37,21 @@ fn best_of<'a>(declarations: &[Declaration<'a>], name: &str) -> Option<Declarati
     best
 }
 
-/// The declaration of the name that wins within a rule, if the rule takes the element. The rule is not asked where there is
-/// no such declaration, nor where one of a later rule is known and this one is not important.
+/// The declaration of the name that wins within a rule, unless one of a later rule is known and this one is not important.
+fn contender<'a>(rule: &Rule<'a>, name: &str, is_later_known: bool) -> Option<Declaration<'a>>
+    ensures best { IfSome result (λ best. (i : ℕ)
+        → Wins (InRule i (rule_of rule.now).properties) name.now (Some (property_of best))) }
+    ensures important { IsTrue is_later_known → IfSome result (λ best. IsTrue best.important) }
+    ensures outdone { IsNone result → IsOutdone (rule_of rule.now) name.now is_later_known }
+{
+    let best = best_of(&rule.declarations, name)?;
+    if is_later_known && !best.important {
+        return None;
+    }
+    Some(best)
+}
+
+/// The contender of a rule, if the rule takes the element. The rule is not asked where it has no contender.
 fn candidate<'a, E: Element>(
     rule: &Rule<'a>,
     element: &E,
@@ -48,10 +62,7 @@ fn candidate<'a, E: Element>(
     ensures important { IsTrue is_later_known → IfSome result (λ best. IsTrue best.important) }
     ensures passed_over { IsNone result → IsPassedOver E.tree (E.node element.now) (rule_of rule.now) name.now is_later_known }
 {
-    let best = best_of(&rule.declarations, name)?;
-    if is_later_known && !best.important {
-        return None;
-    }
+    let best = contender(rule, name, is_later_known)?;
     if rule.selector.matches(element) {
         Some(best)
     } else {
@@ -88,6 +99,34 @@ pub fn winning<'a, E: Element>(
         winner = Some(best);
     }
     winner
+}
+
+/// What `winning` gives, by an index of the rules, which finds those that take the element. What stood in `places` is
+/// dropped, and its growth is all the memory that this takes.
+pub(crate) fn winning_by<'a, E: Keyed>(
+    index: &RuleIndex<'a>,
+    rules: &[Rule<'a>],
+    element: &E,
+    name: &str,
+    places: &mut Vec<usize>,
+) -> Result<Option<Declaration<'a>>, AllocError>
+    requires { index.now ≡ map (λ rule. rule.selector) rules.now }
+    ensures { IfOk result (λ winner.
+        Wins (IsStated E.tree (E.node element.now) (rules_of rules.now)) name.now (option_map property_of winner)) }
+{
+    index.matching(rules, element, places)?;
+    let places = places.as_slice();
+    let mut winner: Option<Declaration<'a>> = None;
+    for i in (0..places.len()).rev() {
+        let Some(best) = contender(&rules[places[i]], name, winner.is_some()) else {
+            continue;
+        };
+        if best.important {
+            return Ok(Some(best));
+        }
+        winner = Some(best);
+    }
+    Ok(winner)
 }
 
 /// The declarations of the rules that take the element, in the order of their places.

@@ -1,6 +1,6 @@
 //! What the program's commands do, over any writer.
 
-ghost use Rattle.std.specs.Prelude.{◌≡◌, ◌++◌, Some, OnOk, OnErr, IfErr, IfOk, string_bytes, map, decimal};
+ghost use Rattle.std.specs.Prelude.{◌≡◌, ◌+◌, ◌^◌, ◌<◌, ◌++◌, Some, All, OnOk, OnErr, IfErr, IfOk, string_bytes, map, decimal};
 ghost use Rattle.std.specs.Option.{option_map};
 ghost use Rattle.std.specs.Fmt.{WritesStyledOnOk};
 ghost use Rattle.std.specs.Io.KnownBytes.{Appends};
@@ -8,7 +8,7 @@ ghost use Rattle.cssq.specs.Outcomes.{AppendsProperPart, Runs};
 ghost use Rattle.cssq.specs.Faults.{status_of, message_of, run_fault};
 ghost use Rattle.cssq.specs.SelectorRuns.{selector_line, IsSelectorRun};
 ghost use Rattle.cssq.specs.SheetRuns.{sheet_output, IsSheetRun};
-ghost use Rattle.cssq.specs.MatchRuns.{IsMatchText, IsLineAdded, IsMatchRun};
+ghost use Rattle.cssq.specs.MatchRuns.{numbers_line, IsMatchText, IsMatchRun};
 ghost use Rattle.cssq.specs.StyleRuns.{style_line, IsStyleText, IsStyleRun};
 ghost use Rattle.cssq.specs.declared.runs.RunFault.TheVariants.{Memory};
 ghost use Rattle.simplecss.specs.Properties.{property_of};
@@ -16,10 +16,11 @@ ghost use Rattle.simplecss.specs.ThisEdition.{this_edition};
 ghost use Rattle.simplecss.specs.Sheets.{sheet};
 ghost use Rattle.simplecss.specs.StyleRules.{rules_of};
 
-use crate::cascade::winning;
-use crate::tree::{Node, Page, TreeFault};
+use crate::cascade::winning_by;
+use crate::tree::{Page, TreeFault};
 use log::Log;
 use simplecss::{Declaration, Rule, Selector, StyleSheet};
+use simplecss_index::RuleIndex;
 use std::alloc::{AllocError, AllocFailed, Global};
 use std::error::Error;
 use std::fmt;
@@ -164,21 +165,6 @@ pub fn run_selector<R: Log, W: Write>(
     write_out(out, line.as_bytes())
 }
 
-/// The sheet of all the texts, read in turn.
-fn read_sheet<'a, R: Log>(
-    rt: &R,
-    alloc: Global,
-    texts: &[&'a str],
-) -> Result<StyleSheet<'a>, AllocError>
-    ensures { IfOk result (λ read. rules_of read.rules.items ≡ sheet this_edition (map (λ text. text.now) texts.now)) }
-{
-    let mut sheet = StyleSheet::new(alloc);
-    for text in texts {
-        sheet.parse_more(rt, alloc, text)?;
-    }
-    Ok(sheet)
-}
-
 /// The printed sheet, and a newline where it has a rule.
 fn sheet_text(alloc: Global, sheet: &StyleSheet<'_>) -> Result<String, AllocError>
     ensures { IfOk result (λ text. string_bytes text ≡ sheet_output (rules_of sheet.now.rules.items)) }
@@ -193,6 +179,7 @@ fn sheet_text(alloc: Global, sheet: &StyleSheet<'_>) -> Result<String, AllocErro
 ///
 /// The whole output is built first: after `Memory` nothing was written. After `Output` a beginning of it was, and never all
 /// of it. There is no other fault.
+#[tactic(auto, using(crate::proofs::Written::runs_written))]
 pub fn run_sheet<R: Log, W: Write>(
     rt: &R,
     alloc: Global,
@@ -201,26 +188,21 @@ pub fn run_sheet<R: Log, W: Write>(
 ) -> Result<(), RunFault>
     ensures { Runs (IsSheetRun (map (λ text. text.now) texts.now)) result (W.contents out.old) (W.contents out.new) }
 {
-    let sheet = read_sheet(rt, alloc, texts)?;
+    let sheet = StyleSheet::parse_all(rt, alloc, texts)?;
     let text = sheet_text(alloc, &sheet)?;
     write_out(out, text.as_bytes())
 }
 
-/// Adds the line of an element: its number, and the numbers of the rules that take it.
-fn push_line(
-    out: &mut String,
-    number: usize,
-    rules: &[Rule<'_>],
-    element: &Node<'_, '_>,
-) -> Result<(), AllocError>
-    ensures { OnOk result (IsLineAdded (string_bytes out.old) (string_bytes out.new) number (rules_of rules.now) element.now) }
+/// Adds the line of an element: its number, and the numbers of the rules at the places.
+fn push_line(out: &mut String, number: usize, places: &[usize]) -> Result<(), AllocError>
+    requires { All (λ place. place + 1 < 2 ^ 64) places.now }
+    ensures { OnOk result (string_bytes out.new
+        ≡ string_bytes out.old ++ numbers_line number (map (λ place. place + 1) places.now)) }
 {
     write!(out, "{number}:")?;
-    for (i, rule) in rules.iter().enumerate() {
-        if rule.selector.matches(element) {
-            let rule_number = i + 1;
-            write!(out, " {rule_number}")?;
-        }
+    for place in places {
+        let rule_number = *place + 1;
+        write!(out, " {rule_number}")?;
     }
     out.push('\n')?;
     Ok(())
@@ -230,10 +212,13 @@ fn push_line(
 fn match_text(alloc: Global, rules: &[Rule<'_>], page: &Page<'_>) -> Result<String, AllocError>
     ensures { IfOk result (λ text. IsMatchText (rules_of rules.now) page.now (string_bytes text)) }
 {
+    let index = RuleIndex::new(alloc, rules)?;
+    let mut places = Vec::new(alloc);
     let mut text = String::new(alloc);
     for place in 0..page.len() {
         let node = page.node(place).unwrap();
-        push_line(&mut text, place + 1, rules, &node)?;
+        index.matching(rules, &node, &mut places)?;
+        push_line(&mut text, place + 1, places.as_slice())?;
     }
     Ok(text)
 }
@@ -243,6 +228,7 @@ fn match_text(alloc: Global, rules: &[Rule<'_>], page: &Page<'_>) -> Result<Stri
 ///
 /// The sheet is read first, then the tree, and then the whole output is built: after `Tree` and `Memory` nothing was written.
 /// After `Output` a beginning of it was, and never all of it. `Refused` does not come.
+#[tactic(auto, using(crate::proofs::Written::runs_written))]
 pub fn run_match<R: Log, W: Write>(
     rt: &R,
     alloc: Global,
@@ -252,7 +238,7 @@ pub fn run_match<R: Log, W: Write>(
 ) -> Result<(), RunFault>
     ensures { Runs (IsMatchRun sheet.now tree.now) result (W.contents out.old) (W.contents out.new) }
 {
-    let sheet = read_sheet(rt, alloc, &[sheet])?;
+    let sheet = StyleSheet::parse(rt, alloc, sheet)?;
     let page = Page::read(alloc, tree)?;
     let text = match_text(alloc, sheet.rules.as_slice(), &page)?;
     write_out(out, text.as_bytes())
@@ -287,10 +273,13 @@ fn style_text(
 ) -> Result<String, AllocError>
     ensures { IfOk result (λ text. IsStyleText name.now (rules_of sheet.now.rules.items) page.now (string_bytes text)) }
 {
+    let rules = sheet.rules.as_slice();
+    let index = RuleIndex::new(alloc, rules)?;
+    let mut places = Vec::new(alloc);
     let mut text = String::new(alloc);
     for place in 0..page.len() {
         let node = page.node(place).unwrap();
-        let winner = winning(sheet, &node, name);
+        let winner = winning_by(&index, rules, &node, name, &mut places)?;
         push_winner(&mut text, place + 1, winner)?;
     }
     Ok(text)
@@ -301,6 +290,7 @@ fn style_text(
 ///
 /// The sheet is read first, then the tree, and then the whole output is built: after `Tree` and `Memory` nothing was written.
 /// After `Output` a beginning of it was, and never all of it. `Refused` does not come.
+#[tactic(auto, using(crate::proofs::Written::runs_written))]
 pub fn run_style<R: Log, W: Write>(
     rt: &R,
     alloc: Global,
@@ -311,7 +301,7 @@ pub fn run_style<R: Log, W: Write>(
 ) -> Result<(), RunFault>
     ensures { Runs (IsStyleRun sheet.now tree.now name.now) result (W.contents out.old) (W.contents out.new) }
 {
-    let sheet = read_sheet(rt, alloc, &[sheet])?;
+    let sheet = StyleSheet::parse(rt, alloc, sheet)?;
     let page = Page::read(alloc, tree)?;
     let text = style_text(alloc, &sheet, &page, name)?;
     write_out(out, text.as_bytes())

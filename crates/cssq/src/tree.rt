@@ -1,14 +1,17 @@
 //! A tree of elements from its text.
 
-ghost use Rattle.std.specs.Prelude.{◌≡◌, ◌∷◌, ◌++◌, ◌<◌, ◌≤◌, [], length, take, nat_le, IfSome, IfOk, IfErr, Ok, MatchOption, MatchResult, is_some, option_map};
+ghost use Rattle.std.specs.Prelude.{◌≡◌, ◌∷◌, ◌++◌, ◌<◌, ◌≤◌, [], length, take, nat_le, map, codes, IfSome, IfOk, IfErr, Ok, MatchOption, MatchResult, is_some, option_map};
 ghost use Rattle.std.specs.List.{list_all, slice_get};
 ghost use Rattle.std.specs.Char.{is_ascii_digit};
-ghost use Rattle.cssq.specs.TreeText.{fields_of, has_equals, key_of, value_of, lines_of, is_depth, depth_of, has_key, field_faults, fault_number, fault_line, faults_of_line, tree_of, IsFaultOf};
+ghost use Rattle.cssq.specs.TreeText.{attribute_of, fields_in, fields_of, has_equals, key_of, value_of, lines_of, is_depth, depth_of, has_key, field_faults, fault_number, fault_line, faults_of_line, tree_of, IsFaultOf};
 ghost use Rattle.cssq.specs.Relatives.{depths_of, last_place, parent_place, previous_place};
-ghost use Rattle.cssq.specs.Nodes.{spot, name_at, attribute_at};
-ghost use Rattle.cssq.specs.Lines.{fields_in, depths, AreLinked, IsToldOf, Says};
+ghost use Rattle.cssq.specs.Nodes.{spot, name_at, attribute_at, value_in};
+ghost use Rattle.cssq.specs.Lines.{depths, AreLinked, IsToldOf, Says};
 
-use simplecss::{AttributeOperator, Element, PseudoClass};
+mod entry;
+
+use entry::Entry;
+use simplecss::{AttributeOperator, Element, Keyed, PseudoClass};
 use std::alloc::{AllocError, Global};
 use std::collections::BTreeSet;
 use std::marker::Model;
@@ -55,14 +58,6 @@ impl TreeFault {
             | TreeFault::Memory(line) => *line,
         }
     }
-}
-
-/// What a line says. The attributes are the text of the fields behind the name, if there is one.
-#[derive(Clone, Copy, Debug)]
-struct Entry<'t> {
-    depth: usize,
-    name: &'t str,
-    attributes: Option<&'t str>,
 }
 
 /// A line among the others.
@@ -245,6 +240,22 @@ fn check_fields(alloc: Global, number: usize, fields: Option<&str>) -> Result<()
     }
 }
 
+/// The value of the first field with the key.
+fn value_at<'t>(fields: Option<&'t str>, key: &str) -> Option<&'t str>
+    ensures { option_map (λ value. value.now) result ≡ value_in (map attribute_of (fields_in fields.entry)) key.now }
+{
+    let mut rest = fields;
+    while let Some(text) = rest {
+        let (field, others) = cut_field(text);
+        let (name, value) = attribute_of(field);
+        if name == key {
+            return Some(value);
+        }
+        rest = others;
+    }
+    None
+}
+
 /// What a line says, or what is wrong with it.
 fn read_line(alloc: Global, number: usize, limit: usize, line: &str) -> Result<Entry<'_>, TreeFault>
     ensures value { MatchResult result (λ e. Says number limit line.now e) (λ fault. IsToldOf number (faults_of_line number limit (fields_of line.now)) fault) }
@@ -266,6 +277,8 @@ fn read_line(alloc: Global, number: usize, limit: usize, line: &str) -> Result<E
         depth,
         name,
         attributes,
+        class: value_at(attributes, "class"),
+        id: value_at(attributes, "id"),
     })
 }
 
@@ -277,10 +290,11 @@ fn nearest(lines: &[Line<'_>], depth: usize) -> Option<usize>
 {
     let mut candidate = lines.len().checked_sub(1);
     while let Some(i) = candidate {
-        if lines[i].entry.depth <= depth {
+        let line = lines[i];
+        if line.entry.depth <= depth {
             break;
         }
-        candidate = lines[i].parent;
+        candidate = line.parent;
     }
     candidate
 }
@@ -297,16 +311,22 @@ fn link<'t>(lines: &[Line<'t>], entry: Entry<'t>) -> Line<'t>
             parent: None,
             previous: None,
         },
-        Some(i) if lines[i].entry.depth == entry.depth => Line {
-            entry,
-            parent: lines[i].parent,
-            previous: Some(i),
-        },
-        Some(i) => Line {
-            entry,
-            parent: Some(i),
-            previous: None,
-        },
+        Some(i) => {
+            let near = lines[i];
+            if near.entry.depth == entry.depth {
+                Line {
+                    entry,
+                    parent: near.parent,
+                    previous: Some(i),
+                }
+            } else {
+                Line {
+                    entry,
+                    parent: Some(i),
+                    previous: None,
+                }
+            }
+        }
     }
 }
 
@@ -402,16 +422,12 @@ impl<'t> Page<'t> {
         requires { place < length self.now }
         ensures { option_map (λ value. value.now) result ≡ attribute_at self.now place key.now }
     {
-        let mut rest = self.lines[place].entry.attributes;
-        while let Some(text) = rest {
-            let (field, others) = cut_field(text);
-            let (name, value) = attribute_of(field);
-            if name == key {
-                return Some(value);
-            }
-            rest = others;
+        let entry = self.lines[place].entry;
+        match key {
+            "class" => entry.class,
+            "id" => entry.id,
+            _ => value_at(entry.attributes, key),
         }
-        None
     }
 }
 
@@ -479,5 +495,22 @@ impl<'p, 't> Element for Node<'p, 't> {
             PseudoClass::FirstChild => self.page.previous(self.place).is_none(),
             _ => false,
         }
+    }
+}
+
+impl<'p, 't> Keyed for Node<'p, 't> {
+    #[inline(always)]
+    fn local_name(&self) -> &str {
+        self.page.name(self.place)
+    }
+
+    #[inline(always)]
+    fn id_value(&self) -> Option<&str> {
+        self.page.attribute(self.place, "id")
+    }
+
+    #[inline(always)]
+    fn class_value(&self) -> Option<&str> {
+        self.page.attribute(self.place, "class")
     }
 }

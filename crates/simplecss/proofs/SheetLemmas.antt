@@ -59,14 +59,22 @@ kept_open e text open_comment =
     let none : next_statement e text ≡ None = ap (λ b. if b then None else Some (statement e (past_blank text))) ends in
     ap (λ r. filter has_property (flat_map (λ rules. rules) r.0)) (each-none (next_statement e) text none)
 
+-- one more text, before the rules are in order
+pub texts_more : (e : Edition) (texts : List (List ℕ)) (t : List ℕ) → flat_map (kept e) (texts ++ t ∷ []) ≡ flat_map (kept e) texts ++ kept e t
+texts_more e texts t = flat_map-append (kept e) texts (t ∷ []) ∙ ap (λ l. flat_map (kept e) texts ++ l) (append-nil (kept e t))
+
+-- one that is an open comment alone
+pub texts_open : (e : Edition) (texts : List (List ℕ)) (t : List ℕ) → is_open_comment t ≡ true → flat_map (kept e) (texts ++ t ∷ []) ≡ flat_map (kept e) texts
+texts_open e texts t open_comment =
+    texts_more e texts t ∙ ap (λ l. flat_map (kept e) texts ++ l) (kept_open e t open_comment) ∙ append-nil (flat_map (kept e) texts)
+
 -- so the sheet with it is the one without it
 pub sheet_open : (e : Edition) (texts : List (List ℕ)) (t : List ℕ) → is_open_comment t ≡ true → sheet e (texts ++ t ∷ []) ≡ sheet e texts
-sheet_open e texts t open_comment =
-    ap ordered (flat_map-append (kept e) texts (t ∷ []) ∙ ap (λ l. flat_map (kept e) texts ++ l) (append-nil (kept e t) ∙ kept_open e t open_comment) ∙ append-nil (flat_map (kept e) texts))
+sheet_open e texts t open_comment = ap ordered (texts_open e texts t open_comment)
 
 -- one more text
 pub sheet_more : (e : Edition) (texts : List (List ℕ)) (t : List ℕ) → sheet e (texts ++ t ∷ []) ≡ ordered (filter has_property (sheet e texts) ++ kept e t)
 sheet_more e texts t =
-    ap ordered (flat_map-append (kept e) texts (t ∷ []) ∙ ap (λ l. flat_map (kept e) texts ++ l) (append-nil (kept e t)))
+    ap ordered (texts_more e texts t)
     ∙ sym (ordered_front is_smaller smaller_order (flat_map (kept e) texts) (kept e t))
     ∙ ap (λ l. ordered (l ++ kept e t)) (sym (sheet_filled e texts))

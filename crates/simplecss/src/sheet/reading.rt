@@ -1,11 +1,11 @@
 //! The rules of a text.
-ghost use Rattle.std.specs.Prelude.{◌≡◌, ◌++◌, IfOk, IsTrue, MatchBool, MatchOption, None, Some, map, true, false};
-ghost use Rattle.std.specs.List.{flat_map};
+ghost use Rattle.std.specs.Prelude.{◌≡◌, ◌++◌, ◌∷◌, [], List, ℕ, IfOk, IsOk, IsTrue, IsUtf8, OnOk, MatchBool, MatchOption, None, Some, filter, map, true, false};
+ghost use Rattle.std.specs.List.{All, flat_map};
 ghost use Rattle.simplecss_text.specs.Comments.{past_blank};
-ghost use Rattle.simplecss_text.specs.Statements.{statement, next_statement, statements, is_open_comment};
+ghost use Rattle.simplecss_text.specs.Statements.{has_property, kept, statement, next_statement, statements, is_open_comment};
 ghost use Rattle.simplecss_text.specs.ThisEdition.{this_edition};
 ghost use Rattle.simplecss_text.specs.Cursor.{text_of, rest_of};
-ghost use Rattle.simplecss.specs.StyleRules.{rule_of};
+ghost use Rattle.simplecss.specs.StyleRules.{rule_of, rules_of};
 
 use super::rules::Rule;
 use super::statements::RuleReader;
@@ -44,4 +44,38 @@ pub(crate) fn read_rules<'a, R: Log>(
         reader.consume_statement(rt, alloc, &mut s)?;
     }
     Ok(Some(reader.into_rules()))
+}
+
+/// Puts the rules of a text behind those of other texts. An open comment has none.
+fn add_rules<'a, R: Log>(
+    rt: &R,
+    alloc: Global,
+    text: &'a str,
+    rules: &mut Vec<Rule<'a>>,
+) -> Result<(), AllocError>
+    ensures kept { (texts : List (List ℕ)) → filter has_property (rules_of rules.old.items) ≡ flat_map (kept this_edition) texts
+        → OnOk result (filter has_property (rules_of rules.new.items) ≡ flat_map (kept this_edition) (texts ++ text.now ∷ [])) }
+    ensures utf8 { IsUtf8 text.now }
+{
+    match read_rules(rt, alloc, text)? {
+        Some(mut more) => rules.append(&mut more),
+        None => Ok(()),
+    }
+}
+
+/// All rules of the texts in turn, of which those that have a declaration are kept.
+pub(crate) fn read_all<'a, R: Log>(
+    rt: &R,
+    alloc: Global,
+    texts: &[&'a str],
+) -> Result<Vec<Rule<'a>>, AllocError>
+    ensures kept { IfOk result (λ rules. filter has_property (rules_of rules.items)
+        ≡ flat_map (kept this_edition) (map (λ text. text.now) texts.now)) }
+    ensures utf8 { IsOk result → All (λ text. IsUtf8 text.now) texts.now }
+{
+    let mut rules = Vec::new(alloc);
+    for text in texts {
+        add_rules(rt, alloc, text, &mut rules)?;
+    }
+    Ok(rules)
 }

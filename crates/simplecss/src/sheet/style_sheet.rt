@@ -1,6 +1,6 @@
 //! Style sheets.
-ghost use Rattle.std.specs.Prelude.{◌≡◌, ◌∷◌, ◌++◌, [], ℕ, List, IfOk, OnErr, OnOk, filter, true, false};
-ghost use Rattle.std.specs.List.{AllPass};
+ghost use Rattle.std.specs.Prelude.{◌≡◌, ◌∷◌, ◌++◌, [], ℕ, List, IfOk, OnErr, OnOk, filter, map, true, false};
+ghost use Rattle.std.specs.List.{All, AllPass};
 ghost use Rattle.simplecss_text.specs.Characters.{first_edition};
 ghost use Rattle.simplecss_text.specs.Editions.{IsCommon};
 ghost use Rattle.simplecss_text.specs.Statements.{has_property, kept, is_open_comment};
@@ -34,6 +34,9 @@ impl<'a> StyleSheet<'a> {
 
     /// The style sheet of one text. Only memory may be wanting: what CSS 2.1 does not let stand is passed over (section
     /// 4.2). Warnings of what is passed over go to `rt`.
+    ///
+    /// A rule set's declarations are stored once for each of its selectors, so the memory that it takes grows as the
+    /// product of their numbers.
     pub fn parse<R: Log>(rt: &R, alloc: Global, text: &'a str) -> Result<Self, AllocError>
         ensures sheet { IfOk result (λ s. rules_of s.rules.items ≡ sheet this_edition (text.now ∷ [])) }
         ensures selectors { IfOk result (λ s. SelectorsReadBack this_edition (rules_of s.rules.items)) }
@@ -45,6 +48,23 @@ impl<'a> StyleSheet<'a> {
     {
         let mut sheet = StyleSheet::new(alloc);
         sheet.parse_more(rt, alloc, text)?;
+        Ok(sheet)
+    }
+
+    /// The style sheet of all these texts, read in turn: the one that [`StyleSheet::parse_more`] gives of them one after
+    /// another, but that its rules are put in order once, so that many short texts take no more time than a long one.
+    /// Warnings of what is passed over go to `rt`.
+    pub fn parse_all<R: Log>(rt: &R, alloc: Global, texts: &[&'a str]) -> Result<Self, AllocError>
+        ensures sheet { IfOk result
+            (λ s. rules_of s.rules.items ≡ sheet this_edition (map (λ text. text.now) texts.now)) }
+        ensures filled { IfOk result (λ s. AllPass has_property (rules_of s.rules.items)) }
+        ensures selectors { IfOk result (λ s. SelectorsReadBack this_edition (rules_of s.rules.items)) }
+        ensures prints_back { All (λ text. has_wide_space text.now ≡ false) texts.now
+            → IfOk result (λ s. PrintsBack this_edition (rules_of s.rules.items)) }
+    {
+        let mut sheet = StyleSheet::new(alloc);
+        let all = reading::read_all(rt, alloc, texts)?;
+        order::merge(&mut sheet.rules, all)?;
         Ok(sheet)
     }
 

@@ -142,6 +142,42 @@ fn reads_texts_in_turn(rt: HostRuntime) -> Result<(), Fail> {
     Ok(())
 }
 
+#[test]
+fn reads_all_texts_at_once(rt: HostRuntime) -> Result<(), Fail> {
+    let none = StyleSheet::parse_all(&Discard, rt.alloc(), &[])?;
+    assert!(rt; prints(&rt, &none, "")?);
+    let texts = [
+        "#x { a:b }",
+        "p { c:d } q {}",
+        "/* open",
+        "",
+        "#y { e:f } q { g:h }",
+        ", p { i:j",
+    ];
+    let sheet = StyleSheet::parse_all(&Discard, rt.alloc(), &texts)?;
+    let want = "p { c:d; }\nq { g:h; }\np { i:j; }\n*[id='x'] { a:b; }\n*[id='y'] { e:f; }";
+    assert!(rt; prints(&rt, &sheet, want)?);
+    Ok(())
+}
+
+#[test]
+fn tells_the_logger_of_all_texts_in_turn(rt: HostRuntime) -> Result<(), Fail> {
+    let texts = ["> {}", "a { b:c }", "@import 'subs.css';", ":le {}"];
+    let messages = [
+        "Selector parsing failed cause unexpected combinator.",
+        "The @import rule is not supported. Skipped.",
+        "':le' is not supported. Selector skipped.",
+    ];
+    let sink = Memory::new(rt.alloc());
+    StyleSheet::parse_all(&sink, rt.alloc(), &texts)?;
+    let lines = sink.into_lines();
+    assert_eq!(rt; lines.len(), messages.len());
+    for (line, message) in lines.as_slice().iter().zip(messages) {
+        assert!(rt; line.as_str().ends_with(message), "{line:?}");
+    }
+    Ok(())
+}
+
 /// Lets the two rules change places, and takes the declarations of the one that is then the last.
 fn turn(sheet: &mut StyleSheet) {
     if sheet.rules.len() == 2 {

@@ -1,7 +1,7 @@
-use Rattle.std.proofs.Common.{map, string_bytes}
-use Rattle.simplecss.specs.StyleRules.{rule_of}
-use Rattle.cssq.proofs.MatchLines.{WrittenSoFar}
+use Rattle.std.proofs.Common.{◌≡◌, ◌+◌, ◌++◌, map, take, string_bytes}
+use Rattle.cssq.specs.MatchRuns.{numbers_text}
 use Rattle.cssq.proofs.runs.push_line.Given as goal
 
-abbrev pub invariant-loop-i : goal.invariant-loop-i
-invariant-loop-i l = WrittenSoFar (string_bytes l.initial.out) (string_bytes l.out) (map rule_of l.rules) l.element l.i
+-- the numbers of the places so far were written
+abbrev pub invariant-loop-place : goal.invariant-loop-place
+invariant-loop-place l = string_bytes l.out ≡ string_bytes l.initial.out ++ numbers_text (map (λ place. place + 1) (take l.place-index l.places))

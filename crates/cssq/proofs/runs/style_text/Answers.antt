@@ -5,7 +5,6 @@ use Rattle.simplecss.specs.StyleRules.{rules_of}
 use Rattle.cssq.specs.Nodes.{spot, page_tree}
 use Rattle.cssq.specs.Winners.{Wins, IsStated}
 use Rattle.cssq.specs.StyleRuns.{style_line}
-use Rattle.cssq.proofs.FromLast.{winner_known}
 use Rattle.cssq.proofs.MatchLines.{lines_more}
 use Rattle.cssq.proofs.runs.style_text.Goals as goal
 
@@ -13,8 +12,7 @@ use Rattle.cssq.proofs.runs.style_text.Goals as goal
 pub loop-place-preserved : goal.loop-place-preserved
 loop-place-preserved c =
     let at = subst (λ r. MatchOption r (length c.args.page.now ≤ c.loop-place.place) (λ node. (c.loop-place.place < length c.args.page.now) × (node ≡ spot c.args.page.now c.loop-place.place))) c.unwrap-node.ensures c.node.ensures in
-    let rules = rules_of c.args.sheet.now.rules.items in
-    let winner = option_map property_of c.winning-winner.result in
-    let wins = winner_known property_of (IsStated page_tree c.unwrap-node.result rules) c.args.name.now c.winning-winner.result c.winning-winner.ensures.winner c.winning-winner.ensures.none in
+    let winner = option_map property_of c.in_ok-winner.winner in
+    let wins = subst (λ rules. Wins (IsStated page_tree c.unwrap-node.result (rules_of rules)) c.args.name.now winner) c.as_slice-rules.ensures.value c.in_ok-winner.ensures in
     lines_more c.loop-place.invariant (style_line (c.loop-place.place + 1) winner) (string_bytes c.push_winner.new.out)
-    (winner, subst (λ n. Wins (IsStated page_tree n rules) c.args.name.now winner) at.1 wins, refl) c.in_ok-push_winner.ensures
+    (winner, subst (λ n. Wins (IsStated page_tree n (rules_of c.args.sheet.now.rules.items)) c.args.name.now winner) at.1 wins, refl) c.in_ok-push_winner.ensures

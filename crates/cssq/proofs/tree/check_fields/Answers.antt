@@ -1,5 +1,5 @@
 use Rattle.std.proofs.Common.{sym, ◌∙◌}
-use Rattle.cssq.specs.Lines.{fields_in}
+use Rattle.cssq.specs.TreeText.{fields_in}
 use Rattle.cssq.proofs.Fields.{fields_told, no_first, first_or_memory}
 use Rattle.cssq.proofs.tree.check_fields.Goals as goal
 

@@ -1,5 +1,5 @@
 use Rattle.std.proofs.Common.{arith}
-use Rattle.cssq.specs.Lines.{fields_in}
+use Rattle.cssq.specs.TreeText.{fields_in}
 use Rattle.cssq.proofs.Fields.{counted_none}
 use Rattle.cssq.proofs.tree.first_fault.Goals as goal
 

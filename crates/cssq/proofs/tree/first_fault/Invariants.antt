@@ -1,5 +1,5 @@
 use Rattle.std.proofs.Common.{◌≤◌, ◌+◌}
-use Rattle.cssq.specs.Lines.{fields_in}
+use Rattle.cssq.specs.TreeText.{fields_in}
 use Rattle.cssq.proofs.Fields.{Counted, left}
 use Rattle.cssq.proofs.tree.first_fault.Given as goal
 

@@ -1,5 +1,5 @@
 use Rattle.std.proofs.Common.{sym, ap, ◌∙◌}
-use Rattle.cssq.specs.Lines.{fields_in}
+use Rattle.cssq.specs.TreeText.{fields_in}
 use Rattle.cssq.proofs.Fields.{repeated}
 use Rattle.cssq.proofs.KeySets.{keys_none, had, had_not, keys_more}
 use Rattle.cssq.proofs.tree.first_fault_by_set.Goals as goal

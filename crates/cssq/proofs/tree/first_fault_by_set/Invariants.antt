@@ -1,4 +1,4 @@
-use Rattle.cssq.specs.Lines.{fields_in}
+use Rattle.cssq.specs.TreeText.{fields_in}
 use Rattle.cssq.proofs.Fields.{left}
 use Rattle.cssq.proofs.KeySets.{KeysAre}
 use Rattle.cssq.proofs.tree.first_fault_by_set.Given as goal

@@ -1,6 +1,5 @@
 use Rattle.std.proofs.Common.{◌≡◌, ◌-◌, take}
-use Rattle.cssq.specs.TreeText.{has_key}
-use Rattle.cssq.specs.Lines.{fields_in}
+use Rattle.cssq.specs.TreeText.{fields_in, has_key}
 use Rattle.cssq.proofs.tree.has_key.Given as goal
 
 abbrev pub invariant-loop-i : goal.invariant-loop-i

@@ -1,0 +1,217 @@
+"""Times of the built program on a real style sheet and a real page, beside another program of the same commands.
+
+    speed.py PROGRAM [OTHER] [--out FOLDER] [--runs N] [--quick]
+
+PROGRAM is the built `cssq`. OTHER, where it is given, is run in turn with it on the same files; its standard output must be
+the same. The style sheet is bootstrap.css of Debian's libjs-bootstrap4 and the page that of developers-reference, fetched by
+`apt-get download` into FOLDER (out/bench) once; where that fails, both are made here, and the table says so.
+
+Prints a table, and writes it with a picture to FOLDER: speed.md and speed.svg. Each time is the least of N runs of the whole
+process, in milliseconds of processor time.
+"""
+import argparse
+import glob
+import html.parser
+import os
+import platform
+import resource
+import subprocess
+import sys
+import time
+
+parser = argparse.ArgumentParser()
+parser.add_argument("program")
+parser.add_argument("other", nargs="?")
+parser.add_argument("--out", default=os.path.join(os.path.dirname(os.path.dirname(os.path.abspath(__file__))), "out", "bench"))
+parser.add_argument("--runs", type=int, default=7)
+parser.add_argument("--quick", action="store_true", help="small inputs alone")
+words = parser.parse_args()
+program = os.path.abspath(words.program)
+other = os.path.abspath(words.other) if words.other else None
+os.makedirs(words.out, exist_ok=True)
+
+VOID = {"area", "base", "br", "col", "embed", "hr", "img", "input", "link", "meta", "source", "track", "wbr"}
+
+
+class Elements(html.parser.HTMLParser):
+    """The elements of a page as lines: depth, name and attributes."""
+
+    def __init__(self):
+        super().__init__()
+        self.open = []
+        self.lines = []
+
+    def handle_starttag(self, tag, attrs):
+        fields = [str(len(self.open)), tag]
+        for key, value in dict(attrs).items():
+            fields.append(f"{key}={value or ''}".translate({9: " ", 10: " ", 13: " "}))
+        self.lines.append("\t".join(fields))
+        if tag not in VOID:
+            self.open.append(tag)
+
+    def handle_endtag(self, tag):
+        if tag in self.open:
+            while self.open.pop() != tag:
+                pass
+
+
+def fetched(package, name):
+    """A file of a Debian package, or none."""
+    folder = os.path.join(words.out, package)
+    if not os.path.isdir(folder):
+        try:
+            subprocess.run(["apt-get", "download", package], cwd=words.out, check=True, capture_output=True, timeout=120)
+            archive = glob.glob(os.path.join(words.out, package + "_*.deb"))[0]
+            subprocess.run(["dpkg-deb", "-x", archive, folder], check=True, capture_output=True)
+        except (subprocess.SubprocessError, OSError, IndexError):
+            return None
+    found = sorted(glob.glob(os.path.join(folder, "usr", "share", "**", name), recursive=True))
+    if not found:
+        return None
+    with open(found[0], encoding="utf-8") as file:
+        return file.read()
+
+
+def made_sheet(count):
+    """A sheet in the usual shape: classes of components, states and elements within them."""
+    rules = []
+    for i in range(count):
+        a, b = f"c{i % 97}", f"d{i % 61}"
+        head = [f".{a}-{i % 7}", f".{a} .{b}", f".{a}:hover, .{a}:focus", f"p > a.{b}", f"#x{i % 31} {b}", f"table.{a} > tr"][i % 6]
+        rules.append(f"{head} {{\n  color: #{i % 4096:03x};\n  margin: {i % 9}px 0;\n}}\n")
+    return "".join(rules)
+
+
+def made_tree(count):
+    """A page of about that many lines: sections of paragraphs with links."""
+    lines = ["0\thtml", "1\tbody"]
+    for i in range((count - 2) // 4):
+        lines.append(f"2\tdiv\tclass=c{i % 97} d{i % 61}" + (f"\tid=x{i}" if i % 5 == 0 else ""))
+        lines.append(f"3\tp\tclass=c{i % 97}-{i % 7}")
+        lines.append(f"4\ta\thref=#x{i}\tclass=d{i % 61}")
+        lines.append("3\ttable")
+    return lines
+
+
+def put(name, text):
+    path = os.path.join(words.out, name)
+    with open(path, "w", encoding="utf-8") as file:
+        file.write(text)
+    return path
+
+
+def timed(binary, args):
+    """The least processor time of a run, and its output."""
+    before = resource.getrusage(resource.RUSAGE_CHILDREN)
+    output = subprocess.run([binary, *args], stdin=subprocess.DEVNULL, stdout=subprocess.PIPE, stderr=subprocess.DEVNULL, check=True).stdout
+    after = resource.getrusage(resource.RUSAGE_CHILDREN)
+    return 1000 * (after.ru_utime + after.ru_stime - before.ru_utime - before.ru_stime), output
+
+
+def compared(args, runs):
+    """The least times of both programs, run in turn."""
+    ours, theirs, answer = float("inf"), None, None
+    for _ in range(runs):
+        spent, answer = timed(program, args)
+        ours = min(ours, spent)
+        if other:
+            spent, output = timed(other, args)
+            theirs = min(theirs or spent, spent)
+            if output != answer:
+                sys.exit(f"the two programs answer otherwise to {args}")
+    return ours, theirs
+
+
+css = fetched("libjs-bootstrap4", "bootstrap.css")
+page = fetched("developers-reference", "developers-reference.html")
+source = "bootstrap.css of Debian's libjs-bootstrap4, and the page developers-reference.html of Debian"
+if css and page:
+    elements = Elements()
+    elements.feed(page)
+    tree = elements.lines
+else:
+    source = "a sheet and a page that this script makes"
+    css, tree = made_sheet(1400), made_tree(8400)
+
+rows = []
+curves = {"reading": [], "matching": []}
+
+
+def row(what, args, runs=words.runs):
+    ours, theirs = compared(args, runs)
+    rows.append((what, ours, theirs))
+    print(f"{what:64} {ours:10.1f}" + (f" {theirs:10.1f} {theirs / ours:8.1f}" if theirs is not None else ""), flush=True)
+    return ours, theirs
+
+
+print(f"{'':64} {'ms':>10}" + (f" {'other ms':>10} {'times':>8}" if other else ""))
+sheet = put("sheet.css", css)
+for times in (1, 2, 4) if words.quick else (1, 2, 4, 8, 16):
+    path = put(f"sheet{times}.css", css * times)
+    size = os.path.getsize(path)
+    # A crate that reads in the square of the size is not waited for.
+    runs = words.runs if times < 8 else 3
+    ours, theirs = row(f"sheet: {size / 1e6:.1f} MB", ["sheet", path], runs)
+    curves["reading"].append((size, ours, theirs))
+for part in (8, 4, 2, 1):
+    lines = tree[: len(tree) // part]
+    path = put(f"tree{part}.tree", "\n".join(lines) + "\n")
+    ours, theirs = row(f"match: {len(lines):,} elements", ["match", sheet, path])
+    curves["matching"].append((len(lines), ours, theirs))
+if not words.quick:
+    path = put("twice.tree", "\n".join(tree * 4) + "\n")
+    ours, theirs = row(f"match: {4 * len(tree):,} elements", ["match", sheet, path], 3)
+    curves["matching"].append((4 * len(tree), ours, theirs))
+    whole = put("tree1.tree", "\n".join(tree) + "\n")
+    row("match: 20,000 rule sets on the page", ["match", put("many.css", made_sheet(20_000)), whole], 3)
+    row("match: 10 rule sets on 300,000 elements", ["match", put("few.css", made_sheet(10)), put("long.tree", "\n".join(made_tree(300_000)) + "\n")], 3)
+    row("style: color on the page", ["style", sheet, whole, "color"], 3)
+
+
+def picture():
+    """Both curves on double logarithmic scales, as SVG."""
+    from math import floor, log10, ceil
+
+    panels = [("reading", "bytes of the style sheet", curves["reading"]), ("matching", "elements of the page", curves["matching"])]
+    parts = ['<svg xmlns="http://www.w3.org/2000/svg" width="860" height="360" font-family="sans-serif" font-size="12">', '<rect width="860" height="360" fill="white"/>']
+    for number, (title, label, points) in enumerate(panels):
+        left, top, width, height = 60 + 430 * number, 40, 340, 260
+        xs = [p[0] for p in points]
+        ys = [y for p in points for y in p[1:] if y]
+        x0, x1 = floor(log10(min(xs)) * 2) / 2, ceil(log10(max(xs)) * 2) / 2
+        y0, y1 = floor(log10(min(ys))), ceil(log10(max(ys)))
+        x_of = lambda x: left + width * (log10(x) - x0) / (x1 - x0)
+        y_of = lambda y: top + height * (1 - (log10(y) - y0) / (y1 - y0))
+        parts.append(f'<text x="{left}" y="{top - 16}" font-size="14">{title}: milliseconds against {label}</text>')
+        parts.append(f'<rect x="{left}" y="{top}" width="{width}" height="{height}" fill="none" stroke="#888"/>')
+        for power in range(y0, y1 + 1):
+            y = y_of(10**power)
+            parts.append(f'<line x1="{left}" x2="{left + width}" y1="{y:.1f}" y2="{y:.1f}" stroke="#ddd"/><text x="{left - 6}" y="{y + 4:.1f}" text-anchor="end">{10**power:g}</text>')
+        for x in xs:
+            parts.append(f'<line x1="{x_of(x):.1f}" x2="{x_of(x):.1f}" y1="{top}" y2="{top + height}" stroke="#eee"/><text x="{x_of(x):.1f}" y="{top + height + 16}" text-anchor="middle">{x / 1e6:.1f}M</text>' if x >= 1e5 else f'<line x1="{x_of(x):.1f}" x2="{x_of(x):.1f}" y1="{top}" y2="{top + height}" stroke="#eee"/><text x="{x_of(x):.1f}" y="{top + height + 16}" text-anchor="middle">{x / 1e3:.0f}k</text>')
+        for which, colour, name in ((1, "#1764c0", "cssq"), (2, "#c04a17", "the Rust crate")):
+            line = [(x_of(p[0]), y_of(p[which])) for p in points if p[which]]
+            if line:
+                parts.append(f'<polyline fill="none" stroke="{colour}" stroke-width="2" points="{" ".join(f"{x:.1f},{y:.1f}" for x, y in line)}"/>')
+                parts += [f'<circle cx="{x:.1f}" cy="{y:.1f}" r="3" fill="{colour}"/>' for x, y in line]
+                parts.append(f'<text x="{line[-1][0] - 6:.1f}" y="{line[-1][1] - 8:.1f}" text-anchor="end" fill="{colour}">{name}</text>')
+    parts.append("</svg>")
+    return "\n".join(parts) + "\n"
+
+
+def processor():
+    try:
+        with open("/proc/cpuinfo", encoding="utf-8") as file:
+            return next(line.split(":")[1].strip() for line in file if line.startswith("model name"))
+    except (OSError, StopIteration):
+        return platform.machine()
+
+
+table = [f"Machine: {processor()}, {os.cpu_count()} processors. Date: {time.strftime('%Y-%m-%d')}. Texts: {source}.", ""]
+table.append("| | `cssq`, ms |" + (" the Rust crate, ms | times |" if other else ""))
+table.append("|---|---|" + ("---|---|" if other else ""))
+for what, ours, theirs in rows:
+    table.append(f"| {what} | {ours:.1f} |" + (f" {theirs:.1f} | {theirs / ours:.1f} |" if theirs is not None else ""))
+put("speed.md", "\n".join(table) + "\n")
+put("speed.svg", picture())
+print(f"written: {os.path.join(words.out, 'speed.md')} and speed.svg")
