@@ -1,6 +1,6 @@
 -- The answers of selectors that are asked in turn, by the places of those that match.
-use Rattle.std.proofs.Common.{◌≡◌, ℕ, suc, ◌+◌, ◌<◌, ◌↔◌, List, [], ◌∷◌, Bool, true, IsTrue, length, map, get_or, nat_eq, sym, ap, ◌∙◌, subst, arith}
-use Rattle.std.specs.List.{AllZip, Contains, items_where_true, list_any, range_with_len}
+use Rattle.std.proofs.Common.{◌≡◌, ℕ, suc, ◌+◌, ◌<◌, ◌↔◌, List, [], ◌∷◌, Bool, true, length, map, get_or, nat_eq, sym, ap, ◌∙◌, subst, arith}
+use Rattle.std.specs.List.{AllZip, items_where_true, list_any, range_with_len}
 use Rattle.std.proofs.lemmas.Cmp.{nat_eq_equiv}
 use Rattle.std.proofs.lemmas.List.FromFn.{length-map-range_with_len}
 use Rattle.std.proofs.lemmas.Map.Views.{list_any-from_Contains, Contains-from_any}

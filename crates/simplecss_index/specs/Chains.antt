@@ -26,4 +26,5 @@ earlier_at links place = option_map_or (λ link. link.earlier) (slice_get links 
 -- Each key leads to the last selector with it, and each link leads to the last earlier selector with the key of its own.
 pub record AreChained (lasts : Lasts) (links : List Link) : Type 0 where
   pub last : (key : Key) → IsLastBefore (selectors_of links) (length links) key (last_for lasts key)
-  pub earlier : (place : ℕ) → place < length links → IsLastBefore (selectors_of links) place (key_at (selectors_of links) place) (earlier_at links place)
+  pub earlier : (place : ℕ) → place < length links
+      → IsLastBefore (selectors_of links) place (key_at (selectors_of links) place) (earlier_at links place)

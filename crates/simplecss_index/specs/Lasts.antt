@@ -34,7 +34,8 @@ IdLeads lasts (Some text) place = last_for lasts (by_id text) ≡ Some place
 -- a word of the class, if there is one, leads to the place
 abbrev pub ClassLeads : Lasts → Option (List ℕ) → ℕ → Type 0
 ClassLeads lasts None place = ⊥
-ClassLeads lasts (Some value) place = (word : List ℕ) × IsTrue (is_word_of word value) × (last_for lasts (by_class word) ≡ Some place)
+ClassLeads lasts (Some value) place =
+    (word : List ℕ) × IsTrue (is_word_of word value) × (last_for lasts (by_class word) ≡ Some place)
 
 -- a key that the node has leads to the place
 abbrev pub KeyLeads : {Node : Type 0} → Tree Node → Node → Lasts → ℕ → Type 0

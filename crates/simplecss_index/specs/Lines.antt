@@ -1,9 +1,8 @@
 -- An example of a tree: elements in a line, each the child of the one before.
-use Rattle.std.specs.Prelude.{◌≡◌, ℕ, zero, suc, ◌+◌, List, [], Bool, true, false, Option, Some, None, refl, bytes_eq, codes, if◌then◌else◌, MatchOption, IfSome}
+use Rattle.std.specs.Prelude.{ℕ, zero, suc, ◌+◌, List, [], false, Option, Some, None, refl, bytes_eq, codes, if◌then◌else◌}
 use Rattle.std.specs.Borrow.{Bor}
 use Rattle.std.specs.List.{slice_get}
 use Rattle.std.specs.Option.{option_map, option_map_or}
-use Rattle.simplecss.specs.Components.{Operator, Class}
 use Rattle.simplecss.specs.Keys.{is_value_as_asked}
 use Rattle.simplecss.specs.Trees.{Tree, DepthCountsAncestors, SiblingsShareParent}
 
@@ -18,6 +17,11 @@ Node = List Entry × ℕ
 abbrev pub parent_of : Node → Option Node
 parent_of (line, zero) = None
 parent_of (line, suc k) = Some (line, k)
+
+-- how many ancestors the element at a place has
+abbrev pub depth_at : ℕ → ℕ
+depth_at zero = 0
+depth_at (suc k) = depth_at k + 1
 
 -- the name of the element at a place
 abbrev pub name_at : List Entry → ℕ → List ℕ
@@ -41,7 +45,7 @@ abbrev pub lines : Tree Node
 lines = record {
   parent = parent_of;
   previous_sibling = λ n. None;
-  depth = λ n. n.1;
+  depth = λ n. depth_at n.1;
   is_named = λ n name. bytes_eq (name_at n.0 n.1) name;
   has_attribute = λ n name operator. is_value_as_asked operator (value_at n.0 n.1 name);
   is_in_class = λ n class. false;

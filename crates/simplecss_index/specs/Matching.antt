@@ -9,11 +9,13 @@ use Rattle.simplecss_index.specs.Places.{selector_at, key_at, AreThePlaces}
 
 -- the places are in order, and are exactly those of the selectors that have a placement on the element
 abbrev pub AreMatches : {Node : Type 0} → Tree Node → Node → List (List Component) → List ℕ → Type 0
-AreMatches tree element selectors = AreThePlaces (λ place. HasPlacement tree (selector_at selectors place) element) (length selectors)
+AreMatches tree element selectors =
+    AreThePlaces (λ place. HasPlacement tree (selector_at selectors place) element) (length selectors)
 
 -- the places are in order, and are exactly those of the selectors whose key the element has
 abbrev pub AreCandidates : {Node : Type 0} → Tree Node → Node → List (List Component) → List ℕ → Type 0
-AreCandidates tree element selectors = AreThePlaces (λ place. IsTrue (has_key tree element (key_at selectors place))) (length selectors)
+AreCandidates tree element selectors =
+    AreThePlaces (λ place. IsTrue (has_key tree element (key_at selectors place))) (length selectors)
 
 -- the most tests that asking whether a selector matches takes: for the element and each of its ancestors one for each
 -- component of the longest stretch that child and adjacent steps join
@@ -22,11 +24,13 @@ most_tests tree element selector = longest_run selector * (tree.depth element + 
 
 -- the selectors whose key the element has
 abbrev pub keyed_for : {Node : Type 0} → Tree Node → Node → List (List Component) → List (List Component)
-keyed_for tree element selectors = filter (λ selector. has_key tree element (key_of selector)) selectors
+keyed_for tree element selectors =
+    filter (λ selector. has_key tree element (key_of selector)) selectors
 
 -- the answers tell of each selector whether it has a placement on the element
 abbrev pub AreAnswers : {Node : Type 0} → Tree Node → Node → List (List Component) → List Bool → Type 0
-AreAnswers tree element selectors answers = AllZip (λ answer selector. (answer ≡ true) ↔ HasPlacement tree selector element) answers selectors
+AreAnswers tree element selectors answers =
+    AllZip (λ answer selector. (answer ≡ true) ↔ HasPlacement tree selector element) answers selectors
 
 -- the places with a yes
 abbrev pub places_with_yes : List Bool → List ℕ

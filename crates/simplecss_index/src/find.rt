@@ -25,7 +25,8 @@ impl<'a> Lasts<'a> {
     /// Adds the last place of the key, if it has one.
     #[inline(always)]
     fn push_last(&self, key: Key<'_>, places: &mut Vec<usize>) -> Result<(), AllocError>
-        ensures { OnOk result (Adds places.old.items places.new.items (λ place. last_for self.now (key_value key.entry) ≡ Some place)) }
+        ensures { OnOk result (Adds places.old.items places.new.items
+            (λ place. last_for self.now (key_value key.entry) ≡ Some place)) }
     {
         if let Some(place) = self.get(key) {
             places.push(place)?;
@@ -36,7 +37,8 @@ impl<'a> Lasts<'a> {
     /// Adds the last place of the id, if there is one.
     #[inline(always)]
     fn push_id(&self, id: Option<&str>, places: &mut Vec<usize>) -> Result<(), AllocError>
-        ensures { OnOk result (Adds places.old.items places.new.items (IdLeads self.now (option_map (λ text. text.now) id.entry))) }
+        ensures { OnOk result (Adds places.old.items places.new.items
+            (IdLeads self.now (option_map (λ text. text.now) id.entry))) }
     {
         match id {
             Some(text) => self.push_last(Key::Id(text), places),
@@ -46,7 +48,8 @@ impl<'a> Lasts<'a> {
 
     /// Adds the last places of the classes that are words of the value.
     fn push_words(&self, value: &str, places: &mut Vec<usize>) -> Result<(), AllocError>
-        ensures { OnOk result (Adds places.old.items places.new.items (ClassLeads self.now (Some value.now))) }
+        ensures { OnOk result (Adds places.old.items places.new.items
+            (ClassLeads self.now (Some value.now))) }
     {
         for word in value.split(' ') {
             self.push_last(Key::Class(word), places)?;
@@ -57,7 +60,8 @@ impl<'a> Lasts<'a> {
     /// Adds the last places of the classes in the value of an attribute `class`, if there is one.
     #[inline(always)]
     fn push_classes(&self, class: Option<&str>, places: &mut Vec<usize>) -> Result<(), AllocError>
-        ensures { OnOk result (Adds places.old.items places.new.items (ClassLeads self.now (option_map (λ value. value.now) class.entry))) }
+        ensures { OnOk result (Adds places.old.items places.new.items
+            (ClassLeads self.now (option_map (λ value. value.now) class.entry))) }
     {
         match class {
             Some(value) => self.push_words(value, places),
@@ -67,7 +71,8 @@ impl<'a> Lasts<'a> {
 
     /// Adds the last places of the keys that the element has.
     fn push_keys_of<E: Keyed>(&self, element: &E, places: &mut Vec<usize>) -> Result<(), AllocError>
-        ensures { OnOk result (Adds places.old.items places.new.items (KeyLeads E.tree (E.node element.now) self.now)) }
+        ensures { OnOk result (Adds places.old.items places.new.items
+            (KeyLeads E.tree (E.node element.now) self.now)) }
     {
         self.push_last(Key::Any, places)?;
         self.push_last(Key::Name(element.local_name()), places)?;
@@ -96,7 +101,8 @@ impl<'a> RuleIndex<'a> {
     fn push_all_earlier(&self, places: &mut Vec<usize>) -> Result<(), AllocError>
         requires { (place : ℕ) → Contains places.old.items place → place < length self.now }
         ensures { OnOk result (Adds places.old.items places.new.items
-            (λ other. (place : ℕ) × Contains places.old.items place × (other < place) × (key_at self.now other ≡ key_at self.now place))) }
+            (λ other. (place : ℕ) × Contains places.old.items place × (other < place)
+            × (key_at self.now other ≡ key_at self.now place))) }
     {
         'starts: for i in 0..places.len() {
             self.push_earlier(places[i], places)?;
@@ -104,8 +110,9 @@ impl<'a> RuleIndex<'a> {
         Ok(())
     }
 
-    /// Leaves the places of the rules whose key the element has, in order. A word that the element's class repeats costs no
-    /// more than its own last place, which is dropped before the chains are followed.
+    /// Leaves the places of the rules whose key the element has, in order. A word that the
+    /// element's class repeats costs no more than its own last place, which is dropped before the
+    /// chains are followed.
     pub(crate) fn candidates<E: Keyed>(
         &self,
         element: &E,

@@ -33,11 +33,12 @@ impl<'a> Link<'a> {
     }
 }
 
-/// An index of rules by the keys of their selectors: it finds the rules that match an element, and asks only those whose key
-/// the element has.
+/// An index of rules by the keys of their selectors: it finds the rules that match an element, and
+/// asks only those whose key the element has.
 ///
-/// It keeps places and not the rules, so it may stand beside its sheet in one value. It is of the rules as they stood when it
-/// was made: after an edit of their selectors, or of their number or order, make another.
+/// It keeps places and not the rules, so it may stand beside its sheet in one value. It is of the
+/// rules as they stood when it was made: after an edit of their selectors, or of their number or
+/// order, make another.
 #[derive(Drop)]
 pub struct RuleIndex<'a> {
     /// The last place of each key.
@@ -73,12 +74,13 @@ impl<'a> RuleIndex<'a> {
         Ok(RuleIndex { lasts, links })
     }
 
-    /// The places of the rules that match the element, in order: what asking each rule would give. The rules are those that
-    /// the index was made of.
+    /// The places of the rules that match the element, in order: what asking each rule would give.
+    /// The rules are those that the index was made of.
     ///
-    /// What stood in `places` is dropped, and what `places` grows by is all the memory that the call takes: at most so many
-    /// places as there are rules, and words in the element's class, and three more. Once it has grown, further calls take
-    /// none. The error is that the growth was refused.
+    /// What stood in `places` is dropped, and what it grows by is all the memory that the call
+    /// takes: it never holds more places than there are rules, or than words in the element's class
+    /// and three. Once it has grown, further calls take none. The error is that a growth was
+    /// refused.
     pub fn matching<E: Keyed>(
         &self,
         rules: &[Rule<'a>],
@@ -86,13 +88,15 @@ impl<'a> RuleIndex<'a> {
         places: &mut Vec<usize>,
     ) -> Result<(), AllocError>
         requires { self.now ≡ map (λ rule. rule.selector) rules.now }
-        ensures matches { OnOk result (AreMatches E.tree (E.node element.now) self.now places.new.items) }
+        ensures matches { OnOk result
+            (AreMatches E.tree (E.node element.now) self.now places.new.items) }
         ensures err { OnErr result (places.new.items ≡ []) }
     {
         self.matching_counted(rules, element, places, &mut Tests::new())
     }
 
-    /// `matching`, with a count of the tests that were made. No rule is asked whose key the element has not.
+    /// `matching`, with a count of the tests that were made. No rule is asked whose key the element
+    /// has not.
     pub fn matching_counted<E: Keyed>(
         &self,
         rules: &[Rule<'a>],
@@ -101,7 +105,8 @@ impl<'a> RuleIndex<'a> {
         tests: &mut Tests,
     ) -> Result<(), AllocError>
         requires { self.now ≡ map (λ rule. rule.selector) rules.now }
-        ensures matches { OnOk result (AreMatches E.tree (E.node element.now) self.now places.new.items) }
+        ensures matches { OnOk result
+            (AreMatches E.tree (E.node element.now) self.now places.new.items) }
         ensures at_most { tests.new ≤ tests.old + sum_by (most_tests E.tree (E.node element.now))
             (keyed_for E.tree (E.node element.now) self.now) }
         ensures err { OnErr result (places.new.items ≡ []) }

@@ -19,10 +19,12 @@ pub(crate) fn keep_matching<E: Element>(
     requires within { All (λ place. place < length rules.now) places.old }
     ensures within { result ≤ length places.new }
     ensures ascending { IsStrictlyIncreasing (take result places.new) }
-    ensures exactly { (place : ℕ) → Contains (take result places.new) place ↔ (Contains places.old place
-        × HasPlacement E.tree (selector_at (map (λ rule. rule.selector) rules.now) place) (E.node element.now)) }
+    ensures exactly { (place : ℕ) → Contains (take result places.new) place
+        ↔ (Contains places.old place × HasPlacement E.tree
+        (selector_at (map (λ rule. rule.selector) rules.now) place) (E.node element.now)) }
     ensures counted { tests.new ≤ tests.old + sum_by
-        (λ place. most_tests E.tree (E.node element.now) (selector_at (map (λ rule. rule.selector) rules.now) place)) places.old }
+        (λ place. most_tests E.tree (E.node element.now)
+        (selector_at (map (λ rule. rule.selector) rules.now) place)) places.old }
 {
     let mut kept = 0;
     'places: for i in 0..places.len() {

@@ -8,7 +8,8 @@ use simplecss::Key;
 use std::alloc::{AllocError, Global};
 use std::collections::BTreeMap;
 
-/// For each key the place that was the last to be put under it. Each kind of key has a map from its texts.
+/// For each key the place that was the last to be put under it. Each kind of key has a map from its
+/// texts.
 #[derive(Drop)]
 pub(crate) struct Lasts<'a> {
     ids: BTreeMap<&'a str, usize>,

@@ -5,10 +5,11 @@ ghost use Rattle.simplecss_index.specs.Matching.{AreMatches, AreAnswers, places_
 
 use simplecss::Element;
 
-/// The places that an index finds are those of the selectors that answer yes, where each is asked in turn. So an index can
-/// stand for a loop that asks each.
+/// The places that an index finds are those of the selectors that answer yes, where each is asked
+/// in turn. So an index can stand for a loop that asks each.
 pub fn answers_law<E: Element>()
     ensures { (selectors : List (List Component)) (element : E.Node) (places : List ℕ)
         → AreMatches E.tree element selectors places
-        → (answers : List Bool) × AreAnswers E.tree element selectors answers × (places ≡ places_with_yes answers) }
+        → (answers : List Bool) × AreAnswers E.tree element selectors answers
+        × (places ≡ places_with_yes answers) }
 {}

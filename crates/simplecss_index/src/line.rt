@@ -1,5 +1,7 @@
 //! An example of a tree: elements in a line, each the child of the one before.
-ghost use Rattle.std.specs.Prelude.{◌<◌, length};
+ghost use Rattle.std.specs.Prelude.{◌≡◌, ◌<◌, length};
+ghost use Rattle.std.specs.Option.{option_map};
+ghost use Rattle.simplecss_index.specs.Lines.{value_at};
 
 use simplecss::{AttributeOperator, Element, Keyed, PseudoClass};
 
@@ -24,6 +26,20 @@ impl<'l, 'a> Place<'l, 'a> {
             line,
             place: line.len() - 1,
         })
+    }
+
+    /// The value of the attribute with the name, if it has it.
+    fn value(&self, name: &str) -> Option<&'a str>
+        ensures { option_map (λ value. value.now) result ≡ value_at self.now.line.now self.now.place name.now }
+    {
+        let (_, id, class) = self.line[self.place];
+        if name == "id" {
+            id
+        } else if name == "class" {
+            class
+        } else {
+            None
+        }
     }
 }
 
@@ -60,13 +76,7 @@ impl<'l, 'a> Element for Place<'l, 'a> {
     }
 
     fn attribute_matches(&self, local_name: &str, operator: AttributeOperator<'_>) -> bool {
-        let (_, id, class) = self.line[self.place];
-        let value = match local_name {
-            "id" => id,
-            "class" => class,
-            _ => None,
-        };
-        match value {
+        match self.value(local_name) {
             Some(text) => operator.matches(text),
             None => false,
         }

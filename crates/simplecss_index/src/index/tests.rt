@@ -15,10 +15,22 @@ const FOUND: &[(&str, &[Entry<'static>], &str)] = &[
         "4 3 2 1",
     ),
     // The key is of the last component, and the others are asked too.
-    ("p a{n:1} .b .c{n:2} .c .b{n:3}", &[("p", None, Some("b")), ("a", None, Some("c"))], "1 2"),
-    ("p > a{n:1} q > a{n:2}", &[("p", None, None), ("a", None, None)], "1"),
+    (
+        "p a{n:1} .b .c{n:2} .c .b{n:3}",
+        &[("p", None, Some("b")), ("a", None, Some("c"))],
+        "1 2",
+    ),
+    (
+        "p > a{n:1} q > a{n:2}",
+        &[("p", None, None), ("a", None, None)],
+        "1",
+    ),
     // The first id is the key, or else the first class, and all are asked.
-    ("#x#y{n:1} .b.c{n:2} a.b{n:3} a#x.b{n:4}", &[("a", Some("x"), Some("b"))], "3 4"),
+    (
+        "#x#y{n:1} .b.c{n:2} a.b{n:3} a#x.b{n:4}",
+        &[("a", Some("x"), Some("b"))],
+        "3 4",
+    ),
     (".b.c{n:1} .c.b{n:2}", &[("a", None, Some("c b"))], "1 2"),
     // `[id=x]` has an id's key and `[class~=b]` a class's; other operators have none.
     (
@@ -26,7 +38,11 @@ const FOUND: &[(&str, &[Entry<'static>], &str)] = &[
         &[("a", Some("x"), Some("b c"))],
         "2 3 5 1 6 7",
     ),
-    ("[type=text]{n:1} [class='a b']{n:2}", &[("a", None, Some("a b"))], "2"),
+    (
+        "[type=text]{n:1} [class='a b']{n:2}",
+        &[("a", None, Some("a b"))],
+        "2",
+    ),
     // A class that the value repeats matches once.
     (".b{n:1} .c{n:2}", &[("a", None, Some("b b c b"))], "1 2"),
     // Words stand between single spaces 0x20; a tab parts none.
@@ -39,7 +55,11 @@ const FOUND: &[(&str, &[Entry<'static>], &str)] = &[
     // Names and values match byte by byte.
     ("A{n:1} #X{n:2} .B{n:3}", &[("a", Some("x"), Some("b"))], ""),
     // An id is no class and no name.
-    ("#b{n:1} .x{n:2} x{n:3} b{n:4}", &[("a", Some("x"), Some("b"))], ""),
+    (
+        "#b{n:1} .x{n:2} x{n:3} b{n:4}",
+        &[("a", Some("x"), Some("b"))],
+        "",
+    ),
     ("[id='']{n:1}", &[("a", Some(""), None)], "1"),
     ("[id='']{n:1}", &[("a", None, None)], ""),
     ("p{n:1} #x{n:2} .b{n:3}", &[("a", None, None)], ""),
@@ -80,13 +100,19 @@ fn what_an_index_finds(rt: HostRuntime) -> Result<(), Fail> {
         let element = Place::last(line).ok_or("no element")?;
         let mut places = Vec::new(alloc);
         index.matching(rules, &element, &mut places)?;
-        assert_eq!(rt; values_at(alloc, rules, &places)?.as_str(), *expected, "{text}");
+        assert_eq!(rt;
+            values_at(alloc, rules, &places)?.as_str(),
+            *expected,
+            "{text}"
+        );
     }
     Ok(())
 }
 
-/// Rules of all kinds of keys, some with the same key, and some of which ask for a parent or a class besides.
-const SHEET: &str = "*{n:1} a{n:2} p{n:3} .b{n:4} .c{n:5} #x{n:6} #y{n:7} p a{n:8} p>a{n:9} .b a{n:10} .b .c{n:11} \
+/// Rules of all kinds of keys, some with the same key, and some of which ask for a parent or a
+/// class besides.
+const SHEET: &str =
+    "*{n:1} a{n:2} p{n:3} .b{n:4} .c{n:5} #x{n:6} #y{n:7} p a{n:8} p>a{n:9} .b a{n:10} .b .c{n:11} \
     a.b{n:12} a.c.b{n:13} #x.b{n:14} a#x{n:15} [id=x]{n:16} [class='b c']{n:17} [class~='']{n:18} p *{n:19} \
     *.c{n:20} [class|=b]{n:21} a:first-child{n:22} .c .b{n:23} #x .b{n:24} #x #y{n:25} a+a{n:26} .b.c{n:27}";
 
@@ -96,7 +122,11 @@ const LINES: &[&[Entry<'static>]] = &[
     &[("a", Some("x"), Some("b"))],
     &[("a", Some("y"), Some("c b c"))],
     &[("p", Some("x"), Some("b c")), ("a", Some("y"), Some("c"))],
-    &[("p", None, Some(" b")), ("q", None, None), ("a", Some("x"), Some("b "))],
+    &[
+        ("p", None, Some(" b")),
+        ("q", None, None),
+        ("a", Some("x"), Some("b ")),
+    ],
     &[("a", Some("x"), None), ("p", Some("y"), Some("c  b"))],
     &[("q", Some(""), Some(""))],
     &[("q", Some("z"), Some("d e"))],
@@ -147,7 +177,8 @@ fn repeated(alloc: Global, text: &str, count: usize) -> Result<String, AllocErro
     Ok(all)
 }
 
-/// A hundred times the class of a hundred rules: the places have room for words and rules, and not for each pair of them.
+/// A hundred times the class of a hundred rules: the places have room for words and rules, and not
+/// for each pair of them.
 #[test]
 fn a_repeated_class_takes_little_memory(rt: HostRuntime) -> Result<(), Fail> {
     let alloc = rt.alloc();
