@@ -10,7 +10,8 @@ AppendsProperPart old new bytes = (front : List ℕ) × (rest : List ℕ) × (by
 
 -- A run is to write bytes, or to answer a fault. It did write them; or the writer failed after a beginning; or nothing
 -- was written, for want of memory or because the fault was due.
-abbrev pub Runs : (Result (List ℕ) RunFault → Type 0) → Result (Unit {0}) RunFault → Option (List ℕ) → Option (List ℕ) → Type 0
+abbrev pub Runs : (Result (List ℕ) RunFault → Type 0) → Result (Unit {0}) RunFault → Option (List ℕ)
+    → Option (List ℕ) → Type 0
 Runs IsDue (Ok x) old new = (bytes : List ℕ) × IsDue (Ok bytes) × Appends old new bytes
 Runs IsDue (Err Output) old new = (bytes : List ℕ) × IsDue (Ok bytes) × AppendsProperPart old new bytes
 Runs IsDue (Err Memory) old new = Keeps old new

@@ -38,21 +38,25 @@ abbrev pub equal_at : List ℕ → ℕ → Option ℕ → Option ℕ
 equal_at ds depth None = None
 equal_at ds depth (Some j) = cond (get_or ds j 0 == depth) (Some j) None
 
-previous_by : (ds : List ℕ) (i : ℕ) (r : Option ℕ) → elim r [ None ↦ None | Some j ↦ cond (get_or ds j 0 == get_or ds i 0) (Some j) None ] ≡ equal_at ds (get_or ds i 0) r
+previous_by : (ds : List ℕ) (i : ℕ) (r : Option ℕ)
+    → elim r [ None ↦ None | Some j ↦ cond (get_or ds j 0 == get_or ds i 0) (Some j) None ] ≡ equal_at ds (get_or ds i 0) r
 previous_by ds i None = refl
 previous_by ds i (Some j) = refl
 
-pub previous_is : (ds : List ℕ) (i : ℕ) → previous_place ds i ≡ equal_at ds (get_or ds i 0) (nearest_place ds i)
+pub previous_is : (ds : List ℕ) (i : ℕ)
+    → previous_place ds i ≡ equal_at ds (get_or ds i 0) (nearest_place ds i)
 previous_is ds i = previous_by ds i (nearest_place ds i)
 
-last_within : (test : ℕ → Bool) (xs : List ℕ) (r : Option ℕ) → IsLast test xs r → IfSome r (λ i. i < length xs)
+last_within : (test : ℕ → Bool) (xs : List ℕ) (r : Option ℕ) → IsLast test xs r
+    → IfSome r (λ i. i < length xs)
 last_within test xs None last = tt
 last_within test xs (Some i) last = last.0
 
 pub nearest_within : (test : ℕ → Bool) (xs : List ℕ) → IfSome (last_place test xs) (λ i. i < length xs)
 nearest_within test xs = last_within test xs (last_place test xs) (last_place_is test xs)
 
-equal_old : (ds : List ℕ) (d depth : ℕ) (r : Option ℕ) → IfSome r (λ j. j < length ds) → equal_at (ds ++ d ∷ []) depth r ≡ equal_at ds depth r
+equal_old : (ds : List ℕ) (d depth : ℕ) (r : Option ℕ) → IfSome r (λ j. j < length ds)
+    → equal_at (ds ++ d ∷ []) depth r ≡ equal_at ds depth r
 equal_old ds d depth None within = refl
 equal_old ds d depth (Some j) within = ap (λ x. cond (x == depth) (Some j) None) (at_old ds d j within)
 
@@ -103,19 +107,22 @@ front_inside ds i k within before = let le : i ≤ length ds = omega arith in rw
 
 -- what the nearest element says of the parent and the previous sibling of an element behind the list
 module _ (ds : List ℕ) (d : ℕ) where
-  pub none_near : None ≡ last_place (λ x. nat_le x d) ds → (None ≡ last_place (λ x. nat_lt x d) ds) × (None ≡ equal_at ds d (last_place (λ x. nat_le x d) ds))
+  pub none_near : None ≡ last_place (λ x. nat_le x d) ds
+      → (None ≡ last_place (λ x. nat_lt x d) ds) × (None ≡ equal_at ds d (last_place (λ x. nat_le x d) ds))
   none_near is =
       let none = subst (IsLast (λ x. nat_le x d) ds) (sym is) (last_place_is _ ds) in
       (last_place_of _ ds None (λ k lt. not_lt_from _ d (none k lt)), ap (equal_at ds d) is)
 
-  pub lesser_near : (i : ℕ) → Some i ≡ last_place (λ x. nat_le x d) ds → (get_or ds i 0 ≡ d → ⊥) → (Some i ≡ last_place (λ x. nat_lt x d) ds) × (None ≡ equal_at ds d (last_place (λ x. nat_le x d) ds))
+  pub lesser_near : (i : ℕ) → Some i ≡ last_place (λ x. nat_le x d) ds → (get_or ds i 0 ≡ d → ⊥)
+      → (Some i ≡ last_place (λ x. nat_lt x d) ds) × (None ≡ equal_at ds d (last_place (λ x. nat_le x d) ds))
   lesser_near i is ne =
       let last : IsLast (λ x. nat_le x d) ds (Some i) = subst (IsLast (λ x. nat_le x d) ds) (sym is) (last_place_is _ ds) in (
         last_place_of _ ds (Some i) (last.0, is_lt_from _ d last.1 ne, λ k after within. not_lt_from _ d (last.2 k after within)),
         sym (ap (λ b. cond b (Some i) None) (ne_test _ d ne)) ∙ ap (equal_at ds d) is,
       )
 
-  parent_of_equal : (i : ℕ) (r : Option ℕ) → IsLast (λ x. nat_le x d) ds (Some i) → get_or ds i 0 ≡ d → IsLast (λ x. nat_lt x (get_or ds i 0)) (take i ds) r → IsLast (λ x. nat_lt x d) ds r
+  parent_of_equal : (i : ℕ) (r : Option ℕ) → IsLast (λ x. nat_le x d) ds (Some i) → get_or ds i 0 ≡ d
+      → IsLast (λ x. nat_lt x (get_or ds i 0)) (take i ds) r → IsLast (λ x. nat_lt x d) ds r
   parent_of_equal i None last e none =
       λ k within. ⊎_elim
       (λ same. not_lt_self _ d (ap (λ k. get_or ds k 0) same ∙ e))
@@ -135,7 +142,8 @@ module _ (ds : List ℕ) (d : ℕ) where
             (cases_order k i),
       )
 
-  pub equal_near : (i : ℕ) (r : Option ℕ) → Some i ≡ last_place (λ x. nat_le x d) ds → get_or ds i 0 ≡ d → r ≡ parent_place ds i
+  pub equal_near : (i : ℕ) (r : Option ℕ) → Some i ≡ last_place (λ x. nat_le x d) ds → get_or ds i 0 ≡ d
+      → r ≡ parent_place ds i
       → (r ≡ last_place (λ x. nat_lt x d) ds) × (Some i ≡ equal_at ds d (last_place (λ x. nat_le x d) ds))
   equal_near i r is e parent =
       let last : IsLast (λ x. nat_le x d) ds (Some i) = subst (IsLast (λ x. nat_le x d) ds) (sym is) (last_place_is _ ds) in
@@ -152,7 +160,8 @@ kept : (b : Bool) (i j : ℕ) → j < i → IfSome (cond b (Some j) None) (λ j.
 kept true i j lt = lt
 kept false i j lt = tt
 
-equal_within : (ds : List ℕ) (depth i : ℕ) (r : Option ℕ) → IfSome r (λ j. j < i) → IfSome (equal_at ds depth r) (λ j. j < i)
+equal_within : (ds : List ℕ) (depth i : ℕ) (r : Option ℕ) → IfSome r (λ j. j < i)
+    → IfSome (equal_at ds depth r) (λ j. j < i)
 equal_within ds depth i None within = tt
 equal_within ds depth i (Some j) within = kept (get_or ds j 0 == depth) i j within
 

@@ -71,8 +71,10 @@ pub record ListsInOrder (stands : Standing) (properties : List Property) : Type 
   pub placed : List Placed
   pub are : map (λ a. a.property) placed ≡ properties
   pub stand : (k : ℕ) (a : Placed) → slice_get placed k ≡ Some a → stands a.rule a.place a.property
-  pub rise : (k l : ℕ) (a b : Placed) → k < l → slice_get placed k ≡ Some a → slice_get placed l ≡ Some b → IsEarlier a.rule a.place b.rule b.place
-  pub all : (i j : ℕ) (p : Property) → stands i j p → (k : ℕ) × (slice_get placed k ≡ Some (record { rule = i; place = j; property = p }))
+  pub rise : (k l : ℕ) (a b : Placed) → k < l → slice_get placed k ≡ Some a → slice_get placed l ≡ Some b
+      → IsEarlier a.rule a.place b.rule b.place
+  pub all : (i j : ℕ) (p : Property) → stands i j p
+      → (k : ℕ) × (slice_get placed k ≡ Some (record { rule = i; place = j; property = p }))
 
 -- no two of the properties have one name
 abbrev pub HaveOwnNames : List Property → Type 0

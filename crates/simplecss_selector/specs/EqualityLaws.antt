@@ -26,7 +26,9 @@ pub and_both : (a b : Bool) → a ≡ true → b ≡ true → (a && b) ≡ true
 and_both a b p q = rw (p, q)
 
 -- a test of keys decides equality, where the keys give the values back
-pub decides_by_key : {A K : Type 0} (E : K → K → Bool) → ((k l : K) → Decides (E k l) (k ≡ l)) → (key : A → K) (back : K → A) → ((a : A) → back (key a) ≡ a) → (a b : A) → Decides (E (key a) (key b)) (a ≡ b)
+pub decides_by_key : {A K : Type 0} (E : K → K → Bool) → ((k l : K) → Decides (E k l) (k ≡ l))
+    → (key : A → K) (back : K → A) → ((a : A) → back (key a) ≡ a) → (a b : A)
+    → Decides (E (key a) (key b)) (a ≡ b)
 decides_by_key E decides key back undone a b = (
   λ h. sym (undone a) ∙ ap back ((decides (key a) (key b)).0 h) ∙ undone b,
   λ e. (decides (key a) (key b)).1 (ap key e),

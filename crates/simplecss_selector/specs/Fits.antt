@@ -11,11 +11,13 @@ pub record LeavesRest {Node : Type 0} (tree : Tree Node) (cs : List Component) (
   pub some : 0 < rest
   pub fewer : rest < left
   pub higher : tree.depth node < tree.depth n
-  pub nothing_lost : (m : Node) → IsWithin tree m n → Reaches tree (first_of cs left) m → CanPlace tree (first_of cs rest) node
+  pub nothing_lost : (m : Node) → IsWithin tree m n → Reaches tree (first_of cs left) m
+      → CanPlace tree (first_of cs rest) node
   pub enough : CanPlace tree (first_of cs rest) node → Reaches tree (first_of cs left) n
 
 -- what the answer says of the components up to the place `last`, tried with that one on `n`, where the run begins at `first`
-abbrev pub Finds : {Node E : Type 0} → Tree Node → (E → Node) → List Component → (first last : ℕ) → Node → Fit E → Type 0
+abbrev pub Finds : {Node E : Type 0} → Tree Node → (E → Node) → List Component → (first last : ℕ) → Node
+    → Fit E → Type 0
 Finds tree node cs first last n Misfit = Reaches tree (first_of cs (last + 1)) n → ⊥
 Finds {Node} tree node cs first last n Alone =
     (m : Node) → IsWithin tree m n → Reaches tree (first_of cs (last + 1)) m → ⊥

@@ -11,5 +11,6 @@ pub record KeepsMeanings {M N : Type 0} (tree : Tree M) (other : Tree N) (image 
   pub parents : (n : M) → other.parent (image n) ≡ option_map image (tree.parent n)
   pub siblings : (n : M) → other.previous_sibling (image n) ≡ option_map image (tree.previous_sibling n)
   pub names : (n : M) (name : List ℕ) → other.is_named (image n) name ≡ tree.is_named n name
-  pub attributes : (n : M) (name : List ℕ) (operator : Operator) → other.has_attribute (image n) name operator ≡ tree.has_attribute n name operator
+  pub attributes : (n : M) (name : List ℕ) (operator : Operator)
+      → other.has_attribute (image n) name operator ≡ tree.has_attribute n name operator
   pub classes : (n : M) (class : Class) → other.is_in_class (image n) class ≡ tree.is_in_class n class

@@ -69,22 +69,27 @@ rows =
       is_in_class = λ n class. is_in_class (sibling_place n.0 n.1) class;
     }
 
-depth_step : (row : List Entry) (k : ℕ) (b : Bool) → is_sibling row (suc k) ≡ b → MatchOption (placed row (parent_place row k)) (depth_of row k ≡ 0) (λ p. depth_of row k ≡ depth_of p.0 p.1 + 1) → MatchOption (placed row (parent_place row (suc k))) (depth_of row (suc k) ≡ 0) (λ p. depth_of row (suc k) ≡ depth_of p.0 p.1 + 1)
+depth_step : (row : List Entry) (k : ℕ) (b : Bool) → is_sibling row (suc k) ≡ b
+    → MatchOption (placed row (parent_place row k)) (depth_of row k ≡ 0) (λ p. depth_of row k ≡ depth_of p.0 p.1 + 1)
+    → MatchOption (placed row (parent_place row (suc k))) (depth_of row (suc k) ≡ 0) (λ p. depth_of row (suc k) ≡ depth_of p.0 p.1 + 1)
 depth_step row k true e h = rw e h
 depth_step row k false e h = rw e refl
 
-depth_at : (row : List Entry) (k : ℕ) → MatchOption (placed row (parent_place row k)) (depth_of row k ≡ 0) (λ p. depth_of row k ≡ depth_of p.0 p.1 + 1)
+depth_at : (row : List Entry) (k : ℕ)
+    → MatchOption (placed row (parent_place row k)) (depth_of row k ≡ 0) (λ p. depth_of row k ≡ depth_of p.0 p.1 + 1)
 depth_at row zero = refl
 depth_at row (suc k) = depth_step row k (is_sibling row (suc k)) refl (depth_at row k)
 
 pub rows_count_ancestors : DepthCountsAncestors rows
 rows_count_ancestors n = depth_at n.0 n.1
 
-shared_step : (row : List Entry) (k : ℕ) (b : Bool) → is_sibling row (suc k) ≡ b → IfSome (placed row (sibling_place row (suc k))) (λ s. placed s.0 (parent_place s.0 s.1) ≡ placed row (parent_place row (suc k)))
+shared_step : (row : List Entry) (k : ℕ) (b : Bool) → is_sibling row (suc k) ≡ b
+    → IfSome (placed row (sibling_place row (suc k))) (λ s. placed s.0 (parent_place s.0 s.1) ≡ placed row (parent_place row (suc k)))
 shared_step row k true e = rw e refl
 shared_step row k false e = rw e tt
 
-shared_at : (row : List Entry) (k : ℕ) → IfSome (placed row (sibling_place row k)) (λ s. placed s.0 (parent_place s.0 s.1) ≡ placed row (parent_place row k))
+shared_at : (row : List Entry) (k : ℕ)
+    → IfSome (placed row (sibling_place row k)) (λ s. placed s.0 (parent_place s.0 s.1) ≡ placed row (parent_place row k))
 shared_at row zero = tt
 shared_at row (suc k) = shared_step row k (is_sibling row (suc k)) refl
 

@@ -41,7 +41,8 @@ still_to_come t = run_in t.state (left_of t)
 
 -- A call on a text gave the first item of a run, left `left` to read, and the run `after` to come;
 -- or nothing was to come.
-abbrev pub GivesFirst : List ℕ → Run → Option (Result SelectorToken Error) → (left : List ℕ) → (after : Run) → Type 0
+abbrev pub GivesFirst : List ℕ → Run → Option (Result SelectorToken Error) → (left : List ℕ) → (after : Run)
+    → Type 0
 GivesFirst text before None left after = (before ≡ run_end left) × (after ≡ run_end left)
 GivesFirst text before (Some x) left after =
     (told : Result Token Fault) × (item_seen x ≡ told_in text told) × (before ≡ item told left after)
