@@ -50,7 +50,7 @@ fn style_of(alloc: Global, winners: &[Declaration<'_>], own: &str) -> Result<Str
 fn with_style(alloc: Global, line: &str, style: &str) -> Result<String, AllocError> {
     let mut styled = String::new(alloc);
     for (number, field) in line.split('\t').enumerate() {
-        if number > 0 && field.starts_with("style=") {
+        if number > 1 && field.starts_with("style=") {
             continue;
         }
         if number > 0 {
