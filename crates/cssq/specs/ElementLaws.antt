@@ -1,13 +1,16 @@
--- The laws of an element: how its depth goes with its parent, and its parent with its sibling's.
+-- The laws of an element: how its depth goes with its parent, and its parent with its sibling's, and that it tells what it
+-- answers by.
 use Rattle.std.proofs.Common.{◌≡◌, ℕ, zero, suc, ◌+◌, ◌<◌, ◌≤◌, Bool, true, false, cond, List, take, get_or, refl, sym, ap, ◌∙◌, subst, arith, Option, None, Some, IfSome, MatchOption}
 use Rattle.std.specs.Prelude.{nat_lt, ◌==◌}
 use Rattle.std.specs.Option.{option_map}
 use Rattle.std.proofs.lemmas.Bool.Decides.{nat_tests}
 use Rattle.std.proofs.lemmas.List.{get_or-take}
 use Rattle.std.proofs.lemmas.Grind.{common_steps}
+use Rattle.simplecss.specs.Keys.{TellsKeys}
+use Rattle.simplecss.specs.Keys.Key.{by_id, by_class, by_name, by_nothing}
 use Rattle.simplecss.specs.Trees.{DepthCountsAncestors, SiblingsShareParent}
 use Rattle.cssq.specs.Relatives.{depths_of, last_place, parent_place, nearest_place, previous_place}
-use Rattle.cssq.specs.Nodes.{Spot, spot, parent_of, ancestors_within, depth_of, page_tree}
+use Rattle.cssq.specs.Nodes.{Spot, spot, parent_of, ancestors_within, depth_of, page_tree, told_of}
 use Rattle.cssq.specs.Siblings.{equal_near, equal_at, previous_is, parent_within, nearest_before}
 
 -- the ancestors from the parent on
@@ -79,3 +82,9 @@ shared x (Some j) is = ap (option_map (spot x.rows)) (same_parent (depths_of x.r
 
 pub siblings_share_parents : SiblingsShareParent page_tree
 siblings_share_parents x = shared x (previous_place (depths_of x.rows) x.place) refl
+
+pub keys_told : (s : Spot) → TellsKeys page_tree s (told_of s)
+keys_told s (by_id text) h = h
+keys_told s (by_class word) h = h
+keys_told s (by_name name) h = h
+keys_told s by_nothing h = h

@@ -1,9 +1,10 @@
 -- The elements of a page as nodes of a tree, and what each answers to a selector.
-use Rattle.std.specs.Prelude.{ℕ, zero, suc, ◌+◌, Bool, false, List, [], ◌∷◌, Option, None, Some, if◌then◌else◌, bytes_eq, is_none}
+use Rattle.std.specs.Prelude.{ℕ, zero, suc, ◌+◌, Bool, false, List, [], ◌∷◌, Option, None, Some, if◌then◌else◌, bytes_eq, codes, is_none}
 use Rattle.std.specs.List.{slice_get}
 use Rattle.std.specs.Option.{option_map, option_map_or}
 use Rattle.simplecss.specs.Components.{Operator, Class}
 use Rattle.simplecss.specs.Components.Class.{first_child, link, visited, hover, active, focus, lang}
+use Rattle.simplecss.specs.Keys.{Told}
 use Rattle.simplecss.specs.Trees.{Tree}
 use Rattle.simplecss.specs.Operators.{is_as_asked}
 use Rattle.cssq.specs.TreeText.{Row}
@@ -75,4 +76,12 @@ page_tree = record {
   is_named = has_name;
   has_attribute = meets_operator;
   is_in_class = is_in;
+}
+
+-- the element's name, and the values of its attributes `id` and `class`
+abbrev pub told_of : Spot → Told
+told_of s = record {
+  name = name_at s.rows s.place;
+  id = attribute_at s.rows s.place (codes "id");
+  class = attribute_at s.rows s.place (codes "class");
 }

@@ -499,6 +499,13 @@ impl<'p, 't> Element for Node<'p, 't> {
 }
 
 impl<'p, 't> Keyed for Node<'p, 't> {
+    ghost use Rattle.cssq.specs.Nodes.{told_of};
+    ghost use Rattle.cssq.specs.ElementLaws.{keys_told};
+
+    ghost told = { told_of };
+
+    ghost told_law = { keys_told };
+
     #[inline(always)]
     fn local_name(&self) -> &str {
         self.page.name(self.place)

@@ -1,4 +1,4 @@
--- The last places of keys, and of those that an element has.
+-- The last places of keys, and of those that an element tells.
 use Rattle.std.proofs.Common.{◌≡◌, ℕ, ◌↔◌, ◌⊎◌, inl, inr, List, [], ◌∷◌, ◌++◌, Bool, true, false, cond, IsTrue, Option, None, Some, eqb, refl, sym, ap, ◌∙◌, subst, Bor}
 use Rattle.std.specs.Prelude.{bytes_eq, codes, ◌||◌}
 use Rattle.std.specs.BTreeMap.{BTreeMap, UpdatesBy}
@@ -11,9 +11,8 @@ use Rattle.std.proofs.lemmas.List.Elements.{Contains-append_left, Contains-appen
 use Rattle.std.proofs.lemmas.Map.Text.{btree_map_updates_str}
 use Rattle.std.proofs.lemmas.Slice.Eq.{bytes_eq-Decides}
 use Rattle.simplecss.specs.Components.Operator.{equals, has_word}
-use Rattle.simplecss.specs.Keys.{Key, has_key, is_value_as_asked}
+use Rattle.simplecss.specs.Keys.{Key, Told, tells_key, is_value_as_asked}
 use Rattle.simplecss.specs.Keys.Key.{by_id, by_class, by_name, by_nothing}
-use Rattle.simplecss.specs.Trees.{Tree}
 use Rattle.simplecss_index.specs.Lasts.{place_for, last_for, TakesPlace, IdLeads, ClassLeads, KeyLeads}
 use Rattle.simplecss_index.specs.Places.{Adds}
 use Rattle.simplecss_index.specs.declared.lasts.Lasts.{Lasts}
@@ -106,50 +105,43 @@ all_classes lasts words value a b e = adds_as a b (λ place. (
   λ h. (h.0, (word_test words h.0).1 (subst (λ ws. list_any (λ part. bytes_eq part h.0) ws ≡ true) (sym e) h.1), h.2),
 ))
 
--- ---- all keys of an element
+-- ---- all keys that are told
 
--- what an element tells is what it answers
-pub record Tells {Node : Type 0} (tree : Tree Node) (n : Node) (name : List ℕ) (id class : Option (List ℕ)) : Type 0 where
-  pub names : (other : List ℕ) → tree.is_named n other ≡ bytes_eq name other
-  pub ids : (text : List ℕ) → tree.has_attribute n (codes "id") (equals text) ≡ is_value_as_asked (equals text) id
-  pub classes : (word : List ℕ) → tree.has_attribute n (codes "class") (has_word word) ≡ is_value_as_asked (has_word word) class
+module _ (told : Told) (lasts : Lasts) where
+  module _ (place : ℕ) where
+    id_key : (id : Option (List ℕ)) → told.id ≡ id → IdLeads lasts id place → KeyLeads told lasts place
+    id_key None e h = absurd h
+    id_key (Some text) e h = (by_id text, ap (is_value_as_asked (equals text)) e ∙ (bytes_eq-Decides text text).1 refl, h)
 
-module _ {Node : Type 0} (tree : Tree Node) (n : Node) (lasts : Lasts) where
-  module _ (name : List ℕ) (place : ℕ) where
-    id_key : (id class : Option (List ℕ)) → Tells tree n name id class → IdLeads lasts id place → KeyLeads tree n lasts place
-    id_key None class tells h = absurd h
-    id_key (Some text) class tells h = (by_id text, tells.ids text ∙ (bytes_eq-Decides text text).1 refl, h)
+    class_key : (class : Option (List ℕ)) → told.class ≡ class → ClassLeads lasts class place → KeyLeads told lasts place
+    class_key None e h = absurd h
+    class_key (Some value) e h = (by_class h.0, ap (is_value_as_asked (has_word h.0)) e ∙ h.1, h.2)
 
-    class_key : (id class : Option (List ℕ)) → Tells tree n name id class → ClassLeads lasts class place → KeyLeads tree n lasts place
-    class_key id None tells h = absurd h
-    class_key id (Some value) tells h = (by_class h.0, tells.classes h.0 ∙ h.1, h.2)
+    key_id : (id : Option (List ℕ)) (text : List ℕ) → is_value_as_asked (equals text) id ≡ true → last_for lasts (by_id text) ≡ Some place → IdLeads lasts id place
+    key_id None text has is = absurd (false≢true has)
+    key_id (Some own) text has is = ap (λ x. last_for lasts (by_id x)) ((bytes_eq-Decides own text).0 has) ∙ is
 
-    key_id : (id class : Option (List ℕ)) → Tells tree n name id class → (text : List ℕ) → tree.has_attribute n (codes "id") (equals text) ≡ true → last_for lasts (by_id text) ≡ Some place → IdLeads lasts id place
-    key_id None class tells text has is = absurd (false≢true (sym (tells.ids text) ∙ has))
-    key_id (Some own) class tells text has is = ap (λ x. last_for lasts (by_id x)) ((bytes_eq-Decides own text).0 (sym (tells.ids text) ∙ has)) ∙ is
+    key_class : (class : Option (List ℕ)) (word : List ℕ) → is_value_as_asked (has_word word) class ≡ true → last_for lasts (by_class word) ≡ Some place → ClassLeads lasts class place
+    key_class None word has is = absurd (false≢true has)
+    key_class (Some value) word has is = (word, has, is)
 
-    key_class : (id class : Option (List ℕ)) → Tells tree n name id class → (word : List ℕ) → tree.has_attribute n (codes "class") (has_word word) ≡ true → last_for lasts (by_class word) ≡ Some place → ClassLeads lasts class place
-    key_class id None tells word has is = absurd (false≢true (sym (tells.classes word) ∙ has))
-    key_class id (Some value) tells word has is = (word, sym (tells.classes word) ∙ has, is)
-
-    pub keys_told : (id class : Option (List ℕ)) → Tells tree n name id class
-        → ((((last_for lasts by_nothing ≡ Some place) ⊎ (last_for lasts (by_name name) ≡ Some place)) ⊎ IdLeads lasts id place) ⊎ ClassLeads lasts class place) ↔ KeyLeads tree n lasts place
-    keys_told id class tells = (there, λ h. back h.0 h.1 h.2)
+    keys_told : ((((last_for lasts by_nothing ≡ Some place) ⊎ (last_for lasts (by_name told.name) ≡ Some place)) ⊎ IdLeads lasts told.id place) ⊎ ClassLeads lasts told.class place) ↔ KeyLeads told lasts place
+    keys_told = (there, λ h. back h.0 h.1 h.2)
       where
-        there : (((last_for lasts by_nothing ≡ Some place) ⊎ (last_for lasts (by_name name) ≡ Some place)) ⊎ IdLeads lasts id place) ⊎ ClassLeads lasts class place → KeyLeads tree n lasts place
+        there : (((last_for lasts by_nothing ≡ Some place) ⊎ (last_for lasts (by_name told.name) ≡ Some place)) ⊎ IdLeads lasts told.id place) ⊎ ClassLeads lasts told.class place → KeyLeads told lasts place
         there (inl (inl (inl h))) = (by_nothing, refl, h)
-        there (inl (inl (inr h))) = (by_name name, tells.names name ∙ (bytes_eq-Decides name name).1 refl, h)
-        there (inl (inr h)) = id_key id class tells h
-        there (inr h) = class_key id class tells h
+        there (inl (inl (inr h))) = (by_name told.name, (bytes_eq-Decides told.name told.name).1 refl, h)
+        there (inl (inr h)) = id_key told.id refl h
+        there (inr h) = class_key told.class refl h
 
-        back : (key : Key) → IsTrue (has_key tree n key) → last_for lasts key ≡ Some place → (((last_for lasts by_nothing ≡ Some place) ⊎ (last_for lasts (by_name name) ≡ Some place)) ⊎ IdLeads lasts id place) ⊎ ClassLeads lasts class place
-        back (by_id text) has is = inl (inr (key_id id class tells text has is))
-        back (by_class word) has is = inr (key_class id class tells word has is)
-        back (by_name other) has is = inl (inl (inr (ap (λ x. last_for lasts (by_name x)) ((bytes_eq-Decides name other).0 (sym (tells.names other) ∙ has)) ∙ is)))
+        back : (key : Key) → IsTrue (tells_key told key) → last_for lasts key ≡ Some place → (((last_for lasts by_nothing ≡ Some place) ⊎ (last_for lasts (by_name told.name) ≡ Some place)) ⊎ IdLeads lasts told.id place) ⊎ ClassLeads lasts told.class place
+        back (by_id text) has is = inl (inr (key_id told.id text has is))
+        back (by_class word) has is = inr (key_class told.class word has is)
+        back (by_name other) has is = inl (inl (inr (ap (λ x. last_for lasts (by_name x)) ((bytes_eq-Decides told.name other).0 has) ∙ is)))
         back by_nothing has is = inl (inl (inl is))
 
   -- the places of the four kinds of keys were added
-  pub keys_added : (name : List ℕ) (id class : Option (List ℕ)) → Tells tree n name id class → (a b c d e : List ℕ)
-      → Adds a b (λ place. last_for lasts by_nothing ≡ Some place) → Adds b c (λ place. last_for lasts (by_name name) ≡ Some place) → Adds c d (IdLeads lasts id) → Adds d e (ClassLeads lasts class) → Adds a e (KeyLeads tree n lasts)
-  keys_added name id class tells a b c d e any named by_ids by_classes =
-      adds_as a e (λ place. keys_told name place id class tells) (adds_then a d e (adds_then a c d (adds_then a b c any named) by_ids) by_classes)
+  pub keys_added : (a b c d e : List ℕ) → Adds a b (λ place. last_for lasts by_nothing ≡ Some place) → Adds b c (λ place. last_for lasts (by_name told.name) ≡ Some place)
+      → Adds c d (IdLeads lasts told.id) → Adds d e (ClassLeads lasts told.class) → Adds a e (KeyLeads told lasts)
+  keys_added a b c d e any named by_ids by_classes =
+      adds_as a e keys_told (adds_then a d e (adds_then a c d (adds_then a b c any named) by_ids) by_classes)

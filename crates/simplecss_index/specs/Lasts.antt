@@ -4,10 +4,9 @@ use Rattle.std.specs.Borrow.{Bor}
 use Rattle.std.specs.BTreeMap.{BTreeMap, get_by}
 use Rattle.std.specs.Ordering.{nat_cmp}
 use Rattle.std.specs.Cmp.Lexicographic.{slice_cmp}
-use Rattle.simplecss.specs.Keys.{Key, has_key}
+use Rattle.simplecss.specs.Keys.{Key, Told, tells_key}
 use Rattle.simplecss.specs.Keys.Key.{by_id, by_class, by_name, by_nothing}
 use Rattle.simplecss.specs.Operators.{is_word_of}
-use Rattle.simplecss.specs.Trees.{Tree}
 use Rattle.simplecss_index.specs.declared.lasts.Lasts.{Lasts}
 
 -- the place that a map has for a text
@@ -37,6 +36,6 @@ ClassLeads lasts None place = ⊥
 ClassLeads lasts (Some value) place =
     (word : List ℕ) × IsTrue (is_word_of word value) × (last_for lasts (by_class word) ≡ Some place)
 
--- a key that the node has leads to the place
-abbrev pub KeyLeads : {Node : Type 0} → Tree Node → Node → Lasts → ℕ → Type 0
-KeyLeads tree n lasts place = (key : Key) × IsTrue (has_key tree n key) × (last_for lasts key ≡ Some place)
+-- a key that is told leads to the place
+abbrev pub KeyLeads : Told → Lasts → ℕ → Type 0
+KeyLeads told lasts place = (key : Key) × IsTrue (tells_key told key) × (last_for lasts key ≡ Some place)

@@ -3,7 +3,8 @@ use Rattle.std.specs.Prelude.{ℕ, zero, suc, ◌+◌, List, [], false, Option, 
 use Rattle.std.specs.Borrow.{Bor}
 use Rattle.std.specs.List.{slice_get}
 use Rattle.std.specs.Option.{option_map, option_map_or}
-use Rattle.simplecss.specs.Keys.{is_value_as_asked}
+use Rattle.simplecss.specs.Keys.{Told, TellsKeys, is_value_as_asked}
+use Rattle.simplecss.specs.Keys.Key.{by_id, by_class, by_name, by_nothing}
 use Rattle.simplecss.specs.Trees.{Tree, DepthCountsAncestors, SiblingsShareParent}
 
 -- the name, and the values of `id` and of `class`, where there are any
@@ -57,3 +58,13 @@ lines_count_ancestors (line, suc k) = refl
 
 pub lines_share_parents : SiblingsShareParent lines
 lines_share_parents n = tt
+
+-- the name, the id and the class of the element at a place
+abbrev pub told_at : List Entry → ℕ → Told
+told_at line k = record { name = name_at line k; id = id_at line k; class = class_at line k }
+
+pub line_tells : (line : List Entry) (k : ℕ) → TellsKeys lines (line, k) (told_at line k)
+line_tells line k (by_id text) h = h
+line_tells line k (by_class word) h = h
+line_tells line k (by_name name) h = h
+line_tells line k by_nothing h = h

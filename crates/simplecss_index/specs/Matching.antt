@@ -2,7 +2,7 @@
 use Rattle.std.specs.Prelude.{◌≡◌, ◌↔◌, ℕ, ◌+◌, ◌*◌, Bool, true, List, length, filter, IsTrue}
 use Rattle.std.specs.List.{AllZip, items_where_true, range_with_len}
 use Rattle.simplecss.specs.Components.{Component}
-use Rattle.simplecss.specs.Keys.{has_key, key_of}
+use Rattle.simplecss.specs.Keys.{Told, tells_key, key_of}
 use Rattle.simplecss.specs.Placements.{HasPlacement, longest_run}
 use Rattle.simplecss.specs.Trees.{Tree}
 use Rattle.simplecss_index.specs.Places.{selector_at, key_at, AreThePlaces}
@@ -12,20 +12,19 @@ abbrev pub AreMatches : {Node : Type 0} → Tree Node → Node → List (List Co
 AreMatches tree element selectors =
     AreThePlaces (λ place. HasPlacement tree (selector_at selectors place) element) (length selectors)
 
--- the places are in order, and are exactly those of the selectors whose key the element has
-abbrev pub AreCandidates : {Node : Type 0} → Tree Node → Node → List (List Component) → List ℕ → Type 0
-AreCandidates tree element selectors =
-    AreThePlaces (λ place. IsTrue (has_key tree element (key_at selectors place))) (length selectors)
+-- the places are in order, and are exactly those of the selectors whose key is told
+abbrev pub AreCandidates : Told → List (List Component) → List ℕ → Type 0
+AreCandidates told selectors =
+    AreThePlaces (λ place. IsTrue (tells_key told (key_at selectors place))) (length selectors)
 
 -- the most tests that asking whether a selector matches takes: for the element and each of its ancestors one for each
 -- component of the longest stretch that child and adjacent steps join
 abbrev pub most_tests : {Node : Type 0} → Tree Node → Node → List Component → ℕ
 most_tests tree element selector = longest_run selector * (tree.depth element + 1)
 
--- the selectors whose key the element has
-abbrev pub keyed_for : {Node : Type 0} → Tree Node → Node → List (List Component) → List (List Component)
-keyed_for tree element selectors =
-    filter (λ selector. has_key tree element (key_of selector)) selectors
+-- the selectors whose key is told
+abbrev pub keyed_for : Told → List (List Component) → List (List Component)
+keyed_for told selectors = filter (λ selector. tells_key told (key_of selector)) selectors
 
 -- the answers tell of each selector whether it has a placement on the element
 abbrev pub AreAnswers : {Node : Type 0} → Tree Node → Node → List (List Component) → List Bool → Type 0

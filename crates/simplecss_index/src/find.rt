@@ -1,4 +1,4 @@
-//! The places of the rules whose key an element has.
+//! The places of the rules whose key an element tells.
 ghost use Rattle.std.specs.Prelude.{◌≡◌, ◌<◌, ◌↔◌, ℕ, List, IsTrue, IfOk, OnOk, Some, Contains, length};
 ghost use Rattle.std.specs.List.Sorted.{IsStrictlyIncreasing};
 ghost use Rattle.std.specs.Option.{option_map};
@@ -69,10 +69,10 @@ impl<'a> Lasts<'a> {
         }
     }
 
-    /// Adds the last places of the keys that the element has.
+    /// Adds the last places of the keys that the element tells.
     fn push_keys_of<E: Keyed>(&self, element: &E, places: &mut Vec<usize>) -> Result<(), AllocError>
         ensures { OnOk result (Adds places.old.items places.new.items
-            (KeyLeads E.tree (E.node element.now) self.now)) }
+            (KeyLeads (E.told element.now) self.now)) }
     {
         self.push_last(Key::Any, places)?;
         self.push_last(Key::Name(element.local_name()), places)?;
@@ -110,7 +110,7 @@ impl<'a> RuleIndex<'a> {
         Ok(())
     }
 
-    /// Leaves the places of the rules whose key the element has, in order. A word that the
+    /// Leaves the places of the rules whose key the element tells, in order. A word that the
     /// element's class repeats costs no more than its own last place, which is dropped before the
     /// chains are followed.
     pub(crate) fn candidates<E: Keyed>(
@@ -118,7 +118,7 @@ impl<'a> RuleIndex<'a> {
         element: &E,
         places: &mut Vec<usize>,
     ) -> Result<(), AllocError>
-        ensures { OnOk result (AreCandidates E.tree (E.node element.now) self.now places.new.items) }
+        ensures { OnOk result (AreCandidates (E.told element.now) self.now places.new.items) }
     {
         places.clear();
         self.lasts.push_keys_of(element, places)?;

@@ -34,7 +34,7 @@ impl<'a> Link<'a> {
 }
 
 /// An index of rules by the keys of their selectors: it finds the rules that match an element, and
-/// asks only those whose key the element has.
+/// asks only those whose key the element tells.
 ///
 /// It keeps places and not the rules, so it may stand beside its sheet in one value. It is of the
 /// rules as they stood when it was made: after an edit of their selectors, or of their number or
@@ -96,7 +96,7 @@ impl<'a> RuleIndex<'a> {
     }
 
     /// `matching`, with a count of the tests that were made. No rule is asked whose key the element
-    /// has not.
+    /// does not tell.
     pub fn matching_counted<E: Keyed>(
         &self,
         rules: &[Rule<'a>],
@@ -108,7 +108,7 @@ impl<'a> RuleIndex<'a> {
         ensures matches { OnOk result
             (AreMatches E.tree (E.node element.now) self.now places.new.items) }
         ensures at_most { tests.new ≤ tests.old + sum_by (most_tests E.tree (E.node element.now))
-            (keyed_for E.tree (E.node element.now) self.now) }
+            (keyed_for (E.told element.now) self.now) }
         ensures err { OnErr result (places.new.items ≡ []) }
         ensures untested { OnErr result (tests.new ≡ tests.old) }
     {

@@ -88,6 +88,12 @@ impl<'l, 'a> Element for Place<'l, 'a> {
 }
 
 impl<'l, 'a> Keyed for Place<'l, 'a> {
+    ghost use Rattle.simplecss_index.specs.Lines.{told_at, line_tells};
+
+    ghost told = { λ p. told_at p.line.now p.place };
+
+    ghost told_law = { λ p. line_tells p.line.now p.place };
+
     fn local_name(&self) -> &str {
         let (name, _, _) = self.line[self.place];
         name

@@ -1,6 +1,6 @@
 -- What the last component of a selector asks at least, and what an element tells of itself: by the two an index finds the
 -- selectors that can match an element.
-use Rattle.std.specs.Prelude.{ℕ, ◌-◌, List, [], ◌∷◌, Option, Some, None, Bool, true, false, bytes_eq, codes, length, if◌then◌else◌}
+use Rattle.std.specs.Prelude.{ℕ, ◌-◌, List, [], ◌∷◌, Option, Some, None, Bool, true, false, IsTrue, bytes_eq, codes, length, if◌then◌else◌}
 use Rattle.std.specs.Option.{option_or, option_map_or}
 use Rattle.simplecss_text.specs.Components.{Operator, Subselector, Compound, Component}
 use Rattle.simplecss_text.specs.Components.Operator.{exists, equals, has_word, begins_with}
@@ -71,3 +71,20 @@ has_key tree n by_nothing = true
 -- whether there is a value, and it is as the operator asks
 abbrev pub is_value_as_asked : Operator → Option (List ℕ) → Bool
 is_value_as_asked operator value = option_map_or (is_as_asked operator) value false
+
+-- what an element tells of itself: its name, and the values of its attributes `id` and `class`, where it has them
+pub record Told : Type 0 where
+  pub name : List ℕ
+  pub id : Option (List ℕ)
+  pub class : Option (List ℕ)
+
+-- whether what is told has what the key asks
+abbrev pub tells_key : Told → Key → Bool
+tells_key told (by_id text) = is_value_as_asked (equals text) told.id
+tells_key told (by_class word) = is_value_as_asked (has_word word) told.class
+tells_key told (by_name name) = bytes_eq told.name name
+tells_key told by_nothing = true
+
+-- whatever key the node has is told; more may be told
+abbrev pub TellsKeys : {Node : Type 0} → Tree Node → Node → Told → Type 0
+TellsKeys tree n told = (key : Key) → IsTrue (has_key tree n key) → IsTrue (tells_key told key)

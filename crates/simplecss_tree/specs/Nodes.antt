@@ -6,6 +6,8 @@ use Rattle.std.specs.Str.{str_eq_ignore_ascii_case}
 use Rattle.simplecss.specs.Components.{Class}
 use Rattle.simplecss.specs.Components.Class.{first_child, link, visited, hover, active, focus, lang}
 use Rattle.simplecss.specs.ListTrees.{ListOf, ancestors, sibling_by, list_tree}
+use Rattle.simplecss.specs.Keys.{Told, TellsKeys}
+use Rattle.simplecss.specs.Keys.Key.{by_id, by_class, by_name, by_nothing}
 use Rattle.simplecss.specs.Operators.{is_as_asked}
 use Rattle.simplecss.specs.Trees.{Tree}
 use Rattle.simplecss_tree.specs.Rows.{Row, no_states}
@@ -80,3 +82,17 @@ elements = record {
 -- The elements of all trees.
 abbrev pub element_tree : Tree (List Row × ℕ)
 element_tree = list_tree elements
+
+-- the name of the element at a place, and the values of its attributes `id` and `class`
+abbrev pub told_at : List Row × ℕ → Told
+told_at (rows, i) = record {
+  name = name_at rows i;
+  id = attribute_at rows i (codes "id");
+  class = attribute_at rows i (codes "class");
+}
+
+pub keys_told : (n : List Row × ℕ) → TellsKeys element_tree n (told_at n)
+keys_told n (by_id text) h = h
+keys_told n (by_class word) h = h
+keys_told n (by_name name) h = h
+keys_told n by_nothing h = h

@@ -221,6 +221,12 @@ impl<'p, 't> Element for Node<'p, 't> {
 
 /// By its name and its attributes `id` and `class`.
 impl<'p, 't> Keyed for Node<'p, 't> {
+    ghost use Rattle.simplecss_tree.specs.Nodes.{told_at, keys_told};
+
+    ghost told = { told_at };
+
+    ghost told_law = { keys_told };
+
     #[inline(always)]
     fn local_name(&self) -> &str {
         self.name()

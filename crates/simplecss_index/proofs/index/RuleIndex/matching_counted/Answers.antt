@@ -11,7 +11,7 @@ use Rattle.simplecss_index.proofs.index.RuleIndex.matching_counted.Goals as goal
 pub keep_matching-kept-requires-clause-within : goal.keep_matching-kept-requires-clause-within
 keep_matching-kept-requires-clause-within g c =
     let same : length c.args.self.now ≡ length c.args.rules.now = ap length c.requires ∙ length-map c.args.rules.now (λ rule. rule.selector) in
-    let within = candidate_within g.E.Element.tree (g.E.Element.node c.args.element.now) c.args.self.now c.candidates.new.places.items c.in_default.ensures in
+    let within = candidate_within (g.E.Keyed.told c.args.element.now) c.args.self.now c.candidates.new.places.items c.in_default.ensures in
     rw c.deref_mut.ensures.value (subst (λ n. All (λ place. place < n) c.candidates.new.places.items) same within)
 
 pub returns-clause-matches : goal.returns-clause-matches
@@ -27,7 +27,7 @@ returns-clause-matches g c =
     subst (λ ss. (place : ℕ) → Contains (take count kept) place ↔ (Contains candidates.items place × HasPlacement tree (selector_at ss place) element)) (sym c.requires)
     (subst (λ ps. (place : ℕ) → Contains (take count kept) place ↔ (Contains ps place × HasPlacement tree (selector_at (map (λ rule. rule.selector) c.args.rules.now) place) element)) c.deref_mut.ensures.value c.keep_matching-kept.ensures.exactly) in
     subst (AreMatches tree element c.args.self.now) (sym back)
-    (are_matches tree element c.args.self.now candidates.items (take count kept) c.in_default.ensures c.keep_matching-kept.ensures.ascending exactly)
+    (are_matches tree element (g.E.Keyed.told c.args.element.now) c.args.self.now candidates.items (take count kept) (g.met.E.Keyed.told_law c.args.element.now) c.in_default.ensures c.keep_matching-kept.ensures.ascending exactly)
 
 pub returns-clause-at_most : goal.returns-clause-at_most
 returns-clause-at_most g c =
@@ -37,4 +37,4 @@ returns-clause-at_most g c =
     let asked : c.keep_matching-kept.new.tests ≤ c.args.tests.now + sum_by (λ place. most_tests tree element (selector_at c.args.self.now place)) candidates =
     subst (λ ss. c.keep_matching-kept.new.tests ≤ c.args.tests.now + sum_by (λ place. most_tests tree element (selector_at ss place)) candidates) (sym c.requires)
     (subst (λ ps. c.keep_matching-kept.new.tests ≤ c.args.tests.now + sum_by (λ place. most_tests tree element (selector_at (map (λ rule. rule.selector) c.args.rules.now) place)) ps) c.deref_mut.ensures.value c.keep_matching-kept.ensures.counted) in
-    subst (λ n. c.keep_matching-kept.new.tests ≤ c.args.tests.now + n) (sum_of_candidates tree element c.args.self.now candidates (most_tests tree element) c.in_default.ensures) asked
+    subst (λ n. c.keep_matching-kept.new.tests ≤ c.args.tests.now + n) (sum_of_candidates (g.E.Keyed.told c.args.element.now) c.args.self.now candidates (most_tests tree element) c.in_default.ensures) asked
