@@ -1,7 +1,7 @@
 #!/usr/bin/env python3
 """Every check of the repository. First `rt ci`: every proof from nothing, every test, every wrong body that must be refused,
-and the stored run. Then, over the programs that it has built, each request for memory refused in turn, and the program `cssq`
-with its words, files and streams. So nothing is proved twice.
+and the stored runs. Then, over the programs that it has built, each request for memory refused in turn, and the program `cssq`
+with its words, files and streams. So nothing is proved twice. Last what the documents show, and the script `cssq` at the top.
 
 The last line is 'N passed, M failed', of all together.
 """
@@ -15,6 +15,8 @@ import tempfile
 TOP = os.path.dirname(os.path.dirname(os.path.abspath(__file__)))
 # Each script of this folder, and the crate of the program that it runs.
 SWEEPS = (("refused.py", "simplecss_refusals"), ("program.py", "cssq_cli"))
+# The scripts that refuse no request for memory, and the crate of the program that one runs.
+PLAIN = (("docs.py", "cssq_cli"), ("script.py", None))
 passed = failed = 0
 
 
@@ -71,6 +73,16 @@ def sweep(shim):
             fail(f"rt ci built no program of {crate}: {script} was not run")
 
 
+def look():
+    """Runs the scripts that need no shim."""
+    for script, crate in PLAIN:
+        words = [program_of(crate)] if crate else []
+        if all(os.path.exists(path) for path in words):
+            shown([sys.executable, os.path.join(TOP, "tests", script), *words], script)
+        else:
+            fail(f"rt ci built no program of {crate}: {script} was not run")
+
+
 def main():
     for _, crate in SWEEPS:
         # What an earlier run left is not swept in the place of what this one builds.
@@ -82,6 +94,7 @@ def main():
             shim = shim_in(folder)
             if shim:
                 sweep(shim)
+        look()
     else:
         fail("there is no rt: nothing was proved or run")
     print(f"{passed} passed, {failed} failed")

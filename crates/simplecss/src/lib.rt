@@ -1,12 +1,13 @@
 //! CSS 2.1: selectors and the elements that they match, declarations, and style sheets whose rules stand in the order of
 //! their specificity.
 //!
+//! <!-- from crates/example_first/src/main.rt -->
 //! ```rust
-//! let mut sheet = StyleSheet::new(alloc);
-//! sheet.parse_more(rt, alloc, "a > .b { color: red }")?;
 //! for rule in &sheet.rules {
 //!     if rule.selector.matches(&element) {
-//!         // rule.declarations
+//!         for declaration in &rule.declarations {
+//!             println!(rt; "{}: {}", declaration.name, declaration.value)?;
+//!         }
 //!     }
 //! }
 //! ```

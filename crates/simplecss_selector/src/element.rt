@@ -4,72 +4,68 @@ use crate::{AttributeOperator, PseudoClass};
 /// An element of a document. Each value means a node of a tree, and what it answers depends on that
 /// node and on the texts of the arguments alone.
 ///
-/// To make a tree of your own match selectors:
+/// Whoever has no tree takes `simplecss_tree`. To make elements of your own match, keep them in a list,
+/// each with the places of its parent and of its previous sibling, and say in your `specs/` what a
+/// list says of a place. For entries with a name and a class, in the crate `simplecss_uses`:
 ///
-/// 1. Say what a value means: a type `Node` of contracts, and `node`, the node of a value. For
-///    elements in one list, of which each is the child of the one before, a node is the list of the
-///    names and a place in it.
-/// 2. In your `specs/` write the record `tree : Tree Node`: of each node the parent, the previous
-///    sibling and the depth, and what it answers about names, attributes and pseudo-classes.
-///    `is_as_asked` says whether a value is as an operator asks.
-/// 3. There prove the two laws. `DepthCountsAncestors`: the depth is 0 exactly where there is no
-///    parent, and else one more than the parent's. `SiblingsShareParent`: a previous sibling has
-///    the same parent, or none where the node has none.
-/// 4. Write the five functions, so that each answers what the record says of the node. For the
-///    value of an attribute ask `AttributeOperator::matches`, which answers `is_as_asked`. They are
-///    asked often, so mark those that are short `#[inline(always)]`.
-///
-/// Your `specs/` import these modules of the crate `simplecss`:
-///
-/// | Module | For |
-/// |---|---|
-/// | `Rattle.simplecss.specs.Trees` | `Tree`, `DepthCountsAncestors`, `SiblingsShareParent` |
-/// | `Rattle.simplecss.specs.Operators` | `is_as_asked` |
-/// | `Rattle.simplecss.specs.Components` | `Operator` and `Class`, which the record is asked |
-///
+/// <!-- from crates/simplecss_uses/specs/OwnTree.antt -->
 /// ```text
-/// pub struct Link<'n> {
-///     names: &'n [&'n str],
-///     place: usize,
-///     ghost within: { place < length names.now },
+/// abbrev pub entry_list : ListOf (List Entry)
+/// entry_list = record {
+///   parent = λ entries i. option_and_then (λ e. e.parent) (slice_get entries i);
+///   previous_sibling = λ entries i. option_and_then (λ e. e.previous) (slice_get entries i);
+///   is_named = λ entries i name. option_map_or (λ e. bytes_eq e.name.now name) (slice_get entries i) false;
+///   has_attribute = λ entries i name operator. bytes_eq name (codes "class")
+///       && option_map_or (λ e. is_as_asked operator e.class.now) (slice_get entries i) false;
+///   is_in_class = λ entries i class. false;
 /// }
+/// ```
 ///
-/// impl<'n> Element for Link<'n> {
-///     ghost Node = { List (Bor (List ℕ)) × ℕ };
-///     ghost tree = { chains };
-///     ghost node = { λ l. (l.names.now, l.place) };
-///     ghost depth_law = { chains_count_ancestors };
-///     ghost sibling_law = { chains_share_parents };
+/// A node is a list and a place in it. `Rattle.simplecss.specs.ListTrees` proves both laws for every
+/// such list: a parent counts where it stands earlier, and a previous sibling where it stands earlier
+/// and has the same parent. So `parent_of` and `previous_of` look both up:
+///
+/// <!-- from crates/simplecss_uses/src/own_tree.rt -->
+/// ```text
+/// impl<'t> Element for Spot<'t> {
+///     ghost Node = { List Entry × ℕ };
+///
+///     ghost tree = { list_tree entry_list };
+///
+///     ghost node = { λ spot. (spot.entries.now, spot.place) };
+///
+///     ghost depth_law = { list_counts_ancestors entry_list };
+///
+///     ghost sibling_law = { list_shares_parents entry_list };
 ///
 ///     fn parent_element(&self) -> Option<Self> {
-///         if self.place == 0 {
-///             return None;
-///         }
-///         Some(Link { names: self.names, place: self.place - 1 })
+///         let entries = self.entries;
+///         let place = parent_of(entries, self.place)?;
+///         Some(Spot { entries, place })
 ///     }
 ///
 ///     fn prev_sibling_element(&self) -> Option<Self> {
-///         None
+///         let entries = self.entries;
+///         let place = previous_of(entries, self.place)?;
+///         Some(Spot { entries, place })
 ///     }
 ///
 ///     fn has_local_name(&self, name: &str) -> bool {
-///         self.names[self.place] == name
+///         self.entries[self.place].name == name
 ///     }
 ///
-///     fn attribute_matches(&self, _: &str, _: AttributeOperator<'_>) -> bool {
-///         false
+///     fn attribute_matches(&self, local_name: &str, operator: AttributeOperator<'_>) -> bool {
+///         local_name == "class" && operator.matches(self.entries[self.place].class)
 ///     }
 ///
-///     fn pseudo_class_matches(&self, _: PseudoClass<'_>) -> bool {
+///     fn pseudo_class_matches(&self, _class: PseudoClass<'_>) -> bool {
 ///         false
 ///     }
 /// }
 /// ```
 ///
-/// The record of this tree has `parent (names, 0) = None` and
-/// `parent (names, suc k) = Some (names, k)`, no previous siblings, and `depth (names, k) = k`.
-/// A whole example, with siblings, classes and the proofs of the laws, is `tree.rt` of the crate
-/// `cssq`, with its `specs/`; a short one is `row.rt` beside this file, with `specs/Rows.antt`.
+/// Mark the short functions `#[inline(always)]`, since they are asked often. Where nodes are no places
+/// in lists, write the record of `Rattle.simplecss.specs.Trees` yourself, and prove its two laws.
 pub trait Element: Drop {
     ghost use Rattle.std.specs.Prelude.{◌≡◌, Option, option_map};
     ghost use Rattle.simplecss_selector.specs.Trees.{Tree, DepthCountsAncestors, SiblingsShareParent};

@@ -1,2 +1,3 @@
 mod Growing
 mod Languages
+pub mod Styled

@@ -145,6 +145,7 @@ impl<'p, 't> Node<'p, 't> {
     }
 
     /// The name.
+    #[inline(always)]
     pub fn name(&self) -> &'t str
         ensures { result.now ≡ name_at self.now.0 self.now.1 }
     {
@@ -159,9 +160,9 @@ impl<'p, 't> Node<'p, 't> {
     }
 }
 
-/// Names and values compare byte by byte. The first child has no previous sibling; the states are
-/// those of `Tree::set_states`; the language is the attribute `lang` of the nearest among the element
-/// and its ancestors that has one.
+/// Names and values compare byte by byte. A first child is an element without a previous sibling, so
+/// the first of those without a parent is one too. The states are those of `Tree::set_states`. The
+/// language is the attribute `lang` of the nearest among the element and its ancestors that has one.
 impl<'p, 't> Element for Node<'p, 't> {
     ghost use Rattle.std.specs.Prelude.{ℕ, List};
     ghost use Rattle.simplecss.specs.ListTrees.{list_counts_ancestors, list_shares_parents};
@@ -194,7 +195,7 @@ impl<'p, 't> Element for Node<'p, 't> {
 
     #[inline(always)]
     fn has_local_name(&self, name: &str) -> bool {
-        self.tree.name(self.place) == name
+        self.name() == name
     }
 
     fn attribute_matches(&self, local_name: &str, operator: AttributeOperator<'_>) -> bool {
@@ -228,7 +229,7 @@ impl<'p, 't> Keyed for Node<'p, 't> {
 
     #[inline(always)]
     fn local_name(&self) -> &str {
-        self.tree.name(self.place)
+        self.name()
     }
 
     fn id_value(&self) -> Option<&str> {

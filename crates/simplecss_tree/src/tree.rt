@@ -5,8 +5,9 @@ ghost use Rattle.simplecss_tree.specs.declared.tree.TreeError.TheVariants.{NoEle
 use crate::Node;
 use std::alloc::{AllocError, AllocFailed, Global};
 use std::error::Error;
-use std::fmt;
+use std::io::ErrorKind;
 use std::marker::Model;
+use std::{fmt, io};
 
 /// Which of the pseudo-classes that depend on the user, and not on the tree, an element is in (CSS
 /// 2.1 sections 5.11.2 and 5.11.3).
@@ -33,7 +34,16 @@ pub enum TreeError {
     Memory,
 }
 
+/// Prints the fault in a few words. Width, fill and flags of the formatter change nothing.
 impl fmt::Display for TreeError {
+    ghost use Rattle.std.specs.Prelude.{Some};
+    ghost use Rattle.simplecss_tree.specs.Messages.{message_of};
+
+    ghost output = { λ error. Some (message_of error) };
+
+    ghost styled_output = { λ error _. Some (message_of error) };
+
+    #[tactic(auto, using(crate::proofs::Styled::plain_of_styled))]
     fn fmt<W: fmt::Write>(&self, f: &mut fmt::Formatter<W>) -> fmt::Result {
         match self {
             TreeError::NoElement => f.write_str("no such element"),
@@ -60,6 +70,21 @@ impl<T: Drop> From<AllocFailed<T>> for TreeError {
     }
 }
 
+/// So that `?` takes the error of a tree to an `io::Result`, as it takes want of memory there.
+impl From<TreeError> for io::Error {
+    ghost use Rattle.std.specs.IoError.{error_kind};
+    ghost use Rattle.simplecss_tree.specs.Messages.{kind_of};
+
+    ghost from_gives = { λ error fault. error_kind fault ≡ kind_of error };
+
+    fn from(error: TreeError) -> io::Error {
+        match error {
+            TreeError::NoElement => io::Error::new(ErrorKind::NotFound, "no such element"),
+            TreeError::Memory => io::Error::from(ErrorKind::OutOfMemory),
+        }
+    }
+}
+
 /// An element's own data, and the places of its relatives.
 #[derive(Debug, Drop)]
 pub(crate) struct Entry<'t> {
@@ -71,8 +96,9 @@ pub(crate) struct Entry<'t> {
     last_child: Option<usize>,
 }
 
-/// Elements in the order in which they were added. Names and attributes are slices of the document's
-/// text, so that an element without attributes takes no memory of its own.
+/// Elements in the order in which they were added. Names, attributes and their values are slices of
+/// the document's text and are not copied; an element without attributes takes no memory of its own
+/// beside its place in the list.
 #[derive(Debug, Drop)]
 pub struct Tree<'t> {
     pub(crate) entries: Vec<Entry<'t>>,

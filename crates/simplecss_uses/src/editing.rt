@@ -4,6 +4,7 @@ ghost use Rattle.simplecss.specs.Properties.{property_of};
 ghost use Rattle.simplecss.specs.Statements.{StyleRule};
 ghost use Rattle.simplecss.specs.StyleRules.{rules_of};
 
+use log::sink::Discard;
 use simplecss::{Declaration, Rule, Selector, StyleSheet};
 use std::alloc::{AllocError, Global};
 
@@ -23,6 +24,14 @@ pub fn push_rule<'a>(
         declarations,
     })?;
     Ok(())
+}
+
+/// Whether the sheet, printed, reads back as the same rules in the same order, so that it may be
+/// written out again.
+pub fn reads_back(alloc: Global, sheet: &StyleSheet<'_>) -> Result<bool, AllocError> {
+    let printed = sheet.to_string(alloc)?;
+    let again = StyleSheet::parse(&Discard, alloc, printed.as_str())?;
+    Ok(again.rules == sheet.rules)
 }
 
 #[cfg(test)]

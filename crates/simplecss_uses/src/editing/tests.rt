@@ -29,3 +29,32 @@ fn edits_a_sheet(rt: HostRuntime) -> Result<(), Fail> {
     assert_eq!(rt; printed.as_str(), want);
     Ok(())
 }
+
+#[test]
+fn tells_which_sheets_read_back(rt: HostRuntime) -> Result<(), Fail> {
+    for (text, value, wanted) in [
+        ("a { b:c } #d { e:f !important }", "red", true),
+        // Another rule within a value.
+        ("a { b:c }", "red; } p { q:r", false),
+        // An apostrophe, which the printed selector does not escape.
+        ("[a=\"b'c\"] { d:e }", "red", false),
+        ("[a=\"b\\'c\"] { d:e }", "red", true),
+    ] {
+        let mut sheet = StyleSheet::parse(&Discard, rt.alloc(), text)?;
+        for rule in sheet.rules.iter_mut() {
+            for declaration in rule.declarations.iter_mut() {
+                declaration.value = value;
+            }
+        }
+        assert_eq!(rt;
+            reads_back(rt.alloc(), &sheet)?,
+            wanted,
+            "{text} with {value}"
+        );
+    }
+    // A sheet reads back in the order of specificity.
+    let mut sheet = StyleSheet::parse(&Discard, rt.alloc(), "a { b:c } #d { e:f }")?;
+    sheet.rules.reverse();
+    assert!(rt; !reads_back(rt.alloc(), &sheet)?);
+    Ok(())
+}

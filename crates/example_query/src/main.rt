@@ -1,0 +1,105 @@
+//! An example: prints the lines of a tree whose elements a list of selectors matches, with their
+//! numbers: `example_query 'a, b > c' TREE`. The tree is one of the crate `cssq`.
+#![tactic(auto)]
+
+use cssq::tree::Page;
+use log::sink::Discard;
+use simplecss::{Element, Selector};
+use std::alloc::{AllocError, Global};
+use std::process::ExitCode;
+use std::{env, fs, io};
+
+/// What a text is as a list of selectors with commas between them.
+#[derive(Drop)]
+enum List<'a> {
+    Selectors(Vec<Selector<'a>>),
+    /// From here on it is none.
+    Refused(&'a str),
+}
+
+/// Reads a list of selectors. A comma within an attribute's value, as in `[a="b,c"]`, ends none.
+fn read_list(alloc: Global, text: &str) -> Result<List<'_>, AllocError> {
+    let mut selectors = Vec::new(alloc);
+    let mut rest = text;
+    loop {
+        let (selector, len) = Selector::parse_front(&Discard, alloc, rest)?;
+        let Some(selector) = selector else {
+            return Ok(List::Refused(rest));
+        };
+        selectors.push(selector)?;
+        let behind = &rest[len..];
+        if behind.is_empty() {
+            return Ok(List::Selectors(selectors));
+        }
+        let Some(more) = behind.strip_prefix(',') else {
+            return Ok(List::Refused(behind));
+        };
+        rest = more;
+    }
+}
+
+/// Whether one of the selectors matches.
+fn is_matched<E: Element>(selectors: &[Selector<'_>], element: &E) -> bool {
+    selectors.iter().any(|selector| selector.matches(element))
+}
+
+/// Prints the lines that match, and tells whether there are any.
+fn print_matches(
+    rt: &HostRuntime,
+    selectors: &[Selector<'_>],
+    page: &Page<'_>,
+    tree: &str,
+) -> io::Result<bool> {
+    let mut is_found = false;
+    for (place, line) in tree.split('\n').enumerate() {
+        let Some(element) = page.node(place) else {
+            break;
+        };
+        if is_matched(selectors, &element) {
+            is_found = true;
+            println!(rt; "{}: {line}", place + 1)?;
+        }
+    }
+    Ok(is_found)
+}
+
+/// Prints what the list finds in the file. The status is that of `grep`: 0 where a line matches, 1
+/// where none does, 2 where something is wrong.
+fn query(rt: &HostRuntime, list: &str, file: &str) -> io::Result<ExitCode> {
+    let selectors = match read_list(rt.alloc(), list)? {
+        List::Selectors(selectors) => selectors,
+        List::Refused(rest) => {
+            eprintln!(rt; "example_query: no selectors from here on: {rest}")?;
+            return Ok(ExitCode::from(2));
+        }
+    };
+    let tree = fs::read_to_string(rt, file)?;
+    let page = match Page::read(rt.alloc(), tree.as_str()) {
+        Ok(page) => page,
+        Err(fault) => {
+            eprintln!(rt;
+                "example_query: {file}:{}: fault {}",
+                fault.line(),
+                fault.number()
+            )?;
+            return Ok(ExitCode::from(2));
+        }
+    };
+    let is_found = print_matches(rt, &selectors, &page, tree.as_str())?;
+    Ok(if is_found {
+        ExitCode::SUCCESS
+    } else {
+        ExitCode::from(1)
+    })
+}
+
+fn main(rt: HostRuntime) -> io::Result<ExitCode> {
+    let words: Vec<String> = env::args(&rt)?.skip(1).collect(rt.alloc())?;
+    match words.as_slice() {
+        [list, file] => query(&rt, list.as_str(), file.as_str()),
+        _ => {
+            eprintln!(rt; "usage: example_query SELECTORS TREE")?;
+            Ok(ExitCode::from(2))
+        }
+    }
+}

@@ -1,0 +1,124 @@
+//! An example: prints for each element of a picture the declarations that apply to it, in the order
+//! in which a renderer goes through them, the last of a name being the one that counts (CSS 2.1
+//! section 6.4.1): `example_resolver SHEET PICTURE`.
+//!
+//! A picture is a text with a line an element: as many spaces as the element is deep, the name, and
+//! fields `key=value` with TABs between.
+#![tactic(auto)]
+
+use log::sink::Discard;
+use simplecss::{Declaration, DeclarationTokenizer, Rule, StyleSheet};
+use simplecss_index::RuleIndex;
+use simplecss_tree::{Tree, TreeError};
+use std::alloc::{AllocError, Global};
+use std::process::ExitCode;
+use std::{env, fs, io};
+
+/// Adds the element of a line, and gives its place.
+fn push_line<'t>(
+    tree: &mut Tree<'t>,
+    parent: Option<usize>,
+    line: &'t str,
+) -> Result<usize, TreeError> {
+    let mut fields = line.split('\t');
+    let place = tree.push(parent, fields.next().unwrap_or(""))?;
+    for field in fields {
+        if let Some((name, value)) = field.split_once('=') {
+            tree.set_attribute(name, value)?;
+        }
+    }
+    Ok(place)
+}
+
+/// Reads a picture. `open` has the depth and the place of each element whose children may follow.
+fn read_picture(alloc: Global, text: &str) -> Result<Tree<'_>, TreeError> {
+    let mut tree = Tree::new(alloc);
+    let mut open: Vec<(usize, usize)> = Vec::new(alloc);
+    for line in text.lines() {
+        let content = line.trim_start_matches(' ');
+        let depth = line.len() - content.len();
+        open.retain(|(other, _)| *other < depth);
+        let parent = open.last().map(|(_, place)| *place);
+        let place = push_line(&mut tree, parent, content)?;
+        open.push((depth, place))?;
+    }
+    Ok(tree)
+}
+
+/// Adds the declarations of this importance: those of the rules at these places, and then the
+/// element's own ones.
+fn push_declarations<'a>(
+    found: &mut Vec<Declaration<'a>>,
+    rules: &[Rule<'a>],
+    places: &[usize],
+    own: &'a str,
+    important: bool,
+) -> Result<(), AllocError> {
+    for rule in places.iter().filter_map(|place| rules.get(*place)) {
+        for declaration in &rule.declarations {
+            if declaration.important == important {
+                found.push(*declaration)?;
+            }
+        }
+    }
+    for declaration in DeclarationTokenizer::from(own) {
+        if declaration.important == important {
+            found.push(declaration)?;
+        }
+    }
+    Ok(())
+}
+
+/// The declarations that apply to an element, the weakest first: the rules at these places match it,
+/// and its attribute `style` is `own`.
+fn resolve<'a>(
+    alloc: Global,
+    rules: &[Rule<'a>],
+    places: &[usize],
+    own: &'a str,
+) -> Result<Vec<Declaration<'a>>, AllocError> {
+    let mut found = Vec::new(alloc);
+    push_declarations(&mut found, rules, places, own, false)?;
+    push_declarations(&mut found, rules, places, own, true)?;
+    Ok(found)
+}
+
+/// Prints each element with its declarations. The rules that match are found by an index.
+fn print(rt: &HostRuntime, sheet: &StyleSheet<'_>, tree: &Tree<'_>) -> io::Result<()> {
+    let index = RuleIndex::new(rt.alloc(), &sheet.rules)?;
+    let mut places = Vec::new(rt.alloc());
+    for place in 0..tree.len() {
+        let Some(element) = tree.node(place) else {
+            break;
+        };
+        index.matching(&sheet.rules, &element, &mut places)?;
+        println!(rt; "{}", element.name())?;
+        let own = element.attribute("style").unwrap_or("");
+        for declaration in &resolve(rt.alloc(), &sheet.rules, &places, own)? {
+            println!(rt; "    {declaration}")?;
+        }
+    }
+    Ok(())
+}
+
+fn run(rt: &HostRuntime, sheet: &str, picture: &str) -> io::Result<()> {
+    let sheet_text = fs::read_to_string(rt, sheet)?;
+    let picture_text = fs::read_to_string(rt, picture)?;
+    let sheet = StyleSheet::parse(&Discard, rt.alloc(), sheet_text.as_str())?;
+    let tree = read_picture(rt.alloc(), picture_text.as_str())?;
+    print(rt, &sheet, &tree)
+}
+
+fn main(rt: HostRuntime) -> io::Result<ExitCode> {
+    let words: Vec<String> = env::args(&rt)?.skip(1).collect(rt.alloc())?;
+    match words.as_slice() {
+        [sheet, picture] => {
+            run(&rt, sheet.as_str(), picture.as_str())?;
+            Ok(ExitCode::SUCCESS)
+        }
+        _ => {
+            eprintln!(rt; "usage: example_resolver SHEET PICTURE")?;
+            Ok(ExitCode::from(2))
+        }
+    }
+}

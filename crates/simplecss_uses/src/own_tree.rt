@@ -1,0 +1,88 @@
+//! A tree of the user's own that selectors are asked of: entries in a list, of which each names its
+//! parent and its previous sibling by their places. Both laws of elements come from `ListTrees`.
+ghost use Rattle.std.specs.Prelude.{◌<◌, ◌≡◌, ℕ, List, IfSome, length};
+ghost use Rattle.simplecss.specs.ListTrees.{list_tree, list_counts_ancestors, list_shares_parents, parent_place, sibling_place};
+ghost use Rattle.simplecss_uses.specs.OwnTree.{entry_list};
+ghost use Rattle.simplecss_uses.specs.declared.own_tree.Entry.{Entry};
+
+use simplecss::{AttributeOperator, Element, PseudoClass};
+
+#[cfg(test)]
+mod tests;
+
+/// An entry: a name, a class, and the places of the parent and of the previous sibling, if any.
+#[derive(Clone, Copy, Debug)]
+pub struct Entry<'t> {
+    pub name: &'t str,
+    pub class: &'t str,
+    pub parent: Option<usize>,
+    pub previous: Option<usize>,
+}
+
+/// The element at a place of a list.
+#[derive(Drop)]
+pub struct Spot<'t> {
+    pub entries: &'t [Entry<'t>],
+    pub place: usize,
+    pub ghost within: { place < length entries.now },
+}
+
+/// The place of the parent, where that stands earlier.
+fn parent_of(entries: &[Entry<'_>], place: usize) -> Option<usize>
+    requires { place < length entries.now }
+    ensures value { result ≡ parent_place entry_list entries.now place }
+    ensures before { IfSome result (λ parent. parent < place) }
+{
+    let parent = entries[place].parent?;
+    if parent < place { Some(parent) } else { None }
+}
+
+/// The place of the previous sibling, where that stands earlier and has the same parent.
+fn previous_of(entries: &[Entry<'_>], place: usize) -> Option<usize>
+    requires { place < length entries.now }
+    ensures value { result ≡ sibling_place entry_list entries.now place }
+    ensures before { IfSome result (λ previous. previous < place) }
+{
+    let previous = entries[place].previous?;
+    if previous < place && parent_of(entries, previous) == parent_of(entries, place) {
+        Some(previous)
+    } else {
+        None
+    }
+}
+
+impl<'t> Element for Spot<'t> {
+    ghost Node = { List Entry × ℕ };
+
+    ghost tree = { list_tree entry_list };
+
+    ghost node = { λ spot. (spot.entries.now, spot.place) };
+
+    ghost depth_law = { list_counts_ancestors entry_list };
+
+    ghost sibling_law = { list_shares_parents entry_list };
+
+    fn parent_element(&self) -> Option<Self> {
+        let entries = self.entries;
+        let place = parent_of(entries, self.place)?;
+        Some(Spot { entries, place })
+    }
+
+    fn prev_sibling_element(&self) -> Option<Self> {
+        let entries = self.entries;
+        let place = previous_of(entries, self.place)?;
+        Some(Spot { entries, place })
+    }
+
+    fn has_local_name(&self, name: &str) -> bool {
+        self.entries[self.place].name == name
+    }
+
+    fn attribute_matches(&self, local_name: &str, operator: AttributeOperator<'_>) -> bool {
+        local_name == "class" && operator.matches(self.entries[self.place].class)
+    }
+
+    fn pseudo_class_matches(&self, _class: PseudoClass<'_>) -> bool {
+        false
+    }
+}
