@@ -4,7 +4,8 @@
 
 PROGRAM is the built `cssq`. OTHER, where it is given, is run in turn with it on the same files; its standard output must be
 the same. The style sheet is bootstrap.css of Debian's libjs-bootstrap4 and the page that of developers-reference, fetched by
-`apt-get download` into FOLDER (out/bench) once; where that fails, both are made here, and the table says so.
+`apt-get download` into FOLDER (cssq-speed in the temporary folder) once; where that fails, both are made here, and the table
+says so. FOLDER does not lie in the repository: packages have links, which the toolchain refuses there.
 
 Prints a table, and writes it with a picture to FOLDER: speed.md and speed.svg. Each time is the least of N runs of the whole
 process, in milliseconds of processor time.
@@ -17,12 +18,13 @@ import platform
 import resource
 import subprocess
 import sys
+import tempfile
 import time
 
 parser = argparse.ArgumentParser()
 parser.add_argument("program")
 parser.add_argument("other", nargs="?")
-parser.add_argument("--out", default=os.path.join(os.path.dirname(os.path.dirname(os.path.abspath(__file__))), "out", "bench"))
+parser.add_argument("--out", default=os.path.join(tempfile.gettempdir(), "cssq-speed"))
 parser.add_argument("--runs", type=int, default=7)
 parser.add_argument("--quick", action="store_true", help="small inputs alone")
 words = parser.parse_args()
