@@ -98,6 +98,16 @@ add("run_match", ["run_match", *MATCHED], unwritten)
 for sheet, tree, name in [("a { c:red !important; c:blue } a { c:green }", "0\ta", "c"), (*MATCHED, "e")]:
     add("run_style", ["run_style", sheet, tree, name], unwritten)
 
+for text in SHEETS:
+    add("StyleSheet::parse_all", ["sheets", text, "#x { a:b }", text], plain)
+    add("StatementReader::read_next", ["statements", text], plain)
+for text in ["a < b, c:d { e } @f", "a < b { c:d }"]:
+    add("find_faults", ["faults", text], plain)
+CASCADE = ("#a .b { c:d !important; e:f } * { c:g } .b.i { h:j } b { c:k }", "0\ta\tid=a\n1\tb\tclass=i b\n1\tb\n")
+add("RuleIndex::new, matching", ["index", *CASCADE], plain)
+add("winners", ["winners", *CASCADE], plain)
+add("Tree::push, set_attribute", ["tree", "a", "b", "c"], plain)
+
 # After a refused request the sheet is as it was, and the same call then gives all: the sheet's text, the one that is read into
 # it, and what the sheet prints before and after.
 MORE = [

@@ -2,16 +2,20 @@
 //! refuses the requests for memory that are made between the marks, one after the other.
 #![tactic(auto)]
 
+use cssq::cascade::winners;
 use cssq::runs::{RunFault, run_match, run_selector, run_sheet, run_style};
 use cssq::tree::{Page, TreeFault};
 use log::Log;
 use log::sink::{Discard, Memory};
 use simplecss::stream::{is_name_char, is_name_start};
 use simplecss::{
-    AttributeOperator, DeclarationTokenizer, Element, Selector, SelectorTokenizer, StyleSheet,
-    Tests, TextPos,
+    AttributeOperator, DeclarationTokenizer, Element, Selector, SelectorTokenizer, StatementReader,
+    StyleSheet, Tests, TextPos,
 };
-use std::alloc::AllocError;
+use simplecss_faults::find_faults;
+use simplecss_index::RuleIndex;
+use simplecss_tree::{Tree, TreeError};
+use std::alloc::{AllocError, Global};
 use std::process::ExitCode;
 use std::{env, io};
 
@@ -124,6 +128,101 @@ fn show_page(rt: &HostRuntime, text: &str) -> io::Result<()> {
     }
 }
 
+/// Shows a number that some calls come to, or that one was refused.
+fn show_number<E: Drop>(rt: &HostRuntime, number: Result<usize, E>) -> io::Result<()> {
+    match number {
+        Err(_) => println!(rt; "refused"),
+        Ok(number) => println!(rt; "{number}"),
+    }
+}
+
+fn show_sheets<R: Log>(rt: &HostRuntime, log: &R, texts: &[&str]) -> io::Result<()> {
+    begin(rt);
+    let read = StyleSheet::parse_all(log, rt.alloc(), texts);
+    end(rt);
+    match read {
+        Err(_) => println!(rt; "refused"),
+        Ok(sheet) => println!(rt; "{sheet}"),
+    }
+}
+
+/// The sum of the places at which the statements of the text end.
+fn statement_ends<R: Log>(log: &R, alloc: Global, text: &str) -> Result<usize, AllocError> {
+    let mut reader = StatementReader::new(text);
+    let mut sum = 0_usize;
+    for _ in 0..=text.len() {
+        match reader.read_next(log, alloc)? {
+            Some(statement) => sum = sum.saturating_add(statement.end),
+            None => break,
+        }
+    }
+    Ok(sum)
+}
+
+/// The sum of the numbers of the rules that an index finds for each element of the page.
+fn found_rules(
+    alloc: Global,
+    sheet: &StyleSheet<'_>,
+    page: &Page<'_>,
+) -> Result<usize, AllocError> {
+    let index = RuleIndex::new(alloc, &sheet.rules)?;
+    let mut places = Vec::new(alloc);
+    let mut sum = 0_usize;
+    for place in 0..page.len() {
+        let Some(element) = page.node(place) else {
+            break;
+        };
+        index.matching(&sheet.rules, &element, &mut places)?;
+        for found in &places {
+            sum = sum.saturating_add(*found).saturating_add(1);
+        }
+    }
+    Ok(sum)
+}
+
+/// How many declarations win on the elements of the page.
+fn winner_count(
+    alloc: Global,
+    sheet: &StyleSheet<'_>,
+    page: &Page<'_>,
+) -> Result<usize, AllocError> {
+    let mut sum = 0_usize;
+    for place in 0..page.len() {
+        let Some(element) = page.node(place) else {
+            break;
+        };
+        sum = sum.saturating_add(winners(alloc, sheet, &element)?.len());
+    }
+    Ok(sum)
+}
+
+/// Makes the calls that are asked of a sheet and a page.
+fn show_asked(rt: &HostRuntime, call: &str, text: &str, tree: &str) -> io::Result<()> {
+    let sheet = StyleSheet::parse(&Discard, rt.alloc(), text)?;
+    let Ok(page) = Page::read(rt.alloc(), tree) else {
+        return println!(rt; "no tree");
+    };
+    begin(rt);
+    let number = if call == "index" {
+        found_rules(rt.alloc(), &sheet, &page)
+    } else {
+        winner_count(rt.alloc(), &sheet, &page)
+    };
+    end(rt);
+    show_number(rt, number)
+}
+
+/// Makes a tree of the names, each the child of the one before, with its name as its class. Gives how many elements it has.
+fn chain_len(alloc: Global, names: &[&str]) -> Result<usize, TreeError> {
+    let mut tree = Tree::new(alloc);
+    let mut parent = None;
+    for name in names {
+        parent = Some(tree.push(parent, name)?);
+        tree.set_attribute("class", name)?;
+    }
+    Ok(tree.len())
+}
+
 fn show_run(rt: &HostRuntime, outcome: Result<(), RunFault>, out: &Counted) -> io::Result<()> {
     let bytes = out.bytes;
     match outcome {
@@ -181,6 +280,26 @@ fn show<R: Log>(rt: &HostRuntime, log: &R, words: &[&str]) -> io::Result<()> {
         ["more", text, more] => show_more(rt, log, text, more),
         ["copies", text] => show_copies(rt, text),
         ["page", text] => show_page(rt, text),
+        ["sheets", texts @ ..] => show_sheets(rt, log, texts),
+        ["statements", text] => {
+            begin(rt);
+            let sum = statement_ends(log, rt.alloc(), text);
+            end(rt);
+            show_number(rt, sum)
+        }
+        ["faults", text] => {
+            begin(rt);
+            let faults = find_faults(rt.alloc(), text).map(|faults| faults.len());
+            end(rt);
+            show_number(rt, faults)
+        }
+        [call @ ("index" | "winners"), text, tree] => show_asked(rt, call, text, tree),
+        ["tree", names @ ..] => {
+            begin(rt);
+            let len = chain_len(rt.alloc(), names);
+            end(rt);
+            show_number(rt, len)
+        }
         ["free", text, tree] => show_free(rt, text, tree),
         ["run_selector", text] => {
             begin(rt);
