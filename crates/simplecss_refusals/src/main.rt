@@ -146,13 +146,25 @@ fn show_sheets<R: Log>(rt: &HostRuntime, log: &R, texts: &[&str]) -> io::Result<
     }
 }
 
+/// The place at which the next statement ends, if there is one.
+fn next_end<R: Log>(
+    reader: &mut StatementReader<'_>,
+    log: &R,
+    alloc: Global,
+) -> Result<Option<usize>, AllocError> {
+    match reader.read_next(log, alloc)? {
+        Some(statement) => Ok(Some(statement.end)),
+        None => Ok(None),
+    }
+}
+
 /// The sum of the places at which the statements of the text end.
 fn statement_ends<R: Log>(log: &R, alloc: Global, text: &str) -> Result<usize, AllocError> {
     let mut reader = StatementReader::new(text);
     let mut sum = 0_usize;
     for _ in 0..=text.len() {
-        match reader.read_next(log, alloc)? {
-            Some(statement) => sum = sum.saturating_add(statement.end),
+        match next_end(&mut reader, log, alloc)? {
+            Some(end) => sum = sum.saturating_add(end),
             None => break,
         }
     }
