@@ -8,9 +8,9 @@ use Rattle.simplecss_text.specs.Bytes.{past_byte}
 use Rattle.simplecss_text.specs.Characters.{Edition}
 use Rattle.simplecss_text.specs.Declarations.{Property, declaration, next_declaration}
 use Rattle.simplecss_text.specs.Blocks.{count_of, closes_block, block_end, from_block_end, ends_list, declaration_in_block, past_broken, past_list}
-use Rattle.simplecss_text.proofs.EachLaws.{took, each-none, each-some}
-use Rattle.simplecss_text.proofs.DeclarationLaws.{next_declaration-takes, declaration_in_block-takes}
-use Rattle.simplecss_text.proofs.LeastLaws.{least-is, least-none, least-le, least-passes}
+use Rattle.simplecss_text.proofs.reading.EachLaws.{took, each-none, each-some}
+use Rattle.simplecss_text.proofs.reading.DeclarationLaws.{next_declaration-takes, declaration_in_block-takes}
+use Rattle.simplecss_text.proofs.reading.LeastLaws.{least-is, least-none, least-le, least-passes}
 use Rattle.simplecss_declaration.specs.Answers.{FailsAt}
 use Rattle.simplecss.specs.BlockDepths.{closes_at, ClosesFirst, ClosesNowhere}
 use Rattle.simplecss_declaration.proofs.DeclarationLists.{found-none}

@@ -19,8 +19,8 @@ use Rattle.simplecss_text.specs.Ranks.{rank_by, of_rank}
 use Rattle.simplecss_text.specs.Specificity.{specificity}
 use Rattle.simplecss_text.specs.Statements.{StyleRule}
 use Rattle.simplecss_text.specs.Sheets.{is_smaller, ordered}
-use Rattle.simplecss_text.proofs.OrderLemmas.{smaller_order}
-use Rattle.simplecss_text.proofs.RankLemmas.{ordered_keeps, ordered_arranges, sorted_from_rises}
+use Rattle.simplecss_text.proofs.order.OrderLemmas.{smaller_order}
+use Rattle.simplecss_text.proofs.order.RankLemmas.{ordered_keeps, ordered_arranges, sorted_from_rises}
 use Rattle.simplecss.specs.RulePlaces.{IsFrom, ComesBefore}
 
 -- ---- where nothing is left out, the k-th that a function gives is of the k-th item

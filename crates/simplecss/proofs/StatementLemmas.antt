@@ -10,9 +10,9 @@ use Rattle.simplecss_text.specs.Components.{Component}
 use Rattle.simplecss_text.specs.Declarations.{Property}
 use Rattle.simplecss_text.specs.Blocks.{block}
 use Rattle.simplecss_text.specs.Statements.{StyleRule, part, part_and_comma, parts, next_block, statement, ends_statements, next_statement, statements}
-use Rattle.simplecss_text.proofs.EachLaws.{took, option_cases, each-none, each-some}
-use Rattle.simplecss_text.proofs.GapLaws.{past_blank-again}
-use Rattle.simplecss_text.proofs.StatementLaws.{part_and_comma-takes, next_statement-takes}
+use Rattle.simplecss_text.proofs.reading.EachLaws.{took, option_cases, each-none, each-some}
+use Rattle.simplecss_text.proofs.bytes.GapLaws.{past_blank-again}
+use Rattle.simplecss_text.proofs.reading.StatementLaws.{part_and_comma-takes, next_statement-takes}
 
 -- ---- parts
 

@@ -5,8 +5,8 @@ use Rattle.std.proofs.lemmas.List.{length-drop}
 use Rattle.simplecss_text.specs.Comments.{past_blank}
 use Rattle.simplecss_text.specs.Statements.{statement, ends_statements, next_statement}
 use Rattle.simplecss_text.specs.ThisEdition.{this_edition}
-use Rattle.simplecss_text.proofs.GapLaws.{past_blank-again}
-use Rattle.simplecss_text.proofs.TakesLaws.{length-past_blank}
+use Rattle.simplecss_text.proofs.bytes.GapLaws.{past_blank-again}
+use Rattle.simplecss_text.proofs.reading.TakesLaws.{length-past_blank}
 use Rattle.simplecss.specs.declared.sheet.statement_reader.Statement.{Statement}
 use Rattle.simplecss.specs.SheetPlaces.{StandsNext}
 use Rattle.simplecss.specs.StyleRules.{rules_of}

@@ -3,8 +3,8 @@ use Rattle.std.proofs.Common.{◌≡◌, ℕ, List, [], ◌∷◌, None, refl, a
 use Rattle.simplecss_text.specs.Reading.{Reading, got, fails, found, each}
 use Rattle.simplecss_text.specs.Characters.{Edition}
 use Rattle.simplecss_text.specs.Declarations.{Property, declaration, next_declaration, declarations}
-use Rattle.simplecss_text.proofs.EachLaws.{each-none, each-some}
-use Rattle.simplecss_text.proofs.DeclarationLaws.{next_declaration-takes}
+use Rattle.simplecss_text.proofs.reading.EachLaws.{each-none, each-some}
+use Rattle.simplecss_text.proofs.reading.DeclarationLaws.{next_declaration-takes}
 use Rattle.simplecss_declaration.specs.Answers.{FailsAt}
 
 pub declarations-some : (edition : Edition) (text rest : List ℕ) (p : Property) → declaration edition text ≡ got p rest → declarations edition text ≡ p ∷ declarations edition rest

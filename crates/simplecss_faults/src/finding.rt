@@ -143,11 +143,18 @@ impl<'a> Finder<'a> {
         self.tell(place, before(left, ';', '}'), Reason::Declaration)
     }
 
-    /// Looks at the statement that begins at a place.
-    fn look_at_statement(&mut self, alloc: Global, start: usize) -> Result<(), AllocError> {
-        let left = tail(self.text, start);
-        if left.starts_with('@') {
-            return self.tell(start, before(left, '{', ';'), Reason::AtRule);
+    /// Looks at the statement that stands between two places. Of an at-rule no more is quoted than the
+    /// statement, which may be an at-sign alone: what is quoted of all statements is no longer than the
+    /// text.
+    fn look_at_statement(
+        &mut self,
+        alloc: Global,
+        start: usize,
+        end: usize,
+    ) -> Result<(), AllocError> {
+        let statement = self.text.get(start..end).unwrap_or("");
+        if statement.starts_with('@') {
+            return self.tell(start, before(statement, '{', ';'), Reason::AtRule);
         }
         let behind = self.look_at_selectors(alloc, start)?;
         self.look_at_block(behind)
@@ -173,7 +180,7 @@ impl<'a> Finder<'a> {
                 break;
             };
             end = behind;
-            self.look_at_statement(alloc, start)?;
+            self.look_at_statement(alloc, start, behind)?;
         }
         self.look_at_end(end)
     }

@@ -59,3 +59,17 @@ fn tells_the_error(rt: HostRuntime) -> Result<(), Fail> {
     );
     Ok(())
 }
+
+#[test]
+fn quotes_no_more_than_a_statement(rt: HostRuntime) -> Result<(), Fail> {
+    // An at-sign with no name is a statement of its own.
+    let mut text = String::new(rt.alloc());
+    for _ in 0..20_000 {
+        text.push('@')?;
+    }
+    let faults = find_faults(rt.alloc(), text.as_str())?;
+    assert_eq!(rt; faults.len(), 20_000);
+    let quoted: usize = faults.iter().map(|fault| fault.text.len()).sum();
+    assert_eq!(rt; quoted, 20_000);
+    Ok(())
+}

@@ -18,10 +18,10 @@ use Rattle.simplecss_text.specs.TokenRuns.{Run, run_from, token_then, fault_run,
 use Rattle.simplecss_text.specs.TokenRuns.Run.{item}
 use Rattle.simplecss_text.specs.declared.Error.{Error}
 use Rattle.simplecss_text.specs.declared.Error.TheVariants.{InvalidComment, SelectorMissing, UnexpectedSelector, UnexpectedCombinator}
-use Rattle.simplecss_text.proofs.EndsLaws.{ends-same, stand-ends}
-use Rattle.simplecss_text.proofs.PlaceLaws.{place-ends}
-use Rattle.simplecss_text.proofs.RunStandLaws.{FirstStands, run_from-first}
-use Rattle.simplecss_text.proofs.GivesLaws.{fails_by-fault}
+use Rattle.simplecss_text.proofs.reading.EndsLaws.{ends-same, stand-ends}
+use Rattle.simplecss_text.proofs.reading.PlaceLaws.{place-ends}
+use Rattle.simplecss_text.proofs.reading.RunStandLaws.{FirstStands, run_from-first}
+use Rattle.simplecss_text.proofs.reading.GivesLaws.{fails_by-fault}
 use Rattle.simplecss_selector.specs.declared.token.SelectorToken.{SelectorToken}
 use Rattle.simplecss_selector.specs.declared.token.SelectorToken.TheVariants.{DescendantCombinator}
 use Rattle.simplecss_selector.specs.declared.tokenizer.State.{State}

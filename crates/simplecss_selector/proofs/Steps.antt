@@ -14,8 +14,8 @@ use Rattle.simplecss_text.specs.Neighbours.Follows.{combinator}
 use Rattle.simplecss_text.specs.Neighbours.Answer.{nothing, refuses}
 use Rattle.simplecss_text.specs.TokenRuns.{run, run_from, answered, token_then, fault_run, two_faults_run}
 use Rattle.simplecss_text.specs.TokenRuns.Run.{run_end}
-use Rattle.simplecss_text.proofs.RunLaws.{run_from-piece, run_from-ending}
-use Rattle.simplecss_text.proofs.JoiningLaws.{piece_of, piece-read, piece-fault, ending-fault, descends-token, descends-fault, run_from-stop, run_from-slash, run_from-open_gap}
+use Rattle.simplecss_text.proofs.reading.RunLaws.{run_from-piece, run_from-ending}
+use Rattle.simplecss_text.proofs.reading.JoiningLaws.{piece_of, piece-read, piece-fault, ending-fault, descends-token, descends-fault, run_from-stop, run_from-slash, run_from-open_gap}
 use Rattle.simplecss_selector.proofs.Announcing.{IsSolid, IsSub, IsType}
 
 -- where neither a stop nor a slash stands, a piece is what its first byte begins

@@ -23,7 +23,7 @@ pub fn peek(s: &Stream<'_>) -> Option<u8>
 }
 
 /// Passes the byte at the place, which is ASCII.
-#[tactic(auto, using(crate::proofs::CutLemmas::boundary_past_ascii))]
+#[tactic(auto, using(crate::proofs::bytes::CutLemmas::boundary_past_ascii))]
 #[inline(always)]
 pub fn pass_ascii(s: &mut Stream<'_>)
     requires { starts_by is_ascii (rest_of s.old) ≡ true }
@@ -69,7 +69,7 @@ pub fn take_name<'a>(s: &mut Stream<'a>) -> Option<&'a str>
 
 /// Passes the rest of a string behind its opening quote, and gives what stands before the closing
 /// one. A string that is not closed takes the whole text.
-#[tactic(auto, using(crate::proofs::StringLemmas::string_after_closed))]
+#[tactic(auto, using(crate::proofs::bytes::StringLemmas::string_after_closed))]
 #[inline(always)]
 pub fn take_string<'a>(s: &mut Stream<'a>, quote: u8) -> Option<&'a str>
     requires { quote < 128 }
@@ -109,7 +109,7 @@ pub fn pass_blank(s: &mut Stream<'_>) -> bool
 
 /// Passes a gap between two pieces, and says whether it has a space byte. An open comment behind it
 /// is `InvalidComment` with the position of its start, and then the place is the end of the text.
-#[tactic(auto, using(crate::proofs::GapLaws::gap_is_closed, crate::proofs::GapLaws::gap_is_open))]
+#[tactic(auto, using(crate::proofs::bytes::GapLaws::gap_is_closed, crate::proofs::bytes::GapLaws::gap_is_open))]
 #[inline(always)]
 pub fn consume_gap(s: &mut Stream<'_>) -> Result<bool, Error>
     ensures text { text_of s.new ≡ text_of s.old }

@@ -65,7 +65,7 @@ impl<'a> Stream<'a> {
     ghost use Rattle.simplecss_text.specs.Runs.{IsByteTest, EndsRun};
 
     /// The text, at its start.
-    #[tactic(auto, using(crate::proofs::CutLemmas::boundary_at_start))]
+    #[tactic(auto, using(crate::proofs::bytes::CutLemmas::boundary_at_start))]
     pub fn new(text: &'a str) -> Stream<'a>
         ensures text { text_of result ≡ text.now }
         ensures place { place_of result ≡ 0 }
@@ -239,7 +239,7 @@ impl<'a> Stream<'a> {
     /// Passes a blank: the longest run of space bytes and comments (CSS 2.1 sections 4.1.1 and
     /// 4.1.9). A comment behind it that is not closed is `InvalidComment` with the position of its
     /// start, and then the place is the end of the text.
-    #[tactic(auto, using(crate::proofs::GapLaws::blank_where_gap_is_got, crate::proofs::GapLaws::blank_where_gap_fails))]
+    #[tactic(auto, using(crate::proofs::bytes::GapLaws::blank_where_gap_is_got, crate::proofs::bytes::GapLaws::blank_where_gap_fails))]
     pub fn skip_spaces_and_comments(&mut self) -> Result<(), Error>
         ensures text { text_of self.new ≡ text_of self.old }
         ensures reads { Gives (λ u. u) (text_of self.old) (blank (rest_of self.old))

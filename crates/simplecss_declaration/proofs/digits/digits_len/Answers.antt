@@ -2,7 +2,7 @@ use Rattle.std.proofs.Common.{ℕ, subst, sym, ap, ◌∙◌}
 use Rattle.std.specs.List.{prefix_len}
 use Rattle.std.specs.Str.{IsCharBoundary}
 use Rattle.simplecss_text.specs.Bytes.{is_digit}
-use Rattle.simplecss_text.proofs.CutLemmas.{IsCharBoundary-prefix_len}
+use Rattle.simplecss_text.proofs.bytes.CutLemmas.{IsCharBoundary-prefix_len}
 use Rattle.simplecss_declaration.proofs.ByteLemmas.{is_digit-ascii}
 use Rattle.simplecss_declaration.proofs.digits.digits_len.Goals as goal
 

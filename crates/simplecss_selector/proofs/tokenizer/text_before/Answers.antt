@@ -2,7 +2,7 @@ use Rattle.std.proofs.Common.{◌≡◌, ℕ, List, take, drop, sym, ap, ◌∙�
 use Rattle.simplecss_text.specs.Reading.{got}
 use Rattle.simplecss_text.specs.Bytes.{all_before}
 use Rattle.simplecss_text.specs.Cursor.{rest_of}
-use Rattle.simplecss_text.proofs.BeforeLaws.{all_before-found, all_before-none}
+use Rattle.simplecss_text.proofs.reading.BeforeLaws.{all_before-found, all_before-none}
 use Rattle.simplecss_selector.proofs.tokenizer.text_before.Goals as goal
 use Rattle.simplecss_selector.proofs.tokenizer.text_before.Goals.{in-Some, in-None}
 

@@ -1,4 +1,4 @@
-use Rattle.simplecss_text.proofs.BlankLaws.{has_space-comments}
+use Rattle.simplecss_text.proofs.bytes.BlankLaws.{has_space-comments}
 use Rattle.simplecss_text.proofs.laws.space_bytes_are_parts.Goals as goal
 
 pub returns : goal.returns

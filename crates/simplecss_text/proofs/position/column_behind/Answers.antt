@@ -1,7 +1,7 @@
 use Rattle.std.proofs.Common.{List, ℕ, lit<, ap, ◌∙◌, ◌≡◌, ◌+◌, ◌==◌, min, length, chars, Bor}
 use Rattle.std.specs.List.{after_last}
 use Rattle.std.proofs.lemmas.Str.Pattern.{rfind_char}
-use Rattle.simplecss_text.proofs.PositionLemmas.{after_newline, one_line}
+use Rattle.simplecss_text.proofs.bytes.PositionLemmas.{after_newline, one_line}
 use Rattle.simplecss_text.proofs.position.column_behind.Goals as goal
 use Rattle.simplecss_text.proofs.position.column_behind.Goals.{in-Some, in-None}
 

@@ -1,7 +1,7 @@
 use Rattle.std.proofs.Common.{◌≡◌, ◌∷◌, [], ◌∙◌, sym, ap, chars}
 use Rattle.simplecss_text.specs.Names.{begins_name}
 use Rattle.simplecss_text.specs.ThisEdition.{this_edition}
-use Rattle.simplecss_text.proofs.NameLemmas.{chars-one, chars-two}
+use Rattle.simplecss_text.proofs.bytes.NameLemmas.{chars-one, chars-two}
 use Rattle.simplecss_text.proofs.scan.begins_by_characters.Goals as goal
 
 pub returns-in-Some-next : goal.returns-in-Some-next

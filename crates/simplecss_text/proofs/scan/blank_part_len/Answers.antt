@@ -1,5 +1,5 @@
 use Rattle.std.proofs.Common.{sym, ◌∙◌}
-use Rattle.simplecss_text.proofs.CutLemmas.{IsCharBoundary-behind_space}
+use Rattle.simplecss_text.proofs.bytes.CutLemmas.{IsCharBoundary-behind_space}
 use Rattle.simplecss_text.proofs.scan.blank_part_len.Goals as goal
 
 pub returns-then-starts_with_space-clause-boundary :

@@ -1,5 +1,5 @@
 use Rattle.std.proofs.Common.{◌≡◌, ◌+◌, drop}
-use Rattle.simplecss_text.proofs.ScanLemmas.{after_close-none, after_close-at}
+use Rattle.simplecss_text.proofs.bytes.ScanLemmas.{after_close-none, after_close-at}
 use Rattle.simplecss_text.proofs.scan.close_len.Goals as goal
 
 pub returns-in-Some-clause-found : goal.returns-in-Some-clause-found

@@ -1,7 +1,7 @@
 use Rattle.std.proofs.Common.{◌≡◌, drop, Some}
 use Rattle.std.specs.Str.{IsCharBoundary}
 use Rattle.simplecss_text.specs.Comments.{blank_part}
-use Rattle.simplecss_text.proofs.GapSteps.{passed-start, passed-step, passed-rest, passed-space}
+use Rattle.simplecss_text.proofs.bytes.GapSteps.{passed-start, passed-step, passed-rest, passed-space}
 use Rattle.simplecss_text.proofs.scan.closed_part.Goals as goal
 
 pub loop-part-init : goal.loop-part-init

@@ -1,5 +1,5 @@
 use Rattle.std.proofs.Common.{◌-◌, length}
-use Rattle.simplecss_text.proofs.GapSteps.{Passed}
+use Rattle.simplecss_text.proofs.bytes.GapSteps.{Passed}
 use Rattle.simplecss_text.proofs.scan.closed_part.Given as goal
 
 abbrev pub invariant-loop-part : goal.invariant-loop-part

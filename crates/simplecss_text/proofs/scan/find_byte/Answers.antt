@@ -1,5 +1,5 @@
 use Rattle.std.proofs.lemmas.Str.Pattern.{find_char}
-use Rattle.simplecss_text.proofs.ScanLemmas.{after_byte-found}
+use Rattle.simplecss_text.proofs.bytes.ScanLemmas.{after_byte-found}
 use Rattle.simplecss_text.proofs.scan.find_byte.Goals as goal
 
 pub returns-clause-found : goal.returns-clause-found

@@ -3,7 +3,7 @@ use Rattle.std.proofs.lemmas.Str.{IsCharBoundary-start}
 use Rattle.simplecss_text.specs.Bytes.{starts_by}
 use Rattle.simplecss_text.specs.Characters.{is_space}
 use Rattle.simplecss_text.specs.Comments.{opens_comment}
-use Rattle.simplecss_text.proofs.GapSteps.{passed-start, passed-rest, passed-space, blank_part-none, or_right}
+use Rattle.simplecss_text.proofs.bytes.GapSteps.{passed-start, passed-rest, passed-space, blank_part-none, or_right}
 use Rattle.simplecss_text.proofs.scan.find_gap.Goals as goal
 
 pub returns-else-may_begin_gap-clause-rest : goal.returns-else-may_begin_gap-clause-rest

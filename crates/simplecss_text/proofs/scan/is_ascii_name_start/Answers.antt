@@ -3,7 +3,7 @@ use Rattle.simplecss_text.specs.Bytes.{is_ascii}
 use Rattle.simplecss_text.specs.Characters.{is_name_start}
 use Rattle.simplecss_text.specs.ThisEdition.{this_edition}
 use Rattle.simplecss_text.specs.declared.scan.TheConstants.{BYTES}
-use Rattle.simplecss_text.proofs.ByteTable.{agree_below, from_table}
+use Rattle.simplecss_text.proofs.bytes.ByteTable.{agree_below, from_table}
 use Rattle.simplecss_text.proofs.scan.is_ascii_name_start.Goals as goal
 
 pub returns : goal.returns

@@ -1,7 +1,7 @@
 use Rattle.std.proofs.Common.{◌||◌, ◌==◌, refl, arith}
 use Rattle.simplecss_text.specs.Characters.{is_space}
 use Rattle.simplecss_text.specs.declared.scan.TheConstants.{BYTES}
-use Rattle.simplecss_text.proofs.ByteTable.{agree_below, from_table}
+use Rattle.simplecss_text.proofs.bytes.ByteTable.{agree_below, from_table}
 use Rattle.simplecss_text.proofs.scan.is_gap_start.Goals as goal
 
 pub returns : goal.returns

@@ -1,6 +1,6 @@
 use Rattle.std.proofs.Common.{◌≡◌, ◌∙◌, nat_lt, sym, ap, drop, false}
 use Rattle.simplecss_text.specs.Comments.{opens_comment}
-use Rattle.simplecss_text.proofs.GapSteps.{passed-spaces, passed-rest, passed-space, no_part-behind_spaces}
+use Rattle.simplecss_text.proofs.bytes.GapSteps.{passed-spaces, passed-rest, passed-space, no_part-behind_spaces}
 use Rattle.simplecss_text.proofs.scan.long_gap.Goals as goal
 
 pub returns-then-may_open_comment-clause-unclosed : goal.returns-then-may_open_comment-clause-unclosed

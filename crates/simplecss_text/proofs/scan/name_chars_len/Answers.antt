@@ -1,6 +1,6 @@
 use Rattle.std.proofs.Common.{arith, length, refl}
 use Rattle.simplecss_text.specs.ThisEdition.{this_edition}
-use Rattle.simplecss_text.proofs.NameLemmas.{past_name_chars-at}
+use Rattle.simplecss_text.proofs.bytes.NameLemmas.{past_name_chars-at}
 use Rattle.simplecss_text.proofs.scan.name_chars_len.Goals as goal
 
 pub returns-in-Some-clause-len : goal.returns-in-Some-clause-len

@@ -2,7 +2,7 @@ use Rattle.std.proofs.Common.{◌≡◌, ◌∙◌, sym, ap, true, ◌&&◌, ℕ
 use Rattle.simplecss_text.specs.Bytes.{is_ascii, starts_by}
 use Rattle.simplecss_text.specs.Characters.{is_name_start}
 use Rattle.simplecss_text.specs.ThisEdition.{this_edition}
-use Rattle.simplecss_text.proofs.NameLemmas.{begins_name-ascii}
+use Rattle.simplecss_text.proofs.bytes.NameLemmas.{begins_name-ascii}
 use Rattle.simplecss_text.proofs.scan.name_len.Goals as goal
 
 pub returns-then-starts_with_name_start-clause-some :

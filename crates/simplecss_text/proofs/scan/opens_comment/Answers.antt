@@ -1,6 +1,6 @@
 use Rattle.std.proofs.Common.{◌∙◌, sym, ap}
 use Rattle.simplecss_text.specs.Comments.{opens_comment}
-use Rattle.simplecss_text.proofs.CutLemmas.{IsCharBoundary-behind_comment}
+use Rattle.simplecss_text.proofs.bytes.CutLemmas.{IsCharBoundary-behind_comment}
 use Rattle.simplecss_text.proofs.scan.opens_comment.Goals as goal
 
 pub returns-clause-boundary : goal.returns-clause-boundary

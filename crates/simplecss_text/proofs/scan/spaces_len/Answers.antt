@@ -2,7 +2,7 @@ use Rattle.std.proofs.Common.{◌∙◌, ap, sym, subst, ℕ}
 use Rattle.std.specs.List.{prefix_len}
 use Rattle.std.specs.Str.{IsCharBoundary}
 use Rattle.simplecss_text.specs.Characters.{is_space}
-use Rattle.simplecss_text.proofs.CutLemmas.{IsCharBoundary-prefix_len, is_space-ascii}
+use Rattle.simplecss_text.proofs.bytes.CutLemmas.{IsCharBoundary-prefix_len, is_space-ascii}
 use Rattle.simplecss_text.proofs.scan.spaces_len.Goals as goal
 
 pub returns-clause-boundary : goal.returns-clause-boundary

@@ -1,4 +1,4 @@
-use Rattle.simplecss_text.proofs.CutLemmas.{IsCharBoundary-behind_found}
+use Rattle.simplecss_text.proofs.bytes.CutLemmas.{IsCharBoundary-behind_found}
 use Rattle.simplecss_text.proofs.scan.string_len.Goals as goal
 
 pub returns-clause-behind : goal.returns-clause-behind

@@ -4,7 +4,7 @@ use Rattle.std.proofs.lemmas.Str.{IsUtf8-had, IsCharBoundary-from_drop}
 use Rattle.simplecss_text.specs.Characters.{is_name_char}
 use Rattle.simplecss_text.specs.Names.{past_name_chars}
 use Rattle.simplecss_text.specs.ThisEdition.{this_edition}
-use Rattle.simplecss_text.proofs.NameLemmas.{step_over, past_name_chars-passes, past_name_chars-fails, past_name_chars-none}
+use Rattle.simplecss_text.proofs.bytes.NameLemmas.{step_over, past_name_chars-passes, past_name_chars-fails, past_name_chars-none}
 use Rattle.simplecss_text.proofs.scan.wide_name_chars_len.Goals as goal
 
 pub loop-c-preserved : goal.loop-c-preserved

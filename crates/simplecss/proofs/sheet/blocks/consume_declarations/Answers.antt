@@ -3,7 +3,7 @@ use Rattle.std.proofs.lemmas.List.{map-append}
 use Rattle.simplecss_text.specs.Blocks.{declaration_in_block, past_list}
 use Rattle.simplecss_text.specs.ThisEdition.{this_edition}
 use Rattle.simplecss_text.specs.Cursor.{rest_of}
-use Rattle.simplecss_text.proofs.EachLaws.{done_start, done_step, done_end}
+use Rattle.simplecss_text.proofs.reading.EachLaws.{done_start, done_step, done_end}
 use Rattle.simplecss_declaration.specs.Properties.{property_of}
 use Rattle.simplecss.proofs.BlockLemmas.{list-some, list-less, list-none, list-broken, past_list-end, past_list-broken}
 use Rattle.simplecss.proofs.sheet.blocks.consume_declarations.Goals as goal

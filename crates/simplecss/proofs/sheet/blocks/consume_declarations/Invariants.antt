@@ -2,7 +2,7 @@ use Rattle.std.proofs.Common.{◌≡◌, map, length}
 use Rattle.simplecss_text.specs.Blocks.{declaration_in_block}
 use Rattle.simplecss_text.specs.ThisEdition.{this_edition}
 use Rattle.simplecss_text.specs.Cursor.{text_of, rest_of}
-use Rattle.simplecss_text.proofs.EachLaws.{Done}
+use Rattle.simplecss_text.proofs.reading.EachLaws.{Done}
 use Rattle.simplecss_declaration.specs.Properties.{property_of}
 use Rattle.simplecss.proofs.sheet.blocks.consume_declarations.Given as goal
 

@@ -2,7 +2,7 @@ use Rattle.std.proofs.Common.{ℕ, subst, sym, ap, ◌∙◌}
 use Rattle.std.specs.List.{prefix_len}
 use Rattle.std.specs.Str.{IsCharBoundary}
 use Rattle.simplecss_text.specs.Bytes.{is_neither}
-use Rattle.simplecss_text.proofs.CutLemmas.{IsCharBoundary-stops}
+use Rattle.simplecss_text.proofs.bytes.CutLemmas.{IsCharBoundary-stops}
 use Rattle.simplecss_declaration.proofs.ByteLemmas.{is_neither-ascii}
 use Rattle.simplecss.proofs.sheet.ends.before_either.Goals as goal
 

@@ -2,7 +2,7 @@ use Rattle.std.proofs.Common.{ap, sym, ◌∙◌, map, rules}
 use Rattle.std.proofs.lemmas.List.Elements.{filter_from_retain}
 use Rattle.simplecss_text.specs.Statements.{has_property}
 use Rattle.simplecss.specs.StyleRules.{rule_of}
-use Rattle.simplecss_text.proofs.RankLemmas.{filter-map}
+use Rattle.simplecss_text.proofs.order.RankLemmas.{filter-map}
 use Rattle.simplecss.proofs.sheet.order.drop_empty.Goals as goal
 
 pub returns : goal.returns

@@ -4,8 +4,8 @@ use Rattle.std.proofs.lemmas.List.{map-append}
 use Rattle.simplecss_text.specs.Statements.{has_property}
 use Rattle.simplecss_text.specs.Sheets.{is_smaller, ordered}
 use Rattle.simplecss.specs.StyleRules.{rule_of}
-use Rattle.simplecss_text.proofs.OrderLemmas.{smaller_order}
-use Rattle.simplecss_text.proofs.RankLemmas.{ordered_filter}
+use Rattle.simplecss_text.proofs.order.OrderLemmas.{smaller_order}
+use Rattle.simplecss_text.proofs.order.RankLemmas.{ordered_filter}
 use Rattle.simplecss.proofs.sheet.order.merge.Goals as goal
 
 -- the rules are dropped after they are ordered, since the order may fail for memory

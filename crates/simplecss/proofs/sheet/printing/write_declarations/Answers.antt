@@ -3,7 +3,7 @@ use Rattle.std.proofs.Output.{has_written_styled_of_eq}
 use Rattle.std.proofs.lemmas.List.Folds.{flat_map-map}
 use Rattle.simplecss_text.specs.Printing.{property_text}
 use Rattle.simplecss_declaration.specs.Properties.{property_of}
-use Rattle.simplecss_text.proofs.Styled.{styled_step_at}
+use Rattle.simplecss_text.proofs.printed.Styled.{styled_step_at}
 use Rattle.simplecss.proofs.sheet.printing.write_declarations.Goals as goal
 
 pub loop-declaration-preserved : goal.loop-declaration-preserved

@@ -2,7 +2,7 @@ use Rattle.std.proofs.Common.{◌≡◌, ◌≤◌, List, length, refl, ap, subs
 use Rattle.simplecss_text.specs.Cursor.{rest_of}
 use Rattle.simplecss_text.specs.Declarations.{Property, declarations}
 use Rattle.simplecss_text.specs.ThisEdition.{this_edition}
-use Rattle.simplecss_text.proofs.CountLaws.{length-declarations}
+use Rattle.simplecss_text.proofs.reading.CountLaws.{length-declarations}
 use Rattle.std.proofs.iter.runs.Sources.{from_front}
 use Rattle.simplecss_declaration.specs.Properties.{property_of}
 use Rattle.simplecss_declaration.specs.Coming.{still_to_come, GivesDeclaration}

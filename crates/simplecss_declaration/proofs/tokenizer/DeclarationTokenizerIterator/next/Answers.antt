@@ -4,8 +4,8 @@ use Rattle.simplecss_text.specs.Cursor.{rest_of}
 use Rattle.simplecss_text.specs.Declarations.{Property, declaration, declarations}
 use Rattle.simplecss_text.specs.ThisEdition.{this_edition}
 use Rattle.simplecss_text.specs.Reading.{found}
-use Rattle.simplecss_text.proofs.EndsLaws.{ends-nil, stand-ends}
-use Rattle.simplecss_text.proofs.PlaceLaws.{place-ends}
+use Rattle.simplecss_text.proofs.reading.EndsLaws.{ends-nil, stand-ends}
+use Rattle.simplecss_text.proofs.reading.PlaceLaws.{place-ends}
 use Rattle.simplecss_declaration.specs.Properties.{property_of}
 use Rattle.simplecss_declaration.specs.Coming.{given_texts}
 use Rattle.simplecss_declaration.proofs.DeclarationLists.{declarations-some, declarations-none, declarations-nil, found-none}

@@ -2,7 +2,7 @@ use Rattle.std.proofs.Common.{◌≡◌, Some, rules}
 use Rattle.simplecss_text.specs.ThisEdition.{this_edition}
 use Rattle.simplecss_text.specs.TokenRuns.{run_of}
 use Rattle.simplecss_text.specs.Selectors.{outcome, reads}
-use Rattle.simplecss_text.proofs.ReadSelectors.{found-reads_back}
+use Rattle.simplecss_text.proofs.printed.ReadSelectors.{found-reads_back}
 use Rattle.simplecss_selector.proofs.Drafting.{selector_after-begun}
 use Rattle.simplecss_selector.proofs.selector.Selector.parse_front.Goals as goal
 

@@ -5,7 +5,7 @@ use Rattle.simplecss_text.specs.Cursor.{rest_of}
 use Rattle.simplecss_text.specs.ThisEdition.{this_edition}
 use Rattle.simplecss_text.specs.Neighbours.Left.{open_left}
 use Rattle.simplecss_text.specs.TokenRuns.{run_of, tokens_of, items, told_in}
-use Rattle.simplecss_text.proofs.CountLaws.{length-run_from}
+use Rattle.simplecss_text.proofs.reading.CountLaws.{length-run_from}
 use Rattle.simplecss_selector.specs.Given.{item_seen}
 use Rattle.simplecss_selector.specs.Tokenizer.{items_left, GivesItem}
 use Rattle.simplecss_selector.proofs.tokenizer.SelectorTokenizerFromRefStr.from.Goals as goal

@@ -1,6 +1,6 @@
 use Rattle.std.proofs.Common.{rules, arith, ◌<◌, length, slice_index, false}
 use Rattle.simplecss_text.specs.Cursor.{text_of, place_of}
-use Rattle.simplecss_text.proofs.CutLemmas.{IsCharBoundary-run}
+use Rattle.simplecss_text.proofs.bytes.CutLemmas.{IsCharBoundary-run}
 use Rattle.simplecss_text.proofs.stream.Stream.skip_bytes.Goals as goal
 use Rattle.simplecss_text.proofs.stream.Stream.skip_bytes.Goals.{then-loop-end-test+else-f, else-loop-end-test}
 

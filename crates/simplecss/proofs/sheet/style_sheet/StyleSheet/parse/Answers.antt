@@ -2,9 +2,9 @@ use Rattle.std.proofs.Common.{[], ◌∙◌, sym, subst}
 use Rattle.simplecss_text.specs.Characters.{first_edition}
 use Rattle.simplecss_text.specs.ThisEdition.{this_edition}
 use Rattle.simplecss_text.specs.PrintingLaws.{SelectorsReadBack, PrintsBack}
-use Rattle.simplecss_text.proofs.KeptSelectors.{text-reads_back}
-use Rattle.simplecss_text.proofs.SheetEditions.{sheet-editions}
-use Rattle.simplecss_text.proofs.SheetsAgain.{text-prints_back}
+use Rattle.simplecss_text.proofs.again.KeptSelectors.{text-reads_back}
+use Rattle.simplecss_text.proofs.editions.SheetEditions.{sheet-editions}
+use Rattle.simplecss_text.proofs.again.SheetsAgain.{text-prints_back}
 use Rattle.simplecss.proofs.sheet.style_sheet.StyleSheet.parse.Goals as goal
 
 pub returns-clause-sheet : goal.returns-clause-sheet

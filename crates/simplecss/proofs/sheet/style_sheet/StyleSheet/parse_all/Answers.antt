@@ -5,8 +5,8 @@ use Rattle.simplecss_text.specs.Statements.{has_property}
 use Rattle.simplecss_text.specs.Sheets.{sheet}
 use Rattle.simplecss_text.specs.ThisEdition.{this_edition}
 use Rattle.simplecss_text.specs.PrintingLaws.{IsNarrow, SelectorsReadBack, PrintsBack}
-use Rattle.simplecss_text.proofs.KeptSelectors.{sheet-reads_back}
-use Rattle.simplecss_text.proofs.SheetsAgain.{sheet-prints_back}
+use Rattle.simplecss_text.proofs.again.KeptSelectors.{sheet-reads_back}
+use Rattle.simplecss_text.proofs.again.SheetsAgain.{sheet-prints_back}
 use Rattle.simplecss.specs.StyleRules.{rules_of}
 use Rattle.simplecss.proofs.SheetLemmas.{AllPass-sheet}
 use Rattle.simplecss.proofs.sheet.style_sheet.StyleSheet.parse_all.Goals as goal

@@ -6,9 +6,9 @@ use Rattle.simplecss_text.specs.Statements.{StyleRule, has_property, kept, state
 use Rattle.simplecss_text.specs.PrintingLaws.{SelectorsReadBack, PrintsBackAfter}
 use Rattle.simplecss_text.specs.Sheets.{ordered, sheet}
 use Rattle.simplecss_text.specs.ThisEdition.{this_edition}
-use Rattle.simplecss_text.proofs.CuttingLaws.{goes_on, goes_on-ok}
-use Rattle.simplecss_text.proofs.KeptSelectors.{more-reads_back}
-use Rattle.simplecss_text.proofs.SheetsAgain.{prints_back-after, prints_back-same}
+use Rattle.simplecss_text.proofs.cutting.CuttingLaws.{goes_on, goes_on-ok}
+use Rattle.simplecss_text.proofs.again.KeptSelectors.{more-reads_back}
+use Rattle.simplecss_text.proofs.again.SheetsAgain.{prints_back-after, prints_back-same}
 use Rattle.simplecss.specs.StyleRules.{rule_of, rules_of}
 use Rattle.simplecss.proofs.SheetLemmas.{AllPass-sheet, sheet_more, sheet_open}
 use Rattle.simplecss.proofs.sheet.style_sheet.StyleSheet.parse_more.Goals as goal

@@ -1,0 +1,230 @@
+-- A rule that was read, printed and read again.
+use Rattle.std.proofs.Common.{◌≡◌, ℕ, ◌<◌, ◌⊎◌, inl, inr, List, [], ◌∷◌, ◌++◌, Bool, true, false, if◌then◌else◌, not, ◌==◌, length, refl, sym, ap, ◌∙◌, subst, append_assoc, arith, Option, Some, None}
+use Rattle.std.specs.List.{flat_map, AllByRecursion}
+use Rattle.simplecss_text.specs.Reading.{found, followed_by, each}
+use Rattle.simplecss_text.specs.Bytes.{past, past_byte, starts}
+use Rattle.simplecss_text.specs.Characters.{Edition, first_edition, second_edition, is_name_char, is_space}
+use Rattle.simplecss_text.specs.Comments.{opens_comment, past_blank, blank}
+use Rattle.simplecss_text.specs.Components.{Combinator, Component}
+use Rattle.simplecss_text.specs.Selectors.{reads}
+use Rattle.simplecss_text.specs.Declarations.{Property, declaration}
+use Rattle.simplecss_text.specs.Blocks.{ends_list, declaration_in_block, past_list, block}
+use Rattle.simplecss_text.specs.Statements.{StyleRule, part, part_and_comma, parts, next_block, rule_set, statement}
+use Rattle.simplecss_text.specs.Printing.{property_text, type_text, subselector_text, component_text, selector_text, rule_text, is_clean}
+use Rattle.simplecss_text.specs.PrintingLaws.{RuleReadsBack}
+use Rattle.simplecss_text.proofs.reading.EachLaws.{each-none, each-some}
+use Rattle.simplecss_text.proofs.reading.DeclarationLaws.{declaration_in_block-takes}
+use Rattle.simplecss_text.proofs.printed.PrintedNames.{IsName}
+use Rattle.simplecss_text.proofs.printed.PrintedPieces.{some-length}
+use Rattle.simplecss_text.proofs.printed.PrintedHeads.{NoGap, IsNameByte, no_gap-byte, no_gap-name, name-first, other_byte, IsTypeName}
+use Rattle.simplecss_text.proofs.printed.PrintedSelectors.{IsSelector}
+use Rattle.simplecss_text.proofs.printed.ReadSelectors.{selector-reads_back_before}
+use Rattle.simplecss_text.proofs.again.KeptRules.{IsKept}
+use Rattle.simplecss_text.proofs.again.BlankTails.{past_blank-space}
+use Rattle.simplecss_text.proofs.again.DeclarationsAgain.{IsProperty, property-reads_back, property-assoc}
+
+-- A text that begins with a star or with a byte that may begin a name.
+pub record BeginsPart (edition : Edition) (text : List ℕ) : Type 0 where
+  pub first : ℕ
+  pub others : List ℕ
+  pub is : text ≡ first ∷ others
+  pub fit : (first ≡ 42) ⊎ IsNameByte edition first
+
+begins-append : (edition : Edition) (text tail : List ℕ) → BeginsPart edition text → BeginsPart edition (text ++ tail)
+begins-append edition text tail w = record { first = w.first; others = w.others ++ tail; is = ap (λ l. l ++ tail) w.is; fit = w.fit }
+
+begins-name : (edition : Edition) (n : List ℕ) → IsName edition n → BeginsPart edition n
+begins-name edition n w = let f = name-first edition n w in record { first = f.first; others = f.others; is = f.is; fit = inr f.fit }
+
+-- it begins with no byte that neither is
+part_other : (edition : Edition) (k b : ℕ) → k < 128 → (42 == k) ≡ false → is_name_char first_edition k ≡ false → is_name_char second_edition k ≡ false → (b ≡ 42) ⊎ IsNameByte edition b → (b == k) ≡ false
+part_other edition k b low star e f (inl same) = ap (λ c. c == k) same ∙ star
+part_other first_edition k b low star e f (inr w) = other_byte first_edition k b low e w
+part_other second_edition k b low star e f (inr w) = other_byte second_edition k b low f w
+
+part_starts : (edition : Edition) (k : ℕ) (text : List ℕ) → k < 128 → (42 == k) ≡ false → is_name_char first_edition k ≡ false → is_name_char second_edition k ≡ false → BeginsPart edition text → starts k text ≡ false
+part_starts edition k text low star e f w = ap (starts k) w.is ∙ part_other edition k w.first low star e f w.fit
+
+part_byte : (edition : Edition) (k : ℕ) (text : List ℕ) → k < 128 → (42 == k) ≡ false → is_name_char first_edition k ≡ false → is_name_char second_edition k ≡ false → BeginsPart edition text → past_byte k text ≡ text
+part_byte edition k text low star e f w =
+    let no = part_other edition k w.first low star e f w.fit in
+    ap (past_byte k) w.is ∙ by (w.first == k) no ∙ sym w.is
+  where
+    by : (t : Bool) → t ≡ false → (if t then w.others else w.first ∷ w.others) ≡ w.first ∷ w.others
+    by t h = rw h refl
+
+-- no blank stands in front of it
+pub part_calm : (edition : Edition) (text : List ℕ) → BeginsPart edition text → NoGap text
+part_calm edition text w = subst NoGap (sym w.is) (by w.first w.fit)
+  where
+    by : (b : ℕ) → (b ≡ 42) ⊎ IsNameByte edition b → NoGap (b ∷ w.others)
+    by b (inl same) = subst (λ (c : ℕ). NoGap (c ∷ w.others)) (sym same) (no_gap-byte 42 w.others refl refl)
+    by b (inr fit) = no_gap-name edition b w.others fit
+
+-- where no blank stands, none is passed
+pub calm-blank : (text : List ℕ) → NoGap text → past_blank text ≡ text
+calm-blank text w = ap (λ r. r.1) w.none
+
+-- a selector that stands before a block
+selector-begins : (edition : Edition) (s : List Component) (b : ℕ) (tail : List ℕ) → IsSelector edition s (b ∷ tail) → BeginsPart edition (selector_text s)
+selector-begins edition [] b tail w = absurd w
+selector-begins edition (c ∷ cs) b tail w =
+    begins-append edition (component_text c) (selector_text cs)
+    (subst (λ (k : Component). BeginsPart edition (component_text k)) (ap (λ (j : Combinator). record { combinator = j; compound = c.compound }) (sym w.0))
+    (begins-append edition (type_text c.compound.name) (flat_map subselector_text c.compound.subselectors) (by c.compound.name w.1.head)))
+  where
+    by : (o : Option (List ℕ)) → IsTypeName edition o (flat_map subselector_text c.compound.subselectors ++ (selector_text cs ++ (b ∷ tail))) → BeginsPart edition (type_text o)
+    by None h = record { first = 42; others = []; is = refl; fit = inl refl }
+    by (Some n) (inl h) = begins-name edition n h
+    by (Some n) (inr h) = absurd (some_behind (flat_map subselector_text c.compound.subselectors) (selector_text cs) h.1)
+      where
+        some_behind : (front middle : List ℕ) → front ++ (middle ++ (b ∷ tail)) ≡ [] → ⊥
+        some_behind [] [] e = cc
+        some_behind [] (d ∷ middle) e = cc
+        some_behind (d ∷ front) middle e = cc
+
+-- the declarations of a block
+
+property-begins : (edition : Edition) (p : Property) (text : List ℕ) → IsProperty edition p → BeginsPart edition (property_text p ++ text)
+property-begins edition p text w = subst (BeginsPart edition) (sym (property-assoc p text)) (begins-append edition p.name _ (begins-name edition p.name w.name_is))
+
+list_goes_on : (edition : Edition) (text : List ℕ) → BeginsPart edition text → ends_list text ≡ false
+list_goes_on edition text w =
+    let no = part_other edition 125 w.first (omega arith) refl refl refl w.fit in
+    let some = some-length w.first w.others in
+    ap ends_list w.is ∙ rw (some, no) refl
+
+-- where the list of declarations goes on
+abbrev in_list : Edition → Bool → List ℕ → Option (Property × List ℕ)
+in_list edition t text = if t then None else found (declaration edition text)
+
+one-declaration : (edition : Edition) (p : Property) (text : List ℕ) → IsProperty edition p → opens_comment (past_blank text) ≡ false → starts 59 (past_blank text) ≡ false → declaration_in_block edition (property_text p ++ text) ≡ Some (p, past_blank text)
+one-declaration edition p text w o e =
+    let whole = property_text p ++ text in
+    ap (λ t. in_list edition t whole) (list_goes_on edition whole (property-begins edition p text w))
+    ∙ ap found (property-reads_back edition p w text o e)
+
+closing-none : (edition : Edition) (text : List ℕ) → declaration_in_block edition (125 ∷ text) ≡ None
+closing-none edition text = let some = some-length 125 text in rw some refl
+
+closing-blank : (text : List ℕ) → past_blank (32 ∷ 125 ∷ text) ≡ 125 ∷ text
+closing-blank text = past_blank-space 32 (125 ∷ text) refl ∙ calm-blank (125 ∷ text) (no_gap-byte 125 text refl refl)
+
+-- the declarations of a printed block, and what is left at its closing brace
+declarations-again : (edition : Edition) (p : Property) (ps : List Property) (text : List ℕ) → IsProperty edition p → AllByRecursion (IsProperty edition) ps
+    → each (declaration_in_block edition) (property_text p ++ (flat_map property_text ps ++ (32 ∷ 125 ∷ text))) ≡ (p ∷ ps, 125 ∷ text)
+declarations-again edition p [] text w ws =
+    let tail = 32 ∷ 125 ∷ text in
+    let behind = closing-blank text in
+    each-some (declaration_in_block edition) (declaration_in_block-takes edition) (property_text p ++ tail) (past_blank tail) p (one-declaration edition p tail w (ap opens_comment behind) (ap (starts 59) behind))
+    ∙ ap (λ t. followed_by p (each (declaration_in_block edition) t)) behind
+    ∙ ap (followed_by p) (each-none (declaration_in_block edition) (125 ∷ text) (closing-none edition text))
+declarations-again edition p (q ∷ ps) text w ws =
+    let next = property_text q ++ (flat_map property_text ps ++ (32 ∷ 125 ∷ text)) in
+    let tail = flat_map property_text (q ∷ ps) ++ (32 ∷ 125 ∷ text) in
+    let same : tail ≡ next = append_assoc (property_text q) (flat_map property_text ps) (32 ∷ 125 ∷ text) in
+    let begins = property-begins edition q (flat_map property_text ps ++ (32 ∷ 125 ∷ text)) ws.0 in
+    let calm = part_calm edition next begins in
+    let behind : past_blank tail ≡ next = ap past_blank same ∙ calm-blank next calm in
+    each-some (declaration_in_block edition) (declaration_in_block-takes edition) (property_text p ++ tail) (past_blank tail) p
+    (one-declaration edition p tail w (ap opens_comment behind ∙ calm.closed) (ap (starts 59) behind ∙ part_starts edition 59 next (omega arith) refl refl refl begins))
+    ∙ ap (λ t. followed_by p (each (declaration_in_block edition) t)) behind
+    ∙ ap (followed_by p) (declarations-again edition q ps text ws.0 ws.1)
+
+-- a space in front of a declaration changes nothing
+
+blank-space : (text : List ℕ) → blank (32 ∷ text) ≡ blank text
+unfolding blank
+blank-space text = let same = past_blank-space 32 text refl in rw same refl
+
+declaration-space : (edition : Edition) (text : List ℕ) → declaration edition (32 ∷ text) ≡ declaration edition text
+unfolding declaration
+declaration-space edition text = let same = blank-space text in rw same refl
+
+spaced-list : (edition : Edition) (text rest : List ℕ) (p : Property) → declaration_in_block edition text ≡ Some (p, rest) → ends_list text ≡ false → each (declaration_in_block edition) (32 ∷ text) ≡ each (declaration_in_block edition) text
+spaced-list edition text rest p e goes =
+    let some = some-length 32 text in
+    let open_list : ends_list (32 ∷ text) ≡ false = rw some refl in
+    let same : declaration_in_block edition (32 ∷ text) ≡ declaration_in_block edition text =
+    ap (λ t. in_list edition t (32 ∷ text)) open_list ∙ ap found (declaration-space edition text) ∙ ap (λ t. in_list edition t text) (sym goes) in
+    each-some (declaration_in_block edition) (declaration_in_block-takes edition) (32 ∷ text) rest p (same ∙ e)
+    ∙ sym (each-some (declaration_in_block edition) (declaration_in_block-takes edition) text rest p e)
+
+-- where something is read first, it is found
+first-found : (edition : Edition) (text : List ℕ) (p : Property) (ps : List Property) (left : List ℕ) → each (declaration_in_block edition) text ≡ (p ∷ ps, left) → (found_there : Option (Property × List ℕ)) → declaration_in_block edition text ≡ found_there → (q : Property) × (rest : List ℕ) × (declaration_in_block edition text ≡ Some (q, rest))
+first-found edition text p ps left e None f = absurd (let none_there = sym (ap (λ r. r.0) (each-none (declaration_in_block edition) text f)) ∙ ap (λ r. r.0) e in cc)
+first-found edition text p ps left e (Some x) f = (x.0, x.1, f)
+
+-- behind the brace and the space, the declarations of a printed block are read, and what follows it is left
+block-again : (edition : Edition) (p : Property) (ps : List Property) (text : List ℕ) → IsProperty edition p → AllByRecursion (IsProperty edition) ps → block edition (32 ∷ (flat_map property_text (p ∷ ps) ++ (32 ∷ 125 ∷ text))) ≡ (p ∷ ps, text)
+unfolding block
+block-again edition p ps text w ws =
+    let inside = property_text p ++ (flat_map property_text ps ++ (32 ∷ 125 ∷ text)) in
+    let same : flat_map property_text (p ∷ ps) ++ (32 ∷ 125 ∷ text) ≡ inside = append_assoc (property_text p) (flat_map property_text ps) (32 ∷ 125 ∷ text) in
+    let listed = declarations-again edition p ps text w ws in
+    let there = first-found edition inside p ps (125 ∷ text) listed (declaration_in_block edition inside) refl in
+    let spaced = spaced-list edition inside there.1 there.0 there.2 (list_goes_on edition inside (property-begins edition p (flat_map property_text ps ++ (32 ∷ 125 ∷ text)) w)) in
+    let all : each (declaration_in_block edition) (32 ∷ (flat_map property_text (p ∷ ps) ++ (32 ∷ 125 ∷ text))) ≡ (p ∷ ps, 125 ∷ text) = ap (λ t. each (declaration_in_block edition) (32 ∷ t)) same ∙ spaced ∙ listed in
+    let some = some-length 125 text in
+    ap (λ (r : List Property × List ℕ). (r.0, past_byte 125 (past_list edition r.1))) all ∙ rw some refl
+
+-- the rule
+
+rule-assoc : (rule : StyleRule) (text : List ℕ) → rule_text rule ++ text ≡ selector_text rule.components ++ (32 ∷ 123 ∷ 32 ∷ (flat_map property_text rule.properties ++ (32 ∷ 125 ∷ text)))
+rule-assoc rule text = by (selector_text rule.components) (flat_map property_text rule.properties)
+  where
+    by : (s p : List ℕ) → (((s ++ (32 ∷ 123 ∷ 32 ∷ [])) ++ p) ++ (32 ∷ 125 ∷ [])) ++ text ≡ s ++ (32 ∷ 123 ∷ 32 ∷ (p ++ (32 ∷ 125 ∷ text)))
+    by s p =
+        append_assoc ((s ++ (32 ∷ 123 ∷ 32 ∷ [])) ++ p) (32 ∷ 125 ∷ []) text
+        ∙ append_assoc (s ++ (32 ∷ 123 ∷ 32 ∷ [])) p (32 ∷ 125 ∷ text)
+        ∙ append_assoc s (32 ∷ 123 ∷ 32 ∷ []) (p ++ (32 ∷ 125 ∷ text))
+
+-- a part that reads before a block
+part-again : (edition : Edition) (s : List Component) (text inside : List ℕ) → reads edition text ≡ (Some s, 123 ∷ inside) → part edition text ≡ (Some s, 123 ∷ inside)
+unfolding part
+part-again edition s text inside e = ap (λ (r : Option (List Component) × List ℕ). (r.0, past is_space r.1)) e ∙ refl
+
+parts-again : (edition : Edition) (s : List Component) (text inside : List ℕ) → part edition text ≡ (Some s, 123 ∷ inside) → parts edition text ≡ (s ∷ [], 123 ∷ inside)
+unfolding parts
+parts-again edition s text inside e =
+    let no_comma : part_and_comma edition text ≡ None = rw e refl in
+    let listed : each (part_and_comma edition) text ≡ ([], text) = each-none (part_and_comma edition) text no_comma in
+    rw (listed, e) refl
+
+next_block-again : (edition : Edition) (inside : List ℕ) → next_block edition (123 ∷ inside) ≡ block edition inside
+unfolding next_block
+next_block-again edition inside = refl
+
+rule_set-again : (edition : Edition) (s : List Component) (p : Property) (ps : List Property) (text inside behind : List ℕ) → past_byte 44 text ≡ text → reads edition text ≡ (Some s, 123 ∷ inside) → block edition inside ≡ (p ∷ ps, behind) → rule_set edition text ≡ (record { components = s; properties = p ∷ ps } ∷ [], behind)
+unfolding rule_set
+rule_set-again edition s p ps text inside behind start e b =
+    let head : parts edition (past_byte 44 text) ≡ (s ∷ [], 123 ∷ inside) = ap (parts edition) start ∙ parts-again edition s text inside (part-again edition s text inside e) in
+    let body : next_block edition (123 ∷ inside) ≡ (p ∷ ps, behind) = next_block-again edition inside ∙ b in
+    rw (head, body) refl
+
+statement-again : (edition : Edition) (text : List ℕ) → starts 64 text ≡ false → statement edition text ≡ rule_set edition text
+unfolding statement
+statement-again edition text e = rw e refl
+
+printed-rule : (edition : Edition) (s : List Component) (p : Property) (ps : List Property) → IsSelector edition s (123 ∷ []) → is_clean s ≡ true → IsProperty edition p → AllByRecursion (IsProperty edition) ps → RuleReadsBack edition (record { components = s; properties = p ∷ ps })
+printed-rule edition s p ps w clean wp ws text =
+    let rule : StyleRule = record { components = s; properties = p ∷ ps } in
+    let inside = 32 ∷ (flat_map property_text (p ∷ ps) ++ (32 ∷ 125 ∷ text)) in
+    let whole = selector_text s ++ (32 ∷ 123 ∷ inside) in
+    let begins = begins-append edition (selector_text s) (32 ∷ 123 ∷ inside) (selector-begins edition s 123 [] w) in
+    let read : reads edition whole ≡ (Some s, 123 ∷ inside) = (selector-reads_back_before edition s 123 [] w inside).1 clean in
+    ap (statement edition) (rule-assoc rule text)
+    ∙ statement-again edition whole (part_starts edition 64 whole (omega arith) refl refl refl begins)
+    ∙ rule_set-again edition s p ps whole inside text (part_byte edition 44 whole (omega arith) refl refl refl begins) read (block-again edition p ps text wp ws)
+
+-- A rule that was read from a text without white space past ASCII, and whose selector is clean, reads back.
+pub rule-reads_back : (edition : Edition) (rule : StyleRule) → IsKept edition (IsProperty edition) rule → is_clean rule.components ≡ true → RuleReadsBack edition rule
+rule-reads_back edition rule w clean = by rule.properties w.1 w.0.properties
+  where
+    by : (ps : List Property) → not (length ps == 0) ≡ true → AllByRecursion (IsProperty edition) ps → RuleReadsBack edition (record { components = rule.components; properties = ps })
+    by [] some h = absurd (cc)
+    by (p ∷ ps) some h = printed-rule edition rule.components p ps w.0.selector clean h.0 h.1
+
+-- a printed rule begins as a part does
+pub rule-begins : (edition : Edition) (rule : StyleRule) (text : List ℕ) → IsSelector edition rule.components (123 ∷ []) → BeginsPart edition (rule_text rule ++ text)
+rule-begins edition rule text w = subst (BeginsPart edition) (sym (rule-assoc rule text)) (begins-append edition (selector_text rule.components) _ (selector-begins edition rule.components 123 [] w))

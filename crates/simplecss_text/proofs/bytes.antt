@@ -1,0 +1,12 @@
+-- Bytes, characters, names, strings and blanks, for the code that reads them.
+pub mod GapLaws
+pub mod ScanLemmas
+pub mod PositionLemmas
+pub mod CutLemmas
+pub mod NameLemmas
+pub mod GapSteps
+pub mod ByteTable
+pub mod StringLemmas
+pub mod BlankLaws
+pub mod Utf8Laws
+pub mod TrimLaws

@@ -1,0 +1,66 @@
+-- A text may be cut at its ASCII bytes.
+use Rattle.std.proofs.Common.{[], Bool, true, false, if◌then◌else◌, ◌==◌, suc, refl, ◌≡◌, ℕ, ◌+◌, ◌<◌, List, ◌∷◌, ◌++◌, length, get_or, arith, sym, ap, ◌∙◌, subst, length-append, IsUtf8}
+use Rattle.std.specs.Str.{IsCharBoundary}
+use Rattle.std.proofs.lemmas.Str.{IsUtf8-take, IsCharBoundary-at_seam, IsCharBoundary-before_ascii}
+use Rattle.std.proofs.Math.Seq.{take-append_seam, get_or-append-add}
+use Rattle.simplecss_text.proofs.reading.EndsLaws.{ends-append}
+use Rattle.simplecss_text.proofs.reading.StandLaws.{utf8-behind}
+use Rattle.std.specs.List.{prefix_len}
+use Rattle.std.proofs.lemmas.Str.{IsUtf8-drop, IsCharBoundary-from_take}
+use Rattle.std.proofs.Math.Seq.{drop-append_seam}
+use Rattle.simplecss_text.specs.Bytes.{past, past_byte}
+use Rattle.simplecss_text.proofs.printed.PrintedHeads.{same_byte}
+
+boundary : (front : List ℕ) (b : ℕ) (text : List ℕ) → b < 128 → IsCharBoundary (front ++ (b ∷ text)) (length front)
+boundary front b text h =
+    let at : get_or (front ++ (b ∷ text)) (length front + 0) 0 ≡ b = get_or-append-add front (b ∷ text) 0 0 in
+    let same : length front + 0 ≡ length front = omega arith in
+    let here : get_or (front ++ (b ∷ text)) (length front) 0 ≡ b = ap (λ k. get_or (front ++ (b ∷ text)) k 0) (sym same) ∙ at in
+    IsCharBoundary-before_ascii (front ++ (b ∷ text)) (length front) (omega (arith, length-append front (b ∷ text))) (omega arith)
+
+-- what stands in front of an ASCII byte
+pub utf8-before_byte : (front : List ℕ) (b : ℕ) (text : List ℕ) → b < 128 → IsUtf8 (front ++ (b ∷ text)) → IsUtf8 front
+utf8-before_byte front b text h u = subst IsUtf8 (take-append_seam front (b ∷ text)) (IsUtf8-take (front ++ (b ∷ text)) (length front) u (boundary front b text h))
+
+-- what stands behind an ASCII byte
+pub utf8-behind_byte : (front : List ℕ) (b : ℕ) (text : List ℕ) → b < 128 → IsUtf8 (front ++ (b ∷ text)) → IsUtf8 text
+utf8-behind_byte front b text h u = utf8-behind (front ++ (b ∷ text)) text b h u (ends-append front (b ∷ text))
+
+-- behind an ASCII byte that begins a text
+pub utf8-past_byte : (b : ℕ) (text : List ℕ) → b < 128 → IsUtf8 (b ∷ text) → IsUtf8 text
+utf8-past_byte b text h u = utf8-behind_byte [] b text h u
+
+-- what stands behind an ASCII byte, if it stands there
+pub utf8-past_byte_if : (c : ℕ) (text : List ℕ) → c < 128 → IsUtf8 text → IsUtf8 (past_byte c text)
+utf8-past_byte_if c [] low u = u
+utf8-past_byte_if c (b ∷ text) low u = by (b == c) refl
+  where
+    by : (t : Bool) → (b == c) ≡ t → IsUtf8 (if t then text else b ∷ text)
+    by true e = utf8-past_byte b text (let same = same_byte b c e in omega arith) u
+    by false e = u
+
+-- a run of bytes that pass a test, a byte at a time
+pub past-yes : (test : ℕ → Bool) (b : ℕ) (text : List ℕ) → test b ≡ true → past test (b ∷ text) ≡ past test text
+past-yes test b text e = let one : 1 + prefix_len test text ≡ suc (prefix_len test text) = omega arith in rw (e, one) refl
+
+pub past-no : (test : ℕ → Bool) (b : ℕ) (text : List ℕ) → test b ≡ false → past test (b ∷ text) ≡ b ∷ text
+past-no test b text e = rw e refl
+
+-- behind a run of ASCII bytes
+pub utf8-past : (test : ℕ → Bool) (text : List ℕ) → ((b : ℕ) → test b ≡ true → b < 128) → IsUtf8 text → IsUtf8 (past test text)
+utf8-past test [] low u = u
+utf8-past test (b ∷ text) low u = by (test b) refl (λ v. utf8-past test text low v)
+  where
+    by : (t : Bool) → test b ≡ t → (IsUtf8 text → IsUtf8 (past test text)) → IsUtf8 (past test (b ∷ text))
+    by true e more = rw (past-yes test b text e) (more (utf8-past_byte b text (low b e) u))
+    by false e more = rw (past-no test b text e) u
+
+-- behind a text
+pub utf8-second : (a b : List ℕ) → IsUtf8 (a ++ b) → IsUtf8 a → IsUtf8 b
+utf8-second a b u v =
+    let cut = IsCharBoundary-from_take (a ++ b) (length a) u (omega (arith, length-append a b)) (subst IsUtf8 (sym (take-append_seam a b)) v) in
+    subst IsUtf8 (drop-append_seam a b) (IsUtf8-drop (a ++ b) (length a) u cut)
+
+-- in front of a text
+pub utf8-first : (a b : List ℕ) → IsUtf8 (a ++ b) → IsUtf8 b → IsUtf8 a
+utf8-first a b u v = subst IsUtf8 (take-append_seam a b) (IsUtf8-take (a ++ b) (length a) u (IsCharBoundary-at_seam (a ++ b) a b refl v))

@@ -1,0 +1,183 @@
+-- An at-rule ends at the same place where the text is cut there.
+use Rattle.std.proofs.Common.{Bool, List, [], ap, arith, false, if◌then◌else◌, inl, inr, length, refl, subst, true, ℕ, ◌&&◌, ◌++◌, ◌<◌, ◌==◌, ◌||◌, ◌∙◌, ◌∷◌, ◌≡◌, IsUtf8, encode_utf8_all, eqb-true, sym, length-append, ◌≤◌}
+use Rattle.std.proofs.lemmas.List.{append_cancel_right}
+use Rattle.std.proofs.lemmas.Str.{byte_from_char, chars-append, chars-nil, encodes-chars}
+use Rattle.std.specs.Str.{chars}
+use lib.Utf8.{encode}
+use Rattle.simplecss_text.specs.Reading.{Fault, Reading, before, fails, got, no_name}
+use Rattle.simplecss_text.specs.Bytes.{is_neither, past, past_byte}
+use Rattle.simplecss_text.specs.Characters.{Edition, first_edition, is_name_start, second_edition}
+use Rattle.simplecss_text.specs.Names.{begins_name, name, past_name_chars}
+use Rattle.simplecss_text.specs.Blocks.{from_block_end}
+use Rattle.simplecss_text.specs.Statements.{past_at_end, past_at_name, past_at_rule}
+use Rattle.simplecss_text.proofs.reading.TakesLaws.{length-past, length-past_byte}
+use Rattle.simplecss_text.proofs.reading.DeclarationLaws.{length-from_block_end}
+use Rattle.simplecss_text.proofs.reading.EndsLaws.{ends-same}
+use Rattle.simplecss_text.proofs.reading.StandLaws.{utf8-behind}
+use Rattle.simplecss_text.proofs.cutting.GuardLaws.{Along, Equal, Guard, To, at, longer-along, on, past-along, past-to}
+use Rattle.simplecss_text.proofs.cutting.NameGuards.{name-guarded, name-guarded_by_semicolon}
+use Rattle.simplecss_text.proofs.cutting.BlockEndGuards.{from_block_end-to}
+
+-- where the first text has come to the byte g, so has the second
+pub along-at : (g : ℕ) (t u r s : List ℕ) → Along g t u r s → r ≡ g ∷ t → s ≡ g ∷ u
+along-at g t u r s at e = refl
+along-at g t u r s (on b r1 s1 room h) e = absurd (omega (arith, longer-along g t u r1 s1 h, ap length e))
+
+-- where a byte stands before it in the first text, that byte stands in the second
+pub along-next : (g : ℕ) (t u : List ℕ) (c : ℕ) (x r s : List ℕ) → Along g t u r s → r ≡ c ∷ x → length t < length x → (y : List ℕ) × ((s ≡ c ∷ y) × Along g t u x y)
+along-next g t u c x r s at e l = absurd (omega (arith, ap length e, l))
+along-next g t u c x r s (on b r1 s1 room h) e l =
+    let first : b ≡ c = cc in
+    let rest : r1 ≡ x = cc in
+    (s1, (ap (λ (d : ℕ). d ∷ s1) first, subst (λ (z : List ℕ). Along g t u z s1) rest h))
+
+-- an at-rule that ends behind a semicolon
+pub at_rule-semicolon : (edition : Edition) (t u r s n rest : List ℕ) → Along 59 t u r s → name edition r ≡ got n rest → past (is_neither 59 123) rest ≡ 59 ∷ t → past_at_rule edition s ≡ u
+unfolding past_at_rule
+at_rule-semicolon edition t u r s n rest h e f = by (name edition r) (name edition s) e (name-guarded_by_semicolon edition t u r s h)
+  where
+    by : (a b : Reading (List ℕ)) → a ≡ got n rest → Guard Equal 59 t u a b → past_at_name b ≡ u
+    by (fails q x) b g k = absurd (cc)
+    by (got m x) b g (inl l) =
+        let same : x ≡ rest = cc in
+        absurd (omega (arith, l, ap length same, ap length f, length-past (is_neither 59 123) rest))
+    by (got m x) (fails q y) g (inr k) = absurd k
+    by (got m x) (got o y) g (inr k) =
+        let same : x ≡ rest = cc in
+        let there : past (is_neither 59 123) x ≡ 59 ∷ t = ap (past (is_neither 59 123)) same ∙ f in
+        ap past_at_end (along-at 59 t u (past (is_neither 59 123) x) (past (is_neither 59 123) y) (past-along 59 t u (is_neither 59 123) refl x y k.1) there)
+
+-- a block that ends behind the brace
+block_end-at : (u v inner y : List ℕ) → Along 125 (u ++ v) u inner y → from_block_end inner ≡ 125 ∷ (u ++ v) → past_byte 125 (from_block_end y) ≡ u
+block_end-at u v inner y h e = by (from_block_end-to u v inner y h)
+  where
+    by : To 125 (u ++ v) u (from_block_end inner) (from_block_end y) → past_byte 125 (from_block_end y) ≡ u
+    by (inl l) = absurd (omega (arith, l, ap length e))
+    by (inr k) = ap (past_byte 125) (along-at 125 (u ++ v) u (from_block_end inner) (from_block_end y) k e)
+
+-- an at-rule that ends behind a block
+pub at_rule-block : (edition : Edition) (u v r s n rest inner : List ℕ) → Along 125 (u ++ v) u r s → name edition r ≡ got n rest → past (is_neither 59 123) rest ≡ 123 ∷ inner → from_block_end inner ≡ 125 ∷ (u ++ v) → past_at_rule edition s ≡ u
+unfolding past_at_rule
+at_rule-block edition u v r s n rest inner h e f g = by (name edition r) (name edition s) e (name-guarded edition (u ++ v) u r s h)
+  where
+    long : length (u ++ v) < length inner
+    long = omega (arith, ap length g, length-from_block_end inner)
+
+    opened : (x y : List ℕ) → x ≡ 123 ∷ inner → To 125 (u ++ v) u x y → past_at_end y ≡ u
+    opened x y k (inl l) = absurd (omega (arith, l, ap length k, long))
+    opened x y k (inr along) =
+        let found = along-next 125 (u ++ v) u 123 inner x y along k long in
+        ap past_at_end found.1.0 ∙ block_end-at u v inner found.0 found.1.1 g
+
+    by : (a b : Reading (List ℕ)) → a ≡ got n rest → Guard Equal 125 (u ++ v) u a b → past_at_name b ≡ u
+    by (fails q x) b k along = absurd (cc)
+    by (got m x) b k (inl l) =
+        let same : x ≡ rest = cc in
+        absurd (omega (arith, l, ap length same, ap length f, length-past (is_neither 59 123) rest, long))
+    by (got m x) (fails q y) k (inr along) = absurd along
+    by (got m x) (got o y) k (inr along) =
+        let same : x ≡ rest = cc in
+        opened (past (is_neither 59 123) x) (past (is_neither 59 123) y) (ap (past (is_neither 59 123)) same ∙ f) (past-to 125 (u ++ v) u (is_neither 59 123) x y along.1)
+
+-- ---- a faulty name
+
+-- a fault of a name leaves what stands behind a hyphen
+pub name_fault-left : (edition : Edition) (text left : List ℕ) (fault : Fault) → name edition text ≡ fails fault left → (begins_name edition (chars text) ≡ false) × (left ≡ past_byte 45 text)
+unfolding name
+name_fault-left edition text left fault e = by (begins_name edition (chars text)) refl e
+  where
+    by : (k : Bool) → begins_name edition (chars text) ≡ k → (if k then got (before text (past_name_chars edition text)) (past_name_chars edition text) else fails (no_name text) (past_byte 45 text)) ≡ fails fault left → (begins_name edition (chars text) ≡ false) × (left ≡ past_byte 45 text)
+    by true f h = absurd (cc)
+    by false f h = (f, cc)
+
+at_rule-no_name : (edition : Edition) (text : List ℕ) → begins_name edition (chars text) ≡ false → past_at_rule edition text ≡ past_byte 45 text
+unfolding past_at_rule name
+at_rule-no_name edition text e = rw e refl
+
+-- a lone hyphen that ends the text is a name
+at_rule-hyphen : (edition : Edition) → past_at_rule edition (45 ∷ []) ≡ []
+unfolding past_at_rule name past_name_chars chars encode
+at_rule-hyphen first_edition = refl
+at_rule-hyphen second_edition = refl
+
+-- whether a name begins depends on no more than its first character, if that is no hyphen
+begins-front : (edition : Edition) (c : ℕ) (cs ds : List ℕ) → (c == 45) ≡ false → begins_name edition ((c ∷ cs) ++ ds) ≡ false → begins_name edition (c ∷ cs) ≡ false
+begins-front edition c [] [] h e = e
+begins-front edition c [] (d ∷ ds) h e = by (is_name_start edition c) (rw h at e)
+  where
+    by : (k : Bool) → (k || (false && is_name_start edition d)) ≡ false → (k || (c == 45)) ≡ false
+    by true f = absurd (cc)
+    by false f = h
+begins-front edition c (d ∷ cs) ds h e = e
+
+-- the characters of a text with a byte: one and then others, and the first is a hyphen only where the first byte is
+record FirstChar (b : ℕ) (text : List ℕ) : Type 0 where
+  char : ℕ
+  others : List ℕ
+  are : chars (b ∷ text) ≡ char ∷ others
+  hyphen : (b == 45) ≡ false → (char == 45) ≡ false
+
+first_char : (b : ℕ) (text : List ℕ) → IsUtf8 (b ∷ text) → FirstChar b text
+first_char b text u = by (chars (b ∷ text)) (encodes-chars (b ∷ text) u) refl
+  where
+    by : (xs : List ℕ) → encode_utf8_all xs ≡ b ∷ text → chars (b ∷ text) ≡ xs → FirstChar b text
+    by [] e f = absurd (cc)
+    by (c ∷ cs) e f = record { char = c; others = cs; are = f; hyphen = hyphen (c == 45) refl }
+      where
+        hyphen : (k : Bool) → (c == 45) ≡ k → (b == 45) ≡ false → (c == 45) ≡ false
+        hyphen false g h = g
+        hyphen true g h =
+            let is : c ≡ 45 = eqb-true c 45 g in
+            let at : b ≡ c = byte_from_char (b ∷ text) (encode_utf8_all cs) c (sym e) (omega arith) in
+            let same : (b == 45) ≡ true = ap (λ (x : ℕ). x == 45) (at ∙ is) in
+            absurd (cc)
+
+-- a front of a text in which no name begins, and which does not begin with a hyphen
+no_name-front : (edition : Edition) (b : ℕ) (u v : List ℕ) → IsUtf8 (b ∷ u) → (b == 45) ≡ false → begins_name edition (chars ((b ∷ u) ++ v)) ≡ false → begins_name edition (chars (b ∷ u)) ≡ false
+no_name-front edition b u v i h e =
+    let some = first_char b u i in
+    let whole : chars ((b ∷ u) ++ v) ≡ (some.char ∷ some.others) ++ chars v = chars-append (b ∷ u) v i ∙ ap (λ (x : List ℕ). x ++ chars v) some.are in
+    let front : begins_name edition ((some.char ∷ some.others) ++ chars v) ≡ false = ap (begins_name edition) (sym whole) ∙ e in
+    ap (begins_name edition) some.are ∙ begins-front edition some.char some.others (chars v) (some.hyphen h) front
+
+chars-hyphen : (text : List ℕ) → chars (45 ∷ text) ≡ 45 ∷ chars text
+unfolding chars
+chars-hyphen [] = refl
+chars-hyphen (b ∷ text) = refl
+
+-- the same behind a hyphen
+no_name-behind_hyphen : (edition : Edition) (b : ℕ) (u v : List ℕ) → IsUtf8 (b ∷ u) → begins_name edition (chars (45 ∷ ((b ∷ u) ++ v))) ≡ false → begins_name edition (chars (45 ∷ (b ∷ u))) ≡ false
+no_name-behind_hyphen edition b u v i e =
+    let some = first_char b u i in
+    let whole : chars ((b ∷ u) ++ v) ≡ (some.char ∷ some.others) ++ chars v = chars-append (b ∷ u) v i ∙ ap (λ (x : List ℕ). x ++ chars v) some.are in
+    let front : begins_name edition (45 ∷ ((some.char ∷ some.others) ++ chars v)) ≡ false = ap (λ (x : List ℕ). begins_name edition (45 ∷ x)) (sym whole) ∙ ap (begins_name edition) (sym (chars-hyphen ((b ∷ u) ++ v))) ∙ e in
+    ap (begins_name edition) (chars-hyphen (b ∷ u)) ∙ ap (λ (x : List ℕ). begins_name edition (45 ∷ x)) some.are ∙ front
+
+-- a text behind which one stands that is as long as both is empty
+pub nothing_in_front : (w v : List ℕ) → length (w ++ v) ≤ length v → w ≡ []
+nothing_in_front [] v l = refl
+nothing_in_front (b ∷ w) v l = absurd (omega (arith, l, length-append w v))
+
+-- an at-rule that ends at the fault of its name
+pub at_rule-fault : (edition : Edition) (s v w : List ℕ) (fault : Fault) → IsUtf8 s → name edition (s ++ v) ≡ fails fault (w ++ v) → past_at_rule edition s ≡ w
+at_rule-fault edition s v w fault u e = by s u (name_fault-left edition (s ++ v) (w ++ v) fault e).0 (name_fault-left edition (s ++ v) (w ++ v) fault e).1
+  where
+    by : (s : List ℕ) → IsUtf8 s → begins_name edition (chars (s ++ v)) ≡ false → w ++ v ≡ past_byte 45 (s ++ v) → past_at_rule edition s ≡ w
+    by [] i f g =
+        let none : begins_name edition (chars []) ≡ false = rw chars-nil refl in
+        let short : w ≡ [] = nothing_in_front w v (omega (arith, ap length g, length-past_byte 45 v)) in
+        at_rule-no_name edition [] none ∙ sym short
+    by (b ∷ s) i f g = hyphen (b == 45) refl (g)
+      where
+        behind : (x : List ℕ) → b ≡ 45 → w ≡ x → IsUtf8 (b ∷ x) → begins_name edition (chars (b ∷ (x ++ v))) ≡ false → past_at_rule edition (b ∷ x) ≡ w
+        behind [] is same j k = ap (λ (c : ℕ). past_at_rule edition (c ∷ [])) is ∙ at_rule-hyphen edition ∙ sym same
+        behind (d ∷ x) is same j k =
+            let tail : IsUtf8 (d ∷ x) = utf8-behind (b ∷ d ∷ x) (d ∷ x) b (omega (arith, is)) j (ends-same (b ∷ d ∷ x)) in
+            let none : begins_name edition (chars (45 ∷ (d ∷ x))) ≡ false = no_name-behind_hyphen edition d x v tail (ap (λ (c : ℕ). begins_name edition (chars (c ∷ ((d ∷ x) ++ v)))) (sym is) ∙ k) in
+            ap (λ (c : ℕ). past_at_rule edition (c ∷ (d ∷ x))) is ∙ at_rule-no_name edition (45 ∷ (d ∷ x)) none ∙ sym same
+
+        hyphen : (k : Bool) → (b == 45) ≡ k → w ++ v ≡ (if k then s ++ v else b ∷ (s ++ v)) → past_at_rule edition (b ∷ s) ≡ w
+        hyphen true h k = behind s (eqb-true b 45 h) (append_cancel_right w s v k) i f
+        hyphen false h k =
+            let none : begins_name edition (chars (b ∷ s)) ≡ false = no_name-front edition b s v i h f in
+            at_rule-no_name edition (b ∷ s) none ∙ rw h (sym (append_cancel_right w (b ∷ s) v k))

@@ -1,0 +1,91 @@
+-- A block that ends directly behind a brace ends there also where the text is cut behind that brace or later.
+use Rattle.std.proofs.Common.{◌≡◌, ℕ, zero, suc, ◌<◌, ◌≤◌, List, [], ◌∷◌, ◌++◌, Bool, true, false, if◌then◌else◌, ◌==◌, length, arith, refl, sym, ap, ◌∙◌, ◌⊎◌, inl, inr, length-append, length-drop, get_or, take}
+use Rattle.std.proofs.Math.ListN.{get_or-append}
+use Rattle.std.proofs.lemmas.List.{take-append-le}
+use Rattle.simplecss_text.specs.Bytes.{past_byte, starts}
+use Rattle.simplecss_text.specs.Blocks.{block_end, from_block_end, closes_block}
+use Rattle.simplecss_text.proofs.cutting.GuardLaws.{Along, at, on, To, longer-along, length-along}
+use Rattle.simplecss_text.proofs.reading.LeastLaws.{least-before, least-is, least-passes}
+use Rattle.simplecss_text.proofs.cutting.NameGuards.{drop-to}
+
+-- the second text and what is cut off make the first
+pub along-append : (g : ℕ) (u v r s : List ℕ) → Along g (u ++ v) u r s → r ≡ s ++ v
+along-append g u v r s at = refl
+along-append g u v r s (on b r1 s1 room h) = ap (λ (x : List ℕ). b ∷ x) (along-append g u v r1 s1 h)
+
+pub le_or_less : (m n : ℕ) → (m ≤ n) ⊎ (n < m)
+le_or_less zero n = inl (omega arith)
+le_or_less (suc m) zero = inr (omega arith)
+le_or_less (suc m) (suc n) = by (le_or_less m n)
+  where
+    by : (m ≤ n) ⊎ (n < m) → (suc m ≤ suc n) ⊎ (suc n < suc m)
+    by (inl h) = inl (omega arith)
+    by (inr h) = inr (omega arith)
+
+-- a block's end within the front of a text is that of the front
+closes_block_local : (u v : List ℕ) (n : ℕ) → n < length u → closes_block (u ++ v) n ≡ closes_block u n
+closes_block_local u v n h =
+    let at : get_or (u ++ v) n 0 ≡ get_or u n 0 = get_or-append u v 0 n h in
+    let front : take n (u ++ v) ≡ take n u = take-append-le n u v (omega arith) in
+    rw (at, front) refl
+
+block_end_local : (u v : List ℕ) → block_end (u ++ v) < length u → block_end u ≡ block_end (u ++ v)
+unfolding block_end
+block_end_local u v h =
+    let inside : block_end (u ++ v) < length (u ++ v) = omega (arith, length-append u v) in
+    let there : closes_block (u ++ v) (block_end (u ++ v)) ≡ true = least-passes (closes_block (u ++ v)) (length (u ++ v)) inside in
+    least-is (closes_block u) (length u) (block_end (u ++ v)) h (sym (closes_block_local u v (block_end (u ++ v)) h) ∙ there)
+    (λ j l. sym (closes_block_local u v j (omega arith)) ∙ least-before (closes_block (u ++ v)) (length (u ++ v)) j l)
+
+-- from the end of a block on
+pub from_block_end-to : (u v r s : List ℕ) → Along 125 (u ++ v) u r s → To 125 (u ++ v) u (from_block_end r) (from_block_end s)
+from_block_end-to u v r s h = by (le_or_less (length s) (block_end (s ++ v)))
+  where
+    whole : r ≡ s ++ v
+    whole = along-append 125 u v r s h
+
+    by : (length s ≤ block_end (s ++ v)) ⊎ (block_end (s ++ v) < length s) → To 125 (u ++ v) u (from_block_end r) (from_block_end s)
+    by (inl l) =
+        let e : block_end r ≡ block_end (s ++ v) = ap block_end whole in
+        inl (omega (arith, e, length-drop (block_end r) r, length-along 125 (u ++ v) u r s h, length-append u v, longer-along 125 (u ++ v) u r s h))
+    by (inr l) =
+        let e : block_end s ≡ block_end r = block_end_local s v l ∙ ap block_end (sym whole) in
+        rw e (drop-to 125 (u ++ v) u (block_end r) r s h)
+
+-- Both readings end where the brace stands or before it, with the same behind it.
+pub data Exact (g : ℕ) (t u : List ℕ) : List ℕ → List ℕ → Type 0 where
+  behind_it : Exact g t u t u
+  before_it : (r s : List ℕ) → Along g t u r s → Exact g t u r s
+
+-- a brace is taken
+pub past_brace-exact : (t u r s : List ℕ) → Along 125 t u r s → Exact 125 t u (past_byte 125 r) (past_byte 125 s)
+past_brace-exact t u r s at = behind_it
+past_brace-exact t u r s (on b r1 s1 room h) = by (b == 125)
+  where
+    by : (k : Bool) → Exact 125 t u (if k then r1 else b ∷ r1) (if k then s1 else b ∷ s1)
+    by true = before_it r1 s1 h
+    by false = before_it (b ∷ r1) (b ∷ s1) (on b r1 s1 room h)
+
+no_brace_front : (u v : List ℕ) → starts 125 (u ++ v) ≡ false → past_byte 125 u ≡ u
+no_brace_front [] v e = refl
+no_brace_front (b ∷ u) v e = rw e refl
+
+pub no_brace : (u : List ℕ) → starts 125 u ≡ false → past_byte 125 u ≡ u
+no_brace [] e = refl
+no_brace (b ∷ u) e = rw e refl
+
+pub less_of_brace : (t : List ℕ) → starts 125 t ≡ true → length (past_byte 125 t) < length t
+less_of_brace [] e = absurd (cc)
+less_of_brace (b ∷ t) e = rw e (omega arith)
+
+-- one that follows is taken too, and then less is left than behind the first
+pub past_further-exact : (u v r s : List ℕ) → Exact 125 (u ++ v) u r s → (length (past_byte 125 r) < length (u ++ v)) ⊎ Exact 125 (u ++ v) u (past_byte 125 r) (past_byte 125 s)
+past_further-exact u v r s (before_it r1 s1 h) = inr (past_brace-exact (u ++ v) u r s h)
+past_further-exact u v r s behind_it = by (starts 125 (u ++ v)) refl
+  where
+    by : (k : Bool) → starts 125 (u ++ v) ≡ k → (length (past_byte 125 (u ++ v)) < length (u ++ v)) ⊎ Exact 125 (u ++ v) u (past_byte 125 (u ++ v)) (past_byte 125 u)
+    by true e = inl (less_of_brace (u ++ v) e)
+    by false e =
+        let whole : past_byte 125 (u ++ v) ≡ u ++ v = no_brace (u ++ v) e in
+        let front : past_byte 125 u ≡ u = no_brace_front u v e in
+        inr (rw (whole, front) behind_it)

@@ -1,0 +1,116 @@
+-- A rule set reads the same where the text is cut behind it or later.
+use Rattle.std.proofs.Common.{◌≡◌, ℕ, ◌≤◌, List, [], ◌∷◌, ◌++◌, Bool, true, false, if◌then◌else◌, ◌==◌, not, length, map, Option, Some, None, arith, refl, ◌⊎◌, inl, inr}
+use Rattle.std.specs.List.{filter_map}
+use Rattle.simplecss_text.specs.Reading.{each}
+use Rattle.simplecss_text.specs.Bytes.{past, past_one, past_byte, starts}
+use Rattle.simplecss_text.specs.Characters.{Edition, is_space}
+use Rattle.simplecss_text.specs.Components.{Component}
+use Rattle.simplecss_text.specs.Selectors.{reads}
+use Rattle.simplecss_text.specs.Declarations.{Property}
+use Rattle.simplecss_text.specs.Blocks.{block}
+use Rattle.simplecss_text.specs.Statements.{StyleRule, part, part_and_comma, parts, next_block, rule_set}
+use Rattle.simplecss_text.proofs.reading.TakesLaws.{length-past}
+use Rattle.simplecss_text.proofs.reading.DeclarationLaws.{length-block}
+use Rattle.simplecss_text.proofs.reading.StatementLaws.{length-part, length-parts, part_and_comma-takes}
+use Rattle.simplecss_text.proofs.cutting.GuardLaws.{Along, at, on, To, Equal, Step, Repeats, each-repeats, past-along, past-to, past_byte-along, pairs-equal, Same}
+use Rattle.simplecss_text.proofs.cutting.BlockEndGuards.{Exact}
+use Rattle.simplecss_text.proofs.cutting.BlockCuts.{Lost, BlockSame, block-same}
+use Rattle.simplecss_text.proofs.cutting.SelectorGuards.{selectors-guarded}
+
+opened-lost : (edition : Edition) (t x : List ℕ) → length x ≤ length t → Lost t (if starts 123 x then block edition (past_one x) else ([], [])).1
+opened-lost edition t [] l = inr refl
+opened-lost edition t (b ∷ x) l = by (b == 123)
+  where
+    by : (k : Bool) → Lost t (if k then block edition x else ([], [])).1
+    by true = inl (omega (arith, length-block edition x))
+    by false = inr refl
+
+-- the next block, from behind the brace
+pub next_block-lost : (edition : Edition) (t x : List ℕ) → length x ≤ length t → Lost t (next_block edition x).1
+unfolding next_block
+next_block-lost edition t x l = opened-lost edition t (past (λ b. not (b == 123)) x) (omega (arith, length-past (λ b. not (b == 123)) x))
+
+opened-same : (edition : Edition) (u v x y : List ℕ) → Along 125 (u ++ v) u x y → BlockSame (u ++ v) u (if starts 123 x then block edition (past_one x) else ([], [])) (if starts 123 y then block edition (past_one y) else ([], []))
+opened-same edition u v x y at = inl (inr refl)
+opened-same edition u v x y (on b x1 y1 room h) = by (b == 123)
+  where
+    by : (k : Bool) → BlockSame (u ++ v) u (if k then block edition x1 else ([], [])) (if k then block edition y1 else ([], []))
+    by true = block-same edition u v x1 y1 h
+    by false = inl (inr refl)
+
+pub next_block-same : (edition : Edition) (u v r s : List ℕ) → Along 125 (u ++ v) u r s → BlockSame (u ++ v) u (next_block edition r) (next_block edition s)
+unfolding next_block
+next_block-same edition u v r s h = by (past (λ b. not (b == 123)) r) (past (λ b. not (b == 123)) s) (past-to 125 (u ++ v) u (λ b. not (b == 123)) r s h)
+  where
+    by : (x y : List ℕ) → To 125 (u ++ v) u x y → BlockSame (u ++ v) u (if starts 123 x then block edition (past_one x) else ([], [])) (if starts 123 y then block edition (past_one y) else ([], []))
+    by x y (inl l) = inl (opened-lost edition (u ++ v) x l)
+    by x y (inr k) = opened-same edition u v x y k
+
+pub part-same : (edition : Edition) (u v r s : List ℕ) → Along 125 (u ++ v) u r s → Same (u ++ v) u (part edition r) (part edition s)
+unfolding part
+part-same edition u v r s h = by (reads edition r) (reads edition s) (selectors-guarded edition u v r s h)
+  where
+    by : (a b : Option (List Component) × List ℕ) → Same (u ++ v) u a b → Same (u ++ v) u (a.0, past is_space a.1) (b.0, past is_space b.1)
+    by a b (inl l) = inl (omega (arith, length-past is_space a.1))
+    by a b (inr k) = inr (k.0, past-along 125 (u ++ v) u is_space refl a.1 b.1 k.1)
+
+abbrev PartPasses : Edition → List ℕ → List ℕ → Type 0
+PartPasses edition t a = length (part edition a).1 ≤ length t
+
+comma-step : (edition : Edition) (t u r s : List ℕ) (a b : Option (List Component) × List ℕ) → Same t u a b → (length a.1 ≤ length t → PartPasses edition t r) → Step Equal (PartPasses edition t) 125 t u r (if starts 44 a.1 then Some (a.0, past_one a.1) else None) (if starts 44 b.1 then Some (b.0, past_one b.1) else None)
+comma-step edition t u r s (a, x) (b, y) (inl l) stuck = by (starts 44 x) (starts 44 y)
+  where
+    shorter : (z : List ℕ) → length (past_one z) ≤ length z
+    shorter [] = omega arith
+    shorter (c ∷ z) = omega arith
+
+    by : (j k : Bool) → Step Equal (PartPasses edition t) 125 t u r (if j then Some (a, past_one x) else None) (if k then Some (b, past_one y) else None)
+    by true true = inl (omega (arith, shorter x))
+    by true false = omega (arith, shorter x)
+    by false true = stuck l
+    by false false = tt
+comma-step edition t u r s (a, x) (b, y) (inr (e, k)) stuck = one x y k
+  where
+    one : (c d : List ℕ) → Along 125 t u c d → Step Equal (PartPasses edition t) 125 t u r (if starts 44 c then Some (a, past_one c) else None) (if starts 44 d then Some (b, past_one d) else None)
+    one c d at = tt
+    one c d (on z c1 d1 room h) = by (z == 44)
+      where
+        by : (j : Bool) → Step Equal (PartPasses edition t) 125 t u r (if j then Some (a, c1) else None) (if j then Some (b, d1) else None)
+        by true = inr (e, h)
+        by false = tt
+
+pub parts-same : (edition : Edition) (u v r s : List ℕ) → Along 125 (u ++ v) u r s → Same (u ++ v) u (parts edition r) (parts edition s)
+unfolding parts
+parts-same edition u v r s h = by (each (part_and_comma edition) r) (each (part_and_comma edition) s) (each-repeats Equal (PartPasses edition (u ++ v)) 125 (u ++ v) u (part_and_comma edition) (part_and_comma-takes edition) (λ a b k. comma-step edition (u ++ v) u a b (part edition a) (part edition b) (part-same edition u v a b k) (λ l. l)) (length r) r s (omega arith) h)
+  where
+    chosen : List (Option (List Component)) → List (List Component)
+    chosen xs = filter_map (λ selector. selector) xs
+
+    last : (xs ys : List (Option (List Component))) (c d : Option (List Component) × List ℕ) → xs ≡ ys → Same (u ++ v) u c d → Same (u ++ v) u (filter_map (λ selector. selector) (xs ++ c.0 ∷ []), c.1) (filter_map (λ selector. selector) (ys ++ d.0 ∷ []), d.1)
+    last xs ys c d e (inl l) = inl l
+    last xs ys c d e (inr (f, k)) = inr (rw (e, f) refl, k)
+
+    by : (a b : List (Option (List Component)) × List ℕ) → Repeats Equal (PartPasses edition (u ++ v)) 125 (u ++ v) u a b → Same (u ++ v) u (filter_map (λ selector. selector) (a.0 ++ (part edition a.1).0 ∷ []), (part edition a.1).1) (filter_map (λ selector. selector) (b.0 ++ (part edition b.1).0 ∷ []), (part edition b.1).1)
+    by a b (inl l) = inl (omega (arith, length-part edition a.1))
+    by a b (inr (inl l)) = inl l
+    by a b (inr (inr k)) = last a.0 b.0 (part edition a.1) (part edition b.1) (pairs-equal a.0 b.0 k.0) (part-same edition u v a.1 b.1 k.1)
+
+-- a rule set, up to its block's end
+abbrev pub RulesSame : List ℕ → List ℕ → List StyleRule × List ℕ → List StyleRule × List ℕ → Type 0
+RulesSame t u a b = Lost t a.1 ⊎ ((a.0 ≡ b.0) × Exact 125 t u a.1 b.1)
+
+pub rule_set-same : (edition : Edition) (u v r s : List ℕ) → Along 125 (u ++ v) u r s → RulesSame (u ++ v) u (rule_set edition r) (rule_set edition s)
+unfolding rule_set
+rule_set-same edition u v r s h = comma (past_byte 44 r) (past_byte 44 s) (past_byte-along 125 (u ++ v) u 44 r s h)
+  where
+    body : (xs ys : List (List Component)) (c d : List Property × List ℕ) → xs ≡ ys → BlockSame (u ++ v) u c d → RulesSame (u ++ v) u (map (λ selector. record { components = selector; properties = c.0 }) xs, c.1) (map (λ selector. record { components = selector; properties = d.0 }) ys, d.1)
+    body xs ys c d e (inl l) = inl l
+    body xs ys c d e (inr (f, k)) = inr (rw (e, f) refl, k)
+
+    head : (a b : List (List Component) × List ℕ) → Same (u ++ v) u a b → RulesSame (u ++ v) u (map (λ selector. record { components = selector; properties = (next_block edition a.1).0 }) a.0, (next_block edition a.1).1) (map (λ selector. record { components = selector; properties = (next_block edition b.1).0 }) b.0, (next_block edition b.1).1)
+    head a b (inl l) = inl (next_block-lost edition (u ++ v) a.1 l)
+    head a b (inr (e, k)) = body a.0 b.0 (next_block edition a.1) (next_block edition b.1) e (next_block-same edition u v a.1 b.1 k)
+
+    comma : (x y : List ℕ) → To 125 (u ++ v) u x y → RulesSame (u ++ v) u (map (λ selector. record { components = selector; properties = (next_block edition (parts edition x).1).0 }) (parts edition x).0, (next_block edition (parts edition x).1).1) (map (λ selector. record { components = selector; properties = (next_block edition (parts edition y).1).0 }) (parts edition y).0, (next_block edition (parts edition y).1).1)
+    comma x y (inl l) = inl (next_block-lost edition (u ++ v) (parts edition x).1 (omega (arith, length-parts edition x)))
+    comma x y (inr k) = head (parts edition x) (parts edition y) (parts-same edition u v x y k)

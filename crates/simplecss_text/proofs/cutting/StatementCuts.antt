@@ -1,0 +1,214 @@
+-- A statement reads the same where the text is cut behind it or later.
+use Rattle.std.proofs.Common.{Bool, IsUtf8, List, None, Some, [], ap, arith, eqb-true, false, if◌then◌else◌, inl, inr, refl, subst, sym, true, ℕ, ◌<◌, ◌==◌, ◌∙◌, ◌∷◌, ◌≡◌, append_assoc, length, ◌++◌, ◌⊎◌, append-nil, length-append}
+use Rattle.std.proofs.Math.Seq.{take-append_seam}
+use Rattle.std.proofs.lemmas.List.{append_cancel_right}
+use Rattle.std.proofs.lemmas.Str.{IsUtf8-nil, IsUtf8-take, IsCharBoundary-at_seam}
+use Rattle.simplecss_text.specs.Reading.{Ends, got, before, fails}
+use Rattle.simplecss_text.specs.Bytes.{is_neither, past, past_byte, starts}
+use Rattle.simplecss_text.specs.Characters.{Edition}
+use Rattle.simplecss_text.specs.Comments.{past_blank}
+use Rattle.simplecss_text.specs.Names.{name}
+use Rattle.simplecss_text.specs.Blocks.{from_block_end}
+use Rattle.simplecss_text.specs.Statements.{StyleRule, ends_statements, next_statement, past_at_rule, rule_set, statement}
+use Rattle.simplecss_text.proofs.reading.EndsLaws.{ends-ends, ends-got, ends-nil, ends-past, ends-same, ends-tail, itself, length-ends}
+use Rattle.simplecss_text.proofs.reading.StandLaws.{name-stands, utf8-behind, ends-past_blank}
+use Rattle.simplecss_text.proofs.cutting.GuardLaws.{Along, To, at, longer-along, not_empty, on, starts-along}
+use Rattle.simplecss_text.proofs.cutting.SearchLaws.{Plain, brace_plain, opens_comment-along, past_blank-to}
+use Rattle.simplecss_text.proofs.reading.DeclarationStandLaws.{ends-from_block_end}
+use Rattle.simplecss_text.proofs.cutting.BlockEndGuards.{Exact, before_it, behind_it}
+use Rattle.simplecss_text.proofs.cutting.RuleSetCuts.{RulesSame, rule_set-same}
+use Rattle.simplecss_text.proofs.cutting.AtRuleCuts.{name_fault-left, at_rule-block, at_rule-fault, at_rule-semicolon, along-at}
+use Rattle.simplecss_text.proofs.cutting.StatementEnds.{AtRuleEnds, BehindBrace, at_block, at_fault, at_rule-ends, at_semicolon, rule_set-behind, starts-is, uses_up}
+use Rattle.simplecss_text.proofs.cutting.RoomLaws.{along-from}
+
+-- ---- how a blank and a statement end
+
+-- How a statement ends behind a blank: the text is used up, or it is a rule set that ends behind a brace, or an at-rule.
+pub data NextEnds (edition : Edition) (text : List ℕ) (rules : List StyleRule) (rest : List ℕ) : Type 0 where
+  text_ends : rest ≡ [] → NextEnds edition text rules rest
+  rules_end : starts 64 text ≡ false → rule_set edition text ≡ (rules, rest) → Ends text (125 ∷ rest) → NextEnds edition text rules rest
+  at_rule_ends : (after : List ℕ) → text ≡ 64 ∷ after → rules ≡ [] → AtRuleEnds edition after rest → NextEnds edition text rules rest
+
+statement-ends : (edition : Edition) (text : List ℕ) (rules : List StyleRule) (rest : List ℕ) → statement edition text ≡ (rules, rest) → NextEnds edition text rules rest
+unfolding statement
+statement-ends edition [] rules rest e = of_rules (rule_set-behind edition [])
+  where
+    of_rules : BehindBrace [] (rule_set edition []).1 → NextEnds edition [] rules rest
+    of_rules (inl h) = text_ends (sym (ap (λ r. r.1) e) ∙ h)
+    of_rules (inr h) = rules_end refl e (subst (λ (x : List ℕ). Ends [] (125 ∷ x)) (ap (λ r. r.1) e) h)
+statement-ends edition (b ∷ text) rules rest e = by (b == 64) refl e
+  where
+    of_rules : (b == 64) ≡ false → rule_set edition (b ∷ text) ≡ (rules, rest) → BehindBrace (b ∷ text) (rule_set edition (b ∷ text)).1 → NextEnds edition (b ∷ text) rules rest
+    of_rules f g (inl h) = text_ends (sym (ap (λ r. r.1) g) ∙ h)
+    of_rules f g (inr h) = rules_end f g (subst (λ (x : List ℕ). Ends (b ∷ text) (125 ∷ x)) (ap (λ r. r.1) g) h)
+
+    by : (k : Bool) → (b == 64) ≡ k → (if k then ([], past_at_rule edition text) else rule_set edition (b ∷ text)) ≡ (rules, rest) → NextEnds edition (b ∷ text) rules rest
+    by true f g = at_rule_ends text (ap (λ (c : ℕ). c ∷ text) (eqb-true b 64 f)) (sym (ap (λ r. r.0) g)) (subst (AtRuleEnds edition text) (ap (λ r. r.1) g) (at_rule-ends edition text))
+    by false f g = of_rules f g (rule_set-behind edition (b ∷ text))
+
+-- where the statements go on, and how the next one ends
+pub next_statement-ends : (edition : Edition) (text : List ℕ) (rules : List StyleRule) (rest : List ℕ) → next_statement edition text ≡ Some (rules, rest) → (ends_statements (past_blank text) ≡ false) × NextEnds edition (past_blank text) rules rest
+next_statement-ends edition text rules rest e = by (ends_statements (past_blank text)) refl e
+  where
+    by : (k : Bool) → ends_statements (past_blank text) ≡ k → (if k then None else Some (statement edition (past_blank text))) ≡ Some (rules, rest) → (ends_statements (past_blank text) ≡ false) × NextEnds edition (past_blank text) rules rest
+    by true f g = absurd (cc)
+    by false f g =
+        let same : statement edition (past_blank text) ≡ (rules, rest) = cc in
+        (f, statement-ends edition (past_blank text) rules rest same)
+
+-- ---- what is left is an end of the text, and the UTF-8 of some characters
+
+-- an at-rule that ends behind a semicolon or a block ends behind that byte
+semicolon-front : (edition : Edition) (text n rest left : List ℕ) → name edition text ≡ got n rest → past (is_neither 59 123) rest ≡ 59 ∷ left → Ends text (59 ∷ left)
+semicolon-front edition text n rest left e f =
+    ends-ends text rest (59 ∷ left) (ends-got text itself (name edition text) n rest (name-stands edition text) e) (subst (Ends rest) f (ends-past (is_neither 59 123) rest))
+
+block-front : (edition : Edition) (text n rest inner left : List ℕ) → name edition text ≡ got n rest → past (is_neither 59 123) rest ≡ 123 ∷ inner → from_block_end inner ≡ 125 ∷ left → Ends text (125 ∷ left)
+block-front edition text n rest inner left e f g =
+    let opened : Ends text (123 ∷ inner) = ends-ends text rest (123 ∷ inner) (ends-got text itself (name edition text) n rest (name-stands edition text) e) (subst (Ends rest) f (ends-past (is_neither 59 123) rest)) in
+    ends-ends text inner (125 ∷ left) (ends-ends text (123 ∷ inner) inner opened (ends-tail 123 inner)) (subst (Ends inner) g (ends-from_block_end inner))
+
+-- what stands behind an end of a text: an end of it that is UTF-8 if the text is
+abbrev pub EndsWell : List ℕ → List ℕ → Type 0
+EndsWell text rest = Ends text rest × (IsUtf8 text → IsUtf8 rest)
+
+well-nil : (text : List ℕ) → EndsWell text []
+well-nil text = (ends-nil text, λ u. IsUtf8-nil)
+
+well-behind : (g : ℕ) (text rest : List ℕ) → g < 128 → Ends text (g ∷ rest) → EndsWell text rest
+well-behind g text rest l h = (ends-ends text (g ∷ rest) rest h (ends-tail g rest), λ u. utf8-behind text rest g l u h)
+
+well-past_byte : (c : ℕ) (text : List ℕ) → c < 128 → EndsWell text (past_byte c text)
+well-past_byte c text l = by (starts c text) refl
+  where
+    no_byte : (text : List ℕ) → starts c text ≡ false → past_byte c text ≡ text
+    no_byte [] e = refl
+    no_byte (b ∷ text) e = rw e refl
+
+    by : (k : Bool) → starts c text ≡ k → EndsWell text (past_byte c text)
+    by true e = well-behind c text (past_byte c text) l (subst (Ends text) (starts-is c text e) (ends-same text))
+    by false e = rw (no_byte text e) (ends-same text, λ u. u)
+
+pub well-then : (text middle rest : List ℕ) → EndsWell text middle → EndsWell middle rest → EndsWell text rest
+well-then text middle rest h k = (ends-ends text middle rest h.0 k.0, λ u. k.1 (h.1 u))
+
+at_rule-well : (edition : Edition) (text rest : List ℕ) → AtRuleEnds edition text rest → EndsWell text rest
+at_rule-well edition text rest uses_up = well-nil text
+at_rule-well edition text rest (at_fault fault left e) = subst (EndsWell text) (sym (name_fault-left edition text rest fault e).1) (well-past_byte 45 text (omega arith))
+at_rule-well edition text rest (at_semicolon n x left e f) = well-behind 59 text rest (omega arith) (semicolon-front edition text n x rest e f)
+at_rule-well edition text rest (at_block n x inner left e f g) = well-behind 125 text rest (omega arith) (block-front edition text n x inner rest e f g)
+
+-- what is left behind a blank and a statement
+next-well : (edition : Edition) (text start : List ℕ) (rules : List StyleRule) (rest : List ℕ) → Ends text start → NextEnds edition start rules rest → EndsWell text rest
+next-well edition text start rules rest b (text_ends e) = subst (EndsWell text) (sym e) (well-nil text)
+next-well edition text start rules rest b (rules_end e f h) = well-behind 125 text rest (omega arith) (ends-ends text start (125 ∷ rest) b h)
+next-well edition text start rules rest b (at_rule_ends after e f h) = well-then text after rest (well-behind 64 text after (omega arith) (subst (Ends text) e b)) (at_rule-well edition after rest h)
+
+pub next_statement-well : (edition : Edition) (text rest : List ℕ) (rules : List StyleRule) → next_statement edition text ≡ Some (rules, rest) → EndsWell text rest
+next_statement-well edition text rest rules e = next-well edition text (past_blank text) rules rest (ends-past_blank text) (next_statement-ends edition text rules rest e).1
+
+-- ---- the texts before and behind a cut
+
+-- what stands before an end that is UTF-8 is UTF-8
+utf8-front : (u v : List ℕ) → IsUtf8 (u ++ v) → IsUtf8 v → IsUtf8 u
+utf8-front u v whole rest = subst IsUtf8 (take-append_seam u v) (IsUtf8-take (u ++ v) (length u) whole (IsCharBoundary-at_seam (u ++ v) u v refl rest))
+
+-- a text and its front, from behind an ASCII byte on
+pub along-of : (g : ℕ) (u v w : List ℕ) → g < 128 → IsUtf8 (u ++ v) → Ends (u ++ v) (g ∷ (w ++ v)) → Along g (w ++ v) w (u ++ v) u
+along-of g u v w l whole e =
+    let front : List ℕ = before (u ++ v) (g ∷ (w ++ v)) in
+    let parts : front ++ g ∷ (w ++ v) ≡ u ++ v = e in
+    let same : front ++ g ∷ w ≡ u = append_cancel_right (front ++ g ∷ w) u v (append_assoc front (g ∷ w) v ∙ parts) in
+    let along : Along g (w ++ v) w (front ++ g ∷ (w ++ v)) (front ++ g ∷ w) = along-from g (w ++ v) w front l (subst IsUtf8 (sym parts) whole) in
+    subst (λ (s : List ℕ). Along g (w ++ v) w (u ++ v) s) same (subst (λ (r : List ℕ). Along g (w ++ v) w r (front ++ g ∷ w)) parts along)
+
+-- behind the blanks at their fronts
+past_blank-along : (g : ℕ) (u v w : List ℕ) → Plain g → g < 128 → IsUtf8 (u ++ v) → Ends (past_blank (u ++ v)) (g ∷ (w ++ v)) → Along g (w ++ v) w (past_blank (u ++ v)) (past_blank u)
+past_blank-along g u v w plain l whole e = by (past_blank-to g w v plain (u ++ v) u (along-of g u v w l whole (ends-ends (u ++ v) (past_blank (u ++ v)) (g ∷ (w ++ v)) (ends-past_blank (u ++ v)) e)))
+  where
+    by : To g (w ++ v) w (past_blank (u ++ v)) (past_blank u) → Along g (w ++ v) w (past_blank (u ++ v)) (past_blank u)
+    by (inl less) = absurd (omega (arith, less, length-ends (past_blank (u ++ v)) (g ∷ (w ++ v)) e))
+    by (inr along) = along
+
+-- ---- statements
+
+sign_plain : Plain 64
+sign_plain = record { space = refl; slash = refl; star = refl }
+
+exact-second : (g : ℕ) (t u r s : List ℕ) → Exact g t u r s → r ≡ t → s ≡ u
+exact-second g t u r s behind_it e = refl
+exact-second g t u r s (before_it a b h) e = absurd (omega (arith, longer-along g t u r s h, ap length e))
+
+ends_statements-along : (t u r s : List ℕ) → Along 125 t u r s → ends_statements r ≡ ends_statements s
+ends_statements-along t u r s at = rw (not_empty 125 t, not_empty 125 u) refl
+ends_statements-along t u r s (on b r1 s1 room h) = rw (not_empty b r1, not_empty b s1) (opens_comment-along 125 t u brace_plain (b ∷ r1) (b ∷ s1) (on b r1 s1 room h))
+
+-- a rule set that ends behind a brace
+rule_set-cut : (edition : Edition) (w v r s : List ℕ) (rules : List StyleRule) → Along 125 (w ++ v) w r s → rule_set edition r ≡ (rules, w ++ v) → (w ++ v ≡ []) ⊎ (rule_set edition s ≡ (rules, w))
+rule_set-cut edition w v r s rules h e = by (rule_set edition r) (rule_set edition s) e (rule_set-same edition w v r s h)
+  where
+    by : (a b : List StyleRule × List ℕ) → a ≡ (rules, w ++ v) → RulesSame (w ++ v) w a b → (w ++ v ≡ []) ⊎ (b ≡ (rules, w))
+    by (x, p) b f (inl (inl l)) = absurd (omega (arith, l, ap (λ (c : List StyleRule × List ℕ). length c.1) f))
+    by (x, p) b f (inl (inr k)) = inl (sym (ap (λ (c : List StyleRule × List ℕ). c.1) f) ∙ k)
+    by (x, p) (y, q) f (inr (k, exact)) =
+        let rest : p ≡ w ++ v = ap (λ (c : List StyleRule × List ℕ). c.1) f in
+        let same : q ≡ w = exact-second 125 (w ++ v) w p q exact rest in
+        let ruled : y ≡ rules = sym k ∙ ap (λ (c : List StyleRule × List ℕ). c.0) f in
+        inr (rw (same, ruled) refl)
+
+-- an at-rule, from behind its sign
+at_rule-cut : (edition : Edition) (s v w rest : List ℕ) → IsUtf8 (s ++ v) → IsUtf8 v → rest ≡ w ++ v → AtRuleEnds edition (s ++ v) rest → (w ++ v ≡ []) ⊎ (past_at_rule edition s ≡ w)
+at_rule-cut edition s v w rest whole cut e uses_up = inl (sym e)
+at_rule-cut edition s v w rest whole cut e (at_fault fault left f) = inr (at_rule-fault edition s v w fault (utf8-front s v whole cut) (f ∙ ap (fails fault) e))
+at_rule-cut edition s v w rest whole cut e (at_semicolon n x left f g) =
+    let behind : past (is_neither 59 123) x ≡ 59 ∷ (w ++ v) = g ∙ ap (λ (t : List ℕ). 59 ∷ t) e in
+    inr (at_rule-semicolon edition (w ++ v) w (s ++ v) s n x (along-of 59 s v w (omega arith) whole (semicolon-front edition (s ++ v) n x (w ++ v) f behind)) f behind)
+at_rule-cut edition s v w rest whole cut e (at_block n x inner left f g h) =
+    let behind : from_block_end inner ≡ 125 ∷ (w ++ v) = h ∙ ap (λ (t : List ℕ). 125 ∷ t) e in
+    inr (at_rule-block edition w v (s ++ v) s n x inner (along-of 125 s v w (omega arith) whole (block-front edition (s ++ v) n x inner (w ++ v) f g behind)) f g behind)
+
+-- ---- the next statement
+
+next-nil : (edition : Edition) (u v w : List ℕ) (rules : List StyleRule) → w ++ v ≡ [] → next_statement edition (u ++ v) ≡ Some (rules, w ++ v) → next_statement edition u ≡ Some (rules, w)
+next-nil edition u [] w rules e f = subst (λ (t : List ℕ). next_statement edition t ≡ Some (rules, w)) (append-nil u) (f ∙ ap (λ (t : List ℕ). Some (rules, t)) (append-nil w))
+next-nil edition u (b ∷ v) w rules e f = absurd (omega (arith, ap length e, length-append w (b ∷ v)))
+
+next_statement-reads : (edition : Edition) (u w : List ℕ) (rules : List StyleRule) → ends_statements (past_blank u) ≡ false → statement edition (past_blank u) ≡ (rules, w) → next_statement edition u ≡ Some (rules, w)
+next_statement-reads edition u w rules e f = rw (e, f) refl
+
+-- What stands behind the end of a statement makes no difference to it.
+pub next_statement-cut : (edition : Edition) (u v w : List ℕ) (rules : List StyleRule) → IsUtf8 (u ++ v) → IsUtf8 v → next_statement edition (u ++ v) ≡ Some (rules, w ++ v) → next_statement edition u ≡ Some (rules, w)
+unfolding statement
+next_statement-cut edition u v w rules whole cut e = by (next_statement-ends edition (u ++ v) rules (w ++ v) e).0 (next_statement-ends edition (u ++ v) rules (w ++ v) e).1
+  where
+    nil : w ++ v ≡ [] → next_statement edition u ≡ Some (rules, w)
+    nil n = next-nil edition u v w rules n e
+
+    ruled : Along 125 (w ++ v) w (past_blank (u ++ v)) (past_blank u) → ends_statements (past_blank (u ++ v)) ≡ false → starts 64 (past_blank (u ++ v)) ≡ false → (w ++ v ≡ []) ⊎ (rule_set edition (past_blank u) ≡ (rules, w)) → next_statement edition u ≡ Some (rules, w)
+    ruled along more other (inl n) = nil n
+    ruled along more other (inr r) =
+        let sign : starts 64 (past_blank u) ≡ false = sym (starts-along 125 (w ++ v) w 64 (past_blank (u ++ v)) (past_blank u) along) ∙ other in
+        let goes : ends_statements (past_blank u) ≡ false = sym (ends_statements-along (w ++ v) w (past_blank (u ++ v)) (past_blank u) along) ∙ more in
+        next_statement-reads edition u w rules goes (rw sign r)
+
+    at_sign : (s : List ℕ) → past_blank u ≡ 64 ∷ s → rules ≡ [] → (w ++ v ≡ []) ⊎ (past_at_rule edition s ≡ w) → next_statement edition u ≡ Some (rules, w)
+    at_sign s is none (inl n) = nil n
+    at_sign s is none (inr r) =
+        let goes : ends_statements (past_blank u) ≡ false = ap ends_statements is ∙ rw (not_empty 64 s) refl in
+        let read : statement edition (past_blank u) ≡ (rules, w) = ap (statement edition) is ∙ rw (r, none) refl in
+        next_statement-reads edition u w rules goes read
+
+    by : ends_statements (past_blank (u ++ v)) ≡ false → NextEnds edition (past_blank (u ++ v)) rules (w ++ v) → next_statement edition u ≡ Some (rules, w)
+    by more (text_ends n) = nil n
+    by more (rules_end other r h) =
+        let along : Along 125 (w ++ v) w (past_blank (u ++ v)) (past_blank u) = past_blank-along 125 u v w brace_plain (omega arith) whole h in
+        ruled along more other (rule_set-cut edition w v (past_blank (u ++ v)) (past_blank u) rules along r)
+    by more (at_rule_ends after is none h) =
+        let s : List ℕ = before after (w ++ v) ++ w in
+        let parts : after ≡ s ++ v = sym (append_assoc (before after (w ++ v)) w v ∙ (at_rule-well edition after (w ++ v) h).0) in
+        let start : past_blank (u ++ v) ≡ 64 ∷ (s ++ v) = is ∙ ap (λ (t : List ℕ). 64 ∷ t) parts in
+        let behind : Ends (past_blank (u ++ v)) (64 ∷ (s ++ v)) = subst (Ends (past_blank (u ++ v))) start (ends-same (past_blank (u ++ v))) in
+        let along : Along 64 (s ++ v) s (past_blank (u ++ v)) (past_blank u) = past_blank-along 64 u v s sign_plain (omega arith) whole behind in
+        let whole_after : IsUtf8 (s ++ v) = utf8-behind (u ++ v) (s ++ v) 64 (omega arith) whole (ends-ends (u ++ v) (past_blank (u ++ v)) (64 ∷ (s ++ v)) (ends-past_blank (u ++ v)) behind) in
+        at_sign s (along-at 64 (s ++ v) s (past_blank (u ++ v)) (past_blank u) along start) none
+        (at_rule-cut edition s v w (w ++ v) whole_after cut refl (subst (λ (t : List ℕ). AtRuleEnds edition t (w ++ v)) parts h))

@@ -1,0 +1,3 @@
+-- Texts that both editions read alike.
+pub mod EditionLaws
+pub mod SheetEditions

@@ -1,0 +1,3 @@
+-- The order of rules.
+pub mod RankLemmas
+pub mod OrderLemmas

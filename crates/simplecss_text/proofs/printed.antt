@@ -1,0 +1,18 @@
+-- Selectors that were read, printed and read again.
+pub mod PrintedNames
+pub mod PrintedPieces
+pub mod PrintedHeads
+pub mod PrintedSelectors
+pub mod UncleanSelectors
+pub mod PrintingLaw
+pub mod GotLaws
+pub mod ReadNames
+pub mod ReadStrings
+pub mod ReadValues
+pub mod ReadOperators
+pub mod ReadBlanks
+pub mod ReadPieces
+pub mod ReadRuns
+pub mod ReadSelectors
+pub mod TailLaws
+pub mod Styled

@@ -1,0 +1,371 @@
+-- A printed selector reads back.
+use Rattle.std.proofs.Common.{◌≡◌, ℕ, ◌<◌, List, [], ◌∷◌, ◌++◌, Bool, true, false, map, refl, sym, ap, ◌∙◌, subst, append_assoc, append-nil, arith, Option, Some, None}
+use Rattle.std.specs.List.{list_all, flat_map}
+use Rattle.simplecss_text.specs.Reading.{got}
+use Rattle.simplecss_text.specs.Bytes.{starts}
+use Rattle.simplecss_text.specs.Characters.{Edition, first_edition, second_edition, is_name_char}
+use Rattle.simplecss_text.specs.Comments.{blank_part, gap}
+use Rattle.simplecss_text.specs.Components.{Subselector, Combinator, Compound, Component}
+use Rattle.simplecss_text.specs.Components.Class.{first_child, link, visited, hover, active, focus, lang}
+use Rattle.simplecss_text.specs.Components.Subselector.{attribute, pseudo_class}
+use Rattle.simplecss_text.specs.Components.Combinator.{none, descendant, child, adjacent}
+use Rattle.simplecss_text.specs.Tokens.Token.{child_combinator, adjacent_combinator}
+use Rattle.simplecss_text.specs.Pieces.{begun, solid, is_stop}
+use Rattle.simplecss_text.specs.Neighbours.{Left, before_piece, left_behind}
+use Rattle.simplecss_text.specs.Neighbours.Left.{open_left, closed_left}
+use Rattle.simplecss_text.specs.TokenRuns.{Run, run_from, run_of, answered, token_then}
+use Rattle.simplecss_text.specs.Selectors.{Role, with_role, after_role, outcome, cut, type_among, subselectors_among, component_of, components_of, selector_of, reads}
+use Rattle.simplecss_text.specs.Selectors.Role.{any_type, of_type, with, joint}
+use Rattle.simplecss_text.specs.Selectors.Outcome.{accepted}
+use Rattle.simplecss_text.specs.Printing.{subselector_text, type_text, component_text, selector_text, is_clean_subselector, is_clean}
+use Rattle.simplecss_text.proofs.reading.EachLaws.{each-none}
+use Rattle.simplecss_text.proofs.reading.RunLaws.{run_from-piece}
+use Rattle.simplecss_text.proofs.reading.JoiningLaws.{piece_of, piece-read, descends-token, run_from-stop, run_from-slash}
+use Rattle.simplecss_text.proofs.printed.PrintedNames.{both_true, ends_names, ends_names-byte, ends_names-nil}
+use Rattle.simplecss_text.proofs.printed.PrintedPieces.{IsSubselector, printed_token, printed_token-role, subselector-reads, solid-begun, some-length}
+use Rattle.simplecss_text.proofs.printed.PrintedHeads.{NoGap, no_gap-byte, gap-none, gap-space, IsTypeName, head_token, head_role, head-reads, head-no_gap}
+
+-- Behind a simple piece the text goes on with these roles, and then this is left. No name goes on there.
+pub record Goes (edition : Edition) (text : List ℕ) (roles : List Role) (left : List ℕ) : Type 0 where
+  pub ends : ends_names edition text ≡ false
+  pub runs : outcome (run_from edition closed_left text) ≡ accepted roles left
+
+-- no name goes on at an ASCII byte that is no name character
+pub ends_low : (edition : Edition) (b : ℕ) (text : List ℕ) → b < 128 → is_name_char first_edition b ≡ false → is_name_char second_edition b ≡ false → ends_names edition (b ∷ text) ≡ false
+ends_low first_edition b text h e f = ends_names-byte first_edition b text h e
+ends_low second_edition b text h e f = ends_names-byte second_edition b text h f
+
+-- no name goes on with a subselector
+pub subselector-ends : (edition : Edition) (s : Subselector) (tail : List ℕ) → ends_names edition (subselector_text s ++ tail) ≡ false
+subselector-ends edition (attribute n o) tail = ends_low edition 91 _ (omega arith) refl refl
+subselector-ends edition (pseudo_class class) tail = ends_low edition 58 _ (omega arith) refl refl
+
+-- no gap stands before a subselector
+pub subselector-no_gap : (s : Subselector) (tail : List ℕ) → NoGap (subselector_text s ++ tail)
+subselector-no_gap (attribute n o) tail = no_gap-byte 91 _ refl refl
+subselector-no_gap (pseudo_class class) tail = no_gap-byte 58 _ refl refl
+
+subselector-answer : (s : Subselector) (start after : List ℕ) (rest : Left → Run) → answered (before_piece closed_left (piece_of false start (printed_token s) after)) start (token_then (printed_token s) after (rest (left_behind (printed_token s)))) ≡ token_then (printed_token s) after (rest closed_left)
+subselector-answer (attribute n o) start after rest = refl
+subselector-answer (pseudo_class first_child) start after rest = refl
+subselector-answer (pseudo_class link) start after rest = refl
+subselector-answer (pseudo_class visited) start after rest = refl
+subselector-answer (pseudo_class hover) start after rest = refl
+subselector-answer (pseudo_class active) start after rest = refl
+subselector-answer (pseudo_class focus) start after rest = refl
+subselector-answer (pseudo_class (lang v)) start after rest = refl
+
+-- behind a simple piece a printed subselector is its token
+pub subselector-run : (edition : Edition) (s : Subselector) (tail : List ℕ) → IsSubselector edition s → is_clean_subselector s ≡ true → ends_names edition tail ≡ false → run_from edition closed_left (subselector_text s ++ tail) ≡ token_then (printed_token s) tail (run_from edition closed_left tail)
+subselector-run edition s tail w c e =
+    let text = subselector_text s ++ tail in
+    run_from-piece edition closed_left text tail (piece_of false text (printed_token s) tail) (piece-read edition text text tail false (printed_token s) (gap-none text (subselector-no_gap s tail)) (subselector-reads edition s tail w c e))
+    ∙ subselector-answer s text tail (λ left. run_from edition left tail)
+
+-- and goes on as what follows it
+pub subselector-goes : (edition : Edition) (s : Subselector) (tail left : List ℕ) (roles : List Role) → IsSubselector edition s → is_clean_subselector s ≡ true → Goes edition tail roles left → Goes edition (subselector_text s ++ tail) (with s ∷ roles) left
+subselector-goes edition s tail left roles w c g = record {
+  ends = subselector-ends edition s tail;
+  runs = ap outcome (subselector-run edition s tail w c g.ends)
+      ∙ ap (λ r. after_role r tail (outcome (run_from edition closed_left tail))) (printed_token-role s)
+      ∙ ap (with_role (with s)) g.runs;
+}
+
+-- subselectors that were read
+abbrev pub EachIs : Edition → List Subselector → Type 0
+EachIs edition [] = Unit {0}
+EachIs edition (s ∷ ss) = IsSubselector edition s × EachIs edition ss
+
+-- printed subselectors, one after another
+pub subselectors-go : (edition : Edition) (ss : List Subselector) (tail left : List ℕ) (roles : List Role) → EachIs edition ss → list_all is_clean_subselector ss ≡ true → Goes edition tail roles left → Goes edition (flat_map subselector_text ss ++ tail) (map with ss ++ roles) left
+subselectors-go edition [] tail left roles w c g = g
+subselectors-go edition (s ∷ ss) tail left roles w c g =
+    let h = both_true (is_clean_subselector s) (list_all is_clean_subselector ss) c in
+    let more = subselectors-go edition ss tail left roles w.1 h.1 g in
+    subst (λ (t : List ℕ). Goes edition t (with s ∷ (map with ss ++ roles)) left) (sym (append_assoc (subselector_text s) (flat_map subselector_text ss) tail))
+    (subselector-goes edition s (flat_map subselector_text ss ++ tail) left (map with ss ++ roles) w.0 h.0 more)
+
+-- behind an open left side nothing stands before a head
+pub head-answer : (o : Option (List ℕ)) (spaced : Bool) (start after : List ℕ) (rest : Left → Run) → answered (before_piece open_left (piece_of spaced start (head_token o) after)) start (token_then (head_token o) after (rest (left_behind (head_token o)))) ≡ token_then (head_token o) after (rest closed_left)
+head-answer None spaced start after rest = refl
+head-answer (Some n) spaced start after rest = refl
+
+head-outcome : (o : Option (List ℕ)) (after left : List ℕ) (roles : List Role) (rest : Run) → outcome rest ≡ accepted roles left → outcome (token_then (head_token o) after rest) ≡ accepted (head_role o ∷ roles) left
+head-outcome None after left roles rest e = ap (with_role any_type) e
+head-outcome (Some n) after left roles rest e = ap (with_role (of_type n)) e
+
+-- a head closes the left side
+pub head-closes : (o : Option (List ℕ)) → left_behind (head_token o) ≡ closed_left
+head-closes None = refl
+head-closes (Some n) = refl
+
+-- behind an open left side stands a head, after a gap
+pub head-opens : (edition : Edition) (o : Option (List ℕ)) (text tail left : List ℕ) (spaced : Bool) (roles : List Role) → IsTypeName edition o tail → gap text ≡ got spaced (type_text o ++ tail) → Goes edition tail roles left → outcome (run_from edition open_left text) ≡ accepted (head_role o ∷ roles) left
+head-opens edition o text tail left spaced roles w gapped g =
+    let start = type_text o ++ tail in
+    ap outcome (run_from-piece edition open_left text tail (piece_of spaced start (head_token o) tail) (piece-read edition text start tail spaced (head_token o) gapped (head-reads edition o tail w g.ends)))
+    ∙ ap outcome (head-answer o spaced start tail (λ l. run_from edition l tail))
+    ∙ head-outcome o tail left roles (run_from edition closed_left tail) g.runs
+
+-- what a compound satisfies that was read, where this text stands behind it, and its roles
+pub record IsCompound (edition : Edition) (c : Compound) (behind : List ℕ) : Type 0 where
+  pub head : IsTypeName edition c.name (flat_map subselector_text c.subselectors ++ behind)
+  pub others : EachIs edition c.subselectors
+
+-- the roles of a compound
+abbrev pub compound_roles : Compound → List Role
+compound_roles c = head_role c.name ∷ map with c.subselectors
+
+-- the roles of a component
+abbrev pub component_roles : Component → List Role
+component_roles c = joint c.combinator ∷ compound_roles c.compound
+
+-- the printed text of a compound
+abbrev pub compound_text : Compound → List ℕ
+compound_text c = type_text c.name ++ flat_map subselector_text c.subselectors
+
+-- the compound is clean
+abbrev pub is_clean_compound : Compound → Bool
+is_clean_compound c = list_all is_clean_subselector c.subselectors
+
+-- a combinator between two components
+abbrev pub Joins : Combinator → Type 0
+Joins none = ⊥
+Joins descendant = Unit {0}
+Joins child = Unit {0}
+Joins adjacent = Unit {0}
+
+-- what a component satisfies that was read behind another
+pub record IsJoined (edition : Edition) (c : Component) (behind : List ℕ) : Type 0 where
+  pub joins : Joins c.combinator
+  pub compound : IsCompound edition c.compound behind
+
+-- a printed compound, part by part
+pub compound-assoc : (c : Compound) (tail : List ℕ) → compound_text c ++ tail ≡ type_text c.name ++ (flat_map subselector_text c.subselectors ++ tail)
+compound-assoc c tail = append_assoc (type_text c.name) (flat_map subselector_text c.subselectors) tail
+
+-- no gap stands before a printed compound
+pub compound-no_gap : (edition : Edition) (c : Compound) (tail : List ℕ) → IsCompound edition c tail → NoGap (compound_text c ++ tail)
+compound-no_gap edition c tail w = subst NoGap (sym (compound-assoc c tail)) (head-no_gap edition c.name (flat_map subselector_text c.subselectors ++ tail) w.head)
+
+-- behind an open left side stands a compound, after a gap
+pub compound-opens : (edition : Edition) (c : Compound) (text tail left : List ℕ) (spaced : Bool) (roles : List Role) → IsCompound edition c tail → is_clean_compound c ≡ true → gap text ≡ got spaced (compound_text c ++ tail) → Goes edition tail roles left → outcome (run_from edition open_left text) ≡ accepted (compound_roles c ++ roles) left
+compound-opens edition c text tail left spaced roles w clean gapped g =
+    head-opens edition c.name text (flat_map subselector_text c.subselectors ++ tail) left spaced (map with c.subselectors ++ roles) w.head (gapped ∙ ap (got spaced) (compound-assoc c tail))
+    (subselectors-go edition c.subselectors tail left roles w.others clean g)
+
+compound-solid : (edition : Edition) (c : Compound) (tail left : List ℕ) (roles : List Role) → IsCompound edition c tail → is_clean_compound c ≡ true → Goes edition tail roles left → solid edition (compound_text c ++ tail) ≡ got (head_token c.name) (flat_map subselector_text c.subselectors ++ tail)
+compound-solid edition c tail left roles w clean g =
+    ap (solid edition) (compound-assoc c tail)
+    ∙ head-reads edition c.name (flat_map subselector_text c.subselectors ++ tail) w.head (subselectors-go edition c.subselectors tail left roles w.others clean g).ends
+
+solid-child : (edition : Edition) (text : List ℕ) → solid edition (62 ∷ text) ≡ got child_combinator text
+unfolding begun
+solid-child edition text = solid-begun edition 62 text refl refl refl
+
+solid-adjacent : (edition : Edition) (text : List ℕ) → solid edition (43 ∷ text) ≡ got adjacent_combinator text
+unfolding begun
+solid-adjacent edition text = solid-begun edition 43 text refl refl refl
+
+-- a child combinator between spaces
+pub child-run : (edition : Edition) (text : List ℕ) → run_from edition closed_left (32 ∷ 62 ∷ text) ≡ token_then child_combinator text (run_from edition open_left text)
+child-run edition text = run_from-piece edition closed_left (32 ∷ 62 ∷ text) text (piece_of true (62 ∷ text) child_combinator text) (piece-read edition (32 ∷ 62 ∷ text) (62 ∷ text) text true child_combinator (gap-space (62 ∷ text) (no_gap-byte 62 text refl refl)) (solid-child edition text))
+
+-- an adjacent combinator between spaces
+pub adjacent-run : (edition : Edition) (text : List ℕ) → run_from edition closed_left (32 ∷ 43 ∷ text) ≡ token_then adjacent_combinator text (run_from edition open_left text)
+adjacent-run edition text = run_from-piece edition closed_left (32 ∷ 43 ∷ text) text (piece_of true (43 ∷ text) adjacent_combinator text) (piece-read edition (32 ∷ 43 ∷ text) (43 ∷ text) text true adjacent_combinator (gap-space (43 ∷ text) (no_gap-byte 43 text refl refl)) (solid-adjacent edition text))
+
+-- the text of a component, by its combinator and its compound
+abbrev pub joined_text : Combinator → List ℕ → List ℕ
+joined_text none text = text
+joined_text descendant text = 32 ∷ text
+joined_text child text = 32 ∷ 62 ∷ 32 ∷ text
+joined_text adjacent text = 32 ∷ 43 ∷ 32 ∷ text
+
+-- a printed component, part by part
+pub component-assoc : (c : Component) (tail : List ℕ) → component_text c ++ tail ≡ joined_text c.combinator (compound_text c.compound ++ tail)
+component-assoc c tail = by c.combinator c.compound
+  where
+    by : (j : Combinator) (k : Compound) → component_text (record { combinator = j; compound = k }) ++ tail ≡ joined_text j (compound_text k ++ tail)
+    by none k = refl
+    by descendant k = refl
+    by child k = refl
+    by adjacent k = refl
+
+joined-goes : (edition : Edition) (j : Combinator) (c : Compound) (tail left : List ℕ) (roles : List Role) → Joins j → IsCompound edition c tail → is_clean_compound c ≡ true → Goes edition tail roles left → Goes edition (joined_text j (compound_text c ++ tail)) (joint j ∷ (compound_roles c ++ roles)) left
+joined-goes edition none c tail left roles n w clean g = absurd n
+joined-goes edition descendant c tail left roles n w clean g =
+    let text = compound_text c ++ tail in
+    let behind = flat_map subselector_text c.subselectors ++ tail in
+    let calm = compound-no_gap edition c tail w in
+    record {
+      ends = ends_low edition 32 text (omega arith) refl refl;
+      runs = ap outcome (descends-token edition (32 ∷ text) text behind (head_token c.name) (gap-space text calm) (compound-solid edition c tail left roles w clean g) (head-closes c.name))
+          ∙ ap (with_role (joint descendant)) (compound-opens edition c text tail left false roles w clean (gap-none text calm) g);
+    }
+joined-goes edition child c tail left roles n w clean g =
+    let text = compound_text c ++ tail in
+    record {
+      ends = ends_low edition 32 (62 ∷ 32 ∷ text) (omega arith) refl refl;
+      runs = ap outcome (child-run edition (32 ∷ text))
+          ∙ ap (with_role (joint child)) (compound-opens edition c (32 ∷ text) tail left true roles w clean (gap-space text (compound-no_gap edition c tail w)) g);
+    }
+joined-goes edition adjacent c tail left roles n w clean g =
+    let text = compound_text c ++ tail in
+    record {
+      ends = ends_low edition 32 (43 ∷ 32 ∷ text) (omega arith) refl refl;
+      runs = ap outcome (adjacent-run edition (32 ∷ text))
+          ∙ ap (with_role (joint adjacent)) (compound-opens edition c (32 ∷ text) tail left true roles w clean (gap-space text (compound-no_gap edition c tail w)) g);
+    }
+
+-- a printed component behind a simple piece
+pub component-goes : (edition : Edition) (c : Component) (tail left : List ℕ) (roles : List Role) → IsJoined edition c tail → is_clean_compound c.compound ≡ true → Goes edition tail roles left → Goes edition (component_text c ++ tail) (component_roles c ++ roles) left
+component-goes edition c tail left roles w clean g =
+    subst (λ (t : List ℕ). Goes edition t (component_roles c ++ roles) left) (sym (component-assoc c tail))
+    (joined-goes edition c.combinator c.compound tail left roles w.joins w.compound clean g)
+
+-- components behind another, where this text stands behind the last
+abbrev pub EachJoined : Edition → List Component → List ℕ → Type 0
+EachJoined edition [] behind = Unit {0}
+EachJoined edition (c ∷ cs) behind = IsJoined edition c (selector_text cs ++ behind) × EachJoined edition cs behind
+
+-- printed components, one after another
+pub components-go : (edition : Edition) (cs : List Component) (tail left : List ℕ) (roles : List Role) → EachJoined edition cs tail → is_clean cs ≡ true → Goes edition tail roles left → Goes edition (selector_text cs ++ tail) (flat_map component_roles cs ++ roles) left
+components-go edition [] tail left roles w clean g = g
+components-go edition (c ∷ cs) tail left roles w clean g =
+    let h = both_true (is_clean_compound c.compound) (is_clean cs) clean in
+    let more = components-go edition cs tail left roles w.1 h.1 g in
+    let here = component-goes edition c (selector_text cs ++ tail) left (flat_map component_roles cs ++ roles) w.0 h.0 more in
+    let text = append_assoc (component_text c) (selector_text cs) tail in
+    let roles_are = append_assoc (component_roles c) (flat_map component_roles cs) roles in
+    subst (λ (t : List ℕ). Goes edition t ((component_roles c ++ flat_map component_roles cs) ++ roles) left) (sym text)
+    (subst (λ (r : List Role). Goes edition (component_text c ++ (selector_text cs ++ tail)) r left) (sym roles_are) here)
+
+-- the components of the roles
+
+cut-subselectors : (ss : List Subselector) (roles : List Role) → cut (map with ss ++ roles) ≡ (map with ss ++ (cut roles).0, (cut roles).1)
+cut-subselectors [] roles = refl
+cut-subselectors (s ∷ ss) roles = ap (λ (r : List Role × List (Combinator × List Role)). (with s ∷ r.0, r.1)) (cut-subselectors ss roles)
+
+cut-compound : (c : Compound) (roles : List Role) → cut (compound_roles c ++ roles) ≡ (compound_roles c ++ (cut roles).0, (cut roles).1)
+cut-compound c roles = by c.name
+  where
+    by : (o : Option (List ℕ)) → cut (head_role o ∷ (map with c.subselectors ++ roles)) ≡ (head_role o ∷ (map with c.subselectors ++ (cut roles).0), (cut roles).1)
+    by None = ap (λ (r : List Role × List (Combinator × List Role)). (any_type ∷ r.0, r.1)) (cut-subselectors c.subselectors roles)
+    by (Some n) = ap (λ (r : List Role × List (Combinator × List Role)). (of_type n ∷ r.0, r.1)) (cut-subselectors c.subselectors roles)
+
+-- a component as it is cut out of the roles
+abbrev pub cut_component : Component → Combinator × List Role
+cut_component c = (c.combinator, compound_roles c.compound)
+
+cut-components : (cs : List Component) → cut (flat_map component_roles cs) ≡ ([], map cut_component cs)
+cut-components [] = refl
+cut-components (c ∷ cs) =
+    let more = cut-components cs in
+    let here : cut (compound_roles c.compound ++ flat_map component_roles cs) ≡ (compound_roles c.compound, map cut_component cs) =
+    cut-compound c.compound (flat_map component_roles cs)
+    ∙ ap (λ (r : List Role × List (Combinator × List Role)). (compound_roles c.compound ++ r.0, r.1)) more
+    ∙ ap (λ (l : List Role). (l, map cut_component cs)) (append-nil (compound_roles c.compound)) in
+    ap (λ (r : List Role × List (Combinator × List Role)). ([], (c.combinator, r.0) ∷ r.1)) here
+
+type-subselectors : (known : Option (List ℕ)) (ss : List Subselector) → type_among known (map with ss) ≡ known
+type-subselectors known [] = refl
+type-subselectors known (s ∷ ss) = type-subselectors known ss
+
+among-subselectors : (ss : List Subselector) → subselectors_among (map with ss) ≡ ss
+among-subselectors [] = refl
+among-subselectors (s ∷ ss) = ap (λ l. s ∷ l) (among-subselectors ss)
+
+component_of-cut : (j : Combinator) (c : Compound) → component_of (j, compound_roles c) ≡ record { combinator = j; compound = c }
+component_of-cut j c = by c.name c.subselectors
+  where
+    by : (o : Option (List ℕ)) (ss : List Subselector) → component_of (j, head_role o ∷ map with ss) ≡ record { combinator = j; compound = record { name = o; subselectors = ss } }
+    by None ss = let t = type-subselectors None ss in let s = among-subselectors ss in rw (t, s) refl
+    by (Some n) ss = let t = type-subselectors (Some n) ss in let s = among-subselectors ss in rw (t, s) refl
+
+components_of-cut : (cs : List Component) → map component_of (map cut_component cs) ≡ cs
+components_of-cut [] = refl
+components_of-cut (c ∷ cs) = ap (λ k. k ∷ map component_of (map cut_component cs)) (component_of-cut c.combinator c.compound) ∙ ap (λ l. c ∷ l) (components_of-cut cs)
+
+-- the components of a selector's roles are the selector
+pub components_of-roles : (c : Compound) (cs : List Component) → components_of (compound_roles c ++ flat_map component_roles cs) ≡ record { combinator = none; compound = c } ∷ cs
+components_of-roles c cs =
+    let parts : cut (compound_roles c ++ flat_map component_roles cs) ≡ (compound_roles c, map cut_component cs) =
+    cut-compound c (flat_map component_roles cs)
+    ∙ ap (λ (r : List Role × List (Combinator × List Role)). (compound_roles c ++ r.0, r.1)) (cut-components cs)
+    ∙ ap (λ (l : List Role). (l, map cut_component cs)) (append-nil (compound_roles c)) in
+    ap (λ (r : List Role × List (Combinator × List Role)). component_of (none, r.0) ∷ map component_of r.1) parts
+    ∙ ap (λ k. k ∷ map component_of (map cut_component cs)) (component_of-cut none c)
+    ∙ ap (λ l. record { combinator = none; compound = c } ∷ l) (components_of-cut cs)
+
+-- what a selector satisfies that was read, where this text stands behind it
+abbrev pub IsSelector : Edition → List Component → List ℕ → Type 0
+IsSelector edition [] behind = ⊥
+IsSelector edition (c ∷ cs) behind = (c.combinator ≡ none) × IsCompound edition c.compound (selector_text cs ++ behind) × EachJoined edition cs behind
+
+-- a printed selector from its compound on
+pub selector-reads : (edition : Edition) (c : Compound) (cs : List Component) (tail left : List ℕ) → IsCompound edition c (selector_text cs ++ tail) → EachJoined edition cs tail → is_clean (record { combinator = none; compound = c } ∷ cs) ≡ true → Goes edition tail [] left
+    → reads edition (selector_text (record { combinator = none; compound = c } ∷ cs) ++ tail) ≡ (Some (record { combinator = none; compound = c } ∷ cs), left)
+unfolding reads
+selector-reads edition c cs tail left w ws clean g =
+    let h = both_true (is_clean_compound c) (is_clean cs) clean in
+    let more = components-go edition cs tail left [] ws h.1 g in
+    let none_more : Goes edition (selector_text cs ++ tail) (flat_map component_roles cs) left = subst (λ (r : List Role). Goes edition (selector_text cs ++ tail) r left) (append-nil (flat_map component_roles cs)) more in
+    let text = append_assoc (compound_text c) (selector_text cs) tail in
+    let all = compound_text c ++ (selector_text cs ++ tail) in
+    ap (λ t. selector_of (outcome (run_of edition t))) text
+    ∙ ap selector_of (compound-opens edition c all (selector_text cs ++ tail) left false (flat_map component_roles cs) w h.0 (gap-none all (compound-no_gap edition c (selector_text cs ++ tail) w)) none_more)
+    ∙ ap (λ l. (Some l, left)) (components_of-roles c cs)
+
+-- A clean selector prints as a text that reads back as it, and leaves what does not go on with it.
+pub printed-reads : (edition : Edition) (s : List Component) (tail left : List ℕ) → IsSelector edition s tail → is_clean s ≡ true → Goes edition tail [] left → reads edition (selector_text s ++ tail) ≡ (Some s, left)
+printed-reads edition [] tail left w clean g = absurd w
+printed-reads edition (c ∷ cs) tail left w clean g =
+    subst (λ (k : Component). is_clean (k ∷ cs) ≡ true → reads edition (selector_text (k ∷ cs) ++ tail) ≡ (Some (k ∷ cs), left)) (ap (λ (j : Combinator). record { combinator = j; compound = c.compound }) (sym w.0))
+    (λ h. selector-reads edition c.compound cs tail left w.1 w.2 h g) clean
+
+-- what does not go on with a selector: the end, a stop, a slash that opens no comment, a space and a brace
+
+stop-outcome : (edition : Edition) (text start : List ℕ) (spaced : Bool) → gap text ≡ got spaced start → is_stop start ≡ true → outcome (run_from edition closed_left text) ≡ accepted [] start
+stop-outcome edition text start false g e = ap outcome (run_from-stop edition closed_left text start false g e)
+stop-outcome edition text start true g e = ap outcome (run_from-stop edition closed_left text start true g e)
+
+nil-no_gap : NoGap []
+nil-no_gap = record { none = each-none blank_part [] refl; closed = refl }
+
+-- the end of the text
+pub goes-end : (edition : Edition) → Goes edition [] [] []
+goes-end edition = record { ends = ends_names-nil edition; runs = stop-outcome edition [] [] false (gap-none [] nil-no_gap) refl }
+
+-- a comma
+pub goes-comma : (edition : Edition) (text : List ℕ) → Goes edition (44 ∷ text) [] (44 ∷ text)
+goes-comma edition text = record {
+  ends = ends_low edition 44 text (omega arith) refl refl;
+  runs = stop-outcome edition (44 ∷ text) (44 ∷ text) false (gap-none (44 ∷ text) (no_gap-byte 44 text refl refl)) (rw (some-length 44 text) refl);
+}
+
+-- an opening brace
+pub goes-brace : (edition : Edition) (text : List ℕ) → Goes edition (123 ∷ text) [] (123 ∷ text)
+goes-brace edition text = record {
+  ends = ends_low edition 123 text (omega arith) refl refl;
+  runs = stop-outcome edition (123 ∷ text) (123 ∷ text) false (gap-none (123 ∷ text) (no_gap-byte 123 text refl refl)) (rw (some-length 123 text) refl);
+}
+
+-- a space and an opening brace
+pub goes-space_brace : (edition : Edition) (text : List ℕ) → Goes edition (32 ∷ 123 ∷ text) [] (123 ∷ text)
+goes-space_brace edition text = record {
+  ends = ends_low edition 32 (123 ∷ text) (omega arith) refl refl;
+  runs = stop-outcome edition (32 ∷ 123 ∷ text) (123 ∷ text) true (gap-space (123 ∷ text) (no_gap-byte 123 text refl refl)) (rw (some-length 123 text) refl);
+}
+
+slash-no_gap : (text : List ℕ) → starts 42 text ≡ false → NoGap (47 ∷ text)
+slash-no_gap text e =
+    let part : blank_part (47 ∷ text) ≡ None = rw e refl in
+    record { none = each-none blank_part (47 ∷ text) part; closed = e }
+
+-- a slash that opens no comment
+pub goes-slash : (edition : Edition) (text : List ℕ) → starts 42 text ≡ false → Goes edition (47 ∷ text) [] (47 ∷ text)
+goes-slash edition text e = record {
+  ends = ends_low edition 47 text (omega arith) refl refl;
+  runs = ap outcome (run_from-slash edition closed_left (47 ∷ text) (47 ∷ text) false (gap-none (47 ∷ text) (slash-no_gap text e)) (rw (some-length 47 text) refl) refl);
+}

@@ -1,0 +1,145 @@
+-- What the solid pieces are that were read from a text.
+use Rattle.std.proofs.Common.{◌≡◌, ℕ, ◌⊎◌, inl, inr, List, [], ◌∷◌, ◌++◌, Bool, true, not, ◌||◌, ◌==◌, length, codes, bytes_eq, arith, refl, sym, ap, ◌∙◌, subst, IsUtf8}
+use Rattle.std.specs.Str.{trim}
+use Rattle.std.specs.List.{list_all, prefix_len, take_while}
+use Rattle.std.proofs.lemmas.List.{take-append-drop}
+use Rattle.simplecss_text.proofs.reading.EndsLaws.{before-append}
+use Rattle.simplecss_text.specs.Reading.{Reading, ended, no_language, no_selector, got, fails, before}
+use Rattle.simplecss_text.specs.Bytes.{starts, past, byte, all_before}
+use Rattle.simplecss_text.specs.Characters.{Edition}
+use Rattle.simplecss_text.specs.Names.{name}
+use Rattle.simplecss_text.specs.Components.{Operator}
+use Rattle.simplecss_text.specs.Tokens.{Token}
+use Rattle.simplecss_text.specs.Tokens.Token.{universal_selector, type_selector, id_selector, class_selector, attribute_selector, named_pseudo_class, lang_pseudo_class, descendant_combinator, child_combinator, adjacent_combinator}
+use Rattle.simplecss_text.specs.Pieces.{attribute_operator, attribute_after, lang_of, lang_after, pseudo_class_named, pseudo_class_after, named, begun, is_stop, solid}
+use Rattle.simplecss_text.proofs.printed.PrintedNames.{IsName, both_true}
+use Rattle.simplecss_text.proofs.printed.PrintedPieces.{IsValue, IsOperator, IsLanguage}
+use Rattle.simplecss_text.proofs.bytes.Utf8Laws.{utf8-past_byte, utf8-before_byte, utf8-behind_byte}
+use Rattle.simplecss_text.proofs.bytes.TrimLaws.{Trimmed, trim-is}
+use Rattle.simplecss_text.proofs.printed.GotLaws.{IfGot, if_got, if_got-follow, if_got-if, byte-is, same_begins}
+use Rattle.simplecss_text.proofs.printed.ReadNames.{ReadName, name-is, taken_pass}
+use Rattle.simplecss_text.proofs.printed.ReadValues.{name-value_is}
+use Rattle.simplecss_text.proofs.printed.ReadOperators.{GoodOperator, attribute_operator-gives}
+
+-- what a token satisfies that was read as a solid piece, where this is left behind it
+abbrev pub GoodToken : Edition → Token → List ℕ → Type 0
+GoodToken edition universal_selector rest = Unit {0}
+GoodToken edition (type_selector n) rest = IsName edition n ⊎ ((n ≡ 45 ∷ []) × (rest ≡ []))
+GoodToken edition (id_selector n) rest = IsValue n
+GoodToken edition (class_selector n) rest = IsValue n
+GoodToken edition (attribute_selector n o) rest = IsName edition n × IsOperator o
+GoodToken edition (named_pseudo_class n) rest = Unit {0}
+GoodToken edition (lang_pseudo_class v) rest = IsLanguage v
+GoodToken edition descendant_combinator rest = ⊥
+GoodToken edition child_combinator rest = Unit {0}
+GoodToken edition adjacent_combinator rest = Unit {0}
+
+-- and a text is left
+abbrev pub ReadToken : Edition → Token → List ℕ → Type 0
+ReadToken edition token rest = GoodToken edition token rest × IsUtf8 rest
+
+-- where a name was read
+name-gives : (edition : Edition) (text : List ℕ) → IsUtf8 text → IfGot (λ n rest. ReadName edition text n rest) (name edition text)
+name-gives edition text u = if_got (λ n rest. ReadName edition text n rest) (name edition text) (λ n rest e. name-is edition text n rest u e)
+
+-- a name that was read is a value of an attribute
+pub read_name-value : (edition : Edition) (text n rest : List ℕ) → ReadName edition text n rest → IsValue n
+read_name-value edition text n rest w = elim (w.is) [ inl i ↦ name-value_is edition n i | inr h ↦ subst IsValue (sym h.0) refl ]
+
+named-gives : (edition : Edition) (token : List ℕ → Token) (text : List ℕ) → ((n rest : List ℕ) → ReadName edition text n rest → GoodToken edition (token n) rest) → IsUtf8 text → IfGot (ReadToken edition) (named edition token text)
+unfolding named
+named-gives edition token text each u =
+    if_got-follow (λ n rest. ReadName edition text n rest) (ReadToken edition) (name edition text) (λ n. got (token n)) (name-gives edition text u) (λ n rest w. (each n rest w, w.rest_is))
+
+-- a name that more stands behind is no lone hyphen
+name_before : (edition : Edition) (text n rest : List ℕ) → ReadName edition text n rest → (rest ≡ [] → ⊥) → IsName edition n
+name_before edition text n rest w some = elim (w.is) [ inl i ↦ i | inr h ↦ absurd (some h.1) ]
+
+operator-nil : (edition : Edition) → attribute_operator edition [] ≡ fails ended []
+unfolding attribute_operator
+operator-nil edition = refl
+
+-- where an operator was read, the text had not ended
+operator_text_is : (edition : Edition) (rest : List ℕ) → IfGot (λ o next. rest ≡ [] → ⊥) (attribute_operator edition rest)
+operator_text_is edition rest =
+    if_got (λ o next. rest ≡ [] → ⊥) (attribute_operator edition rest) (λ o next e h.
+    let both : Path (Reading Operator) (fails ended []) (got o next) = sym (operator-nil edition) ∙ ap (attribute_operator edition) (sym h) ∙ e in absurd (cc))
+
+both_got : {A : Type 0} (P Q : A → List ℕ → Type 0) (r : Reading A) → IfGot P r → IfGot Q r → IfGot (λ x rest. P x rest × Q x rest) r
+both_got P Q (got x rest) p q = (p, q)
+both_got P Q (fails fault rest) p q = tt
+
+attribute_after-gives : (edition : Edition) (text : List ℕ) → IsUtf8 text → IfGot (ReadToken edition) (attribute_after edition text)
+unfolding attribute_after
+attribute_after-gives edition text u =
+    if_got-follow (λ n rest. ReadName edition text n rest) (ReadToken edition) (name edition text) _ (name-gives edition text u) (λ n rest w.
+    if_got-follow (λ o next. GoodOperator o next × (rest ≡ [] → ⊥)) (ReadToken edition) (attribute_operator edition rest) _
+    (both_got GoodOperator (λ o next. rest ≡ [] → ⊥) (attribute_operator edition rest) (attribute_operator-gives edition rest w.rest_is) (operator_text_is edition rest))
+    (λ o next x.
+    if_got-follow (λ y last. next ≡ 93 ∷ last) (ReadToken edition) (byte 93 next) (λ y. got (attribute_selector n o)) (byte-is 93 next) (λ y last e.
+    ((name_before edition text n rest w x.1, x.0.0), utf8-past_byte 93 last (omega arith) (subst IsUtf8 e x.0.1)))))
+
+-- what stands before a byte, and the text from there on
+abbrev StandsBefore : List ℕ → List ℕ → List ℕ → Type 0
+StandsBefore text value rest = (text ≡ value ++ rest) × (list_all (λ b. not (b == 41)) value ≡ true)
+
+all_before-is : (text : List ℕ) → IfGot (StandsBefore text) (all_before 41 text)
+all_before-is text =
+    let test = λ (b : ℕ). not (b == 41) in
+    let front = take_while test text in
+    let rest = past test text in
+    let is : text ≡ front ++ rest = sym (take-append-drop (prefix_len test text) text) in
+    let value : before text rest ≡ front = ap (λ t. before t rest) is ∙ before-append front rest in
+    rw value (is, taken_pass test text)
+
+parts_all : (test : ℕ → Bool) (a b : List ℕ) → list_all test (a ++ b) ≡ true → (list_all test a ≡ true) × (list_all test b ≡ true)
+parts_all test [] b h = (refl, h)
+parts_all test (c ∷ a) b h =
+    let here = both_true (test c) (list_all test (a ++ b)) h in
+    let more = parts_all test a b here.1 in
+    (rw (here.0, more.0) refl, more.1)
+
+inside_all : (test : ℕ → Bool) (v inside : List ℕ) → Trimmed v inside → list_all test v ≡ true → list_all test inside ≡ true
+inside_all test v inside w h =
+    let first = parts_all test w.front (inside ++ w.behind) (ap (list_all test) (sym w.is) ∙ h) in
+    (parts_all test inside w.behind first.1).0
+
+lang_of-gives : (edition : Edition) (v text : List ℕ) → IsUtf8 v → list_all (λ b. not (b == 41)) v ≡ true → IsUtf8 text → IfGot (ReadToken edition) (lang_of (trim v) text)
+lang_of-gives edition v text u h t =
+    let w = trim-is v u in
+    if_got-if (ReadToken edition) (length (trim v) == 0) (fails no_language text) (got (lang_pseudo_class (trim v)) text) (λ e. tt)
+    (λ e. (record { trimmed = w.again; some = e; within = inside_all (λ b. not (b == 41)) v (trim v) w h }, t))
+
+lang_after-gives : (edition : Edition) (text : List ℕ) → IsUtf8 text → IfGot (ReadToken edition) (lang_after text)
+unfolding lang_after
+lang_after-gives edition text u =
+    if_got-follow (λ x rest. text ≡ 40 ∷ rest) (ReadToken edition) (byte 40 text) _ (byte-is 40 text) (λ x rest e.
+    if_got-follow (StandsBefore rest) (ReadToken edition) (all_before 41 rest) _ (all_before-is rest) (λ value next w.
+    if_got-follow (λ y last. next ≡ 41 ∷ last) (ReadToken edition) (byte 41 next) _ (byte-is 41 next) (λ y last f.
+    let all : IsUtf8 (value ++ (41 ∷ last)) = subst IsUtf8 (w.0 ∙ ap (λ l. value ++ l) f) (utf8-past_byte 40 rest (omega arith) (subst IsUtf8 e u)) in
+    lang_of-gives edition value last (utf8-before_byte value 41 last (omega arith) all) w.1 (utf8-behind_byte value 41 last (omega arith) all))))
+
+pseudo_class_after-gives : (edition : Edition) (text : List ℕ) → IsUtf8 text → IfGot (ReadToken edition) (pseudo_class_after edition text)
+unfolding pseudo_class_after
+pseudo_class_after-gives edition text u =
+    if_got-follow (λ n rest. ReadName edition text n rest) (ReadToken edition) (name edition text) pseudo_class_named (name-gives edition text u) (λ n rest w.
+    if_got-if (ReadToken edition) (bytes_eq n (codes "lang")) (lang_after rest) (got (named_pseudo_class n) rest) (λ e. lang_after-gives edition rest w.rest_is) (λ e. (tt, w.rest_is)))
+
+begun-gives : (edition : Edition) (text : List ℕ) → IsUtf8 text → IfGot (ReadToken edition) (begun edition text)
+unfolding begun
+begun-gives edition [] u = named-gives edition type_selector [] (λ n rest w. w.is) u
+begun-gives edition (b ∷ text) u =
+    let P = ReadToken edition in
+    if_got-if P (b == 62) (got child_combinator text) _ (λ e. (tt, utf8-past_byte 62 text (omega arith) (same_begins b 62 text e u))) (λ e0.
+    if_got-if P (b == 43) (got adjacent_combinator text) _ (λ e. (tt, utf8-past_byte 43 text (omega arith) (same_begins b 43 text e u))) (λ e1.
+    if_got-if P (b == 42) (got universal_selector text) _ (λ e. (tt, utf8-past_byte 42 text (omega arith) (same_begins b 42 text e u))) (λ e2.
+    if_got-if P (b == 35) (named edition id_selector text) _ (λ e. named-gives edition id_selector text (λ n rest w. read_name-value edition text n rest w) (utf8-past_byte 35 text (omega arith) (same_begins b 35 text e u))) (λ e3.
+    if_got-if P (b == 46) (named edition class_selector text) _ (λ e. named-gives edition class_selector text (λ n rest w. read_name-value edition text n rest w) (utf8-past_byte 46 text (omega arith) (same_begins b 46 text e u))) (λ e4.
+    if_got-if P (b == 91) (attribute_after edition text) _ (λ e. attribute_after-gives edition text (utf8-past_byte 91 text (omega arith) (same_begins b 91 text e u))) (λ e5.
+    if_got-if P (b == 58) (pseudo_class_after edition text) (named edition type_selector (b ∷ text)) (λ e. pseudo_class_after-gives edition text (utf8-past_byte 58 text (omega arith) (same_begins b 58 text e u))) (λ e6.
+    named-gives edition type_selector (b ∷ text) (λ n rest w. w.is) u)))))))
+
+-- a solid piece that was read from a text
+pub solid-gives : (edition : Edition) (text : List ℕ) → IsUtf8 text → IfGot (ReadToken edition) (solid edition text)
+unfolding solid
+solid-gives edition text u = if_got-if (ReadToken edition) (is_stop text || starts 47 text) (fails no_selector text) (begun edition text) (λ e. tt) (λ e. begun-gives edition text u)

@@ -1,0 +1,58 @@
+-- What a value is that was read as a string.
+use Rattle.std.proofs.Common.{◌≡◌, ℕ, ◌<◌, List, [], ◌∷◌, ◌++◌, Bool, true, false, if◌then◌else◌, ◌&&◌, not, ◌==◌, refl, sym, ap, ◌∙◌, subst, Option, Some, None, IsUtf8}
+use Rattle.simplecss_text.proofs.reading.EndsLaws.{before-append}
+use Rattle.simplecss_text.specs.Reading.{before}
+use Rattle.simplecss_text.specs.Strings.{from_quote, string_up_to, string_after}
+use Rattle.simplecss_text.proofs.printed.PrintedPieces.{last_after, IsValue}
+use Rattle.simplecss_text.proofs.printed.PrintedHeads.{same_byte}
+use Rattle.simplecss_text.proofs.bytes.Utf8Laws.{utf8-behind_byte}
+use Rattle.simplecss_text.proofs.printed.GotLaws.{IfGot}
+
+-- where the closing quote stands: what is in front of it ends with no backslash
+pub record Closes (quote previous : ℕ) (text closing : List ℕ) : Type 0 where
+  pub front : List ℕ
+  pub behind : List ℕ
+  pub closing_is : closing ≡ quote ∷ behind
+  pub is : text ≡ front ++ (quote ∷ behind)
+  pub open_end : (last_after previous front == 92) ≡ false
+
+both_parts : (a b : Bool) → (a && not b) ≡ true → (a ≡ true) × (b ≡ false)
+both_parts true true h = absurd (cc)
+both_parts true false h = (refl, refl)
+both_parts false b h = absurd (cc)
+
+-- where a closing quote was found, it closes
+abbrev pub IfCloses : (quote previous : ℕ) → List ℕ → Option (List ℕ) → Type 0
+IfCloses quote previous text None = Unit {0}
+IfCloses quote previous text (Some closing) = Closes quote previous text closing
+
+closes-later : (quote previous b : ℕ) (text : List ℕ) (o : Option (List ℕ)) → IfCloses quote b text o → IfCloses quote previous (b ∷ text) o
+closes-later quote previous b text None h = tt
+closes-later quote previous b text (Some closing) h = record { front = b ∷ h.front; behind = h.behind; closing_is = h.closing_is; is = ap (λ l. b ∷ l) h.is; open_end = h.open_end }
+
+-- the closing quote that is found closes the string
+pub from_quote-closes : (quote previous : ℕ) (text : List ℕ) → IfCloses quote previous text (from_quote quote previous text)
+from_quote-closes quote previous [] = tt
+from_quote-closes quote previous (b ∷ text) = by (b == quote && not (previous == 92)) refl (from_quote-closes quote b text)
+  where
+    by : (t : Bool) → (b == quote && not (previous == 92)) ≡ t → IfCloses quote b text (from_quote quote b text) → IfCloses quote previous (b ∷ text) (if t then Some (b ∷ text) else from_quote quote b text)
+    by true h more =
+        let known = both_parts (b == quote) (previous == 92) h in
+        let same = ap (λ k. k ∷ text) (same_byte b quote known.0) in
+        record { front = []; behind = text; closing_is = same; is = same; open_end = known.1 }
+    by false h more = closes-later quote previous b text (from_quote quote b text) more
+
+quote_start : (quote : ℕ) (front : List ℕ) → (last_after quote front == 92) ≡ false → IsValue front
+quote_start quote [] h = refl
+quote_start quote (b ∷ front) h = h
+
+-- a string's value ends with no backslash, and what stands behind the closing quote is a text
+pub string_after-gives : (quote : ℕ) (text : List ℕ) → quote < 128 → IsUtf8 text → IfGot (λ v rest. IsValue v × IsUtf8 rest) (string_after quote text)
+string_after-gives quote text low u = by (from_quote quote quote text) (from_quote-closes quote quote text)
+  where
+    by : (o : Option (List ℕ)) → IfCloses quote quote text o → IfGot (λ v rest. IsValue v × IsUtf8 rest) (string_up_to text o)
+    by None c = tt
+    by (Some closing) c =
+        let value : before text closing ≡ c.front = ap (λ t. before t closing) (c.is ∙ ap (λ l. c.front ++ l) (sym c.closing_is)) ∙ before-append c.front closing in
+        let left = utf8-behind_byte c.front quote c.behind low (subst IsUtf8 c.is u) in
+        rw (value, c.closing_is) (quote_start quote c.front c.open_end, left)

@@ -1,0 +1,318 @@
+-- What each reader leaves is an end of the text, and what it gives stands before that end.
+use Rattle.std.proofs.Common.{◌≡◌, ℕ, ◌<◌, ◌+◌, List, [], ◌∷◌, ◌++◌, Bool, true, false, if◌then◌else◌, ◌||◌, ◌&&◌, ◌==◌, not, bytes_eq, length, take, drop, get_or, Option, Some, None, arith, refl, sym, ap, ◌∙◌, subst, encode_utf8_all, codes, append_assoc, append-nil, IsUtf8, length-append, length-drop, cond, ◌⊎◌, inl, inr}
+use Rattle.std.specs.Str.{chars, trim, trim_start, trim_end, skip_leading_whitespace, drop_trailing_whitespace, all_scalars, IsCharBoundary}
+use Rattle.std.specs.Char.{is_whitespace}
+use Rattle.std.specs.Option.{option_map}
+use Rattle.std.specs.List.{prefix_len, take_while}
+use Rattle.std.proofs.lemmas.Str.{encodes-append, encodes-chars, scalars-chars, chars-encodes, IsUtf8-take, IsUtf8-drop, IsCharBoundary-end, IsCharBoundary-after_ascii, IsCharBoundary-before_ascii}
+use Rattle.std.proofs.lemmas.List.Sums.{prefix_len_stops, prefix_len-le-length}
+use Rattle.std.proofs.Math.Seq.{get_or-append_seam, drop-append-add}
+use Rattle.std.proofs.lemmas.Bool.{eqb-true, not-false}
+use Rattle.std.proofs.Math.Nat.{eq-or-lt_of_le}
+use Rattle.std.proofs.lemmas.Slice.Eq.{bytes_eq-Decides}
+use Rattle.simplecss_text.specs.Reading.{no_name, no_comment, no_selector, no_language, wrong_byte, Reading, got, fails, before, Ends}
+use Rattle.simplecss_text.specs.Bytes.{past, past_one, past_byte, byte, closed_or, starts_two, starts}
+use Rattle.simplecss_text.specs.Characters.{Edition, is_name_char, is_space}
+use Rattle.simplecss_text.specs.Comments.{opens_comment, after_close, after_comment, comment, blank_part, past_blank, blank, has_space, gap}
+use Rattle.simplecss_text.specs.Names.{begins_name, past_name_chars, name}
+use Rattle.simplecss_text.specs.Strings.{is_quote, from_quote, string_up_to, string_or_name}
+use Rattle.simplecss_text.specs.Slices.{StandBetween}
+use Rattle.simplecss_text.specs.Components.{Operator}
+use Rattle.simplecss_text.specs.Components.Operator.{equals, has_word, begins_with}
+use Rattle.simplecss_text.specs.Tokens.{Token, token_texts, operator_texts}
+use Rattle.simplecss_text.specs.Tokens.Token.{universal_selector, type_selector, id_selector, class_selector, attribute_selector, named_pseudo_class, lang_pseudo_class, child_combinator, adjacent_combinator}
+use Rattle.simplecss_text.specs.Pieces.{attribute_operator, equated, attribute_after, lang_of, lang_after, pseudo_class_named, pseudo_class_after, named, begun, is_stop, solid}
+use Rattle.simplecss_text.proofs.reading.EndsLaws.{before-append, ends-append, ends-by, ends-same, ends-nil, ends-drop, ends-cons, ends-tail, ends-past_one, ends-past_byte, ends-past, EndsSome, ends_some-if, ends_some-ends, EndsFound, each-ends, stand-from, stand-to, stand-ends, stand-before, Stands, no_texts, itself, stands-unseen, stands-from, stands-if, stands-then, stands-follow}
+
+-- ---- bytes, comments and blanks
+
+pub byte-stands : (c : ℕ) (text : List ℕ) → Stands text no_texts (byte c text)
+byte-stands c [] = record { at = ends-same [] }
+byte-stands c (b ∷ text) = stands-if (b ∷ text) no_texts (b == c) (got (tt {0}) text) (fails (wrong_byte c (b ∷ text)) (b ∷ text)) (record { at = ends-tail b text }) (record { at = ends-same (b ∷ text) })
+
+pub after_close-ends : (text : List ℕ) → EndsSome text (after_close text)
+after_close-ends [] = tt
+after_close-ends (b ∷ text) =
+    ends_some-if (b ∷ text) (starts_two 42 47 (b ∷ text)) (Some (past_one text)) (after_close text)
+    (ends-cons b text (past_one text) (ends-past_one text))
+    (ends_some-ends (b ∷ text) text (after_close text) (ends-tail b text) (after_close-ends text))
+
+pub after_comment-ends : (text : List ℕ) → EndsSome text (after_comment text)
+after_comment-ends text = ends_some-ends text (drop 2 text) (after_comment text) (ends-drop 2 text) (after_close-ends (drop 2 text))
+
+pub comment-stands : (text : List ℕ) → Stands text no_texts (comment text)
+unfolding comment
+comment-stands text = by (opens_comment text) (after_comment text) (after_comment-ends text)
+  where
+    by : (t : Bool) (o : Option (List ℕ)) → EndsSome text o → Stands text no_texts (if t then closed_or (no_comment text) o else fails (no_comment text) (past_byte 47 text))
+    by true None h = record { at = ends-nil text }
+    by true (Some rest) h = record { at = h }
+    by false o h = record { at = ends-past_byte 47 text }
+
+pub blank_part-ends : (text : List ℕ) → EndsFound text (blank_part text)
+blank_part-ends [] = tt
+blank_part-ends (b ∷ text) = by (is_space b) (opens_comment (b ∷ text)) (after_comment (b ∷ text)) (after_comment-ends (b ∷ text))
+  where
+    by : (s o : Bool) (c : Option (List ℕ)) → EndsSome (b ∷ text) c → EndsFound (b ∷ text) (if s then Some (true, text) else (if o then option_map (λ rest. (false, rest)) c else None))
+    by true o c h = ends-tail b text
+    by false true None h = tt
+    by false true (Some rest) h = h
+    by false false c h = tt
+
+pub ends-past_blank : (text : List ℕ) → Ends text (past_blank text)
+ends-past_blank text = each-ends blank_part blank_part-ends text
+
+pub blank-stands : (text : List ℕ) → Stands text no_texts (blank text)
+unfolding blank
+blank-stands text =
+    stands-if text no_texts (opens_comment (past_blank text)) (fails (no_comment (past_blank text)) []) (got (tt {0}) (past_blank text))
+    (record { at = ends-nil text }) (record { at = ends-past_blank text })
+
+pub gap-stands : (text : List ℕ) → Stands text no_texts (gap text)
+unfolding gap
+gap-stands text = stands-follow text no_texts no_texts (blank text) (λ u. got (has_space text)) (blank-stands text) (λ u rest e h. record { at = h })
+
+-- ---- names and values
+
+pub ends-past_name_chars : (edition : Edition) (text : List ℕ) → Ends text (past_name_chars edition text)
+unfolding past_name_chars
+ends-past_name_chars edition text = ends-drop (length (encode_utf8_all (take_while (is_name_char edition) (chars text)))) text
+
+pub name-stands : (edition : Edition) (text : List ℕ) → Stands text itself (name edition text)
+unfolding name
+name-stands edition text =
+    stands-if text itself (begins_name edition (chars text)) (got (before text (past_name_chars edition text)) (past_name_chars edition text)) (fails (no_name text) (past_byte 45 text))
+    (record { at = stand-before text (past_name_chars edition text) (ends-past_name_chars edition text) }) (record { at = ends-past_byte 45 text })
+
+pub from_quote-ends : (quote previous : ℕ) (text : List ℕ) → EndsSome text (from_quote quote previous text)
+from_quote-ends quote previous [] = tt
+from_quote-ends quote previous (b ∷ text) =
+    ends_some-if (b ∷ text) (b == quote && not (previous == 92)) (Some (b ∷ text)) (from_quote quote b text) (ends-same (b ∷ text))
+    (ends_some-ends (b ∷ text) text (from_quote quote b text) (ends-tail b text) (from_quote-ends quote b text))
+
+pub string_up_to-stands : (text : List ℕ) (o : Option (List ℕ)) → EndsSome text o → Stands text itself (string_up_to text o)
+string_up_to-stands text None h = record { at = ends-nil text }
+string_up_to-stands text (Some closing) h = record { at = stand-to text closing (past_one closing) (before text closing ∷ []) (stand-before text closing h) (ends-past_one closing) }
+
+pub string_or_name-stands : (edition : Edition) (text : List ℕ) → Stands text itself (string_or_name edition text)
+unfolding string_or_name
+string_or_name-stands edition [] = record { at = ends-same [] }
+string_or_name-stands edition (b ∷ text) =
+    stands-if (b ∷ text) itself (is_quote b) (string_up_to text (from_quote b b text)) (name edition (b ∷ text))
+    (stands-from (b ∷ text) text itself (string_up_to text (from_quote b b text)) (ends-tail b text) (string_up_to-stands text (from_quote b b text) (from_quote-ends b b text)))
+    (name-stands edition (b ∷ text))
+
+-- ---- attributes
+
+equated-stands : (edition : Edition) (operator : List ℕ → Operator) → ((value : List ℕ) → operator_texts (operator value) ≡ itself value) → (text : List ℕ) → Stands text operator_texts (equated edition operator text)
+equated-stands edition operator is text =
+    stands-follow text no_texts operator_texts (byte 61 text) _ (byte-stands 61 text) (λ u rest e h.
+    stands-from text rest operator_texts _ h
+    (stands-follow rest itself operator_texts (string_or_name edition rest) (λ value. got (operator value)) (string_or_name-stands edition rest) (λ value last f k.
+    record { at = subst (StandBetween rest last) (sym (is value)) k })))
+
+pub attribute_operator-stands : (edition : Edition) (text : List ℕ) → Stands text operator_texts (attribute_operator edition text)
+unfolding attribute_operator
+attribute_operator-stands edition [] = record { at = ends-same [] }
+attribute_operator-stands edition (b ∷ text) =
+    stands-if (b ∷ text) operator_texts (b == 93) _ _ (record { at = ends-same (b ∷ text) })
+    (stands-if (b ∷ text) operator_texts (b == 61) _ _ (equated-stands edition equals (λ v. refl) (b ∷ text))
+    (stands-if (b ∷ text) operator_texts (b == 126) _ _ (stands-from (b ∷ text) text operator_texts (equated edition has_word text) (ends-tail b text) (equated-stands edition has_word (λ v. refl) text))
+    (stands-if (b ∷ text) operator_texts (b == 124) _ _ (stands-from (b ∷ text) text operator_texts (equated edition begins_with text) (ends-tail b text) (equated-stands edition begins_with (λ v. refl) text))
+    (record { at = ends-same (b ∷ text) }))))
+
+pub attribute_after-stands : (edition : Edition) (text : List ℕ) → Stands text token_texts (attribute_after edition text)
+unfolding attribute_after
+attribute_after-stands edition text =
+    stands-follow text itself token_texts (name edition text) _ (name-stands edition text) (λ n rest e h.
+    stands-then text rest (itself n) operator_texts token_texts (attribute_operator edition rest) _ h (attribute_operator-stands edition rest) (λ operator next f k.
+    stands-then text next (n ∷ operator_texts operator) no_texts token_texts (byte 93 next) (λ u. got (attribute_selector n operator)) k (byte-stands 93 next) (λ u last g l.
+    record { at = subst (StandBetween text last) (append-nil (n ∷ operator_texts operator)) l })))
+
+-- ---- languages
+
+-- behind an ASCII character stands the UTF-8 of some characters
+pub utf8-behind : (text rest : List ℕ) (b : ℕ) → b < 128 → IsUtf8 text → Ends text (b ∷ rest) → IsUtf8 rest
+utf8-behind text rest b ascii u e =
+    let front = before text (b ∷ rest) in
+    let at : get_or text (length front) 0 ≡ b = ap (λ (t : List ℕ). get_or t (length front) 0) (sym e) ∙ get_or-append_seam front b rest 0 in
+    let len : length front + length (b ∷ rest) ≡ length text = sym (length-append front (b ∷ rest)) ∙ ap length e in
+    let left : drop (length front + 1) text ≡ rest = ap (drop (length front + 1)) (sym e) ∙ drop-append-add front (b ∷ rest) 1 in
+    let cut : IsCharBoundary text (length front + 1) = IsCharBoundary-after_ascii text (length front) u (omega arith) (omega arith) in
+    subst IsUtf8 left (IsUtf8-drop text (length front + 1) u cut)
+
+-- so does what stands before the first such byte
+utf8-before : (text : List ℕ) (c : ℕ) → c < 128 → IsUtf8 text → IsUtf8 (take (prefix_len (λ b. not (b == c)) text) text)
+utf8-before text c ascii u = IsUtf8-take text k u (by (eq-or-lt_of_le (prefix_len-le-length other text)))
+  where
+    other : ℕ → Bool
+    other b = not (b == c)
+
+    k : ℕ
+    k = prefix_len other text
+
+    by : (k ≡ length text) ⊎ (k < length text) → IsCharBoundary text k
+    by (inl all) = subst (IsCharBoundary text) (sym all) (IsCharBoundary-end text)
+    by (inr some) =
+        let closing : get_or text k 0 ≡ c = eqb-true (get_or text k 0) c (not-false (get_or text k 0 == c) (prefix_len_stops other text 0 some)) in
+        IsCharBoundary-before_ascii text k some (omega arith)
+
+-- what trim leaves stands between the white space at both ends
+skip-case : (c : ℕ) (cs k w : List ℕ) (t : Bool) → cs ≡ w ++ k → (v : List ℕ) × (c ∷ cs ≡ v ++ cond t k (c ∷ cs))
+skip-case c cs k w true is = (c ∷ w, ap (λ x. c ∷ x) is)
+skip-case c cs k w false is = ([], refl)
+
+skip-leading : (cs : List ℕ) → (w : List ℕ) × (cs ≡ w ++ skip_leading_whitespace cs)
+skip-leading [] = ([], refl)
+skip-leading (c ∷ cs) = let rest = skip-leading cs in skip-case c cs (skip_leading_whitespace cs) rest.0 (is_whitespace c) rest.1
+
+drop-case : (c : ℕ) (cs k w : List ℕ) (t : Bool) → cs ≡ k ++ w → (v : List ℕ) × (c ∷ cs ≡ cond t [] (c ∷ k) ++ v)
+drop-case c cs k w true is = (c ∷ cs, refl)
+drop-case c cs k w false is = (w, ap (λ x. c ∷ x) is)
+
+drop-trailing : (cs : List ℕ) → (v : List ℕ) × (cs ≡ drop_trailing_whitespace cs ++ v)
+drop-trailing [] = ([], refl)
+drop-trailing (c ∷ cs) = let rest = drop-trailing cs in drop-case c cs (drop_trailing_whitespace cs) rest.0 (is_whitespace c && length (drop_trailing_whitespace cs) == 0) rest.1
+
+second-true : (a b : Bool) → (a && b) ≡ true → b ≡ true
+second-true true b h = h
+second-true false b h = absurd (cc)
+
+scalars-rest : (w x : List ℕ) → all_scalars (w ++ x) ≡ true → all_scalars x ≡ true
+scalars-rest [] x h = h
+scalars-rest (c ∷ w) x h = scalars-rest w x (second-true _ (all_scalars (w ++ x)) h)
+
+-- a text is what its trim takes off its front, what is left of it, and what the trim takes off its end
+pub trim-parts : (bs : List ℕ) → IsUtf8 bs → (a : List ℕ) × (c : List ℕ) × (bs ≡ a ++ (trim bs ++ c))
+unfolding trim_start trim_end
+trim-parts bs u =
+    let cs = chars bs in
+    let k = skip_leading_whitespace cs in
+    let d = drop_trailing_whitespace k in
+    let front = skip-leading cs in
+    let back = drop-trailing k in
+    let good : all_scalars k ≡ true = scalars-rest front.0 k (sym (ap all_scalars front.1) ∙ scalars-chars bs u) in
+    let trimmed : trim bs ≡ encode_utf8_all d = ap (λ x. encode_utf8_all (drop_trailing_whitespace x)) (chars-encodes k good) in
+    (encode_utf8_all front.0, encode_utf8_all back.0, sym (encodes-chars bs u) ∙ ap encode_utf8_all front.1 ∙ encodes-append front.0 k ∙ ap (λ x. encode_utf8_all front.0 ++ x) (ap encode_utf8_all back.1 ∙ encodes-append d back.0 ∙ ap (λ x. x ++ encode_utf8_all back.0) (sym trimmed)))
+
+-- a trimmed text stands in it
+pub stand-trim : (text rest : List ℕ) → Ends text rest → IsUtf8 (before text rest) → StandBetween text rest (trim (before text rest) ∷ [])
+stand-trim text rest e u =
+    let v = before text rest in
+    let cut = trim-parts v u in
+    let a = cut.0 in
+    let c = cut.1 in
+    let whole : a ++ (trim v ++ (c ++ rest)) ≡ text =
+    ap (λ t. a ++ t) (sym (append_assoc (trim v) c rest)) ∙ sym (append_assoc a (trim v ++ c) rest) ∙ ap (λ t. t ++ rest) (sym cut.2) ∙ e in
+    (trim v ++ (c ++ rest), c ++ rest, ends-by text a (trim v ++ (c ++ rest)) whole, ends-append (trim v) (c ++ rest), sym (before-append (trim v) (c ++ rest)), ends-append c rest)
+
+-- the language in the parentheses of a `:lang`, up to the closing one
+pub language-stands : (text : List ℕ) → IsUtf8 text → StandBetween text (past (λ b. not (b == 41)) text) (trim (before text (past (λ b. not (b == 41)) text)) ∷ [])
+language-stands text u =
+    let k = prefix_len (λ b. not (b == 41)) text in
+    let same : before text (past (λ b. not (b == 41)) text) ≡ take k text = ap (λ n. take n text) (omega (arith, length-drop k text, prefix_len-le-length (λ b. not (b == 41)) text)) in
+    stand-trim text (past (λ b. not (b == 41)) text) (ends-past (λ b. not (b == 41)) text) (subst IsUtf8 (sym same) (utf8-before text 41 (omega arith) u))
+
+-- ---- pieces
+
+-- Which texts of a token are to be seen, of texts that are good. Of one that need not be the UTF-8 of characters a
+-- language may be trimmed to what does not stand in it, so there no texts are seen.
+pub record Sees (Good : List ℕ → Type 0) (texts : Token → List (List ℕ)) : Type 0 where
+  pub behind : (text rest : List ℕ) (b : ℕ) → b < 128 → Good text → Ends text (b ∷ rest) → Good rest
+  pub seen : (text : List ℕ) (r : Reading Token) → Stands text token_texts r → Stands text texts r
+  pub language : (text : List ℕ) → Good text → StandBetween text (past (λ b. not (b == 41)) text) (texts (lang_pseudo_class (trim (before text (past (λ b. not (b == 41)) text)))))
+
+-- any text
+abbrev pub Any : List ℕ → Type 0
+Any text = Unit {0}
+
+pub sees_nothing : Sees Any no_texts
+sees_nothing = record {
+  behind = λ text rest b a g e. tt;
+  seen = λ text r h. stands-unseen text token_texts r h;
+  language = λ text g. ends-past (λ b. not (b == 41)) text;
+}
+
+pub sees_texts : Sees IsUtf8 token_texts
+sees_texts = record {
+  behind = utf8-behind;
+  seen = λ text r h. h;
+  language = language-stands;
+}
+
+byte-is : (c : ℕ) (text rest : List ℕ) (u : Unit {0}) → byte c text ≡ got u rest → text ≡ c ∷ rest
+byte-is c [] rest u e = absurd (cc)
+byte-is c (b ∷ text) rest u e = by (b == c) refl e
+  where
+    by : (t : Bool) → (b == c) ≡ t → (if t then got (tt {0}) text else fails (wrong_byte c (b ∷ text)) (b ∷ text)) ≡ got u rest → b ∷ text ≡ c ∷ rest
+    by true t e = let same : b ≡ c = eqb-true b c t in cc
+    by false t e = absurd (cc)
+
+pub lang_after-stands : {Good : List ℕ → Type 0} {texts : Token → List (List ℕ)} → Sees Good texts → (text : List ℕ) → Good text → Stands text texts (lang_after text)
+unfolding lang_after
+lang_after-stands {Good = Good} {texts = texts} sees text good =
+    stands-follow text no_texts texts (byte 40 text) _ (byte-stands 40 text) (λ u rest e h.
+    let end = past (λ b. not (b == 41)) rest in
+    let value = trim (before rest end) in
+    let opened : Ends text (40 ∷ rest) = subst (λ (t : List ℕ). Ends t (40 ∷ rest)) (sym (byte-is 40 text rest u e)) (ends-same (40 ∷ rest)) in
+    let front : StandBetween text end (texts (lang_pseudo_class value)) = stand-from text rest end _ h (sees.language rest (sees.behind text rest 40 (omega arith) good opened)) in
+    stands-then text end (texts (lang_pseudo_class value)) no_texts texts (byte 41 end) (λ u. lang_of value) front (byte-stands 41 end) (λ u last f k.
+    let k : StandBetween text last (texts (lang_pseudo_class value)) = subst (StandBetween text last) (append-nil (texts (lang_pseudo_class value))) k in
+    stands-if text texts (length value == 0) (fails no_language last) (got (lang_pseudo_class value) last) (record { at = stand-ends text last _ k }) (record { at = k })))
+
+-- a name that was read is what stands before the rest
+pub name-got : (edition : Edition) (text rest n : List ℕ) → name edition text ≡ got n rest → n ≡ before text rest
+unfolding name
+name-got edition text rest n = by (begins_name edition (chars text))
+  where
+    by : (t : Bool) → (if t then got (before text (past_name_chars edition text)) (past_name_chars edition text) else fails (no_name text) (past_byte 45 text)) ≡ got n rest → n ≡ before text rest
+    by true e =
+        let left : past_name_chars edition text ≡ rest = cc in
+        let read : before text (past_name_chars edition text) ≡ n = cc in
+        sym read ∙ ap (before text) left
+    by false e = absurd (cc)
+
+pub pseudo_class_after-stands : {Good : List ℕ → Type 0} {texts : Token → List (List ℕ)} → Sees Good texts → (edition : Edition) (text : List ℕ) → Good text → Stands text texts (pseudo_class_after edition text)
+unfolding pseudo_class_after
+pseudo_class_after-stands {Good = Good} {texts = texts} sees edition text good =
+    stands-follow text itself texts (name edition text) pseudo_class_named (name-stands edition text) (λ n rest e h.
+    by n rest h (name-got edition text rest n e) (bytes_eq n (codes "lang")) refl)
+  where
+    by : (n rest : List ℕ) → StandBetween text rest (n ∷ []) → n ≡ before text rest → (t : Bool) → bytes_eq n (codes "lang") ≡ t → Stands text texts (if t then lang_after rest else got (named_pseudo_class n) rest)
+    by n rest h is true t =
+        let lang : n ≡ 108 ∷ 97 ∷ 110 ∷ 103 ∷ [] = (bytes_eq-Decides n (codes "lang")).0 t in
+        let whole : (108 ∷ 97 ∷ 110 ∷ []) ++ (103 ∷ rest) ≡ text = ap (λ s. s ++ rest) (sym lang ∙ is) ∙ stand-ends text rest (n ∷ []) h in
+        stands-from text rest texts (lang_after rest) (stand-ends text rest (n ∷ []) h) (lang_after-stands sees rest (sees.behind text rest 103 (omega arith) good (ends-by text (108 ∷ 97 ∷ 110 ∷ []) (103 ∷ rest) whole)))
+    by n rest h is false t = sees.seen text (got (named_pseudo_class n) rest) (record { at = h })
+
+named-stands : (edition : Edition) (token : List ℕ → Token) → ((n : List ℕ) → token_texts (token n) ≡ itself n) → (text : List ℕ) → Stands text token_texts (named edition token text)
+unfolding named
+named-stands edition token is text =
+    stands-follow text itself token_texts (name edition text) (λ n. got (token n)) (name-stands edition text) (λ n rest e h.
+    record { at = subst (StandBetween text rest) (sym (is n)) h })
+
+pub begun-stands : {Good : List ℕ → Type 0} {texts : Token → List (List ℕ)} → Sees Good texts → (edition : Edition) (whole text : List ℕ) → Good whole → Ends whole text → Stands text texts (begun edition text)
+unfolding begun
+begun-stands sees edition whole [] good e = sees.seen [] (named edition type_selector []) (named-stands edition type_selector (λ n. refl) [])
+begun-stands {Good = Good} {texts = texts} sees edition whole (b ∷ text) good e =
+    stands-if (b ∷ text) texts (b == 62) _ _ (sees.seen (b ∷ text) (got child_combinator text) (record { at = ends-tail b text }))
+    (stands-if (b ∷ text) texts (b == 43) _ _ (sees.seen (b ∷ text) (got adjacent_combinator text) (record { at = ends-tail b text }))
+    (stands-if (b ∷ text) texts (b == 42) _ _ (sees.seen (b ∷ text) (got universal_selector text) (record { at = ends-tail b text }))
+    (stands-if (b ∷ text) texts (b == 35) _ _ (more (named edition id_selector text) (named-stands edition id_selector (λ n. refl) text))
+    (stands-if (b ∷ text) texts (b == 46) _ _ (more (named edition class_selector text) (named-stands edition class_selector (λ n. refl) text))
+    (stands-if (b ∷ text) texts (b == 91) _ _ (more (attribute_after edition text) (attribute_after-stands edition text))
+    (by (b == 58) refl))))))
+  where
+    more : (r : Reading Token) → Stands text token_texts r → Stands (b ∷ text) texts r
+    more r h = sees.seen (b ∷ text) r (stands-from (b ∷ text) text token_texts r (ends-tail b text) h)
+
+    by : (t : Bool) → (b == 58) ≡ t → Stands (b ∷ text) texts (if t then pseudo_class_after edition text else named edition type_selector (b ∷ text))
+    by true t =
+        let ascii : b < 128 = omega (arith, eqb-true b 58 t) in
+        stands-from (b ∷ text) text texts (pseudo_class_after edition text) (ends-tail b text) (pseudo_class_after-stands sees edition text (sees.behind whole text b ascii good e))
+    by false t = sees.seen (b ∷ text) (named edition type_selector (b ∷ text)) (named-stands edition type_selector (λ n. refl) (b ∷ text))
+
+pub solid-stands : {Good : List ℕ → Type 0} {texts : Token → List (List ℕ)} → Sees Good texts → (edition : Edition) (whole text : List ℕ) → Good whole → Ends whole text → Stands text texts (solid edition text)
+unfolding solid
+solid-stands {texts = texts} sees edition whole text good e =
+    stands-if text texts (is_stop text || starts 47 text) (fails no_selector text) (begun edition text) (record { at = ends-same text }) (begun-stands sees edition whole text good e)

@@ -1,0 +1,12 @@
+-- Worked texts, computed with the definitions. Nothing cites them.
+pub mod ReadingVectors
+pub mod TokenVectors
+pub mod SelectorVectors
+pub mod DeclarationVectors
+pub mod StatementVectors
+pub mod SheetVectors
+pub mod RelationVectors
+pub mod CuttingVectors
+pub mod EditionVectors
+pub mod HyphenVectors
+pub mod PrintingVectors
