@@ -23,10 +23,3 @@ pub use simplecss_selector::{
     SelectorTokenizer, Tests,
 };
 pub use simplecss_text::{Error, TextPos, stream};
-
-#[cfg(test)]
-mod declaration_tests;
-#[cfg(test)]
-mod error_tests;
-#[cfg(test)]
-mod stream_tests;

@@ -8,6 +8,3 @@ mod finding;
 
 pub use fault::{Fault, Reason};
 pub use finding::find_faults;
-
-#[cfg(test)]
-mod tests;

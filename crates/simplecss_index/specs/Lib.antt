@@ -2,4 +2,3 @@ pub mod Places
 pub mod Matching
 pub mod Chains
 pub mod Lasts
-pub mod Lines

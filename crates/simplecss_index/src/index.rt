@@ -121,6 +121,3 @@ impl<'a> RuleIndex<'a> {
         Ok(())
     }
 }
-
-#[cfg(test)]
-mod tests;

@@ -21,6 +21,3 @@ mod lasts;
 pub mod laws;
 
 pub use index::RuleIndex;
-
-#[cfg(test)]
-mod line;

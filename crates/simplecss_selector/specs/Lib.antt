@@ -12,7 +12,6 @@ pub mod Drafts
 pub mod Seen
 pub mod Equality
 pub mod EqualityLaws
-pub mod Rows
 pub mod Fits
 pub mod Given
 pub mod Tokenizer

@@ -32,18 +32,3 @@ pub use operator_laws::operator_equality_laws;
 pub use selector::Selector;
 pub use token::SelectorToken;
 pub use tokenizer::SelectorTokenizer;
-
-#[cfg(test)]
-mod key_tests;
-#[cfg(test)]
-mod operator_tests;
-#[cfg(test)]
-mod reading_tests;
-#[cfg(test)]
-mod row;
-#[cfg(test)]
-mod run_tests;
-#[cfg(test)]
-mod tests;
-#[cfg(test)]
-mod token_tests;

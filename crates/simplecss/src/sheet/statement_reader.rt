@@ -81,6 +81,3 @@ impl<'a> StatementReader<'a> {
         }))
     }
 }
-
-#[cfg(test)]
-mod tests;

@@ -1,9 +1,8 @@
-//! Tests of operators and of pseudo-classes, and of the texts that a formatter's options leave alone.
-use crate::row::Place;
-use crate::{
-    AttributeOperator, PseudoClass, Selector, components_law, operator_equality_laws,
-    same_meanings_law,
-};
+//! Operators and pseudo-classes, and texts that a formatter's options leave alone.
+
+use simplecss::laws::{components_law, operator_equality_laws, same_meanings_law};
+use simplecss::{AttributeOperator, PseudoClass, Selector};
+use simplecss_tree::Node;
 use std::test::Fail;
 
 /// An operator, a value, and whether the value is as the operator asks.
@@ -98,6 +97,6 @@ fn laws_are_called(rt: HostRuntime) -> Result<(), Fail> {
     let selector = Selector::parse(&rt, rt.alloc(), "a > .b")?.ok_or("refused")?;
     components_law(&selector);
     operator_equality_laws();
-    same_meanings_law::<Place<'static, 'static>, Place<'static, 'static>>();
+    same_meanings_law::<Node<'static, 'static>, Node<'static, 'static>>();
     Ok(())
 }

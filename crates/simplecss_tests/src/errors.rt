@@ -1,5 +1,5 @@
 //! Positions and errors: how they print under options of the formatter, and the positions that errors tell.
-use crate::{Error, TextPos};
+use simplecss::{Error, TextPos};
 use std::alloc::AllocError;
 
 #[test]

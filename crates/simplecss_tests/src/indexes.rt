@@ -1,10 +1,35 @@
-//! Tests of what an index finds.
-use crate::RuleIndex;
-use crate::laws::answers_law;
-use crate::line::{Entry, Place};
+//! What an index finds.
+
 use simplecss::{Rule, StyleSheet, Tests};
+use simplecss_index::RuleIndex;
+use simplecss_index::laws::answers_law;
+use simplecss_tree::{Node, Tree, TreeError};
 use std::alloc::{AllocError, Global};
 use std::test::Fail;
+
+/// An element's name, and the values of its attributes `id` and `class`, where it has them.
+type Entry<'a> = (&'a str, Option<&'a str>, Option<&'a str>);
+
+/// The tree of a line of elements, each the child of the one before.
+fn tree_of<'a>(alloc: Global, line: &[Entry<'a>]) -> Result<Tree<'a>, TreeError> {
+    let mut tree = Tree::new(alloc);
+    let mut parent = None;
+    for (name, id, class) in line {
+        parent = Some(tree.push(parent, name)?);
+        if let Some(id) = id {
+            tree.set_attribute("id", id)?;
+        }
+        if let Some(class) = class {
+            tree.set_attribute("class", class)?;
+        }
+    }
+    Ok(tree)
+}
+
+/// The last element of the tree.
+fn last<'t, 'a>(tree: &'t Tree<'a>) -> Option<Node<'t, 'a>> {
+    tree.node(tree.len().checked_sub(1)?)
+}
 
 /// A sheet, a line of elements, and the values of the rules that match the last of them, in order.
 const FOUND: &[(&str, &[Entry<'static>], &str)] = &[
@@ -97,7 +122,8 @@ fn what_an_index_finds(rt: HostRuntime) -> Result<(), Fail> {
         sheet.parse_more(&rt, alloc, text)?;
         let rules = sheet.rules.as_slice();
         let index = RuleIndex::new(alloc, rules)?;
-        let element = Place::last(line).ok_or("no element")?;
+        let tree = tree_of(alloc, line)?;
+        let element = last(&tree).ok_or("no element")?;
         let mut places = Vec::new(alloc);
         index.matching(rules, &element, &mut places)?;
         assert_eq!(rt;
@@ -137,7 +163,7 @@ const LINES: &[&[Entry<'static>]] = &[
 fn asked_in_turn(
     alloc: Global,
     rules: &[Rule<'_>],
-    element: &Place<'_, '_>,
+    element: &Node<'_, '_>,
 ) -> Result<Vec<usize>, AllocError> {
     let mut places = Vec::new(alloc);
     for (place, rule) in rules.iter().enumerate() {
@@ -160,7 +186,8 @@ fn as_if_each_rule_were_asked(rt: HostRuntime) -> Result<(), Fail> {
     let mut places = Vec::new(alloc);
     places.push(7)?;
     for line in LINES {
-        let element = Place::last(line).ok_or("no element")?;
+        let tree = tree_of(alloc, line)?;
+        let element = last(&tree).ok_or("no element")?;
         index.matching_counted(rules, &element, &mut places, &mut Tests::new())?;
         let expected = asked_in_turn(alloc, rules, &element)?;
         assert!(rt; places == expected, "{line:?}: {places:?} and {expected:?}");
@@ -188,8 +215,8 @@ fn a_repeated_class_takes_little_memory(rt: HostRuntime) -> Result<(), Fail> {
     sheet.parse_more(&rt, alloc, &text)?;
     let rules = sheet.rules.as_slice();
     let index = RuleIndex::new(alloc, rules)?;
-    let line = [("a", None, Some(class.as_str()))];
-    let element = Place::last(&line).ok_or("no element")?;
+    let tree = tree_of(alloc, &[("a", None, Some(class.as_str()))])?;
+    let element = last(&tree).ok_or("no element")?;
     let mut places = Vec::new(alloc);
     index.matching(rules, &element, &mut places)?;
     assert_eq!(rt; places.len(), 100);
@@ -204,5 +231,5 @@ fn a_repeated_class_takes_little_memory(rt: HostRuntime) -> Result<(), Fail> {
 
 #[test]
 fn the_law_is_called(_rt: HostRuntime) {
-    answers_law::<Place<'static, 'static>>();
+    answers_law::<Node<'static, 'static>>();
 }

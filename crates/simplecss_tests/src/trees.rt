@@ -1,6 +1,8 @@
-use crate::{States, Tree, TreeError};
+//! What the elements of the ready tree answer.
+
 use log::sink::Discard;
 use simplecss::{Element, Keyed, Selector};
+use simplecss_tree::{States, Tree, TreeError};
 use std::alloc::Global;
 use std::io;
 use std::test::Fail;

@@ -1,6 +1,7 @@
-//! What is read from the front of a text, as tables.
-use crate::Selector;
+//! Selectors that are read from the front of a text, printed, weighed and compared.
+
 use log::sink::Memory;
+use simplecss::Selector;
 use std::alloc::{AllocError, Global};
 use std::process::Abort;
 use std::test::Fail;
@@ -34,15 +35,8 @@ fn reads_selectors(rt: HostRuntime) -> Result<(), AllocError> {
         &rt,
         rt.alloc(),
         &[
-            ("*", "*", 1),
             ("a > .b\n", "a > *[class~='b']", 7),
-            ("a, b", "a", 1),
             ("a {x:y}", "a", 2),
-            ("a/**/.b", "a[class~='b']", 7),
-            ("a /**/.b", "a *[class~='b']", 8),
-            ("a/ b", "a", 1),
-            ("-", "-", 1),
-            ("#x", "*[id='x']", 2),
             ("a\u{C}", "a", 2),
             ("\u{A0}", "\u{A0}", 2),
             ("\u{E9}", "\u{E9}", 2),
@@ -57,10 +51,7 @@ fn reads_selectors(rt: HostRuntime) -> Result<(), AllocError> {
                 "*:link:visited:hover:active:focus",
                 32,
             ),
-            ("[x=\"a\\'b\"]", "*[x='a\\'b']", 10),
-            ("[x=\"a'][y='b\"]", "*[x='a'][y='b']", 14),
             ("[x='a'][y='b']", "*[x='a'][y='b']", 14),
-            ("[x=\"a'b\"]", "*[x='a'b']", 9),
             ("a b + c", "a b + c", 7),
         ],
     )
@@ -73,19 +64,11 @@ fn refuses(rt: HostRuntime) -> Result<(), AllocError> {
         rt.alloc(),
         &[
             ("", "refused", 0),
-            (" ", "refused", 1),
             ("a < b", "refused", 2),
-            ("a/**/b", "refused", 6),
-            ("a / b", "refused", 3),
-            ("- a", "refused", 1),
             ("a:hoover,b", "refused", 8),
-            (":LINK", "refused", 5),
-            ("*[x='a'b']", "refused", 7),
             ("a\u{B}", "refused", 1),
-            ("a/*/.b", "refused", 6),
             (":lang(\u{B})", "refused", 8),
             ("\u{9F}", "refused", 0),
-            ("\\26", "refused", 0),
             ("[a]b,c{d:e}", "refused", 4),
             ("a*,c{d:e}", "refused", 1),
             (">,a{b:c}", "refused", 0),
@@ -105,12 +88,8 @@ fn refuses(rt: HostRuntime) -> Result<(), AllocError> {
 fn weighs(rt: HostRuntime) -> Result<(), Fail> {
     for (text, want) in [
         ("*", [0, 0, 0]),
-        ("li", [0, 0, 1]),
-        ("li.red.level", [0, 2, 1]),
-        ("#x34y", [1, 0, 0]),
-        ("[id]", [1, 0, 0]),
-        ("h1 + *[rel=up]", [0, 1, 1]),
-        ("a > .b", [0, 1, 1]),
+        ("ul ol li.red", [0, 1, 3]),
+        ("#x[id]", [2, 0, 0]),
     ] {
         let selector = Selector::parse(&rt, rt.alloc(), text)?.ok_or("refused")?;
         assert_eq!(rt; selector.specificity(), want, "at {text}");
@@ -197,5 +176,30 @@ fn reads_long_selectors(rt: HostRuntime) -> Result<(), Fail> {
     let text = repeated(rt.alloc(), "", ".x", 300, "")?;
     let selector = Selector::parse(&rt, rt.alloc(), text.as_str())?.ok_or("refused")?;
     assert_eq!(rt; selector.specificity(), [0, 255, 0]);
+    Ok(())
+}
+
+#[test]
+fn copies_are_equal(rt: HostRuntime) -> Result<(), Fail> {
+    for (text, other, is_equal) in [
+        (
+            "a.b > #c + [d] :first-child",
+            "a.b > #c + [d] :first-child",
+            true,
+        ),
+        ("a b", "a b", true),
+        ("a b", "a > b", false),
+        ("a b", "a", false),
+        ("a.b c", "a c.b", false),
+        ("a.b", "a.c", false),
+        ("a.b.c", "a.c.b", false),
+        ("*", "a", false),
+        ("#b", ".b", false),
+    ] {
+        let selector = Selector::parse(&rt, rt.alloc(), text)?.ok_or("refused")?;
+        let other = Selector::parse(&rt, rt.alloc(), other)?.ok_or("refused")?;
+        assert!(rt; selector.clone()? == selector, "at {text}");
+        assert_eq!(rt; selector == other, is_equal, "at {text}");
+    }
     Ok(())
 }

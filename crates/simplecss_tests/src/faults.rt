@@ -1,5 +1,7 @@
-use crate::{Reason, find_faults};
+//! What of a sheet's text is found to be passed over.
+
 use simplecss::Error;
+use simplecss_faults::{Reason, find_faults};
 use std::test::Fail;
 
 /// What is found in each text: row and column, the part that is passed over, and why.

@@ -1,5 +1,7 @@
-use crate::StatementReader;
+//! Statements with their places.
+
 use log::sink::Discard;
+use simplecss::StatementReader;
 use std::fmt::Write as _;
 use std::test::Fail;
 

@@ -1,7 +1,6 @@
 //! What a tokenizer gives, as tables. An item is written as in a selector, a descendant combinator as `descendant`, and
 //! an error behind a `!`.
-use crate::{AttributeOperator, SelectorToken, SelectorTokenizer};
-use simplecss_text::Error;
+use simplecss::{AttributeOperator, Error, SelectorToken, SelectorTokenizer};
 use std::alloc::{AllocError, Global};
 use std::process::Abort;
 
@@ -40,7 +39,7 @@ fn write_item(out: &mut String, item: Result<SelectorToken<'_>, Error>) -> Resul
 fn given(alloc: Global, text: &str) -> Result<(String, usize), AllocError> {
     let mut out = String::new(alloc);
     let mut tokenizer = SelectorTokenizer::from(text);
-    while let Some(item) = tokenizer.next() {
+    for item in tokenizer.by_ref() {
         if !out.is_empty() {
             write!(out, ", ")?;
         }
@@ -74,79 +73,14 @@ fn assert_ends(
 }
 
 #[test]
-fn gives_the_tokens_of_compounds(rt: HostRuntime) -> Result<(), AllocError> {
+fn gives_each_kind_of_token(rt: HostRuntime) -> Result<(), AllocError> {
     assert_given(
         &rt,
         rt.alloc(),
-        &[
-            ("*", "*"),
-            ("div", "div"),
-            ("div {", "div"),
-            ("div,", "div"),
-            ("div{", "div"),
-            ("div ,", "div"),
-            ("/**/a", "a"),
-            ("/* */a", "a"),
-            ("/* comment */a", "a"),
-            ("/**/ /**/a", "a"),
-            ("/**/ a /**/", "a"),
-            ("#div", "#div"),
-            (".div", ".div"),
-            (":first-child", ":first-child"),
-            (":lang(en)", ":lang(en)"),
-            ("[id]", "[id]"),
-            ("[id=test]", "[id=test]"),
-            ("[id='test']", "[id=test]"),
-            ("[id=\"test\"]", "[id=test]"),
-            ("[id~=test]", "[id~=test]"),
-            ("[id|=test]", "[id|=test]"),
-            ("[id='te\\'st']", "[id=te\\'st]"),
-            ("[id=\"te\\\"st\"]", "[id=te\\\"st]"),
-            ("div:first-child", "div, :first-child"),
-            ("div.test", "div, .test"),
-            ("div.test.warn", "div, .test, .warn"),
-            ("div#id", "div, #id"),
-            ("*[id]", "*, [id]"),
-            ("*.test", "*, .test"),
-            ("*#id", "*, #id"),
-            ("div[id=test][color=red]", "div, [id=test], [color=red]"),
-            ("a.external:visited", "a, .external, :visited"),
-        ],
-    )
-}
-
-#[test]
-fn gives_the_tokens_of_combined_selectors(rt: HostRuntime) -> Result<(), AllocError> {
-    assert_given(
-        &rt,
-        rt.alloc(),
-        &[
-            ("div p", "div, descendant, p"),
-            ("a\nb", "a, descendant, b"),
-            ("a /**/ b", "a, descendant, b"),
-            ("a /**/b", "a, descendant, b"),
-            ("a/**/ b", "a, descendant, b"),
-            ("a/**/ /**/b", "a, descendant, b"),
-            ("a /**/ /**/ b", "a, descendant, b"),
-            ("a /**//**/ b", "a, descendant, b"),
-            ("div p a", "div, descendant, p, descendant, a"),
-            ("div * p", "div, descendant, *, descendant, p"),
-            ("div .p", "div, descendant, .p"),
-            ("div *", "div, descendant, *"),
-            ("div #p", "div, descendant, #p"),
-            ("div [id]", "div, descendant, [id]"),
-            ("div :link", "div, descendant, :link"),
-            (".warn :first-child", ".warn, descendant, :first-child"),
-            ("div>p", "div, >, p"),
-            ("div >p", "div, >, p"),
-            ("div> p", "div, >, p"),
-            ("div > p", "div, >, p"),
-            ("div+p", "div, +, p"),
-            ("div +p", "div, +, p"),
-            ("div+ p", "div, +, p"),
-            ("div + p", "div, +, p"),
-            ("div > p:first-child", "div, >, p, :first-child"),
-        ],
+        &[(
+            "* > a#b.c + d[e][f=g][h~='i'] [j|=\"k\"]:first-child:lang(en) {",
+            "*, >, a, #b, .c, +, d, [e], [f=g], [h~=i], descendant, [j|=k], :first-child, :lang(en)",
+        )],
     )
 }
 
@@ -156,54 +90,12 @@ fn tells_errors(rt: HostRuntime) -> Result<(), AllocError> {
         &rt,
         rt.alloc(),
         &[
-            (">", "!unexpected combinator"),
-            ("+", "!unexpected combinator"),
-            ("> a", "!unexpected combinator"),
-            ("a > >", "a, >, !unexpected combinator"),
-            ("a + + b", "a, +, !unexpected combinator"),
-            ("a >", "a, >, !selector missing"),
-            ("a > ,", "a, >, !selector missing"),
-            ("a > {", "a, >, !selector missing"),
-            ("*a", "*, !unexpected selector"),
-            ("a*", "a, !unexpected selector"),
-            ("a[b]c", "a, [b], !unexpected selector"),
-            ("a/**/b", "a, !unexpected selector"),
-            ("a/* */b", "a, !unexpected selector"),
-            (
-                "a < b",
-                "a, descendant, !invalid ident at 1:3, !selector missing",
-            ),
-            (
-                "a <",
-                "a, descendant, !invalid ident at 1:3, !selector missing",
-            ),
-            ("a<", "a, !invalid ident at 1:2"),
-            ("<", "!invalid ident at 1:1, !selector missing"),
-            ("- a", "!invalid ident at 1:1, !selector missing"),
-            ("--", "!invalid ident at 1:1, !selector missing"),
-            ("\\26", "!invalid ident at 1:1, !selector missing"),
-            ("::first-child", "!invalid ident at 1:2"),
-            ("a>[", "a, >, !invalid ident at 1:4"),
-            (":lang()", "!invalid language pseudo-class"),
-            (":lang( )", "!invalid language pseudo-class"),
             (":lang(\u{B})", "!invalid language pseudo-class"),
-            ("[olor:red", "!invalid or unsupported attribute selector"),
-            ("/* x", "!invalid comment at 1:1, !selector missing"),
-            ("a /* x", "a, !invalid comment at 1:3"),
             (
                 "a > /* x",
                 "a, >, !invalid comment at 1:5, !selector missing",
             ),
-            ("a/*/.b", "a, !invalid comment at 1:2"),
-            ("a /b", "a, !invalid comment at 1:3"),
-            ("a / b", "a, !invalid comment at 1:3"),
             ("", "!selector missing"),
-            (" ", "!selector missing"),
-            ("/**/", "!selector missing"),
-            (
-                "a\nbc <",
-                "a, descendant, bc, descendant, !invalid ident at 2:4, !selector missing",
-            ),
             ("[a=\"x\"\u{E9}]", "!expected ']' not '\u{C3}' at 1:7"),
             ("\u{EE}<", "\u{EE}, !invalid ident at 1:2"),
             ("\u{9F}", "!invalid ident at 1:1, !selector missing"),
@@ -219,13 +111,8 @@ fn gives_what_else_a_piece_may_be(rt: HostRuntime) -> Result<(), AllocError> {
         &rt,
         rt.alloc(),
         &[
-            ("-", "-"),
-            ("a/ b", "a"),
-            ("[a='']", "[a=]"),
             ("[a='\"']", "[a=\"]"),
             ("[x=\"a'][y='b\"]", "[x=a'][y='b]"),
-            ("*[x='a'b']", "*, !expected ']' not 'b' at 1:8"),
-            (":langx", ":langx"),
             (":LINK", ":LINK"),
             (":lang( en )", ":lang(en)"),
             (":lang(\u{B}en-US\u{3000})", ":lang(en-US)"),
@@ -274,11 +161,6 @@ fn keeps_the_table_of_neighbours(rt: HostRuntime) -> Result<(), AllocError> {
             ("a b", "a, descendant, b", 3),
             ("a [b]", "a, descendant, [b]", 5),
             ("a #<", "a, descendant, !invalid ident at 1:4", 3),
-            (
-                "a <",
-                "a, descendant, !invalid ident at 1:3, !selector missing",
-                2,
-            ),
             // closed, a combinator
             ("a>b", "a, >, b", 3),
             ("a /**/+b", "a, +, b", 8),
@@ -287,12 +169,10 @@ fn keeps_the_table_of_neighbours(rt: HostRuntime) -> Result<(), AllocError> {
             ("a , b", "a", 2),
             ("a/**/{", "a", 5),
             // closed, a slash that opens no comment
-            ("a/**//b", "a", 5),
             ("a//b", "a", 1),
             ("a //b", "a, !invalid comment at 1:3", 3),
             // a comment that is not closed
             (" /*a", "!invalid comment at 1:2, !selector missing", 4),
-            ("a/*b", "a, !invalid comment at 1:2", 4),
             ("a /**/ /*b", "a, !invalid comment at 1:8", 10),
         ],
     )
@@ -305,22 +185,11 @@ fn ends_behind_faults(rt: HostRuntime) -> Result<(), AllocError> {
         &rt,
         rt.alloc(),
         &[
-            ("#", "!invalid ident at 1:2", 1),
             (".-<", "!invalid ident at 1:2", 2),
             ("--x", "!invalid ident at 1:1, !selector missing", 1),
-            ("[", "!invalid ident at 1:2", 1),
-            ("[a", "!unexpected end of stream", 2),
-            ("[a,b", "!invalid or unsupported attribute selector", 2),
-            ("[a~b]", "!expected '=' not 'b' at 1:4", 3),
-            ("[a|", "!unexpected end of stream", 3),
-            ("[a=", "!unexpected end of stream", 3),
             ("[a=<", "!invalid ident at 1:4", 3),
             ("[a='b", "!unexpected end of stream", 5),
-            ("[a=b", "!unexpected end of stream", 4),
             ("[a=b c]", "!expected ']' not ' ' at 1:5", 4),
-            (":lang", "!unexpected end of stream", 5),
-            (":lang en", "!expected '(' not ' ' at 1:6", 5),
-            (":lang(en", "!unexpected end of stream", 8),
             (":lang( ),b", "!invalid language pseudo-class", 8),
         ],
     )

@@ -1,7 +1,7 @@
 //! The calls of the cursor on worked texts, and the printed errors.
-use crate::stream::{Stream, is_name_char, is_name_start};
-use crate::{Error, TextPos};
-use simplecss_text::readers;
+
+use simplecss::stream::{Stream, is_name_char, is_name_start};
+use simplecss::{Error, TextPos};
 
 fn at(row: u32, col: u32) -> TextPos {
     TextPos::new(row, col)
@@ -147,23 +147,6 @@ fn reads_blanks(rt: HostRuntime) {
         let mut s = Stream::from(text);
         assert_eq!(rt; s.skip_spaces_and_comments(), found, "at {text}");
         assert_eq!(rt; s.pos(), place, "at {text}");
-        let mut quiet = Stream::from(text);
-        assert_eq!(rt; readers::pass_blank(&mut quiet), found.is_ok(), "at {text}");
-        assert_eq!(rt; quiet.pos(), place, "at {text}");
-    }
-}
-
-#[test]
-fn tells_the_space_bytes_of_a_gap(rt: HostRuntime) {
-    for (text, spaced) in [
-        ("/**/b", Ok(false)),
-        ("/* */b", Ok(false)),
-        ("/**/ /**/b", Ok(true)),
-        ("", Ok(false)),
-        (" /* x", Err(Error::InvalidComment(at(1, 2)))),
-    ] {
-        let mut s = Stream::from(text);
-        assert_eq!(rt; readers::consume_gap(&mut s), spaced, "at {text}");
     }
 }
 

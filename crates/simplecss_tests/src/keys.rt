@@ -1,6 +1,8 @@
-//! Tests of keys.
-use crate::row::Place;
-use crate::{Key, Selector, key_equality_law, key_law};
+//! The keys of selectors.
+
+use simplecss::laws::{key_equality_law, key_law};
+use simplecss::{Key, Selector};
+use simplecss_tree::Node;
 use std::test::Fail;
 
 /// A selector, and its key.
@@ -51,5 +53,5 @@ fn the_keys_of_selectors(rt: HostRuntime) -> Result<(), Fail> {
 #[test]
 fn laws_of_keys_are_called(_rt: HostRuntime) {
     key_equality_law();
-    key_law::<Place<'static, 'static>>();
+    key_law::<Node<'static, 'static>>();
 }

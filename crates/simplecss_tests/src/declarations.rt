@@ -1,0 +1,76 @@
+//! What `DeclarationTokenizer` gives, as tables.
+use simplecss::{Declaration, DeclarationTokenizer};
+use std::process::Abort;
+
+/// Each text gives these declarations and then nothing, for ever.
+fn assert_gives(rt: &impl Abort, rows: &[(&str, &[(&str, &str, bool)])]) {
+    for (text, wanted) in rows {
+        let mut declarations = DeclarationTokenizer::from(*text);
+        for (name, value, important) in *wanted {
+            let found = declarations.next();
+            let want = Some(Declaration {
+                name,
+                value,
+                important: *important,
+            });
+            assert!(rt; found == want, "at {text}");
+        }
+        assert!(rt; declarations.next().is_none(), "at {text}");
+        assert!(rt; declarations.next().is_none(), "at {text}");
+    }
+}
+
+#[test]
+fn gives_none(rt: HostRuntime) {
+    for text in [
+        "",
+        "a:\u{3000}",
+        "a:\u{A0}",
+        "a:;/* x",
+        "- a:b",
+        "--a:b",
+        "a/* x",
+        "a b:c",
+    ] {
+        assert_gives(&rt, &[(text, &[])]);
+    }
+}
+
+/// The value is what stands behind the colon.
+#[test]
+fn gives_values_as_they_stand(rt: HostRuntime) {
+    for (text, name, value) in [("a:b 'x", "a", "b"), ("a:f('x)y') z", "a", "f('x)y")] {
+        assert_gives(&rt, &[(text, &[(name, value, false)])]);
+    }
+}
+
+#[test]
+fn gives_several(rt: HostRuntime) {
+    let text = " color : red ; /**/ background: url(\"x;y\") ! important; a:b;";
+    let wanted = [
+        ("color", "red", false),
+        ("background", "url(\"x;y\")", true),
+        ("a", "b", false),
+    ];
+    assert_gives(&rt, &[(text, &wanted)]);
+}
+
+/// Each text, and the place behind each call of `next`, those that give `None` too.
+#[test]
+fn tells_the_place_behind_each_declaration(rt: HostRuntime) {
+    let rows: &[(&str, &[usize])] = &[
+        ("color: red; a:b", &[12, 15, 15]),
+        ("a:b !importantly:x", &[14, 18, 18]),
+        ("a:b } c", &[4, 7, 7]),
+        (" /**/ ", &[6, 6]),
+        ("", &[0, 0]),
+    ];
+    for (text, places) in rows {
+        let mut declarations = DeclarationTokenizer::from(*text);
+        assert_eq!(rt; declarations.pos(), 0, "at {text}");
+        for place in *places {
+            let _ = declarations.next();
+            assert_eq!(rt; declarations.pos(), *place, "at {text}");
+        }
+    }
+}
