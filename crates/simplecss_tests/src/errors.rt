@@ -1,82 +1,55 @@
 //! Positions and errors: how they print under options of the formatter, and the positions that errors tell.
+
+use crate::printed::{five_times, under_options};
 use simplecss::{Error, TextPos};
 use std::alloc::AllocError;
 
 #[test]
 fn prints_positions_alike_under_all_options(rt: HostRuntime) -> Result<(), AllocError> {
-    let alloc = rt.alloc();
     for (row, col, text) in [
         (1, 1, "1:1"),
         (2, 10, "2:10"),
         (305, 47, "305:47"),
         (u32::MAX, u32::MAX, "4294967295:4294967295"),
     ] {
-        let pos = TextPos::new(row, col);
-        assert_eq!(rt; format!(in alloc; "{pos}")?.as_str(), text);
-        assert_eq!(rt;
-            format!(in alloc; "{pos:#}")?.as_str(),
-            text,
-            "with the flag"
-        );
-        assert_eq!(rt;
-            format!(in alloc; "{pos:>20}")?.as_str(),
-            text,
-            "on the right"
-        );
-        assert_eq!(rt;
-            format!(in alloc; "{pos:<5}")?.as_str(),
-            text,
-            "on the left"
-        );
-        assert_eq!(rt;
-            format!(in alloc; "{pos:+030.2}")?.as_str(),
-            text,
-            "with zeros"
-        );
+        let printed = under_options(rt.alloc(), &TextPos::new(row, col))?;
+        let wanted = five_times(rt.alloc(), text)?;
+        assert_eq!(rt; printed.as_str(), wanted.as_str());
     }
     Ok(())
 }
 
 #[test]
 fn prints_errors_alike_under_all_options(rt: HostRuntime) -> Result<(), AllocError> {
-    let alloc = rt.alloc();
+    let pos = TextPos::new(2, 4);
     for (error, text) in [
-        (Error::SelectorMissing, "selector missing"),
-        (
-            Error::InvalidValue(TextPos::new(3, 12)),
-            "invalid value at 3:12",
-        ),
+        (Error::UnexpectedEndOfStream, "unexpected end of stream"),
+        (Error::InvalidIdent(pos), "invalid ident at 2:4"),
+        (Error::InvalidComment(pos), "invalid comment at 2:4"),
+        (Error::InvalidValue(pos), "invalid value at 2:4"),
         (
             Error::InvalidByte {
-                expected: b'=',
-                actual: 0xE9,
-                pos: TextPos::new(1, 4),
+                expected: b']',
+                actual: 0xC3,
+                pos,
             },
-            "expected '=' not '\u{E9}' at 1:4",
+            "expected ']' not '\u{C3}' at 2:4",
+        ),
+        (Error::SelectorMissing, "selector missing"),
+        (Error::UnexpectedSelector, "unexpected selector"),
+        (Error::UnexpectedCombinator, "unexpected combinator"),
+        (
+            Error::InvalidAttributeSelector,
+            "invalid or unsupported attribute selector",
+        ),
+        (
+            Error::InvalidLanguagePseudoClass,
+            "invalid language pseudo-class",
         ),
     ] {
-        assert_eq!(rt; format!(in alloc; "{error}")?.as_str(), text);
-        assert_eq!(rt;
-            format!(in alloc; "{error:#}")?.as_str(),
-            text,
-            "with the flag"
-        );
-        assert_eq!(rt;
-            format!(in alloc; "{error:>40}")?.as_str(),
-            text,
-            "on the right"
-        );
-        assert_eq!(rt;
-            format!(in alloc; "{error:>20}")?.as_str(),
-            text,
-            "on the right"
-        );
-        assert_eq!(rt;
-            format!(in alloc; "{error:<5}")?.as_str(),
-            text,
-            "on the left"
-        );
-        assert_eq!(rt; format!(in alloc; "{error:_^40.3}")?.as_str(), text, "cut");
+        let printed = under_options(rt.alloc(), &error)?;
+        let wanted = five_times(rt.alloc(), text)?;
+        assert_eq!(rt; printed.as_str(), wanted.as_str());
     }
     Ok(())
 }

@@ -1,5 +1,6 @@
 //! What an index finds.
 
+use log::sink::Discard;
 use simplecss::{Rule, StyleSheet, Tests};
 use simplecss_index::RuleIndex;
 use simplecss_index::laws::answers_law;
@@ -114,20 +115,22 @@ fn values_at<'a>(
     Ok(text)
 }
 
+/// The values of the rules that an index finds for the last element of the line, in order.
+fn found(alloc: Global, text: &str, line: &[Entry<'_>]) -> Result<String, Fail> {
+    let sheet = StyleSheet::parse(&Discard, alloc, text)?;
+    let index = RuleIndex::new(alloc, &sheet.rules)?;
+    let tree = tree_of(alloc, line)?;
+    let element = last(&tree).ok_or("no element")?;
+    let mut places = Vec::new(alloc);
+    index.matching(&sheet.rules, &element, &mut places)?;
+    Ok(values_at(alloc, &sheet.rules, &places)?)
+}
+
 #[test]
 fn what_an_index_finds(rt: HostRuntime) -> Result<(), Fail> {
-    let alloc = rt.alloc();
     for (text, line, expected) in FOUND {
-        let mut sheet = StyleSheet::new(alloc);
-        sheet.parse_more(&rt, alloc, text)?;
-        let rules = sheet.rules.as_slice();
-        let index = RuleIndex::new(alloc, rules)?;
-        let tree = tree_of(alloc, line)?;
-        let element = last(&tree).ok_or("no element")?;
-        let mut places = Vec::new(alloc);
-        index.matching(rules, &element, &mut places)?;
         assert_eq!(rt;
-            values_at(alloc, rules, &places)?.as_str(),
+            found(rt.alloc(), text, line)?.as_str(),
             *expected,
             "{text}"
         );
@@ -174,23 +177,31 @@ fn asked_in_turn(
     Ok(places)
 }
 
+/// Whether the index finds what asking each rule gives. The places are filled anew.
+fn is_as_asked(
+    alloc: Global,
+    rules: &[Rule<'_>],
+    index: &RuleIndex,
+    line: &[Entry<'_>],
+    places: &mut Vec<usize>,
+) -> Result<bool, Fail> {
+    let tree = tree_of(alloc, line)?;
+    let element = last(&tree).ok_or("no element")?;
+    index.matching_counted(rules, &element, places, &mut Tests::new())?;
+    Ok(*places == asked_in_turn(alloc, rules, &element)?)
+}
+
 /// One vector serves all questions, and what stood in it is dropped.
 #[test]
 fn as_if_each_rule_were_asked(rt: HostRuntime) -> Result<(), Fail> {
-    let alloc = rt.alloc();
-    let mut sheet = StyleSheet::new(alloc);
-    sheet.parse_more(&rt, alloc, SHEET)?;
-    let rules = sheet.rules.as_slice();
-    assert_eq!(rt; rules.len(), 27);
-    let index = RuleIndex::new(alloc, rules)?;
-    let mut places = Vec::new(alloc);
+    let sheet = StyleSheet::parse(&Discard, rt.alloc(), SHEET)?;
+    assert_eq!(rt; sheet.rules.len(), 27);
+    let index = RuleIndex::new(rt.alloc(), &sheet.rules)?;
+    let mut places = Vec::new(rt.alloc());
     places.push(7)?;
     for line in LINES {
-        let tree = tree_of(alloc, line)?;
-        let element = last(&tree).ok_or("no element")?;
-        index.matching_counted(rules, &element, &mut places, &mut Tests::new())?;
-        let expected = asked_in_turn(alloc, rules, &element)?;
-        assert!(rt; places == expected, "{line:?}: {places:?} and {expected:?}");
+        let is_same = is_as_asked(rt.alloc(), &sheet.rules, &index, line, &mut places)?;
+        assert!(rt; is_same, "{line:?}: {places:?}");
     }
     Ok(())
 }
@@ -204,28 +215,28 @@ fn repeated(alloc: Global, text: &str, count: usize) -> Result<String, AllocErro
     Ok(all)
 }
 
-/// A hundred times the class of a hundred rules: the places have room for words and rules, and not
-/// for each pair of them.
-#[test]
-fn a_repeated_class_takes_little_memory(rt: HostRuntime) -> Result<(), Fail> {
-    let alloc = rt.alloc();
-    let text = repeated(alloc, ".b{n:1} ", 100)?;
-    let class = repeated(alloc, "b ", 100)?;
-    let mut sheet = StyleSheet::new(alloc);
-    sheet.parse_more(&rt, alloc, &text)?;
-    let rules = sheet.rules.as_slice();
-    let index = RuleIndex::new(alloc, rules)?;
-    let tree = tree_of(alloc, &[("a", None, Some(class.as_str()))])?;
+/// How many rules an index finds for an element of this class, and the room of the places after one and after two questions.
+fn rooms(alloc: Global, text: &str, class: &str) -> Result<(usize, usize, usize), Fail> {
+    let sheet = StyleSheet::parse(&Discard, alloc, text)?;
+    let index = RuleIndex::new(alloc, &sheet.rules)?;
+    let tree = tree_of(alloc, &[("a", None, Some(class))])?;
     let element = last(&tree).ok_or("no element")?;
     let mut places = Vec::new(alloc);
-    index.matching(rules, &element, &mut places)?;
-    assert_eq!(rt; places.len(), 100);
-    assert!(rt; places.capacity() <= 512);
-
-    // And once there is room, further questions take none.
+    index.matching(&sheet.rules, &element, &mut places)?;
     let room = places.capacity();
-    index.matching(rules, &element, &mut places)?;
-    assert_eq!(rt; places.capacity(), room);
+    index.matching(&sheet.rules, &element, &mut places)?;
+    Ok((places.len(), room, places.capacity()))
+}
+
+/// A hundred times the class of a hundred rules: the places have room for words and rules, and not
+/// for each pair of them. Once there is room, further questions take none.
+#[test]
+fn a_repeated_class_takes_little_memory(rt: HostRuntime) -> Result<(), Fail> {
+    let text = repeated(rt.alloc(), ".b{n:1} ", 100)?;
+    let class = repeated(rt.alloc(), "b ", 100)?;
+    let (count, room, later) = rooms(rt.alloc(), text.as_str(), class.as_str())?;
+    assert_eq!(rt; count, 100);
+    assert!(rt; room <= 512 && later == room);
     Ok(())
 }
 

@@ -15,6 +15,8 @@ mod keys;
 #[cfg(test)]
 mod operators;
 #[cfg(test)]
+mod printed;
+#[cfg(test)]
 mod selectors;
 #[cfg(test)]
 mod sheets;

@@ -1,5 +1,6 @@
 //! Operators and pseudo-classes, and texts that a formatter's options leave alone.
 
+use crate::printed::{five_times, under_options};
 use simplecss::laws::{components_law, operator_equality_laws, same_meanings_law};
 use simplecss::{AttributeOperator, PseudoClass, Selector};
 use simplecss_tree::Node;
@@ -69,25 +70,20 @@ const CLASSES: &[(PseudoClass<'static>, &str)] = &[
 
 #[test]
 fn options_leave_a_class_alone(rt: HostRuntime) -> Result<(), Fail> {
-    let alloc = rt.alloc();
     for (class, text) in CLASSES {
-        assert!(rt; format!(in alloc; "{class}")?.as_str() == *text);
-        assert!(rt; format!(in alloc; "{class:#}")?.as_str() == *text);
-        assert!(rt; format!(in alloc; "{class:>20}")?.as_str() == *text);
-        assert!(rt; format!(in alloc; "{class:<5}")?.as_str() == *text);
-        assert!(rt; format!(in alloc; "{class:.3}")?.as_str() == *text);
+        let printed = under_options(rt.alloc(), class)?;
+        let wanted = five_times(rt.alloc(), text)?;
+        assert_eq!(rt; printed.as_str(), wanted.as_str());
     }
     Ok(())
 }
 
 #[test]
 fn options_leave_a_selector_alone(rt: HostRuntime) -> Result<(), Fail> {
-    let alloc = rt.alloc();
-    let selector = Selector::parse(&rt, alloc, "a > .b")?.ok_or("refused")?;
-    assert!(rt; format!(in alloc; "{selector:#}")?.as_str() == "a > *[class~='b']");
-    assert!(rt; format!(in alloc; "{selector:>20}")?.as_str() == "a > *[class~='b']");
-    assert!(rt; format!(in alloc; "{selector:<5}")?.as_str() == "a > *[class~='b']");
-    assert!(rt; format!(in alloc; "{selector:.3}")?.as_str() == "a > *[class~='b']");
+    let selector = Selector::parse(&rt, rt.alloc(), "a > .b")?.ok_or("refused")?;
+    let printed = under_options(rt.alloc(), &selector)?;
+    let wanted = five_times(rt.alloc(), "a > *[class~='b']")?;
+    assert_eq!(rt; printed.as_str(), wanted.as_str());
     Ok(())
 }
 

@@ -1,5 +1,6 @@
 //! Sheets that are read, printed, edited and copied.
 
+use crate::printed::{five_times, under_options};
 use log::sink::{Discard, Memory};
 use simplecss::{Declaration, Rule, Selector, StyleSheet};
 use std::alloc::AllocError;
@@ -35,8 +36,6 @@ fn prints_rules_in_order(rt: HostRuntime) -> Result<(), Fail> {
     for (text, want) in sheets {
         let sheet = read(&rt, text)?;
         assert!(rt; prints(&rt, &sheet, want)?, "of {text}");
-        let wide = format!(in rt.alloc(); "{sheet:*>200}")?;
-        assert!(rt; wide.as_str() == want, "of {text}");
     }
     Ok(())
 }
@@ -218,11 +217,9 @@ fn declaration(name: &str, important: bool) -> Declaration<'_> {
 #[test]
 fn declarations_print_as_in_a_sheet(rt: HostRuntime) -> Result<(), Fail> {
     for (important, text) in [(false, "a:x;"), (true, "a:x !important;")] {
-        let declaration = declaration("a", important);
-        assert_eq!(rt; format!(in rt.alloc(); "{declaration}")?.as_str(), text);
-        assert_eq!(rt; format!(in rt.alloc(); "{declaration:#}")?.as_str(), text);
-        assert_eq!(rt; format!(in rt.alloc(); "{declaration:>20}")?.as_str(), text);
-        assert_eq!(rt; format!(in rt.alloc(); "{declaration:<5}")?.as_str(), text);
+        let printed = under_options(rt.alloc(), &declaration("a", important))?;
+        let wanted = five_times(rt.alloc(), text)?;
+        assert_eq!(rt; printed.as_str(), wanted.as_str());
     }
     Ok(())
 }
@@ -230,14 +227,14 @@ fn declarations_print_as_in_a_sheet(rt: HostRuntime) -> Result<(), Fail> {
 #[test]
 fn rules_print_as_in_a_sheet(rt: HostRuntime) -> Result<(), Fail> {
     let sheet = read(&rt, "#x > .y { a:b; c:d ! important }")?;
-    let text = "*[id='x'] > *[class~='y'] { a:b;c:d !important; }";
-    for rule in &sheet.rules {
-        assert_eq!(rt; format!(in rt.alloc(); "{rule}")?.as_str(), text);
-        assert_eq!(rt; format!(in rt.alloc(); "{rule:#}")?.as_str(), text);
-        assert_eq!(rt; format!(in rt.alloc(); "{rule:>60}")?.as_str(), text);
-        assert_eq!(rt; format!(in rt.alloc(); "{rule:<5}")?.as_str(), text);
-    }
-    assert_eq!(rt; sheet.rules.len(), 1);
+    let wanted = five_times(
+        rt.alloc(),
+        "*[id='x'] > *[class~='y'] { a:b;c:d !important; }",
+    )?;
+    let of_sheet = under_options(rt.alloc(), &sheet)?;
+    assert_eq!(rt; of_sheet.as_str(), wanted.as_str());
+    let of_rule = under_options(rt.alloc(), sheet.rules.first().ok_or("no rule")?)?;
+    assert_eq!(rt; of_rule.as_str(), wanted.as_str());
     Ok(())
 }
 

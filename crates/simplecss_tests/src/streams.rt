@@ -1,49 +1,10 @@
-//! The calls of the cursor on worked texts, and the printed errors.
+//! The calls of the cursor on worked texts.
 
 use simplecss::stream::{Stream, is_name_char, is_name_start};
 use simplecss::{Error, TextPos};
 
 fn at(row: u32, col: u32) -> TextPos {
     TextPos::new(row, col)
-}
-
-#[test]
-fn prints_errors(rt: HostRuntime) {
-    let pos = at(2, 4);
-    for (error, text) in [
-        (Error::UnexpectedEndOfStream, "unexpected end of stream"),
-        (Error::InvalidIdent(pos), "invalid ident at 2:4"),
-        (Error::InvalidComment(pos), "invalid comment at 2:4"),
-        (Error::InvalidValue(pos), "invalid value at 2:4"),
-        (
-            Error::InvalidByte {
-                expected: b']',
-                actual: 0xC3,
-                pos: at(1, 7),
-            },
-            "expected ']' not '\u{C3}' at 1:7",
-        ),
-        (Error::SelectorMissing, "selector missing"),
-        (Error::UnexpectedSelector, "unexpected selector"),
-        (Error::UnexpectedCombinator, "unexpected combinator"),
-        (
-            Error::InvalidAttributeSelector,
-            "invalid or unsupported attribute selector",
-        ),
-        (
-            Error::InvalidLanguagePseudoClass,
-            "invalid language pseudo-class",
-        ),
-    ] {
-        match format!(in rt.alloc(); "{error}") {
-            Ok(printed) => assert_eq!(rt; printed.as_str(), text),
-            Err(_) => assert!(rt; false),
-        }
-        match format!(in rt.alloc(); "{error:>60}") {
-            Ok(printed) => assert_eq!(rt; printed.as_str(), text, "with a width"),
-            Err(_) => assert!(rt; false),
-        }
-    }
 }
 
 #[test]

@@ -7,6 +7,21 @@ use std::alloc::Global;
 use std::io;
 use std::test::Fail;
 
+/// Of each element the place of its parent, its name and its attributes.
+const ELEMENTS: &[(Option<usize>, &str, &[(&str, &str)])] = &[
+    (None, "html", &[("lang", "en")]),
+    (Some(0), "head", &[]),
+    (Some(0), "a", &[("id", "x")]),
+    (Some(2), "b", &[("class", "y w")]),
+    (Some(2), "c", &[]),
+    (Some(4), "b", &[]),
+    (Some(2), "c", &[]),
+    (Some(0), "d", &[("lang", "en-US")]),
+    (Some(7), "e", &[]),
+    (None, "f", &[("lang", "english")]),
+    (Some(9), "g", &[("id", "X"), ("id", "x")]),
+];
+
 /// Two trees:
 ///
 /// ```text
@@ -24,27 +39,15 @@ use std::test::Fail;
 /// ```
 fn two_trees(alloc: Global) -> Result<Tree<'static>, TreeError> {
     let mut tree = Tree::new(alloc);
-    let html = tree.push(None, "html")?;
-    tree.set_attribute("lang", "en")?;
-    tree.push(Some(html), "head")?;
-    let a = tree.push(Some(html), "a")?;
-    tree.set_attribute("id", "x")?;
-    tree.push(Some(a), "b")?;
-    tree.set_attribute("class", "y w")?;
-    let c = tree.push(Some(a), "c")?;
-    tree.push(Some(c), "b")?;
-    tree.push(Some(a), "c")?;
-    let d = tree.push(Some(html), "d")?;
-    tree.set_attribute("lang", "en-US")?;
-    tree.push(Some(d), "e")?;
-    let f = tree.push(None, "f")?;
-    tree.set_attribute("lang", "english")?;
-    tree.push(Some(f), "g")?;
-    tree.set_attribute("id", "X")?;
-    tree.set_attribute("id", "x")?;
+    for (parent, name, attributes) in ELEMENTS {
+        tree.push(*parent, name)?;
+        for (name, value) in *attributes {
+            tree.set_attribute(name, value)?;
+        }
+    }
     let mut states = States::default();
     states.hover = true;
-    tree.set_states(d, states)?;
+    tree.set_states(7, states)?;
     Ok(tree)
 }
 

@@ -1,0 +1,14 @@
+//! Texts that a formatter's options leave alone.
+
+use std::alloc::{AllocError, Global};
+use std::fmt::Display;
+
+/// The text of a value, plain and under options: the alternate form, a width to either side, and a fill with a precision.
+pub(crate) fn under_options<T: Display>(alloc: Global, value: &T) -> Result<String, AllocError> {
+    format!(in alloc; "{value}\n{value:#}\n{value:>60}\n{value:<5}\n{value:_^40.3}\n")
+}
+
+/// The text, as often as `under_options` writes one.
+pub(crate) fn five_times(alloc: Global, text: &str) -> Result<String, AllocError> {
+    format!(in alloc; "{text}\n{text}\n{text}\n{text}\n{text}\n")
+}
