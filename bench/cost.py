@@ -67,6 +67,7 @@ INPUTS = [
     ("a rule set of selectors", 4_000, sheet_of(lambda n: ", ".join(f"a{i}" for i in range(n)) + " { b:c }")),
     ("a block of declarations", 40_000, sheet_of(lambda n: "a { " + "b:c; " * n + "}")),
     ("refused rule sets", 50_000, sheet_of(lambda n: "a < b { c:d } " * n)),
+    ("at-rules of one at-sign, told", 20_000, sheet_of(lambda n: "a:zz {}" + "@" * n)),
     ("rule sets of one specificity", 20_000, sheet_of(lambda n: "".join(f".c{i} {{ d:e }}\n" for i in range(n)))),
     ("a line of attributes", 40_000, match_of(lambda n: "a { b:c }", lambda n: "0\ta\t" + "\t".join(f"k{i}=v" for i in range(n)))),
     ("a chain of elements, and one step", 10_000, match_of(lambda n: "x > a { b:c }", deep)),
