@@ -4,7 +4,7 @@ use Rattle.simplecss_selector.specs.Placements.{Meets}
 use Rattle.simplecss_selector.specs.Shapes.{component_at}
 use Rattle.simplecss_selector.proofs.Greedy.{Tracks}
 use Rattle.simplecss_selector.proofs.Stretches.{AreJoined}
-use Rattle.simplecss_selector.proofs.selector.Selector.climb.Given as goal
+use Rattle.simplecss_selector.proofs.matching.climb.Given as goal
 
 -- the components from `place` on are met, from `lowest` up to `top`
 abbrev pub invariant-steps : goal.invariant-steps
@@ -16,9 +16,9 @@ invariant-steps g l =
     record {
       from_run : l.run.first ≤ l.place;
       within_run : l.place ≤ l.run.last;
-      tracks : Tracks tree l.self (l.run.last + 1) (l.place + 1) n u;
-      met : Meets tree u (component_at l.self l.place).compound;
-      joined : AreJoined l.self (l.place + 1) (l.run.last + 1);
+      tracks : Tracks tree l.selector (l.run.last + 1) (l.place + 1) n u;
+      met : Meets tree u (component_at l.selector l.place).compound;
+      joined : AreJoined l.selector (l.place + 1) (l.run.last + 1);
       no_deeper : tree.depth u ≤ tree.depth n;
       counted : l.tests + l.place ≡ l.initial.tests + l.run.last;
     }

@@ -3,7 +3,7 @@ use Rattle.std.proofs.lemmas.Bool.{false≢true}
 use Rattle.simplecss_selector.specs.Placements.{Holds}
 use Rattle.simplecss_selector.specs.Seen.{subselector_of}
 use Rattle.simplecss_selector.proofs.Meeting.{whole_step, whole_fails}
-use Rattle.simplecss_selector.proofs.selector.Selector.is_met_at.Goals as goal
+use Rattle.simplecss_selector.proofs.matching.is_met_at.Goals as goal
 
 pub returns-then-not-holds-clause-answer : goal.returns-then-not-holds-clause-answer
 returns-then-not-holds-clause-answer g c = (

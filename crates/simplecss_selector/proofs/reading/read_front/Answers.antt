@@ -4,7 +4,7 @@ use Rattle.simplecss_text.specs.TokenRuns.{run_of}
 use Rattle.simplecss_text.specs.Selectors.{outcome, reads}
 use Rattle.simplecss_text.proofs.printed.ReadSelectors.{found-reads_back}
 use Rattle.simplecss_selector.proofs.Drafting.{selector_after-begun}
-use Rattle.simplecss_selector.proofs.selector.Selector.parse_front.Goals as goal
+use Rattle.simplecss_selector.proofs.reading.read_front.Goals as goal
 
 pub loop-item-init : goal.loop-item-init
 unfolding reads

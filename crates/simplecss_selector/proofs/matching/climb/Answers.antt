@@ -5,13 +5,13 @@ use Rattle.simplecss_selector.proofs.Greedy.{tracks_step, not_met, no_node, no_r
 use Rattle.simplecss_selector.proofs.RunEnds.{IsRun-step, IsRun-gap}
 use Rattle.simplecss_selector.proofs.Stretches.{run_tests-bound, AreJoined-more}
 use Rattle.simplecss_selector.proofs.Turns.{borrowed, step_at, step_not}
-use Rattle.simplecss_selector.proofs.selector.Selector.climb.Goals as goal
+use Rattle.simplecss_selector.proofs.matching.climb.Goals as goal
 
 pub returns-in_default-clause-finds : goal.returns-in_default-clause-finds
 returns-in_default-clause-finds g c =
     let tree = g.E.Element.tree in
     let node = g.E.Element.node in
-    let cs = c.args.self.now in
+    let cs = c.args.selector.now in
     let i = c.steps.invariant in
     let place = borrowed node c.as_ref.result c.steps.top c.args.lowest c.unwrap_or-node.result c.as_ref.ensures.value c.unwrap_or-node.ensures in
     let joined = IsRun-step cs c.args.run.first c.args.run.last c.steps.place _ c.requires.run c.steps-test.true i.within_run c.combinator.ensures.value c.combinator.ensures.first.0 in
@@ -21,13 +21,13 @@ returns-in_default-clause-finds g c =
 pub returns-in_default-clause-bounded : goal.returns-in_default-clause-bounded
 returns-in_default-clause-bounded g c =
     let i = c.steps.invariant in
-    run_tests-bound c.args.self.now c.steps.place c.args.run.last _ _ i.within_run c.requires.run.within i.joined i.counted
+    run_tests-bound c.args.selector.now c.steps.place c.args.run.last _ _ i.within_run c.requires.run.within i.joined i.counted
 
 pub returns-then-not-is_met_at-clause-finds : goal.returns-then-not-is_met_at-clause-finds
 returns-then-not-is_met_at-clause-finds g c =
     let tree = g.E.Element.tree in
     let node = g.E.Element.node in
-    let cs = c.args.self.now in
+    let cs = c.args.selector.now in
     let i = c.steps.invariant in
     let some : 0 < c.steps.place = omega (arith, c.steps-test.true) in
     let place = borrowed node c.as_ref.result c.steps.top c.args.lowest c.unwrap_or-node.result c.as_ref.ensures.value c.unwrap_or-node.ensures in
@@ -37,7 +37,7 @@ returns-then-not-is_met_at-clause-finds g c =
 
 pub returns-then-not-is_met_at-clause-bounded : goal.returns-then-not-is_met_at-clause-bounded
 returns-then-not-is_met_at-clause-bounded g c =
-    let cs = c.args.self.now in
+    let cs = c.args.selector.now in
     let i = c.steps.invariant in
     let some : 0 < c.steps.place = omega (arith, c.steps-test.true) in
     let joined = IsRun-step cs c.args.run.first c.args.run.last c.steps.place _ c.requires.run c.steps-test.true i.within_run c.combinator.ensures.value c.combinator.ensures.first.0 in
@@ -48,7 +48,7 @@ pub steps-preserved : goal.steps-preserved
 steps-preserved g c =
     let tree = g.E.Element.tree in
     let node = g.E.Element.node in
-    let cs = c.args.self.now in
+    let cs = c.args.selector.now in
     let i = c.steps.invariant in
     let some : 0 < c.steps.place = omega (arith, c.steps-test.true) in
     let place = borrowed node c.as_ref.result c.steps.top c.args.lowest c.unwrap_or-node.result c.as_ref.ensures.value c.unwrap_or-node.ensures in
@@ -66,23 +66,23 @@ steps-preserved g c =
 pub returns-then-run-eq0-clause-bounded : goal.returns-then-run-eq0-clause-bounded
 returns-then-run-eq0-clause-bounded g c =
     let i = c.steps.invariant in
-    run_tests-bound c.args.self.now c.steps.place c.args.run.last _ _ i.within_run c.requires.run.within i.joined i.counted
+    run_tests-bound c.args.selector.now c.steps.place c.args.run.last _ _ i.within_run c.requires.run.within i.joined i.counted
 
 pub returns-in-Some-parent_element-clause-bounded : goal.returns-in-Some-parent_element-clause-bounded
 returns-in-Some-parent_element-clause-bounded g c =
     let i = c.steps.invariant in
-    run_tests-bound c.args.self.now c.steps.place c.args.run.last _ _ i.within_run c.requires.run.within i.joined i.counted
+    run_tests-bound c.args.selector.now c.steps.place c.args.run.last _ _ i.within_run c.requires.run.within i.joined i.counted
 
 pub returns-clause-bounded : goal.returns-clause-bounded
 returns-clause-bounded g c =
     let i = c.steps.invariant in
-    run_tests-bound c.args.self.now c.steps.place c.args.run.last _ _ i.within_run c.requires.run.within i.joined i.counted
+    run_tests-bound c.args.selector.now c.steps.place c.args.run.last _ _ i.within_run c.requires.run.within i.joined i.counted
 
 pub returns-in-Some-parent_element-clause-finds : goal.returns-in-Some-parent_element-clause-finds
 returns-in-Some-parent_element-clause-finds g c =
     let tree = g.E.Element.tree in
     let node = g.E.Element.node in
-    let cs = c.args.self.now in
+    let cs = c.args.selector.now in
     let i = c.steps.invariant in
     let place = borrowed node c.as_ref-2.result c.steps.top c.args.lowest c.unwrap_or-node-2.result c.as_ref-2.ensures.value c.unwrap_or-node-2.ensures in
     let parent = ap tree.parent (sym place) ∙ sym c.in-Some-parent_element.ensures in
@@ -97,7 +97,7 @@ pub returns-clause-finds : goal.returns-clause-finds
 returns-clause-finds g c =
     let tree = g.E.Element.tree in
     let node = g.E.Element.node in
-    let cs = c.args.self.now in
+    let cs = c.args.selector.now in
     let i = c.steps.invariant in
     let place = borrowed node c.as_ref-2.result c.steps.top c.args.lowest c.unwrap_or-node-2.result c.as_ref-2.ensures.value c.unwrap_or-node-2.ensures in
     let parent = ap tree.parent (sym place) ∙ sym c.in-None.ensures in

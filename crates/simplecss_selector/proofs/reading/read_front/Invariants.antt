@@ -4,7 +4,7 @@ use Rattle.simplecss_text.specs.TokenRuns.{items}
 use Rattle.simplecss_text.specs.Selectors.{outcome, reads}
 use Rattle.simplecss_selector.specs.Drafts.{selector_after}
 use Rattle.simplecss_selector.specs.Tokenizer.{source, still_to_come}
-use Rattle.simplecss_selector.proofs.selector.Selector.parse_front.Given as goal
+use Rattle.simplecss_selector.proofs.reading.read_front.Given as goal
 
 -- what is read when the rest is put into the draft, is what is read of the whole text
 abbrev pub invariant-loop-item : goal.invariant-loop-item
