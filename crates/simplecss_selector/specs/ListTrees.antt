@@ -1,6 +1,7 @@
 -- Trees whose nodes stand in a list, each behind its parent. Whoever keeps elements in a list and says
--- of each place which its parent and its previous sibling are, has the two laws of elements from here
--- (which a trait asks for, so they stand in this folder).
+-- of each place which its parent and its previous sibling are, has the two laws of elements from here.
+-- Their proofs stand in this folder since the trait `Element` asks for the laws: an impl names them,
+-- so they are part of what is stated.
 use Rattle.std.proofs.Common.{◌≡◌, ℕ, zero, suc, ◌+◌, ◌<◌, Bool, true, false, cond, List, [], ◌∷◌, length, Option, None, Some, IfSome, MatchOption, refl, ap, ◌∙◌, arith}
 use Rattle.std.specs.Prelude.{nat_lt, nat_eq, if◌then◌else◌}
 use Rattle.std.specs.Option.{option_map, option_eq}

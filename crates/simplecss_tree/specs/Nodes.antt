@@ -91,6 +91,8 @@ told_at (rows, i) = record {
   class = attribute_at rows i (codes "class");
 }
 
+-- An element tells what it answers by. This is proved here since the trait `Keyed` asks for it: the
+-- impl names it, so it is part of what is stated.
 pub keys_told : (n : List Row × ℕ) → TellsKeys element_tree n (told_at n)
 keys_told n (by_id text) h = h
 keys_told n (by_class word) h = h
