@@ -106,7 +106,8 @@ inside_front ds i k within before = let le : i ≤ length ds = omega arith in rw
 front_inside : (ds : List ℕ) (i k : ℕ) → i < length ds → k < length (take i ds) → k < i
 front_inside ds i k within before = let le : i ≤ length ds = omega arith in rw (length-take-le i ds) at before
 
--- what the nearest element says of the parent and the previous sibling of an element behind the list
+-- what the nearest element says of the parent and the previous sibling of an element behind the
+-- list
 module _ (ds : List ℕ) (d : ℕ) where
   pub none_near : None ≡ last_place (λ x. nat_le x d) ds
       → (None ≡ last_place (λ x. nat_lt x d) ds) × (None ≡ equal_at ds d (last_place (λ x. nat_le x d) ds))

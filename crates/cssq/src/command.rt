@@ -18,13 +18,14 @@ pub enum Command<'w> {
     Sheet(&'w [String]),
     /// `match FILE TREE`: which rules of the file's sheet take each element of the tree.
     Match(&'w str, &'w str),
-    /// `style FILE TREE NAME`: which declaration of the name in the file's sheet wins on each element of the tree.
+    /// `style FILE TREE NAME`: which declaration of the name in the file's sheet wins on each
+    /// element of the tree.
     Style(&'w str, &'w str, &'w str),
 }
 
 impl<'w> Command<'w> {
-    /// The command that the words after the program's name ask for, or none where they ask for no command. It takes no
-    /// memory.
+    /// The command that the words after the program's name ask for, or none where they ask for no
+    /// command. It takes no memory.
     pub fn of(words: &'w [String]) -> Option<Command<'w>>
         ensures { option_map request result ≡ request_of (map string_bytes words.now) }
     {

@@ -19,8 +19,9 @@ use std::marker::Model;
 /// What is wrong with a tree's text, with the number of the line at which it is, the first being 1.
 #[derive(Clone, Copy, PartialEq, Debug)]
 pub enum TreeFault {
-    /// The first field is no depth: `0`, or digits without a leading zero. Or it is one that may not stand there: on the
-    /// first line a depth is 0, and on another at most that of the line before and one more. So it is at an empty line.
+    /// The first field is no depth: `0`, or digits without a leading zero. Or it is one that may
+    /// not stand there: on the first line a depth is 0, and on another at most that of the line
+    /// before and one more. So it is at an empty line.
     BadDepth(usize),
     /// There is no second field, the name, or it is empty.
     EmptyName(usize),
@@ -170,7 +171,8 @@ fn attribute_of(field: &str) -> (&str, &str)
     }
 }
 
-/// The first fault of the attribute fields of a line, where each key is compared with those before it.
+/// The first fault of the attribute fields of a line, where each key is compared with those before
+/// it.
 fn first_fault(number: usize, fields: Option<&str>) -> Option<TreeFault>
     ensures { result ≡ slice_get (field_faults number (fields_in fields.entry)) 0 }
 {
@@ -221,8 +223,8 @@ fn are_many(fields: Option<&str>) -> bool {
     }
 }
 
-/// Checks the attribute fields of a line. Where memory for a set of many keys is refused, the fields are compared in
-/// pairs, so that want of memory is told of a sound line alone.
+/// Checks the attribute fields of a line. Where memory for a set of many keys is refused, the
+/// fields are compared in pairs, so that want of memory is told of a sound line alone.
 fn check_fields(alloc: Global, number: usize, fields: Option<&str>) -> Result<(), TreeFault>
     ensures { MatchResult result (λ _. field_faults number (fields_in fields.entry) ≡ []) (λ fault. IsToldOf number (field_faults number (fields_in fields.entry)) fault) }
 {

@@ -1,4 +1,5 @@
-//! Shows how selectors and style sheets read, which rules take the elements of a tree, and which declarations win there.
+//! Shows how selectors and style sheets read, which rules take the elements of a tree, and which
+//! declarations win there.
 #![tactic(auto)]
 
 mod notice;
@@ -81,9 +82,9 @@ fn read_files(rt: &HostRuntime, names: &[String]) -> Result<Vec<String>, ExitCod
     Ok(texts)
 }
 
-/// Tells on standard error what of a sheet's text was passed over with a warning: the file, the row and
-/// the column in it, the text that stands there, and why. Where memory or standard error is wanting,
-/// less is told.
+/// Tells on standard error what of a sheet's text was passed over with a warning: the file, the row
+/// and the column in it, the text that stands there, and why. Where memory or standard error is
+/// wanting, less is told.
 fn tell_faults(rt: &HostRuntime, name: &str, text: &str) -> io::Result<()> {
     let mut out = BufWriter::new(rt.alloc(), rt.stderr())?;
     let faults = find_faults(rt.alloc(), text)?;

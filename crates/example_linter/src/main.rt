@@ -1,5 +1,6 @@
-//! An example: reports what of some style sheets is passed over, `lint FILE..`. A line for each refused
-//! selector, broken declaration, at-rule and open comment, with the file, the row and the column.
+//! An example: reports what of some style sheets is passed over, `lint FILE..`. A line for each
+//! refused selector, broken declaration, at-rule and open comment, with the file, the row and the
+//! column.
 #![tactic(auto)]
 
 use simplecss_faults::find_faults;

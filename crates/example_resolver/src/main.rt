@@ -69,8 +69,8 @@ fn push_declarations<'a>(
     Ok(())
 }
 
-/// The declarations that apply to an element, the weakest first: the rules at these places match it,
-/// and its attribute `style` is `own`.
+/// The declarations that apply to an element, the weakest first: the rules at these places match
+/// it, and its attribute `style` is `own`.
 fn resolve<'a>(
     alloc: Global,
     rules: &[Rule<'a>],

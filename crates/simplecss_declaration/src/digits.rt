@@ -1,4 +1,5 @@
-//! Digits at the front of a text. Each public function answers a number of bytes, at which the text may be cut.
+//! Digits at the front of a text. Each public function answers a number of bytes, at which the text
+//! may be cut.
 ghost use Rattle.std.specs.Prelude.{◌≡◌};
 ghost use Rattle.std.specs.List.{prefix_len};
 ghost use Rattle.std.specs.Str.{IsCharBoundary};

@@ -1,5 +1,6 @@
-//! Makes one call of the libraries, between two marks on standard error, and shows what it answered. The sweep in `tests/`
-//! refuses the requests for memory that are made between the marks, one after the other.
+//! Makes one call of the libraries, between two marks on standard error, and shows what it
+//! answered. The sweep in `tests/` refuses the requests for memory that are made between the marks,
+//! one after the other.
 #![tactic(auto)]
 
 use cssq::cascade::winners;
@@ -67,8 +68,8 @@ fn show_sheet<R: Log>(rt: &HostRuntime, log: &R, text: &str) -> io::Result<()> {
     }
 }
 
-/// Reads a second text into the sheet of a first one. Where that is refused, the sheet is shown as it is, and the second
-/// text is read again.
+/// Reads a second text into the sheet of a first one. Where that is refused, the sheet is shown as
+/// it is, and the second text is read again.
 fn show_more<R: Log>(rt: &HostRuntime, log: &R, text: &str, more: &str) -> io::Result<()> {
     let mut sheet = StyleSheet::parse(log, rt.alloc(), text)?;
     begin(rt);
@@ -224,7 +225,8 @@ fn show_asked(rt: &HostRuntime, call: &str, text: &str, tree: &str) -> io::Resul
     show_number(rt, number)
 }
 
-/// Makes a tree of the names, each the child of the one before, with its name as its class. Gives how many elements it has.
+/// Makes a tree of the names, each the child of the one before, with its name as its class. Gives
+/// how many elements it has.
 fn chain_len(alloc: Global, names: &[&str]) -> Result<usize, TreeError> {
     let mut tree = Tree::new(alloc);
     let mut parent = None;

@@ -428,7 +428,8 @@ impl<'a> Iterator for SelectorTokenizer<'a> {
 
     ghost remaining = { item_count items_left };
 
-    /// The next token or error. Names and values are slices of the text, each behind the one before.
+    /// The next token or error. Names and values are slices of the text, each behind the one
+    /// before.
     #[inline(always)]
     fn next(&mut self) -> Option<Result<SelectorToken<'a>, Error>> {
         match self.state {

@@ -77,9 +77,10 @@ impl<'p, 't> Node<'p, 't> {
     }
 }
 
-/// Names and values compare byte by byte. A first child is an element without a previous sibling, so
-/// the first of those without a parent is one too. The states are those of `Tree::set_states`. The
-/// language is the attribute `lang` of the nearest among the element and its ancestors that has one.
+/// Names and values compare byte by byte. A first child is an element without a previous sibling,
+/// so the first of those without a parent is one too. The states are those of `Tree::set_states`.
+/// The language is the attribute `lang` of the nearest among the element and its ancestors that has
+/// one.
 impl<'p, 't> Element for Node<'p, 't> {
     ghost use Rattle.std.specs.Prelude.{ℕ, List};
     ghost use Rattle.simplecss.specs.ListTrees.{list_counts_ancestors, list_shares_parents};

@@ -179,8 +179,8 @@ impl<'t> Tree<'t> {
         Ok(place)
     }
 
-    /// Adds an attribute to the element that was added last. Of two attributes of one name the first
-    /// counts.
+    /// Adds an attribute to the element that was added last. Of two attributes of one name the
+    /// first counts.
     pub fn set_attribute(&mut self, name: &'t str, value: &'t str) -> Result<(), TreeError>
         ensures ok { OnOk result (self.new ≡ with_attribute self.old name.now value.now) }
         ensures no_element { (result ≡ Err NoElement) ↔ (self.old ≡ []) }
