@@ -42,6 +42,7 @@ impl<'w> Command<'w> {
     }
 }
 
+/// The command `selector`, if there is one operand, the text.
 fn selector(operands: &[String]) -> Option<Command<'_>>
     ensures { option_map request result ≡ selector_of (map string_bytes operands.now) }
 {
@@ -51,6 +52,7 @@ fn selector(operands: &[String]) -> Option<Command<'_>>
     }
 }
 
+/// The command `sheet`, if there is an operand: all are names of files.
 fn sheet(operands: &[String]) -> Option<Command<'_>>
     ensures { option_map request result ≡ sheet_of (map string_bytes operands.now) }
 {
@@ -60,6 +62,7 @@ fn sheet(operands: &[String]) -> Option<Command<'_>>
     }
 }
 
+/// The command `match`, if there are two operands: the names of a file and of a tree.
 #[tactic(auto, using(crate::proofs::Operands::match_of_few, crate::proofs::Operands::match_of_many))]
 fn match_tree(operands: &[String]) -> Option<Command<'_>>
     ensures { option_map request result ≡ match_of (map string_bytes operands.now) }
@@ -70,6 +73,8 @@ fn match_tree(operands: &[String]) -> Option<Command<'_>>
     }
 }
 
+/// The command `style`, if there are three operands: the names of a file and of a tree, and that of
+/// a property.
 #[tactic(auto, using(crate::proofs::Operands::style_of_few, crate::proofs::Operands::style_of_many))]
 fn style_tree(operands: &[String]) -> Option<Command<'_>>
     ensures { option_map request result ≡ style_of (map string_bytes operands.now) }

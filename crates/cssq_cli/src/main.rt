@@ -37,11 +37,13 @@ fn fail(rt: &HostRuntime, status: u8, line: &str) -> ExitCode {
     ExitCode::from(status)
 }
 
+/// Tells that a file, or standard input, cannot be read.
 fn unreadable(rt: &HostRuntime, name: &str) -> ExitCode {
     let _ = eprintln!(rt; "cssq: cannot read {name}");
     ExitCode::from(4)
 }
 
+/// The exit status of a run, whose fault it tells.
 fn ended(rt: &HostRuntime, outcome: Result<(), RunFault>) -> ExitCode {
     match outcome {
         Ok(()) => ExitCode::SUCCESS,
@@ -168,6 +170,7 @@ fn show_style(rt: &HostRuntime, file: &str, tree: &str, name: &str) -> ExitCode 
     ended(rt, outcome)
 }
 
+/// Runs the command that the program's words ask for.
 fn main(rt: HostRuntime) -> ExitCode {
     let Some(words) = words(&rt) else {
         return fail(&rt, 2, USAGE);

@@ -12,6 +12,7 @@ use super::digits;
 use simplecss_text::stream::Stream;
 use simplecss_text::{readers, scan};
 
+/// Passes the digits that stand there.
 #[inline(always)]
 fn pass_digits(s: &mut Stream<'_>)
     ensures text { text_of s.new ≡ text_of s.old }

@@ -8,10 +8,13 @@ use std::alloc::{AllocError, Global};
 /// The faults of a text that were found so far.
 #[derive(Drop)]
 struct Finder<'a> {
+    /// The whole text.
     text: &'a str,
+    /// The faults, in the order in which they were found.
     faults: Vec<Fault<'a>>,
     /// A place that was told, and its position: the next one is counted from there.
     place: usize,
+    /// The position of `place`.
     pos: TextPos,
 }
 
@@ -28,6 +31,7 @@ fn before(text: &str, one: char, two: char) -> &str {
     }
 }
 
+/// What stands before a place of the text, without white space around it.
 fn tail_before(text: &str, end: usize) -> &str {
     text.get(..end).unwrap_or("").trim()
 }

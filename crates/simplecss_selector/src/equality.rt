@@ -6,6 +6,7 @@ ghost use Rattle.simplecss_text.specs.PrintingLaws.{PrintAlikeIfEqual};
 
 use crate::selector::Selector;
 
+/// By the components, wherever their texts stand.
 impl<'a> PartialEq for Selector<'a> {
     ghost use Rattle.simplecss_selector.specs.Equality.{selector_eq};
     ghost use Rattle.simplecss_selector.specs.EqualityLaws.{selector_per};

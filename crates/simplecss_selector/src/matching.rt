@@ -27,7 +27,9 @@ enum Fit<E> {
 /// A run of child and adjacent steps: the places of its first and of its last component.
 #[derive(Clone, Copy)]
 struct Run {
+    /// The place of the first.
     first: usize,
+    /// The place of the last.
     last: usize,
 }
 

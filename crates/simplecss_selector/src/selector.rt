@@ -22,16 +22,22 @@ use std::marker::Model;
 /// How a component is related to the one before it.
 #[derive(Clone, Copy, Debug, PartialEq)]
 pub(crate) enum Combinator {
+    /// To none: it is the first.
     None,
+    /// Its element descends from the one before.
     Descendant,
+    /// Its element is a child of the one before.
     Child,
+    /// Its element is the next sibling of the one before.
     Adjacent,
 }
 
 /// What is asked of an element besides its name.
 #[derive(Clone, Copy, Debug, PartialEq)]
 pub(crate) enum SubSelector<'a> {
+    /// An attribute of this name, of which the operator holds.
     Attribute(&'a str, AttributeOperator<'a>),
+    /// That it is in the pseudo-class.
     PseudoClass(PseudoClass<'a>),
 }
 
@@ -39,8 +45,11 @@ pub(crate) enum SubSelector<'a> {
 /// one before end.
 #[derive(Clone, Copy, Debug, PartialEq)]
 pub(crate) struct Part<'a> {
+    /// How it is related to the component before it.
     pub(crate) combinator: Combinator,
+    /// The type name, or `None` for any type.
     pub(crate) name: Option<&'a str>,
+    /// Where its subselectors end in the list of all.
     pub(crate) end: usize,
 }
 
@@ -50,7 +59,9 @@ pub(crate) struct Part<'a> {
 pub struct Selector<'a> {
     /// All components but the last, so that a selector with one component takes no memory for it.
     pub(crate) parts: Vec<Part<'a>>,
+    /// The last component.
     pub(crate) last: Part<'a>,
+    /// The subselectors of all components, one component after the other.
     pub(crate) subselectors: Vec<SubSelector<'a>>,
     /// For each run of child and adjacent steps but the last, in order, the number of components up
     /// to its end. The last run ends with the components, so that a selector of one run takes no

@@ -11,7 +11,9 @@ use std::marker::Model;
 /// An element of a tree.
 #[derive(Debug, Drop)]
 pub struct Node<'p, 't> {
+    /// The tree that the element is of.
     pub(crate) tree: &'p Tree<'t>,
+    /// Its place among the elements.
     pub(crate) place: usize,
 }
 

@@ -90,11 +90,17 @@ impl From<TreeError> for io::Error {
 /// An element's own data, and the places of its relatives.
 #[derive(Debug, Drop)]
 pub(crate) struct Entry<'t> {
+    /// The element's name.
     pub(crate) name: &'t str,
+    /// The name and the value of each attribute.
     pub(crate) attributes: Vec<(&'t str, &'t str)>,
+    /// The place of the parent, if there is one.
     pub(crate) parent: Option<usize>,
+    /// The place of the previous sibling, if there is one.
     pub(crate) previous: Option<usize>,
+    /// The states that the element is in.
     pub(crate) states: States,
+    /// The place of the last child, if there is one: the previous sibling of the next.
     last_child: Option<usize>,
 }
 
@@ -103,7 +109,9 @@ pub(crate) struct Entry<'t> {
 /// beside its place in the list.
 #[derive(Debug, Drop)]
 pub struct Tree<'t> {
+    /// An entry for each element.
     pub(crate) entries: Vec<Entry<'t>>,
+    /// The place of the last element without a parent, if there is one.
     last_root: Option<usize>,
 }
 

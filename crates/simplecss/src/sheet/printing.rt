@@ -100,6 +100,7 @@ fn write_declarations<W: fmt::Write>(
     Ok(())
 }
 
+/// Writes a declaration as it prints itself.
 fn write_declaration<W: fmt::Write>(
     f: &mut fmt::Formatter<W>,
     declaration: &Declaration,

@@ -30,6 +30,7 @@ pub struct Statement<'a> {
 /// of their specificity.
 #[derive(Debug, Drop)]
 pub struct StatementReader<'a> {
+    /// The text, and the place behind the last statement.
     stream: Stream<'a>,
 }
 

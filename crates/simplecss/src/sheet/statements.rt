@@ -141,8 +141,11 @@ fn pass_at_rule<R: Log>(rt: &R, s: &mut Stream<'_>)
 /// used again for each.
 #[derive(Drop)]
 pub struct RuleReader<'a> {
+    /// The rules of the statements that were read.
     rules: Vec<Rule<'a>>,
+    /// The selectors of the rule set that is read.
     selectors: Vec<Selector<'a>>,
+    /// The declarations of its block.
     declarations: Vec<Declaration<'a>>,
 }
 
