@@ -25,7 +25,8 @@ pub record IsCandidate {Node : Type 0} (tree : Tree Node) (n : Node) (rule : Sty
   pub takes : HasPlacement tree rule.components n
   pub best : (i : ℕ) → Wins (InRule i rule.properties) name (Some p)
 
--- whatever declaration of the name the rule has, one of a later rule is known, and this one is not important
+-- whatever declaration of the name the rule has, one of a later rule is known, and this one is not
+-- important
 abbrev pub IsOutdone : StyleRule → List ℕ → Bool → Type 0
 IsOutdone rule name is_later_known =
     (j : ℕ) (p : Property) → slice_get rule.properties j ≡ Some p → p.name ≡ name → (is_later_known ≡ true) × (p.important ≡ false)
@@ -38,7 +39,8 @@ IsPassedOver tree n rule name is_later_known = HasPlacement tree rule.components
 abbrev pub place_for : BTreeMap (Bor (List ℕ)) ℕ → List ℕ → Option ℕ
 place_for places name = get_by (λ key. slice_cmp nat_cmp name key.now) places
 
--- the place of what wins for the name among the properties of a list, or none where none has the name
+-- the place of what wins for the name among the properties of a list, or none where none has the
+-- name
 abbrev pub IsBestPlace : List Property → List ℕ → Option ℕ → Type 0
 IsBestPlace properties name None = NoneStands (InRule 0 properties) name
 IsBestPlace properties name (Some k) = (p : Property) × WinsAt (InRule 0 properties) name 0 k p
@@ -47,7 +49,8 @@ IsBestPlace properties name (Some k) = (p : Property) × WinsAt (InRule 0 proper
 abbrev pub HasBestPlaces : BTreeMap (Bor (List ℕ)) ℕ → List Property → Type 0
 HasBestPlaces places properties = (name : List ℕ) → IsBestPlace properties name (place_for places name)
 
--- whether the later takes over from what stands at the known place, if one is known: it is no lighter
+-- whether the later takes over from what stands at the known place, if one is known: it is no
+-- lighter
 abbrev pub TellsWhether : Bool → List Property → Option ℕ → Property → Type 0
 TellsWhether takes_over properties None later = takes_over ≡ true
 TellsWhether true properties (Some k) later = (p : Property) → slice_get properties k ≡ Some p → weight p.important ≤ weight later.important

@@ -45,7 +45,8 @@ style_of (file ∷ tree ∷ []) = None
 style_of (file ∷ tree ∷ name ∷ []) = Some (style file tree name)
 style_of (file ∷ tree ∷ name ∷ word ∷ words) = None
 
--- no word asks for standard input; else the first word is a command's name, and the others are its operands
+-- no word asks for standard input; else the first word is a command's name, and the others are its
+-- operands
 abbrev pub request_of : List (List ℕ) → Option Request
 request_of [] = Some input
 request_of (name ∷ operands) =

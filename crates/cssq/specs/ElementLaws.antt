@@ -1,5 +1,6 @@
--- The laws of an element: how its depth goes with its parent, and its parent with its sibling's, and that it tells what it
--- answers by.
+-- The laws of an element: how its depth goes with its parent, and its parent with its sibling's,
+-- and that it tells what it answers by. They are proofs, and stand in this folder since the traits
+-- `Element` and `Keyed` ask for them: an impl names them, so they are part of what is stated.
 use Rattle.std.proofs.Common.{◌≡◌, ℕ, zero, suc, ◌+◌, ◌<◌, ◌≤◌, Bool, true, false, cond, List, take, get_or, refl, sym, ap, ◌∙◌, subst, arith, Option, None, Some, IfSome, MatchOption}
 use Rattle.std.specs.Prelude.{nat_lt, ◌==◌}
 use Rattle.std.specs.Option.{option_map}

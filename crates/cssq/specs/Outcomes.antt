@@ -8,8 +8,8 @@ use Rattle.cssq.specs.declared.runs.RunFault.TheVariants.{Refused, Tree, Memory,
 abbrev pub AppendsProperPart : Option (List ℕ) → Option (List ℕ) → List ℕ → Type 0
 AppendsProperPart old new bytes = (front : List ℕ) × (rest : List ℕ) × (bytes ≡ front ++ rest) × (0 < length rest) × Appends old new front
 
--- A run is to write bytes, or to answer a fault. It did write them; or the writer failed after a beginning; or nothing
--- was written, for want of memory or because the fault was due.
+-- A run is to write bytes, or to answer a fault. It did write them; or the writer failed after a
+-- beginning; or nothing was written, for want of memory or because the fault was due.
 abbrev pub Runs : (Result (List ℕ) RunFault → Type 0) → Result (Unit {0}) RunFault → Option (List ℕ)
     → Option (List ℕ) → Type 0
 Runs IsDue (Ok x) old new = (bytes : List ℕ) × IsDue (Ok bytes) × Appends old new bytes

@@ -1,4 +1,5 @@
--- The last place of a list at which a test passes.
+-- The last place of a list at which a test passes. These are proofs: they stand in this folder
+-- since the laws of an element, which a trait asks for, stand on them (`ElementLaws`).
 use Rattle.std.proofs.Common.{◌≡◌, ℕ, zero, suc, ◌+◌, ◌<◌, ◌≤◌, Bool, true, false, cond, List, [], ◌∷◌, length, take, get_or, refl, sym, ap, subst, arith, Option, None, Some, MatchOption, ⊎_elim}
 use Rattle.std.specs.Prelude.{nat_le, nat_lt}
 use Rattle.std.proofs.lemmas.Bool.{cases_order, both_ways}

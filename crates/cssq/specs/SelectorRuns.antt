@@ -13,7 +13,8 @@ use Rattle.cssq.specs.declared.runs.RunFault.TheVariants.{Refused}
 abbrev pub selector_in : List ℕ → Option (List Component)
 selector_in text = (reads this_edition text).0
 
--- the printed selector, a TAB, its specificity as three numbers with commas between them, and a newline
+-- the printed selector, a TAB, its specificity as three numbers with commas between them, and a
+-- newline
 abbrev pub selector_line : List Component → List ℕ
 selector_line selector = selector_text selector ++ (9 ∷ join_with_byte 44 (map decimal (specificity selector)) ++ 10 ∷ [])
 

@@ -1,4 +1,5 @@
--- The parents and previous siblings in a list of depths that grows.
+-- The parents and previous siblings in a list of depths that grows. These are proofs: they stand in
+-- this folder since the laws of an element, which a trait asks for, stand on them (`ElementLaws`).
 use Rattle.std.proofs.Common.{◌≡◌, ℕ, ◌<◌, ◌≤◌, Bool, true, false, cond, List, [], ◌∷◌, ◌++◌, length, take, get_or, refl, sym, ap, ◌∙◌, subst, arith, Option, None, Some, IfSome, ⊎_elim}
 use Rattle.std.specs.Prelude.{nat_le, nat_lt, ◌==◌}
 use Rattle.std.proofs.lemmas.Bool.{cases_order}
@@ -105,7 +106,8 @@ inside_front ds i k within before = let le : i ≤ length ds = omega arith in rw
 front_inside : (ds : List ℕ) (i k : ℕ) → i < length ds → k < length (take i ds) → k < i
 front_inside ds i k within before = let le : i ≤ length ds = omega arith in rw (length-take-le i ds) at before
 
--- what the nearest element says of the parent and the previous sibling of an element behind the list
+-- what the nearest element says of the parent and the previous sibling of an element behind the
+-- list
 module _ (ds : List ℕ) (d : ℕ) where
   pub none_near : None ≡ last_place (λ x. nat_le x d) ds
       → (None ≡ last_place (λ x. nat_lt x d) ds) × (None ≡ equal_at ds d (last_place (λ x. nat_le x d) ds))

@@ -119,7 +119,8 @@ fault_of_field number fields place = field_fault number (take place fields) (sli
 abbrev pub field_faults : ℕ → List (List ℕ) → List TreeFault
 field_faults number fields = filter_map (fault_of_field number fields) (range_with_len 0 (length fields))
 
--- every fault of a line whose depth may be at most the limit: of the depth, of the name, and of the fields from the left
+-- every fault of a line whose depth may be at most the limit: of the depth, of the name, and of the
+-- fields from the left
 abbrev pub faults_of_line : ℕ → ℕ → List (List ℕ) → List TreeFault
 faults_of_line number limit fields =
     cons_option (depth_fault number limit fields) (cons_option (name_fault number fields) (field_faults number (attribute_fields fields)))
@@ -130,7 +131,8 @@ faults_of_line number limit fields =
 abbrev pub lines_in : List ℕ → List (List (List ℕ))
 lines_in text = map fields_of (lines_of text)
 
--- the greatest depth of each line: the first one's is given, and each other line may be one deeper than the one before
+-- the greatest depth of each line: the first one's is given, and each other line may be one deeper
+-- than the one before
 abbrev pub limits_of : ℕ → List (List (List ℕ)) → List ℕ
 limits_of first lines = first ∷ map (λ fields. depth_in fields + 1) lines
 

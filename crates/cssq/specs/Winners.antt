@@ -10,7 +10,8 @@ use Rattle.simplecss.specs.Placements.{HasPlacement}
 abbrev pub Standing : Type 1
 Standing = ℕ → ℕ → Property → Type 0
 
--- The property is the declaration at place j of the rule at place i, and this rule has a placement on the node.
+-- The property is the declaration at place j of the rule at place i, and this rule has a placement
+-- on the node.
 pub record IsStated {Node : Type 0} (tree : Tree Node) (n : Node) (rules : List StyleRule) (i j : ℕ) (p : Property) : Type 0 where
   pub rule : StyleRule
   pub rule_at : slice_get rules i ≡ Some rule
@@ -22,14 +23,16 @@ abbrev pub weight : Bool → ℕ
 weight true = 1
 weight false = 0
 
--- A declaration x at place j of the rule at place i beats y at place l of the rule at place k: x is more important; or as
--- important and of a later rule; or as important, of the same rule, and later in it.
+-- A declaration x at place j of the rule at place i beats y at place l of the rule at place k: x is
+-- more important; or as important and of a later rule; or as important, of the same rule, and later
+-- in it.
 pub data Beats (x : Property) (i j : ℕ) (y : Property) (k l : ℕ) : Type 0 where
   by_importance : weight y.important < weight x.important → Beats x i j y k l
   by_rule : weight x.important ≡ weight y.important → k < i → Beats x i j y k l
   by_place : weight x.important ≡ weight y.important → k ≡ i → l < j → Beats x i j y k l
 
--- The property of the name stands at this place, and no other of the name that stands somewhere beats it there.
+-- The property of the name stands at this place, and no other of the name that stands somewhere
+-- beats it there.
 pub record WinsAt (stands : Standing) (name : List ℕ) (i j : ℕ) (p : Property) : Type 0 where
   pub stated : stands i j p
   pub named : p.name ≡ name
@@ -44,7 +47,8 @@ abbrev pub Wins : Standing → List ℕ → Option Property → Type 0
 Wins stands name None = NoneStands stands name
 Wins stands name (Some p) = (i : ℕ) × (j : ℕ) × WinsAt stands name i j p
 
--- Among the declarations of a name in the rules that have a placement on the node, a winner is one that no other beats.
+-- Among the declarations of a name in the rules that have a placement on the node, a winner is one
+-- that no other beats.
 abbrev pub IsWinner : {Node : Type 0} → Tree Node → Node → List ℕ → List StyleRule → Property → Type 0
 IsWinner tree n name rules p = Wins (IsStated tree n rules) name (Some p)
 
@@ -66,7 +70,8 @@ pub record Placed : Type 0 where
 abbrev pub IsEarlier : ℕ → ℕ → ℕ → ℕ → Type 0
 IsEarlier i k j l = (i < j) ⊎ ((i ≡ j) × (k < l))
 
--- The properties are all that stand somewhere, once for each place at which one does, in the order of their places.
+-- The properties are all that stand somewhere, once for each place at which one does, in the order
+-- of their places.
 pub record ListsInOrder (stands : Standing) (properties : List Property) : Type 0 where
   pub placed : List Placed
   pub are : map (λ a. a.property) placed ≡ properties

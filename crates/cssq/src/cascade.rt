@@ -23,7 +23,8 @@ fn better_of<'a>(earlier: Option<Declaration<'a>>, later: Declaration<'a>) -> De
     }
 }
 
-/// The declaration of the name that wins within a rule: the last that is important, or else the last.
+/// The declaration of the name that wins within a rule: the last that is important, or else the
+/// last.
 fn best_of<'a>(declarations: &[Declaration<'a>], name: &str) -> Option<Declaration<'a>>
     // Whatever the rule's place.
     ensures { (i : ℕ) → Wins (InRule i (properties_of declarations.now)) name.now (option_map property_of result) }
@@ -37,7 +38,8 @@ fn best_of<'a>(declarations: &[Declaration<'a>], name: &str) -> Option<Declarati
     best
 }
 
-/// The declaration of the name that wins within a rule, unless one of a later rule is known and this one is not important.
+/// The declaration of the name that wins within a rule, unless one of a later rule is known and
+/// this one is not important.
 fn contender<'a>(rule: &Rule<'a>, name: &str, is_later_known: bool) -> Option<Declaration<'a>>
     ensures best { IfSome result (λ best. (i : ℕ)
         → Wins (InRule i (rule_of rule.now).properties) name.now (Some (property_of best))) }
@@ -51,7 +53,8 @@ fn contender<'a>(rule: &Rule<'a>, name: &str, is_later_known: bool) -> Option<De
     Some(best)
 }
 
-/// The contender of a rule, if the rule takes the element. The rule is not asked where it has no contender.
+/// The contender of a rule, if the rule takes the element. The rule is not asked where it has no
+/// contender.
 fn candidate<'a, E: Element>(
     rule: &Rule<'a>,
     element: &E,
@@ -70,10 +73,11 @@ fn candidate<'a, E: Element>(
     }
 }
 
-/// The declaration that wins for the name on the element: among the declarations of this name in the rules that take the
-/// element, an important one beats one that is not, then one of a later rule beats, then a later one of the same rule. None
-/// where there is no such declaration. The name compares byte by byte. It takes no memory, asks each rule at most once whether
-/// it takes the element, and asks no rule that has no declaration of the name.
+/// The declaration that wins for the name on the element: among the declarations of this name in
+/// the rules that take the element, an important one beats one that is not, then one of a later
+/// rule beats, then a later one of the same rule. None where there is no such declaration. The name
+/// compares byte by byte. It takes no memory, asks each rule at most once whether it takes the
+/// element, and asks no rule that has no declaration of the name.
 pub fn winning<'a, E: Element>(
     sheet: &StyleSheet<'a>,
     element: &E,
@@ -101,8 +105,8 @@ pub fn winning<'a, E: Element>(
     winner
 }
 
-/// What `winning` gives, by an index of the rules, which finds those that take the element. What stood in `places` is
-/// dropped, and its growth is all the memory that this takes.
+/// What `winning` gives, by an index of the rules, which finds those that take the element. What
+/// stood in `places` is dropped, and its growth is all the memory that this takes.
 pub(crate) fn winning_by<'a, E: Keyed>(
     index: &RuleIndex<'a>,
     rules: &[Rule<'a>],
@@ -147,7 +151,8 @@ fn stated_on<'a, E: Element>(
     Ok(all)
 }
 
-/// Whether a declaration wins over the one of its name that stands earlier in the list, if one does.
+/// Whether a declaration wins over the one of its name that stands earlier in the list, if one
+/// does.
 fn takes_over(
     declarations: &[Declaration<'_>],
     known: Option<usize>,
@@ -179,9 +184,10 @@ fn best_places<'a>(
     Ok(places)
 }
 
-/// The declarations that win on the element: for each name the one that `winning` gives, in the order of their places. The error
-/// is that a growth was refused. Each rule is asked once whether it takes the element, and the time that the rest takes grows as
-/// that of sorting the declarations of the rules that do.
+/// The declarations that win on the element: for each name the one that `winning` gives, in the
+/// order of their places. The error is that a growth was refused. Each rule is asked once whether
+/// it takes the element, and the time that the rest takes grows as that of sorting the declarations
+/// of the rules that do.
 pub fn winners<'a, E: Element>(
     alloc: Global,
     sheet: &StyleSheet<'a>,

@@ -18,13 +18,14 @@ pub enum Command<'w> {
     Sheet(&'w [String]),
     /// `match FILE TREE`: which rules of the file's sheet take each element of the tree.
     Match(&'w str, &'w str),
-    /// `style FILE TREE NAME`: which declaration of the name in the file's sheet wins on each element of the tree.
+    /// `style FILE TREE NAME`: which declaration of the name in the file's sheet wins on each
+    /// element of the tree.
     Style(&'w str, &'w str, &'w str),
 }
 
 impl<'w> Command<'w> {
-    /// The command that the words after the program's name ask for, or none where they ask for no command. It takes no
-    /// memory.
+    /// The command that the words after the program's name ask for, or none where they ask for no
+    /// command. It takes no memory.
     pub fn of(words: &'w [String]) -> Option<Command<'w>>
         ensures { option_map request result ≡ request_of (map string_bytes words.now) }
     {
@@ -41,6 +42,7 @@ impl<'w> Command<'w> {
     }
 }
 
+/// The command `selector`, if there is one operand, the text.
 fn selector(operands: &[String]) -> Option<Command<'_>>
     ensures { option_map request result ≡ selector_of (map string_bytes operands.now) }
 {
@@ -50,6 +52,7 @@ fn selector(operands: &[String]) -> Option<Command<'_>>
     }
 }
 
+/// The command `sheet`, if there is an operand: all are names of files.
 fn sheet(operands: &[String]) -> Option<Command<'_>>
     ensures { option_map request result ≡ sheet_of (map string_bytes operands.now) }
 {
@@ -59,6 +62,7 @@ fn sheet(operands: &[String]) -> Option<Command<'_>>
     }
 }
 
+/// The command `match`, if there are two operands: the names of a file and of a tree.
 #[tactic(auto, using(crate::proofs::Operands::match_of_few, crate::proofs::Operands::match_of_many))]
 fn match_tree(operands: &[String]) -> Option<Command<'_>>
     ensures { option_map request result ≡ match_of (map string_bytes operands.now) }
@@ -69,6 +73,8 @@ fn match_tree(operands: &[String]) -> Option<Command<'_>>
     }
 }
 
+/// The command `style`, if there are three operands: the names of a file and of a tree, and that of
+/// a property.
 #[tactic(auto, using(crate::proofs::Operands::style_of_few, crate::proofs::Operands::style_of_many))]
 fn style_tree(operands: &[String]) -> Option<Command<'_>>
     ensures { option_map request result ≡ style_of (map string_bytes operands.now) }

@@ -1,5 +1,5 @@
-//! What the program `cssq` does: trees of elements from their texts, which declarations win on an element, and runs over
-//! selectors, sheets and trees.
+//! What the program `cssq` does: trees of elements from their texts, which declarations win on an
+//! element, and runs over selectors, sheets and trees.
 #![tactic(auto)]
 
 pub mod cascade;

@@ -41,8 +41,8 @@ pub enum RunFault {
 }
 
 impl RunFault {
-    /// The exit status of the program: 1 where a text has a fault, 3 for want of memory, 4 where the writer failed. It
-    /// takes no memory.
+    /// The exit status of the program: 1 where a text has a fault, 3 for want of memory, 4 where
+    /// the writer failed. It takes no memory.
     pub fn status(&self) -> u8
         ensures { result ≡ status_of self.now }
     {
@@ -54,8 +54,8 @@ impl RunFault {
     }
 }
 
-/// Prints the line that the program writes to standard error, without its newline. Width, fill and flags of the formatter
-/// change nothing.
+/// Prints the line that the program writes to standard error, without its newline. Width, fill and
+/// flags of the formatter change nothing.
 impl fmt::Display for RunFault {
     ghost output = { λ fault. Some (message_of fault) };
 
@@ -146,10 +146,11 @@ fn selector_line(alloc: Global, selector: &Selector<'_>) -> Result<String, Alloc
     format!(in alloc; "{selector}\t{ids},{others},{types}\n")
 }
 
-/// Writes the selector of the text, a TAB, the three numbers of its specificity with commas between them, and a newline.
+/// Writes the selector of the text, a TAB, the three numbers of its specificity with commas between
+/// them, and a newline.
 ///
-/// The whole line is built first: after `Refused` and `Memory` nothing was written. After `Output` a beginning of the line
-/// was, and never all of it.
+/// The whole line is built first: after `Refused` and `Memory` nothing was written. After `Output`
+/// a beginning of the line was, and never all of it.
 pub fn run_selector<R: Log, W: Write>(
     rt: &R,
     alloc: Global,
@@ -175,10 +176,11 @@ fn sheet_text(alloc: Global, sheet: &StyleSheet<'_>) -> Result<String, AllocErro
     format!(in alloc; "{sheet}\n")
 }
 
-/// Reads the texts in turn into one sheet, and writes the printed sheet, and one newline if it has a rule.
+/// Reads the texts in turn into one sheet, and writes the printed sheet, and one newline if it has
+/// a rule.
 ///
-/// The whole output is built first: after `Memory` nothing was written. After `Output` a beginning of it was, and never all
-/// of it. There is no other fault.
+/// The whole output is built first: after `Memory` nothing was written. After `Output` a beginning
+/// of it was, and never all of it. There is no other fault.
 #[tactic(auto, using(crate::proofs::Written::runs_written))]
 pub fn run_sheet<R: Log, W: Write>(
     rt: &R,
@@ -223,11 +225,12 @@ fn match_text(alloc: Global, rules: &[Rule<'_>], page: &Page<'_>) -> Result<Stri
     Ok(text)
 }
 
-/// Writes for each element of a tree its number from 1, a colon, a space and the number of each rule of the sheet that takes
-/// it, and a newline.
+/// Writes for each element of a tree its number from 1, a colon, a space and the number of each
+/// rule of the sheet that takes it, and a newline.
 ///
-/// The sheet is read first, then the tree, and then the whole output is built: after `Tree` and `Memory` nothing was written.
-/// After `Output` a beginning of it was, and never all of it. `Refused` does not come.
+/// The sheet is read first, then the tree, and then the whole output is built: after `Tree` and
+/// `Memory` nothing was written. After `Output` a beginning of it was, and never all of it.
+/// `Refused` does not come.
 #[tactic(auto, using(crate::proofs::Written::runs_written))]
 pub fn run_match<R: Log, W: Write>(
     rt: &R,
@@ -244,7 +247,8 @@ pub fn run_match<R: Log, W: Write>(
     write_out(out, text.as_bytes())
 }
 
-/// Adds the line of an element: its number, and the value of the declaration that wins there, if one does.
+/// Adds the line of an element: its number, and the value of the declaration that wins there, if
+/// one does.
 fn push_winner(
     out: &mut String,
     number: usize,
@@ -285,11 +289,12 @@ fn style_text(
     Ok(text)
 }
 
-/// Writes for each element of a tree its number from 1, a colon, and where a declaration of the name wins there, a space, its
-/// value and, if it is important, ` !important`; and a newline.
+/// Writes for each element of a tree its number from 1, a colon, and where a declaration of the
+/// name wins there, a space, its value and, if it is important, ` !important`; and a newline.
 ///
-/// The sheet is read first, then the tree, and then the whole output is built: after `Tree` and `Memory` nothing was written.
-/// After `Output` a beginning of it was, and never all of it. `Refused` does not come.
+/// The sheet is read first, then the tree, and then the whole output is built: after `Tree` and
+/// `Memory` nothing was written. After `Output` a beginning of it was, and never all of it.
+/// `Refused` does not come.
 #[tactic(auto, using(crate::proofs::Written::runs_written))]
 pub fn run_style<R: Log, W: Write>(
     rt: &R,

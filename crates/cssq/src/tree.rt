@@ -19,8 +19,9 @@ use std::marker::Model;
 /// What is wrong with a tree's text, with the number of the line at which it is, the first being 1.
 #[derive(Clone, Copy, PartialEq, Debug)]
 pub enum TreeFault {
-    /// The first field is no depth: `0`, or digits without a leading zero. Or it is one that may not stand there: on the
-    /// first line a depth is 0, and on another at most that of the line before and one more. So it is at an empty line.
+    /// The first field is no depth: `0`, or digits without a leading zero. Or it is one that may
+    /// not stand there: on the first line a depth is 0, and on another at most that of the line
+    /// before and one more. So it is at an empty line.
     BadDepth(usize),
     /// There is no second field, the name, or it is empty.
     EmptyName(usize),
@@ -63,8 +64,11 @@ impl TreeFault {
 /// A line among the others.
 #[derive(Clone, Copy, Debug)]
 struct Line<'t> {
+    /// What the line says.
     entry: Entry<'t>,
+    /// The place of the parent, if there is one.
     parent: Option<usize>,
+    /// The place of the previous sibling, if there is one.
     previous: Option<usize>,
 }
 
@@ -109,6 +113,7 @@ fn is_depth(field: &str) -> bool
     }
 }
 
+/// Whether all the bytes are decimal digits.
 fn are_digits(bytes: &[u8]) -> bool
     ensures { result ≡ list_all is_ascii_digit bytes.now }
 {
@@ -170,7 +175,8 @@ fn attribute_of(field: &str) -> (&str, &str)
     }
 }
 
-/// The first fault of the attribute fields of a line, where each key is compared with those before it.
+/// The first fault of the attribute fields of a line, where each key is compared with those before
+/// it.
 fn first_fault(number: usize, fields: Option<&str>) -> Option<TreeFault>
     ensures { result ≡ slice_get (field_faults number (fields_in fields.entry)) 0 }
 {
@@ -221,8 +227,8 @@ fn are_many(fields: Option<&str>) -> bool {
     }
 }
 
-/// Checks the attribute fields of a line. Where memory for a set of many keys is refused, the fields are compared in
-/// pairs, so that want of memory is told of a sound line alone.
+/// Checks the attribute fields of a line. Where memory for a set of many keys is refused, the
+/// fields are compared in pairs, so that want of memory is told of a sound line alone.
 fn check_fields(alloc: Global, number: usize, fields: Option<&str>) -> Result<(), TreeFault>
     ensures { MatchResult result (λ _. field_faults number (fields_in fields.entry) ≡ []) (λ fault. IsToldOf number (field_faults number (fields_in fields.entry)) fault) }
 {
@@ -333,6 +339,7 @@ fn link<'t>(lines: &[Line<'t>], entry: Entry<'t>) -> Line<'t>
 /// The elements of a tree, in the order of their lines.
 #[derive(Debug, Drop)]
 pub struct Page<'t> {
+    /// A line for each element.
     lines: Vec<Line<'t>>,
 }
 
@@ -392,6 +399,7 @@ impl<'t> Page<'t> {
         }
     }
 
+    /// The place of the parent of the element at a place.
     #[inline(always)]
     fn parent(&self, place: usize) -> Option<usize>
         requires { place < length self.now }
@@ -401,6 +409,7 @@ impl<'t> Page<'t> {
         self.lines[place].parent
     }
 
+    /// The place of the previous sibling of the element at a place.
     #[inline(always)]
     fn previous(&self, place: usize) -> Option<usize>
         requires { place < length self.now }
@@ -410,6 +419,7 @@ impl<'t> Page<'t> {
         self.lines[place].previous
     }
 
+    /// The name of the element at a place.
     #[inline(always)]
     fn name(&self, place: usize) -> &'t str
         requires { place < length self.now }
@@ -418,6 +428,7 @@ impl<'t> Page<'t> {
         self.lines[place].entry.name
     }
 
+    /// The value of the first attribute with the key, of the element at a place.
     fn attribute(&self, place: usize, key: &str) -> Option<&'t str>
         requires { place < length self.now }
         ensures { option_map (λ value. value.now) result ≡ attribute_at self.now place key.now }
@@ -434,7 +445,9 @@ impl<'t> Page<'t> {
 /// An element of a page.
 #[derive(Drop)]
 pub struct Node<'p, 't> {
+    /// The page that the element is of.
     page: &'p Page<'t>,
+    /// Its place among the lines.
     place: usize,
 }
 
@@ -449,6 +462,8 @@ impl<'p, 't> Model for Node<'p, 't> {
     ghost invariant = { λ node. node.place < length node.page.now };
 }
 
+/// Names and values compare byte by byte. A first child is an element without a previous sibling.
+/// An element is in none of the other pseudo-classes.
 impl<'p, 't> Element for Node<'p, 't> {
     ghost use Rattle.cssq.specs.Nodes.{Spot, page_tree};
     ghost use Rattle.cssq.specs.ElementLaws.{depths_count_ancestors, siblings_share_parents};
@@ -498,6 +513,7 @@ impl<'p, 't> Element for Node<'p, 't> {
     }
 }
 
+/// By its name and its attributes `id` and `class`.
 impl<'p, 't> Keyed for Node<'p, 't> {
     ghost use Rattle.cssq.specs.Nodes.{told_of};
     ghost use Rattle.cssq.specs.ElementLaws.{keys_told};

@@ -1,4 +1,5 @@
-//! Shows how selectors and style sheets read, which rules take the elements of a tree, and which declarations win there.
+//! Shows how selectors and style sheets read, which rules take the elements of a tree, and which
+//! declarations win there.
 #![tactic(auto)]
 
 mod notice;
@@ -36,11 +37,13 @@ fn fail(rt: &HostRuntime, status: u8, line: &str) -> ExitCode {
     ExitCode::from(status)
 }
 
+/// Tells that a file, or standard input, cannot be read.
 fn unreadable(rt: &HostRuntime, name: &str) -> ExitCode {
     let _ = eprintln!(rt; "cssq: cannot read {name}");
     ExitCode::from(4)
 }
 
+/// The exit status of a run, whose fault it tells.
 fn ended(rt: &HostRuntime, outcome: Result<(), RunFault>) -> ExitCode {
     match outcome {
         Ok(()) => ExitCode::SUCCESS,
@@ -81,9 +84,9 @@ fn read_files(rt: &HostRuntime, names: &[String]) -> Result<Vec<String>, ExitCod
     Ok(texts)
 }
 
-/// Tells on standard error what of a sheet's text was passed over with a warning: the file, the row and
-/// the column in it, the text that stands there, and why. Where memory or standard error is wanting,
-/// less is told.
+/// Tells on standard error what of a sheet's text was passed over with a warning: the file, the row
+/// and the column in it, the text that stands there, and why. Where memory or standard error is
+/// wanting, less is told.
 fn tell_faults(rt: &HostRuntime, name: &str, text: &str) -> io::Result<()> {
     let mut out = BufWriter::new(rt.alloc(), rt.stderr())?;
     let faults = find_faults(rt.alloc(), text)?;
@@ -167,6 +170,7 @@ fn show_style(rt: &HostRuntime, file: &str, tree: &str, name: &str) -> ExitCode 
     ended(rt, outcome)
 }
 
+/// Runs the command that the program's words ask for.
 fn main(rt: HostRuntime) -> ExitCode {
     let Some(words) = words(&rt) else {
         return fail(&rt, 2, USAGE);

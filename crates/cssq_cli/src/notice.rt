@@ -10,6 +10,7 @@ use std::fmt::Display;
 /// Whether a warning was given.
 #[derive(Drop)]
 pub struct Notice {
+    /// A cell, since a logger is told of warnings by a shared reference.
     given: Cell<bool>,
 }
 
@@ -27,6 +28,7 @@ impl Notice {
     }
 }
 
+/// Each record counts, of any level.
 impl Log for Notice {
     ghost enables = { λ _ _ _. Some true };
 

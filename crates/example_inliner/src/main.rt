@@ -87,6 +87,7 @@ fn print(rt: &HostRuntime, sheet: &StyleSheet<'_>, page: &Page<'_>, tree: &str) 
     Ok(())
 }
 
+/// Reads both files, and prints the tree with its styles, or tells the fault of the tree.
 fn run(rt: &HostRuntime, sheet: &str, tree: &str) -> io::Result<ExitCode> {
     let sheet_text = fs::read_to_string(rt, sheet)?;
     let tree_text = fs::read_to_string(rt, tree)?;
@@ -104,6 +105,7 @@ fn run(rt: &HostRuntime, sheet: &str, tree: &str) -> io::Result<ExitCode> {
     }
 }
 
+/// Takes the names of a sheet and of a tree.
 fn main(rt: HostRuntime) -> io::Result<ExitCode> {
     let words: Vec<String> = env::args(&rt)?.skip(1).collect(rt.alloc())?;
     match words.as_slice() {

@@ -1,5 +1,6 @@
-//! An example: reports what of some style sheets is passed over, `lint FILE..`. A line for each refused
-//! selector, broken declaration, at-rule and open comment, with the file, the row and the column.
+//! An example: reports what of some style sheets is passed over, `lint FILE..`. A line for each
+//! refused selector, broken declaration, at-rule and open comment, with the file, the row and the
+//! column.
 #![tactic(auto)]
 
 use simplecss_faults::find_faults;
@@ -16,6 +17,7 @@ fn lint(rt: &HostRuntime, file: &str) -> io::Result<bool> {
     Ok(!faults.is_empty())
 }
 
+/// Takes the names of style sheets. The status is 1 where one of them has a fault.
 fn main(rt: HostRuntime) -> io::Result<ExitCode> {
     let files: Vec<String> = env::args(&rt)?.skip(1).collect(rt.alloc())?;
     if files.is_empty() {

@@ -12,6 +12,7 @@ use std::{env, fs, io};
 /// What a text is as a list of selectors with commas between them.
 #[derive(Drop)]
 enum List<'a> {
+    /// Each part is a selector.
     Selectors(Vec<Selector<'a>>),
     /// From here on it is none.
     Refused(&'a str),
@@ -93,6 +94,7 @@ fn query(rt: &HostRuntime, list: &str, file: &str) -> io::Result<ExitCode> {
     })
 }
 
+/// Takes a list of selectors and the name of a tree.
 fn main(rt: HostRuntime) -> io::Result<ExitCode> {
     let words: Vec<String> = env::args(&rt)?.skip(1).collect(rt.alloc())?;
     match words.as_slice() {

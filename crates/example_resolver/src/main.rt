@@ -69,8 +69,8 @@ fn push_declarations<'a>(
     Ok(())
 }
 
-/// The declarations that apply to an element, the weakest first: the rules at these places match it,
-/// and its attribute `style` is `own`.
+/// The declarations that apply to an element, the weakest first: the rules at these places match
+/// it, and its attribute `style` is `own`.
 fn resolve<'a>(
     alloc: Global,
     rules: &[Rule<'a>],
@@ -101,6 +101,7 @@ fn print(rt: &HostRuntime, sheet: &StyleSheet<'_>, tree: &Tree<'_>) -> io::Resul
     Ok(())
 }
 
+/// Reads both files, and prints the elements with the declarations that apply to each.
 fn run(rt: &HostRuntime, sheet: &str, picture: &str) -> io::Result<()> {
     let sheet_text = fs::read_to_string(rt, sheet)?;
     let picture_text = fs::read_to_string(rt, picture)?;
@@ -109,6 +110,7 @@ fn run(rt: &HostRuntime, sheet: &str, picture: &str) -> io::Result<()> {
     print(rt, &sheet, &tree)
 }
 
+/// Takes the names of a sheet and of a picture.
 fn main(rt: HostRuntime) -> io::Result<ExitCode> {
     let words: Vec<String> = env::args(&rt)?.skip(1).collect(rt.alloc())?;
     match words.as_slice() {

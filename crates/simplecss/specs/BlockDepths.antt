@@ -2,8 +2,8 @@
 use Rattle.std.specs.Prelude.{◌≡◌, ℕ, ◌+◌, ◌<◌, Bool, true, false, ◌&&◌, ◌==◌, List, length, take, slice_index}
 use Rattle.simplecss_text.specs.Blocks.{count_of}
 
--- A closing brace stands at the place that ends neither a block that begins in the text nor one of the `depth` blocks that
--- are open before it.
+-- A closing brace stands at the place that ends neither a block that begins in the text nor one of
+-- the `depth` blocks that are open before it.
 abbrev pub closes_at : ℕ → List ℕ → ℕ → Bool
 closes_at depth text place =
     slice_index text place == 125 && depth + count_of 123 (take place text) == count_of 125 (take place text)

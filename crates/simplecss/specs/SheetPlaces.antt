@@ -7,8 +7,8 @@ use Rattle.simplecss_text.specs.ThisEdition.{this_edition}
 use Rattle.simplecss.specs.declared.sheet.statement_reader.Statement.{Statement}
 use Rattle.simplecss.specs.StyleRules.{rules_of}
 
--- The statement is the one that stands next behind a place of the text: it begins behind the blank there,
--- gives the rules of the grammar, and what is left behind it is what the grammar leaves.
+-- The statement is the one that stands next behind a place of the text: it begins behind the blank
+-- there, gives the rules of the grammar, and what is left behind it is what the grammar leaves.
 pub record StandsNext (text : List ℕ) (place : ℕ) (statement : Statement) : Type 0 where
   pub start : drop statement.start text ≡ past_blank (drop place text)
   pub reads : next_statement this_edition (drop place text) ≡ Some (rules_of statement.rules.items, drop statement.end text)

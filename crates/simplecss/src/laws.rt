@@ -1,9 +1,10 @@
-//! Laws that the definitions keep, each the contract of a function that does nothing. A proof calls the function to have the
-//! law; a program need not.
+//! Laws that the definitions keep, each the contract of a function that does nothing. A proof calls
+//! the function to have the law; a program need not.
 //!
-//! Of texts: what comments and blanks are, and equality of positions, errors and cursors. Of selectors: their tokens, their
-//! components, their keys, printing, equality, and that elements which mean the same get the same answers. Of sheets: the
-//! order of rules, what a rule's place means, reading a text in pieces, and equality of rules and declarations.
+//! Of texts: what comments and blanks are, and equality of positions, errors and cursors. Of
+//! selectors: their tokens, their components, their keys, printing, equality, and that elements
+//! which mean the same get the same answers. Of sheets: the order of rules, what a rule's place
+//! means, reading a text in pieces, and equality of rules and declarations.
 
 pub use crate::sheet::laws::{
     cutting_law, edition_law, equality_laws, order_laws, place_law, sheet_law,

@@ -7,8 +7,8 @@ abbrev pub FailsAt : {A : Type 0} → Reading A → List ℕ → Type 0
 FailsAt (got x rest) left = ⊥
 FailsAt (fails fault rest) left = left ≡ rest
 
--- A call answered `result` and left `left` to read, as the reading says: a value, or none where it has failed. Of a value
--- the definitions see what `view` tells.
+-- A call answered `result` and left `left` to read, as the reading says: a value, or none where it
+-- has failed. Of a value the definitions see what `view` tells.
 abbrev pub Answers : {X A : Type 0} → (X → A) → Reading A → Option X → List ℕ → Type 0
 Answers view reading (Some x) left = reading ≡ got (view x) left
 Answers view reading None left = FailsAt reading left

@@ -1,4 +1,5 @@
-//! Declarations of CSS 2.1 and their tokenizer. Users depend on the crate `simplecss`, which gives these on.
+//! Declarations of CSS 2.1 and their tokenizer. Users depend on the crate `simplecss`, which gives
+//! these on.
 #![tactic(auto)]
 
 mod declarations;

@@ -7,8 +7,8 @@ use crate::Declaration;
 use std::fmt;
 use std::fmt::Display;
 
-/// Prints the name, a colon, the value, ` !important` if it is, and a semicolon, as the declaration stands in a printed
-/// sheet. Width, fill and flags of the formatter change nothing.
+/// Prints the name, a colon, the value, ` !important` if it is, and a semicolon, as the declaration
+/// stands in a printed sheet. Width, fill and flags of the formatter change nothing.
 impl<'a> Display for Declaration<'a> {
     ghost use Rattle.std.specs.Prelude.{Some};
     ghost use Rattle.simplecss_text.specs.Printing.{property_text};

@@ -24,8 +24,8 @@ fn pass_gap(s: &mut Stream<'_>)
     s.advance(scan::find_gap(s.slice_tail()).len);
 }
 
-/// Passes the terms of a value, and gives what stands from the first to the end of the last, trimmed. Behind it the first
-/// term that could not be read was passed as far as it goes.
+/// Passes the terms of a value, and gives what stands from the first to the end of the last,
+/// trimmed. Behind it the first term that could not be read was passed as far as it goes.
 #[inline(always)]
 fn take_value<'a>(s: &mut Stream<'a>) -> &'a str
     ensures text { text_of s.new ≡ text_of s.old }
@@ -54,8 +54,8 @@ fn pass_important(s: &mut Stream<'_>) -> bool
     stands
 }
 
-/// Passes an exclamation mark with a blank and the word `important` behind it, as far as they stand there, and says
-/// whether the word does.
+/// Passes an exclamation mark with a blank and the word `important` behind it, as far as they stand
+/// there, and says whether the word does.
 #[inline(always)]
 #[tactic(auto, unfolding(simplecss_text::specs::Declarations::importance), using(crate::proofs::ByteLemmas::past_byte_there, crate::proofs::ByteLemmas::past_byte_not))]
 fn take_importance(s: &mut Stream<'_>) -> Option<bool>
@@ -82,7 +82,8 @@ fn pass_semicolons(s: &mut Stream<'_>)
     }
 }
 
-/// Passes what stands behind a value, up to the next declaration, and says whether the value is important.
+/// Passes what stands behind a value, up to the next declaration, and says whether the value is
+/// important.
 #[inline(always)]
 #[tactic(auto, unfolding(simplecss_text::specs::Declarations::trailing))]
 fn take_trailing(s: &mut Stream<'_>) -> Option<bool>
@@ -112,8 +113,8 @@ fn pass_colon(s: &mut Stream<'_>) -> bool
     readers::pass_byte(s, b':')
 }
 
-/// Reads a declaration: a name, a colon, a value, and what stands behind it up to the next declaration. Where there is
-/// none, the place is where reading stopped.
+/// Reads a declaration: a name, a colon, a value, and what stands behind it up to the next
+/// declaration. Where there is none, the place is where reading stopped.
 #[inline(always)]
 #[tactic(auto, unfolding(simplecss_text::specs::Declarations::declaration))]
 pub fn consume_declaration<'a>(s: &mut Stream<'a>) -> Option<Declaration<'a>>

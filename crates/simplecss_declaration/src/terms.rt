@@ -12,6 +12,7 @@ use super::digits;
 use simplecss_text::stream::Stream;
 use simplecss_text::{readers, scan};
 
+/// Passes the digits that stand there.
 #[inline(always)]
 fn pass_digits(s: &mut Stream<'_>)
     ensures text { text_of s.new ≡ text_of s.old }
@@ -81,8 +82,8 @@ fn pass_word(s: &mut Stream<'_>) -> bool
     true
 }
 
-/// Passes a term: a hash, a number, a string, a comma, a slash that opens no comment, a name or a function. Says whether
-/// one stood there.
+/// Passes a term: a hash, a number, a string, a comma, a slash that opens no comment, a name or a
+/// function. Says whether one stood there.
 #[inline(always)]
 #[tactic(auto, unfolding(simplecss_text::specs::Terms::term))]
 pub fn pass_term(s: &mut Stream<'_>) -> bool

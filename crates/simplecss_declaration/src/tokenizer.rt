@@ -9,6 +9,7 @@ use std::iter::FusedIterator;
 /// the broken one. No memory is taken.
 #[derive(Drop)]
 pub struct DeclarationTokenizer<'a> {
+    /// The text, and the place up to which it was read.
     stream: Stream<'a>,
 }
 

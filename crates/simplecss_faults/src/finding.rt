@@ -8,10 +8,13 @@ use std::alloc::{AllocError, Global};
 /// The faults of a text that were found so far.
 #[derive(Drop)]
 struct Finder<'a> {
+    /// The whole text.
     text: &'a str,
+    /// The faults, in the order in which they were found.
     faults: Vec<Fault<'a>>,
     /// A place that was told, and its position: the next one is counted from there.
     place: usize,
+    /// The position of `place`.
     pos: TextPos,
 }
 
@@ -28,6 +31,7 @@ fn before(text: &str, one: char, two: char) -> &str {
     }
 }
 
+/// What stands before a place of the text, without white space around it.
 fn tail_before(text: &str, end: usize) -> &str {
     text.get(..end).unwrap_or("").trim()
 }
@@ -98,7 +102,8 @@ impl<'a> Finder<'a> {
         Ok(())
     }
 
-    /// Looks at the selectors of a rule set that begins at a place, and gives the place behind them.
+    /// Looks at the selectors of a rule set that begins at a place, and gives the place behind
+    /// them.
     fn look_at_selectors(&mut self, alloc: Global, start: usize) -> Result<usize, AllocError> {
         let mut place = start;
         if tail(self.text, place).starts_with(',') {
@@ -143,9 +148,9 @@ impl<'a> Finder<'a> {
         self.tell(place, before(left, ';', '}'), Reason::Declaration)
     }
 
-    /// Looks at the statement that stands between two places. Of an at-rule no more is quoted than the
-    /// statement, which may be an at-sign alone: what is quoted of all statements is no longer than the
-    /// text.
+    /// Looks at the statement that stands between two places. Of an at-rule no more is quoted than
+    /// the statement, which may be an at-sign alone: what is quoted of all statements is no longer
+    /// than the text.
     fn look_at_statement(
         &mut self,
         alloc: Global,
@@ -186,9 +191,9 @@ impl<'a> Finder<'a> {
     }
 }
 
-/// What of the style sheet's text is passed over, in the order in which it stands: selectors that are
-/// refused, broken declarations, at-rules, and a comment that is not closed. The error is that a growth
-/// was refused. The text is read twice, and its positions are counted once.
+/// What of the style sheet's text is passed over, in the order in which it stands: selectors that
+/// are refused, broken declarations, at-rules, and a comment that is not closed. The error is that
+/// a growth was refused. The text is read twice, and its positions are counted once.
 pub fn find_faults<'a>(alloc: Global, text: &'a str) -> Result<Vec<Fault<'a>>, AllocError> {
     let mut finder = Finder {
         text,

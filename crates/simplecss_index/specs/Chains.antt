@@ -1,4 +1,5 @@
--- Selectors in chains, each of which leads from the last selector with a key back through all with that key.
+-- Selectors in chains, each of which leads from the last selector with a key back through all with
+-- that key.
 use Rattle.std.specs.Prelude.{◌≡◌, ℕ, ◌<◌, List, map, length, Option, None, Some}
 use Rattle.std.specs.List.{slice_get}
 use Rattle.std.specs.Option.{option_map_or}
@@ -23,7 +24,8 @@ IsLastBefore selectors end key (Some last) =
 abbrev pub earlier_at : List Link → ℕ → Option ℕ
 earlier_at links place = option_map_or (λ link. link.earlier) (slice_get links place) None
 
--- Each key leads to the last selector with it, and each link leads to the last earlier selector with the key of its own.
+-- Each key leads to the last selector with it, and each link leads to the last earlier selector
+-- with the key of its own.
 pub record AreChained (lasts : Lasts) (links : List Link) : Type 0 where
   pub last : (key : Key) → IsLastBefore (selectors_of links) (length links) key (last_for lasts key)
   pub earlier : (place : ℕ) → place < length links

@@ -7,7 +7,8 @@ use Rattle.simplecss.specs.Placements.{HasPlacement, longest_run}
 use Rattle.simplecss.specs.Trees.{Tree}
 use Rattle.simplecss_index.specs.Places.{selector_at, key_at, AreThePlaces}
 
--- the places are in order, and are exactly those of the selectors that have a placement on the element
+-- the places are in order, and are exactly those of the selectors that have a placement on the
+-- element
 abbrev pub AreMatches : {Node : Type 0} → Tree Node → Node → List (List Component) → List ℕ → Type 0
 AreMatches tree element selectors =
     AreThePlaces (λ place. HasPlacement tree (selector_at selectors place) element) (length selectors)
@@ -17,8 +18,8 @@ abbrev pub AreCandidates : Told → List (List Component) → List ℕ → Type 
 AreCandidates told selectors =
     AreThePlaces (λ place. IsTrue (tells_key told (key_at selectors place))) (length selectors)
 
--- the most tests that asking whether a selector matches takes: for the element and each of its ancestors one for each
--- component of the longest stretch that child and adjacent steps join
+-- the most tests that asking whether a selector matches takes: for the element and each of its
+-- ancestors one for each component of the longest stretch that child and adjacent steps join
 abbrev pub most_tests : {Node : Type 0} → Tree Node → Node → List Component → ℕ
 most_tests tree element selector = longest_run selector * (tree.depth element + 1)
 

@@ -3,6 +3,7 @@ ghost use Rattle.std.specs.Prelude.{◌≡◌, ◌+◌, ◌≤◌, [], IfOk, OnO
 ghost use Rattle.std.specs.List.{sum_by};
 ghost use Rattle.simplecss_index.specs.Matching.{AreMatches, most_tests, keyed_for};
 
+use crate::find::candidates;
 use crate::keep::keep_matching;
 use crate::lasts::Lasts;
 use simplecss::{Keyed, Rule, Selector, Tests};
@@ -112,7 +113,7 @@ impl<'a> RuleIndex<'a> {
         ensures err { OnErr result (places.new.items ≡ []) }
         ensures untested { OnErr result (tests.new ≡ tests.old) }
     {
-        if let Err(error) = self.candidates(element, places) {
+        if let Err(error) = candidates(self, element, places) {
             places.clear();
             return Err(error);
         }

@@ -12,9 +12,13 @@ use std::collections::BTreeMap;
 /// texts.
 #[derive(Drop)]
 pub(crate) struct Lasts<'a> {
+    /// By the id.
     ids: BTreeMap<&'a str, usize>,
+    /// By the class.
     classes: BTreeMap<&'a str, usize>,
+    /// By the type name.
     names: BTreeMap<&'a str, usize>,
+    /// The place under the key that every element has.
     any: Option<usize>,
 }
 

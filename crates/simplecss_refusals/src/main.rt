@@ -1,5 +1,6 @@
-//! Makes one call of the libraries, between two marks on standard error, and shows what it answered. The sweep in `tests/`
-//! refuses the requests for memory that are made between the marks, one after the other.
+//! Makes one call of the libraries, between two marks on standard error, and shows what it
+//! answered. The sweep in `tests/` refuses the requests for memory that are made between the marks,
+//! one after the other.
 #![tactic(auto)]
 
 use cssq::cascade::winners;
@@ -22,9 +23,11 @@ use std::{env, io};
 /// A writer that counts what it is given.
 #[derive(Drop)]
 struct Counted {
+    /// How many bytes it was given.
     bytes: usize,
 }
 
+/// It takes all that it is given, and keeps nothing.
 impl io::Write for Counted {
     fn write(&mut self, buf: &[u8]) -> io::Result<usize> {
         self.bytes = self.bytes.saturating_add(buf.len());
@@ -46,6 +49,7 @@ fn end(rt: &HostRuntime) {
     let _ = eprint!(rt; "end");
 }
 
+/// Reads the text as a selector.
 fn show_selector<R: Log>(rt: &HostRuntime, log: &R, text: &str) -> io::Result<()> {
     begin(rt);
     let read = Selector::parse(log, rt.alloc(), text);
@@ -57,6 +61,7 @@ fn show_selector<R: Log>(rt: &HostRuntime, log: &R, text: &str) -> io::Result<()
     }
 }
 
+/// Reads the text as a sheet.
 fn show_sheet<R: Log>(rt: &HostRuntime, log: &R, text: &str) -> io::Result<()> {
     begin(rt);
     let read = StyleSheet::parse(log, rt.alloc(), text);
@@ -67,8 +72,8 @@ fn show_sheet<R: Log>(rt: &HostRuntime, log: &R, text: &str) -> io::Result<()> {
     }
 }
 
-/// Reads a second text into the sheet of a first one. Where that is refused, the sheet is shown as it is, and the second
-/// text is read again.
+/// Reads a second text into the sheet of a first one. Where that is refused, the sheet is shown as
+/// it is, and the second text is read again.
 fn show_more<R: Log>(rt: &HostRuntime, log: &R, text: &str, more: &str) -> io::Result<()> {
     let mut sheet = StyleSheet::parse(log, rt.alloc(), text)?;
     begin(rt);
@@ -82,6 +87,7 @@ fn show_more<R: Log>(rt: &HostRuntime, log: &R, text: &str, more: &str) -> io::R
     println!(rt; "{sheet}")
 }
 
+/// Shows whether a copy equals what was copied, or that the copy was refused.
 fn show_equality(rt: &HostRuntime, equal: Result<bool, AllocError>) -> io::Result<()> {
     match equal {
         Err(_) => println!(rt; "refused"),
@@ -113,10 +119,12 @@ fn show_copies(rt: &HostRuntime, text: &str) -> io::Result<()> {
     show_equality(rt, equal)
 }
 
+/// Whether both sheets have the same rules in the same order.
 fn have_equal_rules(a: &StyleSheet<'_>, b: &StyleSheet<'_>) -> bool {
     a.rules.len() == b.rules.len() && a.rules.iter().zip(b.rules.iter()).all(|(x, y)| *x == *y)
 }
 
+/// Reads the text as a tree.
 fn show_page(rt: &HostRuntime, text: &str) -> io::Result<()> {
     begin(rt);
     let read = Page::read(rt.alloc(), text);
@@ -136,6 +144,7 @@ fn show_number<E: Drop>(rt: &HostRuntime, number: Result<usize, E>) -> io::Resul
     }
 }
 
+/// Reads all the texts into one sheet.
 fn show_sheets<R: Log>(rt: &HostRuntime, log: &R, texts: &[&str]) -> io::Result<()> {
     begin(rt);
     let read = StyleSheet::parse_all(log, rt.alloc(), texts);
@@ -224,7 +233,8 @@ fn show_asked(rt: &HostRuntime, call: &str, text: &str, tree: &str) -> io::Resul
     show_number(rt, number)
 }
 
-/// Makes a tree of the names, each the child of the one before, with its name as its class. Gives how many elements it has.
+/// Makes a tree of the names, each the child of the one before, with its name as its class. Gives
+/// how many elements it has.
 fn chain_len(alloc: Global, names: &[&str]) -> Result<usize, TreeError> {
     let mut tree = Tree::new(alloc);
     let mut parent = None;
@@ -235,6 +245,7 @@ fn chain_len(alloc: Global, names: &[&str]) -> Result<usize, TreeError> {
     Ok(tree.len())
 }
 
+/// Shows how a run ended, and how many bytes it wrote.
 fn show_run(rt: &HostRuntime, outcome: Result<(), RunFault>, out: &Counted) -> io::Result<()> {
     let bytes = out.bytes;
     match outcome {
@@ -341,6 +352,7 @@ fn show<R: Log>(rt: &HostRuntime, log: &R, words: &[&str]) -> io::Result<()> {
     }
 }
 
+/// Takes a logger (`kept` keeps what it is told, `lost` does not), the call, and its texts.
 fn main(rt: HostRuntime) -> Result<ExitCode, io::Error> {
     let owned: Vec<String> = env::args(&rt)?.skip(1).collect(rt.alloc())?;
     let words: Vec<&str> = owned.iter().map(|word| word.as_str()).collect(rt.alloc())?;

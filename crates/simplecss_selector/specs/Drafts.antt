@@ -52,7 +52,8 @@ abbrev pub continued : Drafted → List Role → List Component
 continued d [] = finished d
 continued d (role ∷ roles) = continued (drafted_after role d) roles
 
--- the selector of the draft and of what is still to be read, or none, and what is left where reading ends
+-- the selector of the draft and of what is still to be read, or none, and what is left where
+-- reading ends
 abbrev pub selector_after : Drafted → Outcome → Option (List Component) × List ℕ
 selector_after d (refused left) = (None, left)
 selector_after d (accepted roles left) = (Some (continued d roles), left)

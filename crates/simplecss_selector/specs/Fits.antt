@@ -6,7 +6,8 @@ use Rattle.simplecss_selector.specs.Searches.{IsWithin, Reaches, CanPlace, first
 use Rattle.simplecss_selector.specs.declared.matching.Fit.{Fit}
 use Rattle.simplecss_selector.specs.declared.matching.Fit.TheVariants.{Misfit, Alone, Whole, Rest}
 
--- the components before `rest` are to be placed at or above `node`: no node whose ancestors are ancestors of `n` does better
+-- the components before `rest` are to be placed at or above `node`: no node whose ancestors are
+-- ancestors of `n` does better
 pub record LeavesRest {Node : Type 0} (tree : Tree Node) (cs : List Component) (left rest : ℕ) (n node : Node) : Type 0 where
   pub some : 0 < rest
   pub fewer : rest < left
@@ -15,7 +16,8 @@ pub record LeavesRest {Node : Type 0} (tree : Tree Node) (cs : List Component) (
       → CanPlace tree (first_of cs rest) node
   pub enough : CanPlace tree (first_of cs rest) node → Reaches tree (first_of cs left) n
 
--- what the answer says of the components up to the place `last`, tried with that one on `n`, where the run begins at `first`
+-- what the answer says of the components up to the place `last`, tried with that one on `n`, where
+-- the run begins at `first`
 abbrev pub Finds : {Node E : Type 0} → Tree Node → (E → Node) → List Component → (first last : ℕ) → Node
     → Fit E → Type 0
 Finds tree node cs first last n Misfit = Reaches tree (first_of cs (last + 1)) n → ⊥

@@ -1,5 +1,5 @@
--- What the last component of a selector asks at least, and what an element tells of itself: by the two an index finds the
--- selectors that can match an element.
+-- What the last component of a selector asks at least, and what an element tells of itself: by the
+-- two an index finds the selectors that can match an element.
 use Rattle.std.specs.Prelude.{ℕ, ◌-◌, List, [], ◌∷◌, Option, Some, None, Bool, true, false, IsTrue, bytes_eq, codes, length, if◌then◌else◌}
 use Rattle.std.specs.Option.{option_or, option_map_or}
 use Rattle.simplecss_text.specs.Components.{Operator, Subselector, Compound, Component}
@@ -52,7 +52,8 @@ key_among None (Some word) name = by_class word
 key_among None None (Some name) = by_name name
 key_among None None None = by_nothing
 
--- the first id that a compound asks, or else the first class, or else its type name, or else nothing
+-- the first id that a compound asks, or else the first class, or else its type name, or else
+-- nothing
 abbrev pub compound_key : Compound → Key
 compound_key compound =
     key_among (first_asked asked_id compound.subselectors) (first_asked asked_class compound.subselectors) compound.name
@@ -72,7 +73,8 @@ has_key tree n by_nothing = true
 abbrev pub is_value_as_asked : Operator → Option (List ℕ) → Bool
 is_value_as_asked operator value = option_map_or (is_as_asked operator) value false
 
--- what an element tells of itself: its name, and the values of its attributes `id` and `class`, where it has them
+-- what an element tells of itself: its name, and the values of its attributes `id` and `class`,
+-- where it has them
 pub record Told : Type 0 where
   pub name : List ℕ
   pub id : Option (List ℕ)

@@ -1,6 +1,7 @@
--- Trees whose nodes stand in a list, each behind its parent. Whoever keeps elements in a list and says
--- of each place which its parent and its previous sibling are, has the two laws of elements from here
--- (which a trait asks for, so they stand in this folder).
+-- Trees whose nodes stand in a list, each behind its parent. Whoever keeps elements in a list and
+-- says of each place which its parent and its previous sibling are, has the two laws of elements
+-- from here. Their proofs stand in this folder since the trait `Element` asks for the laws: an impl
+-- names them, so they are part of what is stated.
 use Rattle.std.proofs.Common.{◌≡◌, ℕ, zero, suc, ◌+◌, ◌<◌, Bool, true, false, cond, List, [], ◌∷◌, length, Option, None, Some, IfSome, MatchOption, refl, ap, ◌∙◌, arith}
 use Rattle.std.specs.Prelude.{nat_lt, nat_eq, if◌then◌else◌}
 use Rattle.std.specs.Option.{option_map, option_eq}
@@ -8,8 +9,8 @@ use Rattle.std.proofs.lemmas.Bool.Decides.{nat_tests}
 use Rattle.simplecss_text.specs.Components.{Operator, Class}
 use Rattle.simplecss_selector.specs.Trees.{Tree, DepthCountsAncestors, SiblingsShareParent}
 
--- What a list says of a place in it: its parent and its previous sibling, if it names any, and what it
--- answers to a type name, to an attribute's name with an operator, and to a pseudo-class.
+-- What a list says of a place in it: its parent and its previous sibling, if it names any, and what
+-- it answers to a type name, to an attribute's name with an operator, and to a pseudo-class.
 pub record ListOf (Rows : Type 0) : Type 0 where
   pub parent : Rows → ℕ → Option ℕ
   pub previous_sibling : Rows → ℕ → Option ℕ
@@ -35,7 +36,8 @@ abbrev pub with_parent : (ℕ → Option ℕ) → Option ℕ → Option ℕ → 
 with_parent named parent None = None
 with_parent named parent (Some s) = if option_eq nat_eq (parent_by named s) parent then Some s else None
 
--- The previous sibling of a place: the one that is named, where it stands before and has the same parent.
+-- The previous sibling of a place: the one that is named, where it stands before and has the same
+-- parent.
 abbrev pub sibling_by : (ℕ → Option ℕ) → (ℕ → Option ℕ) → ℕ → Option ℕ
 sibling_by named previous i = with_parent named (parent_by named i) (earlier i (previous i))
 

@@ -17,14 +17,16 @@ pub record IsRun (cs : List Component) (first last : ℕ) : Type 0 where
   pub begun : BeginsRun cs first
   pub unbroken : (k : ℕ) → first < k → k ≤ last → BeginsRun cs k → ⊥
 
--- For each run, in order, the number of components up to its end: these ends rise strictly from 0 on, the last is the
--- number of components, and a component begins a run exactly if it is the first or stands where a run ends.
+-- For each run, in order, the number of components up to its end: these ends rise strictly from 0
+-- on, the last is the number of components, and a component begins a run exactly if it is the first
+-- or stands where a run ends.
 pub record AreRunEnds (cs : List Component) (ends : List ℕ) : Type 0 where
   pub rising : IsStrictlyIncreasing (0 ∷ ends)
   pub whole : last_or None ends ≡ Some (length cs)
   pub begins : (k : ℕ) → k < length cs → BeginsRun cs k ↔ Contains (0 ∷ ends) k
 
--- the ends of all runs, where those before the last run are kept, and the last run ends with the components
+-- the ends of all runs, where those before the last run are kept, and the last run ends with the
+-- components
 abbrev pub all_run_ends : List Component → List ℕ → List ℕ
 all_run_ends cs kept = kept ++ length cs ∷ []
 

@@ -47,7 +47,8 @@ drafted ps ss open_part = record {
   last = component_of_part open_part (slice_range ss (last_end 0 ps) open_part.end);
 }
 
--- Flat lists of a selector: its components, whose subselectors tile the n of the one list, and the ends of its runs but the last.
+-- Flat lists of a selector: its components, whose subselectors tile the n of the one list, and the
+-- ends of its runs but the last.
 pub record IsFlat (ps : List Part) (ss : List SubSelector) (n : ℕ) (kept : List ℕ) : Type 0 where
   pub selector : IsSelector (components_from 0 ps ss)
   pub tiled : Tile 0 ps n

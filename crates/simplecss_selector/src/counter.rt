@@ -34,6 +34,7 @@ impl Count {
 /// time there is none: it takes no bytes.
 #[derive(Drop)]
 pub struct Tests {
+    /// The number of the tests.
     count: Count,
 }
 

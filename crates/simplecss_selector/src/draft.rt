@@ -13,11 +13,15 @@ use std::marker::Model;
 /// A selector that is being made: components that are done, and the one that is being filled.
 #[derive(Drop)]
 pub(crate) struct Draft<'a> {
+    /// The components that are done.
     parts: Vec<Part<'a>>,
+    /// The subselectors of all components, the one that is being filled included.
     subselectors: Vec<SubSelector<'a>>,
+    /// Where the runs end that are done, as a selector keeps it.
     run_ends: Vec<usize>,
     /// Of the component that is being filled.
     combinator: Combinator,
+    /// Of the same component.
     name: Option<&'a str>,
 }
 

@@ -4,9 +4,9 @@ use crate::{AttributeOperator, PseudoClass};
 /// An element of a document. Each value means a node of a tree, and what it answers depends on that
 /// node and on the texts of the arguments alone.
 ///
-/// Whoever has no tree takes `simplecss_tree`. To make elements of your own match, keep them in a list,
-/// each with the places of its parent and of its previous sibling, and say in your `specs/` what a
-/// list says of a place. For entries with a name and a class, in the crate `simplecss_uses`:
+/// Whoever has no tree takes `simplecss_tree`. To make elements of your own match, keep them in a
+/// list, each with the places of its parent and of its previous sibling, and say in your `specs/`
+/// what a list says of a place. For entries with a name and a class, in the crate `simplecss_uses`:
 ///
 /// <!-- from crates/simplecss_uses/specs/OwnTree.antt -->
 /// ```text
@@ -21,9 +21,9 @@ use crate::{AttributeOperator, PseudoClass};
 /// }
 /// ```
 ///
-/// A node is a list and a place in it. `Rattle.simplecss.specs.ListTrees` proves both laws for every
-/// such list: a parent counts where it stands earlier, and a previous sibling where it stands earlier
-/// and has the same parent. So `parent_of` and `previous_of` look both up:
+/// A node is a list and a place in it. `Rattle.simplecss.specs.ListTrees` proves both laws for
+/// every such list: a parent counts where it stands earlier, and a previous sibling where it stands
+/// earlier and has the same parent. So `parent_of` and `previous_of` look both up:
 ///
 /// <!-- from crates/simplecss_uses/src/own_tree.rt -->
 /// ```text
@@ -64,8 +64,9 @@ use crate::{AttributeOperator, PseudoClass};
 /// }
 /// ```
 ///
-/// Mark the short functions `#[inline(always)]`, since they are asked often. Where nodes are no places
-/// in lists, write the record of `Rattle.simplecss.specs.Trees` yourself, and prove its two laws.
+/// Mark the short functions `#[inline(always)]`, since they are asked often. Where nodes are no
+/// places in lists, write the record of `Rattle.simplecss.specs.Trees` yourself, and prove its two
+/// laws.
 pub trait Element: Drop {
     ghost use Rattle.std.specs.Prelude.{◌≡◌, Option, option_map};
     ghost use Rattle.simplecss_selector.specs.Trees.{Tree, DepthCountsAncestors, SiblingsShareParent};

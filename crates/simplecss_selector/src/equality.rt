@@ -1,12 +1,12 @@
-//! Equality and copies of selectors.
-ghost use Rattle.std.specs.Prelude.{◌≡◌, ◌↔◌, List, IsTrue, IfOk};
+//! Equality of selectors.
+ghost use Rattle.std.specs.Prelude.{◌≡◌, ◌↔◌, List, IsTrue};
 ghost use Rattle.simplecss_text.specs.Components.{Component};
 ghost use Rattle.simplecss_text.specs.ThisEdition.{this_edition};
 ghost use Rattle.simplecss_text.specs.PrintingLaws.{PrintAlikeIfEqual};
 
 use crate::selector::Selector;
-use std::alloc::AllocError;
 
+/// By the components, wherever their texts stand.
 impl<'a> PartialEq for Selector<'a> {
     ghost use Rattle.simplecss_selector.specs.Equality.{selector_eq};
     ghost use Rattle.simplecss_selector.specs.EqualityLaws.{selector_per};
@@ -31,17 +31,3 @@ pub fn equality_law()
 pub fn printing_law()
     ensures { (a b : List Component) → PrintAlikeIfEqual this_edition a b }
 {}
-
-impl<'a> Selector<'a> {
-    /// An equal selector, in memory of the same allocator.
-    pub fn clone(&self) -> Result<Self, AllocError>
-        ensures { IfOk result (λ copy. copy ≡ self.now) }
-    {
-        Ok(Selector {
-            parts: Vec::from_slice(*self.parts.allocator(), &self.parts)?,
-            last: self.last,
-            subselectors: Vec::from_slice(*self.subselectors.allocator(), &self.subselectors)?,
-            run_ends: Vec::from_slice(*self.run_ends.allocator(), &self.run_ends)?,
-        })
-    }
-}

@@ -1,4 +1,5 @@
-//! Selectors of CSS 2.1: their tokens, their text and specificity, and the elements that they match.
+//! Selectors of CSS 2.1: their tokens, their text and specificity, and the elements that they
+//! match.
 #![tactic(auto)]
 
 mod counter;

@@ -2,6 +2,7 @@
 ghost use Rattle.std.specs.Prelude.{◌≡◌, ◌+◌, ◌*◌, ◌<◌, ◌≤◌, ◌↔◌, ◌∷◌, IsTrue, length, slice_index};
 ghost use Rattle.std.specs.Option.{option_map};
 ghost use Rattle.simplecss_selector.specs.Combinators.{combinator_of};
+ghost use Rattle.simplecss_selector.specs.Fits.{Finds, TestsPlaced};
 ghost use Rattle.simplecss_selector.specs.Placements.{Meets, HasPlacement, longest_run};
 ghost use Rattle.simplecss_selector.specs.Runs.{IsRun};
 ghost use Rattle.simplecss_selector.specs.Searches.{step_from as node_before};
@@ -26,7 +27,9 @@ enum Fit<E> {
 /// A run of child and adjacent steps: the places of its first and of its last component.
 #[derive(Clone, Copy)]
 struct Run {
+    /// The place of the first.
     first: usize,
+    /// The place of the last.
     last: usize,
 }
 
@@ -66,143 +69,122 @@ fn step_from<E: Element>(combinator: Combinator, node: &E) -> Option<E>
     }
 }
 
-impl<'a> Selector<'a> {
-    ghost use Rattle.simplecss_selector.specs.Fits.{Finds, TestsPlaced};
-
-    /// Whether the element meets the component at this place. This is one test.
-    #[inline(always)]
-    fn is_met_at<E: Element>(&self, place: usize, element: &E, tests: &mut Tests) -> bool
-        requires { place < length self.now }
-        ensures answer { IsTrue result
-            ↔ Meets E.tree (E.node element.now) (component_at self.now place).compound }
-        ensures counted { tests.new ≡ tests.old + 1 }
+/// Whether the element meets the component at this place. This is one test.
+#[inline(always)]
+pub(crate) fn is_met_at<E: Element>(
+    selector: &Selector<'_>,
+    place: usize,
+    element: &E,
+    tests: &mut Tests,
+) -> bool
+    requires { place < length selector.now }
+    ensures answer { IsTrue result
+        ↔ Meets E.tree (E.node element.now) (component_at selector.now place).compound }
+    ensures counted { tests.new ≡ tests.old + 1 }
+{
+    tests.tick();
+    let (part, subselectors) = selector.component(place);
+    if let Some(name) = part.name
+        && !element.has_local_name(name)
     {
-        tests.tick();
-        let (part, subselectors) = self.component(place);
-        if let Some(name) = part.name
-            && !element.has_local_name(name)
-        {
+        return false;
+    }
+    for subselector in subselectors {
+        if !subselector.holds(element) {
             return false;
         }
-        for subselector in subselectors {
-            if !subselector.holds(element) {
-                return false;
-            }
-        }
-        true
     }
+    true
+}
 
-    /// Goes up the run from `lowest`, which meets its last component.
-    #[inline(always)]
-    fn climb<E: Element>(&self, run: Run, lowest: &E, tests: &mut Tests) -> Fit<E>
-        requires run { IsRun self.now run.first run.last }
-        requires met { Meets E.tree (E.node lowest.now) (component_at self.now run.last).compound }
-        ensures finds { Finds E.tree E.node self.now run.first run.last (E.node lowest.now) result }
-        ensures placed { TestsPlaced run.first run.last tests.old (tests.new + 1) result }
-        ensures tested { tests.old ≤ tests.new }
-        ensures bounded { tests.new + 1 ≤ tests.old + longest_run self.now }
-    {
-        let mut place = run.last;
-        let mut top: Option<E> = None;
-        'steps: while place > run.first {
-            let node = top.as_ref().unwrap_or(lowest);
-            let Some(before) = step_from(self.combinator(place), node) else {
-                return Fit::Misfit;
-            };
-            place -= 1;
-            if !self.is_met_at(place, &before, tests) {
-                return Fit::Misfit;
-            }
-            top = Some(before);
-        }
-        if run.first == 0 {
-            return Fit::Whole;
-        }
+/// Goes up the run from `lowest`, which meets its last component.
+#[inline(always)]
+fn climb<E: Element>(selector: &Selector<'_>, run: Run, lowest: &E, tests: &mut Tests) -> Fit<E>
+    requires run { IsRun selector.now run.first run.last }
+    requires met { Meets E.tree (E.node lowest.now) (component_at selector.now run.last).compound }
+    ensures finds { Finds E.tree E.node selector.now run.first run.last (E.node lowest.now) result }
+    ensures placed { TestsPlaced run.first run.last tests.old (tests.new + 1) result }
+    ensures tested { tests.old ≤ tests.new }
+    ensures bounded { tests.new + 1 ≤ tests.old + longest_run selector.now }
+{
+    let mut place = run.last;
+    let mut top: Option<E> = None;
+    'steps: while place > run.first {
         let node = top.as_ref().unwrap_or(lowest);
-        match node.parent_element() {
-            Some(above) => Fit::Rest(above),
-            None => Fit::Alone,
-        }
-    }
-
-    /// Tries the run with its last component on `lowest`.
-    #[inline(always)]
-    fn place_run<E: Element>(&self, run: Run, lowest: &E, tests: &mut Tests) -> Fit<E>
-        requires { IsRun self.now run.first run.last }
-        ensures finds { Finds E.tree E.node self.now run.first run.last (E.node lowest.now) result }
-        ensures placed { TestsPlaced run.first run.last tests.old tests.new result }
-        ensures tested { tests.old < tests.new }
-        ensures bounded { tests.new ≤ tests.old + longest_run self.now }
-    {
-        if !self.is_met_at(run.last, lowest, tests) {
+        let Some(before) = step_from(selector.combinator(place), node) else {
+            return Fit::Misfit;
+        };
+        place -= 1;
+        if !is_met_at(selector, place, &before, tests) {
             return Fit::Misfit;
         }
-        self.climb(run, lowest, tests)
+        top = Some(before);
     }
+    if run.first == 0 {
+        return Fit::Whole;
+    }
+    let node = top.as_ref().unwrap_or(lowest);
+    match node.parent_element() {
+        Some(above) => Fit::Rest(above),
+        None => Fit::Alone,
+    }
+}
 
-    /// Goes on from the element, which meets the last component, through the runs. Out of line, since
-    /// most elements do not meet the last component.
-    #[inline(never)]
-    fn goes_on<E: Element>(&self, last: usize, element: &E, tests: &mut Tests) -> bool
-        requires last { last + 1 ≡ length self.now }
-        requires met { Meets E.tree (E.node element.now) (component_at self.now last).compound }
-        ensures answer { IsTrue result ↔ HasPlacement E.tree self.now (E.node element.now) }
-        ensures tested { tests.old ≤ tests.new }
-        ensures all_when_true { IsTrue result → tests.old + last ≤ tests.new }
-        ensures bounded { tests.new + 1
-            ≤ tests.old + longest_run self.now * (E.tree.depth (E.node element.now) + 1) }
-    {
-        let ends = self.run_ends.as_slice();
-        let mut number = ends.len();
-        let first = begin_after(ends, number);
-        let mut candidate = match self.climb(Run { first, last }, element, tests) {
-            Fit::Misfit | Fit::Alone => return false,
+/// Tries the run with its last component on `lowest`.
+#[inline(always)]
+fn place_run<E: Element>(selector: &Selector<'_>, run: Run, lowest: &E, tests: &mut Tests) -> Fit<E>
+    requires { IsRun selector.now run.first run.last }
+    ensures finds { Finds E.tree E.node selector.now run.first run.last (E.node lowest.now) result }
+    ensures placed { TestsPlaced run.first run.last tests.old tests.new result }
+    ensures tested { tests.old < tests.new }
+    ensures bounded { tests.new ≤ tests.old + longest_run selector.now }
+{
+    if !is_met_at(selector, run.last, lowest, tests) {
+        return Fit::Misfit;
+    }
+    climb(selector, run, lowest, tests)
+}
+
+/// Goes on from the element, which meets the last component, through the runs. Out of line, since
+/// most elements do not meet the last component.
+#[inline(never)]
+pub(crate) fn goes_on<E: Element>(
+    selector: &Selector<'_>,
+    last: usize,
+    element: &E,
+    tests: &mut Tests,
+) -> bool
+    requires last { last + 1 ≡ length selector.now }
+    requires met { Meets E.tree (E.node element.now) (component_at selector.now last).compound }
+    ensures answer { IsTrue result ↔ HasPlacement E.tree selector.now (E.node element.now) }
+    ensures tested { tests.old ≤ tests.new }
+    ensures all_when_true { IsTrue result → tests.old + last ≤ tests.new }
+    ensures bounded { tests.new + 1
+        ≤ tests.old + longest_run selector.now * (E.tree.depth (E.node element.now) + 1) }
+{
+    let ends = selector.run_ends.as_slice();
+    let mut number = ends.len();
+    let first = begin_after(ends, number);
+    let mut candidate = match climb(selector, Run { first, last }, element, tests) {
+        Fit::Misfit | Fit::Alone => return false,
+        Fit::Whole => return true,
+        Fit::Rest(above) => above,
+    };
+    number -= 1;
+    let mut run = run_at(ends, number);
+    loop {
+        match place_run(selector, run, &candidate, tests) {
+            Fit::Alone => return false,
             Fit::Whole => return true,
-            Fit::Rest(above) => above,
-        };
-        number -= 1;
-        let mut run = run_at(ends, number);
-        loop {
-            match self.place_run(run, &candidate, tests) {
-                Fit::Alone => return false,
-                Fit::Whole => return true,
-                Fit::Misfit => match candidate.parent_element() {
-                    None => return false,
-                    Some(parent) => candidate = parent,
-                },
-                Fit::Rest(above) => {
-                    candidate = above;
-                    number -= 1;
-                    run = run_at(ends, number);
-                }
+            Fit::Misfit => match candidate.parent_element() {
+                None => return false,
+                Some(parent) => candidate = parent,
+            },
+            Fit::Rest(above) => {
+                candidate = above;
+                number -= 1;
+                run = run_at(ends, number);
             }
         }
-    }
-
-    /// Whether the selector matches the element, with a count of the tests that were made.
-    pub fn matches_counted<E: Element>(&self, element: &E, tests: &mut Tests) -> bool
-        ensures answer { IsTrue result ↔ HasPlacement E.tree self.now (E.node element.now) }
-        ensures at_least_one { tests.old < tests.new }
-        ensures all_when_true { IsTrue result → tests.old + length self.now ≤ tests.new }
-        ensures at_most { tests.new
-            ≤ tests.old + length self.now * (E.tree.depth (E.node element.now) + 1) }
-        ensures at_most_by_runs { tests.new
-            ≤ tests.old + longest_run self.now * (E.tree.depth (E.node element.now) + 1) }
-    {
-        let last = self.last_place();
-        if !self.is_met_at(last, element, tests) {
-            return false;
-        }
-        if last == 0 {
-            return true;
-        }
-        self.goes_on(last, element, tests)
-    }
-
-    /// Whether the selector matches the element.
-    pub fn matches<E: Element>(&self, element: &E) -> bool
-        ensures { IsTrue result ↔ HasPlacement E.tree self.now (E.node element.now) }
-    {
-        self.matches_counted(element, &mut Tests::new())
     }
 }

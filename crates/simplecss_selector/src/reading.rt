@@ -1,6 +1,9 @@
 //! Reading a selector from the front of a text.
-ghost use Rattle.std.specs.Prelude.{◌≡◌, IfOk};
-ghost use Rattle.simplecss_text.specs.Selectors.{role_of, class_named};
+ghost use Rattle.std.specs.Prelude.{◌≡◌, drop, IfOk, IfSome};
+ghost use Rattle.std.specs.Str.{IsCharBoundary};
+ghost use Rattle.simplecss_text.specs.PrintingLaws.{SelectorReadsBack};
+ghost use Rattle.simplecss_text.specs.Selectors.{role_of, class_named, reads};
+ghost use Rattle.simplecss_text.specs.ThisEdition.{this_edition};
 ghost use Rattle.simplecss_selector.specs.Drafts.{drafted_after};
 ghost use Rattle.simplecss_selector.specs.Given.{token_of};
 ghost use Rattle.simplecss_selector.specs.Filled.{class_seen, is_known};
@@ -71,61 +74,33 @@ fn warn_unknown<R: Log>(rt: &R, token: SelectorToken<'_>) {
     }
 }
 
-impl<'a> Selector<'a> {
-    ghost use Rattle.std.specs.Prelude.{◌≡◌, drop, IfOk, IfSome};
-    ghost use Rattle.std.specs.Str.{IsCharBoundary};
-    ghost use Rattle.simplecss_text.specs.ThisEdition.{this_edition};
-    ghost use Rattle.simplecss_text.specs.Selectors.{reads};
-    ghost use Rattle.simplecss_text.specs.PrintingLaws.{SelectorReadsBack};
-
-    /// The selector that a text begins with, or `None` where it is refused, and the place where
-    /// reading stopped: before what follows the selector, or behind what it was refused for. The
-    /// place counts bytes from the start of the text.
-    ///
-    /// It reads as `parse` does. The place tells where to read on, as behind a comma.
-    pub fn parse_front<R: Log>(
-        rt: &R,
-        alloc: Global,
-        text: &'a str,
-    ) -> Result<(Option<Selector<'a>>, usize), AllocError>
-        ensures selector { IfOk result (λ read. read.0 ≡ (reads this_edition text.now).0) }
-        ensures rest { IfOk result (λ read. drop read.1 text.now ≡ (reads this_edition text.now).1) }
-        ensures boundary { IfOk result (λ read. IsCharBoundary text.now read.1) }
-        ensures printed { IfOk result (λ read. IfSome read.0 (SelectorReadsBack this_edition)) }
-    {
-        let mut tokenizer = SelectorTokenizer::from(text);
-        let mut draft = Draft::new(alloc);
-        while let Some(item) = tokenizer.next() {
-            let token = match item {
-                Ok(token) => token,
-                Err(error) => {
-                    warn!(rt; "Selector parsing failed cause {}.", error);
-                    return Ok((None, tokenizer.pos()));
-                }
-            };
-            if !fill(&mut draft, token)? {
-                warn_unknown(rt, token);
+/// The selector that a text begins with, or `None` where it is refused, and the place behind what
+/// was read.
+#[inline(always)]
+pub(crate) fn read_front<'a, R: Log>(
+    rt: &R,
+    alloc: Global,
+    text: &'a str,
+) -> Result<(Option<Selector<'a>>, usize), AllocError>
+    ensures selector { IfOk result (λ read. read.0 ≡ (reads this_edition text.now).0) }
+    ensures rest { IfOk result (λ read. drop read.1 text.now ≡ (reads this_edition text.now).1) }
+    ensures boundary { IfOk result (λ read. IsCharBoundary text.now read.1) }
+    ensures printed { IfOk result (λ read. IfSome read.0 (SelectorReadsBack this_edition)) }
+{
+    let mut tokenizer = SelectorTokenizer::from(text);
+    let mut draft = Draft::new(alloc);
+    while let Some(item) = tokenizer.next() {
+        let token = match item {
+            Ok(token) => token,
+            Err(error) => {
+                warn!(rt; "Selector parsing failed cause {}.", error);
                 return Ok((None, tokenizer.pos()));
             }
+        };
+        if !fill(&mut draft, token)? {
+            warn_unknown(rt, token);
+            return Ok((None, tokenizer.pos()));
         }
-        Ok((Some(draft.finish()), tokenizer.pos()))
     }
-
-    /// The selector that a text begins with, or `None` where it is refused (CSS 2.1 section 5).
-    ///
-    /// It ends where the text ends, before `,` or `{`, or before a `/` that opens no comment and
-    /// stands directly behind a simple selector. It is refused at the first error of its tokens,
-    /// and at a pseudo-class of no known name; the logger is told so. The error is that a growth
-    /// was refused.
-    pub fn parse<R: Log>(
-        rt: &R,
-        alloc: Global,
-        text: &'a str,
-    ) -> Result<Option<Selector<'a>>, AllocError>
-        ensures selector { IfOk result (λ selector. selector ≡ (reads this_edition text.now).0) }
-        ensures printed { IfOk result (λ selector. IfSome selector (SelectorReadsBack this_edition)) }
-    {
-        let (selector, _) = Self::parse_front(rt, alloc, text)?;
-        Ok(selector)
-    }
+    Ok((Some(draft.finish()), tokenizer.pos()))
 }

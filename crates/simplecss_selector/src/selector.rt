@@ -1,28 +1,43 @@
-//! A selector: components in flat lists, and what is read of them.
-ghost use Rattle.std.specs.Prelude.{◌≡◌, ◌+◌, ◌<◌, ◌≤◌, ◌↔◌, ◌++◌, ◌∷◌, [], length, is_some, slice_index_or, IsTrue};
+//! A selector: components in flat lists, and what can be done with it. How it is read, matched and
+//! weighed stands in the modules `reading`, `matching`, `specificity` and `key`.
+ghost use Rattle.std.specs.Prelude.{◌≡◌, ◌+◌, ◌*◌, ◌<◌, ◌≤◌, ◌↔◌, ◌++◌, ◌∷◌, [], length, is_some, slice_index_or, IsTrue};
 ghost use Rattle.std.specs.List.{slice_range};
 ghost use Rattle.simplecss_selector.specs.Placements.{Holds};
 ghost use Rattle.simplecss_selector.specs.Combinators.{combinator_of};
 ghost use Rattle.simplecss_text.specs.Components.Combinator.{none as no_combinator};
 ghost use Rattle.simplecss_text.specs.Specificity.{is_id};
 ghost use Rattle.simplecss_selector.specs.Seen.{component_of_part, subselector_of};
+ghost use Rattle.std.specs.Option.{option_map};
+ghost use Rattle.simplecss_selector.specs.Keys.{asked_id, asked_class};
 
-use crate::{AttributeOperator, Element, PseudoClass};
+use crate::key::{first_class, first_id};
+use crate::matching::{goes_on, is_met_at};
+use crate::reading::read_front;
+use crate::specificity::{at_most_255, id_count, name_count};
+use crate::{AttributeOperator, Element, Key, PseudoClass, Tests};
+use log::Log;
+use std::alloc::{AllocError, Global};
 use std::marker::Model;
 
 /// How a component is related to the one before it.
 #[derive(Clone, Copy, Debug, PartialEq)]
 pub(crate) enum Combinator {
+    /// To none: it is the first.
     None,
+    /// Its element descends from the one before.
     Descendant,
+    /// Its element is a child of the one before.
     Child,
+    /// Its element is the next sibling of the one before.
     Adjacent,
 }
 
 /// What is asked of an element besides its name.
 #[derive(Clone, Copy, Debug, PartialEq)]
 pub(crate) enum SubSelector<'a> {
+    /// An attribute of this name, of which the operator holds.
     Attribute(&'a str, AttributeOperator<'a>),
+    /// That it is in the pseudo-class.
     PseudoClass(PseudoClass<'a>),
 }
 
@@ -30,8 +45,11 @@ pub(crate) enum SubSelector<'a> {
 /// one before end.
 #[derive(Clone, Copy, Debug, PartialEq)]
 pub(crate) struct Part<'a> {
+    /// How it is related to the component before it.
     pub(crate) combinator: Combinator,
+    /// The type name, or `None` for any type.
     pub(crate) name: Option<&'a str>,
+    /// Where its subselectors end in the list of all.
     pub(crate) end: usize,
 }
 
@@ -41,7 +59,9 @@ pub(crate) struct Part<'a> {
 pub struct Selector<'a> {
     /// All components but the last, so that a selector with one component takes no memory for it.
     pub(crate) parts: Vec<Part<'a>>,
+    /// The last component.
     pub(crate) last: Part<'a>,
+    /// The subselectors of all components, one component after the other.
     pub(crate) subselectors: Vec<SubSelector<'a>>,
     /// For each run of child and adjacent steps but the last, in order, the number of components up
     /// to its end. The last run ends with the components, so that a selector of one run takes no
@@ -86,6 +106,32 @@ impl<'a> SubSelector<'a> {
             SubSelector::PseudoClass(class) => element.pseudo_class_matches(*class),
         }
     }
+
+    /// The id that it asks.
+    #[inline(always)]
+    pub(crate) fn asked_id(&self) -> Option<&'a str>
+        ensures { option_map (λ text. text.now) result ≡ asked_id (subselector_of self.now) }
+    {
+        match *self {
+            SubSelector::Attribute(name, AttributeOperator::Matches(text)) => {
+                if name == "id" { Some(text) } else { None }
+            }
+            _ => None,
+        }
+    }
+
+    /// The class that it asks.
+    #[inline(always)]
+    pub(crate) fn asked_class(&self) -> Option<&'a str>
+        ensures { option_map (λ word. word.now) result ≡ asked_class (subselector_of self.now) }
+    {
+        match *self {
+            SubSelector::Attribute(name, AttributeOperator::Contains(word)) => {
+                if name == "class" { Some(word) } else { None }
+            }
+            _ => None,
+        }
+    }
 }
 
 impl<'a> Part<'a> {
@@ -121,6 +167,7 @@ fn part_at<'a>(parts: &[Part<'a>], last: Part<'a>, place: usize) -> Part<'a>
     }
 }
 
+/// Its components, for the modules of this crate.
 impl<'a> Selector<'a> {
     ghost use Rattle.simplecss_selector.specs.Shapes.{component_at};
 
@@ -165,5 +212,140 @@ impl<'a> Selector<'a> {
             self.parts[place - 1].end
         };
         (part, between(&self.subselectors, start, part.end))
+    }
+}
+
+/// Reading.
+impl<'a> Selector<'a> {
+    ghost use Rattle.std.specs.Prelude.{◌≡◌, drop, IfOk, IfSome};
+    ghost use Rattle.std.specs.Str.{IsCharBoundary};
+    ghost use Rattle.simplecss_text.specs.ThisEdition.{this_edition};
+    ghost use Rattle.simplecss_text.specs.Selectors.{reads};
+    ghost use Rattle.simplecss_text.specs.PrintingLaws.{SelectorReadsBack};
+
+    /// The selector that a text begins with, or `None` where it is refused (CSS 2.1 section 5).
+    ///
+    /// It ends where the text ends, before `,` or `{`, or before a `/` that opens no comment and
+    /// stands directly behind a simple selector. It is refused at the first error of its tokens,
+    /// and at a pseudo-class of no known name; the logger is told so. The error is that a growth
+    /// was refused.
+    pub fn parse<R: Log>(
+        rt: &R,
+        alloc: Global,
+        text: &'a str,
+    ) -> Result<Option<Selector<'a>>, AllocError>
+        ensures selector { IfOk result (λ selector. selector ≡ (reads this_edition text.now).0) }
+        ensures printed { IfOk result (λ selector. IfSome selector (SelectorReadsBack this_edition)) }
+    {
+        let (selector, _) = Self::parse_front(rt, alloc, text)?;
+        Ok(selector)
+    }
+
+    /// The selector that a text begins with, or `None` where it is refused, and the place where
+    /// reading stopped: before what follows the selector, or behind what it was refused for. The
+    /// place counts bytes from the start of the text.
+    ///
+    /// It reads as `parse` does. The place tells where to read on, as behind a comma.
+    pub fn parse_front<R: Log>(
+        rt: &R,
+        alloc: Global,
+        text: &'a str,
+    ) -> Result<(Option<Selector<'a>>, usize), AllocError>
+        ensures selector { IfOk result (λ read. read.0 ≡ (reads this_edition text.now).0) }
+        ensures rest { IfOk result (λ read. drop read.1 text.now ≡ (reads this_edition text.now).1) }
+        ensures boundary { IfOk result (λ read. IsCharBoundary text.now read.1) }
+        ensures printed { IfOk result (λ read. IfSome read.0 (SelectorReadsBack this_edition)) }
+    {
+        read_front(rt, alloc, text)
+    }
+}
+
+/// Matching.
+impl<'a> Selector<'a> {
+    ghost use Rattle.simplecss_selector.specs.Placements.{HasPlacement, longest_run};
+
+    /// Whether the selector matches the element, with a count of the tests that were made.
+    pub fn matches_counted<E: Element>(&self, element: &E, tests: &mut Tests) -> bool
+        ensures answer { IsTrue result ↔ HasPlacement E.tree self.now (E.node element.now) }
+        ensures at_least_one { tests.old < tests.new }
+        ensures all_when_true { IsTrue result → tests.old + length self.now ≤ tests.new }
+        ensures at_most { tests.new
+            ≤ tests.old + length self.now * (E.tree.depth (E.node element.now) + 1) }
+        ensures at_most_by_runs { tests.new
+            ≤ tests.old + longest_run self.now * (E.tree.depth (E.node element.now) + 1) }
+    {
+        let last = self.last_place();
+        if !is_met_at(self, last, element, tests) {
+            return false;
+        }
+        if last == 0 {
+            return true;
+        }
+        goes_on(self, last, element, tests)
+    }
+
+    /// Whether the selector matches the element.
+    pub fn matches<E: Element>(&self, element: &E) -> bool
+        ensures { IsTrue result ↔ HasPlacement E.tree self.now (E.node element.now) }
+    {
+        self.matches_counted(element, &mut Tests::new())
+    }
+}
+
+/// What it asks, and copies.
+impl<'a> Selector<'a> {
+    ghost use Rattle.std.specs.Prelude.{IfOk};
+    ghost use Rattle.simplecss_text.specs.Specificity.{specificity};
+    ghost use Rattle.simplecss_selector.specs.Keys.{key_of};
+    ghost use Rattle.simplecss_selector.specs.KeyValues.{key_value};
+
+    /// How specific the selector is: the number of attributes named `id` with any operator, of all
+    /// other attributes and pseudo-classes, and of type names, each 255 where it is greater. An id
+    /// `#x` is such an attribute, and a class `.x` is another.
+    ///
+    /// Specificities compare by their first numbers, then by their second ones, then by their third
+    /// ones.
+    pub fn specificity(&self) -> [u8; 3]
+        ensures { result ≡ specificity self.now }
+    {
+        let ids = id_count(&self.subselectors);
+        let others = self.subselectors.len() - ids;
+        [
+            at_most_255(ids),
+            at_most_255(others),
+            at_most_255(name_count(&self.parts)).saturating_add(u8::from(self.last.is_named())),
+        ]
+    }
+
+    /// What the last component asks at least: the first text that it asks the attribute `id` to
+    /// equal, or else the first word that it asks of the attribute `class`, or else its type name.
+    /// An index of selectors keeps each under its key, so that an element is asked those alone
+    /// whose key it has.
+    pub fn key(&self) -> Key<'a>
+        ensures { key_value result ≡ key_of self.now }
+    {
+        let (part, subselectors) = self.component(self.last_place());
+        if let Some(text) = first_id(subselectors) {
+            return Key::Id(text);
+        }
+        if let Some(word) = first_class(subselectors) {
+            return Key::Class(word);
+        }
+        match part.name {
+            Some(name) => Key::Name(name),
+            None => Key::Any,
+        }
+    }
+
+    /// An equal selector, in memory of the same allocator.
+    pub fn clone(&self) -> Result<Self, AllocError>
+        ensures { IfOk result (λ copy. copy ≡ self.now) }
+    {
+        Ok(Selector {
+            parts: Vec::from_slice(*self.parts.allocator(), &self.parts)?,
+            last: self.last,
+            subselectors: Vec::from_slice(*self.subselectors.allocator(), &self.subselectors)?,
+            run_ends: Vec::from_slice(*self.run_ends.allocator(), &self.run_ends)?,
+        })
     }
 }

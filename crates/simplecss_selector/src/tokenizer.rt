@@ -23,11 +23,17 @@ enum Follows {
     Stop,
     /// A `/`. It opens no comment, since a gap stands before it.
     Slash,
+    /// The combinator `>`.
     Child,
+    /// The combinator `+`.
     Adjacent,
+    /// A `*`.
     Universal,
+    /// The `#` of an id.
     Id,
+    /// The `.` of a class.
     Class,
+    /// The `[` of an attribute.
     Attribute,
     /// The `:` of a pseudo-class.
     Colon,
@@ -44,6 +50,7 @@ enum State {
     Closed,
     /// Behind a first error: that a selector is missing is still to be told.
     Missing,
+    /// Behind the last token or error.
     Ended,
 }
 
@@ -54,10 +61,13 @@ enum State {
 /// selector is missing. No memory is taken.
 #[derive(Drop)]
 pub struct SelectorTokenizer<'a> {
+    /// The text, and the place up to which it was read.
     stream: Stream<'a>,
+    /// What may come there.
     state: State,
 }
 
+/// What the byte announces that stands next.
 #[inline(always)]
 #[tactic(auto, unfolding(crate::specs::Announced::announced))]
 fn what_follows(stream: &Stream<'_>) -> Follows
@@ -428,7 +438,8 @@ impl<'a> Iterator for SelectorTokenizer<'a> {
 
     ghost remaining = { item_count items_left };
 
-    /// The next token or error. Names and values are slices of the text, each behind the one before.
+    /// The next token or error. Names and values are slices of the text, each behind the one
+    /// before.
     #[inline(always)]
     fn next(&mut self) -> Option<Result<SelectorToken<'a>, Error>> {
         match self.state {

@@ -1,17 +1,19 @@
--- What comments and blanks are as texts of their own, with no word on reading. The laws of this crate tie them to the readers:
--- the blank that is read at the front of a text is its longest front that is a blank.
+-- What comments and blanks are as texts of their own, with no word on reading. The laws of this
+-- crate tie them to the readers: the blank that is read at the front of a text is its longest front
+-- that is a blank.
 use Rattle.std.specs.Prelude.{◌≡◌, ℕ, ◌<◌, List, [], ◌∷◌, ◌++◌, true, false, length, drop}
 use Rattle.simplecss_text.specs.Bytes.{starts_two}
 use Rattle.simplecss_text.specs.Characters.{is_space}
 
--- The text is a comment: `/*`, what stands inside, and `*/`, and behind the `/*` no `*/` begins earlier. The two marks have
--- no byte in common, so `/*/` is no comment.
+-- The text is a comment: `/*`, what stands inside, and `*/`, and behind the `/*` no `*/` begins
+-- earlier. The two marks have no byte in common, so `/*/` is no comment.
 pub record IsComment (text : List ℕ) : Type 0 where
   pub inside : List ℕ
   pub is : text ≡ (47 ∷ 42 ∷ []) ++ (inside ++ (42 ∷ 47 ∷ []))
   pub first : (k : ℕ) → k < length inside → starts_two 42 47 (drop k (inside ++ (42 ∷ 47 ∷ []))) ≡ false
 
--- The text is a blank: it is cut into space bytes and comments, one after the other. It may be empty.
+-- The text is a blank: it is cut into space bytes and comments, one after the other. It may be
+-- empty.
 pub data IsBlank : List ℕ → Type 0 where
   -- nothing
   empty : IsBlank []
@@ -20,7 +22,8 @@ pub data IsBlank : List ℕ → Type 0 where
   -- a comment, and a blank behind it
   comment_then : (c rest : List ℕ) → IsComment c → IsBlank rest → IsBlank (c ++ rest)
 
--- The text is cut into comments alone, one after the other: a blank of which no space byte is a part. It may be empty.
+-- The text is cut into comments alone, one after the other: a blank of which no space byte is a
+-- part. It may be empty.
 pub data IsComments : List ℕ → Type 0 where
   -- nothing
   none : IsComments []

@@ -19,8 +19,8 @@ abbrev pub closes_block : List ℕ → ℕ → Bool
 closes_block text place =
     slice_index text place == 125 && count_of 123 (take place text) == count_of 125 (take place text)
 
--- Where the block ends that reading is in: the least place that closes it, else the end of the text. Quotes and comments
--- are not looked at.
+-- Where the block ends that reading is in: the least place that closes it, else the end of the
+-- text. Quotes and comments are not looked at.
 unfoldable pub block_end : List ℕ → ℕ
 block_end text = least (closes_block text) (length text)
 
@@ -36,7 +36,8 @@ ends_list text = length text == 0 || starts 125 text
 abbrev pub declaration_in_block : Edition → List ℕ → Option (Property × List ℕ)
 declaration_in_block edition text = if ends_list text then None else next_declaration edition text
 
--- Behind a broken declaration all is passed up to the end of the block that reading is in, and its brace.
+-- Behind a broken declaration all is passed up to the end of the block that reading is in, and its
+-- brace.
 abbrev pub past_broken : Reading Property → List ℕ
 past_broken (got property rest) = rest
 past_broken (fails fault rest) = past_byte 125 (from_block_end rest)
@@ -45,8 +46,9 @@ past_broken (fails fault rest) = past_byte 125 (from_block_end rest)
 abbrev pub past_list : Edition → List ℕ → List ℕ
 past_list edition text = if ends_list text then text else past_broken (declaration edition text)
 
--- The declarations of a block behind its opening brace, and what is left after the block. One brace that stands directly
--- there is passed, so a block that a broken declaration ended may take a further one.
+-- The declarations of a block behind its opening brace, and what is left after the block. One brace
+-- that stands directly there is passed, so a block that a broken declaration ended may take a
+-- further one.
 unfoldable pub block : Edition → List ℕ → List Property × List ℕ
 block edition text =
     let listed = each (declaration_in_block edition) text in

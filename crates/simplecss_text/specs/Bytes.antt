@@ -77,7 +77,8 @@ all_before byte text =
     let rest = past (λ b. not (b == byte)) text in
     got (before text rest) rest
 
--- What is left after something that must be closed. Where it is not, that is a fault, which uses up the text.
+-- What is left after something that must be closed. Where it is not, that is a fault, which uses up
+-- the text.
 abbrev pub closed_or : Fault → Option (List ℕ) → Reading (Unit {0})
 closed_or fault None = fails fault []
 closed_or fault (Some rest) = got tt rest

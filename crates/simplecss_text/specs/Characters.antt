@@ -2,8 +2,8 @@
 use Rattle.std.specs.Prelude.{ℕ, Bool, ◌||◌, ◌==◌, nat_le}
 use Rattle.simplecss_text.specs.Bytes.{is_within, is_digit}
 
--- Which edition of the rules. They differ in the first character past ASCII that a name may have, and in the second a
--- slash that opens no comment is a term of a value.
+-- Which edition of the rules. They differ in the first character past ASCII that a name may have,
+-- and in the second a slash that opens no comment is a term of a value.
 pub data Edition : Type 0 where
   first_edition : Edition
   second_edition : Edition
@@ -16,8 +16,9 @@ is_space b = b == 0x20 || b == 0x09 || b == 0x0A || b == 0x0D || b == 0x0C
 abbrev pub is_letter : ℕ → Bool
 is_letter c = is_within 97 122 c || is_within 65 90 c
 
--- The first character past ASCII that a name may have. CSS 2.1 (section 4.1.1) leaves out those up to octal 237, so that it
--- is the no-break space, U+00A0, as in the second edition. The first edition leaves out those up to decimal 237.
+-- The first character past ASCII that a name may have. CSS 2.1 (section 4.1.1) leaves out those up
+-- to octal 237, so that it is the no-break space, U+00A0, as in the second edition. The first
+-- edition leaves out those up to decimal 237.
 abbrev pub first_wide : Edition → ℕ
 first_wide first_edition = 238
 first_wide second_edition = 0xA0

@@ -15,18 +15,20 @@ abbrev pub after_close : List ℕ → Option (List ℕ)
 after_close [] = None
 after_close (b ∷ text) = if starts_two 42 47 (b ∷ text) then Some (past_one text) else after_close text
 
--- What is left after the comment that opens here: it closes by the first `*/` behind its `/*`. So `/*/` is not closed.
+-- What is left after the comment that opens here: it closes by the first `*/` behind its `/*`. So
+-- `/*/` is not closed.
 abbrev pub after_comment : List ℕ → Option (List ℕ)
 after_comment text = after_close (drop 2 text)
 
--- A comment. One that is not closed is a fault and uses up the text. Where none opens, that is a fault too, and a `/` that
--- stands there is passed.
+-- A comment. One that is not closed is a fault and uses up the text. Where none opens, that is a
+-- fault too, and a `/` that stands there is passed.
 unfoldable pub comment : Reader (Unit {0})
 comment text =
     if opens_comment text then closed_or (no_comment text) (after_comment text)
     else fails (no_comment text) (past_byte 47 text)
 
--- One part of a blank, a space byte or a closed comment: whether it is a space byte, and what is left after it.
+-- One part of a blank, a space byte or a closed comment: whether it is a space byte, and what is
+-- left after it.
 abbrev pub blank_part : List ℕ → Option (Bool × List ℕ)
 blank_part [] = None
 blank_part (b ∷ text) =

@@ -23,13 +23,15 @@ statement_ends edition text = map (place_of text) (rests_behind edition text)
 abbrev pub StatementEndsAt : Edition → List ℕ → ℕ → Type 0
 StatementEndsAt edition text place = Contains (statement_ends edition text) place
 
--- The text has the rules of what stands before the place, and then those of what stands from there on.
+-- The text has the rules of what stands before the place, and then those of what stands from there
+-- on.
 abbrev pub KeepsAcross : Edition → List ℕ → ℕ → Type 0
 KeepsAcross edition text place = kept edition text ≡ kept edition (take place text) ++ kept edition (drop place text)
 
--- A sheet had the rules `old`, then read `text`, and now has the rules `new`. If `old` are the rules of some texts and of
--- the front of a further one up to where one of its statements ends, and `text` is the rest of that one, then `new` are
--- the rules of those texts and of the whole further one.
+-- A sheet had the rules `old`, then read `text`, and now has the rules `new`. If `old` are the
+-- rules of some texts and of the front of a further one up to where one of its statements ends, and
+-- `text` is the rest of that one, then `new` are the rules of those texts and of the whole further
+-- one.
 abbrev pub GoesOn : Edition → (old : List StyleRule) → (text : List ℕ) → (new : List StyleRule) → Type 0
 GoesOn edition old text new =
     (texts : List (List ℕ)) (whole : List ℕ) (place : ℕ)

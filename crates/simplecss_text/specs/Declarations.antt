@@ -20,8 +20,8 @@ abbrev pub last_or : {A : Type 0} → A → List A → A
 last_or other [] = other
 last_or other (x ∷ xs) = last_or x xs
 
--- What is left after a term, and what is left after the blank behind it. (A comment that is open there is left to the
--- part behind the value.)
+-- What is left after a term, and what is left after the blank behind it. (A comment that is open
+-- there is left to the part behind the value.)
 abbrev pub after_term : Reading (Unit {0}) → Option (List ℕ × List ℕ)
 after_term (got u rest) = Some (rest, past_blank rest)
 after_term (fails fault rest) = None
@@ -30,17 +30,19 @@ after_term (fails fault rest) = None
 abbrev pub term_in_value : Edition → List ℕ → Option (List ℕ × List ℕ)
 term_in_value edition text = after_term (term edition text)
 
--- The terms of a value, each with a blank: what is left after each of them, and after the last blank.
+-- The terms of a value, each with a blank: what is left after each of them, and after the last
+-- blank.
 abbrev pub terms : Edition → List ℕ → List (List ℕ) × List ℕ
 terms edition text = each (term_in_value edition) text
 
--- A value: from the first term to the end of the last one, without white space at either end. What is left is that
--- after the term that could not be read.
+-- A value: from the first term to the end of the last one, without white space at either end. What
+-- is left is that after the term that could not be read.
 unfoldable pub value : Edition → List ℕ → List ℕ × List ℕ
 value edition text =
     (trim (before text (last_or text (terms edition text).0)), left_after (term edition (terms edition text).1))
 
--- whether the text begins with the word `important`, which is passed then; more letters may follow it
+-- whether the text begins with the word `important`, which is passed then; more letters may follow
+-- it
 abbrev pub important_word : Reader Bool
 important_word text = if starts_with eqb text (codes "important") then got true (drop 9 text) else got false text
 
@@ -51,7 +53,8 @@ after_mark = do
   blank
   important_word
 
--- whether an exclamation mark stands there, and behind a blank the word `important`; a mark is passed without the word too
+-- whether an exclamation mark stands there, and behind a blank the word `important`; a mark is
+-- passed without the word too
 unfoldable pub importance : Reader Bool
 importance text = if starts 33 text then after_mark text else got false text
 
@@ -63,8 +66,9 @@ semicolon text = if starts 59 text then Some (tt, past_blank (past_one text)) el
 abbrev pub semicolons : Reader (Unit {0})
 semicolons text = got tt (each semicolon text).1
 
--- What stands behind a value: the importance and any number of semicolons, with blanks between. It tells the importance. (The
--- last blank is empty, unless a comment is open there, which is a fault.)
+-- What stands behind a value: the importance and any number of semicolons, with blanks between. It
+-- tells the importance. (The last blank is empty, unless a comment is open there, which is a
+-- fault.)
 unfoldable pub trailing : Reader Bool
 trailing = do
   blank

@@ -46,8 +46,8 @@ abbrev pub FailsBy : {A : Type 0} → List ℕ → Reading A → Error → List 
 FailsBy text (got x rest) error left = ⊥
 FailsBy text (fails fault rest) error left = (error ≡ error_of text fault) × (left ≡ rest)
 
--- A call on a text answered `result` and left `left` to read, as the reading says. Of a value the definitions see what
--- `view` tells.
+-- A call on a text answered `result` and left `left` to read, as the reading says. Of a value the
+-- definitions see what `view` tells.
 abbrev pub Gives : {X A : Type 0} → (X → A) → List ℕ → Reading A → Result X Error → List ℕ → Type 0
 Gives view text reading (Ok x) left = reading ≡ got (view x) left
 Gives view text reading (Err error) left = FailsBy text reading error left

@@ -4,8 +4,8 @@ use Rattle.simplecss_text.specs.Reading.{no_name, got, fails, Reader, before}
 use Rattle.simplecss_text.specs.Bytes.{past_byte}
 use Rattle.simplecss_text.specs.Characters.{Edition, is_name_start, is_name_char}
 
--- These characters begin with a name: with a name start, or with a hyphen and a name start. A hyphen that ends the text is
--- a name too.
+-- These characters begin with a name: with a name start, or with a hyphen and a name start. A
+-- hyphen that ends the text is a name too.
 abbrev pub begins_name : Edition → List ℕ → Bool
 begins_name edition [] = false
 begins_name edition (c ∷ []) = is_name_start edition c || c == 45
@@ -15,8 +15,8 @@ begins_name edition (c ∷ d ∷ characters) = is_name_start edition c || (c == 
 unfoldable pub past_name_chars : Edition → List ℕ → List ℕ
 past_name_chars edition text = drop (length (encode_utf8_all (take_while (is_name_char edition) (chars text)))) text
 
--- A name is the longest run of name characters, where a name begins. Where none does, that is a fault, and a hyphen that
--- stands there is passed.
+-- A name is the longest run of name characters, where a name begins. Where none does, that is a
+-- fault, and a hyphen that stands there is passed.
 unfoldable pub name : Edition → Reader (List ℕ)
 name edition text =
     if begins_name edition (chars text)

@@ -1,5 +1,5 @@
--- Which pieces of a selector may stand next to each other. What a solid, a simple piece, a head and a subselector are is
--- said with the pieces.
+-- Which pieces of a selector may stand next to each other. What a solid, a simple piece, a head and
+-- a subselector are is said with the pieces.
 use Rattle.std.specs.Prelude.{ℕ, Bool, true, false, List}
 use Rattle.simplecss_text.specs.Reading.{Fault, no_comment, no_selector, unexpected_selector, unexpected_combinator}
 use Rattle.simplecss_text.specs.Bytes.{past_one}
@@ -8,12 +8,14 @@ use Rattle.simplecss_text.specs.Tokens.Token.{universal_selector, type_selector,
 use Rattle.simplecss_text.specs.Pieces.{Piece, Ending}
 use Rattle.simplecss_text.specs.Pieces.Ending.{at_stop, at_slash, without_head, within_piece, within_gap}
 
--- The left side of a gap: open at the start of the text and after a combinator, closed after a simple piece.
+-- The left side of a gap: open at the start of the text and after a combinator, closed after a
+-- simple piece.
 pub data Left : Type 0 where
   open_left : Left
   closed_left : Left
 
--- What follows a gap, with what is left where it begins, or for a type after it, where the table names that place.
+-- What follows a gap, with what is left where it begins, or for a type after it, where the table
+-- names that place.
 pub data Follows : Type 0 where
   subselector : Follows
   universal : (start : List ℕ) → Follows
@@ -36,8 +38,8 @@ pub data Answer : Type 0 where
   -- a fault, and what is left after it
   refuses : Fault → (after : List ℕ) → Answer
 
--- The table of neighbours, by the left side, whether the gap has a space byte, and what follows it. Where a fault
--- follows, the table adds none of its own.
+-- The table of neighbours, by the left side, whether the gap has a space byte, and what follows it.
+-- Where a fault follows, the table adds none of its own.
 abbrev pub between : Left → Bool → Follows → Answer
 -- at the start of the text, or behind a combinator
 between open_left spaced subselector = nothing

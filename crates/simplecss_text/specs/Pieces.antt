@@ -1,6 +1,7 @@
--- A text as the pieces of a selector: a gap and a solid piece in turn, up to a stop or a fault. A gap is a blank, which may
--- be empty. A solid piece is `>` or `+`, or it is simple: a head, which is `*` or a type name, or a subselector, which is an
--- id, a class, an attribute or a pseudo-class. What a piece is depends on no piece before it.
+-- A text as the pieces of a selector: a gap and a solid piece in turn, up to a stop or a fault. A
+-- gap is a blank, which may be empty. A solid piece is `>` or `+`, or it is simple: a head, which
+-- is `*` or a type name, or a subselector, which is an id, a class, an attribute or a pseudo-class.
+-- What a piece is depends on no piece before it.
 use Rattle.std.specs.Prelude.{ℕ, Bool, ◌||◌, ◌==◌, if◌then◌else◌, List, [], ◌∷◌, length, bytes_eq, codes, Option}
 use Rattle.std.specs.Str.{trim}
 use Rattle.simplecss_text.specs.Reading.{Fault, ended, no_attribute_form, no_language, no_selector, Reading, got, fails, Reader, ◌>>=◌, ◌>>◌, give, here, found, each}
@@ -21,7 +22,8 @@ equated edition operator = do
   value ← string_or_name edition
   give (operator value)
 
--- What is asked of an attribute: nothing before a closing bracket, else `=`, `~=` or `|=` and a value.
+-- What is asked of an attribute: nothing before a closing bracket, else `=`, `~=` or `|=` and a
+-- value.
 unfoldable pub attribute_operator : Edition → Reader Operator
 attribute_operator edition [] = fails ended []
 attribute_operator edition (b ∷ text) =
@@ -67,7 +69,8 @@ named edition token = do
   n ← name edition
   give (token n)
 
--- The solid piece that a byte begins: `>`, `+`, `*`, an id, a class, an attribute, a pseudo-class, or else a type.
+-- The solid piece that a byte begins: `>`, `+`, `*`, an id, a class, an attribute, a pseudo-class,
+-- or else a type.
 unfoldable pub begun : Edition → Reader Token
 begun edition [] = named edition type_selector []
 begun edition (b ∷ text) =
@@ -89,8 +92,8 @@ unfoldable pub solid : Edition → Reader Token
 solid edition text =
     if is_stop text || starts 47 text then fails no_selector text else begun edition text
 
--- A gap and a solid piece: whether the gap has a space byte, what is left where the solid piece begins, its token, and
--- what is left after it.
+-- A gap and a solid piece: whether the gap has a space byte, what is left where the solid piece
+-- begins, its token, and what is left after it.
 pub record Piece : Type 0 where
   pub spaced : Bool
   pub start : List ℕ
@@ -120,7 +123,8 @@ pub data Ending : Type 0 where
   at_stop : (spaced : Bool) → (start : List ℕ) → Ending
   -- a `/`, which opens no comment, since it is behind a gap
   at_slash : (spaced : Bool) → (start : List ℕ) → Ending
-  -- a head that is missing, as at `<`, since no name begins there: the fault, and what is left after it
+  -- a head that is missing, as at `<`, since no name begins there: the fault, and what is left
+  -- after it
   without_head : (spaced : Bool) → (start : List ℕ) → Fault → (after : List ℕ) → Ending
   -- a fault inside a subselector that has begun, and what is left after it
   within_piece : (spaced : Bool) → (start : List ℕ) → Fault → (after : List ℕ) → Ending
@@ -131,7 +135,8 @@ pub data Ending : Type 0 where
 abbrev pub begins_subselector : ℕ → Bool
 begins_subselector b = b == 35 || b == 46 || b == 91 || b == 58
 
--- The fault of a solid piece: inside a subselector, or for want of a head. (A piece that can be read is no ending.)
+-- The fault of a solid piece: inside a subselector, or for want of a head. (A piece that can be
+-- read is no ending.)
 abbrev pub fault_ending : Bool → List ℕ → Reading Token → Ending
 fault_ending spaced start (got token after) = at_stop spaced start
 fault_ending spaced start (fails fault after) =

@@ -67,7 +67,8 @@ rule_text rule = selector_text rule.components ++ codes " { " ++ flat_map proper
 abbrev pub sheet_text : List StyleRule → List ℕ
 sheet_text rules = join_with_byte 10 (map rule_text rules)
 
--- each apostrophe of the text stands right behind a backslash of it; before the text stands `previous`
+-- each apostrophe of the text stands right behind a backslash of it; before the text stands
+-- `previous`
 abbrev pub escaped_after : ℕ → List ℕ → Bool
 escaped_after previous [] = true
 escaped_after previous (b ∷ text) = (not (b == 39) || previous == 92) && escaped_after b text
@@ -84,6 +85,7 @@ abbrev pub is_clean_subselector : Subselector → Bool
 is_clean_subselector (attribute name operator) = is_clean_operator operator
 is_clean_subselector (pseudo_class class) = true
 
--- every apostrophe in an attribute value of the selector stands right behind a backslash of that value
+-- every apostrophe in an attribute value of the selector stands right behind a backslash of that
+-- value
 abbrev pub is_clean : List Component → Bool
 is_clean components = list_all (λ c. list_all is_clean_subselector c.compound.subselectors) components

@@ -1,8 +1,8 @@
 -- Tests of a text's bytes, and the runs of bytes that pass them.
 use Rattle.std.specs.Prelude.{◌≡◌, ℕ, ◌<◌, ◌≤◌, List, Bool, true, false, length, slice_index}
 
--- The test, which may give the answers that `post` relates to a byte, may be called at each byte of the text, gives one
--- answer at each, and gives one and the same answer at all bytes past ASCII.
+-- The test, which may give the answers that `post` relates to a byte, may be called at each byte of
+-- the text, gives one answer at each, and gives one and the same answer at all bytes past ASCII.
 pub record IsByteTest (pre : ℕ → Type 0) (post : ℕ → Bool → Type 0) (text : List ℕ) : Type 0 where
   pub callable : (k : ℕ) → k < length text → pre (slice_index text k)
   pub steady : (k : ℕ) (x y : Bool) → k < length text → post (slice_index text k) x → post (slice_index text k) y → x ≡ y

@@ -36,8 +36,8 @@ abbrev pub class_role : Option Class → Role
 class_role None = unknown
 class_role (Some class) = with (pseudo_class class)
 
--- What a token is in a selector. A class is an attribute `class` with a word, and an id is an attribute `id` that equals a
--- text.
+-- What a token is in a selector. A class is an attribute `class` with a word, and an id is an
+-- attribute `id` that equals a text.
 abbrev pub role_of : Token → Role
 role_of universal_selector = any_type
 role_of (type_selector n) = of_type n
@@ -50,7 +50,8 @@ role_of descendant_combinator = joint descendant
 role_of child_combinator = joint child
 role_of adjacent_combinator = joint adjacent
 
--- A run is refused at its first fault or unknown pseudo-class, and else gives its tokens' roles. With it what is left there.
+-- A run is refused at its first fault or unknown pseudo-class, and else gives its tokens' roles.
+-- With it what is left there.
 pub data Outcome : Type 0 where
   refused : (left : List ℕ) → Outcome
   accepted : List Role → (left : List ℕ) → Outcome

@@ -12,8 +12,8 @@ use Rattle.simplecss_text.specs.Statements.{StyleRule, kept}
 abbrev pub is_smaller : StyleRule → StyleRule → Bool
 is_smaller a b = is_lt (slice_cmp nat_cmp (specificity a.components) (specificity b.components))
 
--- Each rule at its rank: as many places from the front as there are rules of smaller specificity and earlier ones of
--- equal specificity.
+-- Each rule at its rank: as many places from the front as there are rules of smaller specificity
+-- and earlier ones of equal specificity.
 abbrev pub ordered : List StyleRule → List StyleRule
 ordered = ordered_by is_smaller
 

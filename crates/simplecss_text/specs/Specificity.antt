@@ -3,7 +3,8 @@ use Rattle.std.specs.Prelude.{ℕ, Bool, false, not, min, List, [], ◌∷◌, s
 use Rattle.simplecss_text.specs.Components.{Subselector, Component}
 use Rattle.simplecss_text.specs.Components.Subselector.{attribute, pseudo_class}
 
--- An attribute named `id`, with any operator: `[id=x]` counts as `#x` does. (In CSS 2.1 it counts as other attributes do.)
+-- An attribute named `id`, with any operator: `[id=x]` counts as `#x` does. (In CSS 2.1 it counts
+-- as other attributes do.)
 abbrev pub is_id : Subselector → Bool
 is_id (attribute name operator) = bytes_eq name (codes "id")
 is_id (pseudo_class class) = false
@@ -16,7 +17,8 @@ id_count c = count_by is_id c.compound.subselectors
 abbrev pub other_count : Component → ℕ
 other_count c = count_by (λ s. not (is_id s)) c.compound.subselectors
 
--- the number of ids, of other subselectors, and of components with a type name, each 255 where it is greater
+-- the number of ids, of other subselectors, and of components with a type name, each 255 where it
+-- is greater
 abbrev pub specificity : List Component → List ℕ
 specificity components =
     min 255 (sum_by id_count components)

@@ -16,7 +16,8 @@ pub record StyleRule : Type 0 where
   pub components : List Component
   pub properties : List Property
 
--- A part of a rule set: its selector, if it gave one, and what is left after it and the space bytes behind it.
+-- A part of a rule set: its selector, if it gave one, and what is left after it and the space bytes
+-- behind it.
 unfoldable pub part : Edition → List ℕ → Option (List Component) × List ℕ
 part edition text = ((reads edition text).0, past is_space (reads edition text).1)
 
@@ -32,14 +33,15 @@ parts edition text =
     let last = part edition listed.1 in
     (filter_map (λ selector. selector) (listed.0 ++ last.0 ∷ []), last.1)
 
--- The declarations of the block that the next opening brace begins, and what is left after it. Without a brace there are
--- none, and the text is used up.
+-- The declarations of the block that the next opening brace begins, and what is left after it.
+-- Without a brace there are none, and the text is used up.
 unfoldable pub next_block : Edition → List ℕ → List Property × List ℕ
 next_block edition text =
     let opened = past (λ b. not (b == 123)) text in
     if starts 123 opened then block edition (past_one opened) else ([], [])
 
--- A rule set: an optional comma, the parts, and the block. Each part that gave a selector is a rule with all declarations.
+-- A rule set: an optional comma, the parts, and the block. Each part that gave a selector is a rule
+-- with all declarations.
 unfoldable pub rule_set : Edition → List ℕ → List StyleRule × List ℕ
 rule_set edition text =
     let head = parts edition (past_byte 44 text) in
@@ -50,8 +52,8 @@ rule_set edition text =
 abbrev pub past_at_end : List ℕ → List ℕ
 past_at_end text = if starts 123 text then past_byte 125 (from_block_end (past_one text)) else past_byte 59 text
 
--- Behind the name of an at-rule all is passed up to a semicolon or a block. Without a name it ends where the fault leaves
--- reading.
+-- Behind the name of an at-rule all is passed up to a semicolon or a block. Without a name it ends
+-- where the fault leaves reading.
 abbrev pub past_at_name : Reading (List ℕ) → List ℕ
 past_at_name (got n rest) = past_at_end (past (is_neither 59 123) rest)
 past_at_name (fails fault rest) = rest

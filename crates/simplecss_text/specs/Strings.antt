@@ -9,8 +9,8 @@ use Rattle.simplecss_text.specs.Names.{name}
 abbrev pub is_quote : ℕ → Bool
 is_quote b = b == 39 || b == 34
 
--- What is left from the first such quote on that no backslash stands right before. Before the text stands `previous`. It is
--- not asked whether such a backslash is itself behind a backslash.
+-- What is left from the first such quote on that no backslash stands right before. Before the text
+-- stands `previous`. It is not asked whether such a backslash is itself behind a backslash.
 abbrev pub from_quote : ℕ → ℕ → List ℕ → Option (List ℕ)
 from_quote quote previous [] = None
 from_quote quote previous (b ∷ text) =
@@ -21,7 +21,8 @@ abbrev pub string_up_to : List ℕ → Option (List ℕ) → Reading (List ℕ)
 string_up_to text None = fails ended []
 string_up_to text (Some closing) = got (before text closing) (past_one closing)
 
--- The rest of a string whose opening quote was read: what stands before the closing quote. Without one the text is used up.
+-- The rest of a string whose opening quote was read: what stands before the closing quote. Without
+-- one the text is used up.
 abbrev pub string_after : ℕ → Reader (List ℕ)
 string_after quote text = string_up_to text (from_quote quote quote text)
 

@@ -10,8 +10,8 @@ use Rattle.simplecss_text.specs.Strings.{is_quote, string_after}
 abbrev pub is_hex_digit : ℕ → Bool
 is_hex_digit b = is_digit b || is_within 97 102 b || is_within 65 70 b
 
--- what is left after a hash, behind its number sign: after the name, or where none stands past a hyphen and hexadecimal
--- digits
+-- what is left after a hash, behind its number sign: after the name, or where none stands past a
+-- hyphen and hexadecimal digits
 abbrev pub past_hash : Reading (List ℕ) → List ℕ
 past_hash (got n rest) = rest
 past_hash (fails fault rest) = past is_hex_digit rest
@@ -28,7 +28,8 @@ past_unit edition text = if starts 37 text then past_one text else left_after (n
 unfoldable pub past_number : Edition → List ℕ → List ℕ
 past_number edition text = past_unit edition (past_decimals (past is_digit text))
 
--- the arguments of a function, if they stand there: all up to the first closing parenthesis, and that parenthesis
+-- the arguments of a function, if they stand there: all up to the first closing parenthesis, and
+-- that parenthesis
 abbrev pub arguments : Reader (Unit {0})
 arguments text = if starts 40 text then closed_or ended (after_byte 41 text) else got tt text
 
@@ -53,8 +54,8 @@ is_slash_term second_edition b text = b == 47 && not (starts 42 text)
 abbrev pub begins_number : ℕ → Bool
 begins_number b = b == 43 || b == 45 || b == 46 || is_digit b
 
--- A term: a hash, a number, a string, a comma, in the second edition a slash that opens no comment, a name or a function, by its
--- first byte.
+-- A term: a hash, a number, a string, a comma, in the second edition a slash that opens no comment,
+-- a name or a function, by its first byte.
 unfoldable pub term : Edition → Reader (Unit {0})
 term edition [] = fails ended []
 term edition (b ∷ text) =

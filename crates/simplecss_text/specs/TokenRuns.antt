@@ -1,4 +1,5 @@
--- What a tokenizer gives on a text: the tokens of its pieces, with what stands between them, up to the end or a fault.
+-- What a tokenizer gives on a text: the tokens of its pieces, with what stands between them, up to
+-- the end or a fault.
 use Rattle.std.specs.Prelude.{ℕ, ◌+◌, List, [], ◌∷◌, map, Result, Ok, Err}
 use Rattle.simplecss_text.specs.declared.Error.{Error}
 use Rattle.simplecss_text.specs.Reading.{Fault, no_selector}
@@ -43,8 +44,8 @@ left_with descends left = open_left
 left_with ends_tokens left = left
 left_with (refuses fault after) left = left
 
--- The fault of an ending. Behind an open left side, or a descendant combinator, a second one follows where a head is missing
--- or a comment is open: that no selector was found.
+-- The fault of an ending. Behind an open left side, or a descendant combinator, a second one
+-- follows where a head is missing or a comment is open: that no selector was found.
 abbrev pub ending_run : Left → Ending → Run
 ending_run left (at_stop spaced start) = run_end start
 ending_run left (at_slash spaced start) = run_end start

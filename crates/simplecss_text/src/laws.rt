@@ -1,6 +1,6 @@
-//! Laws, each the contract of a function that does nothing. Those of the grammar say what the readers
-//! of comments and blanks find in words that know of no reading: what a comment is, and what a blank
-//! is. Those of equality say when two values are equal.
+//! Laws, each the contract of a function that does nothing. Those of the grammar say what the
+//! readers of comments and blanks find in words that know of no reading: what a comment is, and
+//! what a blank is. Those of equality say when two values are equal.
 
 ghost use Rattle.std.specs.Prelude.{◌≡◌, ℕ, ◌≤◌, ◌↔◌, List, ◌++◌, length, true, false, IsTrue};
 ghost use Rattle.simplecss_text.specs.Reading.{got, before, Ends};

@@ -53,13 +53,14 @@ abbrev pub ends_subtag : List ℕ → Bool
 ends_subtag [] = true
 ends_subtag (b ∷ bs) = b == 45
 
--- A language is the one that `:lang(tag)` asks, or one within it: it is the tag, or goes on after it
--- with a hyphen, whatever the case of ASCII letters (CSS 2.1 section 5.11.4).
+-- A language is the one that `:lang(tag)` asks, or one within it: it is the tag, or goes on after
+-- it with a hyphen, whatever the case of ASCII letters (CSS 2.1 section 5.11.4).
 abbrev pub is_in_language : List ℕ → List ℕ → Bool
 is_in_language tag language =
     str_eq_ignore_ascii_case (take (length tag) language) tag && ends_subtag (drop (length tag) language)
 
--- The first child has no previous sibling; of the other pseudo-classes the states tell, and the language.
+-- The first child has no previous sibling; of the other pseudo-classes the states tell, and the
+-- language.
 abbrev pub is_in : List Row → ℕ → Class → Bool
 is_in rows i first_child = is_none (sibling_by (named_parent rows) (named_previous rows) i)
 is_in rows i link = (states_at rows i).link
@@ -91,6 +92,8 @@ told_at (rows, i) = record {
   class = attribute_at rows i (codes "class");
 }
 
+-- An element tells what it answers by. This is proved here since the trait `Keyed` asks for it: the
+-- impl names it, so it is part of what is stated.
 pub keys_told : (n : List Row × ℕ) → TellsKeys element_tree n (told_at n)
 keys_told n (by_id text) h = h
 keys_told n (by_class word) h = h

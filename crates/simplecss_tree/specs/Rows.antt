@@ -5,8 +5,8 @@ use Rattle.std.specs.Borrow.{Bor}
 use Rattle.simplecss_tree.specs.declared.tree.States.{States}
 use Rattle.simplecss_tree.specs.declared.tree.Entry.{Entry}
 
--- An element: its name, its attributes, each a name and a value, the places of its parent and of its
--- previous sibling, if it has any, and its states.
+-- An element: its name, its attributes, each a name and a value, the places of its parent and of
+-- its previous sibling, if it has any, and its states.
 pub record Row : Type 0 where
   pub name : List ℕ
   pub attributes : List (List ℕ × List ℕ)
@@ -92,8 +92,8 @@ abbrev pub IsMissing : Option ℕ → ℕ → Type 0
 IsMissing None count = ⊥
 IsMissing (Some place) count = count ≤ place
 
--- Each entry says which child of it is the last, and `last_root` which element without a parent is. No
--- place behind the entries has a child.
+-- Each entry says which child of it is the last, and `last_root` which element without a parent is.
+-- No place behind the entries has a child.
 pub record KnowsLast (entries : List Entry) (last_root : Option ℕ) : Type 0 where
   pub root : last_root ≡ last_child (map row_of entries) None
   pub each : (i : ℕ) → slice_index_or (map (λ e. e.last_child) entries) i None ≡ last_child (map row_of entries) (Some i)

@@ -1,8 +1,10 @@
 //! A tree that grows: each element stands behind its parent and behind its previous siblings.
-ghost use Rattle.std.specs.Prelude.{◌≡◌, ◌<◌, ◌≤◌, ◌++◌, ◌∷◌, ◌↔◌, [], length, IfSome, IfOk, IfErr, MatchOption, MatchResult, Err, OnOk, OnErr};
+ghost use Rattle.std.specs.Prelude.{◌≡◌, ◌<◌, ◌≤◌, ◌++◌, ◌∷◌, ◌↔◌, [], length, IfSome, IfOk, IfErr, MatchOption, MatchResult, Err, OnOk, OnErr, false};
+ghost use Rattle.std.specs.Option.{option_map, option_map_or};
 ghost use Rattle.simplecss_tree.specs.declared.tree.TreeError.TheVariants.{NoElement, Memory};
 
 use crate::Node;
+use crate::node::{is_in_language, value_in};
 use std::alloc::{AllocError, AllocFailed, Global};
 use std::error::Error;
 use std::io::ErrorKind;
@@ -88,11 +90,17 @@ impl From<TreeError> for io::Error {
 /// An element's own data, and the places of its relatives.
 #[derive(Debug, Drop)]
 pub(crate) struct Entry<'t> {
+    /// The element's name.
     pub(crate) name: &'t str,
+    /// The name and the value of each attribute.
     pub(crate) attributes: Vec<(&'t str, &'t str)>,
+    /// The place of the parent, if there is one.
     pub(crate) parent: Option<usize>,
+    /// The place of the previous sibling, if there is one.
     pub(crate) previous: Option<usize>,
+    /// The states that the element is in.
     pub(crate) states: States,
+    /// The place of the last child, if there is one: the previous sibling of the next.
     last_child: Option<usize>,
 }
 
@@ -101,7 +109,9 @@ pub(crate) struct Entry<'t> {
 /// beside its place in the list.
 #[derive(Debug, Drop)]
 pub struct Tree<'t> {
+    /// An entry for each element.
     pub(crate) entries: Vec<Entry<'t>>,
+    /// The place of the last element without a parent, if there is one.
     last_root: Option<usize>,
 }
 
@@ -177,8 +187,8 @@ impl<'t> Tree<'t> {
         Ok(place)
     }
 
-    /// Adds an attribute to the element that was added last. Of two attributes of one name the first
-    /// counts.
+    /// Adds an attribute to the element that was added last. Of two attributes of one name the
+    /// first counts.
     pub fn set_attribute(&mut self, name: &'t str, value: &'t str) -> Result<(), TreeError>
         ensures ok { OnOk result (self.new ≡ with_attribute self.old name.now value.now) }
         ensures no_element { (result ≡ Err NoElement) ↔ (self.old ≡ []) }
@@ -214,6 +224,90 @@ impl<'t> Tree<'t> {
             Some(Node { tree: self, place })
         } else {
             None
+        }
+    }
+}
+
+/// What its elements are asked.
+impl<'t> Tree<'t> {
+    ghost use Rattle.simplecss.specs.ListTrees.{parent_by, sibling_by};
+    ghost use Rattle.simplecss_tree.specs.Nodes.{named_parent, named_previous, name_at, attribute_at, states_at, language_at, is_in_language};
+
+    /// The place of the parent.
+    #[inline(always)]
+    pub(crate) fn parent(&self, place: usize) -> Option<usize>
+        requires { place < length self.now }
+        ensures value { result ≡ parent_by (named_parent self.now) place }
+        ensures before { IfSome result (λ parent. parent < place) }
+    {
+        let parent = self.entries[place].parent?;
+        if parent < place { Some(parent) } else { None }
+    }
+
+    /// The place of the previous sibling.
+    #[inline(always)]
+    pub(crate) fn previous(&self, place: usize) -> Option<usize>
+        requires { place < length self.now }
+        ensures value { result ≡ sibling_by (named_parent self.now) (named_previous self.now) place }
+        ensures before { IfSome result (λ previous. previous < place) }
+    {
+        let previous = self.entries[place].previous?;
+        if previous < place && self.parent(previous) == self.parent(place) {
+            Some(previous)
+        } else {
+            None
+        }
+    }
+
+    /// The name.
+    #[inline(always)]
+    pub(crate) fn name(&self, place: usize) -> &'t str
+        requires { place < length self.now }
+        ensures { result.now ≡ name_at self.now place }
+    {
+        self.entries[place].name
+    }
+
+    /// The value of the first attribute of the name, if there is one.
+    pub(crate) fn attribute(&self, place: usize, name: &str) -> Option<&'t str>
+        requires { place < length self.now }
+        ensures { option_map (λ value. value.now) result ≡ attribute_at self.now place name.now }
+    {
+        value_in(&self.entries[place].attributes, name)
+    }
+
+    /// The states.
+    #[inline(always)]
+    pub(crate) fn states(&self, place: usize) -> States
+        requires { place < length self.now }
+        ensures { result ≡ states_at self.now place }
+    {
+        self.entries[place].states
+    }
+
+    /// The value of the attribute `lang` of the nearest among an element and its ancestors that has
+    /// one.
+    pub(crate) fn language(&self, place: usize) -> Option<&'t str>
+        requires { place < length self.now }
+        ensures { option_map (λ value. value.now) result ≡ language_at self.now place }
+    {
+        let mut nearest = place;
+        loop {
+            if let Some(language) = self.attribute(nearest, "lang") {
+                return Some(language);
+            }
+            nearest = self.parent(nearest)?;
+        }
+    }
+
+    /// Whether the element is in the language of the tag.
+    pub(crate) fn is_in_language(&self, place: usize, tag: &str) -> bool
+        requires { place < length self.now }
+        ensures { result ≡ option_map_or (is_in_language tag.now) (language_at self.now place) false }
+    {
+        match self.language(place) {
+            Some(language) => is_in_language(tag, language),
+            None => false,
         }
     }
 }

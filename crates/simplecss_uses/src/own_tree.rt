@@ -13,16 +13,22 @@ mod tests;
 /// An entry: a name, a class, and the places of the parent and of the previous sibling, if any.
 #[derive(Clone, Copy, Debug)]
 pub struct Entry<'t> {
+    /// The element's name.
     pub name: &'t str,
+    /// The value of its attribute `class`.
     pub class: &'t str,
+    /// The place of the parent.
     pub parent: Option<usize>,
+    /// The place of the previous sibling.
     pub previous: Option<usize>,
 }
 
 /// The element at a place of a list.
 #[derive(Drop)]
 pub struct Spot<'t> {
+    /// All entries.
     pub entries: &'t [Entry<'t>],
+    /// The place of this one.
     pub place: usize,
     pub ghost within: { place < length entries.now },
 }
@@ -51,6 +57,7 @@ fn previous_of(entries: &[Entry<'_>], place: usize) -> Option<usize>
     }
 }
 
+/// Names compare byte by byte. `class` is the only attribute, and no pseudo-class holds.
 impl<'t> Element for Spot<'t> {
     ghost Node = { List Entry × ℕ };
 

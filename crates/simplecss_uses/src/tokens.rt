@@ -1,4 +1,5 @@
-//! What a user writes with the tokenizers: loops and chains, with no measure, no invariant and no proof file.
+//! What a user writes with the tokenizers: loops and chains, with no measure, no invariant and no
+//! proof file.
 
 ghost use Rattle.std.specs.Prelude.{◌≡◌, length, map, count_by, IfOk, IfSome, IfNone, IsTrue, IsErr, All, false};
 ghost use Rattle.simplecss.specs.ThisEdition.{this_edition};

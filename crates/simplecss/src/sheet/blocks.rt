@@ -17,8 +17,8 @@ use std::alloc::AllocError;
 /// How many bytes are tested at once.
 const CHUNK: usize = 32;
 
-/// How many opening and how many closing braces there are. Bytes are enough for these numbers, and they are added up
-/// many at once.
+/// How many opening and how many closing braces there are. Bytes are enough for these numbers, and
+/// they are added up many at once.
 #[inline(always)]
 fn brace_counts(chunk: &[u8; CHUNK]) -> (usize, usize)
     ensures opening { result.0 ≡ count_of 123 chunk.now }
@@ -33,8 +33,9 @@ fn brace_counts(chunk: &[u8; CHUNK]) -> (usize, usize)
     (usize::from(opening), usize::from(closing))
 }
 
-/// Where the first closing brace stands that ends neither a block that begins in these bytes nor one of the `depth` blocks
-/// that are open before them. If there is none, the `Err` says how many blocks are open behind them.
+/// Where the first closing brace stands that ends neither a block that begins in these bytes nor
+/// one of the `depth` blocks that are open before them. If there is none, the `Err` says how many
+/// blocks are open behind them.
 fn outer_brace(bytes: &[u8], depth: usize) -> Result<usize, usize>
     requires { depth + length bytes.now < 2 ^ 64 }
     ensures { MatchResult result (ClosesFirst depth bytes.now) (ClosesNowhere depth bytes.now) }
@@ -51,7 +52,8 @@ fn outer_brace(bytes: &[u8], depth: usize) -> Result<usize, usize>
     Err(open)
 }
 
-/// The same of a chunk. It is gone through byte by byte only if it has more closing braces than blocks are open before it.
+/// The same of a chunk. It is gone through byte by byte only if it has more closing braces than
+/// blocks are open before it.
 #[inline(always)]
 fn outer_brace_of_chunk(chunk: &[u8; CHUNK], depth: usize) -> Result<usize, usize>
     requires { depth + CHUNK < 2 ^ 64 }
@@ -83,8 +85,9 @@ fn closing_place(bytes: &[u8]) -> usize
     }
 }
 
-/// How many bytes stand before the end of the block that the text is in: before the first closing brace that has as many
-/// opening as closing ones before it, or all. Quotes and comments are not looked at.
+/// How many bytes stand before the end of the block that the text is in: before the first closing
+/// brace that has as many opening as closing ones before it, or all. Quotes and comments are not
+/// looked at.
 #[tactic(auto, using(crate::proofs::BlockLemmas::boundary_at_block_end))]
 fn block_end(text: &str) -> usize
     ensures len { result ≡ block_end_of text.now }
@@ -113,8 +116,8 @@ fn at_list_end(s: &Stream<'_>) -> bool
     }
 }
 
-/// Reads the declarations of a block into the list, in the place of those that it held. A broken one ends them, and then
-/// the block's end and its brace are passed.
+/// Reads the declarations of a block into the list, in the place of those that it held. A broken
+/// one ends them, and then the block's end and its brace are passed.
 fn consume_declarations<'a>(
     s: &mut Stream<'a>,
     declarations: &mut Vec<Declaration<'a>>,
@@ -136,8 +139,9 @@ fn consume_declarations<'a>(
     Ok(())
 }
 
-/// Reads a block behind its opening brace, and passes one closing brace that stands directly behind its declarations. So
-/// a block that a broken declaration ended takes a further one. The list then holds the block's declarations alone.
+/// Reads a block behind its opening brace, and passes one closing brace that stands directly behind
+/// its declarations. So a block that a broken declaration ended takes a further one. The list then
+/// holds the block's declarations alone.
 #[tactic(auto, unfolding(simplecss_text::specs::Blocks::block))]
 pub fn consume_block<'a>(
     s: &mut Stream<'a>,

@@ -4,6 +4,7 @@ ghost use Rattle.std.specs.List.{prefix_len};
 ghost use Rattle.std.specs.Str.{IsCharBoundary};
 ghost use Rattle.simplecss_text.specs.Bytes.{is_neither};
 
+/// How many bytes stand before the first that is one of the two.
 fn neither_count(bytes: &[u8], one: u8, two: u8) -> usize
     ensures { result ≡ prefix_len (is_neither one two) bytes.now }
 {

@@ -16,10 +16,11 @@ ghost use Rattle.simplecss.specs.StyleRules.{rule_of};
 use crate::sheet::Rule;
 use simplecss_declaration::Declaration;
 
-/// The order of the rules in a style sheet: each is kept and stands at its rank, which is the number of rules of smaller
-/// specificity and of earlier ones of equal specificity. So no rule stands before one of smaller specificity, and rules of
-/// equal specificity stay in their order; each list of the same rules with these two properties is this one. To order a
-/// second time changes nothing.
+/// The order of the rules in a style sheet: each is kept and stands at its rank, which is the
+/// number of rules of smaller specificity and of earlier ones of equal specificity. So no rule
+/// stands before one of smaller specificity, and rules of equal specificity stay in their order;
+/// each list of the same rules with these two properties is this one. To order a second time
+/// changes nothing.
 pub fn order_laws()
     ensures keeps { (rules : List StyleRule) → IsPermutation rules (ordered rules) }
     ensures ranks { (rules : List StyleRule) (i : ℕ) (r : StyleRule) → i < length rules → slice_index_or rules i r ≡ r
@@ -31,8 +32,9 @@ pub fn order_laws()
     ensures twice { (rules : List StyleRule) → ordered (ordered rules) ≡ ordered rules }
 {}
 
-/// What the place of a rule in a style sheet means. Of two rules of a sheet that was read the one at the lesser place has a
-/// smaller specificity, or an equal one and stands earlier in the source: the rules of all texts in turn.
+/// What the place of a rule in a style sheet means. Of two rules of a sheet that was read the one
+/// at the lesser place has a smaller specificity, or an equal one and stands earlier in the source:
+/// the rules of all texts in turn.
 pub fn place_law()
     ensures { (texts : List (List ℕ)) (i j : ℕ) (a b : StyleRule) → i < j
         → slice_get (sheet this_edition texts) i ≡ Some a → slice_get (sheet this_edition texts) j ≡ Some b
@@ -44,8 +46,9 @@ pub fn sheet_law()
     ensures { (texts : List (List ℕ)) → AllPass has_property (sheet this_edition texts) }
 {}
 
-/// A text has the rules of its front up to a place and then those of what stands from there on, wherever one of its
-/// statements ends. At other places that can be false: a block may be open there.
+/// A text has the rules of its front up to a place and then those of what stands from there on,
+/// wherever one of its statements ends. At other places that can be false: a block may be open
+/// there.
 pub fn cutting_law()
     ensures { (text : List ℕ) (place : ℕ) → IsUtf8 text → StatementEndsAt this_edition text place → KeepsAcross this_edition text place }
 {}
@@ -55,8 +58,8 @@ pub fn edition_law()
     ensures { (text : List ℕ) → IsCommon text → KeepsInBoth text }
 {}
 
-/// Two rules are equal exactly if their selectors and their declarations are, and two declarations, if their names, their
-/// values and whether they are important are.
+/// Two rules are equal exactly if their selectors and their declarations are, and two declarations,
+/// if their names, their values and whether they are important are.
 pub fn equality_laws()
     ensures rules { (a b : Rule) → IsTrue (⟦<Rule<'static> as PartialEq>⟧.eq a b) ↔ (rule_of a ≡ rule_of b) }
     ensures declarations { (a b : Declaration) → IsTrue (⟦<Declaration<'static> as PartialEq>⟧.eq a b)

@@ -8,8 +8,8 @@ ghost use Rattle.simplecss.specs.StyleRules.{rule_of, rules_of};
 use crate::sheet::Rule;
 use std::alloc::AllocError;
 
-/// Puts the rules in the order of specificity, and those of equal specificity in the order in which they stood. An `Err`
-/// changes nothing.
+/// Puts the rules in the order of specificity, and those of equal specificity in the order in which
+/// they stood. An `Err` changes nothing.
 fn sort_rules(rules: &mut Vec<Rule>) -> Result<(), AllocError>
     ensures ok { OnOk result (rules_of rules.new.items ≡ ordered (rules_of rules.old.items)) }
     ensures err { OnErr result (rules.new.items ≡ rules.old.items) }
@@ -35,7 +35,8 @@ fn drop_empty(rules: &mut Vec<Rule>)
     rules.retain(|rule| has_declaration(rule));
 }
 
-/// Puts the rules behind the others, which may take them as they are where there are no others. An `Err` changes nothing.
+/// Puts the rules behind the others, which may take them as they are where there are no others. An
+/// `Err` changes nothing.
 fn join<'a>(rules: &mut Vec<Rule<'a>>, mut more: Vec<Rule<'a>>) -> Result<(), AllocError>
     ensures ok { OnOk result (rules.new.items ≡ rules.old.items ++ more.entry.items) }
     ensures err { OnErr result (rules.new.items ≡ rules.old.items) }

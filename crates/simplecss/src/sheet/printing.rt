@@ -11,7 +11,8 @@ use simplecss_declaration::Declaration;
 use std::fmt;
 use std::fmt::Display;
 
-/// Prints the rules with a newline between two, and none behind the last. Width, fill and flags of the formatter change nothing.
+/// Prints the rules with a newline between two, and none behind the last. Width, fill and flags of
+/// the formatter change nothing.
 impl<'a> Display for StyleSheet<'a> {
     ghost use Rattle.std.specs.Prelude.{Some};
     ghost use Rattle.simplecss_text.specs.Printing.{sheet_text};
@@ -27,8 +28,9 @@ impl<'a> Display for StyleSheet<'a> {
     }
 }
 
-/// Prints the rule as it stands in a printed sheet: the selector, and between braces each declaration with a colon behind
-/// its name and a semicolon at its end. Width, fill and flags of the formatter change nothing.
+/// Prints the rule as it stands in a printed sheet: the selector, and between braces each
+/// declaration with a colon behind its name and a semicolon at its end. Width, fill and flags of
+/// the formatter change nothing.
 impl<'a> Display for Rule<'a> {
     ghost use Rattle.std.specs.Prelude.{Some};
     ghost use Rattle.simplecss_text.specs.Printing.{rule_text};
@@ -98,6 +100,7 @@ fn write_declarations<W: fmt::Write>(
     Ok(())
 }
 
+/// Writes a declaration as it prints itself.
 fn write_declaration<W: fmt::Write>(
     f: &mut fmt::Formatter<W>,
     declaration: &Declaration,

@@ -6,7 +6,8 @@ use simplecss_declaration::Declaration;
 use simplecss_selector::Selector;
 use std::alloc::AllocError;
 
-/// A rule of a style sheet: a selector, and the declarations for the elements that it matches (CSS 2.1 section 4.1.7).
+/// A rule of a style sheet: a selector, and the declarations for the elements that it matches (CSS
+/// 2.1 section 4.1.7).
 #[derive(Debug, Drop, PartialEq)]
 pub struct Rule<'a> {
     /// Which elements the rule is for.

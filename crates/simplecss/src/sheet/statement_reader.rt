@@ -12,8 +12,8 @@ use simplecss_text::stream::Stream;
 use std::alloc::{AllocError, Global};
 use std::marker::Model;
 
-/// A statement of a style sheet (CSS 2.1 section 4.1.5), and where it stands in the text. Places count
-/// bytes from the start of the text and stand between two characters.
+/// A statement of a style sheet (CSS 2.1 section 4.1.5), and where it stands in the text. Places
+/// count bytes from the start of the text and stand between two characters.
 #[derive(Debug, Drop)]
 pub struct Statement<'a> {
     /// Where it begins.
@@ -26,10 +26,11 @@ pub struct Statement<'a> {
 
 /// Reads the statements of a text one by one, for those who ask where each stands.
 ///
-/// A style sheet of the text has the rules of all statements that have a declaration, in the order of
-/// their specificity.
+/// A style sheet of the text has the rules of all statements that have a declaration, in the order
+/// of their specificity.
 #[derive(Debug, Drop)]
 pub struct StatementReader<'a> {
+    /// The text, and the place behind the last statement.
     stream: Stream<'a>,
 }
 
@@ -53,8 +54,8 @@ impl<'a> StatementReader<'a> {
     }
 
     /// The next statement, or `None` for ever where there is none: at the end of the text, and at a
-    /// comment that is not closed. Only memory may be wanting, and then the reader stays where it is.
-    /// Warnings of what is passed over go to `rt`.
+    /// comment that is not closed. Only memory may be wanting, and then the reader stays where it
+    /// is. Warnings of what is passed over go to `rt`.
     pub fn read_next<R: Log>(
         &mut self,
         rt: &R,

@@ -47,8 +47,8 @@ fn push_some<'a>(
     Ok(())
 }
 
-/// Reads the parts of a rule set's head, with a comma behind each but the last, and puts their selectors into the list, in
-/// the place of those that it held.
+/// Reads the parts of a rule set's head, with a comma behind each but the last, and puts their
+/// selectors into the list, in the place of those that it held.
 fn consume_parts<'a, R: Log>(
     rt: &R,
     alloc: Global,
@@ -68,8 +68,8 @@ fn consume_parts<'a, R: Log>(
     }
 }
 
-/// Reads the declarations of the block that the next opening brace begins into the list, in the place of those that it
-/// held. Without such a brace there are none, and the text is used up.
+/// Reads the declarations of the block that the next opening brace begins into the list, in the
+/// place of those that it held. Without such a brace there are none, and the text is used up.
 fn consume_next_block<'a>(
     s: &mut Stream<'a>,
     declarations: &mut Vec<Declaration<'a>>,
@@ -90,8 +90,8 @@ fn consume_next_block<'a>(
     }
 }
 
-/// Adds a rule for each selector, and takes the selectors out of their list. Each rule has its own list of the
-/// declarations, which takes no more memory than they need.
+/// Adds a rule for each selector, and takes the selectors out of their list. Each rule has its own
+/// list of the declarations, which takes no more memory than they need.
 fn push_rules<'a>(
     alloc: Global,
     rules: &mut Vec<Rule<'a>>,
@@ -110,7 +110,8 @@ fn push_rules<'a>(
     Ok(())
 }
 
-/// Passes the rest of an at-rule behind its name: up to a semicolon, and it, or up to a block, and that.
+/// Passes the rest of an at-rule behind its name: up to a semicolon, and it, or up to a block, and
+/// that.
 fn pass_to_end(s: &mut Stream<'_>)
     ensures text { text_of s.new ≡ text_of s.old }
     ensures rest { rest_of s.new ≡ past_at_end (past (is_neither 59 123) (rest_of s.old)) }
@@ -123,7 +124,8 @@ fn pass_to_end(s: &mut Stream<'_>)
     }
 }
 
-/// Passes an at-rule behind its sign, and tells the logger that it is passed. A faulty name ends it.
+/// Passes an at-rule behind its sign, and tells the logger that it is passed. A faulty name ends
+/// it.
 #[tactic(auto, unfolding(simplecss_text::specs::Statements::past_at_rule))]
 fn pass_at_rule<R: Log>(rt: &R, s: &mut Stream<'_>)
     ensures text { text_of s.new ≡ text_of s.old }
@@ -135,11 +137,15 @@ fn pass_at_rule<R: Log>(rt: &R, s: &mut Stream<'_>)
     }
 }
 
-/// Reads statements, and keeps the rules that they give. The lists that a rule set is read into are used again for each.
+/// Reads statements, and keeps the rules that they give. The lists that a rule set is read into are
+/// used again for each.
 #[derive(Drop)]
 pub struct RuleReader<'a> {
+    /// The rules of the statements that were read.
     rules: Vec<Rule<'a>>,
+    /// The selectors of the rule set that is read.
     selectors: Vec<Selector<'a>>,
+    /// The declarations of its block.
     declarations: Vec<Declaration<'a>>,
 }
 
@@ -163,7 +169,8 @@ impl<'a> RuleReader<'a> {
         rules
     }
 
-    /// Reads a rule set, and adds its rules: one for each part that gave a selector, with all declarations of the block.
+    /// Reads a rule set, and adds its rules: one for each part that gave a selector, with all
+    /// declarations of the block.
     #[tactic(auto, unfolding(simplecss_text::specs::Statements::rule_set))]
     fn consume_rule_set<R: Log>(
         &mut self,

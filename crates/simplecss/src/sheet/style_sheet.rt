@@ -32,17 +32,18 @@ impl<'a> StyleSheet<'a> {
         }
     }
 
-    /// The style sheet of one text. Only memory may be wanting: what CSS 2.1 does not let stand is passed over (section
-    /// 4.2). Warnings of what is passed over go to `rt`.
+    /// The style sheet of one text. Only memory may be wanting: what CSS 2.1 does not let stand is
+    /// passed over (section 4.2). Warnings of what is passed over go to `rt`.
     ///
-    /// A rule set's declarations are stored once for each of its selectors, so the memory that it takes grows as the
-    /// product of their numbers.
+    /// A rule set's declarations are stored once for each of its selectors, so the memory that it
+    /// takes grows as the product of their numbers.
     pub fn parse<R: Log>(rt: &R, alloc: Global, text: &'a str) -> Result<Self, AllocError>
         ensures sheet { IfOk result (λ s. rules_of s.rules.items ≡ sheet this_edition (text.now ∷ [])) }
         ensures selectors { IfOk result (λ s. SelectorsReadBack this_edition (rules_of s.rules.items)) }
         ensures prints_back { has_wide_space text.now ≡ false
             → IfOk result (λ s. PrintsBack this_edition (rules_of s.rules.items)) }
-        // The first edition of the grammar has the same sheet of a text of ASCII bytes without a slash.
+        // The first edition of the grammar has the same sheet of a text of ASCII bytes without a
+        // slash.
         ensures editions { IsCommon text.now
             → IfOk result (λ s. rules_of s.rules.items ≡ sheet first_edition (text.now ∷ [])) }
     {
@@ -51,9 +52,9 @@ impl<'a> StyleSheet<'a> {
         Ok(sheet)
     }
 
-    /// The style sheet of all these texts, read in turn: the one that [`StyleSheet::parse_more`] gives of them one after
-    /// another, but that its rules are put in order once, so that many short texts take no more time than a long one.
-    /// Warnings of what is passed over go to `rt`.
+    /// The style sheet of all these texts, read in turn: the one that [`StyleSheet::parse_more`]
+    /// gives of them one after another, but that its rules are put in order once, so that many
+    /// short texts take no more time than a long one. Warnings of what is passed over go to `rt`.
     pub fn parse_all<R: Log>(rt: &R, alloc: Global, texts: &[&'a str]) -> Result<Self, AllocError>
         ensures sheet { IfOk result
             (λ s. rules_of s.rules.items ≡ sheet this_edition (map (λ text. text.now) texts.now)) }
@@ -68,10 +69,10 @@ impl<'a> StyleSheet<'a> {
         Ok(sheet)
     }
 
-    /// Reads a text into the style sheet: its rules come behind the others of equal specificity, and rules without a
-    /// declaration are dropped, those that stood in the sheet too. A text of spaces, comments and then a comment that is
-    /// not closed changes nothing, and where memory is wanting the sheet is as before. Warnings of what is passed over go
-    /// to `rt`.
+    /// Reads a text into the style sheet: its rules come behind the others of equal specificity,
+    /// and rules without a declaration are dropped, those that stood in the sheet too. A text of
+    /// spaces, comments and then a comment that is not closed changes nothing, and where memory is
+    /// wanting the sheet is as before. Warnings of what is passed over go to `rt`.
     pub fn parse_more<R: Log>(
         &mut self,
         rt: &R,
@@ -85,7 +86,8 @@ impl<'a> StyleSheet<'a> {
         ensures nothing { is_open_comment text.now ≡ true
             → rules_of self.new.rules.items ≡ rules_of self.old.rules.items }
         ensures err { OnErr result (rules_of self.new.rules.items ≡ rules_of self.old.rules.items) }
-        // The sheet of some texts is then the sheet of these and of this one, and each of its rules has a declaration.
+        // The sheet of some texts is then the sheet of these and of this one, and each of its rules
+        // has a declaration.
         ensures sheet { (texts : List (List ℕ)) → rules_of self.old.rules.items ≡ sheet this_edition texts
             → OnOk result (rules_of self.new.rules.items ≡ sheet this_edition (texts ++ text.now ∷ [])) }
         ensures filled { (texts : List (List ℕ)) → rules_of self.old.rules.items ≡ sheet this_edition texts
@@ -105,7 +107,8 @@ impl<'a> StyleSheet<'a> {
         }
     }
 
-    /// A style sheet of equal rules, in memory of the same allocator. The error is that a growth was refused.
+    /// A style sheet of equal rules, in memory of the same allocator. The error is that a growth
+    /// was refused.
     pub fn clone(&self) -> Result<Self, AllocError>
         ensures { IfOk result (λ copy. rules_of copy.rules.items ≡ rules_of self.now.rules.items) }
     {
