@@ -177,20 +177,6 @@ fn asked_in_turn(
     Ok(places)
 }
 
-/// Whether the index finds what asking each rule gives. The places are filled anew.
-fn is_as_asked(
-    alloc: Global,
-    rules: &[Rule<'_>],
-    index: &RuleIndex,
-    line: &[Entry<'_>],
-    places: &mut Vec<usize>,
-) -> Result<bool, Fail> {
-    let tree = tree_of(alloc, line)?;
-    let element = last(&tree).ok_or("no element")?;
-    index.matching_counted(rules, &element, places, &mut Tests::new())?;
-    Ok(*places == asked_in_turn(alloc, rules, &element)?)
-}
-
 /// One vector serves all questions, and what stood in it is dropped.
 #[test]
 fn as_if_each_rule_were_asked(rt: HostRuntime) -> Result<(), Fail> {
@@ -200,8 +186,11 @@ fn as_if_each_rule_were_asked(rt: HostRuntime) -> Result<(), Fail> {
     let mut places = Vec::new(rt.alloc());
     places.push(7)?;
     for line in LINES {
-        let is_same = is_as_asked(rt.alloc(), &sheet.rules, &index, line, &mut places)?;
-        assert!(rt; is_same, "{line:?}: {places:?}");
+        let tree = tree_of(rt.alloc(), line)?;
+        let element = last(&tree).ok_or("no element")?;
+        index.matching_counted(&sheet.rules, &element, &mut places, &mut Tests::new())?;
+        let asked = asked_in_turn(rt.alloc(), &sheet.rules, &element)?;
+        assert!(rt; places == asked, "{line:?}: {places:?}");
     }
     Ok(())
 }

@@ -1,11 +1,15 @@
 //! Texts that a formatter's options leave alone.
 
 use std::alloc::{AllocError, Global};
-use std::fmt::Display;
+use std::fmt::{Display, Write as _};
 
-/// The text of a value, plain and under options: the alternate form, a width to either side, and a fill with a precision.
+/// The text of a value, plain and under options: the alternate form, a width to either side, and a
+/// fill with a precision.
 pub(crate) fn under_options<T: Display>(alloc: Global, value: &T) -> Result<String, AllocError> {
-    format!(in alloc; "{value}\n{value:#}\n{value:>60}\n{value:<5}\n{value:_^40.3}\n")
+    let mut texts = format!(in alloc; "{value}\n{value:#}\n")?;
+    write!(texts, "{value:>60}\n{value:<5}\n")?;
+    write!(texts, "{value:_^40.3}\n")?;
+    Ok(texts)
 }
 
 /// The text, as often as `under_options` writes one.
