@@ -1,12 +1,15 @@
 //! Which declarations of a style sheet win on an element: the cascade (CSS 2.1 section 6.4.1).
 
-ghost use Rattle.std.specs.Prelude.{◌≡◌, ◌↔◌, ℕ, ◌<◌, length, map, Contains, IfOk, IfSome, IsNone, IsTrue, Some};
+ghost use Rattle.std.specs.Prelude.{◌≡◌, ◌↔◌, ℕ, ◌<◌, length, map, Contains, IfOk, IfSome, IsNone};
+ghost use Rattle.std.specs.Prelude.{IsTrue, Some};
 ghost use Rattle.std.specs.Option.{option_map};
 ghost use Rattle.simplecss.specs.Declarations.{Property};
 ghost use Rattle.simplecss.specs.Properties.{property_of, properties_of};
-ghost use Rattle.simplecss.specs.StyleRules.{rule_of, rules_of};
-ghost use Rattle.cssq.specs.Winners.{Wins, IsStated, IsWinner, HasNoWinner, WinsForItsName, ListsInOrder, HaveOwnNames};
-ghost use Rattle.cssq.specs.Candidates.{better_of, InRule, IsCandidate, IsOutdone, IsPassedOver, TellsWhether, HasBestPlaces};
+ghost use Rattle.simplecss.specs.StyleRules.{rule_of, rules_of, rules_in};
+ghost use Rattle.cssq.specs.Winners.{Wins, IsStated, IsWinner, HasNoWinner, WinsForItsName};
+ghost use Rattle.cssq.specs.Winners.{ListsInOrder, HaveOwnNames};
+ghost use Rattle.cssq.specs.Candidates.{better_of, InRule, IsCandidate, IsOutdone, IsPassedOver};
+ghost use Rattle.cssq.specs.Candidates.{TellsWhether, HasBestPlaces};
 
 use simplecss::{Declaration, Element, Keyed, Rule, StyleSheet};
 use simplecss_index::RuleIndex;
@@ -15,7 +18,8 @@ use std::collections::BTreeMap;
 
 /// The later of two declarations of a rule, unless the earlier alone is important.
 fn better_of<'a>(earlier: Option<Declaration<'a>>, later: Declaration<'a>) -> Declaration<'a>
-    ensures { property_of result ≡ better_of (option_map property_of earlier.entry) (property_of later.entry) }
+    ensures { property_of result
+        ≡ better_of (option_map property_of earlier.entry) (property_of later.entry) }
 {
     match earlier {
         Some(first) if first.important && !later.important => first,
@@ -27,7 +31,8 @@ fn better_of<'a>(earlier: Option<Declaration<'a>>, later: Declaration<'a>) -> De
 /// last.
 fn best_of<'a>(declarations: &[Declaration<'a>], name: &str) -> Option<Declaration<'a>>
     // Whatever the rule's place.
-    ensures { (i : ℕ) → Wins (InRule i (properties_of declarations.now)) name.now (option_map property_of result) }
+    ensures { (i : ℕ) → Wins (InRule i (properties_of declarations.now)) name.now
+        (option_map property_of result) }
 {
     let mut best: Option<Declaration<'a>> = None;
     for declaration in declarations {
@@ -61,9 +66,11 @@ fn candidate<'a, E: Element>(
     name: &str,
     is_later_known: bool,
 ) -> Option<Declaration<'a>>
-    ensures found { IfSome result (λ best. IsCandidate E.tree (E.node element.now) (rule_of rule.now) name.now (property_of best)) }
+    ensures found { IfSome result (λ best.
+        IsCandidate E.tree (E.node element.now) (rule_of rule.now) name.now (property_of best)) }
     ensures important { IsTrue is_later_known → IfSome result (λ best. IsTrue best.important) }
-    ensures passed_over { IsNone result → IsPassedOver E.tree (E.node element.now) (rule_of rule.now) name.now is_later_known }
+    ensures passed_over { IsNone result
+        → IsPassedOver E.tree (E.node element.now) (rule_of rule.now) name.now is_later_known }
 {
     let best = contender(rule, name, is_later_known)?;
     if rule.selector.matches(element) {
@@ -84,11 +91,13 @@ pub fn winning<'a, E: Element>(
     name: &str,
 ) -> Option<Declaration<'a>>
     ensures winner { IfSome result
-        (λ d. IsWinner E.tree (E.node element.now) name.now (rules_of sheet.now.rules.items) (property_of d)) }
-    ensures none { IsNone result ↔ HasNoWinner E.tree (E.node element.now) name.now (rules_of sheet.now.rules.items) }
+        (λ d. IsWinner E.tree (E.node element.now) name.now (rules_in sheet.now) (property_of d)) }
+    ensures none { IsNone result
+        ↔ HasNoWinner E.tree (E.node element.now) name.now (rules_in sheet.now) }
 
     // And there is no other winner.
-    ensures only { (p : Property) → IsWinner E.tree (E.node element.now) name.now (rules_of sheet.now.rules.items) p
+    ensures only { (p : Property)
+        → IsWinner E.tree (E.node element.now) name.now (rules_in sheet.now) p
         ↔ (option_map property_of result ≡ Some p) }
 {
     let rules = sheet.rules.as_slice();
@@ -116,7 +125,8 @@ pub(crate) fn winning_by<'a, E: Keyed>(
 ) -> Result<Option<Declaration<'a>>, AllocError>
     requires { index.now ≡ map (λ rule. rule.selector) rules.now }
     ensures { IfOk result (λ winner.
-        Wins (IsStated E.tree (E.node element.now) (rules_of rules.now)) name.now (option_map property_of winner)) }
+        Wins (IsStated E.tree (E.node element.now) (rules_of rules.now)) name.now
+        (option_map property_of winner)) }
 {
     index.matching(rules, element, places)?;
     let places = places.as_slice();
@@ -140,7 +150,8 @@ fn stated_on<'a, E: Element>(
     element: &E,
 ) -> Result<Vec<Declaration<'a>>, AllocError>
     ensures { IfOk result
-        (λ all. ListsInOrder (IsStated E.tree (E.node element.now) (rules_of rules.now)) (properties_of all.items)) }
+        (λ all. ListsInOrder (IsStated E.tree (E.node element.now) (rules_of rules.now))
+        (properties_of all.items)) }
 {
     let mut all = Vec::new(alloc);
     for rule in rules {
@@ -194,11 +205,12 @@ pub fn winners<'a, E: Element>(
     element: &E,
 ) -> Result<Vec<Declaration<'a>>, AllocError>
     ensures order { IfOk result (λ all.
-        ListsInOrder (WinsForItsName E.tree (E.node element.now) (rules_of sheet.now.rules.items)) (properties_of all.items)) }
+        ListsInOrder (WinsForItsName E.tree (E.node element.now) (rules_in sheet.now))
+        (properties_of all.items)) }
 
     // So it has what wins for each name, and each name once.
     ensures winners { IfOk result (λ all. (p : Property) → Contains (properties_of all.items) p
-        ↔ IsWinner E.tree (E.node element.now) p.name (rules_of sheet.now.rules.items) p) }
+        ↔ IsWinner E.tree (E.node element.now) p.name (rules_in sheet.now) p) }
     ensures names { IfOk result (λ all. HaveOwnNames (properties_of all.items)) }
 {
     let stated = stated_on(alloc, &sheet.rules, element)?;

@@ -1,7 +1,8 @@
 //! The words of the command line.
 
 ghost use Rattle.std.specs.Prelude.{◌≡◌, map, option_map, string_bytes};
-ghost use Rattle.cssq.specs.Command.{request, request_of, selector_of, sheet_of, match_of, style_of};
+ghost use Rattle.cssq.specs.Command.{request, request_of, selector_of, sheet_of, match_of};
+ghost use Rattle.cssq.specs.Command.{style_of};
 
 /// The line that tells which words there are.
 pub const USAGE: &str =

@@ -11,5 +11,6 @@ use crate::tree::TreeFault;
 pub fn equality_laws()
     ensures tree_faults { (a b : TreeFault) → IsTrue (⟦<TreeFault as PartialEq>⟧.eq a b) ↔ (a ≡ b) }
     ensures run_faults { (a b : RunFault) → IsTrue (⟦<RunFault as PartialEq>⟧.eq a b) ↔ (a ≡ b) }
-    ensures commands { (a b : Command) → IsTrue (⟦<Command<'static> as PartialEq>⟧.eq a b) ↔ (request a ≡ request b) }
+    ensures commands { (a b : Command) → IsTrue (⟦<Command<'static> as PartialEq>⟧.eq a b)
+        ↔ (request a ≡ request b) }
 {}

@@ -1,6 +1,7 @@
 //! What the program's commands do, over any writer.
 
-ghost use Rattle.std.specs.Prelude.{◌≡◌, ◌+◌, ◌^◌, ◌<◌, ◌++◌, Some, All, OnOk, OnErr, IfErr, IfOk, string_bytes, map, decimal};
+ghost use Rattle.std.specs.Prelude.{◌≡◌, ◌+◌, ◌^◌, ◌<◌, ◌++◌, Some, All, OnOk, OnErr, IfErr, IfOk};
+ghost use Rattle.std.specs.Prelude.{string_bytes, map, decimal};
 ghost use Rattle.std.specs.Option.{option_map};
 ghost use Rattle.std.specs.Fmt.{WritesStyledOnOk};
 ghost use Rattle.std.specs.Io.KnownBytes.{Appends};
@@ -12,9 +13,8 @@ ghost use Rattle.cssq.specs.MatchRuns.{numbers_line, IsMatchText, IsMatchRun};
 ghost use Rattle.cssq.specs.StyleRuns.{style_line, IsStyleText, IsStyleRun};
 ghost use Rattle.cssq.specs.declared.runs.RunFault.TheVariants.{Memory};
 ghost use Rattle.simplecss.specs.Properties.{property_of};
-ghost use Rattle.simplecss.specs.ThisEdition.{this_edition};
 ghost use Rattle.simplecss.specs.Sheets.{sheet};
-ghost use Rattle.simplecss.specs.StyleRules.{rules_of};
+ghost use Rattle.simplecss.specs.StyleRules.{rules_of, rules_in};
 
 use crate::cascade::winning_by;
 use crate::tree::{Page, TreeFault};
@@ -75,7 +75,8 @@ impl fmt::Display for RunFault {
 /// Writes the line of a tree's fault: its number and that of the line.
 #[tactic(auto, using(crate::proofs::Styled::styled_four))]
 fn write_tree_fault<W: fmt::Write>(f: &mut fmt::Formatter<W>, fault: TreeFault) -> fmt::Result
-    ensures { WritesStyledOnOk W.write_str_gives f.old result (message_of (RunFault.Tree fault)) f.new }
+    ensures { WritesStyledOnOk W.write_str_gives f.old result
+        (message_of (RunFault.Tree fault)) f.new }
 {
     f.write_str("cssq: tree fault ")?;
     write_decimal(f, usize::from(fault.number()))?;
@@ -124,7 +125,8 @@ impl From<TreeFault> for RunFault {
 /// Writes all the bytes, or fails with `Output` while bytes are left.
 fn write_out<W: Write>(out: &mut W, bytes: &[u8]) -> Result<(), RunFault>
     ensures ok { OnOk result (Appends (W.contents out.old) (W.contents out.new) bytes.now) }
-    ensures err { OnErr result (AppendsProperPart (W.contents out.old) (W.contents out.new) bytes.now) }
+    ensures err { OnErr result
+        (AppendsProperPart (W.contents out.old) (W.contents out.new) bytes.now) }
     ensures fault { IfErr result (λ fault. fault ≡ RunFault.Output) }
 {
     let mut rest = bytes;
@@ -168,7 +170,7 @@ pub fn run_selector<R: Log, W: Write>(
 
 /// The printed sheet, and a newline where it has a rule.
 fn sheet_text(alloc: Global, sheet: &StyleSheet<'_>) -> Result<String, AllocError>
-    ensures { IfOk result (λ text. string_bytes text ≡ sheet_output (rules_of sheet.now.rules.items)) }
+    ensures { IfOk result (λ text. string_bytes text ≡ sheet_output (rules_in sheet.now)) }
 {
     if sheet.rules.is_empty() {
         return Ok(String::new(alloc));
@@ -188,7 +190,8 @@ pub fn run_sheet<R: Log, W: Write>(
     texts: &[&str],
     out: &mut W,
 ) -> Result<(), RunFault>
-    ensures { Runs (IsSheetRun (map (λ text. text.now) texts.now)) result (W.contents out.old) (W.contents out.new) }
+    ensures { Runs (IsSheetRun (map (λ text. text.now) texts.now)) result (W.contents out.old)
+        (W.contents out.new) }
 {
     let sheet = StyleSheet::parse_all(rt, alloc, texts)?;
     let text = sheet_text(alloc, &sheet)?;
@@ -239,7 +242,8 @@ pub fn run_match<R: Log, W: Write>(
     tree: &str,
     out: &mut W,
 ) -> Result<(), RunFault>
-    ensures { Runs (IsMatchRun sheet.now tree.now) result (W.contents out.old) (W.contents out.new) }
+    ensures { Runs (IsMatchRun sheet.now tree.now) result (W.contents out.old)
+        (W.contents out.new) }
 {
     let sheet = StyleSheet::parse(rt, alloc, sheet)?;
     let page = Page::read(alloc, tree)?;
@@ -254,7 +258,8 @@ fn push_winner(
     number: usize,
     winner: Option<Declaration<'_>>,
 ) -> Result<(), AllocError>
-    ensures { OnOk result (string_bytes out.new ≡ string_bytes out.old ++ style_line number (option_map property_of winner.entry)) }
+    ensures { OnOk result (string_bytes out.new
+        ≡ string_bytes out.old ++ style_line number (option_map property_of winner.entry)) }
 {
     write!(out, "{number}:")?;
     if let Some(declaration) = winner {
@@ -275,7 +280,8 @@ fn style_text(
     page: &Page<'_>,
     name: &str,
 ) -> Result<String, AllocError>
-    ensures { IfOk result (λ text. IsStyleText name.now (rules_of sheet.now.rules.items) page.now (string_bytes text)) }
+    ensures { IfOk result
+        (λ text. IsStyleText name.now (rules_in sheet.now) page.now (string_bytes text)) }
 {
     let rules = sheet.rules.as_slice();
     let index = RuleIndex::new(alloc, rules)?;
@@ -304,7 +310,8 @@ pub fn run_style<R: Log, W: Write>(
     name: &str,
     out: &mut W,
 ) -> Result<(), RunFault>
-    ensures { Runs (IsStyleRun sheet.now tree.now name.now) result (W.contents out.old) (W.contents out.new) }
+    ensures { Runs (IsStyleRun sheet.now tree.now name.now) result (W.contents out.old)
+        (W.contents out.new) }
 {
     let sheet = StyleSheet::parse(rt, alloc, sheet)?;
     let page = Page::read(alloc, tree)?;

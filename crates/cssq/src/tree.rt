@@ -1,9 +1,14 @@
 //! A tree of elements from its text.
 
-ghost use Rattle.std.specs.Prelude.{◌≡◌, ◌∷◌, ◌++◌, ◌<◌, ◌≤◌, [], length, take, nat_le, map, codes, IfSome, IfOk, IfErr, Ok, MatchOption, MatchResult, is_some, option_map};
+ghost use Rattle.std.specs.Prelude.{◌≡◌, ◌∷◌, ◌++◌, ◌<◌, ◌≤◌, [], length, take, nat_le, map};
+ghost use Rattle.std.specs.Prelude.{IfSome, IfOk, IfErr, Ok, MatchOption, MatchResult, is_some};
+ghost use Rattle.std.specs.Prelude.{option_map};
 ghost use Rattle.std.specs.List.{list_all, slice_get};
 ghost use Rattle.std.specs.Char.{is_ascii_digit};
-ghost use Rattle.cssq.specs.TreeText.{attribute_of, fields_in, fields_of, has_equals, key_of, value_of, lines_of, is_depth, depth_of, has_key, field_faults, fault_number, fault_line, faults_of_line, tree_of, IsFaultOf};
+ghost use Rattle.cssq.specs.TreeText.{attribute_of, fields_in, fields_of, has_equals, key_of};
+ghost use Rattle.cssq.specs.TreeText.{value_of, lines_of, is_depth, depth_of, has_key};
+ghost use Rattle.cssq.specs.TreeText.{field_faults, fault_number, fault_line, faults_of_line};
+ghost use Rattle.cssq.specs.TreeText.{tree_of, IsFaultOf};
 ghost use Rattle.cssq.specs.Relatives.{depths_of, last_place, parent_place, previous_place};
 ghost use Rattle.cssq.specs.Nodes.{spot, name_at, attribute_at, value_in};
 ghost use Rattle.cssq.specs.Lines.{depths, AreLinked, IsToldOf, Says};
@@ -202,7 +207,8 @@ fn first_fault_by_set(
     number: usize,
     fields: Option<&str>,
 ) -> Result<Option<TreeFault>, AllocError>
-    ensures { IfOk result (λ fault. fault ≡ slice_get (field_faults number (fields_in fields.entry)) 0) }
+    ensures { IfOk result
+        (λ fault. fault ≡ slice_get (field_faults number (fields_in fields.entry)) 0) }
 {
     let mut keys = BTreeSet::new(alloc);
     let mut rest = fields;
@@ -230,7 +236,8 @@ fn are_many(fields: Option<&str>) -> bool {
 /// Checks the attribute fields of a line. Where memory for a set of many keys is refused, the
 /// fields are compared in pairs, so that want of memory is told of a sound line alone.
 fn check_fields(alloc: Global, number: usize, fields: Option<&str>) -> Result<(), TreeFault>
-    ensures { MatchResult result (λ _. field_faults number (fields_in fields.entry) ≡ []) (λ fault. IsToldOf number (field_faults number (fields_in fields.entry)) fault) }
+    ensures { MatchResult result (λ _. field_faults number (fields_in fields.entry) ≡ [])
+        (λ fault. IsToldOf number (field_faults number (fields_in fields.entry)) fault) }
 {
     if are_many(fields) {
         match first_fault_by_set(alloc, number, fields) {
@@ -248,7 +255,8 @@ fn check_fields(alloc: Global, number: usize, fields: Option<&str>) -> Result<()
 
 /// The value of the first field with the key.
 fn value_at<'t>(fields: Option<&'t str>, key: &str) -> Option<&'t str>
-    ensures { option_map (λ value. value.now) result ≡ value_in (map attribute_of (fields_in fields.entry)) key.now }
+    ensures { option_map (λ value. value.now) result
+        ≡ value_in (map attribute_of (fields_in fields.entry)) key.now }
 {
     let mut rest = fields;
     while let Some(text) = rest {
@@ -264,7 +272,8 @@ fn value_at<'t>(fields: Option<&'t str>, key: &str) -> Option<&'t str>
 
 /// What a line says, or what is wrong with it.
 fn read_line(alloc: Global, number: usize, limit: usize, line: &str) -> Result<Entry<'_>, TreeFault>
-    ensures value { MatchResult result (λ e. Says number limit line.now e) (λ fault. IsToldOf number (faults_of_line number limit (fields_of line.now)) fault) }
+    ensures value { MatchResult result (λ e. Says number limit line.now e)
+        (λ fault. IsToldOf number (faults_of_line number limit (fields_of line.now)) fault) }
     ensures within { IfOk result (λ e. e.depth ≤ limit) }
 {
     let (depth, rest) = cut_field(line);
@@ -390,7 +399,8 @@ impl<'t> Page<'t> {
 impl<'t> Page<'t> {
     /// The element with a place among the lines.
     pub fn node(&self, place: usize) -> Option<Node<'_, 't>>
-        ensures { MatchOption result (length self.now ≤ place) (λ node. (place < length self.now) × (node ≡ spot self.now place)) }
+        ensures { MatchOption result (length self.now ≤ place)
+            (λ node. (place < length self.now) × (node ≡ spot self.now place)) }
     {
         if place < self.len() {
             Some(Node { page: self, place })

@@ -3,6 +3,7 @@ use Rattle.std.specs.Prelude.{List, map}
 use Rattle.simplecss_text.specs.Statements.{StyleRule}
 use Rattle.simplecss_declaration.specs.Properties.{properties_of}
 use Rattle.simplecss.specs.declared.sheet.rules.Rule.{Rule}
+use Rattle.simplecss.specs.declared.sheet.style_sheet.StyleSheet.{StyleSheet}
 
 abbrev pub rule_of : Rule → StyleRule
 rule_of r = record { components = r.selector; properties = properties_of r.declarations.items }
@@ -10,3 +11,7 @@ rule_of r = record { components = r.selector; properties = properties_of r.decla
 -- what each rule of a list is, in turn
 abbrev pub rules_of : List Rule → List StyleRule
 rules_of rules = map rule_of rules
+
+-- what the rules of a style sheet are, in their order
+abbrev pub rules_in : StyleSheet → List StyleRule
+rules_in sheet = rules_of sheet.rules.items

@@ -29,7 +29,8 @@ impl<'a> Display for Declaration<'a> {
 /// Writes the name, a colon and the value.
 #[tactic(auto, using(simplecss_text::proofs::printed::Styled::styled_three))]
 fn write_stated<W: fmt::Write>(f: &mut fmt::Formatter<W>, name: &str, value: &str) -> fmt::Result
-    ensures { WritesStyledOnOk W.write_str_gives f.old result (name.now ++ codes ":" ++ value.now) f.new }
+    ensures { WritesStyledOnOk W.write_str_gives f.old result
+        (name.now ++ codes ":" ++ value.now) f.new }
 {
     f.write_str(name)?;
     f.write_str(":")?;

@@ -4,7 +4,9 @@ ghost use Rattle.simplecss_text.specs.Reading.{got, each};
 ghost use Rattle.simplecss_text.specs.Bytes.{byte as byte_read};
 ghost use Rattle.simplecss_text.specs.Slices.{StandBetween};
 ghost use Rattle.simplecss_text.specs.Comments.{past_blank};
-ghost use Rattle.simplecss_text.specs.Declarations.{value as value_read, important_word, importance, semicolon, trailing, declaration as declaration_read};
+ghost use Rattle.simplecss_text.specs.Declarations.{value as value_read, important_word};
+ghost use Rattle.simplecss_text.specs.Declarations.{importance, semicolon, trailing};
+ghost use Rattle.simplecss_text.specs.Declarations.{declaration as declaration_read};
 ghost use Rattle.simplecss_text.specs.ThisEdition.{this_edition};
 ghost use Rattle.simplecss_text.specs.Cursor.{text_of, rest_of};
 ghost use Rattle.simplecss_declaration.specs.Answers.{Answers, Passes};
@@ -60,7 +62,8 @@ fn pass_important(s: &mut Stream<'_>) -> bool
 #[tactic(auto, unfolding(simplecss_text::specs::Declarations::importance), using(crate::proofs::ByteLemmas::past_byte_there, crate::proofs::ByteLemmas::past_byte_not))]
 fn take_importance(s: &mut Stream<'_>) -> Option<bool>
     ensures text { text_of s.new ≡ text_of s.old }
-    ensures reads { Answers (λ important. important) (importance (rest_of s.old)) result (rest_of s.new) }
+    ensures reads { Answers (λ important. important) (importance (rest_of s.old)) result
+        (rest_of s.new) }
 {
     if !readers::pass_byte(s, b'!') {
         return Some(false);
@@ -88,7 +91,8 @@ fn pass_semicolons(s: &mut Stream<'_>)
 #[tactic(auto, unfolding(simplecss_text::specs::Declarations::trailing))]
 fn take_trailing(s: &mut Stream<'_>) -> Option<bool>
     ensures text { text_of s.new ≡ text_of s.old }
-    ensures reads { Answers (λ important. important) (trailing (rest_of s.old)) result (rest_of s.new) }
+    ensures reads { Answers (λ important. important) (trailing (rest_of s.old)) result
+        (rest_of s.new) }
 {
     if !readers::pass_blank(s) {
         return None;
@@ -119,8 +123,10 @@ fn pass_colon(s: &mut Stream<'_>) -> bool
 #[tactic(auto, unfolding(simplecss_text::specs::Declarations::declaration))]
 pub fn consume_declaration<'a>(s: &mut Stream<'a>) -> Option<Declaration<'a>>
     ensures text { text_of s.new ≡ text_of s.old }
-    ensures reads { Answers property_of (declaration_read this_edition (rest_of s.old)) result (rest_of s.new) }
-    ensures stands { IfSome result (λ d. StandBetween (rest_of s.old) (rest_of s.new) (d.name.now ∷ d.value.now ∷ [])) }
+    ensures reads { Answers property_of (declaration_read this_edition (rest_of s.old)) result
+        (rest_of s.new) }
+    ensures stands { IfSome result
+        (λ d. StandBetween (rest_of s.old) (rest_of s.new) (d.name.now ∷ d.value.now ∷ [])) }
 {
     if !readers::pass_blank(s) {
         return None;

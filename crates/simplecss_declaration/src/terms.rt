@@ -52,7 +52,8 @@ fn pass_number(s: &mut Stream<'_>)
 #[inline(always)]
 fn pass_arguments(s: &mut Stream<'_>) -> bool
     ensures text { text_of s.new ≡ text_of s.old }
-    ensures reads { Passes (closed_or ended (after_byte 41 (rest_of s.old))) result (rest_of s.new) }
+    ensures reads { Passes (closed_or ended (after_byte 41 (rest_of s.old))) result
+        (rest_of s.new) }
 {
     match scan::find_byte(s.slice_tail(), b')') {
         Some(at) => {

@@ -1,5 +1,5 @@
 //! The last place that each key has.
-ghost use Rattle.std.specs.Prelude.{◌≡◌, IfOk, OnOk, None, Some};
+ghost use Rattle.std.specs.Prelude.{◌≡◌, IfOk, OnOk, None};
 ghost use Rattle.simplecss.specs.Keys.{Key as KeyValue};
 ghost use Rattle.simplecss.specs.KeyValues.{key_value};
 ghost use Rattle.simplecss_index.specs.Lasts.{last_for, TakesPlace};

@@ -2,7 +2,8 @@
 ghost use Rattle.std.specs.Prelude.{◌≢◌, ◌≡◌, ◌+◌, ◌++◌, ◌∷◌, [], IfOk, OnErr, OnOk, vec_len};
 ghost use Rattle.simplecss_text.specs.Components.Combinator.{none as no_combinator};
 ghost use Rattle.simplecss_selector.specs.Combinators.{combinator_of};
-ghost use Rattle.simplecss_selector.specs.Drafts.{begun, with_name, with_subselector, joined, finished};
+ghost use Rattle.simplecss_selector.specs.Drafts.{begun, with_name, with_subselector, joined};
+ghost use Rattle.simplecss_selector.specs.Drafts.{finished};
 ghost use Rattle.simplecss_selector.specs.Runs.{kept_ends_after};
 ghost use Rattle.simplecss_selector.specs.Seen.{subselector_of};
 
@@ -37,7 +38,8 @@ impl<'a> Model for Draft<'a> {
         (record { combinator = d.combinator; name = d.name; end = vec_len d.subselectors }) };
 
     ghost invariant = { λ d. IsFlat
-        (d.parts.items ++ (record { combinator = d.combinator; name = d.name; end = vec_len d.subselectors }) ∷ [])
+        (d.parts.items
+        ++ (record { combinator = d.combinator; name = d.name; end = vec_len d.subselectors }) ∷ [])
         d.subselectors.items (vec_len d.subselectors) d.run_ends.items };
 }
 
@@ -101,7 +103,8 @@ impl<'a> Draft<'a> {
         &mut self,
         subselector: SubSelector<'a>,
     ) -> Result<(), AllocError>
-        ensures ok { IfOk result (λ _. self.new ≡ with_subselector (subselector_of subselector.entry) self.old) }
+        ensures ok { IfOk result
+            (λ _. self.new ≡ with_subselector (subselector_of subselector.entry) self.old) }
         ensures err { OnErr result (self.new ≡ self.old) }
     {
         push_few(&mut self.subselectors, subselector)?;

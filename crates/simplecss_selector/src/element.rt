@@ -69,7 +69,8 @@ use crate::{AttributeOperator, PseudoClass};
 /// laws.
 pub trait Element: Drop {
     ghost use Rattle.std.specs.Prelude.{◌≡◌, Option, option_map};
-    ghost use Rattle.simplecss_selector.specs.Trees.{Tree, DepthCountsAncestors, SiblingsShareParent};
+    ghost use Rattle.simplecss_selector.specs.Trees.{Tree, DepthCountsAncestors};
+    ghost use Rattle.simplecss_selector.specs.Trees.{SiblingsShareParent};
     ghost use Rattle.simplecss_selector.specs.Asked.{operator_of, class_of};
 
     ghost Node: { Type 0 };
@@ -92,7 +93,8 @@ pub trait Element: Drop {
 
     /// Whether there is an attribute of this name with a value as the operator asks.
     fn attribute_matches(&self, local_name: &str, operator: AttributeOperator<'_>) -> bool
-        ensures { result ≡ tree.has_attribute (node self.now) local_name.now (operator_of operator.entry) };
+        ensures { result
+            ≡ tree.has_attribute (node self.now) local_name.now (operator_of operator.entry) };
 
     /// Whether the element is in the pseudo-class.
     fn pseudo_class_matches(&self, class: PseudoClass<'_>) -> bool

@@ -24,7 +24,8 @@ impl<'a> PartialEq for Selector<'a> {
 
 /// Selectors are equal exactly if their components are.
 pub fn equality_law()
-    ensures { (a b : List Component) → IsTrue (⟦<Selector<'static> as PartialEq>⟧.eq a b) ↔ (a ≡ b) }
+    ensures { (a b : List Component) → IsTrue (⟦<Selector<'static> as PartialEq>⟧.eq a b)
+        ↔ (a ≡ b) }
 {}
 
 /// Two clean selectors that were read print alike exactly if they are equal.

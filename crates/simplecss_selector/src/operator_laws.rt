@@ -8,7 +8,8 @@ use crate::{AttributeOperator, PseudoClass};
 /// and so are two pseudo-classes.
 pub fn operator_equality_laws()
     ensures operators { (a b : AttributeOperator)
-        → IsTrue (⟦<AttributeOperator<'static> as PartialEq>⟧.eq a b) ↔ (operator_of a ≡ operator_of b) }
+        → IsTrue (⟦<AttributeOperator<'static> as PartialEq>⟧.eq a b)
+        ↔ (operator_of a ≡ operator_of b) }
     ensures classes { (a b : PseudoClass)
         → IsTrue (⟦<PseudoClass<'static> as PartialEq>⟧.eq a b) ↔ (class_of a ≡ class_of b) }
 {}

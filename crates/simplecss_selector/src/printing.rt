@@ -4,7 +4,8 @@ ghost use Rattle.std.specs.Prelude.{◌≡◌, ◌++◌, map};
 ghost use Rattle.std.specs.Fmt.{WritesStyledOnOk};
 ghost use Rattle.std.specs.List.{flat_map};
 ghost use Rattle.std.specs.Option.{option_map};
-ghost use Rattle.simplecss_text.specs.Printing.{class_text, operator_text, subselector_text, combinator_text, type_text, component_text};
+ghost use Rattle.simplecss_text.specs.Printing.{class_text, operator_text, subselector_text};
+ghost use Rattle.simplecss_text.specs.Printing.{combinator_text, type_text, component_text};
 ghost use Rattle.simplecss_selector.specs.Asked.{operator_of, class_of};
 ghost use Rattle.simplecss_selector.specs.Combinators.{combinator_of};
 ghost use Rattle.simplecss_selector.specs.Seen.{subselector_of, component_of_part};
@@ -138,7 +139,8 @@ fn write_operator<W: fmt::Write>(
 
 /// Writes a pseudo-class without its colon.
 fn write_class<W: fmt::Write>(f: &mut fmt::Formatter<W>, class: PseudoClass) -> fmt::Result
-    ensures { WritesStyledOnOk W.write_str_gives f.old result (class_text (class_of class.entry)) f.new }
+    ensures { WritesStyledOnOk W.write_str_gives f.old result
+        (class_text (class_of class.entry)) f.new }
 {
     match class {
         PseudoClass::FirstChild => f.write_str("first-child"),

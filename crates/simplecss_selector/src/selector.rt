@@ -1,6 +1,7 @@
 //! A selector: components in flat lists, and what can be done with it. How it is read, matched and
 //! weighed stands in the modules `reading`, `matching`, `specificity` and `key`.
-ghost use Rattle.std.specs.Prelude.{◌≡◌, ◌+◌, ◌*◌, ◌<◌, ◌≤◌, ◌↔◌, ◌++◌, ◌∷◌, [], length, is_some, slice_index_or, IsTrue};
+ghost use Rattle.std.specs.Prelude.{◌≡◌, ◌+◌, ◌*◌, ◌<◌, ◌≤◌, ◌↔◌, ◌++◌, ◌∷◌, [], length, is_some};
+ghost use Rattle.std.specs.Prelude.{slice_index_or, IsTrue};
 ghost use Rattle.std.specs.List.{slice_range};
 ghost use Rattle.simplecss_selector.specs.Placements.{Holds};
 ghost use Rattle.simplecss_selector.specs.Combinators.{combinator_of};
@@ -235,7 +236,8 @@ impl<'a> Selector<'a> {
         text: &'a str,
     ) -> Result<Option<Selector<'a>>, AllocError>
         ensures selector { IfOk result (λ selector. selector ≡ (reads this_edition text.now).0) }
-        ensures printed { IfOk result (λ selector. IfSome selector (SelectorReadsBack this_edition)) }
+        ensures printed { IfOk result
+            (λ selector. IfSome selector (SelectorReadsBack this_edition)) }
     {
         let (selector, _) = Self::parse_front(rt, alloc, text)?;
         Ok(selector)
@@ -252,7 +254,8 @@ impl<'a> Selector<'a> {
         text: &'a str,
     ) -> Result<(Option<Selector<'a>>, usize), AllocError>
         ensures selector { IfOk result (λ read. read.0 ≡ (reads this_edition text.now).0) }
-        ensures rest { IfOk result (λ read. drop read.1 text.now ≡ (reads this_edition text.now).1) }
+        ensures rest { IfOk result
+            (λ read. drop read.1 text.now ≡ (reads this_edition text.now).1) }
         ensures boundary { IfOk result (λ read. IsCharBoundary text.now read.1) }
         ensures printed { IfOk result (λ read. IfSome read.0 (SelectorReadsBack this_edition)) }
     {

@@ -1,15 +1,22 @@
 //! The tokenizer of selectors.
-ghost use Rattle.std.specs.Prelude.{◌≡◌, ◌<◌, ◌≤◌, ℕ, List, true, false, Some, if◌then◌else◌};
+ghost use Rattle.std.specs.Prelude.{◌≡◌, ◌<◌, ℕ, List, true, false, Some, if◌then◌else◌};
 ghost use Rattle.simplecss_text.specs.Reading.{got};
 ghost use Rattle.simplecss_text.specs.Bytes.{all_before, past_one, starts};
 ghost use Rattle.simplecss_text.specs.Errors.{Gives, position_of};
 ghost use Rattle.simplecss_text.specs.Cursor.{text_of, rest_of};
 ghost use Rattle.simplecss_text.specs.ThisEdition.{this_edition};
-ghost use Rattle.simplecss_text.specs.Pieces.{attribute_after as attribute_read, attribute_operator as operator_read, lang_after as language_read, pseudo_class_after as pseudo_class_read, begun as begun_read};
+ghost use Rattle.simplecss_text.specs.Pieces.{attribute_after as attribute_read};
+ghost use Rattle.simplecss_text.specs.Pieces.{attribute_operator as operator_read};
+ghost use Rattle.simplecss_text.specs.Pieces.{lang_after as language_read};
+ghost use Rattle.simplecss_text.specs.Pieces.{pseudo_class_after as pseudo_class_read};
+ghost use Rattle.simplecss_text.specs.Pieces.{begun as begun_read};
 ghost use Rattle.simplecss_selector.specs.Asked.{operator_of};
 ghost use Rattle.simplecss_selector.specs.Given.{token_of};
-ghost use Rattle.simplecss_selector.specs.declared.token.SelectorToken.TheVariants.{AttributeSelector, LangPseudoClass, PseudoClass};
-ghost use Rattle.simplecss_selector.specs.Announced.{announced, IsNamed, IsSimple, state_after_fault};
+ghost use Rattle.simplecss_selector.specs.declared.token.SelectorToken.TheVariants.{AttributeSelector};
+ghost use Rattle.simplecss_selector.specs.declared.token.SelectorToken.TheVariants.{LangPseudoClass};
+ghost use Rattle.simplecss_selector.specs.declared.token.SelectorToken.TheVariants.{PseudoClass};
+ghost use Rattle.simplecss_selector.specs.Announced.{announced, IsNamed, IsSimple};
+ghost use Rattle.simplecss_selector.specs.Announced.{state_after_fault};
 
 use crate::{AttributeOperator, SelectorToken};
 use simplecss_text::stream::Stream;
@@ -120,7 +127,8 @@ fn attribute_operator<'a>(stream: &mut Stream<'a>) -> Result<AttributeOperator<'
 #[tactic(auto, unfolding(simplecss_text::specs::Pieces::attribute_after))]
 fn attribute<'a>(stream: &mut Stream<'a>) -> Result<(&'a str, AttributeOperator<'a>), Error>
     ensures text { text_of stream.new ≡ text_of stream.old }
-    ensures reads { Gives (λ asked. token_of (AttributeSelector asked.0 asked.1)) (text_of stream.old)
+    ensures reads { Gives (λ asked. token_of (AttributeSelector asked.0 asked.1))
+        (text_of stream.old)
         (attribute_read this_edition (rest_of stream.old)) result (rest_of stream.new) }
 {
     let name = stream.consume_ident()?;
@@ -152,8 +160,10 @@ fn language<'a>(stream: &mut Stream<'a>) -> Result<&'a str, Error>
 #[tactic(auto, unfolding(simplecss_text::specs::Pieces::pseudo_class_after))]
 fn pseudo_class<'a>(stream: &mut Stream<'a>) -> Result<(&'a str, bool), Error>
     ensures text { text_of stream.new ≡ text_of stream.old }
-    ensures reads { Gives (λ told. token_of (if told.1 then LangPseudoClass told.0 else PseudoClass told.0))
-        (text_of stream.old) (pseudo_class_read this_edition (rest_of stream.old)) result (rest_of stream.new) }
+    ensures reads { Gives
+        (λ told. token_of (if told.1 then LangPseudoClass told.0 else PseudoClass told.0))
+        (text_of stream.old) (pseudo_class_read this_edition (rest_of stream.old)) result
+        (rest_of stream.new) }
 {
     let name = stream.consume_ident()?;
     if name == "lang" {
@@ -184,7 +194,8 @@ fn text_before<'a>(stream: &mut Stream<'a>, byte: u8) -> &'a str
 fn child<'a>(stream: &mut Stream<'a>) -> SelectorToken<'a>
     requires { announced (rest_of stream.old) ≡ Follows.Child }
     ensures text { text_of stream.new ≡ text_of stream.old }
-    ensures reads { begun_read this_edition (rest_of stream.old) ≡ got (token_of result) (rest_of stream.new) }
+    ensures reads { begun_read this_edition (rest_of stream.old)
+        ≡ got (token_of result) (rest_of stream.new) }
 {
     stream.try_consume_byte(b'>');
     SelectorToken::ChildCombinator
@@ -196,7 +207,8 @@ fn child<'a>(stream: &mut Stream<'a>) -> SelectorToken<'a>
 fn adjacent<'a>(stream: &mut Stream<'a>) -> SelectorToken<'a>
     requires { announced (rest_of stream.old) ≡ Follows.Adjacent }
     ensures text { text_of stream.new ≡ text_of stream.old }
-    ensures reads { begun_read this_edition (rest_of stream.old) ≡ got (token_of result) (rest_of stream.new) }
+    ensures reads { begun_read this_edition (rest_of stream.old)
+        ≡ got (token_of result) (rest_of stream.new) }
 {
     stream.try_consume_byte(b'+');
     SelectorToken::AdjacentCombinator
@@ -277,7 +289,8 @@ impl<'a> SelectorTokenizer<'a> {
     ghost use Rattle.std.specs.Prelude.{drop};
     ghost use Rattle.std.specs.Str.{IsCharBoundary};
     ghost use Rattle.simplecss_text.specs.Comments.{gap};
-    ghost use Rattle.simplecss_selector.specs.Tokenizer.{source, place_in, left_of, run_in, still_to_come, GivesFirst};
+    ghost use Rattle.simplecss_selector.specs.Tokenizer.{source, place_in, left_of, run_in};
+    ghost use Rattle.simplecss_selector.specs.Tokenizer.{still_to_come, GivesFirst};
 
     /// The place up to which the text was read, in bytes from its start. It is at most the text's
     /// length and stands between two characters.
@@ -295,7 +308,8 @@ impl<'a> SelectorTokenizer<'a> {
     #[inline(always)]
     fn next_open(&mut self) -> Result<SelectorToken<'a>, Error>
         ensures source { source self.new ≡ source self.old }
-        ensures first { GivesFirst (source self.old) (run_in State.Open (left_of self.old)) (Some result)
+        ensures first { GivesFirst (source self.old) (run_in State.Open (left_of self.old))
+            (Some result)
             (left_of self.new) (still_to_come self.new) }
     {
         if let Err(error) = readers::consume_gap(&mut self.stream) {
@@ -421,7 +435,8 @@ fn slash_error(stream: &mut Stream<'_>) -> Error
     requires { starts 47 (rest_of stream.old) ≡ true }
     ensures text { text_of stream.new ≡ text_of stream.old }
     ensures rest { rest_of stream.new ≡ past_one (rest_of stream.old) }
-    ensures error { result ≡ Error.InvalidComment (position_of (text_of stream.old) (rest_of stream.old)) }
+    ensures error { result
+        ≡ Error.InvalidComment (position_of (text_of stream.old) (rest_of stream.old)) }
 {
     let pos = stream.gen_text_pos();
     stream.try_consume_byte(b'/');

@@ -4,7 +4,8 @@
 
 ghost use Rattle.std.specs.Prelude.{◌≡◌, ℕ, ◌≤◌, ◌↔◌, List, ◌++◌, length, true, false, IsTrue};
 ghost use Rattle.simplecss_text.specs.Reading.{got, before, Ends};
-ghost use Rattle.simplecss_text.specs.Comments.{opens_comment, comment, past_blank, blank, has_space};
+ghost use Rattle.simplecss_text.specs.Comments.{opens_comment, comment, past_blank, blank};
+ghost use Rattle.simplecss_text.specs.Comments.{has_space};
 ghost use Rattle.simplecss_text.specs.Blanks.{IsComment, IsBlank, IsComments};
 ghost use Rattle.simplecss_text.specs.Cursor.{text_of, place_of};
 

@@ -1,5 +1,5 @@
 //! Rows and columns, which begin at 1.
-ghost use Rattle.std.specs.Prelude.{◌≡◌, ℕ, ◌+◌, ◌==◌, length, min, count_by, chars};
+ghost use Rattle.std.specs.Prelude.{◌≡◌, ◌+◌, ◌==◌, length, min, count_by, chars};
 ghost use Rattle.std.specs.List.{after_last};
 
 use crate::TextPos;
@@ -45,7 +45,8 @@ fn one_more(count: usize) -> u32
 /// The position of the place behind the text.
 pub(crate) fn position_behind(before: &str) -> TextPos
     ensures row { result.row ≡ min u32.MAX (1 + count_by (λ b. b == 10) before.now) }
-    ensures col { result.col ≡ min u32.MAX (1 + length (chars (after_last (λ b. b == 10) before.now))) }
+    ensures col { result.col
+        ≡ min u32.MAX (1 + length (chars (after_last (λ b. b == 10) before.now))) }
 {
     TextPos::new(row_behind(before), column_behind(before))
 }

@@ -1,5 +1,5 @@
 //! The printed texts of positions and errors, which no option of the formatter changes.
-ghost use Rattle.std.specs.Prelude.{◌≡◌, ◌++◌, codes, decimal, encode_utf8};
+ghost use Rattle.std.specs.Prelude.{◌++◌, codes, decimal, encode_utf8};
 ghost use Rattle.std.specs.Fmt.{WritesStyledOnOk};
 ghost use Rattle.simplecss_text.specs.Errors.{position_text, error_text};
 
@@ -93,7 +93,8 @@ fn write_bytes<W: fmt::Write>(f: &mut fmt::Formatter<W>, expected: u8, actual: u
 /// Writes the words and the position.
 #[tactic(auto, using(crate::proofs::printed::Styled::styled_two))]
 fn write_at<W: fmt::Write>(f: &mut fmt::Formatter<W>, words: &str, pos: TextPos) -> fmt::Result
-    ensures { WritesStyledOnOk W.write_str_gives f.old result (words.now ++ position_text pos) f.new }
+    ensures { WritesStyledOnOk W.write_str_gives f.old result
+        (words.now ++ position_text pos) f.new }
 {
     f.write_str(words)?;
     write_position(f, pos)

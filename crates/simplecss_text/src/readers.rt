@@ -1,6 +1,7 @@
 //! What is read from a cursor without telling an error: a caller that tells none has no position
 //! computed.
-ghost use Rattle.std.specs.Prelude.{◌≡◌, ◌<◌, ◌∷◌, true, [], None, Some, MatchOption, if◌then◌else◌};
+ghost use Rattle.std.specs.Prelude.{◌≡◌, ◌<◌, ◌∷◌, true, [], None, Some, MatchOption};
+ghost use Rattle.std.specs.Prelude.{if◌then◌else◌};
 ghost use Rattle.simplecss_text.specs.Reading.{no_name, no_comment, ended};
 ghost use Rattle.simplecss_text.specs.Bytes.{past_one, past_byte, starts, starts_by, is_ascii};
 ghost use Rattle.simplecss_text.specs.Comments.{past_blank, blank, gap as gap_read};

@@ -1,12 +1,17 @@
 //! Where things end in a text. Each function answers a number of bytes, at which the text may be
 //! cut.
-ghost use Rattle.std.specs.Prelude.{◌≡◌, ℕ, ◌+◌, ◌-◌, ◌≤◌, ◌<◌, ◌&&◌, ◌||◌, ◌==◌, length, drop, true, false, None, Some, MatchOption, IfSome, IsTrue, slice_index, EachIndex, chars};
+ghost use Rattle.std.specs.Prelude.{◌≡◌, ℕ, ◌+◌, ◌-◌, ◌<◌, ◌&&◌, ◌||◌, ◌==◌, length, drop, true};
+ghost use Rattle.std.specs.Prelude.{false, None, Some, MatchOption, IfSome, IsTrue, slice_index};
+ghost use Rattle.std.specs.Prelude.{EachIndex, chars};
 ghost use Rattle.std.specs.Str.{IsCharBoundary};
 ghost use Rattle.std.specs.List.{prefix_len};
 ghost use Rattle.simplecss_text.specs.Bytes.{after_byte, starts_by, is_ascii};
-ghost use Rattle.simplecss_text.specs.Characters.{is_space as is_space_byte, is_name_start as is_name_start_of, is_name_char as is_name_char_of};
+ghost use Rattle.simplecss_text.specs.Characters.{is_space as is_space_byte};
+ghost use Rattle.simplecss_text.specs.Characters.{is_name_start as is_name_start_of};
+ghost use Rattle.simplecss_text.specs.Characters.{is_name_char as is_name_char_of};
 ghost use Rattle.simplecss_text.specs.ThisEdition.{this_edition};
-ghost use Rattle.simplecss_text.specs.Comments.{after_close, opens_comment as opens_comment_of, blank_part, past_blank, has_space};
+ghost use Rattle.simplecss_text.specs.Comments.{after_close, opens_comment as opens_comment_of};
+ghost use Rattle.simplecss_text.specs.Comments.{blank_part, past_blank, has_space};
 ghost use Rattle.simplecss_text.specs.Names.{begins_name as begins_name_of, past_name_chars};
 ghost use Rattle.simplecss_text.specs.Strings.{from_quote};
 
@@ -84,7 +89,8 @@ pub fn find_byte(text: &str, byte: u8) -> Option<usize>
 fn quote_place(bytes: &[u8], quote: u8) -> Option<usize>
     ensures found { MatchOption result (from_quote quote quote bytes.now ≡ None)
         (λ n. from_quote quote quote bytes.now ≡ Some (drop n bytes.now)) }
-    ensures quote { IfSome result (λ n. (n < length bytes.now) × (slice_index bytes.now n ≡ quote)) }
+    ensures quote { IfSome result
+        (λ n. (n < length bytes.now) × (slice_index bytes.now n ≡ quote)) }
 {
     let mut previous = quote;
     for (at, byte) in bytes.iter().enumerate() {
@@ -287,7 +293,8 @@ fn is_gap_start(byte: u8) -> bool
 /// Whether a gap may stand at the front, by the first byte.
 #[inline(always)]
 fn may_begin_gap(text: &str) -> bool
-    ensures { result ≡ false → (starts_by is_space_byte text.now || opens_comment_of text.now) ≡ false }
+    ensures { result ≡ false
+        → (starts_by is_space_byte text.now || opens_comment_of text.now) ≡ false }
 {
     match text.as_bytes() {
         [byte, ..] => is_gap_start(*byte),

@@ -1,5 +1,6 @@
 //! A cursor over a text, and the characters of names.
-ghost use Rattle.std.specs.Prelude.{◌≡◌, ℕ, ◌+◌, ◌<◌, ◌≤◌, ◌↔◌, length, slice_index, slice_range, min, drop, [], ◌∷◌, IsTrue, MatchResult};
+ghost use Rattle.std.specs.Prelude.{◌≡◌, ◌+◌, ◌<◌, ◌≤◌, ◌↔◌, length, slice_range, min, drop, []};
+ghost use Rattle.std.specs.Prelude.{◌∷◌, IsTrue, MatchResult};
 ghost use Rattle.std.specs.Str.{IsUtf8, IsCharBoundary};
 ghost use Rattle.simplecss_text.specs.Characters.{is_name_start, is_name_char};
 ghost use Rattle.simplecss_text.specs.ThisEdition.{this_edition};
@@ -54,7 +55,6 @@ impl<'a> From<&'a str> for Stream<'a> {
 
 impl<'a> Stream<'a> {
     ghost use Rattle.simplecss_text.specs.Cursor.{text_of, place_of, rest_of};
-    ghost use Rattle.simplecss_text.specs.Reading.{before};
     ghost use Rattle.simplecss_text.specs.Bytes.{byte as byte_read, past, past_one, past_byte};
     ghost use Rattle.simplecss_text.specs.Characters.{is_space};
     ghost use Rattle.simplecss_text.specs.Comments.{comment, blank};
@@ -177,7 +177,8 @@ impl<'a> Stream<'a> {
     pub fn skip_bytes<F: Fn(u8) -> bool>(&mut self, f: F)
         requires { IsByteTest (F.pre f) (F.post f) (text_of self.old) }
         ensures text { text_of self.new ≡ text_of self.old }
-        ensures run { EndsRun (F.post f) (text_of self.old) (place_of self.old) (place_of self.new) }
+        ensures run { EndsRun (F.post f) (text_of self.old) (place_of self.old)
+            (place_of self.new) }
     {
         let bytes = self.text.as_bytes();
         let mut end = self.pos;
@@ -192,8 +193,10 @@ impl<'a> Stream<'a> {
     pub fn consume_bytes<F: Fn(u8) -> bool>(&mut self, f: F) -> &'a str
         requires { IsByteTest (F.pre f) (F.post f) (text_of self.old) }
         ensures text { text_of self.new ≡ text_of self.old }
-        ensures run { EndsRun (F.post f) (text_of self.old) (place_of self.old) (place_of self.new) }
-        ensures value { result.now ≡ slice_range (text_of self.old) (place_of self.old) (place_of self.new) }
+        ensures run { EndsRun (F.post f) (text_of self.old) (place_of self.old)
+            (place_of self.new) }
+        ensures value { result.now
+            ≡ slice_range (text_of self.old) (place_of self.old) (place_of self.new) }
     {
         let begin = self.pos;
         self.skip_bytes(f);
@@ -275,7 +278,8 @@ impl<'a> Stream<'a> {
     fn no_name_error(&mut self) -> Error
         ensures text { text_of self.new ≡ text_of self.old }
         ensures rest { rest_of self.new ≡ past_byte 45 (rest_of self.old) }
-        ensures error { result ≡ Error.InvalidIdent (position_of (text_of self.old) (rest_of self.old)) }
+        ensures error { result
+            ≡ Error.InvalidIdent (position_of (text_of self.old) (rest_of self.old)) }
     {
         let pos = self.gen_text_pos();
         self.try_consume_byte(b'-');

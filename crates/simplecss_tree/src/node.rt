@@ -1,6 +1,6 @@
 //! The elements of a tree, as selectors ask them.
-ghost use Rattle.std.specs.Prelude.{◌≡◌, ◌<◌, length, IfSome, Some, map, false};
-ghost use Rattle.std.specs.Option.{option_map, option_map_or};
+ghost use Rattle.std.specs.Prelude.{◌≡◌, ◌<◌, length, Some, map, false};
+ghost use Rattle.std.specs.Option.{option_map};
 ghost use Rattle.simplecss_tree.specs.Nodes.{is_in_language, value_in};
 ghost use Rattle.simplecss_tree.specs.Rows.{attribute_of};
 
@@ -43,7 +43,8 @@ pub(crate) fn is_in_language(tag: &str, language: &str) -> bool
 
 /// The value of the first attribute of the name, if there is one.
 pub(crate) fn value_in<'t>(attributes: &[(&'t str, &'t str)], name: &str) -> Option<&'t str>
-    ensures { option_map (λ value. value.now) result ≡ value_in (map attribute_of attributes.now) name.now }
+    ensures { option_map (λ value. value.now) result
+        ≡ value_in (map attribute_of attributes.now) name.now }
 {
     for (key, value) in attributes {
         if *key == name {
@@ -73,7 +74,8 @@ impl<'p, 't> Node<'p, 't> {
 
     /// The value of the first attribute of the name, if there is one.
     pub fn attribute(&self, name: &str) -> Option<&'t str>
-        ensures { option_map (λ value. value.now) result ≡ attribute_at self.now.0 self.now.1 name.now }
+        ensures { option_map (λ value. value.now) result
+            ≡ attribute_at self.now.0 self.now.1 name.now }
     {
         self.tree.attribute(self.place, name)
     }

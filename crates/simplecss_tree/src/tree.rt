@@ -1,5 +1,6 @@
 //! A tree that grows: each element stands behind its parent and behind its previous siblings.
-ghost use Rattle.std.specs.Prelude.{◌≡◌, ◌<◌, ◌≤◌, ◌++◌, ◌∷◌, ◌↔◌, [], length, IfSome, IfOk, IfErr, MatchOption, MatchResult, Err, OnOk, OnErr, false};
+ghost use Rattle.std.specs.Prelude.{◌≡◌, ◌<◌, ◌≤◌, ◌++◌, ◌∷◌, ◌↔◌, [], length, IfSome, IfOk, IfErr};
+ghost use Rattle.std.specs.Prelude.{MatchOption, MatchResult, Err, OnOk, OnErr, false};
 ghost use Rattle.std.specs.Option.{option_map, option_map_or};
 ghost use Rattle.simplecss_tree.specs.declared.tree.TreeError.TheVariants.{NoElement, Memory};
 
@@ -128,7 +129,8 @@ impl<'t> Model for Tree<'t> {
 
 impl<'t> Tree<'t> {
     ghost use Rattle.simplecss.specs.ListTrees.{spot};
-    ghost use Rattle.simplecss_tree.specs.Rows.{IsMissing, last_child, new_child, with_attribute, with_states};
+    ghost use Rattle.simplecss_tree.specs.Rows.{IsMissing, last_child, new_child, with_attribute};
+    ghost use Rattle.simplecss_tree.specs.Rows.{with_states};
 
     /// A tree without elements. It takes no memory.
     pub fn new(alloc: Global) -> Tree<'t>
@@ -151,7 +153,8 @@ impl<'t> Tree<'t> {
     fn last_child(&self, parent: Option<usize>) -> Result<Option<usize>, TreeError>
         ensures ok { IfOk result (λ last. last ≡ last_child self.now parent) }
         ensures there { OnOk result (IfSome parent (λ above. above < length self.now)) }
-        ensures err { IfErr result (λ fault. (fault ≡ NoElement) × IsMissing parent (length self.now)) }
+        ensures err { IfErr result
+            (λ fault. (fault ≡ NoElement) × IsMissing parent (length self.now)) }
     {
         match parent {
             None => Ok(self.last_root),
@@ -165,7 +168,8 @@ impl<'t> Tree<'t> {
     /// Adds an element as the last child of the parent, or without one, and gives its place.
     pub fn push(&mut self, parent: Option<usize>, name: &'t str) -> Result<usize, TreeError>
         ensures place { IfOk result (λ place. place ≡ length self.old) }
-        ensures added { OnOk result (self.new ≡ self.old ++ new_child self.old parent name.now ∷ []) }
+        ensures added { OnOk result
+            (self.new ≡ self.old ++ new_child self.old parent name.now ∷ []) }
         ensures no_parent { (result ≡ Err NoElement) ↔ IsMissing parent (length self.old) }
         ensures err { OnErr result (self.new ≡ self.old) }
     {
@@ -231,7 +235,9 @@ impl<'t> Tree<'t> {
 /// What its elements are asked.
 impl<'t> Tree<'t> {
     ghost use Rattle.simplecss.specs.ListTrees.{parent_by, sibling_by};
-    ghost use Rattle.simplecss_tree.specs.Nodes.{named_parent, named_previous, name_at, attribute_at, states_at, language_at, is_in_language};
+    ghost use Rattle.simplecss_tree.specs.Nodes.{named_parent, named_previous, name_at};
+    ghost use Rattle.simplecss_tree.specs.Nodes.{attribute_at, states_at, language_at};
+    ghost use Rattle.simplecss_tree.specs.Nodes.{is_in_language};
 
     /// The place of the parent.
     #[inline(always)]
@@ -248,7 +254,8 @@ impl<'t> Tree<'t> {
     #[inline(always)]
     pub(crate) fn previous(&self, place: usize) -> Option<usize>
         requires { place < length self.now }
-        ensures value { result ≡ sibling_by (named_parent self.now) (named_previous self.now) place }
+        ensures value { result
+            ≡ sibling_by (named_parent self.now) (named_previous self.now) place }
         ensures before { IfSome result (λ previous. previous < place) }
     {
         let previous = self.entries[place].previous?;
@@ -303,7 +310,8 @@ impl<'t> Tree<'t> {
     /// Whether the element is in the language of the tag.
     pub(crate) fn is_in_language(&self, place: usize, tag: &str) -> bool
         requires { place < length self.now }
-        ensures { result ≡ option_map_or (is_in_language tag.now) (language_at self.now place) false }
+        ensures { result
+            ≡ option_map_or (is_in_language tag.now) (language_at self.now place) false }
     {
         match self.language(place) {
             Some(language) => is_in_language(tag, language),

@@ -2,7 +2,7 @@
 ghost use Rattle.std.specs.Prelude.{◌≡◌, ◌++◌, ◌∷◌, [], OnOk};
 ghost use Rattle.simplecss.specs.Properties.{property_of};
 ghost use Rattle.simplecss.specs.Statements.{StyleRule};
-ghost use Rattle.simplecss.specs.StyleRules.{rules_of};
+ghost use Rattle.simplecss.specs.StyleRules.{rules_in};
 
 use log::sink::Discard;
 use simplecss::{Declaration, Rule, Selector, StyleSheet};
@@ -15,8 +15,9 @@ pub fn push_rule<'a>(
     selector: Selector<'a>,
     declaration: Declaration<'a>,
 ) -> Result<(), AllocError>
-    ensures { let rule : StyleRule = record { components = selector.entry; properties = property_of declaration.entry ∷ [] } in
-        OnOk result (rules_of sheet.new.rules.items ≡ rules_of sheet.old.rules.items ++ rule ∷ []) }
+    ensures { let rule : StyleRule =
+        record { components = selector.entry; properties = property_of declaration.entry ∷ [] } in
+        OnOk result (rules_in sheet.new ≡ rules_in sheet.old ++ rule ∷ []) }
 {
     let declarations = vec![in alloc; declaration]?;
     sheet.rules.push(Rule {

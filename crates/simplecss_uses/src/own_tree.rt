@@ -1,7 +1,8 @@
 //! A tree of the user's own that selectors are asked of: entries in a list, of which each names its
 //! parent and its previous sibling by their places. Both laws of elements come from `ListTrees`.
 ghost use Rattle.std.specs.Prelude.{◌<◌, ◌≡◌, ℕ, List, IfSome, length};
-ghost use Rattle.simplecss.specs.ListTrees.{list_tree, list_counts_ancestors, list_shares_parents, parent_place, sibling_place};
+ghost use Rattle.simplecss.specs.ListTrees.{list_tree, list_counts_ancestors, list_shares_parents};
+ghost use Rattle.simplecss.specs.ListTrees.{parent_place, sibling_place};
 ghost use Rattle.simplecss_uses.specs.OwnTree.{entry_list};
 ghost use Rattle.simplecss_uses.specs.declared.own_tree.Entry.{Entry};
 

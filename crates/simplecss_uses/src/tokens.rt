@@ -1,7 +1,8 @@
 //! What a user writes with the tokenizers: loops and chains, with no measure, no invariant and no
 //! proof file.
 
-ghost use Rattle.std.specs.Prelude.{◌≡◌, length, map, count_by, IfOk, IfSome, IfNone, IsTrue, IsErr, All, false};
+ghost use Rattle.std.specs.Prelude.{◌≡◌, length, map, count_by, IfOk, IfSome, IfNone, IsTrue};
+ghost use Rattle.std.specs.Prelude.{IsErr, All, false};
 ghost use Rattle.simplecss.specs.ThisEdition.{this_edition};
 ghost use Rattle.simplecss.specs.Declarations.{declarations};
 ghost use Rattle.simplecss.specs.TokenRuns.{tokens_of};
@@ -54,7 +55,8 @@ pub fn all_declarations<'a>(
 /// The first of the text's declarations that is important.
 pub fn first_important<'a>(text: &'a str) -> Option<Declaration<'a>>
     ensures some { IfSome result (λ declaration. IsTrue declaration.important) }
-    ensures none { IfNone result (All (λ p. p.important ≡ false) (declarations this_edition text.now)) }
+    ensures none { IfNone result
+        (All (λ p. p.important ≡ false) (declarations this_edition text.now)) }
 {
     DeclarationTokenizer::from(text).find(|declaration| declaration.important)
 }

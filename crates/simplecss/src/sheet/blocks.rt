@@ -3,7 +3,8 @@ ghost use Rattle.std.specs.Prelude.{◌≡◌, ◌+◌, ◌<◌, ◌^◌, MatchR
 ghost use Rattle.std.specs.Str.{IsCharBoundary};
 ghost use Rattle.simplecss_text.specs.Reading.{each};
 ghost use Rattle.simplecss_text.specs.Bytes.{past_byte};
-ghost use Rattle.simplecss_text.specs.Blocks.{count_of, block_end as block_end_of, from_block_end, ends_list, declaration_in_block, past_list, block};
+ghost use Rattle.simplecss_text.specs.Blocks.{count_of, block_end as block_end_of, from_block_end};
+ghost use Rattle.simplecss_text.specs.Blocks.{ends_list, declaration_in_block, past_list, block};
 ghost use Rattle.simplecss_text.specs.ThisEdition.{this_edition};
 ghost use Rattle.simplecss_text.specs.Cursor.{text_of, rest_of};
 ghost use Rattle.simplecss.specs.BlockDepths.{ClosesFirst, ClosesNowhere};
@@ -123,8 +124,10 @@ fn consume_declarations<'a>(
     declarations: &mut Vec<Declaration<'a>>,
 ) -> Result<(), AllocError>
     ensures text { text_of s.new ≡ text_of s.old }
-    ensures values { OnOk result (map property_of declarations.new.items ≡ (each (declaration_in_block this_edition) (rest_of s.old)).0) }
-    ensures rest { OnOk result (rest_of s.new ≡ past_list this_edition (each (declaration_in_block this_edition) (rest_of s.old)).1) }
+    ensures values { OnOk result (map property_of declarations.new.items
+        ≡ (each (declaration_in_block this_edition) (rest_of s.old)).0) }
+    ensures rest { OnOk result (rest_of s.new
+        ≡ past_list this_edition (each (declaration_in_block this_edition) (rest_of s.old)).1) }
 {
     declarations.clear();
     'list: while !at_list_end(s) {
@@ -148,7 +151,8 @@ pub fn consume_block<'a>(
     declarations: &mut Vec<Declaration<'a>>,
 ) -> Result<(), AllocError>
     ensures text { text_of s.new ≡ text_of s.old }
-    ensures reads { OnOk result (block this_edition (rest_of s.old) ≡ (map property_of declarations.new.items, rest_of s.new)) }
+    ensures reads { OnOk result (block this_edition (rest_of s.old)
+        ≡ (map property_of declarations.new.items, rest_of s.new)) }
 {
     consume_declarations(s, declarations)?;
     s.try_consume_byte(b'}');

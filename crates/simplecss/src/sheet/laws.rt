@@ -23,11 +23,13 @@ use simplecss_declaration::Declaration;
 /// changes nothing.
 pub fn order_laws()
     ensures keeps { (rules : List StyleRule) → IsPermutation rules (ordered rules) }
-    ensures ranks { (rules : List StyleRule) (i : ℕ) (r : StyleRule) → i < length rules → slice_index_or rules i r ≡ r
+    ensures ranks { (rules : List StyleRule) (i : ℕ) (r : StyleRule) → i < length rules
+        → slice_index_or rules i r ≡ r
         → slice_index_or (ordered rules) (rank_by is_smaller rules i r) r ≡ r }
     ensures rises { (rules : List StyleRule) → IsSortedBy is_smaller (ordered rules) }
     ensures stays { (rules : List StyleRule) → IsStableBy is_smaller rules (ordered rules) }
-    ensures one { (rules sorted : List StyleRule) → IsPermutation rules sorted → IsSortedBy is_smaller sorted
+    ensures one { (rules sorted : List StyleRule) → IsPermutation rules sorted
+        → IsSortedBy is_smaller sorted
         → IsStableBy is_smaller rules sorted → sorted ≡ ordered rules }
     ensures twice { (rules : List StyleRule) → ordered (ordered rules) ≡ ordered rules }
 {}
@@ -37,7 +39,8 @@ pub fn order_laws()
 /// the rules of all texts in turn.
 pub fn place_law()
     ensures { (texts : List (List ℕ)) (i j : ℕ) (a b : StyleRule) → i < j
-        → slice_get (sheet this_edition texts) i ≡ Some a → slice_get (sheet this_edition texts) j ≡ Some b
+        → slice_get (sheet this_edition texts) i ≡ Some a
+        → slice_get (sheet this_edition texts) j ≡ Some b
         → ComesBefore (flat_map (kept this_edition) texts) i j a b }
 {}
 
@@ -50,7 +53,8 @@ pub fn sheet_law()
 /// wherever one of its statements ends. At other places that can be false: a block may be open
 /// there.
 pub fn cutting_law()
-    ensures { (text : List ℕ) (place : ℕ) → IsUtf8 text → StatementEndsAt this_edition text place → KeepsAcross this_edition text place }
+    ensures { (text : List ℕ) (place : ℕ) → IsUtf8 text → StatementEndsAt this_edition text place
+        → KeepsAcross this_edition text place }
 {}
 
 /// A text of ASCII bytes without a slash has the same rules in both editions of the grammar.
@@ -61,7 +65,9 @@ pub fn edition_law()
 /// Two rules are equal exactly if their selectors and their declarations are, and two declarations,
 /// if their names, their values and whether they are important are.
 pub fn equality_laws()
-    ensures rules { (a b : Rule) → IsTrue (⟦<Rule<'static> as PartialEq>⟧.eq a b) ↔ (rule_of a ≡ rule_of b) }
-    ensures declarations { (a b : Declaration) → IsTrue (⟦<Declaration<'static> as PartialEq>⟧.eq a b)
+    ensures rules { (a b : Rule) → IsTrue (⟦<Rule<'static> as PartialEq>⟧.eq a b)
+        ↔ (rule_of a ≡ rule_of b) }
+    ensures declarations { (a b : Declaration)
+        → IsTrue (⟦<Declaration<'static> as PartialEq>⟧.eq a b)
         ↔ (property_of a ≡ property_of b) }
 {}

@@ -16,11 +16,11 @@ use std::fmt::Display;
 impl<'a> Display for StyleSheet<'a> {
     ghost use Rattle.std.specs.Prelude.{Some};
     ghost use Rattle.simplecss_text.specs.Printing.{sheet_text};
-    ghost use Rattle.simplecss.specs.StyleRules.{rules_of};
+    ghost use Rattle.simplecss.specs.StyleRules.{rules_in};
 
-    ghost output = { λ s. Some (sheet_text (rules_of s.rules.items)) };
+    ghost output = { λ s. Some (sheet_text (rules_in s)) };
 
-    ghost styled_output = { λ s _. Some (sheet_text (rules_of s.rules.items)) };
+    ghost styled_output = { λ s _. Some (sheet_text (rules_in s)) };
 
     #[tactic(auto, using(simplecss_text::proofs::printed::Styled::plain_of_styled))]
     fn fmt<W: fmt::Write>(&self, f: &mut fmt::Formatter<W>) -> fmt::Result {
@@ -48,7 +48,8 @@ impl<'a> Display for Rule<'a> {
 
 /// Writes the rules with newlines between them.
 fn write_rules<W: fmt::Write>(f: &mut fmt::Formatter<W>, rules: &[Rule]) -> fmt::Result
-    ensures { WritesStyledOnOk W.write_str_gives f.old result (sheet_text (rules_of rules.now)) f.new }
+    ensures { WritesStyledOnOk W.write_str_gives f.old result
+        (sheet_text (rules_of rules.now)) f.new }
 {
     let Some((first, rest)) = rules.split_first() else {
         return Ok(());
@@ -59,7 +60,8 @@ fn write_rules<W: fmt::Write>(f: &mut fmt::Formatter<W>, rules: &[Rule]) -> fmt:
 
 /// Writes each rule behind a newline.
 fn write_lines<W: fmt::Write>(f: &mut fmt::Formatter<W>, rules: &[Rule]) -> fmt::Result
-    ensures { WritesStyledOnOk W.write_str_gives f.old result (flat_map (λ r. 10 ∷ rule_text (rule_of r)) rules.now) f.new }
+    ensures { WritesStyledOnOk W.write_str_gives f.old result
+        (flat_map (λ r. 10 ∷ rule_text (rule_of r)) rules.now) f.new }
 {
     for rule in rules {
         write_line(f, rule)?;
@@ -70,7 +72,8 @@ fn write_lines<W: fmt::Write>(f: &mut fmt::Formatter<W>, rules: &[Rule]) -> fmt:
 /// Writes a newline and the rule.
 #[tactic(auto, using(simplecss_text::proofs::printed::Styled::styled_two))]
 fn write_line<W: fmt::Write>(f: &mut fmt::Formatter<W>, rule: &Rule) -> fmt::Result
-    ensures { WritesStyledOnOk W.write_str_gives f.old result (10 ∷ rule_text (rule_of rule.now)) f.new }
+    ensures { WritesStyledOnOk W.write_str_gives f.old result
+        (10 ∷ rule_text (rule_of rule.now)) f.new }
 {
     f.write_str("\n")?;
     write_rule(f, rule)
@@ -92,7 +95,8 @@ fn write_declarations<W: fmt::Write>(
     f: &mut fmt::Formatter<W>,
     declarations: &[Declaration],
 ) -> fmt::Result
-    ensures { WritesStyledOnOk W.write_str_gives f.old result (flat_map property_text (properties_of declarations.now)) f.new }
+    ensures { WritesStyledOnOk W.write_str_gives f.old result
+        (flat_map property_text (properties_of declarations.now)) f.new }
 {
     for declaration in declarations {
         write_declaration(f, declaration)?;
@@ -105,7 +109,8 @@ fn write_declaration<W: fmt::Write>(
     f: &mut fmt::Formatter<W>,
     declaration: &Declaration,
 ) -> fmt::Result
-    ensures { WritesStyledOnOk W.write_str_gives f.old result (property_text (property_of declaration.now)) f.new }
+    ensures { WritesStyledOnOk W.write_str_gives f.old result
+        (property_text (property_of declaration.now)) f.new }
 {
     declaration.fmt(f)
 }

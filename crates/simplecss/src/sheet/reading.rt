@@ -1,8 +1,10 @@
 //! The rules of a text.
-ghost use Rattle.std.specs.Prelude.{◌≡◌, ◌++◌, ◌∷◌, [], List, ℕ, IfOk, IsOk, IsTrue, IsUtf8, OnOk, MatchBool, MatchOption, None, Some, filter, map, true, false};
+ghost use Rattle.std.specs.Prelude.{◌≡◌, ◌++◌, ◌∷◌, [], List, ℕ, IfOk, IsOk, IsTrue, IsUtf8, OnOk};
+ghost use Rattle.std.specs.Prelude.{MatchBool, MatchOption, None, Some, filter, map, true, false};
 ghost use Rattle.std.specs.List.{All, flat_map};
 ghost use Rattle.simplecss_text.specs.Comments.{past_blank};
-ghost use Rattle.simplecss_text.specs.Statements.{has_property, kept, statement, next_statement, statements, is_open_comment};
+ghost use Rattle.simplecss_text.specs.Statements.{has_property, kept, statement, next_statement};
+ghost use Rattle.simplecss_text.specs.Statements.{statements, is_open_comment};
 ghost use Rattle.simplecss_text.specs.ThisEdition.{this_edition};
 ghost use Rattle.simplecss_text.specs.Cursor.{text_of, rest_of};
 ghost use Rattle.simplecss.specs.StyleRules.{rule_of, rules_of};
@@ -18,7 +20,8 @@ use std::alloc::{AllocError, Global};
 pub(crate) fn at_statement(s: &mut Stream<'_>) -> bool
     ensures text { text_of s.new ≡ text_of s.old }
     ensures reads { MatchBool result
-        (next_statement this_edition (rest_of s.old) ≡ Some (statement this_edition (rest_of s.new)))
+        (next_statement this_edition (rest_of s.old)
+        ≡ Some (statement this_edition (rest_of s.new)))
         (next_statement this_edition (rest_of s.old) ≡ None) }
     ensures rest { IsTrue result → rest_of s.new ≡ past_blank (rest_of s.old) }
 {
@@ -33,7 +36,8 @@ pub(crate) fn read_rules<'a, R: Log>(
 ) -> Result<Option<Vec<Rule<'a>>>, AllocError>
     ensures { IfOk result (λ read. MatchOption read (is_open_comment text.now ≡ true)
         (λ rules. (is_open_comment text.now ≡ false)
-        × (map rule_of rules.items ≡ flat_map (λ given. given) (statements this_edition text.now)))) }
+        × (map rule_of rules.items
+        ≡ flat_map (λ given. given) (statements this_edition text.now)))) }
 {
     let mut s = Stream::new(text);
     if !readers::pass_blank(&mut s) {
@@ -53,8 +57,10 @@ fn add_rules<'a, R: Log>(
     text: &'a str,
     rules: &mut Vec<Rule<'a>>,
 ) -> Result<(), AllocError>
-    ensures kept { (texts : List (List ℕ)) → filter has_property (rules_of rules.old.items) ≡ flat_map (kept this_edition) texts
-        → OnOk result (filter has_property (rules_of rules.new.items) ≡ flat_map (kept this_edition) (texts ++ text.now ∷ [])) }
+    ensures kept { (texts : List (List ℕ))
+        → filter has_property (rules_of rules.old.items) ≡ flat_map (kept this_edition) texts
+        → OnOk result (filter has_property (rules_of rules.new.items)
+        ≡ flat_map (kept this_edition) (texts ++ text.now ∷ [])) }
     ensures utf8 { IsUtf8 text.now }
 {
     match read_rules(rt, alloc, text)? {

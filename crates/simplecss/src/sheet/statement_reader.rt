@@ -63,8 +63,10 @@ impl<'a> StatementReader<'a> {
     ) -> Result<Option<Statement<'a>>, AllocError>
         ensures text { self.new.0 ≡ self.old.0 }
         ensures ok { IfOk result (λ read. MatchOption read
-            ((next_statement this_edition (drop self.old.1 self.old.0) ≡ None) × (self.new ≡ self.old))
-            (λ statement. StandsNext self.old.0 self.old.1 statement × (self.new.1 ≡ statement.end))) }
+            ((next_statement this_edition (drop self.old.1 self.old.0) ≡ None)
+            × (self.new ≡ self.old))
+            (λ statement. StandsNext self.old.0 self.old.1 statement
+            × (self.new.1 ≡ statement.end))) }
         ensures err { OnErr result (self.new ≡ self.old) }
     {
         let mut stream = self.stream;

@@ -1,6 +1,7 @@
 //! Rule sets and at-rules.
 ghost use Rattle.std.specs.Prelude.{◌≡◌, ◌++◌, [], IfOk, OnOk, map, option_to_list};
-ghost use Rattle.simplecss_text.specs.Statements.{StyleRule, part, parts, next_block, rule_set, past_at_rule, past_at_end, statement};
+ghost use Rattle.simplecss_text.specs.Statements.{part, parts, next_block, rule_set, past_at_rule};
+ghost use Rattle.simplecss_text.specs.Statements.{past_at_end, statement};
 ghost use Rattle.simplecss_text.specs.Bytes.{is_neither, past};
 ghost use Rattle.simplecss_text.specs.ThisEdition.{this_edition};
 ghost use Rattle.simplecss_text.specs.Cursor.{text_of, rest_of};
@@ -26,7 +27,8 @@ fn consume_part<'a, R: Log>(
     s: &mut Stream<'a>,
 ) -> Result<Option<Selector<'a>>, AllocError>
     ensures text { text_of s.new ≡ text_of s.old }
-    ensures reads { IfOk result (λ selector. part this_edition (rest_of s.old) ≡ (selector, rest_of s.new)) }
+    ensures reads { IfOk result
+        (λ selector. part this_edition (rest_of s.old) ≡ (selector, rest_of s.new)) }
 {
     let (selector, len) = Selector::parse_front(rt, alloc, s.slice_tail())?;
     s.advance(len);
@@ -39,7 +41,8 @@ fn push_some<'a>(
     selectors: &mut Vec<Selector<'a>>,
     selector: Option<Selector<'a>>,
 ) -> Result<(), AllocError>
-    ensures { OnOk result (selectors.new.items ≡ selectors.old.items ++ option_to_list selector.entry) }
+    ensures { OnOk result
+        (selectors.new.items ≡ selectors.old.items ++ option_to_list selector.entry) }
 {
     if let Some(selector) = selector {
         selectors.push(selector)?;
@@ -56,7 +59,8 @@ fn consume_parts<'a, R: Log>(
     selectors: &mut Vec<Selector<'a>>,
 ) -> Result<(), AllocError>
     ensures text { text_of s.new ≡ text_of s.old }
-    ensures reads { OnOk result (parts this_edition (rest_of s.old) ≡ (selectors.new.items, rest_of s.new)) }
+    ensures reads { OnOk result
+        (parts this_edition (rest_of s.old) ≡ (selectors.new.items, rest_of s.new)) }
 {
     selectors.clear();
     'parts: loop {
@@ -75,7 +79,8 @@ fn consume_next_block<'a>(
     declarations: &mut Vec<Declaration<'a>>,
 ) -> Result<(), AllocError>
     ensures text { text_of s.new ≡ text_of s.old }
-    ensures reads { OnOk result (next_block this_edition (rest_of s.old) ≡ (map property_of declarations.new.items, rest_of s.new)) }
+    ensures reads { OnOk result (next_block this_edition (rest_of s.old)
+        ≡ (map property_of declarations.new.items, rest_of s.new)) }
 {
     match scan::find_byte(s.slice_tail(), b'{') {
         Some(at) => {
@@ -98,7 +103,8 @@ fn push_rules<'a>(
     selectors: &mut Vec<Selector<'a>>,
     declarations: &[Declaration<'a>],
 ) -> Result<(), AllocError>
-    ensures { OnOk result (map rule_of rules.new.items ≡ map rule_of rules.old.items ++ rules_with (map property_of declarations.now) selectors.old.items) }
+    ensures { OnOk result (map rule_of rules.new.items ≡ map rule_of rules.old.items
+        ++ rules_with (map property_of declarations.now) selectors.old.items) }
 {
     'selectors: for selector in selectors.drain(..) {
         let declarations = Vec::from_slice(alloc, declarations)?;
@@ -179,7 +185,8 @@ impl<'a> RuleReader<'a> {
         s: &mut Stream<'a>,
     ) -> Result<(), AllocError>
         ensures text { text_of s.new ≡ text_of s.old }
-        ensures rules { OnOk result (map rule_of self.new.rules.items ≡ map rule_of self.old.rules.items ++ (rule_set this_edition (rest_of s.old)).0) }
+        ensures rules { OnOk result (map rule_of self.new.rules.items
+            ≡ map rule_of self.old.rules.items ++ (rule_set this_edition (rest_of s.old)).0) }
         ensures rest { OnOk result (rest_of s.new ≡ (rule_set this_edition (rest_of s.old)).1) }
     {
         s.try_consume_byte(b',');
@@ -202,7 +209,8 @@ impl<'a> RuleReader<'a> {
         s: &mut Stream<'a>,
     ) -> Result<(), AllocError>
         ensures text { text_of s.new ≡ text_of s.old }
-        ensures rules { OnOk result (map rule_of self.new.rules.items ≡ map rule_of self.old.rules.items ++ (statement this_edition (rest_of s.old)).0) }
+        ensures rules { OnOk result (map rule_of self.new.rules.items
+            ≡ map rule_of self.old.rules.items ++ (statement this_edition (rest_of s.old)).0) }
         ensures rest { OnOk result (rest_of s.new ≡ (statement this_edition (rest_of s.old)).1) }
     {
         if readers::pass_byte(s, b'@') {

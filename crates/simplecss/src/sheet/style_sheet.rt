@@ -1,5 +1,6 @@
 //! Style sheets.
-ghost use Rattle.std.specs.Prelude.{◌≡◌, ◌∷◌, ◌++◌, [], ℕ, List, IfOk, OnErr, OnOk, filter, map, true, false};
+ghost use Rattle.std.specs.Prelude.{◌≡◌, ◌∷◌, ◌++◌, [], ℕ, List, IfOk, OnErr, OnOk, filter, map};
+ghost use Rattle.std.specs.Prelude.{true, false};
 ghost use Rattle.std.specs.List.{All, AllPass};
 ghost use Rattle.simplecss_text.specs.Characters.{first_edition};
 ghost use Rattle.simplecss_text.specs.Editions.{IsCommon};
@@ -7,8 +8,9 @@ ghost use Rattle.simplecss_text.specs.Statements.{has_property, kept, is_open_co
 ghost use Rattle.simplecss_text.specs.Sheets.{ordered, sheet};
 ghost use Rattle.simplecss_text.specs.Cutting.{GoesOn};
 ghost use Rattle.simplecss_text.specs.ThisEdition.{this_edition};
-ghost use Rattle.simplecss_text.specs.PrintingLaws.{SelectorsReadBack, has_wide_space, PrintsBack, PrintsBackAfter};
-ghost use Rattle.simplecss.specs.StyleRules.{rules_of};
+ghost use Rattle.simplecss_text.specs.PrintingLaws.{SelectorsReadBack, has_wide_space, PrintsBack};
+ghost use Rattle.simplecss_text.specs.PrintingLaws.{PrintsBackAfter};
+ghost use Rattle.simplecss.specs.StyleRules.{rules_in};
 
 use crate::sheet::{Rule, order, reading};
 use log::Log;
@@ -24,8 +26,8 @@ pub struct StyleSheet<'a> {
 impl<'a> StyleSheet<'a> {
     /// A style sheet without rules. It takes no memory.
     pub fn new(alloc: Global) -> Self
-        ensures none { rules_of result.rules.items ≡ [] }
-        ensures sheet { rules_of result.rules.items ≡ sheet this_edition [] }
+        ensures none { rules_in result ≡ [] }
+        ensures sheet { rules_in result ≡ sheet this_edition [] }
     {
         StyleSheet {
             rules: Vec::new(alloc),
@@ -38,14 +40,14 @@ impl<'a> StyleSheet<'a> {
     /// A rule set's declarations are stored once for each of its selectors, so the memory that it
     /// takes grows as the product of their numbers.
     pub fn parse<R: Log>(rt: &R, alloc: Global, text: &'a str) -> Result<Self, AllocError>
-        ensures sheet { IfOk result (λ s. rules_of s.rules.items ≡ sheet this_edition (text.now ∷ [])) }
-        ensures selectors { IfOk result (λ s. SelectorsReadBack this_edition (rules_of s.rules.items)) }
+        ensures sheet { IfOk result (λ s. rules_in s ≡ sheet this_edition (text.now ∷ [])) }
+        ensures selectors { IfOk result (λ s. SelectorsReadBack this_edition (rules_in s)) }
         ensures prints_back { has_wide_space text.now ≡ false
-            → IfOk result (λ s. PrintsBack this_edition (rules_of s.rules.items)) }
+            → IfOk result (λ s. PrintsBack this_edition (rules_in s)) }
         // The first edition of the grammar has the same sheet of a text of ASCII bytes without a
         // slash.
         ensures editions { IsCommon text.now
-            → IfOk result (λ s. rules_of s.rules.items ≡ sheet first_edition (text.now ∷ [])) }
+            → IfOk result (λ s. rules_in s ≡ sheet first_edition (text.now ∷ [])) }
     {
         let mut sheet = StyleSheet::new(alloc);
         sheet.parse_more(rt, alloc, text)?;
@@ -57,11 +59,11 @@ impl<'a> StyleSheet<'a> {
     /// short texts take no more time than a long one. Warnings of what is passed over go to `rt`.
     pub fn parse_all<R: Log>(rt: &R, alloc: Global, texts: &[&'a str]) -> Result<Self, AllocError>
         ensures sheet { IfOk result
-            (λ s. rules_of s.rules.items ≡ sheet this_edition (map (λ text. text.now) texts.now)) }
-        ensures filled { IfOk result (λ s. AllPass has_property (rules_of s.rules.items)) }
-        ensures selectors { IfOk result (λ s. SelectorsReadBack this_edition (rules_of s.rules.items)) }
+            (λ s. rules_in s ≡ sheet this_edition (map (λ text. text.now) texts.now)) }
+        ensures filled { IfOk result (λ s. AllPass has_property (rules_in s)) }
+        ensures selectors { IfOk result (λ s. SelectorsReadBack this_edition (rules_in s)) }
         ensures prints_back { All (λ text. has_wide_space text.now ≡ false) texts.now
-            → IfOk result (λ s. PrintsBack this_edition (rules_of s.rules.items)) }
+            → IfOk result (λ s. PrintsBack this_edition (rules_in s)) }
     {
         let mut sheet = StyleSheet::new(alloc);
         let all = reading::read_all(rt, alloc, texts)?;
@@ -81,25 +83,24 @@ impl<'a> StyleSheet<'a> {
     ) -> Result<(), AllocError>
         // The old rules that have a declaration and then those of the text, in order.
         ensures ok { OnOk result (is_open_comment text.now ≡ false
-            → rules_of self.new.rules.items
-            ≡ ordered (filter has_property (rules_of self.old.rules.items) ++ kept this_edition text.now)) }
-        ensures nothing { is_open_comment text.now ≡ true
-            → rules_of self.new.rules.items ≡ rules_of self.old.rules.items }
-        ensures err { OnErr result (rules_of self.new.rules.items ≡ rules_of self.old.rules.items) }
+            → rules_in self.new
+            ≡ ordered (filter has_property (rules_in self.old) ++ kept this_edition text.now)) }
+        ensures nothing { is_open_comment text.now ≡ true → rules_in self.new ≡ rules_in self.old }
+        ensures err { OnErr result (rules_in self.new ≡ rules_in self.old) }
         // The sheet of some texts is then the sheet of these and of this one, and each of its rules
         // has a declaration.
-        ensures sheet { (texts : List (List ℕ)) → rules_of self.old.rules.items ≡ sheet this_edition texts
-            → OnOk result (rules_of self.new.rules.items ≡ sheet this_edition (texts ++ text.now ∷ [])) }
-        ensures filled { (texts : List (List ℕ)) → rules_of self.old.rules.items ≡ sheet this_edition texts
-            → AllPass has_property (rules_of self.new.rules.items) }
+        ensures sheet { (texts : List (List ℕ)) → rules_in self.old ≡ sheet this_edition texts
+            → OnOk result (rules_in self.new ≡ sheet this_edition (texts ++ text.now ∷ [])) }
+        ensures filled { (texts : List (List ℕ)) → rules_in self.old ≡ sheet this_edition texts
+            → AllPass has_property (rules_in self.new) }
         // A text may be read in pieces that are cut where a statement ends.
         ensures pieces { OnOk result
-            (GoesOn this_edition (rules_of self.old.rules.items) text.now (rules_of self.new.rules.items)) }
+            (GoesOn this_edition (rules_in self.old) text.now (rules_in self.new)) }
         // Printed selectors and printed sheets read as what was printed.
-        ensures selectors { SelectorsReadBack this_edition (rules_of self.old.rules.items)
-            → SelectorsReadBack this_edition (rules_of self.new.rules.items) }
+        ensures selectors { SelectorsReadBack this_edition (rules_in self.old)
+            → SelectorsReadBack this_edition (rules_in self.new) }
         ensures prints_back { OnOk result
-            (PrintsBackAfter this_edition (rules_of self.old.rules.items) text.now (rules_of self.new.rules.items)) }
+            (PrintsBackAfter this_edition (rules_in self.old) text.now (rules_in self.new)) }
     {
         match reading::read_rules(rt, alloc, text)? {
             Some(more) => order::merge(&mut self.rules, more),
@@ -110,7 +111,7 @@ impl<'a> StyleSheet<'a> {
     /// A style sheet of equal rules, in memory of the same allocator. The error is that a growth
     /// was refused.
     pub fn clone(&self) -> Result<Self, AllocError>
-        ensures { IfOk result (λ copy. rules_of copy.rules.items ≡ rules_of self.now.rules.items) }
+        ensures { IfOk result (λ copy. rules_in copy ≡ rules_in self.now) }
     {
         let mut rules = Vec::with_capacity(*self.rules.allocator(), self.rules.len())?;
         for rule in &self.rules {
