@@ -22,7 +22,7 @@ impl<'a> fmt::Display for PseudoClass<'a> {
 
     ghost styled_output = { λ c _. Some (class_text (class_of c)) };
 
-    #[tactic(auto, using(simplecss_text::proofs::Styled::plain_of_styled))]
+    #[tactic(auto, using(simplecss_text::proofs::printed::Styled::plain_of_styled))]
     fn fmt<W: fmt::Write>(&self, f: &mut fmt::Formatter<W>) -> fmt::Result {
         write_class(f, *self)
     }
@@ -36,7 +36,7 @@ impl<'a> fmt::Display for Selector<'a> {
 
     ghost styled_output = { λ s _. Some (selector_text s) };
 
-    #[tactic(auto, using(simplecss_text::proofs::Styled::plain_of_styled))]
+    #[tactic(auto, using(simplecss_text::proofs::printed::Styled::plain_of_styled))]
     fn fmt<W: fmt::Write>(&self, f: &mut fmt::Formatter<W>) -> fmt::Result {
         for place in 0..self.len() {
             let (part, subselectors) = self.component(place);
@@ -47,7 +47,7 @@ impl<'a> fmt::Display for Selector<'a> {
 }
 
 /// Writes a component, with what stands before it.
-#[tactic(auto, using(simplecss_text::proofs::Styled::styled_three))]
+#[tactic(auto, using(simplecss_text::proofs::printed::Styled::styled_three))]
 fn write_component<W: fmt::Write>(
     f: &mut fmt::Formatter<W>,
     part: Part,
@@ -98,7 +98,7 @@ fn write_subselectors<W: fmt::Write>(
 }
 
 /// Writes an attribute in brackets, or a pseudo-class behind its colon.
-#[tactic(auto, using(simplecss_text::proofs::Styled::styled_two, simplecss_text::proofs::Styled::styled_four))]
+#[tactic(auto, using(simplecss_text::proofs::printed::Styled::styled_two, simplecss_text::proofs::printed::Styled::styled_four))]
 fn write_subselector<W: fmt::Write>(
     f: &mut fmt::Formatter<W>,
     subselector: SubSelector,
@@ -152,7 +152,7 @@ fn write_class<W: fmt::Write>(f: &mut fmt::Formatter<W>, class: PseudoClass) -> 
 }
 
 /// Writes three texts one after another.
-#[tactic(auto, using(simplecss_text::proofs::Styled::styled_three))]
+#[tactic(auto, using(simplecss_text::proofs::printed::Styled::styled_three))]
 fn write_three<W: fmt::Write>(f: &mut fmt::Formatter<W>, a: &str, b: &str, c: &str) -> fmt::Result
     ensures { WritesStyledOnOk W.write_str_gives f.old result (a.now ++ b.now ++ c.now) f.new }
 {

@@ -21,7 +21,7 @@ impl<'a> Display for StyleSheet<'a> {
 
     ghost styled_output = { λ s _. Some (sheet_text (rules_of s.rules.items)) };
 
-    #[tactic(auto, using(simplecss_text::proofs::Styled::plain_of_styled))]
+    #[tactic(auto, using(simplecss_text::proofs::printed::Styled::plain_of_styled))]
     fn fmt<W: fmt::Write>(&self, f: &mut fmt::Formatter<W>) -> fmt::Result {
         write_rules(f, self.rules.as_slice())
     }
@@ -38,7 +38,7 @@ impl<'a> Display for Rule<'a> {
 
     ghost styled_output = { λ r _. Some (rule_text (rule_of r)) };
 
-    #[tactic(auto, using(simplecss_text::proofs::Styled::plain_of_styled))]
+    #[tactic(auto, using(simplecss_text::proofs::printed::Styled::plain_of_styled))]
     fn fmt<W: fmt::Write>(&self, f: &mut fmt::Formatter<W>) -> fmt::Result {
         write_rule(f, self)
     }
@@ -66,7 +66,7 @@ fn write_lines<W: fmt::Write>(f: &mut fmt::Formatter<W>, rules: &[Rule]) -> fmt:
 }
 
 /// Writes a newline and the rule.
-#[tactic(auto, using(simplecss_text::proofs::Styled::styled_two))]
+#[tactic(auto, using(simplecss_text::proofs::printed::Styled::styled_two))]
 fn write_line<W: fmt::Write>(f: &mut fmt::Formatter<W>, rule: &Rule) -> fmt::Result
     ensures { WritesStyledOnOk W.write_str_gives f.old result (10 ∷ rule_text (rule_of rule.now)) f.new }
 {
@@ -75,7 +75,7 @@ fn write_line<W: fmt::Write>(f: &mut fmt::Formatter<W>, rule: &Rule) -> fmt::Res
 }
 
 /// Writes the selector, and the declarations between braces.
-#[tactic(auto, using(simplecss_text::proofs::Styled::styled_four))]
+#[tactic(auto, using(simplecss_text::proofs::printed::Styled::styled_four))]
 fn write_rule<W: fmt::Write>(f: &mut fmt::Formatter<W>, rule: &Rule) -> fmt::Result
     ensures { WritesStyledOnOk W.write_str_gives f.old result (rule_text (rule_of rule.now)) f.new }
 {
