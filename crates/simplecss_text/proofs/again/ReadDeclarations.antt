@@ -28,12 +28,12 @@ abbrev pub LeavesText : {A : Type 0} → Reading A → Type 0
 LeavesText r = IsUtf8 (left_after r)
 
 -- one thing after another
-pub text-follow : {A B : Type 0} (r : Reading A) (next : A → Reader B) → LeavesText r → ((x : A) (rest : List ℕ) → IsUtf8 rest → LeavesText (next x rest)) → LeavesText (follow r next)
+text-follow : {A B : Type 0} (r : Reading A) (next : A → Reader B) → LeavesText r → ((x : A) (rest : List ℕ) → IsUtf8 rest → LeavesText (next x rest)) → LeavesText (follow r next)
 text-follow (got x rest) next h more = more x rest h
 text-follow (fails fault rest) next h more = h
 
 -- on both sides of a test
-pub text-if : {A : Type 0} (t : Bool) (x y : Reading A) → (t ≡ true → LeavesText x) → (t ≡ false → LeavesText y) → LeavesText (if t then x else y)
+text-if : {A : Type 0} (t : Bool) (x y : Reading A) → (t ≡ true → LeavesText x) → (t ≡ false → LeavesText y) → LeavesText (if t then x else y)
 text-if true x y a b = a refl
 text-if false x y a b = b refl
 

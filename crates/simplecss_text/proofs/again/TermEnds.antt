@@ -96,7 +96,7 @@ letters_bare edition (c ∷ letters) h =
     list_all-append is_bare (encode_utf8 c) (encode_utf8_all letters) ∙ rw (first, others) refl
 
 -- no byte of a name is white space of ASCII
-pub name-bare : (edition : Edition) (text n rest : List ℕ) → ReadName edition text n rest → list_all is_bare n ≡ true
+name-bare : (edition : Edition) (text n rest : List ℕ) → ReadName edition text n rest → list_all is_bare n ≡ true
 name-bare edition text n rest w =
     elim (w.is) [
       | inl i ↦ ap (list_all is_bare) (sym i.spell) ∙ letters_bare edition i.letters i.pass

@@ -23,7 +23,7 @@ use Rattle.simplecss_text.proofs.printed.TailLaws.{Quiet, Tails, tails-none, Lea
 use Rattle.simplecss_text.proofs.printed.TailLaws.NamesAlike.{same, lone, none}
 
 -- where nothing but the tail stands there
-pub alike-nil : (r s : List ℕ) (f : List ℕ → List ℕ) → Ends r (f r) → f s ≡ s → length r ≤ length (f r) → Tails r s (f r) (f s)
+alike-nil : (r s : List ℕ) (f : List ℕ → List ℕ) → Ends r (f r) → f s ≡ s → length r ≤ length (f r) → Tails r s (f r) (f s)
 alike-nil r s f end quiet h =
     let all = whole-left r (f r) (before r (f r)) end h in
     rw (all, quiet) (tails-none r s)

@@ -102,7 +102,7 @@ no-term : (edition : Edition) (text rest : List ℕ) (fault : Fault) → term ed
 no-term edition text rest fault e = each-none (term_in_value edition) text (ap after_term e)
 
 -- where no further term stands behind it
-pub valued-terms : (edition : Edition) (r text left : List ℕ) (fault : Fault) → Valued edition r text → term edition (past_blank r) ≡ fails fault left → ((terms edition text).1 ≡ past_blank r) × ((other : List ℕ) → last_or other (terms edition text).0 ≡ r)
+valued-terms : (edition : Edition) (r text left : List ℕ) (fault : Fault) → Valued edition r text → term edition (past_blank r) ≡ fails fault left → ((terms edition text).1 ≡ past_blank r) × ((other : List ℕ) → last_or other (terms edition text).0 ≡ r)
 valued-terms edition r text left fault (last _ x e) f =
     let listed : terms edition text ≡ (r ∷ [], past_blank r) = one-term edition text r x e ∙ ap (followed_by r) (no-term edition (past_blank r) left fault f) in
     (ap (λ l. l.1) listed, λ other. ap (λ (l : List (List ℕ) × List ℕ). last_or other l.0) listed)

@@ -11,7 +11,7 @@ use Rattle.simplecss_text.specs.Characters.{is_space}
 use Rattle.simplecss_text.specs.Runs.{IsByteTest, EndsRun}
 
 -- behind an ASCII byte
-pub IsCharBoundary-behind : (text : List ℕ) (n : ℕ) → IsUtf8 text → 0 < n → n ≤ length text → slice_index text (n - 1) < 128 → IsCharBoundary text n
+IsCharBoundary-behind : (text : List ℕ) (n : ℕ) → IsUtf8 text → 0 < n → n ≤ length text → slice_index text (n - 1) < 128 → IsCharBoundary text n
 IsCharBoundary-behind text n u pos h e =
     let back : n - 1 + 1 ≡ n = omega arith in
     subst (λ (i : ℕ). IsCharBoundary text i) back (IsCharBoundary-after_ascii text (n - 1) u (omega arith) e)

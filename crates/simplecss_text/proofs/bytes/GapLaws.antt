@@ -6,7 +6,7 @@ use Rattle.simplecss_text.proofs.reading.EachLaws.{each-none, each-stops}
 use Rattle.simplecss_text.proofs.reading.TakesLaws.{blank_part-takes}
 
 -- behind a blank stands no part of one
-pub past_blank-none : (text : List ℕ) → each blank_part (past_blank text) ≡ ([], past_blank text)
+past_blank-none : (text : List ℕ) → each blank_part (past_blank text) ≡ ([], past_blank text)
 past_blank-none text = each-none blank_part (past_blank text) (each-stops blank_part blank_part-takes text)
 
 pub past_blank-again : (text : List ℕ) → past_blank (past_blank text) ≡ past_blank text

@@ -102,7 +102,7 @@ passed-spaces text len u e = subst (λ (n : ℕ). Passed text n (nat_lt 0 n)) (s
 })
 
 -- behind the bytes at the front that pass stands none that passes
-pub starts_by-past : (test : ℕ → Bool) (text : List ℕ) → starts_by test (past test text) ≡ false
+starts_by-past : (test : ℕ → Bool) (text : List ℕ) → starts_by test (past test text) ≡ false
 starts_by-past test [] = refl
 starts_by-past test (b ∷ text) = by (test b) refl (starts_by-past test text)
   where

@@ -5,12 +5,12 @@ use Rattle.simplecss_text.specs.Bytes.{past_one}
 use Rattle.simplecss_text.specs.Strings.{from_quote, string_up_to, string_after}
 
 -- what stands before the last bytes
-pub before-drop : (text : List ℕ) (n : ℕ) → n ≤ length text → before text (drop n text) ≡ take n text
+before-drop : (text : List ℕ) (n : ℕ) → n ≤ length text → before text (drop n text) ≡ take n text
 before-drop text n h =
     let len : length text - length (drop n text) ≡ n = omega (arith, length-drop n text) in
     ap (λ k. take k text) len
 
-pub past_one-drop : (text : List ℕ) (n : ℕ) → n < length text → past_one (drop n text) ≡ drop (n + 1) text
+past_one-drop : (text : List ℕ) (n : ℕ) → n < length text → past_one (drop n text) ≡ drop (n + 1) text
 past_one-drop text n h = rw (drop-cons text n 0, add-one) refl
 
 -- a string whose closing quote stands behind n bytes

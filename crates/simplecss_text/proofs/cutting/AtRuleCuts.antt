@@ -24,7 +24,7 @@ along-at g t u r s at e = refl
 along-at g t u r s (on b r1 s1 room h) e = absurd (omega (arith, longer-along g t u r1 s1 h, ap length e))
 
 -- where a byte stands before it in the first text, that byte stands in the second
-pub along-next : (g : ℕ) (t u : List ℕ) (c : ℕ) (x r s : List ℕ) → Along g t u r s → r ≡ c ∷ x → length t < length x → (y : List ℕ) × ((s ≡ c ∷ y) × Along g t u x y)
+along-next : (g : ℕ) (t u : List ℕ) (c : ℕ) (x r s : List ℕ) → Along g t u r s → r ≡ c ∷ x → length t < length x → (y : List ℕ) × ((s ≡ c ∷ y) × Along g t u x y)
 along-next g t u c x r s at e l = absurd (omega (arith, ap length e, l))
 along-next g t u c x r s (on b r1 s1 room h) e l =
     let first : b ≡ c = cc in

@@ -38,14 +38,14 @@ at_brace x = by (le_or_less (length x) (block_end x))
         let closes : closes_block x (block_end x) ≡ true = least-passes (closes_block x) (length x) l in
         inr (starts-drop 125 (block_end x) x l ∙ first_true _ _ closes)
 
-pub taken-lost : (t x : List ℕ) → (x ≡ []) ⊎ (starts 125 x ≡ true) → length x ≤ length t → Lost t (past_byte 125 x)
+taken-lost : (t x : List ℕ) → (x ≡ []) ⊎ (starts 125 x ≡ true) → length x ≤ length t → Lost t (past_byte 125 x)
 taken-lost t x (inl e) l = inr (ap (past_byte 125) e)
 taken-lost t x (inr e) l = inl (omega (arith, less_of_brace x e))
 
 broken-lost : (t rest : List ℕ) → length rest ≤ length t → Lost t (past_byte 125 (from_block_end rest))
 broken-lost t rest l = taken-lost t (from_block_end rest) (at_brace rest) (omega (arith, length-from_block_end rest))
 
-pub brace-lost : (t x : List ℕ) → Lost t x → Lost t (past_byte 125 x)
+brace-lost : (t x : List ℕ) → Lost t x → Lost t (past_byte 125 x)
 brace-lost t x (inl l) = inl (omega (arith, length-past_byte 125 x))
 brace-lost t x (inr e) = inr (ap (past_byte 125) e)
 

@@ -9,7 +9,7 @@ use Rattle.simplecss_text.proofs.reading.LeastLaws.{least-before, least-is, leas
 use Rattle.simplecss_text.proofs.cutting.NameGuards.{drop-to}
 
 -- the second text and what is cut off make the first
-pub along-append : (g : ℕ) (u v r s : List ℕ) → Along g (u ++ v) u r s → r ≡ s ++ v
+along-append : (g : ℕ) (u v r s : List ℕ) → Along g (u ++ v) u r s → r ≡ s ++ v
 along-append g u v r s at = refl
 along-append g u v r s (on b r1 s1 room h) = ap (λ (x : List ℕ). b ∷ x) (along-append g u v r1 s1 h)
 

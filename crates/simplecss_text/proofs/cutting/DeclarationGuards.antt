@@ -46,7 +46,7 @@ last_or-along t u r s [] (y ∷ ys) h p = absurd p
 last_or-along t u r s (x ∷ xs) [] h p = absurd p
 last_or-along t u r s (x ∷ xs) (y ∷ ys) h p = last_or-along t u x y xs ys p.0 p.1
 
-pub value-guarded : (edition : Edition) (u v : List ℕ) → Guarded Equal 125 (u ++ v) u (value_reader edition) (value_reader edition)
+value-guarded : (edition : Edition) (u v : List ℕ) → Guarded Equal 125 (u ++ v) u (value_reader edition) (value_reader edition)
 unfolding value
 value-guarded edition u v r s h = by (terms edition r) (terms edition s) (terms-repeats edition u v r s h)
   where
@@ -129,7 +129,7 @@ behind-guarded u v x y e r s h =
     guard-follow Equal Equal 125 (u ++ v) u (semicolons c) (semicolons d) _ _ (λ z rest. last-keeps x rest) (semicolons-guarded u v c d j) (λ a b f c d j.
     guard-follow Equal Equal 125 (u ++ v) u (blank c) (blank d) (λ z. got x) (λ z. got y) (λ z rest. omega arith) (blank-guarded u v c d j) (λ a b f c d j. inr (e, j))))
 
-pub trailing-guarded : (u v : List ℕ) → Guarded Equal 125 (u ++ v) u trailing trailing
+trailing-guarded : (u v : List ℕ) → Guarded Equal 125 (u ++ v) u trailing trailing
 unfolding trailing
 trailing-guarded u v r s h =
     guard-follow Equal Equal 125 (u ++ v) u (blank r) (blank s) _ _ (λ z a. keeps-follow a (importance a) behind_importance (importance-keeps a) behind-keeps) (blank-guarded u v r s h) (λ a b f c d j.

@@ -136,7 +136,7 @@ longer-along g t u r s at = omega arith
 longer-along g t u r s (on b r1 s1 room h) = omega (arith, longer-along g t u r1 s1 h)
 
 -- their fronts are the same
-pub take-along : (g : ℕ) (t u : List ℕ) (n : ℕ) (r s : List ℕ) → Along g t u r s → n + length t ≤ length r → take n r ≡ take n s
+take-along : (g : ℕ) (t u : List ℕ) (n : ℕ) (r s : List ℕ) → Along g t u r s → n + length t ≤ length r → take n r ≡ take n s
 take-along g t u zero r s h l = refl
 take-along g t u (suc zero) r s at l = refl
 take-along g t u (suc (suc n)) r s at l = absurd (omega arith)

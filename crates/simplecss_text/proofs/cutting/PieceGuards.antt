@@ -19,7 +19,7 @@ use Rattle.simplecss_text.proofs.cutting.GuardLaws.{at, on, Guard, Guarded, Equa
 use Rattle.simplecss_text.proofs.cutting.SearchLaws.{quote_no_brace, string_after-guarded, blank-repeats, opens_comment-along, brace_plain}
 use Rattle.simplecss_text.proofs.cutting.NameGuards.{name-guarded}
 
-pub string_or_name-guarded : (edition : Edition) (u v : List ℕ) → Guarded Equal 125 (u ++ v) u (string_or_name edition) (string_or_name edition)
+string_or_name-guarded : (edition : Edition) (u v : List ℕ) → Guarded Equal 125 (u ++ v) u (string_or_name edition) (string_or_name edition)
 unfolding string_or_name
 string_or_name-guarded edition u v r s at = name-guarded edition (u ++ v) u r s at
 string_or_name-guarded edition u v r s (on b r1 s1 room h) = by (is_quote b) refl
@@ -28,17 +28,17 @@ string_or_name-guarded edition u v r s (on b r1 s1 room h) = by (is_quote b) ref
     by true e = string_after-guarded b u v (quote_no_brace b e) r1 s1 h
     by false e = name-guarded edition (u ++ v) u (b ∷ r1) (b ∷ s1) (on b r1 s1 room h)
 
-pub named-guarded : (edition : Edition) (u v : List ℕ) (token : List ℕ → Token) → Guarded Equal 125 (u ++ v) u (named edition token) (named edition token)
+named-guarded : (edition : Edition) (u v : List ℕ) (token : List ℕ → Token) → Guarded Equal 125 (u ++ v) u (named edition token) (named edition token)
 unfolding named
 named-guarded edition u v token r s h =
     guard-follow Equal Equal 125 (u ++ v) u (name edition r) (name edition s) (λ n. got (token n)) (λ n. got (token n)) (λ n rest. omega arith) (name-guarded edition (u ++ v) u r s h) (λ x y e c d j. inr (ap token e, j))
 
-pub equated-guarded : (edition : Edition) (u v : List ℕ) (operator : List ℕ → Operator) → Guarded Equal 125 (u ++ v) u (equated edition operator) (equated edition operator)
+equated-guarded : (edition : Edition) (u v : List ℕ) (operator : List ℕ → Operator) → Guarded Equal 125 (u ++ v) u (equated edition operator) (equated edition operator)
 equated-guarded edition u v operator r s h =
     guard-follow Equal Equal 125 (u ++ v) u (byte 61 r) (byte 61 s) _ _ (λ z rest. keeps-follow rest (string_or_name edition rest) (λ value. got (operator value)) (string_or_name-keeps edition rest) (λ value last. omega arith)) (byte-guarded 125 (u ++ v) u 61 r s h) (λ a b f c d j.
     guard-follow Equal Equal 125 (u ++ v) u (string_or_name edition c) (string_or_name edition d) (λ value. got (operator value)) (λ value. got (operator value)) (λ n rest. omega arith) (string_or_name-guarded edition u v c d j) (λ x y e p q k. inr (ap operator e, k)))
 
-pub attribute_operator-guarded : (edition : Edition) (u v : List ℕ) → Guarded Equal 125 (u ++ v) u (attribute_operator edition) (attribute_operator edition)
+attribute_operator-guarded : (edition : Edition) (u v : List ℕ) → Guarded Equal 125 (u ++ v) u (attribute_operator edition) (attribute_operator edition)
 unfolding attribute_operator
 attribute_operator-guarded edition u v r s at = inr at
 attribute_operator-guarded edition u v r s (on b r1 s1 room h) =
@@ -64,7 +64,7 @@ attribute_on-keeps edition n text = keeps-follow text (attribute_operator editio
 attribute_same : (m n : List ℕ) (p q : Operator) → m ≡ n → p ≡ q → attribute_selector m p ≡ attribute_selector n q
 attribute_same m n p q e f = rw (e, f) refl
 
-pub attribute_after-guarded : (edition : Edition) (u v : List ℕ) → Guarded Equal 125 (u ++ v) u (attribute_after edition) (attribute_after edition)
+attribute_after-guarded : (edition : Edition) (u v : List ℕ) → Guarded Equal 125 (u ++ v) u (attribute_after edition) (attribute_after edition)
 unfolding attribute_after
 attribute_after-guarded edition u v r s h =
     guard-follow Equal Equal 125 (u ++ v) u (name edition r) (name edition s) _ _ (λ n rest. attribute_on-keeps edition n rest) (name-guarded edition (u ++ v) u r s h) (λ m n e c d j.
@@ -81,14 +81,14 @@ lang_end-keeps value text = keeps-follow text (byte 41 text) (λ x. lang_of valu
 lang_on-keeps : (text : List ℕ) → Keeps text (follow (all_before 41 text) (λ value next. follow (byte 41 next) (λ x. lang_of (trim value))))
 lang_on-keeps text = keeps-follow text (all_before 41 text) _ (length-past (λ b. not (b == 41)) text) (λ value next. lang_end-keeps (trim value) next)
 
-pub lang_after-guarded : (t u : List ℕ) → Guarded Equal 125 t u lang_after lang_after
+lang_after-guarded : (t u : List ℕ) → Guarded Equal 125 t u lang_after lang_after
 unfolding lang_after
 lang_after-guarded t u r s h =
     guard-follow Equal Equal 125 t u (byte 40 r) (byte 40 s) _ _ (λ x rest. lang_on-keeps rest) (byte-guarded 125 t u 40 r s h) (λ x y e c d j.
     guard-follow Equal Equal 125 t u (all_before 41 c) (all_before 41 d) _ _ (λ value rest. lang_end-keeps (trim value) rest) (all_before-guarded 125 t u 41 c d j) (λ x y e c d j.
     guard-follow Equal Equal 125 t u (byte 41 c) (byte 41 d) _ _ (λ z last. lang_of-keeps (trim x) last) (byte-guarded 125 t u 41 c d j) (λ a b f. lang_of-guarded t u (trim x) (trim y) (ap trim e))))
 
-pub pseudo_class_after-guarded : (edition : Edition) (t u : List ℕ) → Guarded Equal 125 t u (pseudo_class_after edition) (pseudo_class_after edition)
+pseudo_class_after-guarded : (edition : Edition) (t u : List ℕ) → Guarded Equal 125 t u (pseudo_class_after edition) (pseudo_class_after edition)
 unfolding pseudo_class_after
 pseudo_class_after-guarded edition t u r s h =
     guard-follow Equal Equal 125 t u (name edition r) (name edition s) pseudo_class_named pseudo_class_named (λ n rest. pseudo_class_named-keeps n rest) (name-guarded edition t u r s h) (λ m n e c d j.

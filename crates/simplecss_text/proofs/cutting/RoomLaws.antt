@@ -70,7 +70,7 @@ covered-encodes : (cs : List ℕ) → Covered (encode_utf8_all cs)
 covered-encodes [] = tt
 covered-encodes (c ∷ cs) = covered-encode c (encode_utf8_all cs) (covered-encodes cs)
 
-pub covered-utf8 : (text : List ℕ) → IsUtf8 text → Covered text
+covered-utf8 : (text : List ℕ) → IsUtf8 text → Covered text
 covered-utf8 text (cs, (s, e)) = subst Covered e (covered-encodes cs)
 
 -- the bytes past ASCII all stand before the next ASCII byte

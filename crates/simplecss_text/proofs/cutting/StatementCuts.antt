@@ -47,7 +47,7 @@ statement-ends edition (b ∷ text) rules rest e = by (b == 64) refl e
     by false f g = of_rules f g (rule_set-behind edition (b ∷ text))
 
 -- where the statements go on, and how the next one ends
-pub next_statement-ends : (edition : Edition) (text : List ℕ) (rules : List StyleRule) (rest : List ℕ) → next_statement edition text ≡ Some (rules, rest) → (ends_statements (past_blank text) ≡ false) × NextEnds edition (past_blank text) rules rest
+next_statement-ends : (edition : Edition) (text : List ℕ) (rules : List StyleRule) (rest : List ℕ) → next_statement edition text ≡ Some (rules, rest) → (ends_statements (past_blank text) ≡ false) × NextEnds edition (past_blank text) rules rest
 next_statement-ends edition text rules rest e = by (ends_statements (past_blank text)) refl e
   where
     by : (k : Bool) → ends_statements (past_blank text) ≡ k → (if k then None else Some (statement edition (past_blank text))) ≡ Some (rules, rest) → (ends_statements (past_blank text) ≡ false) × NextEnds edition (past_blank text) rules rest
@@ -114,7 +114,7 @@ utf8-front : (u v : List ℕ) → IsUtf8 (u ++ v) → IsUtf8 v → IsUtf8 u
 utf8-front u v whole rest = subst IsUtf8 (take-append_seam u v) (IsUtf8-take (u ++ v) (length u) whole (IsCharBoundary-at_seam (u ++ v) u v refl rest))
 
 -- a text and its front, from behind an ASCII byte on
-pub along-of : (g : ℕ) (u v w : List ℕ) → g < 128 → IsUtf8 (u ++ v) → Ends (u ++ v) (g ∷ (w ++ v)) → Along g (w ++ v) w (u ++ v) u
+along-of : (g : ℕ) (u v w : List ℕ) → g < 128 → IsUtf8 (u ++ v) → Ends (u ++ v) (g ∷ (w ++ v)) → Along g (w ++ v) w (u ++ v) u
 along-of g u v w l whole e =
     let front : List ℕ = before (u ++ v) (g ∷ (w ++ v)) in
     let parts : front ++ g ∷ (w ++ v) ≡ u ++ v = e in

@@ -19,7 +19,7 @@ use Rattle.simplecss_text.proofs.cutting.BlockEndGuards.{no_brace}
 use Rattle.simplecss_text.proofs.cutting.BlockCuts.{at_brace, none_broken}
 
 -- a run of bytes that pass ends at one that does not
-pub past-stops : (test : ℕ → Bool) (text : List ℕ) (b : ℕ) (rest : List ℕ) → past test text ≡ b ∷ rest → test b ≡ false
+past-stops : (test : ℕ → Bool) (text : List ℕ) (b : ℕ) (rest : List ℕ) → past test text ≡ b ∷ rest → test b ≡ false
 past-stops test [] b rest e = absurd (cc)
 past-stops test (c ∷ text) b rest e = by (test c) refl (past-stops test text b rest) e
   where
@@ -65,7 +65,7 @@ broken-behind edition text none = by (declaration edition text) (declaration-sta
     by (got property rest) h e = absurd (cc)
     by (fails fault rest) h e = behind-further text (past_byte 125 (from_block_end rest)) (behind-brace text (from_block_end rest) (ends-ends text rest (from_block_end rest) h.at (ends-from_block_end rest)) (at_brace rest))
 
-pub block-behind : (edition : Edition) (text : List ℕ) → BehindBrace text (block edition text).1
+block-behind : (edition : Edition) (text : List ℕ) → BehindBrace text (block edition text).1
 unfolding block
 block-behind edition text = by (ends_list a) refl
   where
@@ -81,7 +81,7 @@ block-behind edition text = by (ends_list a) refl
 
 -- ---- rule sets
 
-pub next_block-behind : (edition : Edition) (text : List ℕ) → BehindBrace text (next_block edition text).1
+next_block-behind : (edition : Edition) (text : List ℕ) → BehindBrace text (next_block edition text).1
 unfolding next_block
 next_block-behind edition text = by (starts 123 opened)
   where

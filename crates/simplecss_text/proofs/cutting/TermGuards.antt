@@ -41,7 +41,7 @@ past_unit-to edition t u names r s h =
     (past_one-along 125 t u r s h)
     (left-to Equal 125 t u (name edition r) (name edition s) (names r s h))
 
-pub past_number-to : (edition : Edition) (t u : List ℕ) → NamesGuarded edition 125 t u → (r s : List ℕ) → Along 125 t u r s → To 125 t u (past_number edition r) (past_number edition s)
+past_number-to : (edition : Edition) (t u : List ℕ) → NamesGuarded edition 125 t u → (r s : List ℕ) → Along 125 t u r s → To 125 t u (past_number edition r) (past_number edition s)
 unfolding past_number
 past_number-to edition t u names r s h =
     to-then 125 t u (past_unit edition) (past_unit edition) (length-past_unit edition) (past_decimals (past is_digit r)) (past_decimals (past is_digit s))

@@ -1,6 +1,6 @@
 -- Of ASCII bytes without a slash, both editions read the same rules.
-use Rattle.std.proofs.Common.{List, None, Option, Some, [], ap, arith, false, filter, if◌then◌else◌, map, not, refl, suc, ℕ, ◌++◌, ◌==◌, ◌||◌, ◌∙◌, ◌∷◌, ◌≡◌, sym}
-use Rattle.std.specs.List.{All, filter_map, flat_map}
+use Rattle.std.proofs.Common.{List, None, Option, Some, [], ap, false, filter, if◌then◌else◌, map, not, refl, ℕ, ◌++◌, ◌==◌, ◌||◌, ◌∙◌, ◌∷◌, ◌≡◌, sym}
+use Rattle.std.specs.List.{filter_map, flat_map}
 use Rattle.std.specs.Str.{trim}
 use Rattle.simplecss_text.specs.Reading.{Ends, Reading, always, before, each, follow, found, got, left_after}
 use Rattle.simplecss_text.specs.Bytes.{byte, is_digit, optional, past, past_byte, past_one, starts}
@@ -12,7 +12,7 @@ use Rattle.simplecss_text.specs.Components.{Component}
 use Rattle.simplecss_text.specs.Terms.{arguments, begins_number, is_slash_term, past_decimals, past_hash, past_number, past_unit, term, word}
 use Rattle.simplecss_text.specs.Declarations.{Property, after_term, declaration, last_or, term_in_value, terms, trailing, unless_empty, value}
 use Rattle.simplecss_text.specs.Blocks.{block, declaration_in_block, ends_list, past_broken, past_list}
-use Rattle.simplecss_text.specs.Statements.{StyleRule, ends_statements, has_property, kept, next_block, next_statement, part, part_and_comma, parts, past_at_name, past_at_rule, rule_set, statement, statements}
+use Rattle.simplecss_text.specs.Statements.{StyleRule, ends_statements, has_property, next_block, next_statement, part, part_and_comma, parts, past_at_name, past_at_rule, rule_set, statement, statements}
 use Rattle.simplecss_text.specs.Sheets.{ordered, sheet}
 use Rattle.simplecss_text.specs.Editions.{IsCommon, KeepsInBoth}
 use Rattle.simplecss_text.proofs.reading.EndsLaws.{EndsFound, each-ends, ends-ends, ends-past, ends-past_byte, ends-past_one}
@@ -139,17 +139,6 @@ unfolding statements
 keeps_in_both text h =
     ap (λ (r : List (List StyleRule) × List ℕ). filter has_property (flat_map (λ rules. rules) r.0))
     (each-editions (next_statement first_edition) (next_statement second_edition) next_statement-editions (next_statement-found first_edition) text (shared-from text h))
-
--- and the same sheet of several such texts
-pub sheet_in_both : (texts : List (List ℕ)) → All IsCommon texts → sheet first_edition texts ≡ sheet second_edition texts
-sheet_in_both texts h = ap ordered (by texts h)
-  where
-    by : (ts : List (List ℕ)) → All IsCommon ts → flat_map (kept first_edition) ts ≡ flat_map (kept second_edition) ts
-    by [] k = refl
-    by (t ∷ ts) k =
-        let one : KeepsInBoth t = keeps_in_both t (k 0 [] (omega arith)) in
-        ap (λ (rules : List StyleRule). rules ++ flat_map (kept first_edition) ts) one
-        ∙ ap (λ (rules : List StyleRule). kept second_edition t ++ rules) (by ts (λ i d l. k (suc i) d (omega arith)))
 
 -- any two editions give the same sheet of one such text
 pub sheet-editions : (one other : Edition) (text : List ℕ) → IsCommon text → sheet one (text ∷ []) ≡ sheet other (text ∷ [])

@@ -222,7 +222,7 @@ rises_from_all : {X : Type 0} (P : X → Type 0) (xs : List X) → ((k : ℕ) (d
 rises_from_all P [] h = tt
 rises_from_all P (x ∷ xs) h = (h 0 x (omega arith), rises_from_all P xs (λ k d w. h (suc k) d (omega arith)))
 
-pub rises_from_sorted : {X : Type 0} (lt : X → X → Bool) (o : IsStrictWeakOrder lt) (ys : List X) → IsSortedBy lt ys → Rises lt ys
+rises_from_sorted : {X : Type 0} (lt : X → X → Bool) (o : IsStrictWeakOrder lt) (ys : List X) → IsSortedBy lt ys → Rises lt ys
 rises_from_sorted lt o [] s = tt
 rises_from_sorted lt o (y ∷ ys) s = (
   rises_from_all (λ x. lt x y ≡ false) ys (λ k d w. sorted_far lt o (y ∷ ys) s 0 (suc k) d (omega arith) (omega arith)),

@@ -49,7 +49,7 @@ IfBehind c text None = Unit {0}
 IfBehind c text (Some rest) = (front : List ℕ) × (text ≡ front ++ (c ∷ rest))
 
 -- one byte more in front
-pub behind-later : (c b : ℕ) (text : List ℕ) (o : Option (List ℕ)) → IfBehind c text o → IfBehind c (b ∷ text) o
+behind-later : (c b : ℕ) (text : List ℕ) (o : Option (List ℕ)) → IfBehind c text o → IfBehind c (b ∷ text) o
 behind-later c b text None h = tt
 behind-later c b text (Some rest) h = (b ∷ h.0, ap (λ l. b ∷ l) h.1)
 

@@ -8,7 +8,7 @@ use Rattle.simplecss_text.proofs.printed.PrintedSelectors.{Goes, IsSelector, pri
 use Rattle.simplecss_text.proofs.printed.UncleanSelectors.{printed-differs}
 
 -- a selector that reads back is clean
-pub clean-from_reads : (edition : Edition) (s : List Component) (tail left : List ℕ) → IsSelector edition s tail → Goes edition tail [] left → reads edition (selector_text s ++ tail) ≡ (Some s, left) → is_clean s ≡ true
+clean-from_reads : (edition : Edition) (s : List Component) (tail left : List ℕ) → IsSelector edition s tail → Goes edition tail [] left → reads edition (selector_text s ++ tail) ≡ (Some s, left) → is_clean s ≡ true
 clean-from_reads edition s tail left w g e = by (is_clean s) refl
   where
     by : (t : Bool) → is_clean s ≡ t → t ≡ true

@@ -44,7 +44,7 @@ pub past_blank-utf8 : (text : List ℕ) → IsUtf8 text → IsUtf8 (past_blank t
 past_blank-utf8 text u = (each-all Anything IsUtf8 blank_part blank_part-utf8 text u).1
 
 -- the same of a reading
-pub blank-utf8 : (text : List ℕ) → IsUtf8 text → IfGot (λ x rest. IsUtf8 rest) (blank text)
+blank-utf8 : (text : List ℕ) → IsUtf8 text → IfGot (λ x rest. IsUtf8 rest) (blank text)
 unfolding blank
 blank-utf8 text u = if_got-if (λ x rest. IsUtf8 rest) (opens_comment (past_blank text)) (fails (no_comment (past_blank text)) []) (got tt (past_blank text)) (λ e. tt) (λ e. past_blank-utf8 text u)
 

@@ -43,7 +43,7 @@ name-gives : (edition : Edition) (text : List ℕ) → IsUtf8 text → IfGot (λ
 name-gives edition text u = if_got (λ n rest. ReadName edition text n rest) (name edition text) (λ n rest e. name-is edition text n rest u e)
 
 -- a name that was read is a value of an attribute
-pub read_name-value : (edition : Edition) (text n rest : List ℕ) → ReadName edition text n rest → IsValue n
+read_name-value : (edition : Edition) (text n rest : List ℕ) → ReadName edition text n rest → IsValue n
 read_name-value edition text n rest w = elim (w.is) [ inl i ↦ name-value_is edition n i | inr h ↦ subst IsValue (sym h.0) refl ]
 
 named-gives : (edition : Edition) (token : List ℕ → Token) (text : List ℕ) → ((n rest : List ℕ) → ReadName edition text n rest → GoodToken edition (token n) rest) → IsUtf8 text → IfGot (ReadToken edition) (named edition token text)

@@ -46,7 +46,7 @@ pub record OtherOperator (edition : Edition) (o : Operator) (tail : List ℕ) : 
   pub reads : attribute_operator edition (operator_text o ++ (93 ∷ tail)) ≡ got other rest
 
 -- one that is not clean is cut short
-pub operator-cut : (edition : Edition) (o : Operator) (tail : List ℕ) → is_clean_operator o ≡ false → OtherOperator edition o tail
+operator-cut : (edition : Edition) (o : Operator) (tail : List ℕ) → is_clean_operator o ≡ false → OtherOperator edition o tail
 unfolding attribute_operator value_of
 operator-cut edition exists tail c = absurd (cc)
 operator-cut edition (equals v) tail c =

@@ -27,7 +27,7 @@ length-up_to {A = A} read (suc n) text = by (λ rest. length-up_to read n rest) 
     by more None = omega arith
     by more (Some x) = omega (arith, more x.1)
 
-pub length-each : {A : Type 0} (read : List ℕ → Option (A × List ℕ)) (text : List ℕ) → length (each read text).0 ≤ length text
+length-each : {A : Type 0} (read : List ℕ → Option (A × List ℕ)) (text : List ℕ) → length (each read text).0 ≤ length text
 unfolding each
 length-each read text = length-up_to read (length text) text
 

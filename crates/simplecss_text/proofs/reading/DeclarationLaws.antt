@@ -23,11 +23,11 @@ closed_or-keeps : (text : List ℕ) (fault : Fault) (o : Option (List ℕ)) → 
 closed_or-keeps text fault None h = omega arith
 closed_or-keeps text fault (Some rest) h = h
 
-pub length-past_hash : (text : List ℕ) (r : Reading (List ℕ)) → Keeps text r → length (past_hash r) ≤ length text
+length-past_hash : (text : List ℕ) (r : Reading (List ℕ)) → Keeps text r → length (past_hash r) ≤ length text
 length-past_hash text (got n rest) h = h
 length-past_hash text (fails fault rest) h = omega (arith, length-past is_hex_digit rest)
 
-pub length-past_decimals : (text : List ℕ) → length (past_decimals text) ≤ length text
+length-past_decimals : (text : List ℕ) → length (past_decimals text) ≤ length text
 length-past_decimals text = by (starts 46 text)
   where
     by : (t : Bool) → length (if t then past is_digit (past_one text) else text) ≤ length text
@@ -38,7 +38,7 @@ pub length-left_after : {A : Type 0} (text : List ℕ) (r : Reading A) → Keeps
 length-left_after text (got x rest) h = h
 length-left_after text (fails fault rest) h = h
 
-pub name-keeps : (edition : Edition) (text : List ℕ) → Keeps text (name edition text)
+name-keeps : (edition : Edition) (text : List ℕ) → Keeps text (name edition text)
 name-keeps edition text = cuts-keeps text (name edition text) (name-cuts edition text)
 
 pub length-past_unit : (edition : Edition) (text : List ℕ) → length (past_unit edition text) ≤ length text
@@ -48,7 +48,7 @@ length-past_unit edition text = by (starts 37 text)
     by true = length-past_one text
     by false = length-left_after text (name edition text) (name-keeps edition text)
 
-pub length-past_number : (edition : Edition) (text : List ℕ) → length (past_number edition text) ≤ length text
+length-past_number : (edition : Edition) (text : List ℕ) → length (past_number edition text) ≤ length text
 unfolding past_number
 length-past_number edition text = omega (arith, length-past is_digit text, length-past_decimals (past is_digit text), length-past_unit edition (past_decimals (past is_digit text)))
 
@@ -59,7 +59,7 @@ word-cuts : (edition : Edition) (text : List ℕ) → Cuts text (word edition te
 unfolding word
 word-cuts edition text = cuts-follow text (name edition text) (λ n. arguments) (name-cuts edition text) (λ n rest. arguments-keeps rest)
 
-pub quoted-keeps : (quote : ℕ) (text : List ℕ) → Keeps text (quoted quote text)
+quoted-keeps : (quote : ℕ) (text : List ℕ) → Keeps text (quoted quote text)
 quoted-keeps quote text = keeps-follow text (string_after quote text) _ (string_up_to-keeps text (from_quote quote quote text) (from_quote-leaves quote quote text)) (λ inside rest. omega arith)
 
 -- a term takes a byte or more

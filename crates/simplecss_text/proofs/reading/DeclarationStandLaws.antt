@@ -2,32 +2,32 @@
 use Rattle.std.proofs.Common.{Bool, List, None, Option, Some, [], codes, drop, eqb, false, if◌then◌else◌, length, true, ℕ, ◌==◌, ◌||◌, ◌∷◌}
 use Rattle.std.specs.List.{starts_with}
 use Rattle.simplecss_text.specs.Reading.{Ends, Fault, Reader, Reading, ended, fails, follow, found, got, left_after}
-use Rattle.simplecss_text.specs.Bytes.{after_byte, byte, closed_or, is_digit, optional, past, past_one, starts, past_byte}
+use Rattle.simplecss_text.specs.Bytes.{after_byte, byte, closed_or, is_digit, optional, past, past_one, starts}
 use Rattle.simplecss_text.specs.Characters.{Edition}
 use Rattle.simplecss_text.specs.Comments.{blank, past_blank}
 use Rattle.simplecss_text.specs.Names.{name}
 use Rattle.simplecss_text.specs.Strings.{from_quote, is_quote, string_after}
 use Rattle.simplecss_text.specs.Terms.{arguments, begins_number, is_hex_digit, is_slash_term, past_decimals, past_hash, past_number, past_unit, quoted, term, word}
 use Rattle.simplecss_text.specs.Declarations.{Property, after_mark, after_term, declaration, importance, important_word, next_declaration, semicolon, semicolons, term_in_value, terms, trailing, unless_empty, value, value_reader}
-use Rattle.simplecss_text.specs.Blocks.{block_end, declaration_in_block, ends_list, from_block_end, past_broken, past_list}
+use Rattle.simplecss_text.specs.Blocks.{block_end, declaration_in_block, ends_list, from_block_end}
 use Rattle.simplecss_text.proofs.reading.EndsLaws.{EndsFound, EndsSome, Stands, each-ends, ends-cons, ends-drop, ends-ends, ends-nil, ends-past, ends-past_byte, ends-past_one, ends-same, ends-tail, ends_some-ends, ends_some-if, itself, no_texts, stands-ends, stands-follow, stands-from, stands-if, stands-unseen}
 use Rattle.simplecss_text.proofs.reading.StandLaws.{blank-stands, byte-stands, ends-past_blank, from_quote-ends, name-stands, string_up_to-stands}
 
-pub after_byte-ends : (c : ℕ) (text : List ℕ) → EndsSome text (after_byte c text)
+after_byte-ends : (c : ℕ) (text : List ℕ) → EndsSome text (after_byte c text)
 after_byte-ends c [] = tt
 after_byte-ends c (b ∷ text) =
     ends_some-if (b ∷ text) (b == c) (Some text) (after_byte c text) (ends-tail b text)
     (ends_some-ends (b ∷ text) text (after_byte c text) (ends-tail b text) (after_byte-ends c text))
 
-pub closed_or-stands : (text : List ℕ) (fault : Fault) (o : Option (List ℕ)) → EndsSome text o → Stands text no_texts (closed_or fault o)
+closed_or-stands : (text : List ℕ) (fault : Fault) (o : Option (List ℕ)) → EndsSome text o → Stands text no_texts (closed_or fault o)
 closed_or-stands text fault None h = record { at = ends-nil text }
 closed_or-stands text fault (Some rest) h = record { at = h }
 
 -- one thing after another, where no text is seen
-pub stands-next : {A B : Type 0} (text : List ℕ) (r : Reading A) (next : A → Reader B) → Stands text no_texts r → ((x : A) (rest : List ℕ) → Stands rest no_texts (next x rest)) → Stands text no_texts (follow r next)
+stands-next : {A B : Type 0} (text : List ℕ) (r : Reading A) (next : A → Reader B) → Stands text no_texts r → ((x : A) (rest : List ℕ) → Stands rest no_texts (next x rest)) → Stands text no_texts (follow r next)
 stands-next text r next h more = stands-follow text no_texts no_texts r next h (λ x rest e k. stands-from text rest no_texts (next x rest) k (more x rest))
 
-pub stands-give : {A : Type 0} (text : List ℕ) (x : A) → Stands text no_texts (got x text)
+stands-give : {A : Type 0} (text : List ℕ) (x : A) → Stands text no_texts (got x text)
 stands-give text x = record { at = ends-same text }
 
 pub name_unseen-stands : (edition : Edition) (text : List ℕ) → Stands text no_texts (name edition text)
@@ -35,7 +35,7 @@ name_unseen-stands edition text = stands-unseen text itself (name edition text) 
 
 -- ---- terms
 
-pub ends-past_hash : (text : List ℕ) (r : Reading (List ℕ)) → Stands text no_texts r → Ends text (past_hash r)
+ends-past_hash : (text : List ℕ) (r : Reading (List ℕ)) → Stands text no_texts r → Ends text (past_hash r)
 ends-past_hash text (got n rest) h = h.at
 ends-past_hash text (fails fault rest) h = ends-ends text rest (past is_hex_digit rest) h.at (ends-past is_hex_digit rest)
 
@@ -88,7 +88,7 @@ term_in_value-ends edition text = by (term edition text) (term-stands edition te
 pub ends-terms : (edition : Edition) (text : List ℕ) → Ends text (terms edition text).1
 ends-terms edition text = each-ends (term_in_value edition) (term_in_value-ends edition) text
 
-pub value-stands : (edition : Edition) (text : List ℕ) → Stands text no_texts (value_reader edition text)
+value-stands : (edition : Edition) (text : List ℕ) → Stands text no_texts (value_reader edition text)
 unfolding value
 value-stands edition text =
     let rest = (terms edition text).1 in
@@ -148,11 +148,11 @@ declaration-stands edition text =
 
 -- ---- blocks
 
-pub ends-found : {A : Type 0} (text : List ℕ) (r : Reading A) → Stands text no_texts r → EndsFound text (found r)
+ends-found : {A : Type 0} (text : List ℕ) (r : Reading A) → Stands text no_texts r → EndsFound text (found r)
 ends-found text (got x rest) h = h.at
 ends-found text (fails fault rest) h = tt
 
-pub next_declaration-ends : (edition : Edition) (text : List ℕ) → EndsFound text (next_declaration edition text)
+next_declaration-ends : (edition : Edition) (text : List ℕ) → EndsFound text (next_declaration edition text)
 next_declaration-ends edition text = ends-found text (declaration edition text) (declaration-stands edition text)
 
 pub declaration_in_block-ends : (edition : Edition) (text : List ℕ) → EndsFound text (declaration_in_block edition text)
@@ -164,12 +164,3 @@ declaration_in_block-ends edition text = by (ends_list text)
 
 pub ends-from_block_end : (text : List ℕ) → Ends text (from_block_end text)
 ends-from_block_end text = ends-drop (block_end text) text
-
-pub ends-past_broken : (text : List ℕ) (r : Reading Property) → Stands text no_texts r → Ends text (past_broken r)
-ends-past_broken text (got property rest) h = h.at
-ends-past_broken text (fails fault rest) h =
-    ends-ends text rest (past_byte 125 (from_block_end rest)) h.at
-    (ends-ends rest (from_block_end rest) (past_byte 125 (from_block_end rest)) (ends-from_block_end rest) (ends-past_byte 125 (from_block_end rest)))
-
-pub ends-past_list : (edition : Edition) (text : List ℕ) → Ends text (past_list edition text)
-ends-past_list edition text = ends-if text (ends_list text) text (past_broken (declaration edition text)) (ends-same text) (ends-past_broken text (declaration edition text) (declaration-stands edition text))

@@ -66,11 +66,11 @@ descends-fault edition text start after fault g s no_stop no_slash =
     ∙ ap (λ rest. token_then descendant_combinator start rest) (sym (run_from-ending edition open_left start after fault (piece-fault edition start start after false fault again s)))
 
 -- at a stop and at a slash stands no piece
-pub solid-stop : (edition : Edition) (start : List ℕ) → is_stop start ≡ true → solid edition start ≡ fails no_selector start
+solid-stop : (edition : Edition) (start : List ℕ) → is_stop start ≡ true → solid edition start ≡ fails no_selector start
 unfolding solid
 solid-stop edition start e = rw e refl
 
-pub solid-slash : (edition : Edition) (start : List ℕ) → is_stop start ≡ false → starts 47 start ≡ true → solid edition start ≡ fails no_selector start
+solid-slash : (edition : Edition) (start : List ℕ) → is_stop start ≡ false → starts 47 start ≡ true → solid edition start ≡ fails no_selector start
 unfolding solid
 solid-slash edition start no_stop e = rw (no_stop, e) refl
 

@@ -46,7 +46,7 @@ answered-two ends_tokens start next h = omega arith
 answered-two (refuses fault after) start next h = omega arith
 
 -- a run has at most two faults
-pub run-two : (left : Left) (ps : List Piece) (end : Ending) → fault_count (run left ps end) ≤ 2
+run-two : (left : Left) (ps : List Piece) (end : Ending) → fault_count (run left ps end) ≤ 2
 run-two left [] end = answered-two (before_ending left end) (start_of end) (ending_run (left_with (before_ending left end) left) end) (ending-two (left_with (before_ending left end) left) end)
 run-two left (p ∷ ps) end = answered-two (before_piece left p) p.start (token_then p.token p.after (run (left_behind p.token) ps end)) (run-two (left_behind p.token) ps end)
 

@@ -40,7 +40,7 @@ pub keeps-cuts : {A : Type 0} (text longer : List ℕ) (r : Reading A) → lengt
 keeps-cuts text longer (got x rest) l h = omega arith
 keeps-cuts text longer (fails fault rest) l h = omega arith
 
-pub cuts-longer : {A : Type 0} (text longer : List ℕ) (r : Reading A) → length text ≤ length longer → Cuts text r → Cuts longer r
+cuts-longer : {A : Type 0} (text longer : List ℕ) (r : Reading A) → length text ≤ length longer → Cuts text r → Cuts longer r
 cuts-longer text longer (got x rest) l h = omega arith
 cuts-longer text longer (fails fault rest) l h = omega arith
 
@@ -112,7 +112,7 @@ blank_part-takes (b ∷ text) = by (is_space b) (opens_comment (b ∷ text)) (af
     by false true (Some rest) h = omega arith
     by false false c h = tt
 
-pub up_to-within : {A : Type 0} (read : List ℕ → Option (A × List ℕ)) → Takes read → (n : ℕ) (text : List ℕ) → length (up_to n read text).1 ≤ length text
+up_to-within : {A : Type 0} (read : List ℕ → Option (A × List ℕ)) → Takes read → (n : ℕ) (text : List ℕ) → length (up_to n read text).1 ≤ length text
 up_to-within read takes zero text = omega arith
 up_to-within {A = A} read takes (suc n) text = by (λ t. up_to-within read takes n t) (read text) (takes text)
   where
@@ -151,7 +151,7 @@ pub first_of_name : (edition : Edition) (c : ℕ) (cs : List ℕ) → begins_nam
 first_of_name edition c [] h = either_way (is_name_start edition c) (is_digit c) (c == 45) h
 first_of_name edition c (d ∷ cs) h = either_way_and (is_name_start edition c) (is_digit c) (c == 45) (is_name_start edition d) h
 
-pub name_bytes : (edition : Edition) (cs : List ℕ) → begins_name edition cs ≡ true → 0 < length (encode_utf8_all (take_while (is_name_char edition) cs))
+name_bytes : (edition : Edition) (cs : List ℕ) → begins_name edition cs ≡ true → 0 < length (encode_utf8_all (take_while (is_name_char edition) cs))
 name_bytes edition [] h = absurd (cc)
 name_bytes edition (c ∷ cs) h =
     let more : 1 + prefix_len (is_name_char edition) cs ≡ suc (prefix_len (is_name_char edition) cs) = omega arith in
@@ -188,7 +188,7 @@ pub string_up_to-keeps : (text : List ℕ) (o : Option (List ℕ)) → Leaves te
 string_up_to-keeps text None h = omega arith
 string_up_to-keeps text (Some closing) h = omega (arith, length-past_one closing)
 
-pub string_or_name-cuts : (edition : Edition) (text : List ℕ) → Cuts text (string_or_name edition text)
+string_or_name-cuts : (edition : Edition) (text : List ℕ) → Cuts text (string_or_name edition text)
 unfolding string_or_name
 string_or_name-cuts edition [] = omega arith
 string_or_name-cuts edition (b ∷ text) =
@@ -199,7 +199,7 @@ string_or_name-cuts edition (b ∷ text) =
 pub string_or_name-keeps : (edition : Edition) (text : List ℕ) → Keeps text (string_or_name edition text)
 string_or_name-keeps edition text = cuts-keeps text (string_or_name edition text) (string_or_name-cuts edition text)
 
-pub equated-keeps : (edition : Edition) (operator : List ℕ → Operator) (text : List ℕ) → Keeps text (equated edition operator text)
+equated-keeps : (edition : Edition) (operator : List ℕ → Operator) (text : List ℕ) → Keeps text (equated edition operator text)
 equated-keeps edition operator text =
     keeps-follow text (byte 61 text) _ (cuts-keeps text (byte 61 text) (byte-cuts 61 text)) (λ u rest.
     keeps-follow rest (string_or_name edition rest) (λ value. got (operator value)) (string_or_name-keeps edition rest) (λ value last. omega arith))
@@ -263,7 +263,7 @@ pub solid-cuts : (edition : Edition) (text : List ℕ) → Cuts text (solid edit
 unfolding solid
 solid-cuts edition text = cuts-if text (is_stop text || starts 47 text) (fails no_selector text) (begun edition text) (omega arith) (begun-cuts edition text)
 
-pub piece-cuts : (edition : Edition) (text : List ℕ) → Cuts text (piece edition text)
+piece-cuts : (edition : Edition) (text : List ℕ) → Cuts text (piece edition text)
 unfolding piece
 piece-cuts edition text =
     follow-cuts text (gap text) _ (gap-keeps text) (λ spaced start.
