@@ -1,4 +1,5 @@
 -- What is found by looking through the bytes of a text.
+-- Serves `scan::{close_len, find_byte}` (where a byte or the end of a comment is found first).
 use Rattle.std.proofs.Common.{◌≡◌, ◌≢◌, ℕ, zero, suc, ◌+◌, ◌<◌, ◌≤◌, Bool, true, false, ◌&&◌, ◌==◌, List, [], ◌∷◌, length, drop, Option, Some, None, MatchOption, arith, refl, sym, eqb-true, eq-eqb, add-one, subst, get_or}
 use Rattle.simplecss_text.specs.Bytes.{starts_two, after_byte}
 use Rattle.simplecss_text.specs.Comments.{after_close}

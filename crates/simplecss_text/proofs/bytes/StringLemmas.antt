@@ -1,4 +1,5 @@
 -- Strings.
+-- Serves `readers::take_string` (a string up to its closing quote).
 use Rattle.std.proofs.Common.{◌≡◌, ℕ, ◌+◌, ◌-◌, ◌<◌, ◌≤◌, List, length, take, drop, Some, arith, refl, ap, ◌∙◌, length-drop, add-one, drop-cons}
 use Rattle.simplecss_text.specs.Reading.{got, before}
 use Rattle.simplecss_text.specs.Bytes.{past_one}

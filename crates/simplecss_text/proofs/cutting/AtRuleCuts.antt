@@ -1,4 +1,5 @@
 -- An at-rule ends at the same place where the text is cut there.
+-- Serves `StyleSheet::parse_more` and `laws::cutting_law` (a text read in pieces).
 use Rattle.std.proofs.Common.{Bool, List, [], ap, arith, false, if◌then◌else◌, inl, inr, length, refl, subst, true, ℕ, ◌&&◌, ◌++◌, ◌<◌, ◌==◌, ◌||◌, ◌∙◌, ◌∷◌, ◌≡◌, IsUtf8, encode_utf8_all, eqb-true, sym, length-append, ◌≤◌}
 use Rattle.std.proofs.lemmas.List.{append_cancel_right}
 use Rattle.std.proofs.lemmas.Str.{byte_from_char, chars-append, chars-nil, encodes-chars}

@@ -1,4 +1,5 @@
 -- A block reads the same where the text is cut behind it or later.
+-- Serves `StyleSheet::parse_more` and `laws::cutting_law` (a text read in pieces).
 use Rattle.std.proofs.Common.{◌≡◌, ℕ, zero, suc, ◌<◌, ◌≤◌, List, [], ◌∷◌, ◌++◌, Bool, true, false, if◌then◌else◌, ◌==◌, ◌&&◌, length, drop, slice_index, None, arith, refl, ap, ◌∙◌, ◌⊎◌, inl, inr, drop_of_length-le}
 use Rattle.simplecss_text.specs.Reading.{Reading, got, fails, each, found, left_after}
 use Rattle.simplecss_text.specs.Bytes.{past_byte, starts}

@@ -1,4 +1,5 @@
 -- A block read on from a text whose brace it does not pass.
+-- Serves `StyleSheet::parse_more` and `laws::cutting_law` (a text read in pieces).
 use Rattle.std.proofs.Common.{◌≡◌, ℕ, ◌≤◌, List, ◌++◌, Bool, true, false, if◌then◌else◌, length, None, arith, refl, inl, inr}
 use Rattle.simplecss_text.specs.Reading.{Reading, got, fails, each, found, left_after}
 use Rattle.simplecss_text.specs.Characters.{Edition}

@@ -1,4 +1,5 @@
 -- Cutting a text where a statement of it ends.
+-- Serves `StyleSheet::parse_more` and `laws::cutting_law` (a text read in pieces).
 use Rattle.std.proofs.Common.{Bool, IsUtf8, List, None, Option, Some, [], ap, append_assoc, arith, false, filter, get_or, if◌then◌else◌, length, refl, subst, sym, true, ℕ, ◌++◌, ◌<◌, ◌∙◌, ◌∷◌, ◌≡◌, drop, inl, inr, suc, take, zero}
 use Rattle.std.proofs.lemmas.Grind.{flat_map-append}
 use Rattle.std.proofs.lemmas.List.{append_cancel_left, get_or-map, length-map, append-nil, take-append-drop}

@@ -1,4 +1,5 @@
 -- Values and declarations are guarded by a closing brace.
+-- Serves `StyleSheet::parse_more` and `laws::cutting_law` (a text read in pieces).
 use Rattle.std.proofs.Common.{◌≡◌, ℕ, ◌≤◌, List, [], ◌∷◌, ◌++◌, Bool, true, false, if◌then◌else◌, ◌==◌, ◌&&◌, length, drop, Some, None, arith, refl, ap, ◌⊎◌, inl, inr, codes, eqb}
 use Rattle.std.specs.List.{starts_with}
 use Rattle.std.specs.Str.{trim}

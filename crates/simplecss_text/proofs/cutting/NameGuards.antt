@@ -1,4 +1,5 @@
 -- Names are guarded by a byte that is no name character.
+-- Serves `StyleSheet::parse_more` and `laws::cutting_law` (a text read in pieces).
 use Rattle.std.proofs.Common.{◌≡◌, ℕ, zero, suc, ◌+◌, ◌-◌, ◌<◌, ◌≤◌, ◌*◌, List, [], ◌∷◌, Bool, true, false, ◌==◌, length, drop, arith, refl, ap, inl, inr, one-add, encode_utf8_all, length-drop, lit<}
 use Rattle.std.specs.List.{prefix_len, take_while}
 use Rattle.std.specs.Str.{chars, chars_after, continuation_len, lead_bits}

@@ -1,4 +1,5 @@
 -- The pieces of a selector are guarded by a closing brace.
+-- Serves `StyleSheet::parse_more` and `laws::cutting_law` (a text read in pieces).
 use Rattle.std.proofs.Common.{◌≡◌, ℕ, List, ◌∷◌, ◌++◌, Bool, true, false, if◌then◌else◌, ◌==◌, arith, refl, ap, inr, [], bytes_eq, codes, inl, length, not, ◌≤◌}
 use Rattle.std.specs.List.{list_any}
 use Rattle.std.specs.Str.{trim}

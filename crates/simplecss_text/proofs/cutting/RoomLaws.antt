@@ -1,4 +1,5 @@
 -- In the UTF-8 of some characters none of them reaches over an ASCII byte.
+-- Serves `StyleSheet::parse_more` and `laws::cutting_law` (a text read in pieces).
 use Rattle.std.proofs.Common.{Bool, IsUtf8, List, [], arith, encode_utf8_all, false, inl, inr, length, length-append, ltb-true, nat_lt, refl, subst, suc, true, zero, ℕ, ◌%◌, ◌++◌, ◌+◌, ◌/◌, ◌<◌, ◌∷◌, ◌≡◌, ◌≤◌, ◌⊎◌}
 use Rattle.std.proofs.lemmas.Bool.Decides.{nat_tests}
 use Rattle.std.specs.Str.{continuation_len, lead_bits}

@@ -1,4 +1,5 @@
 -- Selectors are guarded by a closing brace.
+-- Serves `StyleSheet::parse_more` and `laws::cutting_law` (a text read in pieces).
 use Rattle.std.proofs.Common.{Bool, List, [], arith, bytes_eq, codes, false, if◌then◌else◌, inl, inr, length, refl, subst, suc, true, ℕ, ◌++◌, ◌==◌, ◌∷◌, ◌≡◌, ◌≤◌, zero}
 use Rattle.std.specs.Str.{trim}
 use Rattle.simplecss_text.specs.Reading.{Fault, Reader, Reading, fails, follow, got, no_language, left_after}

@@ -1,4 +1,5 @@
 -- Terms and what stands behind a value are guarded by a closing brace, if names are.
+-- Serves `StyleSheet::parse_more` and `laws::cutting_law` (a text read in pieces).
 use Rattle.std.proofs.Common.{◌≡◌, ℕ, List, ◌∷◌, ◌++◌, Bool, true, false, if◌then◌else◌, ◌==◌, ◌&&◌, ◌||◌, not, arith, refl, ap, inl, inr}
 use Rattle.simplecss_text.specs.Reading.{ended, Reading, got, fails}
 use Rattle.simplecss_text.specs.Bytes.{past, past_one, starts, after_byte, is_digit}

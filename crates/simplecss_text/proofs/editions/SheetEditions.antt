@@ -1,4 +1,5 @@
 -- Of ASCII bytes without a slash, both editions read the same rules.
+-- Serves `StyleSheet::parse` and `laws::edition_law` (both editions on ASCII texts without a slash).
 use Rattle.std.proofs.Common.{List, None, Option, Some, [], ap, false, filter, if◌then◌else◌, map, not, refl, ℕ, ◌++◌, ◌==◌, ◌||◌, ◌∙◌, ◌∷◌, ◌≡◌, sym}
 use Rattle.std.specs.List.{filter_map, flat_map}
 use Rattle.std.specs.Str.{trim}

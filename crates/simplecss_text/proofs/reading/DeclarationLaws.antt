@@ -1,4 +1,5 @@
 -- Terms, declarations and blocks take bytes.
+-- Serves `DeclarationTokenizer`, `take_value` and `consume_declarations` (their loops end), and `laws::cutting_law`.
 use Rattle.std.proofs.Common.{ℕ, ◌≤◌, List, [], ◌∷◌, Bool, true, false, if◌then◌else◌, ◌||◌, ◌==◌, length, Option, Some, None, arith, length-drop, codes, eqb}
 use Rattle.std.specs.List.{starts_with}
 use Rattle.simplecss_text.specs.Reading.{Fault, ended, Reading, got, fails, each, left_after}

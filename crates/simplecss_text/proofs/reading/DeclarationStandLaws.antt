@@ -1,4 +1,5 @@
 -- What is left after a term, a value, a declaration or a block is an end of the text.
+-- Serves `take_value` and `consume_declaration` (values are slices in order), `laws::cutting_law` and `laws::edition_law`.
 use Rattle.std.proofs.Common.{Bool, List, None, Option, Some, [], codes, drop, eqb, false, if◌then◌else◌, length, true, ℕ, ◌==◌, ◌||◌, ◌∷◌}
 use Rattle.std.specs.List.{starts_with}
 use Rattle.simplecss_text.specs.Reading.{Ends, Fault, Reader, Reading, ended, fails, follow, found, got, left_after}

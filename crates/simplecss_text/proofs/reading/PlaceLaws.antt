@@ -1,4 +1,5 @@
 -- The place of a cursor, as what is left to read tells it.
+-- Serves `next` of both tokenizers (the place never falls).
 use Rattle.std.proofs.Common.{◌≡◌, ◌≤◌, List, ℕ, length, arith, ap, length-drop}
 use Rattle.simplecss_text.specs.Reading.{Ends}
 use Rattle.simplecss_text.specs.Cursor.{text_of, place_of, rest_of}

@@ -1,4 +1,5 @@
 -- The run of a text, piece by piece.
+-- Serves `SelectorTokenizer`, `Selector::parse_front` and `laws::at_most_two_errors` (the run of a text).
 use Rattle.std.proofs.Common.{◌≡◌, ℕ, ◌≤◌, List, [], ◌∷◌, None, Some, arith, refl, ap}
 use Rattle.simplecss_text.specs.Reading.{Fault, got, fails, found, followed_by, each}
 use Rattle.simplecss_text.specs.Characters.{Edition}

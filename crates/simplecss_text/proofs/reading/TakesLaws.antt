@@ -1,4 +1,5 @@
 -- What is read takes bytes, and never leaves more than there was.
+-- Serves every loop that reads: the tokenizers, `take_value`, `consume_declarations` and `read_rules` (each turn takes a byte).
 use Rattle.std.proofs.Common.{◌≡◌, ℕ, zero, suc, ◌+◌, ◌<◌, ◌≤◌, List, [], ◌∷◌, Bool, true, false, if◌then◌else◌, ◌||◌, ◌&&◌, ◌==◌, not, bytes_eq, length, take, drop, Option, Some, None, arith, refl, length-append, length-drop, encode_utf8, encode_utf8_all, codes}
 use Rattle.std.specs.Str.{chars, trim}
 use Rattle.std.specs.Option.{option_map}
