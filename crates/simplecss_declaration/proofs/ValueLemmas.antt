@@ -12,7 +12,7 @@ use Rattle.simplecss_text.specs.Terms.{term}
 use Rattle.simplecss_text.specs.Declarations.{after_term, term_in_value, last_or, value, semicolon, trailing}
 use Rattle.simplecss_text.proofs.reading.EndsLaws.{no_texts, itself, ends-ends, ends-got, ends-past_byte, stands-got, stand-from, stand-to, stand-append}
 use Rattle.simplecss_text.proofs.reading.StandLaws.{blank-stands, byte-stands, name-stands}
-use Rattle.simplecss_text.proofs.reading.DeclarationStandLaws.{trailing-stands}
+use Rattle.simplecss_text.proofs.reading.DeclarationsLawful.{trailing-stands}
 use Rattle.simplecss_text.proofs.reading.EachLaws.{took, each-none, each-some}
 use Rattle.simplecss_text.proofs.reading.DeclarationLaws.{term_in_value-takes, semicolon-takes}
 

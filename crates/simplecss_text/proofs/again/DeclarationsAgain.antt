@@ -14,8 +14,7 @@ use Rattle.simplecss_text.specs.Declarations.{Property, last_or, terms, value, i
 use Rattle.simplecss_text.specs.Printing.{important_text, property_text}
 use Rattle.simplecss_text.specs.PrintingLaws.{IsNarrow, DeclarationReadsBack}
 use Rattle.simplecss_text.proofs.reading.EndsLaws.{before-append, ends-past_byte, Stands, no_texts}
-use Rattle.simplecss_text.proofs.reading.StandLaws.{byte-stands, blank-stands}
-use Rattle.simplecss_text.proofs.reading.DeclarationStandLaws.{name_unseen-stands}
+use Rattle.simplecss_text.proofs.reading.StandLaws.{blank-stands, byte-stands, name_unseen-stands}
 use Rattle.simplecss_text.proofs.printed.PrintedNames.{IsName, name-reads, ends_names}
 use Rattle.simplecss_text.proofs.printed.PrintedSelectors.{ends_low}
 use Rattle.simplecss_text.proofs.reading.EachLaws.{each-none, each-some}

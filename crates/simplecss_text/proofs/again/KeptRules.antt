@@ -16,7 +16,7 @@ use Rattle.simplecss_text.specs.Ranks.{rank_by, of_rank, ordered_by}
 use Rattle.simplecss_text.specs.Sheets.{is_smaller, sheet}
 use Rattle.simplecss_text.proofs.reading.EndsLaws.{ends-ends, ends-past, ends-past_one, ends-past_byte, Stands, no_texts}
 use Rattle.simplecss_text.proofs.reading.StandLaws.{ends-past_blank}
-use Rattle.simplecss_text.proofs.reading.DeclarationStandLaws.{declaration-stands}
+use Rattle.simplecss_text.proofs.reading.DeclarationsLawful.{declaration-stands}
 use Rattle.simplecss_text.proofs.printed.PrintedSelectors.{IsSelector}
 use Rattle.simplecss_text.proofs.printed.GotLaws.{utf8-past_one, IfGot, IfTaken, each-all}
 use Rattle.simplecss_text.proofs.bytes.Utf8Laws.{utf8-past_byte_if}

@@ -17,7 +17,7 @@ use Rattle.simplecss_text.proofs.reading.TakesLaws.{Cuts, length-past_blank}
 use Rattle.simplecss_text.proofs.reading.DeclarationLaws.{term-cuts, term_in_value-takes}
 use Rattle.simplecss_text.proofs.reading.EndsLaws.{before-append, ends-ends, ends-got, no_texts}
 use Rattle.simplecss_text.proofs.reading.StandLaws.{ends-past_blank}
-use Rattle.simplecss_text.proofs.reading.DeclarationStandLaws.{term-stands}
+use Rattle.simplecss_text.proofs.reading.DeclarationsLawful.{term-stands}
 use Rattle.simplecss_text.proofs.printed.GotLaws.{got-holds}
 use Rattle.simplecss_text.proofs.printed.ReadBlanks.{opens_comment-two, past_blank-utf8}
 use Rattle.simplecss_text.proofs.again.ReadDeclarations.{LeavesText, term-text}

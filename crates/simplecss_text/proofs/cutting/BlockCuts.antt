@@ -11,7 +11,7 @@ use Rattle.simplecss_text.proofs.reading.TakesLaws.{Cuts, length-past_byte}
 use Rattle.simplecss_text.proofs.reading.DeclarationLaws.{declaration-cuts, declaration_in_block-takes, length-from_block_end}
 use Rattle.simplecss_text.proofs.cutting.GuardLaws.{Along, To, Guard, Equal, Repeats, pairs-equal, not_empty}
 use Rattle.simplecss_text.proofs.reading.LeastLaws.{least-passes}
-use Rattle.simplecss_text.proofs.cutting.DeclarationGuards.{declaration-guarded}
+use Rattle.simplecss_text.proofs.reading.DeclarationsLawful.{declaration-guarded}
 use Rattle.simplecss_text.proofs.cutting.BlockGuards.{DeclarationPasses, passes, listed-repeats, ends_list-along}
 use Rattle.simplecss_text.proofs.cutting.BlockEndGuards.{le_or_less, from_block_end-to, Exact, past_brace-exact, past_further-exact, less_of_brace}
 

@@ -7,7 +7,7 @@ use Rattle.simplecss_text.specs.Declarations.{Property, declaration, next_declar
 use Rattle.simplecss_text.specs.Blocks.{ends_list, declaration_in_block}
 use Rattle.simplecss_text.proofs.reading.DeclarationLaws.{declaration_in_block-takes}
 use Rattle.simplecss_text.proofs.cutting.GuardLaws.{Along, at, on, Guard, Equal, Step, Repeats, each-repeats, not_empty}
-use Rattle.simplecss_text.proofs.cutting.DeclarationGuards.{declaration-guarded}
+use Rattle.simplecss_text.proofs.reading.DeclarationsLawful.{declaration-guarded}
 
 -- reading a declaration would pass the brace, where the list of them goes on
 pub data DeclarationPasses (edition : Edition) (t a : List ℕ) : Type 0 where

@@ -203,8 +203,3 @@ each-repeats {A = A} R Stuck g t u read takes steps (suc n) r s l h = by (λ a b
         let f1 : each read s ≡ followed_by y.0 (each read y.1) = each-some read takes s y.1 y.0 f in
         let less : length x.1 < length r = took read takes r x.1 x.0 e in
         rw (e1, f1) (repeats-more R Stuck g t u x.0 y.0 (each read x.1) (each read y.1) k.0 (more x.1 y.1 (omega arith) k.1))
-
--- one text after another
-pub to-then : (g : ℕ) (t u : List ℕ) (m n : List ℕ → List ℕ) → ((r : List ℕ) → length (m r) ≤ length r) → (r s : List ℕ) → To g t u r s → (Along g t u r s → To g t u (m r) (n s)) → To g t u (m r) (n s)
-to-then g t u m n keeps r s (inl h) next = inl (omega (arith, keeps r))
-to-then g t u m n keeps r s (inr h) next = next h

@@ -15,7 +15,7 @@ use Rattle.simplecss_text.proofs.reading.EndsLaws.{ends-ends, ends-got, ends-nil
 use Rattle.simplecss_text.proofs.reading.StandLaws.{name-stands, utf8-behind, ends-past_blank}
 use Rattle.simplecss_text.proofs.cutting.GuardLaws.{Along, To, at, longer-along, not_empty, on, starts-along}
 use Rattle.simplecss_text.proofs.cutting.SearchLaws.{Plain, brace_plain, opens_comment-along, past_blank-to}
-use Rattle.simplecss_text.proofs.reading.DeclarationStandLaws.{ends-from_block_end}
+use Rattle.simplecss_text.proofs.reading.DeclarationsLawful.{ends-from_block_end}
 use Rattle.simplecss_text.proofs.cutting.BlockEndGuards.{Exact, before_it, behind_it}
 use Rattle.simplecss_text.proofs.cutting.RuleSetCuts.{RulesSame, rule_set-same}
 use Rattle.simplecss_text.proofs.cutting.AtRuleCuts.{name_fault-left, at_rule-block, at_rule-fault, at_rule-semicolon, along-at}

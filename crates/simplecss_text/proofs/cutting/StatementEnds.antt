@@ -15,7 +15,7 @@ use Rattle.simplecss_text.proofs.reading.DeclarationLaws.{declaration_in_block-t
 use Rattle.simplecss_text.proofs.reading.EndsLaws.{EndsFound, Stands, each-ends, ends-ends, ends-past, ends-past_byte, ends-past_one, ends-tail, no_texts}
 use Rattle.simplecss_text.proofs.reading.RunStandLaws.{reads-ends}
 use Rattle.simplecss_text.proofs.cutting.GuardLaws.{not_empty}
-use Rattle.simplecss_text.proofs.reading.DeclarationStandLaws.{declaration-stands, declaration_in_block-ends, ends-from_block_end}
+use Rattle.simplecss_text.proofs.reading.DeclarationsLawful.{declaration-stands, declaration_in_block-ends, ends-from_block_end}
 use Rattle.simplecss_text.proofs.cutting.BlockEndGuards.{no_brace}
 use Rattle.simplecss_text.proofs.cutting.BlockCuts.{at_brace, none_broken}
 

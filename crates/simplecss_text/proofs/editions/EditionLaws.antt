@@ -22,9 +22,8 @@ use Rattle.simplecss_text.specs.TokenRuns.{Run, run, run_from}
 use Rattle.simplecss_text.specs.Selectors.{outcome, reads, selector_of}
 use Rattle.simplecss_text.specs.Editions.{IsCommon}
 use Rattle.simplecss_text.proofs.reading.EndsLaws.{EndsFound, Stands, no_texts, each-ends, ends-ends, ends-same, itself, stands-unseen}
-use Rattle.simplecss_text.proofs.reading.StandLaws.{attribute_operator-stands, byte-stands, gap-stands, sees_nothing, string_or_name-stands}
+use Rattle.simplecss_text.proofs.reading.StandLaws.{attribute_operator-stands, byte-stands, gap-stands, name_unseen-stands, sees_nothing, string_or_name-stands}
 use Rattle.simplecss_text.proofs.reading.RunStandLaws.{PieceStands, piece-stands}
-use Rattle.simplecss_text.proofs.reading.DeclarationStandLaws.{name_unseen-stands}
 
 -- ASCII bytes, and no slash among them
 abbrev pub Shared : List ℕ → Type 0
@@ -49,7 +48,7 @@ shared-ascii (b ∷ text) h (suc i) = shared-ascii text h.1 i
 
 -- ---- general forms
 
-pub follow-editions : {A B : Type 0} (text : List ℕ) (a b : Reading A) (m n : A → Reader B) → Shared text → Stands text no_texts a → a ≡ b → ((x : A) (rest : List ℕ) → Shared rest → m x rest ≡ n x rest) → follow a m ≡ follow b n
+follow-editions : {A B : Type 0} (text : List ℕ) (a b : Reading A) (m n : A → Reader B) → Shared text → Stands text no_texts a → a ≡ b → ((x : A) (rest : List ℕ) → Shared rest → m x rest ≡ n x rest) → follow a m ≡ follow b n
 follow-editions text (got x rest) b m n h s e next = next x rest (shared-ends text rest s.at h) ∙ ap (λ r. follow r n) e
 follow-editions text (fails fault rest) b m n h s e next = ap (λ r. follow r n) e
 

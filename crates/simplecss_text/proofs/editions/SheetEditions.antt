@@ -1,84 +1,33 @@
 -- Of ASCII bytes without a slash, both editions read the same rules.
 -- Serves `StyleSheet::parse` and `laws::edition_law` (both editions on ASCII texts without a slash).
-use Rattle.std.proofs.Common.{List, None, Option, Some, [], ap, false, filter, if◌then◌else◌, map, not, refl, ℕ, ◌++◌, ◌==◌, ◌||◌, ◌∙◌, ◌∷◌, ◌≡◌, sym}
+use Rattle.std.proofs.Common.{List, None, Option, Some, [], ap, filter, if◌then◌else◌, map, not, refl, ℕ, ◌++◌, ◌==◌, ◌∙◌, ◌∷◌, ◌≡◌, sym}
 use Rattle.std.specs.List.{filter_map, flat_map}
-use Rattle.std.specs.Str.{trim}
-use Rattle.simplecss_text.specs.Reading.{Ends, Reading, always, before, each, follow, found, got, left_after}
-use Rattle.simplecss_text.specs.Bytes.{byte, is_digit, optional, past, past_byte, past_one, starts}
+use Rattle.simplecss_text.specs.Reading.{Ends, each, found}
+use Rattle.simplecss_text.specs.Bytes.{past, past_byte, past_one, starts}
 use Rattle.simplecss_text.specs.Characters.{Edition, first_edition, is_space, second_edition}
-use Rattle.simplecss_text.specs.Comments.{blank, past_blank}
-use Rattle.simplecss_text.specs.Names.{name}
-use Rattle.simplecss_text.specs.Strings.{is_quote}
+use Rattle.simplecss_text.specs.Comments.{past_blank}
 use Rattle.simplecss_text.specs.Components.{Component}
-use Rattle.simplecss_text.specs.Terms.{arguments, begins_number, is_slash_term, past_decimals, past_hash, past_number, past_unit, term, word}
-use Rattle.simplecss_text.specs.Declarations.{Property, after_term, declaration, last_or, term_in_value, terms, trailing, unless_empty, value}
+use Rattle.simplecss_text.specs.Declarations.{Property}
 use Rattle.simplecss_text.specs.Blocks.{block, declaration_in_block, ends_list, past_broken, past_list}
 use Rattle.simplecss_text.specs.Statements.{StyleRule, ends_statements, has_property, next_block, next_statement, part, part_and_comma, parts, past_at_name, past_at_rule, rule_set, statement, statements}
 use Rattle.simplecss_text.specs.Sheets.{ordered, sheet}
 use Rattle.simplecss_text.specs.Editions.{IsCommon, KeepsInBoth}
 use Rattle.simplecss_text.proofs.reading.EndsLaws.{EndsFound, each-ends, ends-ends, ends-past, ends-past_byte, ends-past_one}
-use Rattle.simplecss_text.proofs.reading.StandLaws.{blank-stands, byte-stands, ends-past_blank}
-use Rattle.simplecss_text.proofs.reading.DeclarationStandLaws.{declaration_in_block-ends, ends-past_decimals, name_unseen-stands, term_in_value-ends, ends-terms}
+use Rattle.simplecss_text.proofs.reading.StandLaws.{ends-past_blank}
+use Rattle.simplecss_text.proofs.reading.DeclarationsLawful.{declaration-lawful, declaration_in_block-ends}
 use Rattle.simplecss_text.proofs.cutting.StatementEnds.{part_and_comma-ends, parts-ends}
 use Rattle.simplecss_text.proofs.cutting.StatementCuts.{next_statement-well}
-use Rattle.simplecss_text.proofs.editions.EditionLaws.{Shared, each-editions, follow-editions, if-editions, name-editions, reads-editions, shared-ends, shared-from}
-
-past_unit-editions : (text : List ℕ) → Shared text → past_unit first_edition text ≡ past_unit second_edition text
-past_unit-editions text h = if-editions (starts 37 text) _ _ _ _ refl (ap left_after (name-editions text h))
-
-past_number-editions : (text : List ℕ) → Shared text → past_number first_edition text ≡ past_number second_edition text
-unfolding past_number
-past_number-editions text h =
-    let digits : List ℕ = past is_digit text in
-    past_unit-editions (past_decimals digits) (shared-ends digits (past_decimals digits) (ends-past_decimals digits) (shared-ends text digits (ends-past is_digit text) h))
-
-word-editions : (text : List ℕ) → Shared text → word first_edition text ≡ word second_edition text
-unfolding word
-word-editions text h = ap (λ r. follow r (λ n. arguments)) (name-editions text h)
-
--- no slash begins a term
-slash-editions : (b : ℕ) (text : List ℕ) → (b == 47) ≡ false → is_slash_term first_edition b text ≡ is_slash_term second_edition b text
-slash-editions b text e = rw e refl
-
-term-editions : (text : List ℕ) → Shared text → term first_edition text ≡ term second_edition text
-unfolding term
-term-editions [] h = refl
-term-editions (b ∷ text) h =
-    if-editions (b == 35) _ _ _ _ (ap (λ r. got tt (past_hash r)) (name-editions text h.1))
-    (if-editions (begins_number b) _ _ _ _ (ap (λ (t : List ℕ). got tt t) (past_number-editions text h.1))
-    (if-editions (is_quote b) _ _ _ _ refl (rw (slash-editions b text h.0.1) (if-editions (b == 44 || is_slash_term second_edition b text) _ _ _ _ refl (word-editions (b ∷ text) h)))))
-
-terms-editions : (text : List ℕ) → Shared text → terms first_edition text ≡ terms second_edition text
-terms-editions text h = each-editions (term_in_value first_edition) (term_in_value second_edition) (λ t k. ap after_term (term-editions t k)) (term_in_value-ends first_edition) text h
-
-value-editions : (text : List ℕ) → Shared text → value first_edition text ≡ value second_edition text
-unfolding value
-value-editions text h =
-    let rest : List ℕ = (terms first_edition text).1 in
-    let shared : Shared rest = shared-ends text rest (ends-terms first_edition text) h in
-    ap (λ (r : Reading (Unit {0})). (trim (before text (last_or text (terms first_edition text).0)), left_after r)) (term-editions rest shared)
-    ∙ ap (λ (r : List (List ℕ) × List ℕ). (trim (before text (last_or text r.0)), left_after (term second_edition r.1))) (terms-editions text h)
-
-declaration-editions : (text : List ℕ) → Shared text → declaration first_edition text ≡ declaration second_edition text
-unfolding declaration
-declaration-editions text h =
-    follow-editions text (blank text) (blank text) _ _ h (blank-stands text) refl (λ u a k.
-    follow-editions a (optional 42 a) (optional 42 a) _ _ k (record { at = ends-past_byte 42 a }) refl (λ u b k.
-    follow-editions b (name first_edition b) (name second_edition b) _ _ k (name_unseen-stands first_edition b) (name-editions b k) (λ property c k.
-    follow-editions c (blank c) (blank c) _ _ k (blank-stands c) refl (λ u d k.
-    follow-editions d (byte 58 d) (byte 58 d) _ _ k (byte-stands 58 d) refl (λ u e k.
-    follow-editions e (blank e) (blank e) _ _ k (blank-stands e) refl (λ u start k.
-    ap (λ (r : List ℕ × List ℕ). follow (always r) (λ stated g. follow (trailing g) (λ important i. unless_empty start (record { name = property; value = stated; important = important }) i))) (value-editions start k)))))))
+use Rattle.simplecss_text.proofs.editions.EditionLaws.{Shared, each-editions, if-editions, name-editions, reads-editions, shared-ends, shared-from}
 
 declaration_in_block-editions : (text : List ℕ) → Shared text → declaration_in_block first_edition text ≡ declaration_in_block second_edition text
-declaration_in_block-editions text h = if-editions (ends_list text) _ _ _ _ refl (ap found (declaration-editions text h))
+declaration_in_block-editions text h = if-editions (ends_list text) _ _ _ _ refl (ap found ((declaration-lawful text text).same h))
 
 block-editions : (text : List ℕ) → Shared text → block first_edition text ≡ block second_edition text
 unfolding block
 block-editions text h =
     let listed : List Property × List ℕ = each (declaration_in_block first_edition) text in
     let shared : Shared listed.1 = shared-ends text listed.1 (each-ends (declaration_in_block first_edition) (declaration_in_block-ends first_edition) text) h in
-    let last : past_list first_edition listed.1 ≡ past_list second_edition listed.1 = if-editions (ends_list listed.1) _ _ _ _ refl (ap past_broken (declaration-editions listed.1 shared)) in
+    let last : past_list first_edition listed.1 ≡ past_list second_edition listed.1 = if-editions (ends_list listed.1) _ _ _ _ refl (ap past_broken ((declaration-lawful listed.1 listed.1).same shared)) in
     ap (λ (t : List ℕ). (listed.0, past_byte 125 t)) last
     ∙ ap (λ (r : List Property × List ℕ). (r.0, past_byte 125 (past_list second_edition r.1))) (each-editions (declaration_in_block first_edition) (declaration_in_block second_edition) declaration_in_block-editions (declaration_in_block-ends first_edition) text h)
 

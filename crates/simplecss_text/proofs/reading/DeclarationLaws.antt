@@ -42,7 +42,7 @@ length-left_after text (fails fault rest) h = h
 name-keeps : (edition : Edition) (text : List ℕ) → Keeps text (name edition text)
 name-keeps edition text = cuts-keeps text (name edition text) (name-cuts edition text)
 
-pub length-past_unit : (edition : Edition) (text : List ℕ) → length (past_unit edition text) ≤ length text
+length-past_unit : (edition : Edition) (text : List ℕ) → length (past_unit edition text) ≤ length text
 length-past_unit edition text = by (starts 37 text)
   where
     by : (t : Bool) → length (if t then past_one text else left_after (name edition text)) ≤ length text
@@ -53,7 +53,7 @@ length-past_number : (edition : Edition) (text : List ℕ) → length (past_numb
 unfolding past_number
 length-past_number edition text = omega (arith, length-past is_digit text, length-past_decimals (past is_digit text), length-past_unit edition (past_decimals (past is_digit text)))
 
-pub arguments-keeps : (text : List ℕ) → Keeps text (arguments text)
+arguments-keeps : (text : List ℕ) → Keeps text (arguments text)
 arguments-keeps text = keeps-if text (starts 40 text) _ _ (closed_or-keeps text ended (after_byte 41 text) (after_byte-leaves 41 text)) (omega arith)
 
 word-cuts : (edition : Edition) (text : List ℕ) → Cuts text (word edition text)
@@ -81,7 +81,7 @@ after_term-shrinks text (fails fault rest) h = tt
 pub term_in_value-takes : (edition : Edition) → Takes (term_in_value edition)
 term_in_value-takes edition text = after_term-shrinks text (term edition text) (term-cuts edition text)
 
-pub value-keeps : (edition : Edition) (text : List ℕ) → Keeps text (value_reader edition text)
+value-keeps : (edition : Edition) (text : List ℕ) → Keeps text (value_reader edition text)
 unfolding value
 value-keeps edition text =
     let rest = (terms edition text).1 in
@@ -95,7 +95,7 @@ semicolon-takes (b ∷ text) = by (b == 59)
     by true = omega (arith, length-past_blank text)
     by false = tt
 
-pub important_word-keeps : (text : List ℕ) → Keeps text (important_word text)
+important_word-keeps : (text : List ℕ) → Keeps text (important_word text)
 important_word-keeps text = keeps-if text (starts_with eqb text (codes "important")) _ _ (omega (arith, length-drop 9 text)) (omega arith)
 
 after_mark-keeps : (text : List ℕ) → Keeps text (after_mark text)
@@ -103,11 +103,11 @@ after_mark-keeps text =
     keeps-longer (past_one text) text _ (length-past_one text)
     (keeps-follow (past_one text) (blank (past_one text)) _ (blank-keeps (past_one text)) (λ u rest. important_word-keeps rest))
 
-pub importance-keeps : (text : List ℕ) → Keeps text (importance text)
+importance-keeps : (text : List ℕ) → Keeps text (importance text)
 unfolding importance
 importance-keeps text = keeps-if text (starts 33 text) _ _ (after_mark-keeps text) (omega arith)
 
-pub trailing-keeps : (text : List ℕ) → Keeps text (trailing text)
+trailing-keeps : (text : List ℕ) → Keeps text (trailing text)
 unfolding trailing
 trailing-keeps text =
     keeps-follow text (blank text) _ (blank-keeps text) (λ u a.
@@ -116,7 +116,7 @@ trailing-keeps text =
     keeps-follow c (semicolons c) _ (each-within semicolon semicolon-takes c) (λ u d.
     keeps-follow d (blank d) (λ u. got important) (blank-keeps d) (λ u e. omega arith)))))
 
-pub unless_empty-keeps : (start : List ℕ) (property : Property) (text : List ℕ) → Keeps text (unless_empty start property text)
+unless_empty-keeps : (start : List ℕ) (property : Property) (text : List ℕ) → Keeps text (unless_empty start property text)
 unless_empty-keeps start property text = keeps-if text (length property.value == 0) _ _ (omega arith) (omega arith)
 
 -- a declaration takes a byte or more

@@ -76,6 +76,10 @@ name-stands edition text =
     stands-if text itself (begins_name edition (chars text)) (got (before text (past_name_chars edition text)) (past_name_chars edition text)) (fails (no_name text) (past_byte 45 text))
     (record { at = stand-before text (past_name_chars edition text) (ends-past_name_chars edition text) }) (record { at = ends-past_byte 45 text })
 
+-- the same, where the name is not seen
+pub name_unseen-stands : (edition : Edition) (text : List ℕ) → Stands text no_texts (name edition text)
+name_unseen-stands edition text = stands-unseen text itself (name edition text) (name-stands edition text)
+
 pub from_quote-ends : (quote previous : ℕ) (text : List ℕ) → EndsSome text (from_quote quote previous text)
 from_quote-ends quote previous [] = tt
 from_quote-ends quote previous (b ∷ text) =
