@@ -5,7 +5,6 @@ pub mod NameGuards
 pub mod BlockGuards
 pub mod BlockEndGuards
 pub mod BlockCuts
-pub mod PieceGuards
 pub mod OutcomeGuards
 pub mod SelectorGuards
 pub mod RuleSetCuts

@@ -15,5 +15,6 @@ pub mod BeforeLaws
 pub mod GivesLaws
 pub mod Lawful
 pub mod DeclarationsLawful
+pub mod PiecesLawful
 pub mod LeastLaws
 pub mod RunSteps

@@ -1,23 +1,78 @@
--- Of ASCII bytes without a slash, both editions read the same rules.
+-- Of ASCII bytes without a slash, both editions read the same selectors and rules.
 -- Serves `StyleSheet::parse` and `laws::edition_law` (both editions on ASCII texts without a slash).
-use Rattle.std.proofs.Common.{List, None, Option, Some, [], ap, filter, if◌then◌else◌, map, not, refl, ℕ, ◌++◌, ◌==◌, ◌∙◌, ◌∷◌, ◌≡◌, sym}
+use Rattle.std.proofs.Common.{Bool, List, None, Option, Some, [], ap, filter, if◌then◌else◌, map, not, refl, sym, ℕ, ◌++◌, ◌==◌, ◌∙◌, ◌∷◌, ◌≡◌}
 use Rattle.std.specs.List.{filter_map, flat_map}
-use Rattle.simplecss_text.specs.Reading.{Ends, each, found}
+use Rattle.simplecss_text.specs.Reading.{Ends, Reader, Reading, each, fails, follow, found, got}
 use Rattle.simplecss_text.specs.Bytes.{past, past_byte, past_one, starts}
 use Rattle.simplecss_text.specs.Characters.{Edition, first_edition, is_space, second_edition}
-use Rattle.simplecss_text.specs.Comments.{past_blank}
+use Rattle.simplecss_text.specs.Comments.{gap, past_blank}
 use Rattle.simplecss_text.specs.Components.{Component}
 use Rattle.simplecss_text.specs.Declarations.{Property}
 use Rattle.simplecss_text.specs.Blocks.{block, declaration_in_block, ends_list, past_broken, past_list}
 use Rattle.simplecss_text.specs.Statements.{StyleRule, ends_statements, has_property, next_block, next_statement, part, part_and_comma, parts, past_at_name, past_at_rule, rule_set, statement, statements}
 use Rattle.simplecss_text.specs.Sheets.{ordered, sheet}
 use Rattle.simplecss_text.specs.Editions.{IsCommon, KeepsInBoth}
-use Rattle.simplecss_text.proofs.reading.EndsLaws.{EndsFound, each-ends, ends-ends, ends-past, ends-past_byte, ends-past_one}
-use Rattle.simplecss_text.proofs.reading.StandLaws.{ends-past_blank}
+use Rattle.simplecss_text.proofs.reading.EndsLaws.{EndsFound, Stands, each-ends, ends-ends, ends-past, ends-past_byte, ends-past_one, ends-same, no_texts}
+use Rattle.simplecss_text.proofs.reading.StandLaws.{ends-past_blank, gap-stands, sees_nothing}
 use Rattle.simplecss_text.proofs.reading.DeclarationsLawful.{declaration-lawful, declaration_in_block-ends}
 use Rattle.simplecss_text.proofs.cutting.StatementEnds.{part_and_comma-ends, parts-ends}
 use Rattle.simplecss_text.proofs.cutting.StatementCuts.{next_statement-well}
-use Rattle.simplecss_text.proofs.editions.EditionLaws.{Shared, each-editions, if-editions, name-editions, reads-editions, shared-ends, shared-from}
+use Rattle.simplecss_text.proofs.editions.EditionLaws.{Shared, each-editions, if-editions, name-editions, shared-ends, shared-from}
+use Rattle.simplecss_text.specs.Pieces.{solid, Piece, ending, fault_ending, gap_ending, is_stop, next_piece, piece, pieces, solid}
+use Rattle.simplecss_text.specs.Neighbours.{Left}
+use Rattle.simplecss_text.specs.Neighbours.Left.{open_left}
+use Rattle.simplecss_text.specs.TokenRuns.{Run, run, run_from}
+use Rattle.simplecss_text.specs.Selectors.{outcome, reads, selector_of}
+use Rattle.simplecss_text.proofs.reading.RunStandLaws.{PieceStands, piece-stands}
+use Rattle.simplecss_text.proofs.reading.PiecesLawful.{solid-lawful}
+
+-- ---- selectors
+
+piece-editions : (text : List ℕ) → Shared text → piece first_edition text ≡ piece second_edition text
+unfolding piece
+piece-editions text h = by (gap text) (gap-stands text)
+  where
+    solid_then : Edition → Bool → Reader Piece
+    solid_then edition spaced start = follow (solid edition start) (λ token after. got (record { spaced = spaced; start = start; token = token; after = after }) after)
+
+    by : (r : Reading Bool) → Stands text no_texts r → follow r (solid_then first_edition) ≡ follow r (solid_then second_edition)
+    by (got spaced start) s = ap (λ r. follow r (λ token after. got (record { spaced = spaced; start = start; token = token; after = after }) after)) ((solid-lawful start start).same (shared-ends text start s.at h))
+    by (fails fault after) s = refl
+
+next_piece-ends : (edition : Edition) (text : List ℕ) → EndsFound text (next_piece edition text)
+next_piece-ends edition text = by (piece edition text) (piece-stands sees_nothing edition text text tt (ends-same text))
+  where
+    by : (r : Reading Piece) → PieceStands no_texts text r → EndsFound text (found r)
+    by (got p rest) h = ends-ends text p.start rest h.0 (ends-ends p.start p.after rest h.1 h.2)
+    by (fails fault rest) h = tt
+
+pieces-editions : (text : List ℕ) → Shared text → pieces first_edition text ≡ pieces second_edition text
+pieces-editions text h = each-editions (next_piece first_edition) (next_piece second_edition) (λ t k. ap found (piece-editions t k)) (next_piece-ends first_edition) text h
+
+ending-editions : (text : List ℕ) → Shared text → ending first_edition text ≡ ending second_edition text
+unfolding ending
+ending-editions text h = by (gap text) (gap-stands text)
+  where
+    by : (r : Reading Bool) → Stands text no_texts r → gap_ending first_edition r ≡ gap_ending second_edition r
+    by (fails fault after) s = refl
+    by (got spaced start) s =
+        if-editions (is_stop start) _ _ _ _ refl
+        (if-editions (starts 47 start) _ _ _ _ refl
+        (ap (fault_ending spaced start) ((solid-lawful start start).same (shared-ends text start s.at h))))
+
+run_from-editions : (left : Left) (text : List ℕ) → Shared text → run_from first_edition left text ≡ run_from second_edition left text
+unfolding run_from
+run_from-editions left text h =
+    let rest : List ℕ = (pieces first_edition text).1 in
+    let shared : Shared rest = shared-ends text rest (each-ends (next_piece first_edition) (next_piece-ends first_edition) text) h in
+    ap (run left (pieces first_edition text).0) (ending-editions rest shared)
+    ∙ ap (λ (r : List Piece × List ℕ). run left r.0 (ending second_edition r.1)) (pieces-editions text h)
+
+reads-editions : (text : List ℕ) → Shared text → reads first_edition text ≡ reads second_edition text
+unfolding reads
+reads-editions text h = ap (λ (r : Run). selector_of (outcome r)) (run_from-editions open_left text h)
+
+-- ---- blocks, rule sets, sheets
 
 declaration_in_block-editions : (text : List ℕ) → Shared text → declaration_in_block first_edition text ≡ declaration_in_block second_edition text
 declaration_in_block-editions text h = if-editions (ends_list text) _ _ _ _ refl (ap found ((declaration-lawful text text).same h))

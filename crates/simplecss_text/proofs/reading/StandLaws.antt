@@ -90,7 +90,7 @@ pub string_up_to-stands : (text : List ℕ) (o : Option (List ℕ)) → EndsSome
 string_up_to-stands text None h = record { at = ends-nil text }
 string_up_to-stands text (Some closing) h = record { at = stand-to text closing (past_one closing) (before text closing ∷ []) (stand-before text closing h) (ends-past_one closing) }
 
-pub string_or_name-stands : (edition : Edition) (text : List ℕ) → Stands text itself (string_or_name edition text)
+string_or_name-stands : (edition : Edition) (text : List ℕ) → Stands text itself (string_or_name edition text)
 unfolding string_or_name
 string_or_name-stands edition [] = record { at = ends-same [] }
 string_or_name-stands edition (b ∷ text) =
@@ -107,7 +107,7 @@ equated-stands edition operator is text =
     (stands-follow rest itself operator_texts (string_or_name edition rest) (λ value. got (operator value)) (string_or_name-stands edition rest) (λ value last f k.
     record { at = subst (StandBetween rest last) (sym (is value)) k })))
 
-pub attribute_operator-stands : (edition : Edition) (text : List ℕ) → Stands text operator_texts (attribute_operator edition text)
+attribute_operator-stands : (edition : Edition) (text : List ℕ) → Stands text operator_texts (attribute_operator edition text)
 unfolding attribute_operator
 attribute_operator-stands edition [] = record { at = ends-same [] }
 attribute_operator-stands edition (b ∷ text) =

@@ -197,7 +197,7 @@ string_or_name-cuts edition (b ∷ text) =
     (keeps-cuts text (b ∷ text) (string_up_to text (from_quote b b text)) (omega arith) (string_up_to-keeps text (from_quote b b text) (from_quote-leaves b b text)))
     (name-cuts edition (b ∷ text))
 
-pub string_or_name-keeps : (edition : Edition) (text : List ℕ) → Keeps text (string_or_name edition text)
+string_or_name-keeps : (edition : Edition) (text : List ℕ) → Keeps text (string_or_name edition text)
 string_or_name-keeps edition text = cuts-keeps text (string_or_name edition text) (string_or_name-cuts edition text)
 
 equated-keeps : (edition : Edition) (operator : List ℕ → Operator) (text : List ℕ) → Keeps text (equated edition operator text)
@@ -205,7 +205,7 @@ equated-keeps edition operator text =
     keeps-follow text (byte 61 text) _ (cuts-keeps text (byte 61 text) (byte-cuts 61 text)) (λ u rest.
     keeps-follow rest (string_or_name edition rest) (λ value. got (operator value)) (string_or_name-keeps edition rest) (λ value last. omega arith))
 
-pub attribute_operator-keeps : (edition : Edition) (text : List ℕ) → Keeps text (attribute_operator edition text)
+attribute_operator-keeps : (edition : Edition) (text : List ℕ) → Keeps text (attribute_operator edition text)
 unfolding attribute_operator
 attribute_operator-keeps edition [] = omega arith
 attribute_operator-keeps edition (b ∷ text) =
@@ -229,7 +229,7 @@ attribute_after-keeps edition text =
     keeps-follow rest (attribute_operator edition rest) _ (attribute_operator-keeps edition rest) (λ operator next.
     keeps-follow next (byte 93 next) (λ u. got (attribute_selector n operator)) (cuts-keeps next (byte 93 next) (byte-cuts 93 next)) (λ u last. omega arith)))
 
-pub lang_of-keeps : (value text : List ℕ) → Keeps text (lang_of value text)
+lang_of-keeps : (value text : List ℕ) → Keeps text (lang_of value text)
 lang_of-keeps value text = keeps-if text (length value == 0) _ _ (omega arith) (omega arith)
 
 lang_after-keeps : (text : List ℕ) → Keeps text (lang_after text)
@@ -239,7 +239,7 @@ lang_after-keeps text =
     keeps-follow rest (all_before 41 rest) _ (length-past (λ b. not (b == 41)) rest) (λ value next.
     keeps-follow next (byte 41 next) (λ u. lang_of (trim value)) (cuts-keeps next (byte 41 next) (byte-cuts 41 next)) (λ u last. lang_of-keeps (trim value) last)))
 
-pub pseudo_class_named-keeps : (n text : List ℕ) → Keeps text (pseudo_class_named n text)
+pseudo_class_named-keeps : (n text : List ℕ) → Keeps text (pseudo_class_named n text)
 pseudo_class_named-keeps n text = keeps-if text (bytes_eq n (codes "lang")) _ _ (lang_after-keeps text) (omega arith)
 
 pseudo_class_after-keeps : (edition : Edition) (text : List ℕ) → Keeps text (pseudo_class_after edition text)
