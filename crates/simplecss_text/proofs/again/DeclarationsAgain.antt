@@ -13,12 +13,12 @@ use Rattle.simplecss_text.specs.Terms.{arguments, word, term}
 use Rattle.simplecss_text.specs.Declarations.{Property, last_or, terms, value, important_word, importance, semicolon, semicolons, trailing, unless_empty, declaration}
 use Rattle.simplecss_text.specs.Printing.{important_text, property_text}
 use Rattle.simplecss_text.specs.PrintingLaws.{IsNarrow, DeclarationReadsBack}
+use Rattle.simplecss_text.proofs.reading.DeclarationsLawful.{semicolon-takes}
 use Rattle.simplecss_text.proofs.reading.EndsLaws.{before-append, ends-past_byte, Stands, no_texts}
 use Rattle.simplecss_text.proofs.reading.StandLaws.{blank-stands, byte-stands, name_unseen-stands}
 use Rattle.simplecss_text.proofs.printed.PrintedNames.{IsName, name-reads, ends_names}
 use Rattle.simplecss_text.proofs.printed.PrintedSelectors.{ends_low}
 use Rattle.simplecss_text.proofs.reading.EachLaws.{each-none, each-some}
-use Rattle.simplecss_text.proofs.reading.DeclarationLaws.{semicolon-takes}
 use Rattle.simplecss_text.proofs.bytes.GapLaws.{past_blank-again}
 use Rattle.simplecss_text.proofs.printed.PrintedHeads.{NoGap, IsNameByte, no_gap-byte, no_gap-name, blank-at, name-first, other_byte}
 use Rattle.simplecss_text.proofs.printed.TailLaws.{Quiet, Tails, quiet-semicolon, quiet-space}

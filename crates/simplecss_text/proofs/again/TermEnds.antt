@@ -12,10 +12,10 @@ use Rattle.simplecss_text.specs.Characters.{Edition, first_edition, second_editi
 use Rattle.simplecss_text.specs.Names.{name}
 use Rattle.simplecss_text.specs.Strings.{is_quote, from_quote, string_up_to}
 use Rattle.simplecss_text.specs.Terms.{is_hex_digit, past_hash, past_decimals, past_unit, past_number, arguments, word, quoted, is_slash_term, begins_number, term}
+use Rattle.simplecss_text.proofs.reading.DeclarationsLawful.{term-cuts}
 use Rattle.simplecss_text.proofs.printed.PrintedNames.{begins_any_name, both_true}
 use Rattle.simplecss_text.proofs.printed.PrintedHeads.{same_byte}
 use Rattle.simplecss_text.proofs.reading.TakesLaws.{Cuts}
-use Rattle.simplecss_text.proofs.reading.DeclarationLaws.{term-cuts}
 use Rattle.simplecss_text.proofs.printed.ReadStrings.{IfCloses, from_quote-closes}
 use Rattle.simplecss_text.proofs.printed.ReadNames.{ReadName, name-is, name-fails}
 use Rattle.simplecss_text.proofs.printed.GotLaws.{IfGot, if_got, if_got-if, if_got-follow, if_got-weaker, got-holds, IfBehind, after_byte-behind}

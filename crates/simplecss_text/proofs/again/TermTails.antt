@@ -14,8 +14,7 @@ use Rattle.simplecss_text.proofs.printed.PrintedHeads.{same_byte}
 use Rattle.simplecss_text.proofs.bytes.Utf8Laws.{past-no, utf8-past_byte, utf8-behind_byte}
 use Rattle.simplecss_text.proofs.reading.EndsLaws.{length-ends, ends-past, ends-got, no_texts}
 use Rattle.simplecss_text.proofs.reading.TakesLaws.{Cuts, Leaves, from_quote-leaves}
-use Rattle.simplecss_text.proofs.reading.DeclarationLaws.{term-cuts}
-use Rattle.simplecss_text.proofs.reading.DeclarationsLawful.{ends-past_decimals, ends-past_unit, arguments-stands}
+use Rattle.simplecss_text.proofs.reading.DeclarationsLawful.{arguments-stands, ends-past_decimals, ends-past_unit, term-cuts}
 use Rattle.simplecss_text.proofs.printed.ReadStrings.{IfCloses, from_quote-closes}
 use Rattle.simplecss_text.proofs.printed.ReadValues.{quote_low}
 use Rattle.simplecss_text.proofs.printed.GotLaws.{IfGot, if_got, got-holds, IfBehind, after_byte-behind}

@@ -14,10 +14,9 @@ use Rattle.simplecss_text.specs.PrintingLaws.{is_wide_space, IsNarrow}
 use Rattle.simplecss_text.proofs.printed.PrintedNames.{both_false}
 use Rattle.simplecss_text.proofs.reading.EachLaws.{each-none, each-some}
 use Rattle.simplecss_text.proofs.reading.TakesLaws.{Cuts, length-past_blank}
-use Rattle.simplecss_text.proofs.reading.DeclarationLaws.{term-cuts, term_in_value-takes}
 use Rattle.simplecss_text.proofs.reading.EndsLaws.{before-append, ends-ends, ends-got, no_texts}
 use Rattle.simplecss_text.proofs.reading.StandLaws.{ends-past_blank}
-use Rattle.simplecss_text.proofs.reading.DeclarationsLawful.{term-stands}
+use Rattle.simplecss_text.proofs.reading.DeclarationsLawful.{term-cuts, term-stands, term_in_value-takes}
 use Rattle.simplecss_text.proofs.printed.GotLaws.{got-holds}
 use Rattle.simplecss_text.proofs.printed.ReadBlanks.{opens_comment-two, past_blank-utf8}
 use Rattle.simplecss_text.proofs.again.ReadDeclarations.{LeavesText, term-text}

@@ -8,10 +8,10 @@ use Rattle.simplecss_text.specs.Declarations.{Property, declaration, next_declar
 use Rattle.simplecss_text.specs.Blocks.{closes_block, block_end, from_block_end, ends_list, declaration_in_block, past_broken, past_list, block}
 use Rattle.simplecss_text.proofs.reading.EachLaws.{each-stops}
 use Rattle.simplecss_text.proofs.reading.TakesLaws.{Cuts, length-past_byte}
-use Rattle.simplecss_text.proofs.reading.DeclarationLaws.{declaration-cuts, declaration_in_block-takes, length-from_block_end}
+use Rattle.simplecss_text.proofs.reading.DeclarationLaws.{declaration_in_block-takes, length-from_block_end}
 use Rattle.simplecss_text.proofs.cutting.GuardLaws.{Along, To, Guard, Equal, Repeats, pairs-equal, not_empty}
 use Rattle.simplecss_text.proofs.reading.LeastLaws.{least-passes}
-use Rattle.simplecss_text.proofs.reading.DeclarationsLawful.{declaration-guarded}
+use Rattle.simplecss_text.proofs.reading.DeclarationsLawful.{declaration-cuts, declaration-guarded}
 use Rattle.simplecss_text.proofs.cutting.BlockGuards.{DeclarationPasses, passes, listed-repeats, ends_list-along}
 use Rattle.simplecss_text.proofs.cutting.BlockEndGuards.{le_or_less, from_block_end-to, Exact, past_brace-exact, past_further-exact, less_of_brace}
 

@@ -7,8 +7,7 @@ use Rattle.std.specs.Str.{continuation_len, lead_bits}
 use Rattle.simplecss_text.specs.Reading.{Fault, Reading, got, fails, Reader, follow, followed_by, each, left_after, before}
 use Rattle.simplecss_text.specs.Bytes.{past, past_one, past_byte, starts, byte}
 use Rattle.simplecss_text.proofs.reading.EachLaws.{Takes, took, each-none, each-some}
-use Rattle.simplecss_text.proofs.reading.TakesLaws.{Keeps, length-past, each-within}
-use Rattle.simplecss_text.proofs.reading.DeclarationLaws.{length-left_after}
+use Rattle.simplecss_text.proofs.reading.TakesLaws.{Keeps, each-within, length-left_after, length-past}
 
 -- A character that begins with the byte b before the text r does not reach over the byte before its end t; a byte in the
 -- middle of a character is let through.

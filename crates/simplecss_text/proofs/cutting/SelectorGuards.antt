@@ -16,8 +16,7 @@ use Rattle.simplecss_text.specs.Neighbours.Left.{closed_left, open_left}
 use Rattle.simplecss_text.specs.TokenRuns.{run, run_from, token_then}
 use Rattle.simplecss_text.specs.Selectors.{outcome, role_of, Outcome, reads, selector_of}
 use Rattle.simplecss_text.specs.Selectors.Outcome.{refused, accepted}
-use Rattle.simplecss_text.proofs.reading.TakesLaws.{Cuts, begun-cuts, gap-keeps, length-past_one}
-use Rattle.simplecss_text.proofs.reading.DeclarationLaws.{length-left_after}
+use Rattle.simplecss_text.proofs.reading.TakesLaws.{Cuts, begun-cuts, gap-keeps, length-left_after, length-past_one}
 use Rattle.simplecss_text.proofs.cutting.GuardLaws.{Along, Equal, Guard, at, longer-along, on, past_one-along, starts-along, Same}
 use Rattle.simplecss_text.proofs.reading.PiecesLawful.{begun-guarded, is_stop-along, gap-guarded}
 use Rattle.simplecss_text.proofs.reading.RunSteps.{begun_run, solid_run, gap_run, run_from-by}

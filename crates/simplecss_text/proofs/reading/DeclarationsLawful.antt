@@ -3,23 +3,24 @@
 use Rattle.std.proofs.Common.{◌≡◌, ◌⊎◌, ◌≤◌, Bool, List, None, Option, Some, [], ap, arith, codes, drop, eqb, false, if◌then◌else◌, inl, inr, length, not, refl, true, ℕ, ◌&&◌, ◌++◌, ◌==◌, ◌||◌, ◌∙◌, ◌∷◌}
 use Rattle.std.specs.List.{starts_with}
 use Rattle.std.specs.Str.{trim}
-use Rattle.simplecss_text.specs.Reading.{Ends, Fault, Reading, before, each, ended, fails, found, got, left_after}
-use Rattle.simplecss_text.specs.Bytes.{after_byte, closed_or, is_digit, past}
+use Rattle.simplecss_text.specs.Reading.{Reader, Ends, Fault, Reading, before, each, ended, fails, found, got, here, left_after, ◌>>=◌, ◌>>◌}
+use Rattle.simplecss_text.specs.Bytes.{after_byte, byte, closed_or, is_digit, optional, past}
 use Rattle.simplecss_text.specs.Characters.{Edition, first_edition, second_edition}
-use Rattle.simplecss_text.specs.Comments.{past_blank}
-use Rattle.simplecss_text.specs.Strings.{is_quote}
+use Rattle.simplecss_text.specs.Comments.{blank, past_blank}
+use Rattle.simplecss_text.specs.Strings.{from_quote, is_quote, string_after}
 use Rattle.simplecss_text.specs.Terms.{arguments, begins_number, is_hex_digit, is_slash_term, past_decimals, past_hash, past_number, past_unit, quoted, term, word}
 use Rattle.simplecss_text.specs.Declarations.{Property, after_mark, after_term, declaration, importance, important_word, last_or, semicolon, semicolons, term_in_value, terms, trailing, unless_empty, value, value_reader}
 use Rattle.simplecss_text.specs.Blocks.{block_end, declaration_in_block, ends_list, from_block_end}
+use Rattle.simplecss_text.specs.Names.{name}
 use Rattle.simplecss_text.proofs.reading.EndsLaws.{EndsFound, EndsSome, Stands, each-ends, ends-cons, ends-drop, ends-ends, ends-nil, ends-past, ends-tail, ends_some-ends, ends_some-if, length-ends, no_texts}
 use Rattle.simplecss_text.proofs.reading.StandLaws.{ends-past_blank}
-use Rattle.simplecss_text.proofs.reading.TakesLaws.{length-past, length-past_blank}
-use Rattle.simplecss_text.proofs.reading.DeclarationLaws.{semicolon-takes, term_in_value-takes}
+use Rattle.simplecss_text.proofs.reading.TakesLaws.{Cuts, Keeps, blank-keeps, cuts-follow, cuts-if, follow-cuts, from_quote-leaves, keeps-cuts, keeps-follow, length-past, length-past_blank, length-past_byte, name-cuts, string_up_to-keeps}
+use Rattle.simplecss_text.proofs.reading.EachLaws.{Shrinks, Takes}
 use Rattle.simplecss_text.proofs.cutting.GuardLaws.{Along, Equal, Guard, Guarded, Never, Pairs, Repeats, Step, To, at, before-along, each-repeats, guard-got, left-to, on, past-along, starts-along}
 use Rattle.simplecss_text.proofs.cutting.NameGuards.{drop-to}
 use Rattle.simplecss_text.proofs.cutting.SearchLaws.{brace_plain, byte-finds, closed_or-guard, past_blank-to}
 use Rattle.simplecss_text.proofs.editions.EditionLaws.{Shared, each-editions, shared-ends}
-use Rattle.simplecss_text.proofs.reading.Lawful.{Lawful, Owes, blank-lawful, byte-lawful, lawful-cases, lawful-stands, name-lawful, optional-lawful, owes-choice, owes-follow, owes-fails, owes-give, owes-if, passes-starts, owes-left, owes-past, owes-so, owes-starts, past-lawful, past_one-lawful, string_after-lawful}
+use Rattle.simplecss_text.proofs.reading.Lawful.{Lawful, Owes, blank-lawful, byte-lawful, lawful-cases, lawful-keeps, lawful-stands, name-lawful, optional-lawful, owes-choice, owes-fails, owes-follow, owes-give, owes-if, owes-left, owes-past, owes-so, owes-starts, passes-starts, past-lawful, past_one-lawful, string_after-lawful}
 
 -- ---- terms
 
@@ -119,6 +120,24 @@ term-lawful = lawful-cases term term (owes-fails ended ended [] []) (λ b r s.
 pub term-stands : (edition : Edition) (text : List ℕ) → Stands text no_texts (term edition text)
 term-stands edition text = lawful-stands term term term-lawful edition text
 
+word-cuts : (edition : Edition) (text : List ℕ) → Cuts text (word edition text)
+unfolding word
+word-cuts edition text = cuts-follow text (name edition text) (λ n. arguments) (name-cuts edition text) (λ n rest. lawful-keeps _ _ arguments-lawful edition rest)
+
+quoted-keeps : (quote : ℕ) (text : List ℕ) → Keeps text (quoted quote text)
+quoted-keeps quote text = keeps-follow text (string_after quote text) _ (string_up_to-keeps text (from_quote quote quote text) (from_quote-leaves quote quote text)) (λ inside rest. omega arith)
+
+-- a term takes a byte or more
+pub term-cuts : (edition : Edition) (text : List ℕ) → Cuts text (term edition text)
+unfolding term
+term-cuts edition [] = omega arith
+term-cuts edition (b ∷ text) =
+    cuts-if (b ∷ text) (b == 35) _ _ (omega (arith, length-ends text _ ((past_hash-owes text text _ _ (name-lawful text text)).ends edition)))
+    (cuts-if (b ∷ text) (begins_number b) _ _ (omega (arith, length-ends text _ ((past_number-lawful text text).ends edition)))
+    (cuts-if (b ∷ text) (is_quote b) _ _ (keeps-cuts text (b ∷ text) (quoted b text) (omega arith) (quoted-keeps b text))
+    (cuts-if (b ∷ text) (b == 44 || is_slash_term edition b text) _ _ (omega arith)
+    (word-cuts edition (b ∷ text)))))
+
 -- ---- values
 
 term_in_value-ends : (edition : Edition) (text : List ℕ) → EndsFound text (term_in_value edition text)
@@ -127,6 +146,13 @@ term_in_value-ends edition text = by (term edition text) ((term-lawful text text
     by : (r : Reading (Unit {0})) → Ends text (left_after r) → EndsFound text (after_term r)
     by (got x rest) h = ends-ends text rest (past_blank rest) h (ends-past_blank rest)
     by (fails fault rest) h = tt
+
+after_term-shrinks : (text : List ℕ) (r : Reading (Unit {0})) → Cuts text r → Shrinks text (after_term r)
+after_term-shrinks text (got u rest) h = omega (arith, length-past_blank rest)
+after_term-shrinks text (fails fault rest) h = tt
+
+pub term_in_value-takes : (edition : Edition) → Takes (term_in_value edition)
+term_in_value-takes edition text = after_term-shrinks text (term edition text) (term-cuts edition text)
 
 -- what is left after the terms of a value
 ends-terms : (edition : Edition) (text : List ℕ) → Ends text (terms edition text).1
@@ -201,6 +227,14 @@ semicolon-ends (b ∷ text) = by (b == 59)
     by true = ends-cons b text (past_blank text) (ends-past_blank text)
     by false = tt
 
+pub semicolon-takes : Takes semicolon
+semicolon-takes [] = tt
+semicolon-takes (b ∷ text) = by (b == 59)
+  where
+    by : (t : Bool) → Shrinks (b ∷ text) (if t then Some (tt {0}, past_blank text) else None)
+    by true = omega (arith, length-past_blank text)
+    by false = tt
+
 semicolon-step : (u v r s : List ℕ) → Along 125 (u ++ v) u r s → Step Equal Never 125 (u ++ v) u r (semicolon r) (semicolon s)
 semicolon-step u v r s at = tt
 semicolon-step u v r s (on b r1 s1 room h) = by (b == 59)
@@ -267,18 +301,40 @@ trailing-stands text = lawful-stands (λ edition. trailing) (λ edition. trailin
 unless_empty-lawful : (start other : List ℕ) (property : Property) → Lawful (λ edition. unless_empty start property) (λ edition. unless_empty other property)
 unless_empty-lawful start other property r s = owes-if (length property.value == 0) (owes-fails _ _ r s) (owes-give property r s)
 
-pub declaration-lawful : Lawful declaration declaration
-unfolding declaration
-declaration-lawful r s =
-    owes-follow _ _ (blank-lawful r s) (λ u r s.
-    owes-follow _ _ (optional-lawful 42 r s) (λ u r s.
-    owes-follow _ _ (name-lawful r s) (λ property r s.
+-- a declaration behind its name
+abbrev behind_name : List ℕ → Edition → Reader Property
+behind_name property edition = do
+  blank
+  byte 58
+  blank
+  start ← here
+  stated ← value_reader edition
+  important ← trailing
+  unless_empty start (record { name = property; value = stated; important = important })
+
+behind_name-lawful : (property : List ℕ) → Lawful (behind_name property) (behind_name property)
+behind_name-lawful property r s =
     owes-follow _ _ (blank-lawful r s) (λ u r s.
     owes-follow _ _ (byte-lawful 58 r s) (λ u r s.
     owes-follow _ _ (blank-lawful r s) (λ u start other.
     owes-follow _ _ (value-lawful start other) (λ stated r s.
     owes-follow _ _ (trailing-lawful r s) (λ important.
-    unless_empty-lawful start other (record { name = property; value = stated; important = important })))))))))
+    unless_empty-lawful start other (record { name = property; value = stated; important = important }))))))
+
+pub declaration-lawful : Lawful declaration declaration
+unfolding declaration
+declaration-lawful r s =
+    owes-follow _ _ (blank-lawful r s) (λ u r s.
+    owes-follow _ _ (optional-lawful 42 r s) (λ u r s.
+    owes-follow _ _ (name-lawful r s) behind_name-lawful))
+
+-- it takes a byte or more
+pub declaration-cuts : (edition : Edition) (text : List ℕ) → Cuts text (declaration edition text)
+unfolding declaration
+declaration-cuts edition text =
+    follow-cuts text (blank text) _ (blank-keeps text) (λ u a.
+    follow-cuts a (optional 42 a) _ (length-past_byte 42 a) (λ u b.
+    cuts-follow b (name edition b) _ (name-cuts edition b) (λ property. lawful-keeps _ _ (behind_name-lawful property) edition)))
 
 pub declaration-stands : (edition : Edition) (text : List ℕ) → Stands text no_texts (declaration edition text)
 declaration-stands edition text = lawful-stands declaration declaration declaration-lawful edition text

@@ -76,6 +76,7 @@ owes-past {r = r} {s = s} {a = a} {b = b} c p = record {
     by edition u v (inl l) = inl (omega (arith, length-ends r (left_after (a edition)) (p.ends edition)))
     by edition u v (inr h) = p.guard edition u v h
 
+-- so what is left is never longer
 keeps-ends : {A : Type 0} (text : List ℕ) (r : Reading A) → Ends text (left_after r) → Keeps text r
 keeps-ends text (got x rest) h = length-ends text rest h
 keeps-ends text (fails f rest) h = length-ends text rest h
@@ -115,6 +116,9 @@ lawful-cases m n none some r s = record { ends = λ edition. ended edition r; sa
     by edition u v t w (on b t1 w1 room h) = (some b t1 w1).guard edition u v (on b t1 w1 room h)
 
 -- ---- what comes of it
+
+pub lawful-keeps : {A : Type 0} (m n : Edition → Reader A) → Lawful m n → (edition : Edition) (text : List ℕ) → Keeps text (m edition text)
+lawful-keeps m n p edition text = keeps-ends text (m edition text) ((p text text).ends edition)
 
 pub lawful-stands : {A : Type 0} (m n : Edition → Reader A) → Lawful m n → (edition : Edition) (text : List ℕ) → Stands text no_texts (m edition text)
 lawful-stands {A = A} m n p edition text = by (m edition text) ((p text text).ends edition)

@@ -5,7 +5,7 @@ use Rattle.std.specs.Str.{chars, trim}
 use Rattle.std.specs.Option.{option_map}
 use Rattle.std.specs.List.{prefix_len, take_while}
 use Rattle.std.proofs.lemmas.Str.{length-encode, len_utf8_bounds, chars-nil}
-use Rattle.simplecss_text.specs.Reading.{wrong_byte, no_name, no_comment, no_selector, Reading, got, fails, Reader, follow, found, and_then, up_to, each, before}
+use Rattle.simplecss_text.specs.Reading.{wrong_byte, no_name, no_comment, no_selector, Reading, got, fails, Reader, follow, found, and_then, up_to, each, before, left_after}
 use Rattle.simplecss_text.specs.Bytes.{past, past_one, past_byte, is_digit, byte, all_before, starts_two, starts}
 use Rattle.simplecss_text.specs.Characters.{Edition, is_name_start, is_name_char, is_space}
 use Rattle.simplecss_text.specs.Comments.{opens_comment, after_close, after_comment, blank_part, past_blank, blank, has_space, gap}
@@ -32,8 +32,12 @@ pub cuts-keeps : {A : Type 0} (text : List ℕ) (r : Reading A) → Cuts text r 
 cuts-keeps text (got x rest) h = omega arith
 cuts-keeps text (fails fault rest) h = h
 
+pub length-left_after : {A : Type 0} (text : List ℕ) (r : Reading A) → Keeps text r → length (left_after r) ≤ length text
+length-left_after text (got x rest) h = h
+length-left_after text (fails fault rest) h = h
+
 -- more text in front
-pub keeps-longer : {A : Type 0} (text longer : List ℕ) (r : Reading A) → length text ≤ length longer → Keeps text r → Keeps longer r
+keeps-longer : {A : Type 0} (text longer : List ℕ) (r : Reading A) → length text ≤ length longer → Keeps text r → Keeps longer r
 keeps-longer text longer (got x rest) l h = omega arith
 keeps-longer text longer (fails fault rest) l h = omega arith
 
@@ -58,7 +62,7 @@ pub follow-cuts : {A B : Type 0} (text : List ℕ) (r : Reading A) (next : A →
 follow-cuts text (got x rest) next h n = cuts-longer rest text (next x rest) h (n x rest)
 follow-cuts text (fails fault rest) next h n = h
 
-pub keeps-if : {A : Type 0} (text : List ℕ) (t : Bool) (x y : Reading A) → Keeps text x → Keeps text y → Keeps text (if t then x else y)
+keeps-if : {A : Type 0} (text : List ℕ) (t : Bool) (x y : Reading A) → Keeps text x → Keeps text y → Keeps text (if t then x else y)
 keeps-if text true x y a b = a
 keeps-if text false x y a b = b
 
@@ -86,11 +90,11 @@ abbrev pub Leaves : List ℕ → Option (List ℕ) → Type 0
 Leaves text None = Unit {0}
 Leaves text (Some rest) = length rest ≤ length text
 
-pub leaves-if : (text : List ℕ) (t : Bool) (x y : Option (List ℕ)) → Leaves text x → Leaves text y → Leaves text (if t then x else y)
+leaves-if : (text : List ℕ) (t : Bool) (x y : Option (List ℕ)) → Leaves text x → Leaves text y → Leaves text (if t then x else y)
 leaves-if text true x y a b = a
 leaves-if text false x y a b = b
 
-pub leaves-longer : (text longer : List ℕ) (o : Option (List ℕ)) → length text ≤ length longer → Leaves text o → Leaves longer o
+leaves-longer : (text longer : List ℕ) (o : Option (List ℕ)) → length text ≤ length longer → Leaves text o → Leaves longer o
 leaves-longer text longer None l h = tt
 leaves-longer text longer (Some rest) l h = omega arith
 
@@ -171,7 +175,7 @@ name-cuts edition text = by (begins_name edition (chars text)) refl
     by true e = omega (arith, name_bytes edition (chars text) e, some_text edition text e, length-drop (length (encode_utf8_all (take_while (is_name_char edition) (chars text)))) text)
     by false e = length-past_byte 45 text
 
-pub byte-cuts : (c : ℕ) (text : List ℕ) → Cuts text (byte c text)
+byte-cuts : (c : ℕ) (text : List ℕ) → Cuts text (byte c text)
 byte-cuts c [] = omega arith
 byte-cuts c (b ∷ text) = by (b == c)
   where
