@@ -14,8 +14,9 @@ use Rattle.simplecss_text.specs.Neighbours.Left.{open_left, closed_left}
 use Rattle.simplecss_text.specs.Neighbours.Follows.{subselector, universal, type_name, combinator, stop, slash, faulty_piece, faulty_gap}
 use Rattle.simplecss_text.specs.TokenRuns.{Run, run, run_from, items, answered, left_with, token_then, ending_run}
 use Rattle.simplecss_text.specs.Declarations.{next_declaration, declarations}
+use Rattle.simplecss_text.proofs.reading.PiecesLawful.{begun-cuts}
 use Rattle.simplecss_text.proofs.reading.EachLaws.{Shrinks, Takes}
-use Rattle.simplecss_text.proofs.reading.TakesLaws.{Cuts, blank_part-takes, begun-cuts}
+use Rattle.simplecss_text.proofs.reading.TakesLaws.{Cuts, blank_part-takes}
 use Rattle.simplecss_text.proofs.bytes.GapLaws.{gap_is_closed, gap_is_open}
 use Rattle.simplecss_text.proofs.reading.RunSteps.{fault_end, begun_run, solid_run, gap_run, run_from-by}
 

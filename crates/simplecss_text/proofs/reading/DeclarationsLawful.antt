@@ -1,5 +1,5 @@
--- Terms, values and declarations owe what every reader owes.
--- Serves `StyleSheet::{parse, parse_more}` and `laws::{cutting_law, edition_law}`, `take_value` and `consume_declaration`.
+-- Terms, values and declarations owe what every reader owes, and take bytes.
+-- Serves `take_value`, `consume_declaration`, `StyleSheet::{parse, parse_more}` and `laws::{cutting_law, edition_law}`.
 use Rattle.std.proofs.Common.{◌≡◌, ◌⊎◌, ◌≤◌, Bool, List, None, Option, Some, [], ap, arith, codes, drop, eqb, false, if◌then◌else◌, inl, inr, length, not, refl, true, ℕ, ◌&&◌, ◌++◌, ◌==◌, ◌||◌, ◌∙◌, ◌∷◌}
 use Rattle.std.specs.List.{starts_with}
 use Rattle.std.specs.Str.{trim}
@@ -20,7 +20,7 @@ use Rattle.simplecss_text.proofs.cutting.GuardLaws.{Along, Equal, Guard, Guarded
 use Rattle.simplecss_text.proofs.cutting.NameGuards.{drop-to}
 use Rattle.simplecss_text.proofs.cutting.SearchLaws.{brace_plain, byte-finds, closed_or-guard, past_blank-to}
 use Rattle.simplecss_text.proofs.editions.EditionLaws.{Shared, each-editions, shared-ends}
-use Rattle.simplecss_text.proofs.reading.Lawful.{Lawful, Owes, blank-lawful, byte-lawful, lawful-cases, lawful-keeps, lawful-stands, name-lawful, optional-lawful, owes-choice, owes-fails, owes-follow, owes-give, owes-if, owes-left, owes-past, owes-so, owes-starts, passes-starts, past-lawful, past_one-lawful, string_after-lawful}
+use Rattle.simplecss_text.proofs.reading.Lawful.{Lawful, Owes, blank-lawful, byte-lawful, lawful-cases, lawful-keeps, lawful-stands, name-lawful, optional-lawful, owes-choice, owes-cuts, owes-fails, owes-follow, owes-give, owes-if, owes-left, owes-past, owes-so, owes-starts, passes-starts, past-lawful, past_one-lawful, string_after-lawful}
 
 -- ---- terms
 
@@ -132,8 +132,8 @@ pub term-cuts : (edition : Edition) (text : List ℕ) → Cuts text (term editio
 unfolding term
 term-cuts edition [] = omega arith
 term-cuts edition (b ∷ text) =
-    cuts-if (b ∷ text) (b == 35) _ _ (omega (arith, length-ends text _ ((past_hash-owes text text _ _ (name-lawful text text)).ends edition)))
-    (cuts-if (b ∷ text) (begins_number b) _ _ (omega (arith, length-ends text _ ((past_number-lawful text text).ends edition)))
+    cuts-if (b ∷ text) (b == 35) _ _ (owes-cuts b (past_hash-owes text text _ _ (name-lawful text text)) edition)
+    (cuts-if (b ∷ text) (begins_number b) _ _ (owes-cuts b (past_number-lawful text text) edition)
     (cuts-if (b ∷ text) (is_quote b) _ _ (keeps-cuts text (b ∷ text) (quoted b text) (omega arith) (quoted-keeps b text))
     (cuts-if (b ∷ text) (b == 44 || is_slash_term edition b text) _ _ (omega arith)
     (word-cuts edition (b ∷ text)))))

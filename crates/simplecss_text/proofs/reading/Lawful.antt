@@ -1,5 +1,5 @@
 -- What every reader owes, as one record, and what keeps it: choosing, passing a byte, reading one thing after another.
--- Serves `StyleSheet::{parse, parse_more}` and `laws::{cutting_law, edition_law}`, and `take_value` (ends of a text).
+-- Serves the tokenizers, `take_value`, `StyleSheet::{parse, parse_more}` and `laws::{cutting_law, edition_law}`.
 use Rattle.std.proofs.Common.{◌≡◌, ℕ, List, [], ◌∷◌, ◌++◌, Bool, true, false, if◌then◌else◌, arith, refl, ap, subst, sym, ◌∙◌, inl, inr}
 use Rattle.simplecss_text.specs.Reading.{Ends, Fault, Reader, Reading, fails, follow, got, left_after}
 use Rattle.simplecss_text.specs.Bytes.{byte, optional, past, past_one, starts}
@@ -8,7 +8,7 @@ use Rattle.simplecss_text.specs.Comments.{blank}
 use Rattle.simplecss_text.specs.Names.{name}
 use Rattle.simplecss_text.specs.Strings.{from_quote, is_quote, string_after}
 use Rattle.simplecss_text.proofs.reading.EndsLaws.{Stands, itself, stands-ends, ends-cons, ends-ends, ends-past, ends-past_byte, ends-past_one, ends-same, length-ends, no_texts}
-use Rattle.simplecss_text.proofs.reading.TakesLaws.{Keeps}
+use Rattle.simplecss_text.proofs.reading.TakesLaws.{Cuts, Keeps, keeps-cuts}
 use Rattle.simplecss_text.proofs.reading.StandLaws.{blank-stands, byte-stands, from_quote-ends, name-stands, string_up_to-stands}
 use Rattle.simplecss_text.proofs.cutting.GuardLaws.{Along, Equal, Guard, To, at, byte-guarded, guard-follow, guard-got, guard-if, left-to, on, past-to, past_byte-along, past_one-along, starts-along}
 use Rattle.simplecss_text.proofs.cutting.NameGuards.{name-guarded}
@@ -119,6 +119,10 @@ lawful-cases m n none some r s = record { ends = λ edition. ended edition r; sa
 
 pub lawful-keeps : {A : Type 0} (m n : Edition → Reader A) → Lawful m n → (edition : Edition) (text : List ℕ) → Keeps text (m edition text)
 lawful-keeps m n p edition text = keeps-ends text (m edition text) ((p text text).ends edition)
+
+-- behind a byte that was passed it is less
+pub owes-cuts : {A : Type 0} {r s : List ℕ} {a b : Edition → Reading A} (c : ℕ) → Owes r s a b → (edition : Edition) → Cuts (c ∷ r) (a edition)
+owes-cuts {r = r} {a = a} c p edition = keeps-cuts r (c ∷ r) (a edition) (omega arith) (keeps-ends r (a edition) (p.ends edition))
 
 pub lawful-stands : {A : Type 0} (m n : Edition → Reader A) → Lawful m n → (edition : Edition) (text : List ℕ) → Stands text no_texts (m edition text)
 lawful-stands {A = A} m n p edition text = by (m edition text) ((p text text).ends edition)

@@ -1,5 +1,5 @@
--- The pieces of a selector owe what every reader owes.
--- Serves `StyleSheet::{parse, parse_more}` and `laws::{cutting_law, edition_law}`.
+-- The pieces of a selector owe what every reader owes, and take bytes.
+-- Serves `SelectorTokenizer`, `StyleSheet::{parse, parse_more}` and `laws::{cutting_law, edition_law}`.
 use Rattle.std.proofs.Common.{◌≡◌, ◌≤◌, Bool, List, [], ap, arith, bytes_eq, codes, false, if◌then◌else◌, inl, inr, length, not, refl, true, ℕ, ◌++◌, ◌==◌, ◌||◌, ◌∷◌}
 use Rattle.std.specs.List.{list_any}
 use Rattle.std.specs.Str.{trim}
@@ -7,14 +7,17 @@ use Rattle.simplecss_text.specs.Reading.{Reading, before, each, ended, fails, fo
 use Rattle.simplecss_text.specs.Bytes.{all_before, past, starts}
 use Rattle.simplecss_text.specs.Characters.{Edition}
 use Rattle.simplecss_text.specs.Comments.{blank, blank_part, gap, opens_comment}
+use Rattle.simplecss_text.specs.Names.{name}
 use Rattle.simplecss_text.specs.Strings.{is_quote, string_or_name}
 use Rattle.simplecss_text.specs.Components.{Operator}
 use Rattle.simplecss_text.specs.Components.Operator.{begins_with, equals, exists, has_word}
 use Rattle.simplecss_text.specs.Tokens.{Token}
 use Rattle.simplecss_text.specs.Tokens.Token.{adjacent_combinator, attribute_selector, child_combinator, class_selector, id_selector, lang_pseudo_class, named_pseudo_class, type_selector, universal_selector}
-use Rattle.simplecss_text.specs.Pieces.{attribute_after, attribute_operator, begun, equated, is_stop, lang_after, lang_of, named, pseudo_class_after, pseudo_class_named, solid}
+use Rattle.simplecss_text.specs.Pieces.{attribute_after, attribute_operator, begun, equated, is_stop, lang_after, lang_of, named, next_piece, piece, pseudo_class_after, pseudo_class_named, solid}
+use Rattle.simplecss_text.proofs.reading.EachLaws.{Takes}
+use Rattle.simplecss_text.proofs.reading.TakesLaws.{Cuts, cuts-follow, cuts-if, follow-cuts, found-shrinks, gap-keeps, name-cuts}
 use Rattle.simplecss_text.proofs.reading.EndsLaws.{ends-past}
-use Rattle.simplecss_text.proofs.reading.Lawful.{Lawful, byte-lawful, lawful-cases, name-lawful, owes-choice, owes-fails, owes-follow, owes-give, owes-if, owes-past, owes-so, string_after-lawful}
+use Rattle.simplecss_text.proofs.reading.Lawful.{Lawful, byte-lawful, lawful-cases, name-lawful, owes-choice, owes-cuts, owes-fails, owes-follow, owes-give, owes-if, owes-past, owes-so, string_after-lawful}
 use Rattle.simplecss_text.proofs.cutting.GuardLaws.{Along, Equal, Guard, Guarded, Never, Repeats, To, at, before-along, not_empty, on, pairs-equal, past-to, starts-along}
 use Rattle.simplecss_text.proofs.cutting.SearchLaws.{blank-repeats, brace_plain, opens_comment-along}
 
@@ -131,3 +134,36 @@ gap_of-to t u a b (inr (inr k)) = by (opens_comment a.1) (opens_comment b.1) (op
 pub gap-guarded : (u v : List ℕ) → Guarded Equal 125 (u ++ v) u gap gap
 unfolding gap blank
 gap-guarded u v r s h = gap_of-to (u ++ v) u (each blank_part r) (each blank_part s) (blank-repeats 125 u v brace_plain r s h)
+
+-- ---- pieces take a byte or more
+
+named-cuts : (edition : Edition) (token : List ℕ → Token) (text : List ℕ) → Cuts text (named edition token text)
+unfolding named
+named-cuts edition token text = cuts-follow text (name edition text) (λ n. got (token n)) (name-cuts edition text) (λ n rest. omega arith)
+
+pub begun-cuts : (edition : Edition) (text : List ℕ) → Cuts text (begun edition text)
+unfolding begun
+begun-cuts edition [] = named-cuts edition type_selector []
+begun-cuts edition (b ∷ text) =
+    cuts-if (b ∷ text) (b == 62) _ _ (omega arith)
+    (cuts-if (b ∷ text) (b == 43) _ _ (omega arith)
+    (cuts-if (b ∷ text) (b == 42) _ _ (omega arith)
+    (cuts-if (b ∷ text) (b == 35) _ _ (owes-cuts b (named-lawful id_selector text text) edition)
+    (cuts-if (b ∷ text) (b == 46) _ _ (owes-cuts b (named-lawful class_selector text text) edition)
+    (cuts-if (b ∷ text) (b == 91) _ _ (owes-cuts b (attribute_after-lawful text text) edition)
+    (cuts-if (b ∷ text) (b == 58) _ _ (owes-cuts b (pseudo_class_after-lawful text text) edition)
+    (named-cuts edition type_selector (b ∷ text))))))))
+
+-- a solid piece takes a byte or more
+pub solid-cuts : (edition : Edition) (text : List ℕ) → Cuts text (solid edition text)
+unfolding solid
+solid-cuts edition text = cuts-if text (is_stop text || starts 47 text) (fails no_selector text) (begun edition text) (omega arith) (begun-cuts edition text)
+
+piece-cuts : (edition : Edition) (text : List ℕ) → Cuts text (piece edition text)
+unfolding piece
+piece-cuts edition text =
+    follow-cuts text (gap text) _ (gap-keeps text) (λ spaced start.
+    cuts-follow start (solid edition start) _ (solid-cuts edition start) (λ token after. omega arith))
+
+pub next_piece-takes : (edition : Edition) → Takes (next_piece edition)
+next_piece-takes edition text = found-shrinks text (piece edition text) (piece-cuts edition text)

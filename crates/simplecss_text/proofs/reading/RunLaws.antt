@@ -9,8 +9,8 @@ use Rattle.simplecss_text.specs.Neighbours.{Left, Answer, before_piece, before_e
 use Rattle.simplecss_text.specs.Neighbours.Left.{open_left, closed_left}
 use Rattle.simplecss_text.specs.Neighbours.Answer.{nothing, descends, ends_tokens, refuses}
 use Rattle.simplecss_text.specs.TokenRuns.{Run, run, run_from, run_of, answered, left_with, token_then, ending_run, start_of, fault_count}
+use Rattle.simplecss_text.proofs.reading.PiecesLawful.{next_piece-takes}
 use Rattle.simplecss_text.proofs.reading.EachLaws.{each-none, each-some}
-use Rattle.simplecss_text.proofs.reading.TakesLaws.{next_piece-takes}
 
 -- a piece is read: what stands between it and the left side, its token, and the run behind it
 pub run_from-piece : (edition : Edition) (left : Left) (text after : List ℕ) (p : Piece) → piece edition text ≡ got p after → run_from edition left text ≡ answered (before_piece left p) p.start (token_then p.token p.after (run_from edition (left_behind p.token) after))
