@@ -12,9 +12,8 @@ use Rattle.simplecss_text.specs.Terms.{term}
 use Rattle.simplecss_text.specs.Declarations.{after_term, term_in_value, last_or, value, semicolon, trailing}
 use Rattle.simplecss_text.proofs.reading.EndsLaws.{no_texts, itself, ends-ends, ends-got, ends-past_byte, stands-got, stand-from, stand-to, stand-append}
 use Rattle.simplecss_text.proofs.reading.StandLaws.{blank-stands, byte-stands, name-stands}
-use Rattle.simplecss_text.proofs.reading.DeclarationStandLaws.{trailing-stands}
+use Rattle.simplecss_text.proofs.reading.DeclarationsLawful.{semicolon-takes, term_in_value-takes, trailing-stands}
 use Rattle.simplecss_text.proofs.reading.EachLaws.{took, each-none, each-some}
-use Rattle.simplecss_text.proofs.reading.DeclarationLaws.{term_in_value-takes, semicolon-takes}
 
 pub terms-some : (edition : Edition) (text rest : List ℕ) → term edition text ≡ got tt rest → each (term_in_value edition) text ≡ followed_by rest (each (term_in_value edition) (past_blank rest))
 terms-some edition text rest e = each-some (term_in_value edition) (term_in_value-takes edition) text (past_blank rest) rest (ap after_term e)

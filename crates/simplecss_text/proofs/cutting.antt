@@ -1,13 +1,10 @@
 -- Texts that are read in pieces.
 pub mod GuardLaws
 pub mod SearchLaws
-pub mod TermGuards
 pub mod NameGuards
-pub mod DeclarationGuards
 pub mod BlockGuards
 pub mod BlockEndGuards
 pub mod BlockCuts
-pub mod PieceGuards
 pub mod OutcomeGuards
 pub mod SelectorGuards
 pub mod RuleSetCuts

@@ -13,6 +13,8 @@ pub mod StandLaws
 pub mod RunStandLaws
 pub mod BeforeLaws
 pub mod GivesLaws
+pub mod Lawful
+pub mod DeclarationsLawful
+pub mod PiecesLawful
 pub mod LeastLaws
-pub mod DeclarationStandLaws
 pub mod RunSteps

@@ -1,4 +1,5 @@
 -- A declaration that was read, printed and read again.
+-- Serves `prints_back` of `StyleSheet::{parse, parse_all, parse_more}` (a sheet printed and read again).
 use Rattle.std.proofs.Common.{◌≡◌, ℕ, inl, inr, List, [], ◌∷◌, ◌++◌, Bool, true, false, if◌then◌else◌, ◌==◌, length, codes, refl, sym, ap, ◌∙◌, subst, append_assoc, arith, IsUtf8, Option, Some, None}
 use Rattle.std.specs.Option.{option_map}
 use Rattle.std.proofs.lemmas.Bool.Decides.{nat_tests}
@@ -12,13 +13,12 @@ use Rattle.simplecss_text.specs.Terms.{arguments, word, term}
 use Rattle.simplecss_text.specs.Declarations.{Property, last_or, terms, value, important_word, importance, semicolon, semicolons, trailing, unless_empty, declaration}
 use Rattle.simplecss_text.specs.Printing.{important_text, property_text}
 use Rattle.simplecss_text.specs.PrintingLaws.{IsNarrow, DeclarationReadsBack}
+use Rattle.simplecss_text.proofs.reading.DeclarationsLawful.{semicolon-takes}
 use Rattle.simplecss_text.proofs.reading.EndsLaws.{before-append, ends-past_byte, Stands, no_texts}
-use Rattle.simplecss_text.proofs.reading.StandLaws.{byte-stands, blank-stands}
-use Rattle.simplecss_text.proofs.reading.DeclarationStandLaws.{name_unseen-stands}
+use Rattle.simplecss_text.proofs.reading.StandLaws.{blank-stands, byte-stands, name_unseen-stands}
 use Rattle.simplecss_text.proofs.printed.PrintedNames.{IsName, name-reads, ends_names}
 use Rattle.simplecss_text.proofs.printed.PrintedSelectors.{ends_low}
 use Rattle.simplecss_text.proofs.reading.EachLaws.{each-none, each-some}
-use Rattle.simplecss_text.proofs.reading.DeclarationLaws.{semicolon-takes}
 use Rattle.simplecss_text.proofs.bytes.GapLaws.{past_blank-again}
 use Rattle.simplecss_text.proofs.printed.PrintedHeads.{NoGap, IsNameByte, no_gap-byte, no_gap-name, blank-at, name-first, other_byte}
 use Rattle.simplecss_text.proofs.printed.TailLaws.{Quiet, Tails, quiet-semicolon, quiet-space}
@@ -266,26 +266,3 @@ property-reads_back edition p w text o e =
     ∙ ap from_name star
     ∙ follow-got (name edition whole) p.name behind (λ m. behind_name edition m) (name-reads edition p.name behind w.name_is (colon_ends edition (p.value ++ (important_text p.important ++ (59 ∷ text)))))
     ∙ behind_name-reads edition p text (past_blank text) w.some (stated-again edition p.value p.important text w.value_is o e)
-
--- So does each declaration of a text without white space past ASCII.
-pub declaration-reads_back : (edition : Edition) (text left : List ℕ) (p : Property) → IsNarrow text → declaration edition text ≡ got p left → DeclarationReadsBack edition p
-declaration-reads_back edition text left p n e = property-reads_back edition p (got-holds (λ p rest. IsProperty edition p) (declaration edition text) p left (declaration-is edition text n) e)
-
-no_semicolon : (edition : Edition) (b : ℕ) (text : List ℕ) → IsNameByte edition b → (b == 59) ≡ false
-no_semicolon first_edition b text w = other_byte first_edition 59 b (omega arith) refl w
-no_semicolon second_edition b text w = other_byte second_edition 59 b (omega arith) refl w
-
--- Before a name, what is left begins at that name.
-pub reads_back-before_name : (edition : Edition) (p : Property) (n text : List ℕ) → DeclarationReadsBack edition p → IsName edition n → declaration edition (property_text p ++ (n ++ text)) ≡ got p (n ++ text)
-reads_back-before_name edition p n text back w =
-    let f = name-first edition n w in
-    let begins : n ++ text ≡ f.first ∷ (f.others ++ text) = ap (λ l. l ++ text) f.is in
-    let calm : NoGap (n ++ text) = subst NoGap (sym begins) (no_gap-name edition f.first (f.others ++ text) f.fit) in
-    let behind : past_blank (n ++ text) ≡ n ++ text = ap (λ r. r.1) calm.none in
-    back (n ++ text) (ap opens_comment behind ∙ calm.closed) (ap (starts 59) (behind ∙ begins) ∙ no_semicolon edition f.first (f.others ++ text) f.fit) ∙ ap (got p) behind
-
--- Before a space and a brace, what is left begins at the brace.
-pub reads_back-before_brace : (edition : Edition) (p : Property) (text : List ℕ) → DeclarationReadsBack edition p → declaration edition (property_text p ++ (codes " }" ++ text)) ≡ got p (codes "}" ++ text)
-reads_back-before_brace edition p text back =
-    let behind : past_blank (32 ∷ 125 ∷ text) ≡ 125 ∷ text = past_blank-space 32 (125 ∷ text) refl ∙ ap (λ r. r.1) (no_gap-byte 125 text refl refl).none in
-    back (32 ∷ 125 ∷ text) (ap opens_comment behind) (ap (starts 59) behind) ∙ ap (got p) behind

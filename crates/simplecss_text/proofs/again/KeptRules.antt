@@ -1,4 +1,5 @@
 -- What the rules of a text are.
+-- Serves `selectors` and `prints_back` of `StyleSheet::{parse, parse_all, parse_more}` (a sheet printed and read again).
 use Rattle.std.proofs.Common.{◌≡◌, ℕ, ◌+◌, List, [], ◌∷◌, ◌++◌, Bool, true, false, cond, if◌then◌else◌, not, ◌==◌, length, map, filter, Option, Some, None, IfSome, arith, refl, sym, ap, ◌∙◌, IsUtf8}
 use Rattle.std.specs.List.{flat_map, filter_map, find, cons_option, enumerate_from, range_with_len, AllByRecursion}
 use Rattle.std.specs.Option.{option_map}
@@ -15,7 +16,7 @@ use Rattle.simplecss_text.specs.Ranks.{rank_by, of_rank, ordered_by}
 use Rattle.simplecss_text.specs.Sheets.{is_smaller, sheet}
 use Rattle.simplecss_text.proofs.reading.EndsLaws.{ends-ends, ends-past, ends-past_one, ends-past_byte, Stands, no_texts}
 use Rattle.simplecss_text.proofs.reading.StandLaws.{ends-past_blank}
-use Rattle.simplecss_text.proofs.reading.DeclarationStandLaws.{declaration-stands}
+use Rattle.simplecss_text.proofs.reading.DeclarationsLawful.{declaration-stands}
 use Rattle.simplecss_text.proofs.printed.PrintedSelectors.{IsSelector}
 use Rattle.simplecss_text.proofs.printed.GotLaws.{utf8-past_one, IfGot, IfTaken, each-all}
 use Rattle.simplecss_text.proofs.bytes.Utf8Laws.{utf8-past_byte_if}
@@ -75,7 +76,7 @@ each_found P (None ∷ os) h = each_found P os h.1
 each_found P (Some x ∷ os) h = (h.0, each_found P os h.1)
 
 -- of two lists
-pub all-append : {A : Type 0} (P : A → Type 0) (xs ys : List A) → AllByRecursion P xs → AllByRecursion P ys → AllByRecursion P (xs ++ ys)
+all-append : {A : Type 0} (P : A → Type 0) (xs ys : List A) → AllByRecursion P xs → AllByRecursion P ys → AllByRecursion P (xs ++ ys)
 all-append P [] ys h k = k
 all-append P (x ∷ xs) ys h k = (h.0, all-append P xs ys h.1 k)
 

@@ -1,4 +1,5 @@
 -- The selectors of a sheet read back.
+-- Serves `selectors` of `StyleSheet::{parse, parse_all, parse_more}` (the selectors of a sheet printed and read again).
 use Rattle.std.proofs.Common.{false, ℕ, ◌≡◌, List, [], ◌∷◌, ◌++◌, false, filter, IsUtf8}
 use Rattle.std.specs.List.{AllByRecursion, All}
 use Rattle.std.proofs.lemmas.List.Elements.{All-nil, All-push, All-append, All-weaker, All-filter, All-from_recursion, recursion_from_All}
@@ -39,13 +40,13 @@ to_each : (edition : Edition) (rules : List StyleRule) → SelectorsReadBack edi
 to_each edition rules h k d less = (h.each_selector k d less, h.no_hyphen k d less)
 
 -- The selectors of the rules that a text gives read back, and none ends in a lone hyphen.
-pub kept-reads_back : (edition : Edition) (text : List ℕ) → IsUtf8 text → SelectorsReadBack edition (kept edition text)
+kept-reads_back : (edition : Edition) (text : List ℕ) → IsUtf8 text → SelectorsReadBack edition (kept edition text)
 kept-reads_back edition text u =
     from_each edition (kept edition text) (All-from_recursion (ReadsBackAsKept edition) (kept edition text)
     (kept-both edition Anything (kept edition text) (kept-are edition IsUtf8 Anything (texts-known edition) text u)))
 
 -- So do those of rules in the order of their specificity.
-pub ordered-reads_back : (edition : Edition) (rules : List StyleRule) → SelectorsReadBack edition rules → SelectorsReadBack edition (ordered rules)
+ordered-reads_back : (edition : Edition) (rules : List StyleRule) → SelectorsReadBack edition rules → SelectorsReadBack edition (ordered rules)
 ordered-reads_back edition rules h =
     let P : StyleRule → Type 0 = ReadsBackAsKept edition in
     from_each edition (ordered rules) (All-from_recursion P (ordered rules) (all-ordered_by P is_smaller rules (recursion_from_All P rules (to_each edition rules h))))

@@ -1,4 +1,5 @@
 -- What terms, values and declarations leave of a text is a text.
+-- Serves `selectors` and `prints_back` of `StyleSheet::{parse, parse_all, parse_more}` (a sheet printed and read again).
 use Rattle.std.proofs.Common.{◌≡◌, ℕ, ◌<◌, List, [], ◌∷◌, ◌++◌, Bool, true, false, if◌then◌else◌, ◌||◌, ◌==◌, length, take, drop, Option, Some, None, codes, eqb, arith, refl, sym, ap, ◌∙◌, subst, IsUtf8}
 use Rattle.std.specs.List.{starts_with}
 use lib.Utf8.{encode}
@@ -28,12 +29,12 @@ abbrev pub LeavesText : {A : Type 0} → Reading A → Type 0
 LeavesText r = IsUtf8 (left_after r)
 
 -- one thing after another
-pub text-follow : {A B : Type 0} (r : Reading A) (next : A → Reader B) → LeavesText r → ((x : A) (rest : List ℕ) → IsUtf8 rest → LeavesText (next x rest)) → LeavesText (follow r next)
+text-follow : {A B : Type 0} (r : Reading A) (next : A → Reader B) → LeavesText r → ((x : A) (rest : List ℕ) → IsUtf8 rest → LeavesText (next x rest)) → LeavesText (follow r next)
 text-follow (got x rest) next h more = more x rest h
 text-follow (fails fault rest) next h more = h
 
 -- on both sides of a test
-pub text-if : {A : Type 0} (t : Bool) (x y : Reading A) → (t ≡ true → LeavesText x) → (t ≡ false → LeavesText y) → LeavesText (if t then x else y)
+text-if : {A : Type 0} (t : Bool) (x y : Reading A) → (t ≡ true → LeavesText x) → (t ≡ false → LeavesText y) → LeavesText (if t then x else y)
 text-if true x y a b = a refl
 text-if false x y a b = b refl
 

@@ -1,4 +1,5 @@
 -- A sheet that was read, printed and read again.
+-- Serves `prints_back` of `StyleSheet::{parse, parse_all, parse_more}` (a sheet printed and read again).
 use Rattle.std.proofs.Common.{subst, ◌≡◌, ℕ, List, [], ◌∷◌, ◌++◌, Bool, true, false, if◌then◌else◌, ◌==◌, length, map, filter, refl, sym, ap, ◌∙◌, append-nil, Option, Some, None}
 use Rattle.std.specs.List.{flat_map, AllByRecursion, All}
 use Rattle.std.proofs.lemmas.List.Elements.{All-nil, All-push, All-from_recursion, recursion_from_All}
@@ -88,7 +89,7 @@ abbrev kept_of : List (List StyleRule) → List StyleRule
 kept_of listed = filter has_property (flat_map (λ rules. rules) listed)
 
 -- The kept rules of a printed sheet are its rules.
-pub kept-again : (edition : Edition) (rules : List StyleRule) → AllByRecursion (Printable edition) rules → kept edition (sheet_text rules) ≡ rules
+kept-again : (edition : Edition) (rules : List StyleRule) → AllByRecursion (Printable edition) rules → kept edition (sheet_text rules) ≡ rules
 unfolding statements
 kept-again edition [] w = ap (λ (r : List (List StyleRule) × List ℕ). kept_of r.0) (each-none (next_statement edition) [] (nothing_left edition))
 kept-again edition (rule ∷ rules) w =
@@ -96,7 +97,7 @@ kept-again edition (rule ∷ rules) w =
     ∙ ap (filter has_property) (each-alone (rule ∷ rules)) ∙ all-have edition (rule ∷ rules) w
 
 -- The printed sheet of rules that read back gives the rules, in their order.
-pub ordered-again : (edition : Edition) (rules : List StyleRule) → AllByRecursion (Printable edition) rules → sheet edition (sheet_text rules ∷ []) ≡ ordered rules
+ordered-again : (edition : Edition) (rules : List StyleRule) → AllByRecursion (Printable edition) rules → sheet edition (sheet_text rules ∷ []) ≡ ordered rules
 ordered-again edition rules w = ap ordered (append-nil (kept edition (sheet_text rules)) ∙ kept-again edition rules w)
 
 declarations-back : (edition : Edition) (ps : List Property) → AllByRecursion (IsProperty edition) ps → AllByRecursion (DeclarationReadsBack edition) ps

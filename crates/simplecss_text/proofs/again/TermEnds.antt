@@ -1,4 +1,5 @@
 -- A term neither begins nor ends with white space of ASCII.
+-- Serves `selectors` and `prints_back` of `StyleSheet::{parse, parse_all, parse_more}` (a sheet printed and read again).
 use Rattle.std.proofs.Common.{◌≡◌, ℕ, suc, ◌<◌, ◌≤◌, ◌⊎◌, inl, inr, List, [], ◌∷◌, ◌++◌, Bool, true, false, if◌then◌else◌, ◌||◌, ◌&&◌, not, ◌==◌, nat_lt, length, get_or, Option, Some, None, arith, refl, sym, ap, ◌∙◌, subst, length-append, append_assoc, append-nil, encode_utf8, encode_utf8_all, IsUtf8}
 use Rattle.std.specs.List.{list_all}
 use Rattle.std.proofs.lemmas.Str.{inside_one, encode_ascii, length-encode, len_utf8_bounds}
@@ -11,10 +12,10 @@ use Rattle.simplecss_text.specs.Characters.{Edition, first_edition, second_editi
 use Rattle.simplecss_text.specs.Names.{name}
 use Rattle.simplecss_text.specs.Strings.{is_quote, from_quote, string_up_to}
 use Rattle.simplecss_text.specs.Terms.{is_hex_digit, past_hash, past_decimals, past_unit, past_number, arguments, word, quoted, is_slash_term, begins_number, term}
+use Rattle.simplecss_text.proofs.reading.DeclarationsLawful.{term-cuts}
 use Rattle.simplecss_text.proofs.printed.PrintedNames.{begins_any_name, both_true}
 use Rattle.simplecss_text.proofs.printed.PrintedHeads.{same_byte}
 use Rattle.simplecss_text.proofs.reading.TakesLaws.{Cuts}
-use Rattle.simplecss_text.proofs.reading.DeclarationLaws.{term-cuts}
 use Rattle.simplecss_text.proofs.printed.ReadStrings.{IfCloses, from_quote-closes}
 use Rattle.simplecss_text.proofs.printed.ReadNames.{ReadName, name-is, name-fails}
 use Rattle.simplecss_text.proofs.printed.GotLaws.{IfGot, if_got, if_got-if, if_got-follow, if_got-weaker, got-holds, IfBehind, after_byte-behind}
@@ -96,7 +97,7 @@ letters_bare edition (c ∷ letters) h =
     list_all-append is_bare (encode_utf8 c) (encode_utf8_all letters) ∙ rw (first, others) refl
 
 -- no byte of a name is white space of ASCII
-pub name-bare : (edition : Edition) (text n rest : List ℕ) → ReadName edition text n rest → list_all is_bare n ≡ true
+name-bare : (edition : Edition) (text n rest : List ℕ) → ReadName edition text n rest → list_all is_bare n ≡ true
 name-bare edition text n rest w =
     elim (w.is) [
       | inl i ↦ ap (list_all is_bare) (sym i.spell) ∙ letters_bare edition i.letters i.pass

@@ -1,4 +1,5 @@
 -- A term is read alike in texts that differ only in a tail that it does not reach.
+-- Serves `selectors` and `prints_back` of `StyleSheet::{parse, parse_all, parse_more}` (a sheet printed and read again).
 use Rattle.std.proofs.Common.{◌≡◌, ℕ, ◌<◌, ◌≤◌, List, [], ◌∷◌, ◌++◌, Bool, true, false, if◌then◌else◌, ◌||◌, ◌&&◌, not, ◌==◌, length, Option, Some, None, IfSome, arith, refl, sym, ap, ◌∙◌, subst, length-append, IsUtf8}
 use Rattle.std.specs.Str.{chars}
 use Rattle.std.proofs.lemmas.Bool.Decides.{nat_tests}
@@ -13,8 +14,7 @@ use Rattle.simplecss_text.proofs.printed.PrintedHeads.{same_byte}
 use Rattle.simplecss_text.proofs.bytes.Utf8Laws.{past-no, utf8-past_byte, utf8-behind_byte}
 use Rattle.simplecss_text.proofs.reading.EndsLaws.{length-ends, ends-past, ends-got, no_texts}
 use Rattle.simplecss_text.proofs.reading.TakesLaws.{Cuts, Leaves, from_quote-leaves}
-use Rattle.simplecss_text.proofs.reading.DeclarationLaws.{term-cuts}
-use Rattle.simplecss_text.proofs.reading.DeclarationStandLaws.{ends-past_decimals, ends-past_unit, arguments-stands}
+use Rattle.simplecss_text.proofs.reading.DeclarationsLawful.{arguments-stands, ends-past_decimals, ends-past_unit, term-cuts}
 use Rattle.simplecss_text.proofs.printed.ReadStrings.{IfCloses, from_quote-closes}
 use Rattle.simplecss_text.proofs.printed.ReadValues.{quote_low}
 use Rattle.simplecss_text.proofs.printed.GotLaws.{IfGot, if_got, got-holds, IfBehind, after_byte-behind}
@@ -23,7 +23,7 @@ use Rattle.simplecss_text.proofs.printed.TailLaws.{Quiet, Tails, tails-none, Lea
 use Rattle.simplecss_text.proofs.printed.TailLaws.NamesAlike.{same, lone, none}
 
 -- where nothing but the tail stands there
-pub alike-nil : (r s : List ℕ) (f : List ℕ → List ℕ) → Ends r (f r) → f s ≡ s → length r ≤ length (f r) → Tails r s (f r) (f s)
+alike-nil : (r s : List ℕ) (f : List ℕ → List ℕ) → Ends r (f r) → f s ≡ s → length r ≤ length (f r) → Tails r s (f r) (f s)
 alike-nil r s f end quiet h =
     let all = whole-left r (f r) (before r (f r)) end h in
     rw (all, quiet) (tails-none r s)

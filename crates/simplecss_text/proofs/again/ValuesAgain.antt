@@ -1,4 +1,5 @@
 -- A value that was read is read again before another tail.
+-- Serves `prints_back` of `StyleSheet::{parse, parse_all, parse_more}` (a sheet printed and read again).
 use Rattle.std.proofs.Common.{◌≡◌, ℕ, zero, suc, ◌<◌, ◌≤◌, ◌⊎◌, inl, inr, List, [], ◌∷◌, ◌++◌, Bool, true, false, length, arith, refl, sym, ap, ◌∙◌, subst, length-append, append_assoc, IsUtf8}
 use Rattle.std.specs.Str.{chars, trim}
 use Rattle.std.specs.List.{list_any}
@@ -13,10 +14,9 @@ use Rattle.simplecss_text.specs.PrintingLaws.{is_wide_space, IsNarrow}
 use Rattle.simplecss_text.proofs.printed.PrintedNames.{both_false}
 use Rattle.simplecss_text.proofs.reading.EachLaws.{each-none, each-some}
 use Rattle.simplecss_text.proofs.reading.TakesLaws.{Cuts, length-past_blank}
-use Rattle.simplecss_text.proofs.reading.DeclarationLaws.{term-cuts, term_in_value-takes}
 use Rattle.simplecss_text.proofs.reading.EndsLaws.{before-append, ends-ends, ends-got, no_texts}
 use Rattle.simplecss_text.proofs.reading.StandLaws.{ends-past_blank}
-use Rattle.simplecss_text.proofs.reading.DeclarationStandLaws.{term-stands}
+use Rattle.simplecss_text.proofs.reading.DeclarationsLawful.{term-cuts, term-stands, term_in_value-takes}
 use Rattle.simplecss_text.proofs.printed.GotLaws.{got-holds}
 use Rattle.simplecss_text.proofs.printed.ReadBlanks.{opens_comment-two, past_blank-utf8}
 use Rattle.simplecss_text.proofs.again.ReadDeclarations.{LeavesText, term-text}
@@ -102,7 +102,7 @@ no-term : (edition : Edition) (text rest : List ℕ) (fault : Fault) → term ed
 no-term edition text rest fault e = each-none (term_in_value edition) text (ap after_term e)
 
 -- where no further term stands behind it
-pub valued-terms : (edition : Edition) (r text left : List ℕ) (fault : Fault) → Valued edition r text → term edition (past_blank r) ≡ fails fault left → ((terms edition text).1 ≡ past_blank r) × ((other : List ℕ) → last_or other (terms edition text).0 ≡ r)
+valued-terms : (edition : Edition) (r text left : List ℕ) (fault : Fault) → Valued edition r text → term edition (past_blank r) ≡ fails fault left → ((terms edition text).1 ≡ past_blank r) × ((other : List ℕ) → last_or other (terms edition text).0 ≡ r)
 valued-terms edition r text left fault (last _ x e) f =
     let listed : terms edition text ≡ (r ∷ [], past_blank r) = one-term edition text r x e ∙ ap (followed_by r) (no-term edition (past_blank r) left fault f) in
     (ap (λ l. l.1) listed, λ other. ap (λ (l : List (List ℕ) × List ℕ). last_or other l.0) listed)

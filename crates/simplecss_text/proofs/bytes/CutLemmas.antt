@@ -1,4 +1,5 @@
 -- Where a text may be cut between two characters.
+-- Serves `Stream::skip_bytes`, `readers`, `scan` and `digits` (a place stands between two characters).
 use Rattle.std.proofs.Common.{◌≡◌, ℕ, zero, suc, ◌+◌, ◌-◌, ◌<◌, ◌≤◌, Bool, true, false, List, [], ◌∷◌, length, get_or, arith, refl, sym, subst, slice_index, inl, inr, drop, ltb-true, Option, Some, None, IfSome, ◌&&◌, ◌==◌, eqb-true}
 use Rattle.std.specs.Str.{IsUtf8, IsCharBoundary}
 use Rattle.std.specs.List.{prefix_len}
@@ -11,7 +12,7 @@ use Rattle.simplecss_text.specs.Characters.{is_space}
 use Rattle.simplecss_text.specs.Runs.{IsByteTest, EndsRun}
 
 -- behind an ASCII byte
-pub IsCharBoundary-behind : (text : List ℕ) (n : ℕ) → IsUtf8 text → 0 < n → n ≤ length text → slice_index text (n - 1) < 128 → IsCharBoundary text n
+IsCharBoundary-behind : (text : List ℕ) (n : ℕ) → IsUtf8 text → 0 < n → n ≤ length text → slice_index text (n - 1) < 128 → IsCharBoundary text n
 IsCharBoundary-behind text n u pos h e =
     let back : n - 1 + 1 ≡ n = omega arith in
     subst (λ (i : ℕ). IsCharBoundary text i) back (IsCharBoundary-after_ascii text (n - 1) u (omega arith) e)

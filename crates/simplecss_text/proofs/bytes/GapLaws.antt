@@ -1,4 +1,5 @@
 -- No blank follows a blank.
+-- Serves `readers::consume_gap`, `Stream::skip_spaces_and_comments` and `SelectorTokenizer` (a blank is passed once).
 use Rattle.std.proofs.Common.{◌≡◌, ℕ, List, [], Bool, true, false, if◌then◌else◌, refl, ap, subst}
 use Rattle.simplecss_text.specs.Reading.{Fault, got, fails, no_comment, follow, each}
 use Rattle.simplecss_text.specs.Comments.{opens_comment, blank_part, past_blank, blank, has_space, gap}
@@ -6,7 +7,7 @@ use Rattle.simplecss_text.proofs.reading.EachLaws.{each-none, each-stops}
 use Rattle.simplecss_text.proofs.reading.TakesLaws.{blank_part-takes}
 
 -- behind a blank stands no part of one
-pub past_blank-none : (text : List ℕ) → each blank_part (past_blank text) ≡ ([], past_blank text)
+past_blank-none : (text : List ℕ) → each blank_part (past_blank text) ≡ ([], past_blank text)
 past_blank-none text = each-none blank_part (past_blank text) (each-stops blank_part blank_part-takes text)
 
 pub past_blank-again : (text : List ℕ) → past_blank (past_blank text) ≡ past_blank text

@@ -1,4 +1,5 @@
 -- A gap, a part at a time.
+-- Serves `scan::{closed_part, long_gap, find_gap}` (a gap passed part by part).
 use Rattle.std.proofs.Common.{◌≡◌, ℕ, ◌+◌, Bool, true, false, ◌||◌, nat_lt, List, drop, Some, None, refl, sym, ap, ◌∙◌, subst, [], ◌∷◌, arith}
 use Rattle.std.proofs.lemmas.Bool.{lt-ltb}
 use Rattle.std.specs.List.{prefix_len}
@@ -102,7 +103,7 @@ passed-spaces text len u e = subst (λ (n : ℕ). Passed text n (nat_lt 0 n)) (s
 })
 
 -- behind the bytes at the front that pass stands none that passes
-pub starts_by-past : (test : ℕ → Bool) (text : List ℕ) → starts_by test (past test text) ≡ false
+starts_by-past : (test : ℕ → Bool) (text : List ℕ) → starts_by test (past test text) ≡ false
 starts_by-past test [] = refl
 starts_by-past test (b ∷ text) = by (test b) refl (starts_by-past test text)
   where

@@ -1,4 +1,5 @@
 -- What is found by looking through the bytes of a text.
+-- Serves `scan::{close_len, find_byte}` (where a byte or the end of a comment is found first).
 use Rattle.std.proofs.Common.{◌≡◌, ◌≢◌, ℕ, zero, suc, ◌+◌, ◌<◌, ◌≤◌, Bool, true, false, ◌&&◌, ◌==◌, List, [], ◌∷◌, length, drop, Option, Some, None, MatchOption, arith, refl, sym, eqb-true, eq-eqb, add-one, subst, get_or}
 use Rattle.simplecss_text.specs.Bytes.{starts_two, after_byte}
 use Rattle.simplecss_text.specs.Comments.{after_close}
@@ -38,7 +39,7 @@ after_close-at (b ∷ text) rest (suc i) h e =
     rw here (after_close-at text rest i (λ k l r. h (suc k) (omega arith) r) e)
 
 -- a text in which the byte does not stand
-pub after_byte-none : (byte : ℕ) (text : List ℕ) → ((i : ℕ) → i < length text → get_or text i 0 ≢ byte) → after_byte byte text ≡ None
+after_byte-none : (byte : ℕ) (text : List ℕ) → ((i : ℕ) → i < length text → get_or text i 0 ≢ byte) → after_byte byte text ≡ None
 after_byte-none byte [] h = refl
 after_byte-none byte (b ∷ text) h = by (b == byte) refl (after_byte-none byte text (λ i l. h (suc i) (omega arith)))
   where
@@ -47,7 +48,7 @@ after_byte-none byte (b ∷ text) h = by (b == byte) refl (after_byte-none byte 
     by false e rest = rw e rest
 
 -- a text in which the byte stands first at i
-pub after_byte-at : (byte : ℕ) (text : List ℕ) (i : ℕ) → i < length text → get_or text i 0 ≡ byte → ((k : ℕ) → k < i → get_or text k 0 ≢ byte) → after_byte byte text ≡ Some (drop (suc i) text)
+after_byte-at : (byte : ℕ) (text : List ℕ) (i : ℕ) → i < length text → get_or text i 0 ≡ byte → ((k : ℕ) → k < i → get_or text k 0 ≢ byte) → after_byte byte text ≡ Some (drop (suc i) text)
 after_byte-at byte [] i l e h = absurd (omega arith)
 after_byte-at byte (b ∷ text) zero l e h = let same : (b == byte) ≡ true = eq-eqb b byte e in rw same refl
 after_byte-at byte (b ∷ text) (suc i) l e h = by (b == byte) refl (after_byte-at byte text i (omega arith) e (λ k m. h (suc k) (omega arith)))

@@ -1,4 +1,5 @@
 -- An at-rule ends at the same place where the text is cut there.
+-- Serves `StyleSheet::parse_more` and `laws::cutting_law` (a text read in pieces).
 use Rattle.std.proofs.Common.{Bool, List, [], ap, arith, false, if◌then◌else◌, inl, inr, length, refl, subst, true, ℕ, ◌&&◌, ◌++◌, ◌<◌, ◌==◌, ◌||◌, ◌∙◌, ◌∷◌, ◌≡◌, IsUtf8, encode_utf8_all, eqb-true, sym, length-append, ◌≤◌}
 use Rattle.std.proofs.lemmas.List.{append_cancel_right}
 use Rattle.std.proofs.lemmas.Str.{byte_from_char, chars-append, chars-nil, encodes-chars}
@@ -24,7 +25,7 @@ along-at g t u r s at e = refl
 along-at g t u r s (on b r1 s1 room h) e = absurd (omega (arith, longer-along g t u r1 s1 h, ap length e))
 
 -- where a byte stands before it in the first text, that byte stands in the second
-pub along-next : (g : ℕ) (t u : List ℕ) (c : ℕ) (x r s : List ℕ) → Along g t u r s → r ≡ c ∷ x → length t < length x → (y : List ℕ) × ((s ≡ c ∷ y) × Along g t u x y)
+along-next : (g : ℕ) (t u : List ℕ) (c : ℕ) (x r s : List ℕ) → Along g t u r s → r ≡ c ∷ x → length t < length x → (y : List ℕ) × ((s ≡ c ∷ y) × Along g t u x y)
 along-next g t u c x r s at e l = absurd (omega (arith, ap length e, l))
 along-next g t u c x r s (on b r1 s1 room h) e l =
     let first : b ≡ c = cc in

@@ -1,4 +1,5 @@
 -- A block reads the same where the text is cut behind it or later.
+-- Serves `StyleSheet::parse_more` and `laws::cutting_law` (a text read in pieces).
 use Rattle.std.proofs.Common.{◌≡◌, ℕ, zero, suc, ◌<◌, ◌≤◌, List, [], ◌∷◌, ◌++◌, Bool, true, false, if◌then◌else◌, ◌==◌, ◌&&◌, length, drop, slice_index, None, arith, refl, ap, ◌∙◌, ◌⊎◌, inl, inr, drop_of_length-le}
 use Rattle.simplecss_text.specs.Reading.{Reading, got, fails, each, found, left_after}
 use Rattle.simplecss_text.specs.Bytes.{past_byte, starts}
@@ -7,10 +8,10 @@ use Rattle.simplecss_text.specs.Declarations.{Property, declaration, next_declar
 use Rattle.simplecss_text.specs.Blocks.{closes_block, block_end, from_block_end, ends_list, declaration_in_block, past_broken, past_list, block}
 use Rattle.simplecss_text.proofs.reading.EachLaws.{each-stops}
 use Rattle.simplecss_text.proofs.reading.TakesLaws.{Cuts, length-past_byte}
-use Rattle.simplecss_text.proofs.reading.DeclarationLaws.{declaration-cuts, declaration_in_block-takes, length-from_block_end}
+use Rattle.simplecss_text.proofs.reading.DeclarationLaws.{declaration_in_block-takes, length-from_block_end}
 use Rattle.simplecss_text.proofs.cutting.GuardLaws.{Along, To, Guard, Equal, Repeats, pairs-equal, not_empty}
 use Rattle.simplecss_text.proofs.reading.LeastLaws.{least-passes}
-use Rattle.simplecss_text.proofs.cutting.DeclarationGuards.{declaration-guarded}
+use Rattle.simplecss_text.proofs.reading.DeclarationsLawful.{declaration-cuts, declaration-guarded}
 use Rattle.simplecss_text.proofs.cutting.BlockGuards.{DeclarationPasses, passes, listed-repeats, ends_list-along}
 use Rattle.simplecss_text.proofs.cutting.BlockEndGuards.{le_or_less, from_block_end-to, Exact, past_brace-exact, past_further-exact, less_of_brace}
 
@@ -38,14 +39,14 @@ at_brace x = by (le_or_less (length x) (block_end x))
         let closes : closes_block x (block_end x) ≡ true = least-passes (closes_block x) (length x) l in
         inr (starts-drop 125 (block_end x) x l ∙ first_true _ _ closes)
 
-pub taken-lost : (t x : List ℕ) → (x ≡ []) ⊎ (starts 125 x ≡ true) → length x ≤ length t → Lost t (past_byte 125 x)
+taken-lost : (t x : List ℕ) → (x ≡ []) ⊎ (starts 125 x ≡ true) → length x ≤ length t → Lost t (past_byte 125 x)
 taken-lost t x (inl e) l = inr (ap (past_byte 125) e)
 taken-lost t x (inr e) l = inl (omega (arith, less_of_brace x e))
 
 broken-lost : (t rest : List ℕ) → length rest ≤ length t → Lost t (past_byte 125 (from_block_end rest))
 broken-lost t rest l = taken-lost t (from_block_end rest) (at_brace rest) (omega (arith, length-from_block_end rest))
 
-pub brace-lost : (t x : List ℕ) → Lost t x → Lost t (past_byte 125 x)
+brace-lost : (t x : List ℕ) → Lost t x → Lost t (past_byte 125 x)
 brace-lost t x (inl l) = inl (omega (arith, length-past_byte 125 x))
 brace-lost t x (inr e) = inr (ap (past_byte 125) e)
 

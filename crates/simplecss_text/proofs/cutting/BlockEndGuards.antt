@@ -1,4 +1,5 @@
 -- A block that ends directly behind a brace ends there also where the text is cut behind that brace or later.
+-- Serves `StyleSheet::parse_more` and `laws::cutting_law` (a text read in pieces).
 use Rattle.std.proofs.Common.{◌≡◌, ℕ, zero, suc, ◌<◌, ◌≤◌, List, [], ◌∷◌, ◌++◌, Bool, true, false, if◌then◌else◌, ◌==◌, length, arith, refl, sym, ap, ◌∙◌, ◌⊎◌, inl, inr, length-append, length-drop, get_or, take}
 use Rattle.std.proofs.Math.ListN.{get_or-append}
 use Rattle.std.proofs.lemmas.List.{take-append-le}
@@ -9,7 +10,7 @@ use Rattle.simplecss_text.proofs.reading.LeastLaws.{least-before, least-is, leas
 use Rattle.simplecss_text.proofs.cutting.NameGuards.{drop-to}
 
 -- the second text and what is cut off make the first
-pub along-append : (g : ℕ) (u v r s : List ℕ) → Along g (u ++ v) u r s → r ≡ s ++ v
+along-append : (g : ℕ) (u v r s : List ℕ) → Along g (u ++ v) u r s → r ≡ s ++ v
 along-append g u v r s at = refl
 along-append g u v r s (on b r1 s1 room h) = ap (λ (x : List ℕ). b ∷ x) (along-append g u v r1 s1 h)
 

@@ -1,4 +1,5 @@
 -- A block read on from a text whose brace it does not pass.
+-- Serves `StyleSheet::parse_more` and `laws::cutting_law` (a text read in pieces).
 use Rattle.std.proofs.Common.{◌≡◌, ℕ, ◌≤◌, List, ◌++◌, Bool, true, false, if◌then◌else◌, length, None, arith, refl, inl, inr}
 use Rattle.simplecss_text.specs.Reading.{Reading, got, fails, each, found, left_after}
 use Rattle.simplecss_text.specs.Characters.{Edition}
@@ -6,7 +7,7 @@ use Rattle.simplecss_text.specs.Declarations.{Property, declaration, next_declar
 use Rattle.simplecss_text.specs.Blocks.{ends_list, declaration_in_block}
 use Rattle.simplecss_text.proofs.reading.DeclarationLaws.{declaration_in_block-takes}
 use Rattle.simplecss_text.proofs.cutting.GuardLaws.{Along, at, on, Guard, Equal, Step, Repeats, each-repeats, not_empty}
-use Rattle.simplecss_text.proofs.cutting.DeclarationGuards.{declaration-guarded}
+use Rattle.simplecss_text.proofs.reading.DeclarationsLawful.{declaration-guarded}
 
 -- reading a declaration would pass the brace, where the list of them goes on
 pub data DeclarationPasses (edition : Edition) (t a : List ℕ) : Type 0 where

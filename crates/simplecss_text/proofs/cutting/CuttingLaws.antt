@@ -1,4 +1,5 @@
 -- Cutting a text where a statement of it ends.
+-- Serves `StyleSheet::parse_more` and `laws::cutting_law` (a text read in pieces).
 use Rattle.std.proofs.Common.{Bool, IsUtf8, List, None, Option, Some, [], ap, append_assoc, arith, false, filter, get_or, if◌then◌else◌, length, refl, subst, sym, true, ℕ, ◌++◌, ◌<◌, ◌∙◌, ◌∷◌, ◌≡◌, drop, inl, inr, suc, take, zero}
 use Rattle.std.proofs.lemmas.Grind.{flat_map-append}
 use Rattle.std.proofs.lemmas.List.{append_cancel_left, get_or-map, length-map, append-nil, take-append-drop}
@@ -35,7 +36,7 @@ reaches-well read well rest text at_rest = (ends-same rest, λ u. u)
 reaches-well read well rest text (behind _ next x e r) = well-then text next rest (well text next x e) (reaches-well read well rest next r)
 
 -- Cut where a piece ends, the text has the pieces of its front and then those of its rest.
-pub each-cut : {X : Type 0} (read : List ℕ → Option (X × List ℕ)) → Takes read → LeavesWell read → Local read → read [] ≡ None → (v text : List ℕ) → Reaches read v text → IsUtf8 text → (u : List ℕ) → text ≡ u ++ v → (each read text).0 ≡ (each read u).0 ++ (each read v).0
+each-cut : {X : Type 0} (read : List ℕ → Option (X × List ℕ)) → Takes read → LeavesWell read → Local read → read [] ≡ None → (v text : List ℕ) → Reaches read v text → IsUtf8 text → (u : List ℕ) → text ≡ u ++ v → (each read text).0 ≡ (each read u).0 ++ (each read v).0
 each-cut {X = X} read takes well local nil v text at_rest i u e =
     let none : (each read u).0 ≡ [] = ap (λ t. (each read t).0) (nothing_in_front u v (omega (arith, ap length e))) ∙ ap (λ r. r.0) (each-none read [] nil) in
     ap (λ (l : List X). l ++ (each read v).0) (sym none)
@@ -130,7 +131,7 @@ kept-more : (edition : Edition) (texts : List (List ℕ)) (text : List ℕ) → 
 kept-more edition texts text = flat_map-append (kept edition) texts (text ∷ []) ∙ ap (λ (rules : List StyleRule). flat_map (kept edition) texts ++ rules) (append-nil (kept edition text))
 
 -- a text read in two pieces gives the sheet that it gives as a whole, where its rules are those of the pieces
-pub sheet-across : (edition : Edition) (texts : List (List ℕ)) (text : List ℕ) (place : ℕ) → KeepsAcross edition text place → sheet edition ((texts ++ take place text ∷ []) ++ drop place text ∷ []) ≡ sheet edition (texts ++ text ∷ [])
+sheet-across : (edition : Edition) (texts : List (List ℕ)) (text : List ℕ) (place : ℕ) → KeepsAcross edition text place → sheet edition ((texts ++ take place text ∷ []) ++ drop place text ∷ []) ≡ sheet edition (texts ++ text ∷ [])
 sheet-across edition texts text place e =
     let front : List ℕ = take place text in
     let rest : List ℕ = drop place text in

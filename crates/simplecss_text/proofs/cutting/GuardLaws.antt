@@ -1,4 +1,5 @@
 -- A reading is guarded: what stands behind a byte that it did not pass makes no difference to it.
+-- Serves `StyleSheet::parse_more` and `laws::cutting_law` (a text read in pieces).
 use Rattle.std.proofs.Common.{◌≡◌, ℕ, zero, suc, ◌+◌, ◌-◌, ◌<◌, ◌≤◌, List, [], ◌∷◌, Bool, true, false, if◌then◌else◌, ◌==◌, length, take, Option, Some, None, arith, refl, ap, ◌⊎◌, inl, inr, one-add}
 use Rattle.std.proofs.lemmas.Bool.Decides.{nat_tests}
 use Rattle.std.specs.List.{prefix_len}
@@ -6,8 +7,7 @@ use Rattle.std.specs.Str.{continuation_len, lead_bits}
 use Rattle.simplecss_text.specs.Reading.{Fault, Reading, got, fails, Reader, follow, followed_by, each, left_after, before}
 use Rattle.simplecss_text.specs.Bytes.{past, past_one, past_byte, starts, byte}
 use Rattle.simplecss_text.proofs.reading.EachLaws.{Takes, took, each-none, each-some}
-use Rattle.simplecss_text.proofs.reading.TakesLaws.{Keeps, length-past, each-within}
-use Rattle.simplecss_text.proofs.reading.DeclarationLaws.{length-left_after}
+use Rattle.simplecss_text.proofs.reading.TakesLaws.{Keeps, each-within, length-left_after, length-past}
 
 -- A character that begins with the byte b before the text r does not reach over the byte before its end t; a byte in the
 -- middle of a character is let through.
@@ -136,7 +136,7 @@ longer-along g t u r s at = omega arith
 longer-along g t u r s (on b r1 s1 room h) = omega (arith, longer-along g t u r1 s1 h)
 
 -- their fronts are the same
-pub take-along : (g : ℕ) (t u : List ℕ) (n : ℕ) (r s : List ℕ) → Along g t u r s → n + length t ≤ length r → take n r ≡ take n s
+take-along : (g : ℕ) (t u : List ℕ) (n : ℕ) (r s : List ℕ) → Along g t u r s → n + length t ≤ length r → take n r ≡ take n s
 take-along g t u zero r s h l = refl
 take-along g t u (suc zero) r s at l = refl
 take-along g t u (suc (suc n)) r s at l = absurd (omega arith)
@@ -202,8 +202,3 @@ each-repeats {A = A} R Stuck g t u read takes steps (suc n) r s l h = by (λ a b
         let f1 : each read s ≡ followed_by y.0 (each read y.1) = each-some read takes s y.1 y.0 f in
         let less : length x.1 < length r = took read takes r x.1 x.0 e in
         rw (e1, f1) (repeats-more R Stuck g t u x.0 y.0 (each read x.1) (each read y.1) k.0 (more x.1 y.1 (omega arith) k.1))
-
--- one text after another
-pub to-then : (g : ℕ) (t u : List ℕ) (m n : List ℕ → List ℕ) → ((r : List ℕ) → length (m r) ≤ length r) → (r s : List ℕ) → To g t u r s → (Along g t u r s → To g t u (m r) (n s)) → To g t u (m r) (n s)
-to-then g t u m n keeps r s (inl h) next = inl (omega (arith, keeps r))
-to-then g t u m n keeps r s (inr h) next = next h

@@ -1,4 +1,5 @@
 -- Names are guarded by a byte that is no name character.
+-- Serves `StyleSheet::parse_more` and `laws::cutting_law` (a text read in pieces).
 use Rattle.std.proofs.Common.{◌≡◌, ℕ, zero, suc, ◌+◌, ◌-◌, ◌<◌, ◌≤◌, ◌*◌, List, [], ◌∷◌, Bool, true, false, ◌==◌, length, drop, arith, refl, ap, inl, inr, one-add, encode_utf8_all, length-drop, lit<}
 use Rattle.std.specs.List.{prefix_len, take_while}
 use Rattle.std.specs.Str.{chars, chars_after, continuation_len, lead_bits}
@@ -52,7 +53,7 @@ chars_after-heads edition g t u e (suc m) (suc n) c r s k at l = absurd (omega a
 chars_after-heads edition g t u e (suc m) (suc n) c r s k (on b r1 s1 room h) l = chars_after-heads edition g t u e m n (c * 64 + (b - 128)) r1 s1 (omega arith) h (omega arith)
 
 -- the characters are the same up to g
-pub chars-heads : (edition : Edition) (g : ℕ) (t u : List ℕ) → Ends_names edition g → (r s : List ℕ) → Along g t u r s → Heads edition (chars r) (chars s)
+chars-heads : (edition : Edition) (g : ℕ) (t u : List ℕ) → Ends_names edition g → (r s : List ℕ) → Along g t u r s → Heads edition (chars r) (chars s)
 unfolding chars
 chars-heads edition g t u e r s at = let a : continuation_len g ≡ 0 = e.alone in let b : lead_bits g ≡ g = e.bits in rw (a, b) (heads-zero edition g t u e.outside)
 chars-heads edition g t u e r s (on b r1 s1 (inl room) h) = chars_after-heads edition g t u e (length r1) (continuation_len b) (lead_bits b) r1 s1 (omega arith) h room

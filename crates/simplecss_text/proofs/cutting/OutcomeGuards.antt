@@ -1,4 +1,5 @@
 -- What a run comes to is guarded by a closing brace.
+-- Serves `StyleSheet::parse_more` and `laws::cutting_law` (a text read in pieces).
 use Rattle.std.proofs.Common.{Bool, List, [], false, if◌then◌else◌, inl, inr, length, refl, true, ℕ, ◌∷◌, ◌≡◌, ◌≤◌, ◌⊎◌, Err, Ok, arith}
 use Rattle.simplecss_text.specs.Reading.{Fault}
 use Rattle.simplecss_text.specs.Bytes.{starts_by}

@@ -1,4 +1,5 @@
 -- In the UTF-8 of some characters none of them reaches over an ASCII byte.
+-- Serves `StyleSheet::parse_more` and `laws::cutting_law` (a text read in pieces).
 use Rattle.std.proofs.Common.{Bool, IsUtf8, List, [], arith, encode_utf8_all, false, inl, inr, length, length-append, ltb-true, nat_lt, refl, subst, suc, true, zero, ℕ, ◌%◌, ◌++◌, ◌+◌, ◌/◌, ◌<◌, ◌∷◌, ◌≡◌, ◌≤◌, ◌⊎◌}
 use Rattle.std.proofs.lemmas.Bool.Decides.{nat_tests}
 use Rattle.std.specs.Str.{continuation_len, lead_bits}
@@ -70,7 +71,7 @@ covered-encodes : (cs : List ℕ) → Covered (encode_utf8_all cs)
 covered-encodes [] = tt
 covered-encodes (c ∷ cs) = covered-encode c (encode_utf8_all cs) (covered-encodes cs)
 
-pub covered-utf8 : (text : List ℕ) → IsUtf8 text → Covered text
+covered-utf8 : (text : List ℕ) → IsUtf8 text → Covered text
 covered-utf8 text (cs, (s, e)) = subst Covered e (covered-encodes cs)
 
 -- the bytes past ASCII all stand before the next ASCII byte

@@ -1,4 +1,5 @@
 -- A rule set reads the same where the text is cut behind it or later.
+-- Serves `StyleSheet::parse_more` and `laws::cutting_law` (a text read in pieces).
 use Rattle.std.proofs.Common.{◌≡◌, ℕ, ◌≤◌, List, [], ◌∷◌, ◌++◌, Bool, true, false, if◌then◌else◌, ◌==◌, not, length, map, Option, Some, None, arith, refl, ◌⊎◌, inl, inr}
 use Rattle.std.specs.List.{filter_map}
 use Rattle.simplecss_text.specs.Reading.{each}
@@ -26,7 +27,7 @@ opened-lost edition t (b ∷ x) l = by (b == 123)
     by false = inr refl
 
 -- the next block, from behind the brace
-pub next_block-lost : (edition : Edition) (t x : List ℕ) → length x ≤ length t → Lost t (next_block edition x).1
+next_block-lost : (edition : Edition) (t x : List ℕ) → length x ≤ length t → Lost t (next_block edition x).1
 unfolding next_block
 next_block-lost edition t x l = opened-lost edition t (past (λ b. not (b == 123)) x) (omega (arith, length-past (λ b. not (b == 123)) x))
 
@@ -38,7 +39,7 @@ opened-same edition u v x y (on b x1 y1 room h) = by (b == 123)
     by true = block-same edition u v x1 y1 h
     by false = inl (inr refl)
 
-pub next_block-same : (edition : Edition) (u v r s : List ℕ) → Along 125 (u ++ v) u r s → BlockSame (u ++ v) u (next_block edition r) (next_block edition s)
+next_block-same : (edition : Edition) (u v r s : List ℕ) → Along 125 (u ++ v) u r s → BlockSame (u ++ v) u (next_block edition r) (next_block edition s)
 unfolding next_block
 next_block-same edition u v r s h = by (past (λ b. not (b == 123)) r) (past (λ b. not (b == 123)) s) (past-to 125 (u ++ v) u (λ b. not (b == 123)) r s h)
   where
@@ -46,7 +47,7 @@ next_block-same edition u v r s h = by (past (λ b. not (b == 123)) r) (past (λ
     by x y (inl l) = inl (opened-lost edition (u ++ v) x l)
     by x y (inr k) = opened-same edition u v x y k
 
-pub part-same : (edition : Edition) (u v r s : List ℕ) → Along 125 (u ++ v) u r s → Same (u ++ v) u (part edition r) (part edition s)
+part-same : (edition : Edition) (u v r s : List ℕ) → Along 125 (u ++ v) u r s → Same (u ++ v) u (part edition r) (part edition s)
 unfolding part
 part-same edition u v r s h = by (reads edition r) (reads edition s) (selectors-guarded edition u v r s h)
   where
@@ -79,7 +80,7 @@ comma-step edition t u r s (a, x) (b, y) (inr (e, k)) stuck = one x y k
         by true = inr (e, h)
         by false = tt
 
-pub parts-same : (edition : Edition) (u v r s : List ℕ) → Along 125 (u ++ v) u r s → Same (u ++ v) u (parts edition r) (parts edition s)
+parts-same : (edition : Edition) (u v r s : List ℕ) → Along 125 (u ++ v) u r s → Same (u ++ v) u (parts edition r) (parts edition s)
 unfolding parts
 parts-same edition u v r s h = by (each (part_and_comma edition) r) (each (part_and_comma edition) s) (each-repeats Equal (PartPasses edition (u ++ v)) 125 (u ++ v) u (part_and_comma edition) (part_and_comma-takes edition) (λ a b k. comma-step edition (u ++ v) u a b (part edition a) (part edition b) (part-same edition u v a b k) (λ l. l)) (length r) r s (omega arith) h)
   where

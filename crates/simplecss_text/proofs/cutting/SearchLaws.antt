@@ -1,4 +1,5 @@
 -- Searches, blanks and strings are guarded by a closing brace. The second text ends where the first is cut.
+-- Serves `StyleSheet::parse_more` and `laws::cutting_law` (a text read in pieces).
 use Rattle.std.proofs.Common.{◌≡◌, ℕ, ◌≤◌, List, [], ◌∷◌, ◌++◌, Bool, true, false, if◌then◌else◌, ◌==◌, ◌&&◌, ◌||◌, not, length, Option, Some, None, arith, refl, ap, inl, inr, eqb-true}
 use Rattle.std.specs.Option.{option_map}
 use Rattle.simplecss_text.specs.Reading.{Fault, no_comment, got, fails, each, left_after, before}
@@ -23,7 +24,7 @@ finds-behind g t u None (Some b) l h = let e : Some b ≡ None = h refl in absur
 finds-behind g t u (Some a) None l h = l
 finds-behind g t u (Some a) (Some b) l h = inl l
 
-pub finds-if : (g : ℕ) (t u : List ℕ) (c d : Bool) (a b x y : Option (List ℕ)) → c ≡ d → Finds g t u a b → Finds g t u x y → Finds g t u (if c then a else x) (if d then b else y)
+finds-if : (g : ℕ) (t u : List ℕ) (c d : Bool) (a b x y : Option (List ℕ)) → c ≡ d → Finds g t u a b → Finds g t u x y → Finds g t u (if c then a else x) (if d then b else y)
 finds-if g t u true true a b x y e p q = p
 finds-if g t u false false a b x y e p q = q
 finds-if g t u true false a b x y e p q = absurd (cc)
@@ -82,7 +83,7 @@ pub record Plain (g : ℕ) : Type 0 where
 pub brace_plain : Plain 125
 brace_plain = record { space = refl; slash = refl; star = refl }
 
-pub close-finds : (g : ℕ) (u v : List ℕ) → Plain g → (r s : List ℕ) → Along g (u ++ v) u r s → Finds g (u ++ v) u (after_close r) (after_close s)
+close-finds : (g : ℕ) (u v : List ℕ) → Plain g → (r s : List ℕ) → Along g (u ++ v) u r s → Finds g (u ++ v) u (after_close r) (after_close s)
 close-finds g u v p r s at = let e : (g == 42) ≡ false = p.star in rw e (finds-behind g (u ++ v) u (after_close (u ++ v)) (after_close u) (after_close-leaves (u ++ v)) (close_front u v))
 close-finds g u v p r s (on b r1 s1 room h) =
     let same : starts_two 42 47 (b ∷ r1) ≡ starts_two 42 47 (b ∷ s1) = ap (λ (k : Bool). b == 42 && k) (starts-along g (u ++ v) u 47 r1 s1 h) in
@@ -92,7 +93,7 @@ pub byte-finds : (c : ℕ) (u v : List ℕ) → (125 == c) ≡ false → (r s : 
 byte-finds c u v e r s at = rw e (finds-behind 125 (u ++ v) u (after_byte c (u ++ v)) (after_byte c u) (byte-leaves c (u ++ v)) (byte_front c u v))
 byte-finds c u v e r s (on b r1 s1 room h) = finds-if 125 (u ++ v) u (b == c) (b == c) _ _ _ _ refl (inr h) (byte-finds c u v e r1 s1 h)
 
-pub quote-finds : (quote : ℕ) (u v : List ℕ) → (125 == quote) ≡ false → (previous : ℕ) (r s : List ℕ) → Along 125 (u ++ v) u r s → Finds 125 (u ++ v) u (from_quote quote previous r) (from_quote quote previous s)
+quote-finds : (quote : ℕ) (u v : List ℕ) → (125 == quote) ≡ false → (previous : ℕ) (r s : List ℕ) → Along 125 (u ++ v) u r s → Finds 125 (u ++ v) u (from_quote quote previous r) (from_quote quote previous s)
 quote-finds quote u v e previous r s at = rw e (finds-behind 125 (u ++ v) u (from_quote quote 125 (u ++ v)) (from_quote quote 125 u) (from_quote-leaves quote 125 (u ++ v)) (quote_front quote 125 u v))
 quote-finds quote u v e previous r s (on b r1 s1 room h) = finds-if 125 (u ++ v) u (b == quote && not (previous == 92)) (b == quote && not (previous == 92)) _ _ _ _ refl (inr (on b r1 s1 room h)) (quote-finds quote u v e b r1 s1 h)
 
@@ -102,7 +103,7 @@ closed_or-guard g t u f e None (Some b) h = absurd h
 closed_or-guard g t u f e (Some a) None h = inl h
 closed_or-guard g t u f e (Some a) (Some b) h = guard-got Equal g t u tt tt a b refl h
 
-pub string_up_to-guard : (g : ℕ) (t u r s : List ℕ) (o p : Option (List ℕ)) → Along g t u r s → Finds g t u o p → Guard Equal g t u (string_up_to r o) (string_up_to s p)
+string_up_to-guard : (g : ℕ) (t u r s : List ℕ) (o p : Option (List ℕ)) → Along g t u r s → Finds g t u o p → Guard Equal g t u (string_up_to r o) (string_up_to s p)
 string_up_to-guard g t u r s None None h k = inl (omega arith)
 string_up_to-guard g t u r s None (Some b) h k = absurd k
 string_up_to-guard g t u r s (Some a) None h k = inl (omega (arith, length-past_one a))

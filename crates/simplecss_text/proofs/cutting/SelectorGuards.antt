@@ -1,4 +1,5 @@
 -- Selectors are guarded by a closing brace.
+-- Serves `StyleSheet::parse_more` and `laws::cutting_law` (a text read in pieces).
 use Rattle.std.proofs.Common.{Bool, List, [], arith, bytes_eq, codes, false, if◌then◌else◌, inl, inr, length, refl, subst, suc, true, ℕ, ◌++◌, ◌==◌, ◌∷◌, ◌≡◌, ◌≤◌, zero}
 use Rattle.std.specs.Str.{trim}
 use Rattle.simplecss_text.specs.Reading.{Fault, Reader, Reading, fails, follow, got, no_language, left_after}
@@ -15,10 +16,9 @@ use Rattle.simplecss_text.specs.Neighbours.Left.{closed_left, open_left}
 use Rattle.simplecss_text.specs.TokenRuns.{run, run_from, token_then}
 use Rattle.simplecss_text.specs.Selectors.{outcome, role_of, Outcome, reads, selector_of}
 use Rattle.simplecss_text.specs.Selectors.Outcome.{refused, accepted}
-use Rattle.simplecss_text.proofs.reading.TakesLaws.{Cuts, begun-cuts, gap-keeps, length-past_one}
-use Rattle.simplecss_text.proofs.reading.DeclarationLaws.{length-left_after}
+use Rattle.simplecss_text.proofs.reading.TakesLaws.{Cuts, gap-keeps, length-left_after, length-past_one}
 use Rattle.simplecss_text.proofs.cutting.GuardLaws.{Along, Equal, Guard, at, longer-along, on, past_one-along, starts-along, Same}
-use Rattle.simplecss_text.proofs.cutting.PieceGuards.{begun-guarded, is_stop-along, gap-guarded}
+use Rattle.simplecss_text.proofs.reading.PiecesLawful.{begun-cuts, begun-guarded, gap-guarded, is_stop-along}
 use Rattle.simplecss_text.proofs.reading.RunSteps.{begun_run, solid_run, gap_run, run_from-by}
 use Rattle.simplecss_text.proofs.cutting.OutcomeGuards.{OutcomeGuard, PassedBy, both_accepted, both_refused, after_role-guard, after_role-passed, answered-guard, answered-passed, fault_end-outcome, follows_as-alike, left_of, left_of-run, refused-guard, follows_as-passed}
 

@@ -1,4 +1,5 @@
 -- A statement reads the same where the text is cut behind it or later.
+-- Serves `StyleSheet::parse_more` and `laws::cutting_law` (a text read in pieces), `StyleSheet::parse` and `laws::edition_law`.
 use Rattle.std.proofs.Common.{Bool, IsUtf8, List, None, Some, [], ap, arith, eqb-true, false, if◌then◌else◌, inl, inr, refl, subst, sym, true, ℕ, ◌<◌, ◌==◌, ◌∙◌, ◌∷◌, ◌≡◌, append_assoc, length, ◌++◌, ◌⊎◌, append-nil, length-append}
 use Rattle.std.proofs.Math.Seq.{take-append_seam}
 use Rattle.std.proofs.lemmas.List.{append_cancel_right}
@@ -14,7 +15,7 @@ use Rattle.simplecss_text.proofs.reading.EndsLaws.{ends-ends, ends-got, ends-nil
 use Rattle.simplecss_text.proofs.reading.StandLaws.{name-stands, utf8-behind, ends-past_blank}
 use Rattle.simplecss_text.proofs.cutting.GuardLaws.{Along, To, at, longer-along, not_empty, on, starts-along}
 use Rattle.simplecss_text.proofs.cutting.SearchLaws.{Plain, brace_plain, opens_comment-along, past_blank-to}
-use Rattle.simplecss_text.proofs.reading.DeclarationStandLaws.{ends-from_block_end}
+use Rattle.simplecss_text.proofs.reading.DeclarationsLawful.{ends-from_block_end}
 use Rattle.simplecss_text.proofs.cutting.BlockEndGuards.{Exact, before_it, behind_it}
 use Rattle.simplecss_text.proofs.cutting.RuleSetCuts.{RulesSame, rule_set-same}
 use Rattle.simplecss_text.proofs.cutting.AtRuleCuts.{name_fault-left, at_rule-block, at_rule-fault, at_rule-semicolon, along-at}
@@ -47,7 +48,7 @@ statement-ends edition (b ∷ text) rules rest e = by (b == 64) refl e
     by false f g = of_rules f g (rule_set-behind edition (b ∷ text))
 
 -- where the statements go on, and how the next one ends
-pub next_statement-ends : (edition : Edition) (text : List ℕ) (rules : List StyleRule) (rest : List ℕ) → next_statement edition text ≡ Some (rules, rest) → (ends_statements (past_blank text) ≡ false) × NextEnds edition (past_blank text) rules rest
+next_statement-ends : (edition : Edition) (text : List ℕ) (rules : List StyleRule) (rest : List ℕ) → next_statement edition text ≡ Some (rules, rest) → (ends_statements (past_blank text) ≡ false) × NextEnds edition (past_blank text) rules rest
 next_statement-ends edition text rules rest e = by (ends_statements (past_blank text)) refl e
   where
     by : (k : Bool) → ends_statements (past_blank text) ≡ k → (if k then None else Some (statement edition (past_blank text))) ≡ Some (rules, rest) → (ends_statements (past_blank text) ≡ false) × NextEnds edition (past_blank text) rules rest
@@ -114,7 +115,7 @@ utf8-front : (u v : List ℕ) → IsUtf8 (u ++ v) → IsUtf8 v → IsUtf8 u
 utf8-front u v whole rest = subst IsUtf8 (take-append_seam u v) (IsUtf8-take (u ++ v) (length u) whole (IsCharBoundary-at_seam (u ++ v) u v refl rest))
 
 -- a text and its front, from behind an ASCII byte on
-pub along-of : (g : ℕ) (u v w : List ℕ) → g < 128 → IsUtf8 (u ++ v) → Ends (u ++ v) (g ∷ (w ++ v)) → Along g (w ++ v) w (u ++ v) u
+along-of : (g : ℕ) (u v w : List ℕ) → g < 128 → IsUtf8 (u ++ v) → Ends (u ++ v) (g ∷ (w ++ v)) → Along g (w ++ v) w (u ++ v) u
 along-of g u v w l whole e =
     let front : List ℕ = before (u ++ v) (g ∷ (w ++ v)) in
     let parts : front ++ g ∷ (w ++ v) ≡ u ++ v = e in

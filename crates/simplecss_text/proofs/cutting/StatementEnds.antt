@@ -1,4 +1,5 @@
 -- Where blocks, rule sets and at-rules end.
+-- Serves `StyleSheet::parse_more` and `laws::cutting_law` (a text read in pieces), `StyleSheet::parse` and `laws::edition_law`.
 use Rattle.std.proofs.Common.{Bool, List, None, Some, [], ap, eqb-true, false, if◌then◌else◌, inl, inr, not, one-add, refl, subst, sym, true, ℕ, ◌&&◌, ◌==◌, ◌∙◌, ◌∷◌, ◌≡◌, ◌⊎◌}
 use Rattle.std.specs.List.{prefix_len}
 use Rattle.simplecss_text.specs.Reading.{Ends, Fault, Reading, each, fails, found, got}
@@ -14,12 +15,12 @@ use Rattle.simplecss_text.proofs.reading.DeclarationLaws.{declaration_in_block-t
 use Rattle.simplecss_text.proofs.reading.EndsLaws.{EndsFound, Stands, each-ends, ends-ends, ends-past, ends-past_byte, ends-past_one, ends-tail, no_texts}
 use Rattle.simplecss_text.proofs.reading.RunStandLaws.{reads-ends}
 use Rattle.simplecss_text.proofs.cutting.GuardLaws.{not_empty}
-use Rattle.simplecss_text.proofs.reading.DeclarationStandLaws.{declaration-stands, declaration_in_block-ends, ends-from_block_end}
+use Rattle.simplecss_text.proofs.reading.DeclarationsLawful.{declaration-stands, declaration_in_block-ends, ends-from_block_end}
 use Rattle.simplecss_text.proofs.cutting.BlockEndGuards.{no_brace}
 use Rattle.simplecss_text.proofs.cutting.BlockCuts.{at_brace, none_broken}
 
 -- a run of bytes that pass ends at one that does not
-pub past-stops : (test : ℕ → Bool) (text : List ℕ) (b : ℕ) (rest : List ℕ) → past test text ≡ b ∷ rest → test b ≡ false
+past-stops : (test : ℕ → Bool) (text : List ℕ) (b : ℕ) (rest : List ℕ) → past test text ≡ b ∷ rest → test b ≡ false
 past-stops test [] b rest e = absurd (cc)
 past-stops test (c ∷ text) b rest e = by (test c) refl (past-stops test text b rest) e
   where
@@ -65,7 +66,7 @@ broken-behind edition text none = by (declaration edition text) (declaration-sta
     by (got property rest) h e = absurd (cc)
     by (fails fault rest) h e = behind-further text (past_byte 125 (from_block_end rest)) (behind-brace text (from_block_end rest) (ends-ends text rest (from_block_end rest) h.at (ends-from_block_end rest)) (at_brace rest))
 
-pub block-behind : (edition : Edition) (text : List ℕ) → BehindBrace text (block edition text).1
+block-behind : (edition : Edition) (text : List ℕ) → BehindBrace text (block edition text).1
 unfolding block
 block-behind edition text = by (ends_list a) refl
   where
@@ -81,7 +82,7 @@ block-behind edition text = by (ends_list a) refl
 
 -- ---- rule sets
 
-pub next_block-behind : (edition : Edition) (text : List ℕ) → BehindBrace text (next_block edition text).1
+next_block-behind : (edition : Edition) (text : List ℕ) → BehindBrace text (next_block edition text).1
 unfolding next_block
 next_block-behind edition text = by (starts 123 opened)
   where

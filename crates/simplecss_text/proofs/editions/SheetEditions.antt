@@ -1,83 +1,88 @@
--- Of ASCII bytes without a slash, both editions read the same rules.
-use Rattle.std.proofs.Common.{List, None, Option, Some, [], ap, arith, false, filter, if◌then◌else◌, map, not, refl, suc, ℕ, ◌++◌, ◌==◌, ◌||◌, ◌∙◌, ◌∷◌, ◌≡◌, sym}
-use Rattle.std.specs.List.{All, filter_map, flat_map}
-use Rattle.std.specs.Str.{trim}
-use Rattle.simplecss_text.specs.Reading.{Ends, Reading, always, before, each, follow, found, got, left_after}
-use Rattle.simplecss_text.specs.Bytes.{byte, is_digit, optional, past, past_byte, past_one, starts}
+-- Of ASCII bytes without a slash, both editions read the same selectors and rules.
+-- Serves `StyleSheet::parse` and `laws::edition_law` (both editions on ASCII texts without a slash).
+use Rattle.std.proofs.Common.{Bool, List, None, Option, Some, [], ap, filter, if◌then◌else◌, map, not, refl, sym, ℕ, ◌++◌, ◌==◌, ◌∙◌, ◌∷◌, ◌≡◌}
+use Rattle.std.specs.List.{filter_map, flat_map}
+use Rattle.simplecss_text.specs.Reading.{Ends, Reader, Reading, each, fails, follow, found, got}
+use Rattle.simplecss_text.specs.Bytes.{past, past_byte, past_one, starts}
 use Rattle.simplecss_text.specs.Characters.{Edition, first_edition, is_space, second_edition}
-use Rattle.simplecss_text.specs.Comments.{blank, past_blank}
-use Rattle.simplecss_text.specs.Names.{name}
-use Rattle.simplecss_text.specs.Strings.{is_quote}
+use Rattle.simplecss_text.specs.Comments.{gap, past_blank}
 use Rattle.simplecss_text.specs.Components.{Component}
-use Rattle.simplecss_text.specs.Terms.{arguments, begins_number, is_slash_term, past_decimals, past_hash, past_number, past_unit, term, word}
-use Rattle.simplecss_text.specs.Declarations.{Property, after_term, declaration, last_or, term_in_value, terms, trailing, unless_empty, value}
+use Rattle.simplecss_text.specs.Declarations.{Property}
 use Rattle.simplecss_text.specs.Blocks.{block, declaration_in_block, ends_list, past_broken, past_list}
-use Rattle.simplecss_text.specs.Statements.{StyleRule, ends_statements, has_property, kept, next_block, next_statement, part, part_and_comma, parts, past_at_name, past_at_rule, rule_set, statement, statements}
+use Rattle.simplecss_text.specs.Statements.{StyleRule, ends_statements, has_property, next_block, next_statement, part, part_and_comma, parts, past_at_name, past_at_rule, rule_set, statement, statements}
 use Rattle.simplecss_text.specs.Sheets.{ordered, sheet}
 use Rattle.simplecss_text.specs.Editions.{IsCommon, KeepsInBoth}
-use Rattle.simplecss_text.proofs.reading.EndsLaws.{EndsFound, each-ends, ends-ends, ends-past, ends-past_byte, ends-past_one}
-use Rattle.simplecss_text.proofs.reading.StandLaws.{blank-stands, byte-stands, ends-past_blank}
-use Rattle.simplecss_text.proofs.reading.DeclarationStandLaws.{declaration_in_block-ends, ends-past_decimals, name_unseen-stands, term_in_value-ends, ends-terms}
+use Rattle.simplecss_text.proofs.reading.EndsLaws.{EndsFound, Stands, each-ends, ends-ends, ends-past, ends-past_byte, ends-past_one, ends-same, no_texts}
+use Rattle.simplecss_text.proofs.reading.StandLaws.{ends-past_blank, gap-stands, sees_nothing}
+use Rattle.simplecss_text.proofs.reading.DeclarationsLawful.{declaration-lawful, declaration_in_block-ends}
 use Rattle.simplecss_text.proofs.cutting.StatementEnds.{part_and_comma-ends, parts-ends}
 use Rattle.simplecss_text.proofs.cutting.StatementCuts.{next_statement-well}
-use Rattle.simplecss_text.proofs.editions.EditionLaws.{Shared, each-editions, follow-editions, if-editions, name-editions, reads-editions, shared-ends, shared-from}
+use Rattle.simplecss_text.proofs.editions.EditionLaws.{Shared, each-editions, if-editions, name-editions, shared-ends, shared-from}
+use Rattle.simplecss_text.specs.Pieces.{solid, Piece, ending, fault_ending, gap_ending, is_stop, next_piece, piece, pieces, solid}
+use Rattle.simplecss_text.specs.Neighbours.{Left}
+use Rattle.simplecss_text.specs.Neighbours.Left.{open_left}
+use Rattle.simplecss_text.specs.TokenRuns.{Run, run, run_from}
+use Rattle.simplecss_text.specs.Selectors.{outcome, reads, selector_of}
+use Rattle.simplecss_text.proofs.reading.RunStandLaws.{PieceStands, piece-stands}
+use Rattle.simplecss_text.proofs.reading.PiecesLawful.{solid-lawful}
 
-past_unit-editions : (text : List ℕ) → Shared text → past_unit first_edition text ≡ past_unit second_edition text
-past_unit-editions text h = if-editions (starts 37 text) _ _ _ _ refl (ap left_after (name-editions text h))
+-- ---- selectors
 
-past_number-editions : (text : List ℕ) → Shared text → past_number first_edition text ≡ past_number second_edition text
-unfolding past_number
-past_number-editions text h =
-    let digits : List ℕ = past is_digit text in
-    past_unit-editions (past_decimals digits) (shared-ends digits (past_decimals digits) (ends-past_decimals digits) (shared-ends text digits (ends-past is_digit text) h))
+piece-editions : (text : List ℕ) → Shared text → piece first_edition text ≡ piece second_edition text
+unfolding piece
+piece-editions text h = by (gap text) (gap-stands text)
+  where
+    solid_then : Edition → Bool → Reader Piece
+    solid_then edition spaced start = follow (solid edition start) (λ token after. got (record { spaced = spaced; start = start; token = token; after = after }) after)
 
-word-editions : (text : List ℕ) → Shared text → word first_edition text ≡ word second_edition text
-unfolding word
-word-editions text h = ap (λ r. follow r (λ n. arguments)) (name-editions text h)
+    by : (r : Reading Bool) → Stands text no_texts r → follow r (solid_then first_edition) ≡ follow r (solid_then second_edition)
+    by (got spaced start) s = ap (λ r. follow r (λ token after. got (record { spaced = spaced; start = start; token = token; after = after }) after)) ((solid-lawful start start).same (shared-ends text start s.at h))
+    by (fails fault after) s = refl
 
--- no slash begins a term
-slash-editions : (b : ℕ) (text : List ℕ) → (b == 47) ≡ false → is_slash_term first_edition b text ≡ is_slash_term second_edition b text
-slash-editions b text e = rw e refl
+next_piece-ends : (edition : Edition) (text : List ℕ) → EndsFound text (next_piece edition text)
+next_piece-ends edition text = by (piece edition text) (piece-stands sees_nothing edition text text tt (ends-same text))
+  where
+    by : (r : Reading Piece) → PieceStands no_texts text r → EndsFound text (found r)
+    by (got p rest) h = ends-ends text p.start rest h.0 (ends-ends p.start p.after rest h.1 h.2)
+    by (fails fault rest) h = tt
 
-term-editions : (text : List ℕ) → Shared text → term first_edition text ≡ term second_edition text
-unfolding term
-term-editions [] h = refl
-term-editions (b ∷ text) h =
-    if-editions (b == 35) _ _ _ _ (ap (λ r. got tt (past_hash r)) (name-editions text h.1))
-    (if-editions (begins_number b) _ _ _ _ (ap (λ (t : List ℕ). got tt t) (past_number-editions text h.1))
-    (if-editions (is_quote b) _ _ _ _ refl (rw (slash-editions b text h.0.1) (if-editions (b == 44 || is_slash_term second_edition b text) _ _ _ _ refl (word-editions (b ∷ text) h)))))
+pieces-editions : (text : List ℕ) → Shared text → pieces first_edition text ≡ pieces second_edition text
+pieces-editions text h = each-editions (next_piece first_edition) (next_piece second_edition) (λ t k. ap found (piece-editions t k)) (next_piece-ends first_edition) text h
 
-terms-editions : (text : List ℕ) → Shared text → terms first_edition text ≡ terms second_edition text
-terms-editions text h = each-editions (term_in_value first_edition) (term_in_value second_edition) (λ t k. ap after_term (term-editions t k)) (term_in_value-ends first_edition) text h
+ending-editions : (text : List ℕ) → Shared text → ending first_edition text ≡ ending second_edition text
+unfolding ending
+ending-editions text h = by (gap text) (gap-stands text)
+  where
+    by : (r : Reading Bool) → Stands text no_texts r → gap_ending first_edition r ≡ gap_ending second_edition r
+    by (fails fault after) s = refl
+    by (got spaced start) s =
+        if-editions (is_stop start) _ _ _ _ refl
+        (if-editions (starts 47 start) _ _ _ _ refl
+        (ap (fault_ending spaced start) ((solid-lawful start start).same (shared-ends text start s.at h))))
 
-value-editions : (text : List ℕ) → Shared text → value first_edition text ≡ value second_edition text
-unfolding value
-value-editions text h =
-    let rest : List ℕ = (terms first_edition text).1 in
-    let shared : Shared rest = shared-ends text rest (ends-terms first_edition text) h in
-    ap (λ (r : Reading (Unit {0})). (trim (before text (last_or text (terms first_edition text).0)), left_after r)) (term-editions rest shared)
-    ∙ ap (λ (r : List (List ℕ) × List ℕ). (trim (before text (last_or text r.0)), left_after (term second_edition r.1))) (terms-editions text h)
+run_from-editions : (left : Left) (text : List ℕ) → Shared text → run_from first_edition left text ≡ run_from second_edition left text
+unfolding run_from
+run_from-editions left text h =
+    let rest : List ℕ = (pieces first_edition text).1 in
+    let shared : Shared rest = shared-ends text rest (each-ends (next_piece first_edition) (next_piece-ends first_edition) text) h in
+    ap (run left (pieces first_edition text).0) (ending-editions rest shared)
+    ∙ ap (λ (r : List Piece × List ℕ). run left r.0 (ending second_edition r.1)) (pieces-editions text h)
 
-declaration-editions : (text : List ℕ) → Shared text → declaration first_edition text ≡ declaration second_edition text
-unfolding declaration
-declaration-editions text h =
-    follow-editions text (blank text) (blank text) _ _ h (blank-stands text) refl (λ u a k.
-    follow-editions a (optional 42 a) (optional 42 a) _ _ k (record { at = ends-past_byte 42 a }) refl (λ u b k.
-    follow-editions b (name first_edition b) (name second_edition b) _ _ k (name_unseen-stands first_edition b) (name-editions b k) (λ property c k.
-    follow-editions c (blank c) (blank c) _ _ k (blank-stands c) refl (λ u d k.
-    follow-editions d (byte 58 d) (byte 58 d) _ _ k (byte-stands 58 d) refl (λ u e k.
-    follow-editions e (blank e) (blank e) _ _ k (blank-stands e) refl (λ u start k.
-    ap (λ (r : List ℕ × List ℕ). follow (always r) (λ stated g. follow (trailing g) (λ important i. unless_empty start (record { name = property; value = stated; important = important }) i))) (value-editions start k)))))))
+reads-editions : (text : List ℕ) → Shared text → reads first_edition text ≡ reads second_edition text
+unfolding reads
+reads-editions text h = ap (λ (r : Run). selector_of (outcome r)) (run_from-editions open_left text h)
+
+-- ---- blocks, rule sets, sheets
 
 declaration_in_block-editions : (text : List ℕ) → Shared text → declaration_in_block first_edition text ≡ declaration_in_block second_edition text
-declaration_in_block-editions text h = if-editions (ends_list text) _ _ _ _ refl (ap found (declaration-editions text h))
+declaration_in_block-editions text h = if-editions (ends_list text) _ _ _ _ refl (ap found ((declaration-lawful text text).same h))
 
 block-editions : (text : List ℕ) → Shared text → block first_edition text ≡ block second_edition text
 unfolding block
 block-editions text h =
     let listed : List Property × List ℕ = each (declaration_in_block first_edition) text in
     let shared : Shared listed.1 = shared-ends text listed.1 (each-ends (declaration_in_block first_edition) (declaration_in_block-ends first_edition) text) h in
-    let last : past_list first_edition listed.1 ≡ past_list second_edition listed.1 = if-editions (ends_list listed.1) _ _ _ _ refl (ap past_broken (declaration-editions listed.1 shared)) in
+    let last : past_list first_edition listed.1 ≡ past_list second_edition listed.1 = if-editions (ends_list listed.1) _ _ _ _ refl (ap past_broken ((declaration-lawful listed.1 listed.1).same shared)) in
     ap (λ (t : List ℕ). (listed.0, past_byte 125 t)) last
     ∙ ap (λ (r : List Property × List ℕ). (r.0, past_byte 125 (past_list second_edition r.1))) (each-editions (declaration_in_block first_edition) (declaration_in_block second_edition) declaration_in_block-editions (declaration_in_block-ends first_edition) text h)
 
@@ -139,17 +144,6 @@ unfolding statements
 keeps_in_both text h =
     ap (λ (r : List (List StyleRule) × List ℕ). filter has_property (flat_map (λ rules. rules) r.0))
     (each-editions (next_statement first_edition) (next_statement second_edition) next_statement-editions (next_statement-found first_edition) text (shared-from text h))
-
--- and the same sheet of several such texts
-pub sheet_in_both : (texts : List (List ℕ)) → All IsCommon texts → sheet first_edition texts ≡ sheet second_edition texts
-sheet_in_both texts h = ap ordered (by texts h)
-  where
-    by : (ts : List (List ℕ)) → All IsCommon ts → flat_map (kept first_edition) ts ≡ flat_map (kept second_edition) ts
-    by [] k = refl
-    by (t ∷ ts) k =
-        let one : KeepsInBoth t = keeps_in_both t (k 0 [] (omega arith)) in
-        ap (λ (rules : List StyleRule). rules ++ flat_map (kept first_edition) ts) one
-        ∙ ap (λ (rules : List StyleRule). kept second_edition t ++ rules) (by ts (λ i d l. k (suc i) d (omega arith)))
 
 -- any two editions give the same sheet of one such text
 pub sheet-editions : (one other : Edition) (text : List ℕ) → IsCommon text → sheet one (text ∷ []) ≡ sheet other (text ∷ [])

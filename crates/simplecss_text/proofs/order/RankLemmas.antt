@@ -1,4 +1,5 @@
 -- Each element at its rank is what a stable sort gives.
+-- Serves `order::{sort_rules, merge, drop_empty}` and `laws::{order_laws, place_law}` (the order of rules).
 use Rattle.std.proofs.Common.{◌≡◌, ℕ, ◌+◌, ◌<◌, suc, zero, Bool, true, false, cond, not, ◌&&◌, List, [], ◌∷◌, ◌++◌, length, length-append, get_or, take, map, filter, count_by, Option, Some, eqb, eq-eqb, ap, ◌∙◌, sym, subst, refl, arith}
 use Rattle.std.proofs.lemmas.List.{length-map}
 use Rattle.std.specs.Option.{option_map}
@@ -222,7 +223,7 @@ rises_from_all : {X : Type 0} (P : X → Type 0) (xs : List X) → ((k : ℕ) (d
 rises_from_all P [] h = tt
 rises_from_all P (x ∷ xs) h = (h 0 x (omega arith), rises_from_all P xs (λ k d w. h (suc k) d (omega arith)))
 
-pub rises_from_sorted : {X : Type 0} (lt : X → X → Bool) (o : IsStrictWeakOrder lt) (ys : List X) → IsSortedBy lt ys → Rises lt ys
+rises_from_sorted : {X : Type 0} (lt : X → X → Bool) (o : IsStrictWeakOrder lt) (ys : List X) → IsSortedBy lt ys → Rises lt ys
 rises_from_sorted lt o [] s = tt
 rises_from_sorted lt o (y ∷ ys) s = (
   rises_from_all (λ x. lt x y ≡ false) ys (λ k d w. sorted_far lt o (y ∷ ys) s 0 (suc k) d (omega arith) (omega arith)),

@@ -1,4 +1,5 @@
 -- What holds of what was read, reader by reader.
+-- Serves `Selector::{parse, parse_front}` and `StyleSheet::parse` (a selector printed and read again).
 use Rattle.std.proofs.Common.{◌<◌, ◌≡◌, ℕ, zero, suc, List, [], ◌∷◌, ◌++◌, Bool, true, false, if◌then◌else◌, ◌==◌, length, Option, Some, None, refl, ap, subst, IsUtf8}
 use Rattle.std.specs.List.{AllByRecursion}
 use Rattle.simplecss_text.specs.Reading.{wrong_byte, Reading, got, fails, Reader, follow, and_then, up_to, each, Ends}
@@ -49,7 +50,7 @@ IfBehind c text None = Unit {0}
 IfBehind c text (Some rest) = (front : List ℕ) × (text ≡ front ++ (c ∷ rest))
 
 -- one byte more in front
-pub behind-later : (c b : ℕ) (text : List ℕ) (o : Option (List ℕ)) → IfBehind c text o → IfBehind c (b ∷ text) o
+behind-later : (c b : ℕ) (text : List ℕ) (o : Option (List ℕ)) → IfBehind c text o → IfBehind c (b ∷ text) o
 behind-later c b text None h = tt
 behind-later c b text (Some rest) h = (b ∷ h.0, ap (λ l. b ∷ l) h.1)
 

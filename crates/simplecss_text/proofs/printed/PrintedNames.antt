@@ -1,4 +1,5 @@
 -- Printed names read back.
+-- Serves `Selector::{parse, parse_front}` and `StyleSheet::parse` (a selector printed and read again).
 use Rattle.std.proofs.Common.{◌≡◌, ℕ, zero, suc, ◌<◌, List, [], ◌∷◌, ◌++◌, Bool, true, false, ◌||◌, ◌&&◌, ◌==◌, length, take, drop, arith, refl, sym, ap, ◌∙◌, encode_utf8_all, IsUtf8, IsAscii}
 use Rattle.std.specs.Str.{chars, all_scalars}
 use Rattle.std.specs.List.{list_all, prefix_len, take_while}
@@ -49,7 +50,7 @@ prefix_len-whole p (c ∷ cs) ds a s =
     rw (h.0, more) (omega arith)
 
 -- it is taken whole
-pub take_while-whole : (p : ℕ → Bool) (cs ds : List ℕ) → list_all p cs ≡ true → starts_by p ds ≡ false → take_while p (cs ++ ds) ≡ cs
+take_while-whole : (p : ℕ → Bool) (cs ds : List ℕ) → list_all p cs ≡ true → starts_by p ds ≡ false → take_while p (cs ++ ds) ≡ cs
 take_while-whole p cs ds a s = ap (λ k. take k (cs ++ ds)) (prefix_len-whole p cs ds a s) ∙ take-append_seam cs ds
 
 either_true : (a b : Bool) → a ≡ true → (a || b) ≡ true
@@ -57,14 +58,14 @@ either_true true b h = refl
 either_true false b h = absurd (cc)
 
 -- what begins a name begins one with more behind it
-pub begins_name-append : (edition : Edition) (cs ds : List ℕ) → begins_any_name edition cs ≡ true → begins_name edition (cs ++ ds) ≡ true
+begins_name-append : (edition : Edition) (cs ds : List ℕ) → begins_any_name edition cs ≡ true → begins_name edition (cs ++ ds) ≡ true
 begins_name-append edition [] ds h = absurd (cc)
 begins_name-append edition (c ∷ []) [] h = either_true (is_name_start edition c) (c == 45) h
 begins_name-append edition (c ∷ []) (d ∷ ds) h = either_true (is_name_start edition c) (c == 45 && is_name_start edition d) h
 begins_name-append edition (c ∷ d ∷ cs) ds h = h
 
 -- the characters of a name and of what stands behind it
-pub name-chars : (edition : Edition) (n tail : List ℕ) → (w : IsName edition n) → chars (n ++ tail) ≡ w.letters ++ chars tail
+name-chars : (edition : Edition) (n tail : List ℕ) → (w : IsName edition n) → chars (n ++ tail) ≡ w.letters ++ chars tail
 name-chars edition n tail w =
     let u : IsUtf8 n = (w.letters, (w.scalars, w.spell)) in
     chars-append n tail u ∙ ap (λ l. l ++ chars tail) (ap chars (sym w.spell) ∙ chars-encodes w.letters w.scalars)

@@ -1,4 +1,5 @@
 -- Printed subselectors read back.
+-- Serves `Selector::{parse, parse_front}` and `StyleSheet::parse` (a selector printed and read again).
 use Rattle.std.proofs.Common.{◌≡◌, ℕ, List, [], ◌∷◌, ◌++◌, Bool, true, false, ◌||◌, ◌&&◌, not, ◌==◌, length, drop, arith, refl, ap, ◌∙◌, append_assoc, encode_utf8_all, codes, bytes_eq, Some}
 use Rattle.std.specs.Str.{all_scalars, trim}
 use Rattle.std.specs.List.{list_all}
@@ -31,7 +32,7 @@ abbrev pub IsValue : List ℕ → Type 0
 IsValue value = (last_after 0 value == 92) ≡ false
 
 -- in a clean value no apostrophe closes the string
-pub from_quote-clean : (previous : ℕ) (v tail : List ℕ) → escaped_after previous v ≡ true → (last_after previous v == 92) ≡ false → from_quote 39 previous (v ++ (39 ∷ tail)) ≡ Some (39 ∷ tail)
+from_quote-clean : (previous : ℕ) (v tail : List ℕ) → escaped_after previous v ≡ true → (last_after previous v == 92) ≡ false → from_quote 39 previous (v ++ (39 ∷ tail)) ≡ Some (39 ∷ tail)
 from_quote-clean previous [] tail c l = rw l refl
 from_quote-clean previous (b ∷ v) tail c l = by (b == 39) (previous == 92) refl refl c (λ h. from_quote-clean b v tail h l)
   where
@@ -51,7 +52,7 @@ cut_later : (previous b : ℕ) (v tail : List ℕ) → from_quote 39 previous (b
 cut_later previous b v tail e s = record { front = b ∷ s.front; more = s.more; is = ap (λ l. b ∷ l) s.is; closes = e ∙ s.closes }
 
 -- in another one an apostrophe does
-pub from_quote-unclean : (previous : ℕ) (v tail : List ℕ) → escaped_after previous v ≡ false → CutShort previous v tail
+from_quote-unclean : (previous : ℕ) (v tail : List ℕ) → escaped_after previous v ≡ false → CutShort previous v tail
 from_quote-unclean previous [] tail c = absurd (cc)
 from_quote-unclean previous (b ∷ v) tail c = by (b == 39) (previous == 92) refl refl c (λ h. from_quote-unclean b v tail h)
   where
@@ -63,17 +64,17 @@ from_quote-unclean previous (b ∷ v) tail c = by (b == 39) (previous == 92) ref
     by false p eq ep h more = cut_later previous b v tail (rw eq refl) (more h)
 
 -- the opening quote is no backslash
-pub escaped-start : (v : List ℕ) → escaped_after 39 v ≡ escaped_after 0 v
+escaped-start : (v : List ℕ) → escaped_after 39 v ≡ escaped_after 0 v
 escaped-start [] = refl
 escaped-start (b ∷ v) = refl
 
 -- nor does it end an empty value
-pub last-start : (v : List ℕ) → IsValue v → (last_after 39 v == 92) ≡ false
+last-start : (v : List ℕ) → IsValue v → (last_after 39 v == 92) ≡ false
 last-start [] h = refl
 last-start (b ∷ v) h = h
 
 -- a clean value is read back between apostrophes
-pub string-reads : (edition : Edition) (v tail : List ℕ) → IsValue v → escaped_after 0 v ≡ true → string_or_name edition (39 ∷ (v ++ (39 ∷ tail))) ≡ got v tail
+string-reads : (edition : Edition) (v tail : List ℕ) → IsValue v → escaped_after 0 v ≡ true → string_or_name edition (39 ∷ (v ++ (39 ∷ tail))) ≡ got v tail
 unfolding string_or_name
 string-reads edition v tail l c =
     let closes = from_quote-clean 39 v tail (escaped-start v ∙ c) (last-start v l) in
@@ -102,11 +103,11 @@ pub quoted : (v tail : List ℕ) → (v ++ (39 ∷ [])) ++ (93 ∷ tail) ≡ v +
 quoted v tail = append_assoc v (39 ∷ []) (93 ∷ tail)
 
 -- an equals sign and a clean value are read back
-pub equated-reads : (edition : Edition) (operator : List ℕ → Operator) (v tail : List ℕ) → IsValue v → escaped_after 0 v ≡ true → equated edition operator (61 ∷ (39 ∷ ((v ++ (39 ∷ [])) ++ (93 ∷ tail)))) ≡ got (operator v) (93 ∷ tail)
+equated-reads : (edition : Edition) (operator : List ℕ → Operator) (v tail : List ℕ) → IsValue v → escaped_after 0 v ≡ true → equated edition operator (61 ∷ (39 ∷ ((v ++ (39 ∷ [])) ++ (93 ∷ tail)))) ≡ got (operator v) (93 ∷ tail)
 equated-reads edition operator v tail l c = let s = string-reads edition v (93 ∷ tail) l c in rw (quoted v tail, s) refl
 
 -- so is what is asked of an attribute
-pub operator-reads : (edition : Edition) (o : Operator) (tail : List ℕ) → IsOperator o → is_clean_operator o ≡ true → attribute_operator edition (operator_text o ++ (93 ∷ tail)) ≡ got o (93 ∷ tail)
+operator-reads : (edition : Edition) (o : Operator) (tail : List ℕ) → IsOperator o → is_clean_operator o ≡ true → attribute_operator edition (operator_text o ++ (93 ∷ tail)) ≡ got o (93 ∷ tail)
 unfolding attribute_operator
 operator-reads edition exists tail w c = refl
 operator-reads edition (equals v) tail w c = equated-reads edition equals v tail w c
@@ -125,7 +126,7 @@ operator-ends second_edition (has_word v) tail = ends_names-byte second_edition 
 operator-ends second_edition (begins_with v) tail = ends_names-byte second_edition 124 _ (omega arith) refl
 
 -- so is a clean attribute behind its bracket
-pub attribute-reads : (edition : Edition) (n : List ℕ) (o : Operator) (tail : List ℕ) → IsName edition n → IsOperator o → is_clean_operator o ≡ true → attribute_after edition (n ++ (operator_text o ++ (93 ∷ tail))) ≡ got (attribute_selector n o) tail
+attribute-reads : (edition : Edition) (n : List ℕ) (o : Operator) (tail : List ℕ) → IsName edition n → IsOperator o → is_clean_operator o ≡ true → attribute_after edition (n ++ (operator_text o ++ (93 ∷ tail))) ≡ got (attribute_selector n o) tail
 unfolding attribute_after
 attribute-reads edition n o tail w x c =
     let first = name-reads edition n (operator_text o ++ (93 ∷ tail)) w (operator-ends edition o tail) in
@@ -139,7 +140,7 @@ pub record IsLanguage (v : List ℕ) : Type 0 where
   pub within : list_all (λ b. not (b == 41)) v ≡ true
 
 -- all up to the first closing parenthesis
-pub all_before-reads : (v tail : List ℕ) → list_all (λ b. not (b == 41)) v ≡ true → all_before 41 (v ++ (41 ∷ tail)) ≡ got v (41 ∷ tail)
+all_before-reads : (v tail : List ℕ) → list_all (λ b. not (b == 41)) v ≡ true → all_before 41 (v ++ (41 ∷ tail)) ≡ got v (41 ∷ tail)
 all_before-reads v tail h =
     let n = prefix_len-whole (λ b. not (b == 41)) v (41 ∷ tail) h refl in
     let left : drop (length v) (v ++ (41 ∷ tail)) ≡ 41 ∷ tail = drop-append_seam v (41 ∷ tail) in
@@ -147,7 +148,7 @@ all_before-reads v tail h =
     rw (n, left, value) refl
 
 -- a language is read back
-pub lang-reads : (v tail : List ℕ) → IsLanguage v → lang_after (40 ∷ (v ++ (41 ∷ tail))) ≡ got (lang_pseudo_class v) tail
+lang-reads : (v tail : List ℕ) → IsLanguage v → lang_after (40 ∷ (v ++ (41 ∷ tail))) ≡ got (lang_pseudo_class v) tail
 unfolding lang_after
 lang-reads v tail w =
     let next : List ℕ → List ℕ → Reading Token = λ value text. follow (byte 41 text) (λ u. lang_of (trim value)) in
@@ -231,7 +232,7 @@ lang_class-reads edition v tail w =
     ap (λ r. follow r pseudo_class_named) (name-reads edition (codes "lang") (40 ∷ (v ++ (41 ∷ tail))) (lang_name edition) (open_ends edition (v ++ (41 ∷ tail)))) ∙ lang-reads v tail w
 
 -- a pseudo-class is read back
-pub class-reads : (edition : Edition) (class : Class) (tail : List ℕ) → IsClass class → ends_names edition tail ≡ false → pseudo_class_after edition (class_text class ++ tail) ≡ got (class_token class) tail
+class-reads : (edition : Edition) (class : Class) (tail : List ℕ) → IsClass class → ends_names edition tail ≡ false → pseudo_class_after edition (class_text class ++ tail) ≡ got (class_token class) tail
 class-reads edition first_child tail w s = named-reads edition (codes "first-child") tail (first_child_name edition) refl s
 class-reads edition link tail w s = named-reads edition (codes "link") tail (link_name edition) refl s
 class-reads edition visited tail w s = named-reads edition (codes "visited") tail (visited_name edition) refl s

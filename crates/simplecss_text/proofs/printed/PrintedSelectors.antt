@@ -1,8 +1,8 @@
 -- A printed selector reads back.
+-- Serves `Selector::{parse, parse_front}` and `StyleSheet::parse` (a selector printed and read again).
 use Rattle.std.proofs.Common.{◌≡◌, ℕ, ◌<◌, List, [], ◌∷◌, ◌++◌, Bool, true, false, map, refl, sym, ap, ◌∙◌, subst, append_assoc, append-nil, arith, Option, Some, None}
 use Rattle.std.specs.List.{list_all, flat_map}
 use Rattle.simplecss_text.specs.Reading.{got}
-use Rattle.simplecss_text.specs.Bytes.{starts}
 use Rattle.simplecss_text.specs.Characters.{Edition, first_edition, second_edition, is_name_char}
 use Rattle.simplecss_text.specs.Comments.{blank_part, gap}
 use Rattle.simplecss_text.specs.Components.{Subselector, Combinator, Compound, Component}
@@ -20,7 +20,7 @@ use Rattle.simplecss_text.specs.Selectors.Outcome.{accepted}
 use Rattle.simplecss_text.specs.Printing.{subselector_text, type_text, component_text, selector_text, is_clean_subselector, is_clean}
 use Rattle.simplecss_text.proofs.reading.EachLaws.{each-none}
 use Rattle.simplecss_text.proofs.reading.RunLaws.{run_from-piece}
-use Rattle.simplecss_text.proofs.reading.JoiningLaws.{piece_of, piece-read, descends-token, run_from-stop, run_from-slash}
+use Rattle.simplecss_text.proofs.reading.JoiningLaws.{piece_of, piece-read, descends-token, run_from-stop}
 use Rattle.simplecss_text.proofs.printed.PrintedNames.{both_true, ends_names, ends_names-byte, ends_names-nil}
 use Rattle.simplecss_text.proofs.printed.PrintedPieces.{IsSubselector, printed_token, printed_token-role, subselector-reads, solid-begun, some-length}
 use Rattle.simplecss_text.proofs.printed.PrintedHeads.{NoGap, no_gap-byte, gap-none, gap-space, IsTypeName, head_token, head_role, head-reads, head-no_gap}
@@ -63,7 +63,7 @@ subselector-run edition s tail w c e =
     ∙ subselector-answer s text tail (λ left. run_from edition left tail)
 
 -- and goes on as what follows it
-pub subselector-goes : (edition : Edition) (s : Subselector) (tail left : List ℕ) (roles : List Role) → IsSubselector edition s → is_clean_subselector s ≡ true → Goes edition tail roles left → Goes edition (subselector_text s ++ tail) (with s ∷ roles) left
+subselector-goes : (edition : Edition) (s : Subselector) (tail left : List ℕ) (roles : List Role) → IsSubselector edition s → is_clean_subselector s ≡ true → Goes edition tail roles left → Goes edition (subselector_text s ++ tail) (with s ∷ roles) left
 subselector-goes edition s tail left roles w c g = record {
   ends = subselector-ends edition s tail;
   runs = ap outcome (subselector-run edition s tail w c g.ends)
@@ -77,7 +77,7 @@ EachIs edition [] = Unit {0}
 EachIs edition (s ∷ ss) = IsSubselector edition s × EachIs edition ss
 
 -- printed subselectors, one after another
-pub subselectors-go : (edition : Edition) (ss : List Subselector) (tail left : List ℕ) (roles : List Role) → EachIs edition ss → list_all is_clean_subselector ss ≡ true → Goes edition tail roles left → Goes edition (flat_map subselector_text ss ++ tail) (map with ss ++ roles) left
+subselectors-go : (edition : Edition) (ss : List Subselector) (tail left : List ℕ) (roles : List Role) → EachIs edition ss → list_all is_clean_subselector ss ≡ true → Goes edition tail roles left → Goes edition (flat_map subselector_text ss ++ tail) (map with ss ++ roles) left
 subselectors-go edition [] tail left roles w c g = g
 subselectors-go edition (s ∷ ss) tail left roles w c g =
     let h = both_true (is_clean_subselector s) (list_all is_clean_subselector ss) c in
@@ -100,7 +100,7 @@ head-closes None = refl
 head-closes (Some n) = refl
 
 -- behind an open left side stands a head, after a gap
-pub head-opens : (edition : Edition) (o : Option (List ℕ)) (text tail left : List ℕ) (spaced : Bool) (roles : List Role) → IsTypeName edition o tail → gap text ≡ got spaced (type_text o ++ tail) → Goes edition tail roles left → outcome (run_from edition open_left text) ≡ accepted (head_role o ∷ roles) left
+head-opens : (edition : Edition) (o : Option (List ℕ)) (text tail left : List ℕ) (spaced : Bool) (roles : List Role) → IsTypeName edition o tail → gap text ≡ got spaced (type_text o ++ tail) → Goes edition tail roles left → outcome (run_from edition open_left text) ≡ accepted (head_role o ∷ roles) left
 head-opens edition o text tail left spaced roles w gapped g =
     let start = type_text o ++ tail in
     ap outcome (run_from-piece edition open_left text tail (piece_of spaced start (head_token o) tail) (piece-read edition text start tail spaced (head_token o) gapped (head-reads edition o tail w g.ends)))
@@ -149,7 +149,7 @@ pub compound-no_gap : (edition : Edition) (c : Compound) (tail : List ℕ) → I
 compound-no_gap edition c tail w = subst NoGap (sym (compound-assoc c tail)) (head-no_gap edition c.name (flat_map subselector_text c.subselectors ++ tail) w.head)
 
 -- behind an open left side stands a compound, after a gap
-pub compound-opens : (edition : Edition) (c : Compound) (text tail left : List ℕ) (spaced : Bool) (roles : List Role) → IsCompound edition c tail → is_clean_compound c ≡ true → gap text ≡ got spaced (compound_text c ++ tail) → Goes edition tail roles left → outcome (run_from edition open_left text) ≡ accepted (compound_roles c ++ roles) left
+compound-opens : (edition : Edition) (c : Compound) (text tail left : List ℕ) (spaced : Bool) (roles : List Role) → IsCompound edition c tail → is_clean_compound c ≡ true → gap text ≡ got spaced (compound_text c ++ tail) → Goes edition tail roles left → outcome (run_from edition open_left text) ≡ accepted (compound_roles c ++ roles) left
 compound-opens edition c text tail left spaced roles w clean gapped g =
     head-opens edition c.name text (flat_map subselector_text c.subselectors ++ tail) left spaced (map with c.subselectors ++ roles) w.head (gapped ∙ ap (got spaced) (compound-assoc c tail))
     (subselectors-go edition c.subselectors tail left roles w.others clean g)
@@ -219,7 +219,7 @@ joined-goes edition adjacent c tail left roles n w clean g =
     }
 
 -- a printed component behind a simple piece
-pub component-goes : (edition : Edition) (c : Component) (tail left : List ℕ) (roles : List Role) → IsJoined edition c tail → is_clean_compound c.compound ≡ true → Goes edition tail roles left → Goes edition (component_text c ++ tail) (component_roles c ++ roles) left
+component-goes : (edition : Edition) (c : Component) (tail left : List ℕ) (roles : List Role) → IsJoined edition c tail → is_clean_compound c.compound ≡ true → Goes edition tail roles left → Goes edition (component_text c ++ tail) (component_roles c ++ roles) left
 component-goes edition c tail left roles w clean g =
     subst (λ (t : List ℕ). Goes edition t (component_roles c ++ roles) left) (sym (component-assoc c tail))
     (joined-goes edition c.combinator c.compound tail left roles w.joins w.compound clean g)
@@ -230,7 +230,7 @@ EachJoined edition [] behind = Unit {0}
 EachJoined edition (c ∷ cs) behind = IsJoined edition c (selector_text cs ++ behind) × EachJoined edition cs behind
 
 -- printed components, one after another
-pub components-go : (edition : Edition) (cs : List Component) (tail left : List ℕ) (roles : List Role) → EachJoined edition cs tail → is_clean cs ≡ true → Goes edition tail roles left → Goes edition (selector_text cs ++ tail) (flat_map component_roles cs ++ roles) left
+components-go : (edition : Edition) (cs : List Component) (tail left : List ℕ) (roles : List Role) → EachJoined edition cs tail → is_clean cs ≡ true → Goes edition tail roles left → Goes edition (selector_text cs ++ tail) (flat_map component_roles cs ++ roles) left
 components-go edition [] tail left roles w clean g = g
 components-go edition (c ∷ cs) tail left roles w clean g =
     let h = both_true (is_clean_compound c.compound) (is_clean cs) clean in
@@ -288,7 +288,7 @@ components_of-cut [] = refl
 components_of-cut (c ∷ cs) = ap (λ k. k ∷ map component_of (map cut_component cs)) (component_of-cut c.combinator c.compound) ∙ ap (λ l. c ∷ l) (components_of-cut cs)
 
 -- the components of a selector's roles are the selector
-pub components_of-roles : (c : Compound) (cs : List Component) → components_of (compound_roles c ++ flat_map component_roles cs) ≡ record { combinator = none; compound = c } ∷ cs
+components_of-roles : (c : Compound) (cs : List Component) → components_of (compound_roles c ++ flat_map component_roles cs) ≡ record { combinator = none; compound = c } ∷ cs
 components_of-roles c cs =
     let parts : cut (compound_roles c ++ flat_map component_roles cs) ≡ (compound_roles c, map cut_component cs) =
     cut-compound c (flat_map component_roles cs)
@@ -304,7 +304,7 @@ IsSelector edition [] behind = ⊥
 IsSelector edition (c ∷ cs) behind = (c.combinator ≡ none) × IsCompound edition c.compound (selector_text cs ++ behind) × EachJoined edition cs behind
 
 -- a printed selector from its compound on
-pub selector-reads : (edition : Edition) (c : Compound) (cs : List Component) (tail left : List ℕ) → IsCompound edition c (selector_text cs ++ tail) → EachJoined edition cs tail → is_clean (record { combinator = none; compound = c } ∷ cs) ≡ true → Goes edition tail [] left
+selector-reads : (edition : Edition) (c : Compound) (cs : List Component) (tail left : List ℕ) → IsCompound edition c (selector_text cs ++ tail) → EachJoined edition cs tail → is_clean (record { combinator = none; compound = c } ∷ cs) ≡ true → Goes edition tail [] left
     → reads edition (selector_text (record { combinator = none; compound = c } ∷ cs) ++ tail) ≡ (Some (record { combinator = none; compound = c } ∷ cs), left)
 unfolding reads
 selector-reads edition c cs tail left w ws clean g =
@@ -324,7 +324,7 @@ printed-reads edition (c ∷ cs) tail left w clean g =
     subst (λ (k : Component). is_clean (k ∷ cs) ≡ true → reads edition (selector_text (k ∷ cs) ++ tail) ≡ (Some (k ∷ cs), left)) (ap (λ (j : Combinator). record { combinator = j; compound = c.compound }) (sym w.0))
     (λ h. selector-reads edition c.compound cs tail left w.1 w.2 h g) clean
 
--- what does not go on with a selector: the end, a stop, a slash that opens no comment, a space and a brace
+-- what does not go on with a selector: the end, and a space with a brace behind it
 
 stop-outcome : (edition : Edition) (text start : List ℕ) (spaced : Bool) → gap text ≡ got spaced start → is_stop start ≡ true → outcome (run_from edition closed_left text) ≡ accepted [] start
 stop-outcome edition text start false g e = ap outcome (run_from-stop edition closed_left text start false g e)
@@ -337,35 +337,9 @@ nil-no_gap = record { none = each-none blank_part [] refl; closed = refl }
 pub goes-end : (edition : Edition) → Goes edition [] [] []
 goes-end edition = record { ends = ends_names-nil edition; runs = stop-outcome edition [] [] false (gap-none [] nil-no_gap) refl }
 
--- a comma
-pub goes-comma : (edition : Edition) (text : List ℕ) → Goes edition (44 ∷ text) [] (44 ∷ text)
-goes-comma edition text = record {
-  ends = ends_low edition 44 text (omega arith) refl refl;
-  runs = stop-outcome edition (44 ∷ text) (44 ∷ text) false (gap-none (44 ∷ text) (no_gap-byte 44 text refl refl)) (rw (some-length 44 text) refl);
-}
-
--- an opening brace
-pub goes-brace : (edition : Edition) (text : List ℕ) → Goes edition (123 ∷ text) [] (123 ∷ text)
-goes-brace edition text = record {
-  ends = ends_low edition 123 text (omega arith) refl refl;
-  runs = stop-outcome edition (123 ∷ text) (123 ∷ text) false (gap-none (123 ∷ text) (no_gap-byte 123 text refl refl)) (rw (some-length 123 text) refl);
-}
-
 -- a space and an opening brace
 pub goes-space_brace : (edition : Edition) (text : List ℕ) → Goes edition (32 ∷ 123 ∷ text) [] (123 ∷ text)
 goes-space_brace edition text = record {
   ends = ends_low edition 32 (123 ∷ text) (omega arith) refl refl;
   runs = stop-outcome edition (32 ∷ 123 ∷ text) (123 ∷ text) true (gap-space (123 ∷ text) (no_gap-byte 123 text refl refl)) (rw (some-length 123 text) refl);
-}
-
-slash-no_gap : (text : List ℕ) → starts 42 text ≡ false → NoGap (47 ∷ text)
-slash-no_gap text e =
-    let part : blank_part (47 ∷ text) ≡ None = rw e refl in
-    record { none = each-none blank_part (47 ∷ text) part; closed = e }
-
--- a slash that opens no comment
-pub goes-slash : (edition : Edition) (text : List ℕ) → starts 42 text ≡ false → Goes edition (47 ∷ text) [] (47 ∷ text)
-goes-slash edition text e = record {
-  ends = ends_low edition 47 text (omega arith) refl refl;
-  runs = ap outcome (run_from-slash edition closed_left (47 ∷ text) (47 ∷ text) false (gap-none (47 ∷ text) (slash-no_gap text e)) (rw (some-length 47 text) refl) refl);
 }

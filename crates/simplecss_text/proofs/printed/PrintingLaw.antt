@@ -1,4 +1,5 @@
 -- A selector's printed text reads back as it exactly if it is clean.
+-- Serves `Selector::{parse, parse_front}` and `StyleSheet::parse` (a selector printed and read again).
 use Rattle.std.proofs.Common.{◌≡◌, ℕ, ◌↔◌, List, [], ◌++◌, Bool, true, false, Some, refl, ap}
 use Rattle.simplecss_text.specs.Characters.{Edition}
 use Rattle.simplecss_text.specs.Components.{Component}
@@ -8,7 +9,7 @@ use Rattle.simplecss_text.proofs.printed.PrintedSelectors.{Goes, IsSelector, pri
 use Rattle.simplecss_text.proofs.printed.UncleanSelectors.{printed-differs}
 
 -- a selector that reads back is clean
-pub clean-from_reads : (edition : Edition) (s : List Component) (tail left : List ℕ) → IsSelector edition s tail → Goes edition tail [] left → reads edition (selector_text s ++ tail) ≡ (Some s, left) → is_clean s ≡ true
+clean-from_reads : (edition : Edition) (s : List Component) (tail left : List ℕ) → IsSelector edition s tail → Goes edition tail [] left → reads edition (selector_text s ++ tail) ≡ (Some s, left) → is_clean s ≡ true
 clean-from_reads edition s tail left w g e = by (is_clean s) refl
   where
     by : (t : Bool) → is_clean s ≡ t → t ≡ true

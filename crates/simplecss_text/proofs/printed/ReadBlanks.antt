@@ -1,4 +1,5 @@
 -- What a blank leaves of a text is a text.
+-- Serves `Selector::{parse, parse_front}` and `StyleSheet::parse` (a selector printed and read again).
 use Rattle.std.proofs.Common.{◌≡◌, ℕ, List, [], ◌∷◌, Bool, true, false, if◌then◌else◌, ◌&&◌, ◌==◌, drop, Option, Some, None, arith, refl, sym, ap, subst, IsUtf8}
 use Rattle.std.specs.Option.{option_map}
 use Rattle.simplecss_text.specs.Reading.{no_comment, got, fails}
@@ -44,7 +45,7 @@ pub past_blank-utf8 : (text : List ℕ) → IsUtf8 text → IsUtf8 (past_blank t
 past_blank-utf8 text u = (each-all Anything IsUtf8 blank_part blank_part-utf8 text u).1
 
 -- the same of a reading
-pub blank-utf8 : (text : List ℕ) → IsUtf8 text → IfGot (λ x rest. IsUtf8 rest) (blank text)
+blank-utf8 : (text : List ℕ) → IsUtf8 text → IfGot (λ x rest. IsUtf8 rest) (blank text)
 unfolding blank
 blank-utf8 text u = if_got-if (λ x rest. IsUtf8 rest) (opens_comment (past_blank text)) (fails (no_comment (past_blank text)) []) (got tt (past_blank text)) (λ e. tt) (λ e. past_blank-utf8 text u)
 

@@ -1,4 +1,5 @@
 -- What a name is that was read.
+-- Serves `Selector::{parse, parse_front}` and `StyleSheet::parse` (a selector printed and read again).
 use Rattle.std.proofs.Common.{◌≡◌, ℕ, ◌⊎◌, inl, inr, List, [], ◌∷◌, ◌++◌, Bool, true, false, cond, if◌then◌else◌, suc, ◌+◌, arith, ◌||◌, ◌&&◌, ◌==◌, length, drop, refl, sym, ap, ◌∙◌, subst, encode_utf8_all, IsUtf8}
 use Rattle.std.specs.Str.{chars, all_scalars}
 use Rattle.std.specs.List.{list_all, prefix_len, take_while}
@@ -26,7 +27,7 @@ taken_pass p (c ∷ cs) = by (p c) refl (taken_pass p cs)
     by false e more = ap (list_all p) (take_while-cons p c cs ∙ ap (λ t. cond t (c ∷ take_while p cs) []) e)
 
 -- where a run of bytes or characters that pass ends, none passes
-pub starts_by-past : (test : ℕ → Bool) (text : List ℕ) → starts_by test (past test text) ≡ false
+starts_by-past : (test : ℕ → Bool) (text : List ℕ) → starts_by test (past test text) ≡ false
 starts_by-past test [] = refl
 starts_by-past test (b ∷ text) = by (test b) refl (starts_by-past test text)
   where
@@ -63,7 +64,7 @@ taken : (p : ℕ → Bool) (c : ℕ) (cs : List ℕ) → p c ≡ true → take_w
 taken p c cs e = take_while-cons p c cs ∙ ap (λ t. cond t (c ∷ take_while p cs) []) e
 
 -- the name characters of what begins a name begin one, but for a hyphen that ends the text
-pub taken_begins : (edition : Edition) (cs : List ℕ) → begins_name edition cs ≡ true → (begins_any_name edition (take_while (is_name_char edition) cs) ≡ true) ⊎ (cs ≡ 45 ∷ [])
+taken_begins : (edition : Edition) (cs : List ℕ) → begins_name edition cs ≡ true → (begins_any_name edition (take_while (is_name_char edition) cs) ≡ true) ⊎ (cs ≡ 45 ∷ [])
 taken_begins edition [] h = absurd (cc)
 taken_begins edition (c ∷ []) h = by (is_name_start edition c) refl
   where

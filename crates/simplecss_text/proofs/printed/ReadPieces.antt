@@ -1,4 +1,5 @@
 -- What the solid pieces are that were read from a text.
+-- Serves `Selector::{parse, parse_front}` and `StyleSheet::parse` (a selector printed and read again).
 use Rattle.std.proofs.Common.{◌≡◌, ℕ, ◌⊎◌, inl, inr, List, [], ◌∷◌, ◌++◌, Bool, true, not, ◌||◌, ◌==◌, length, codes, bytes_eq, arith, refl, sym, ap, ◌∙◌, subst, IsUtf8}
 use Rattle.std.specs.Str.{trim}
 use Rattle.std.specs.List.{list_all, prefix_len, take_while}
@@ -43,7 +44,7 @@ name-gives : (edition : Edition) (text : List ℕ) → IsUtf8 text → IfGot (λ
 name-gives edition text u = if_got (λ n rest. ReadName edition text n rest) (name edition text) (λ n rest e. name-is edition text n rest u e)
 
 -- a name that was read is a value of an attribute
-pub read_name-value : (edition : Edition) (text n rest : List ℕ) → ReadName edition text n rest → IsValue n
+read_name-value : (edition : Edition) (text n rest : List ℕ) → ReadName edition text n rest → IsValue n
 read_name-value edition text n rest w = elim (w.is) [ inl i ↦ name-value_is edition n i | inr h ↦ subst IsValue (sym h.0) refl ]
 
 named-gives : (edition : Edition) (token : List ℕ → Token) (text : List ℕ) → ((n rest : List ℕ) → ReadName edition text n rest → GoodToken edition (token n) rest) → IsUtf8 text → IfGot (ReadToken edition) (named edition token text)

@@ -1,4 +1,5 @@
 -- What selector a run gives that is accepted.
+-- Serves `Selector::{parse, parse_front}` and `StyleSheet::parse` (a selector printed and read again).
 use Rattle.std.proofs.Common.{◌≡◌, ℕ, zero, suc, ◌<◌, inl, inr, List, [], ◌∷◌, ◌++◌, Bool, true, false, if◌then◌else◌, map, length, codes, bytes_eq, arith, refl, sym, ap, ◌∙◌, subst, Option, Some, None, IsUtf8}
 use Rattle.std.specs.List.{flat_map}
 use lib.Utf8.{encode}
@@ -21,7 +22,8 @@ use Rattle.simplecss_text.specs.Selectors.{Role, Outcome, class_named, class_rol
 use Rattle.simplecss_text.specs.Selectors.Role.{any_type, of_type, with, joint}
 use Rattle.simplecss_text.specs.Selectors.Outcome.{refused, accepted}
 use Rattle.simplecss_text.specs.Printing.{selector_text, subselector_text}
-use Rattle.simplecss_text.proofs.reading.TakesLaws.{Keeps, Cuts, gap-keeps, solid-cuts}
+use Rattle.simplecss_text.proofs.reading.PiecesLawful.{solid-cuts}
+use Rattle.simplecss_text.proofs.reading.TakesLaws.{Keeps, Cuts, gap-keeps}
 use Rattle.simplecss_text.proofs.reading.RunLaws.{run_from-piece, run_from-ending}
 use Rattle.simplecss_text.proofs.reading.JoiningLaws.{piece_of, piece-read, piece-fault, piece-open_gap}
 use Rattle.simplecss_text.proofs.printed.PrintedNames.{IsName}

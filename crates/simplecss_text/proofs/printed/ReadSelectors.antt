@@ -1,4 +1,5 @@
 -- A selector that was read, printed and read again.
+-- Serves `laws::printing_law`, `Selector::{parse, parse_front}` and `StyleSheet::parse` (a selector printed and read again).
 use Rattle.std.proofs.Common.{◌≡◌, ℕ, inl, inr, ◌↔◌, List, [], ◌∷◌, ◌++◌, Bool, true, false, ◌&&◌, ◌==◌, length, codes, bytes_eq, refl, sym, ap, ◌∙◌, subst, append-nil, Option, Some, None, IfSome, encode_utf8_all, IsUtf8}
 use Rattle.std.specs.List.{flat_map}
 use Rattle.std.proofs.lemmas.Str.{encodes_same}
@@ -115,7 +116,7 @@ joined-anywhere edition (c ∷ cs) a b h w =
     (record { joins = w.0.joins; compound = compound-anywhere edition c cs a b h w.1 w.0.compound }, joined-anywhere edition cs a b (later_hyphen c cs h) w.1)
 
 -- a selector that ends in no lone hyphen may stand before any text
-pub selector-anywhere : (edition : Edition) (s : List Component) (a b : List ℕ) → ends_in_hyphen s ≡ false → IsSelector edition s a → IsSelector edition s b
+selector-anywhere : (edition : Edition) (s : List Component) (a b : List ℕ) → ends_in_hyphen s ≡ false → IsSelector edition s a → IsSelector edition s b
 selector-anywhere edition [] a b h w = absurd w
 selector-anywhere edition (c ∷ cs) a b h w = (w.0, compound-anywhere edition c cs a b h w.2 w.1, joined-anywhere edition cs a b (later_hyphen c cs h) w.2)
 
@@ -156,21 +157,17 @@ selector-no_hyphen edition (c ∷ d ∷ cs) b text w = joined-no_hyphen edition 
 
 -- the laws
 
--- A selector that was read, with more text behind it, ends in no lone hyphen.
-pub reads-no_hyphen : (edition : Edition) (text : List ℕ) (b : ℕ) (left : List ℕ) (s : List Component) → IsUtf8 text → reads edition text ≡ (Some s, b ∷ left) → ends_in_hyphen s ≡ false
-reads-no_hyphen edition text b left s u e = selector-no_hyphen edition s b left (reads-is edition text (b ∷ left) s u e)
-
 -- Each selector that was read reads back.
-pub selector-reads_back : (edition : Edition) (s : List Component) (left : List ℕ) → IsSelector edition s left → ReadsBack edition s
+selector-reads_back : (edition : Edition) (s : List Component) (left : List ℕ) → IsSelector edition s left → ReadsBack edition s
 selector-reads_back edition s left w =
     subst (λ (t : List ℕ). (reads edition t ≡ (Some s, [])) ↔ (is_clean s ≡ true)) (append-nil (selector_text s)) (printing-law edition s [] [] (selector-behind edition s left [] (λ h. refl) w) (goes-end edition))
 
 -- the same, by the text that it was read from
-pub reads-back : (edition : Edition) (text left : List ℕ) (s : List Component) → IsUtf8 text → reads edition text ≡ (Some s, left) → ReadsBack edition s
+reads-back : (edition : Edition) (text left : List ℕ) (s : List Component) → IsUtf8 text → reads edition text ≡ (Some s, left) → ReadsBack edition s
 reads-back edition text left s u e = selector-reads_back edition s left (reads-is edition text left s u e)
 
 -- Each that was read and ends in no lone hyphen reads back before a block.
-pub reads-back_before : (edition : Edition) (text left : List ℕ) (s : List Component) → IsUtf8 text → reads edition text ≡ (Some s, left) → ends_in_hyphen s ≡ false → ReadsBackBeforeBlock edition s
+reads-back_before : (edition : Edition) (text left : List ℕ) (s : List Component) → IsUtf8 text → reads edition text ≡ (Some s, left) → ends_in_hyphen s ≡ false → ReadsBackBeforeBlock edition s
 reads-back_before edition text left s u e h tail =
     printing-law edition s (32 ∷ 123 ∷ tail) (123 ∷ tail) (selector-anywhere edition s left (32 ∷ 123 ∷ tail) h (reads-is edition text left s u e)) (goes-space_brace edition tail)
 

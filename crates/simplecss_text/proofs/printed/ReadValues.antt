@@ -1,4 +1,5 @@
 -- What a value of an attribute is that was read.
+-- Serves `Selector::{parse, parse_front}` and `StyleSheet::parse` (a selector printed and read again).
 use Rattle.std.proofs.Common.{◌≡◌, ℕ, ◌<◌, List, [], ◌∷◌, ◌++◌, Bool, true, false, ◌&&◌, ◌==◌, arith, refl, sym, ap, ◌∙◌, subst, IsUtf8, inl, inr}
 use Rattle.std.specs.Str.{chars}
 use Rattle.std.specs.List.{list_all}
@@ -46,7 +47,7 @@ name-value_is edition (b ∷ n) w = by (last_after b n == 92) refl
     by true e = let s = last_split b n e in absurd (name_end edition s.0 (b ∷ n) w s.1)
 
 -- what is read as a name is a value, and leaves a text
-pub name-gives_value : (edition : Edition) (text : List ℕ) → IsUtf8 text → IfGot (λ v rest. IsValue v × IsUtf8 rest) (name edition text)
+name-gives_value : (edition : Edition) (text : List ℕ) → IsUtf8 text → IfGot (λ v rest. IsValue v × IsUtf8 rest) (name edition text)
 name-gives_value edition text u =
     if_got (λ v rest. IsValue v × IsUtf8 rest) (name edition text) (λ v rest e.
     let read = name-is edition text v rest u e in

@@ -1,4 +1,5 @@
 -- Texts that differ only in their tail: what is read alike in both.
+-- Serves `selectors` and `prints_back` of `StyleSheet::{parse, parse_all, parse_more}` (a sheet printed and read again).
 use Rattle.std.proofs.Common.{◌≡◌, ℕ, ◌<◌, ◌≤◌, inl, inr, List, [], ◌∷◌, ◌++◌, Bool, true, false, if◌then◌else◌, ◌&&◌, ◌==◌, length, arith, refl, sym, ap, ◌∙◌, subst, length-append, append_assoc, append-nil, IsUtf8}
 use Rattle.std.specs.Str.{chars}
 use Rattle.std.proofs.lemmas.Str.{IsUtf8-nil, IsUtf8-append, chars-append}
@@ -99,7 +100,7 @@ past-alike r q more test low quiet (b ∷ front) u h = by (test b) refl (λ v k.
         rw (first, second) (record { front = b ∷ front; front_is = u; is = refl; also = refl })
 
 -- a byte is passed, if it stands there
-pub past_byte-alike : (r : List ℕ) (q : ℕ) (more : List ℕ) (c : ℕ) → c < 128 → (q == c) ≡ false → LeavesAlike r (q ∷ more) (past_byte c)
+past_byte-alike : (r : List ℕ) (q : ℕ) (more : List ℕ) (c : ℕ) → c < 128 → (q == c) ≡ false → LeavesAlike r (q ∷ more) (past_byte c)
 past_byte-alike r q more c low quiet [] u h =
     let end = ends-past_byte c r in
     let same = whole-left r (past_byte c r) (before r (past_byte c r)) end h in
@@ -149,7 +150,7 @@ begins-alike edition r q more front quiet u e =
     by (c ∷ d ∷ cs) h = h
 
 -- a front, where more than the tail is left
-pub split-behind : (front r n rest : List ℕ) → front ++ r ≡ n ++ rest → length r ≤ length rest → (left : List ℕ) × (front ≡ n ++ left) × (rest ≡ left ++ r)
+split-behind : (front r n rest : List ℕ) → front ++ r ≡ n ++ rest → length r ≤ length rest → (left : List ℕ) × (front ≡ n ++ left) × (rest ≡ left ++ r)
 split-behind front r [] rest e h = (front, refl, sym e)
 split-behind [] r (b ∷ n) rest e h = absurd (omega (arith, ap length e, length-append n rest))
 split-behind (c ∷ front) r (b ∷ n) rest e h =

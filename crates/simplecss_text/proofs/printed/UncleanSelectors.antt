@@ -1,4 +1,5 @@
 -- A selector that is not clean does not read back.
+-- Serves `Selector::{parse, parse_front}` and `StyleSheet::parse` (a selector printed and read again).
 use Rattle.std.proofs.Common.{◌≡◌, ℕ, ◌⊎◌, inl, inr, List, [], ◌∷◌, ◌++◌, Bool, true, false, ◌&&◌, if◌then◌else◌, map, length, length-append, refl, sym, ap, ◌∙◌, subst, append_assoc, arith, Option, Some, None}
 use Rattle.std.specs.List.{list_all, flat_map}
 use Rattle.simplecss_text.specs.Reading.{Reading, got, fails, follow}
@@ -46,7 +47,7 @@ pub record OtherOperator (edition : Edition) (o : Operator) (tail : List ℕ) : 
   pub reads : attribute_operator edition (operator_text o ++ (93 ∷ tail)) ≡ got other rest
 
 -- one that is not clean is cut short
-pub operator-cut : (edition : Edition) (o : Operator) (tail : List ℕ) → is_clean_operator o ≡ false → OtherOperator edition o tail
+operator-cut : (edition : Edition) (o : Operator) (tail : List ℕ) → is_clean_operator o ≡ false → OtherOperator edition o tail
 unfolding attribute_operator value_of
 operator-cut edition exists tail c = absurd (cc)
 operator-cut edition (equals v) tail c =

@@ -1,4 +1,5 @@
 -- What stands before the first byte of a kind.
+-- Serves `tokenizer::text_before` of `simplecss_selector` (the text up to a byte).
 use Rattle.std.proofs.Common.{◌≡◌, ℕ, suc, ◌+◌, ◌-◌, ◌≤◌, List, [], ◌∷◌, Bool, true, false, if◌then◌else◌, not, ◌==◌, length, take, drop, Option, Some, None, arith, refl, sym, ap, ◌∙◌, length-drop}
 use Rattle.std.specs.List.{prefix_len}
 use Rattle.std.proofs.lemmas.List.Sums.{prefix_len-le-length}

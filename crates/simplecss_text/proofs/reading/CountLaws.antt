@@ -1,4 +1,5 @@
 -- How many declarations and tokens a text has at most.
+-- Serves `SelectorTokenizer::from` and `DeclarationTokenizer::from` (how many items are to come at most).
 use Rattle.std.proofs.Common.{◌≡◌, ◌≤◌, ◌<◌, ◌+◌, List, ℕ, [], ◌∷◌, Bool, true, false, if◌then◌else◌, suc, zero, length, Option, Some, None, refl, sym, subst, arith}
 use Rattle.std.specs.List.{list_any}
 use Rattle.simplecss_text.specs.Reading.{Fault, Reading, got, fails, up_to, each, and_then}
@@ -13,8 +14,9 @@ use Rattle.simplecss_text.specs.Neighbours.Left.{open_left, closed_left}
 use Rattle.simplecss_text.specs.Neighbours.Follows.{subselector, universal, type_name, combinator, stop, slash, faulty_piece, faulty_gap}
 use Rattle.simplecss_text.specs.TokenRuns.{Run, run, run_from, items, answered, left_with, token_then, ending_run}
 use Rattle.simplecss_text.specs.Declarations.{next_declaration, declarations}
+use Rattle.simplecss_text.proofs.reading.PiecesLawful.{begun-cuts}
 use Rattle.simplecss_text.proofs.reading.EachLaws.{Shrinks, Takes}
-use Rattle.simplecss_text.proofs.reading.TakesLaws.{Cuts, blank_part-takes, begun-cuts}
+use Rattle.simplecss_text.proofs.reading.TakesLaws.{Cuts, blank_part-takes}
 use Rattle.simplecss_text.proofs.bytes.GapLaws.{gap_is_closed, gap_is_open}
 use Rattle.simplecss_text.proofs.reading.RunSteps.{fault_end, begun_run, solid_run, gap_run, run_from-by}
 
@@ -27,7 +29,7 @@ length-up_to {A = A} read (suc n) text = by (λ rest. length-up_to read n rest) 
     by more None = omega arith
     by more (Some x) = omega (arith, more x.1)
 
-pub length-each : {A : Type 0} (read : List ℕ → Option (A × List ℕ)) (text : List ℕ) → length (each read text).0 ≤ length text
+length-each : {A : Type 0} (read : List ℕ → Option (A × List ℕ)) (text : List ℕ) → length (each read text).0 ≤ length text
 unfolding each
 length-each read text = length-up_to read (length text) text
 

@@ -1,4 +1,5 @@
 -- What `each` reads, step by step.
+-- Serves every loop that reads: `scan::closed_part`, the tokenizers, `take_value`, `consume_parts` and `read_rules`.
 use Rattle.std.proofs.Common.{◌≡◌, ℕ, zero, suc, ◌<◌, ◌≤◌, List, [], ◌∷◌, length, Option, Some, None, arith, refl, sym, ap, ◌∙◌, ◌⊎◌, inl, inr, subst, ◌++◌, append_assoc, append-nil}
 use Rattle.simplecss_text.specs.Reading.{followed_by, up_to, each}
 
@@ -18,15 +19,15 @@ pub option_cases : {A : Type 0} (o : Option A) → (o ≡ None) ⊎ ((x : A) × 
 option_cases None = inl refl
 option_cases (Some x) = inr (x, refl)
 
-pub up_to-none : {A : Type 0} (read : List ℕ → Option (A × List ℕ)) (n : ℕ) (text : List ℕ) → read text ≡ None → up_to n read text ≡ ([], text)
+up_to-none : {A : Type 0} (read : List ℕ → Option (A × List ℕ)) (n : ℕ) (text : List ℕ) → read text ≡ None → up_to n read text ≡ ([], text)
 up_to-none read zero text e = refl
 up_to-none read (suc n) text e = rw (e, up_to) refl
 
-pub up_to-some : {A : Type 0} (read : List ℕ → Option (A × List ℕ)) (n : ℕ) (text rest : List ℕ) (x : A) → read text ≡ Some (x, rest) → up_to (suc n) read text ≡ followed_by x (up_to n read rest)
+up_to-some : {A : Type 0} (read : List ℕ → Option (A × List ℕ)) (n : ℕ) (text rest : List ℕ) (x : A) → read text ≡ Some (x, rest) → up_to (suc n) read text ≡ followed_by x (up_to n read rest)
 up_to-some read n text rest x e = rw (e, up_to) refl
 
 -- where nothing more is found, more tries change nothing
-pub up_to-enough : {A : Type 0} (read : List ℕ → Option (A × List ℕ)) → Takes read → (m n : ℕ) (text : List ℕ) → length text ≤ m → length text ≤ n → up_to m read text ≡ up_to n read text
+up_to-enough : {A : Type 0} (read : List ℕ → Option (A × List ℕ)) → Takes read → (m n : ℕ) (text : List ℕ) → length text ≤ m → length text ≤ n → up_to m read text ≡ up_to n read text
 up_to-enough read takes zero n text a b =
     elim (option_cases (read text)) [
       | inl e ↦ sym (up_to-none read n text e)
@@ -80,7 +81,7 @@ done_end read front here text e d =
     rw (values, rest) refl
 
 -- where `each` stops, nothing more is found
-pub up_to-stops : {A : Type 0} (read : List ℕ → Option (A × List ℕ)) → Takes read → (n : ℕ) (text : List ℕ) → length text ≤ n → read (up_to n read text).1 ≡ None
+up_to-stops : {A : Type 0} (read : List ℕ → Option (A × List ℕ)) → Takes read → (n : ℕ) (text : List ℕ) → length text ≤ n → read (up_to n read text).1 ≡ None
 up_to-stops read takes zero text h =
     elim (option_cases (read text)) [ inl e ↦ e | inr found ↦ absurd (omega (arith, took read takes text found.0.1 found.0.0 found.1)) ]
 up_to-stops read takes (suc n) text h =

@@ -1,4 +1,5 @@
 -- Ends of a text, and texts that stand in what reading passes.
+-- Serves `next` of both tokenizers (slices in order), `StyleSheet::parse_more`, `laws::cutting_law` and `laws::edition_law`.
 use Rattle.std.proofs.Common.{◌≡◌, ℕ, zero, suc, ◌≤◌, List, [], ◌∷◌, ◌++◌, Bool, true, false, if◌then◌else◌, length, take, drop, ◌-◌, ◌==◌, Option, Some, None, arith, refl, ap, ◌∙◌, subst, append_assoc, append-nil, length-append}
 use Rattle.std.proofs.Math.Seq.{take-append_seam}
 use Rattle.std.proofs.lemmas.List.{take-append-drop}
@@ -80,7 +81,7 @@ abbrev pub EndsFound : {A : Type 0} → List ℕ → Option (A × List ℕ) → 
 EndsFound text None = Unit {0}
 EndsFound text (Some x) = Ends text x.1
 
-pub up_to-ends : {A : Type 0} (read : List ℕ → Option (A × List ℕ)) → ((text : List ℕ) → EndsFound text (read text)) → (n : ℕ) (text : List ℕ) → Ends text (up_to n read text).1
+up_to-ends : {A : Type 0} (read : List ℕ → Option (A × List ℕ)) → ((text : List ℕ) → EndsFound text (read text)) → (n : ℕ) (text : List ℕ) → Ends text (up_to n read text).1
 up_to-ends read ends zero text = ends-same text
 up_to-ends {A = A} read ends (suc n) text = by (λ t. up_to-ends read ends n t) (read text) (ends text)
   where

@@ -1,4 +1,5 @@
 -- What a call tells by an error.
+-- Serves `SelectorTokenizer::{next_open, next_closed, next_joined}` (the error that they give).
 use Rattle.std.proofs.Common.{◌≡◌, List, ℕ, ap, sym}
 use Rattle.simplecss_text.specs.Reading.{Fault, Reading, got, fails}
 use Rattle.simplecss_text.specs.Errors.{error_of, FailsBy}

@@ -1,4 +1,5 @@
 -- A gap with a space byte behind a simple piece gives a descendant combinator, and then all is as at the start of a text.
+-- Serves `SelectorTokenizer::{next_open, next_closed, next_joined}` and `Selector::parse_front` (what follows a gap).
 use Rattle.std.proofs.Common.{◌≡◌, ℕ, List, [], Bool, true, false, if◌then◌else◌, refl, sym, ap, ◌∙◌}
 use Rattle.simplecss_text.specs.Reading.{Fault, no_selector, got, fails}
 use Rattle.simplecss_text.specs.Bytes.{starts, starts_by}
@@ -66,11 +67,11 @@ descends-fault edition text start after fault g s no_stop no_slash =
     ∙ ap (λ rest. token_then descendant_combinator start rest) (sym (run_from-ending edition open_left start after fault (piece-fault edition start start after false fault again s)))
 
 -- at a stop and at a slash stands no piece
-pub solid-stop : (edition : Edition) (start : List ℕ) → is_stop start ≡ true → solid edition start ≡ fails no_selector start
+solid-stop : (edition : Edition) (start : List ℕ) → is_stop start ≡ true → solid edition start ≡ fails no_selector start
 unfolding solid
 solid-stop edition start e = rw e refl
 
-pub solid-slash : (edition : Edition) (start : List ℕ) → is_stop start ≡ false → starts 47 start ≡ true → solid edition start ≡ fails no_selector start
+solid-slash : (edition : Edition) (start : List ℕ) → is_stop start ≡ false → starts 47 start ≡ true → solid edition start ≡ fails no_selector start
 unfolding solid
 solid-slash edition start no_stop e = rw (no_stop, e) refl
 

@@ -1,4 +1,5 @@
 -- The least number that passes.
+-- Serves `blocks::closing_place` (where a block ends) and `laws::cutting_law`.
 use Rattle.std.proofs.Common.{◌≡◌, ℕ, zero, suc, ◌<◌, ◌≤◌, Bool, true, false, if◌then◌else◌, nat_lt, arith, refl, lt-ltb, le-ltb, sym, eq-or-lt_of_le, le_of_suc-le-suc, ◌⊎◌, inl, inr, subst, ltb-true, ltb-false}
 use Rattle.simplecss_text.specs.Blocks.{least}
 

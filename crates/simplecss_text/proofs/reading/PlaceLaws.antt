@@ -1,4 +1,5 @@
 -- The place of a cursor, as what is left to read tells it.
+-- Serves `next` of both tokenizers (the place never falls).
 use Rattle.std.proofs.Common.{◌≡◌, ◌≤◌, List, ℕ, length, arith, ap, length-drop}
 use Rattle.simplecss_text.specs.Reading.{Ends}
 use Rattle.simplecss_text.specs.Cursor.{text_of, place_of, rest_of}
@@ -6,7 +7,7 @@ use Rattle.simplecss_text.specs.declared.stream.Stream.{Stream}
 use Rattle.simplecss_text.proofs.reading.EndsLaws.{length-ends}
 
 -- where no more is left to read of the same text, the place has not fallen
-pub place-forward : (old new : Stream) → text_of new ≡ text_of old → length (rest_of new) ≤ length (rest_of old) → place_of old ≤ place_of new
+place-forward : (old new : Stream) → text_of new ≡ text_of old → length (rest_of new) ≤ length (rest_of old) → place_of old ≤ place_of new
 place-forward old new same less =
     let within = old.boundary.0 in
     let long : length (text_of new) ≡ length (text_of old) = ap (λ (t : List ℕ). length t) same in

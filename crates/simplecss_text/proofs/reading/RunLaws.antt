@@ -1,4 +1,5 @@
 -- The run of a text, piece by piece.
+-- Serves `SelectorTokenizer`, `Selector::parse_front` and `laws::at_most_two_errors` (the run of a text).
 use Rattle.std.proofs.Common.{◌≡◌, ℕ, ◌≤◌, List, [], ◌∷◌, None, Some, arith, refl, ap}
 use Rattle.simplecss_text.specs.Reading.{Fault, got, fails, found, followed_by, each}
 use Rattle.simplecss_text.specs.Characters.{Edition}
@@ -8,8 +9,8 @@ use Rattle.simplecss_text.specs.Neighbours.{Left, Answer, before_piece, before_e
 use Rattle.simplecss_text.specs.Neighbours.Left.{open_left, closed_left}
 use Rattle.simplecss_text.specs.Neighbours.Answer.{nothing, descends, ends_tokens, refuses}
 use Rattle.simplecss_text.specs.TokenRuns.{Run, run, run_from, run_of, answered, left_with, token_then, ending_run, start_of, fault_count}
+use Rattle.simplecss_text.proofs.reading.PiecesLawful.{next_piece-takes}
 use Rattle.simplecss_text.proofs.reading.EachLaws.{each-none, each-some}
-use Rattle.simplecss_text.proofs.reading.TakesLaws.{next_piece-takes}
 
 -- a piece is read: what stands between it and the left side, its token, and the run behind it
 pub run_from-piece : (edition : Edition) (left : Left) (text after : List ℕ) (p : Piece) → piece edition text ≡ got p after → run_from edition left text ≡ answered (before_piece left p) p.start (token_then p.token p.after (run_from edition (left_behind p.token) after))
@@ -46,7 +47,7 @@ answered-two ends_tokens start next h = omega arith
 answered-two (refuses fault after) start next h = omega arith
 
 -- a run has at most two faults
-pub run-two : (left : Left) (ps : List Piece) (end : Ending) → fault_count (run left ps end) ≤ 2
+run-two : (left : Left) (ps : List Piece) (end : Ending) → fault_count (run left ps end) ≤ 2
 run-two left [] end = answered-two (before_ending left end) (start_of end) (ending_run (left_with (before_ending left end) left) end) (ending-two (left_with (before_ending left end) left) end)
 run-two left (p ∷ ps) end = answered-two (before_piece left p) p.start (token_then p.token p.after (run (left_behind p.token) ps end)) (run-two (left_behind p.token) ps end)
 

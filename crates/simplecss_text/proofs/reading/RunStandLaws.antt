@@ -1,4 +1,5 @@
 -- What a run gives stands in its text, each item behind the one before, and what reading leaves is an end of the text.
+-- Serves `next` of `SelectorTokenizer` (slices in order), `consume_parts`, `laws::cutting_law` and `laws::edition_law`.
 use Rattle.std.proofs.Common.{ℕ, zero, suc, List, [], ◌∷◌, Bool, true, false, if◌then◌else◌, length, Ok, Err, IsUtf8}
 use Rattle.simplecss_text.specs.Reading.{Reading, got, fails, follow, found, and_then, up_to, each, Ends}
 use Rattle.simplecss_text.specs.Bytes.{starts, starts_by}
@@ -150,7 +151,7 @@ gap_ending-ends edition text (got spaced start) h =
     (fault_ending-ends text spaced start (solid edition start) h.at (solid-stands sees_nothing edition start start tt (ends-same start))))
 
 -- the rests that an ending names are ends of the text
-pub ending-ends : (edition : Edition) (text : List ℕ) → EndingEnds text (ending edition text)
+ending-ends : (edition : Edition) (text : List ℕ) → EndingEnds text (ending edition text)
 unfolding ending
 ending-ends edition text = gap_ending-ends edition text (gap text) (gap-stands text)
 
@@ -193,13 +194,13 @@ up_to-stand {texts = texts} sees edition whole good (suc k) text e = by (λ t. u
         (h.0, h.1, pieces-stand-from texts p.after rest behind.0 behind.1 h.2 (more rest on))
     by more (fails fault rest) h = ends-same text
 
-pub pieces-stand : {Good : List ℕ → Type 0} {texts : Token → List (List ℕ)} → Sees Good texts → (edition : Edition) (whole text : List ℕ) → Good whole → Ends whole text → PiecesStand texts text (pieces edition text)
+pieces-stand : {Good : List ℕ → Type 0} {texts : Token → List (List ℕ)} → Sees Good texts → (edition : Edition) (whole text : List ℕ) → Good whole → Ends whole text → PiecesStand texts text (pieces edition text)
 unfolding each
 pieces-stand sees edition whole text good e = up_to-stand sees edition whole good (length text) text e
 
 -- ---- the run
 
-pub run-stands : {Good : List ℕ → Type 0} {texts : Token → List (List ℕ)} → Sees Good texts → (text : List ℕ) (left : Left) (ps : List Piece) (rest : List ℕ) (end : Ending) → PiecesStand texts text (ps, rest) → EndingEnds rest end → RunStands texts text (run left ps end)
+run-stands : {Good : List ℕ → Type 0} {texts : Token → List (List ℕ)} → Sees Good texts → (text : List ℕ) (left : Left) (ps : List Piece) (rest : List ℕ) (end : Ending) → PiecesStand texts text (ps, rest) → EndingEnds rest end → RunStands texts text (run left ps end)
 run-stands {texts = texts} sees text left [] rest end p e =
     run-stands-from texts text rest (run left [] end) p
     (answered-stands sees rest (before_ending left end) (start_of end) (ending_run (left_with (before_ending left end) left) end) (before_ending-ends rest left end e) (start_of-ends rest end e) (ending_run-stands texts rest (left_with (before_ending left end) left) end e))

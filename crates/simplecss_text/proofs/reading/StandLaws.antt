@@ -1,4 +1,5 @@
 -- What each reader leaves is an end of the text, and what it gives stands before that end.
+-- Serves `next` of `SelectorTokenizer` (slices in order), `consume_declaration`, `laws::cutting_law` and `laws::edition_law`.
 use Rattle.std.proofs.Common.{◌≡◌, ℕ, ◌<◌, ◌+◌, List, [], ◌∷◌, ◌++◌, Bool, true, false, if◌then◌else◌, ◌||◌, ◌&&◌, ◌==◌, not, bytes_eq, length, take, drop, get_or, Option, Some, None, arith, refl, sym, ap, ◌∙◌, subst, encode_utf8_all, codes, append_assoc, append-nil, IsUtf8, length-append, length-drop, cond, ◌⊎◌, inl, inr}
 use Rattle.std.specs.Str.{chars, trim, trim_start, trim_end, skip_leading_whitespace, drop_trailing_whitespace, all_scalars, IsCharBoundary}
 use Rattle.std.specs.Char.{is_whitespace}
@@ -11,9 +12,9 @@ use Rattle.std.proofs.lemmas.Bool.{eqb-true, not-false}
 use Rattle.std.proofs.Math.Nat.{eq-or-lt_of_le}
 use Rattle.std.proofs.lemmas.Slice.Eq.{bytes_eq-Decides}
 use Rattle.simplecss_text.specs.Reading.{no_name, no_comment, no_selector, no_language, wrong_byte, Reading, got, fails, before, Ends}
-use Rattle.simplecss_text.specs.Bytes.{past, past_one, past_byte, byte, closed_or, starts_two, starts}
+use Rattle.simplecss_text.specs.Bytes.{past, past_one, past_byte, byte, starts_two, starts}
 use Rattle.simplecss_text.specs.Characters.{Edition, is_name_char, is_space}
-use Rattle.simplecss_text.specs.Comments.{opens_comment, after_close, after_comment, comment, blank_part, past_blank, blank, has_space, gap}
+use Rattle.simplecss_text.specs.Comments.{opens_comment, after_close, after_comment, blank_part, past_blank, blank, has_space, gap}
 use Rattle.simplecss_text.specs.Names.{begins_name, past_name_chars, name}
 use Rattle.simplecss_text.specs.Strings.{is_quote, from_quote, string_up_to, string_or_name}
 use Rattle.simplecss_text.specs.Slices.{StandBetween}
@@ -30,26 +31,17 @@ pub byte-stands : (c : ℕ) (text : List ℕ) → Stands text no_texts (byte c t
 byte-stands c [] = record { at = ends-same [] }
 byte-stands c (b ∷ text) = stands-if (b ∷ text) no_texts (b == c) (got (tt {0}) text) (fails (wrong_byte c (b ∷ text)) (b ∷ text)) (record { at = ends-tail b text }) (record { at = ends-same (b ∷ text) })
 
-pub after_close-ends : (text : List ℕ) → EndsSome text (after_close text)
+after_close-ends : (text : List ℕ) → EndsSome text (after_close text)
 after_close-ends [] = tt
 after_close-ends (b ∷ text) =
     ends_some-if (b ∷ text) (starts_two 42 47 (b ∷ text)) (Some (past_one text)) (after_close text)
     (ends-cons b text (past_one text) (ends-past_one text))
     (ends_some-ends (b ∷ text) text (after_close text) (ends-tail b text) (after_close-ends text))
 
-pub after_comment-ends : (text : List ℕ) → EndsSome text (after_comment text)
+after_comment-ends : (text : List ℕ) → EndsSome text (after_comment text)
 after_comment-ends text = ends_some-ends text (drop 2 text) (after_comment text) (ends-drop 2 text) (after_close-ends (drop 2 text))
 
-pub comment-stands : (text : List ℕ) → Stands text no_texts (comment text)
-unfolding comment
-comment-stands text = by (opens_comment text) (after_comment text) (after_comment-ends text)
-  where
-    by : (t : Bool) (o : Option (List ℕ)) → EndsSome text o → Stands text no_texts (if t then closed_or (no_comment text) o else fails (no_comment text) (past_byte 47 text))
-    by true None h = record { at = ends-nil text }
-    by true (Some rest) h = record { at = h }
-    by false o h = record { at = ends-past_byte 47 text }
-
-pub blank_part-ends : (text : List ℕ) → EndsFound text (blank_part text)
+blank_part-ends : (text : List ℕ) → EndsFound text (blank_part text)
 blank_part-ends [] = tt
 blank_part-ends (b ∷ text) = by (is_space b) (opens_comment (b ∷ text)) (after_comment (b ∷ text)) (after_comment-ends (b ∷ text))
   where
@@ -74,7 +66,7 @@ gap-stands text = stands-follow text no_texts no_texts (blank text) (λ u. got (
 
 -- ---- names and values
 
-pub ends-past_name_chars : (edition : Edition) (text : List ℕ) → Ends text (past_name_chars edition text)
+ends-past_name_chars : (edition : Edition) (text : List ℕ) → Ends text (past_name_chars edition text)
 unfolding past_name_chars
 ends-past_name_chars edition text = ends-drop (length (encode_utf8_all (take_while (is_name_char edition) (chars text)))) text
 
@@ -83,6 +75,10 @@ unfolding name
 name-stands edition text =
     stands-if text itself (begins_name edition (chars text)) (got (before text (past_name_chars edition text)) (past_name_chars edition text)) (fails (no_name text) (past_byte 45 text))
     (record { at = stand-before text (past_name_chars edition text) (ends-past_name_chars edition text) }) (record { at = ends-past_byte 45 text })
+
+-- the same, where the name is not seen
+pub name_unseen-stands : (edition : Edition) (text : List ℕ) → Stands text no_texts (name edition text)
+name_unseen-stands edition text = stands-unseen text itself (name edition text) (name-stands edition text)
 
 pub from_quote-ends : (quote previous : ℕ) (text : List ℕ) → EndsSome text (from_quote quote previous text)
 from_quote-ends quote previous [] = tt
@@ -94,7 +90,7 @@ pub string_up_to-stands : (text : List ℕ) (o : Option (List ℕ)) → EndsSome
 string_up_to-stands text None h = record { at = ends-nil text }
 string_up_to-stands text (Some closing) h = record { at = stand-to text closing (past_one closing) (before text closing ∷ []) (stand-before text closing h) (ends-past_one closing) }
 
-pub string_or_name-stands : (edition : Edition) (text : List ℕ) → Stands text itself (string_or_name edition text)
+string_or_name-stands : (edition : Edition) (text : List ℕ) → Stands text itself (string_or_name edition text)
 unfolding string_or_name
 string_or_name-stands edition [] = record { at = ends-same [] }
 string_or_name-stands edition (b ∷ text) =
@@ -111,7 +107,7 @@ equated-stands edition operator is text =
     (stands-follow rest itself operator_texts (string_or_name edition rest) (λ value. got (operator value)) (string_or_name-stands edition rest) (λ value last f k.
     record { at = subst (StandBetween rest last) (sym (is value)) k })))
 
-pub attribute_operator-stands : (edition : Edition) (text : List ℕ) → Stands text operator_texts (attribute_operator edition text)
+attribute_operator-stands : (edition : Edition) (text : List ℕ) → Stands text operator_texts (attribute_operator edition text)
 unfolding attribute_operator
 attribute_operator-stands edition [] = record { at = ends-same [] }
 attribute_operator-stands edition (b ∷ text) =
@@ -121,7 +117,7 @@ attribute_operator-stands edition (b ∷ text) =
     (stands-if (b ∷ text) operator_texts (b == 124) _ _ (stands-from (b ∷ text) text operator_texts (equated edition begins_with text) (ends-tail b text) (equated-stands edition begins_with (λ v. refl) text))
     (record { at = ends-same (b ∷ text) }))))
 
-pub attribute_after-stands : (edition : Edition) (text : List ℕ) → Stands text token_texts (attribute_after edition text)
+attribute_after-stands : (edition : Edition) (text : List ℕ) → Stands text token_texts (attribute_after edition text)
 unfolding attribute_after
 attribute_after-stands edition text =
     stands-follow text itself token_texts (name edition text) _ (name-stands edition text) (λ n rest e h.
@@ -207,7 +203,7 @@ stand-trim text rest e u =
     (trim v ++ (c ++ rest), c ++ rest, ends-by text a (trim v ++ (c ++ rest)) whole, ends-append (trim v) (c ++ rest), sym (before-append (trim v) (c ++ rest)), ends-append c rest)
 
 -- the language in the parentheses of a `:lang`, up to the closing one
-pub language-stands : (text : List ℕ) → IsUtf8 text → StandBetween text (past (λ b. not (b == 41)) text) (trim (before text (past (λ b. not (b == 41)) text)) ∷ [])
+language-stands : (text : List ℕ) → IsUtf8 text → StandBetween text (past (λ b. not (b == 41)) text) (trim (before text (past (λ b. not (b == 41)) text)) ∷ [])
 language-stands text u =
     let k = prefix_len (λ b. not (b == 41)) text in
     let same : before text (past (λ b. not (b == 41)) text) ≡ take k text = ap (λ n. take n text) (omega (arith, length-drop k text, prefix_len-le-length (λ b. not (b == 41)) text)) in
@@ -248,7 +244,7 @@ byte-is c (b ∷ text) rest u e = by (b == c) refl e
     by true t e = let same : b ≡ c = eqb-true b c t in cc
     by false t e = absurd (cc)
 
-pub lang_after-stands : {Good : List ℕ → Type 0} {texts : Token → List (List ℕ)} → Sees Good texts → (text : List ℕ) → Good text → Stands text texts (lang_after text)
+lang_after-stands : {Good : List ℕ → Type 0} {texts : Token → List (List ℕ)} → Sees Good texts → (text : List ℕ) → Good text → Stands text texts (lang_after text)
 unfolding lang_after
 lang_after-stands {Good = Good} {texts = texts} sees text good =
     stands-follow text no_texts texts (byte 40 text) _ (byte-stands 40 text) (λ u rest e h.
@@ -261,7 +257,7 @@ lang_after-stands {Good = Good} {texts = texts} sees text good =
     stands-if text texts (length value == 0) (fails no_language last) (got (lang_pseudo_class value) last) (record { at = stand-ends text last _ k }) (record { at = k })))
 
 -- a name that was read is what stands before the rest
-pub name-got : (edition : Edition) (text rest n : List ℕ) → name edition text ≡ got n rest → n ≡ before text rest
+name-got : (edition : Edition) (text rest n : List ℕ) → name edition text ≡ got n rest → n ≡ before text rest
 unfolding name
 name-got edition text rest n = by (begins_name edition (chars text))
   where
@@ -272,7 +268,7 @@ name-got edition text rest n = by (begins_name edition (chars text))
         sym read ∙ ap (before text) left
     by false e = absurd (cc)
 
-pub pseudo_class_after-stands : {Good : List ℕ → Type 0} {texts : Token → List (List ℕ)} → Sees Good texts → (edition : Edition) (text : List ℕ) → Good text → Stands text texts (pseudo_class_after edition text)
+pseudo_class_after-stands : {Good : List ℕ → Type 0} {texts : Token → List (List ℕ)} → Sees Good texts → (edition : Edition) (text : List ℕ) → Good text → Stands text texts (pseudo_class_after edition text)
 unfolding pseudo_class_after
 pseudo_class_after-stands {Good = Good} {texts = texts} sees edition text good =
     stands-follow text itself texts (name edition text) pseudo_class_named (name-stands edition text) (λ n rest e h.
@@ -291,7 +287,7 @@ named-stands edition token is text =
     stands-follow text itself token_texts (name edition text) (λ n. got (token n)) (name-stands edition text) (λ n rest e h.
     record { at = subst (StandBetween text rest) (sym (is n)) h })
 
-pub begun-stands : {Good : List ℕ → Type 0} {texts : Token → List (List ℕ)} → Sees Good texts → (edition : Edition) (whole text : List ℕ) → Good whole → Ends whole text → Stands text texts (begun edition text)
+begun-stands : {Good : List ℕ → Type 0} {texts : Token → List (List ℕ)} → Sees Good texts → (edition : Edition) (whole text : List ℕ) → Good whole → Ends whole text → Stands text texts (begun edition text)
 unfolding begun
 begun-stands sees edition whole [] good e = sees.seen [] (named edition type_selector []) (named-stands edition type_selector (λ n. refl) [])
 begun-stands {Good = Good} {texts = texts} sees edition whole (b ∷ text) good e =

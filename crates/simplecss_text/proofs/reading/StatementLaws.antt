@@ -1,4 +1,5 @@
 -- Runs, parts and statements leave no more than there was, and a statement takes a byte or more.
+-- Serves `consume_parts` and `read_rules` (their loops end), and `laws::cutting_law`.
 use Rattle.std.proofs.Common.{ℕ, ◌<◌, ◌≤◌, List, [], ◌∷◌, Bool, true, false, if◌then◌else◌, ◌==◌, not, length, Some, None, arith}
 use Rattle.simplecss_text.specs.Reading.{Reading, got, fails, each}
 use Rattle.simplecss_text.specs.Bytes.{past, past_one, past_byte, starts, is_neither}
@@ -25,7 +26,7 @@ length-past_at_name : (text : List ℕ) (r : Reading (List ℕ)) → Keeps text 
 length-past_at_name text (got n rest) h = omega (arith, length-past_at_end (past (is_neither 59 123) rest), length-past (is_neither 59 123) rest)
 length-past_at_name text (fails fault rest) h = h
 
-pub length-past_at_rule : (edition : Edition) (text : List ℕ) → length (past_at_rule edition text) ≤ length text
+length-past_at_rule : (edition : Edition) (text : List ℕ) → length (past_at_rule edition text) ≤ length text
 unfolding past_at_rule
 length-past_at_rule edition text = length-past_at_name text (name edition text) (cuts-keeps text (name edition text) (name-cuts edition text))
 
@@ -68,7 +69,7 @@ unfolding rule_set
 length-rule_set edition text p = next_block-less edition (parts edition (past_byte 44 text)).1 (length text) (omega (arith, length-parts edition (past_byte 44 text), length-past_byte 44 text)) p
 
 -- a statement takes a byte or more
-pub length-statement : (edition : Edition) (text : List ℕ) → 0 < length text → length (statement edition text).1 < length text
+length-statement : (edition : Edition) (text : List ℕ) → 0 < length text → length (statement edition text).1 < length text
 unfolding statement
 length-statement edition [] p = absurd (omega (arith, p))
 length-statement edition (b ∷ text) p = by (b == 64)

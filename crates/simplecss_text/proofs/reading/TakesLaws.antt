@@ -1,20 +1,16 @@
--- What is read takes bytes, and never leaves more than there was.
-use Rattle.std.proofs.Common.{◌≡◌, ℕ, zero, suc, ◌+◌, ◌<◌, ◌≤◌, List, [], ◌∷◌, Bool, true, false, if◌then◌else◌, ◌||◌, ◌&&◌, ◌==◌, not, bytes_eq, length, take, drop, Option, Some, None, arith, refl, length-append, length-drop, encode_utf8, encode_utf8_all, codes}
-use Rattle.std.specs.Str.{chars, trim}
+-- What takes bytes, and leaves no more than there was: one thing after another, blanks, names, strings.
+-- Serves every loop that reads: the tokenizers, `take_value`, `consume_declarations` and `read_rules` (each turn takes a byte).
+use Rattle.std.proofs.Common.{◌≡◌, ℕ, zero, suc, ◌+◌, ◌<◌, ◌≤◌, List, [], ◌∷◌, Bool, true, false, if◌then◌else◌, ◌||◌, ◌&&◌, ◌==◌, not, length, take, drop, Option, Some, None, arith, refl, length-append, length-drop, encode_utf8, encode_utf8_all}
+use Rattle.std.specs.Str.{chars}
 use Rattle.std.specs.Option.{option_map}
 use Rattle.std.specs.List.{prefix_len, take_while}
 use Rattle.std.proofs.lemmas.Str.{length-encode, len_utf8_bounds, chars-nil}
-use Rattle.simplecss_text.specs.Reading.{wrong_byte, no_name, no_comment, no_selector, Reading, got, fails, Reader, follow, found, and_then, up_to, each, before}
-use Rattle.simplecss_text.specs.Bytes.{past, past_one, past_byte, is_digit, byte, all_before, starts_two, starts}
+use Rattle.simplecss_text.specs.Reading.{no_name, no_comment, Reading, got, fails, Reader, follow, found, and_then, up_to, each, before, left_after}
+use Rattle.simplecss_text.specs.Bytes.{past, past_one, past_byte, is_digit, starts_two}
 use Rattle.simplecss_text.specs.Characters.{Edition, is_name_start, is_name_char, is_space}
 use Rattle.simplecss_text.specs.Comments.{opens_comment, after_close, after_comment, blank_part, past_blank, blank, has_space, gap}
 use Rattle.simplecss_text.specs.Names.{begins_name, past_name_chars, name}
-use Rattle.simplecss_text.specs.Strings.{is_quote, from_quote, string_up_to, string_or_name}
-use Rattle.simplecss_text.specs.Components.{Operator}
-use Rattle.simplecss_text.specs.Components.Operator.{equals, has_word, begins_with}
-use Rattle.simplecss_text.specs.Tokens.{Token}
-use Rattle.simplecss_text.specs.Tokens.Token.{type_selector, id_selector, class_selector, attribute_selector}
-use Rattle.simplecss_text.specs.Pieces.{attribute_operator, equated, attribute_after, lang_of, lang_after, pseudo_class_named, pseudo_class_after, named, begun, is_stop, solid, piece, next_piece}
+use Rattle.simplecss_text.specs.Strings.{from_quote, string_up_to}
 use Rattle.simplecss_text.proofs.reading.EachLaws.{Shrinks, Takes}
 
 -- what is left after a reading is no more than the text
@@ -31,8 +27,12 @@ pub cuts-keeps : {A : Type 0} (text : List ℕ) (r : Reading A) → Cuts text r 
 cuts-keeps text (got x rest) h = omega arith
 cuts-keeps text (fails fault rest) h = h
 
+pub length-left_after : {A : Type 0} (text : List ℕ) (r : Reading A) → Keeps text r → length (left_after r) ≤ length text
+length-left_after text (got x rest) h = h
+length-left_after text (fails fault rest) h = h
+
 -- more text in front
-pub keeps-longer : {A : Type 0} (text longer : List ℕ) (r : Reading A) → length text ≤ length longer → Keeps text r → Keeps longer r
+keeps-longer : {A : Type 0} (text longer : List ℕ) (r : Reading A) → length text ≤ length longer → Keeps text r → Keeps longer r
 keeps-longer text longer (got x rest) l h = omega arith
 keeps-longer text longer (fails fault rest) l h = omega arith
 
@@ -40,7 +40,7 @@ pub keeps-cuts : {A : Type 0} (text longer : List ℕ) (r : Reading A) → lengt
 keeps-cuts text longer (got x rest) l h = omega arith
 keeps-cuts text longer (fails fault rest) l h = omega arith
 
-pub cuts-longer : {A : Type 0} (text longer : List ℕ) (r : Reading A) → length text ≤ length longer → Cuts text r → Cuts longer r
+cuts-longer : {A : Type 0} (text longer : List ℕ) (r : Reading A) → length text ≤ length longer → Cuts text r → Cuts longer r
 cuts-longer text longer (got x rest) l h = omega arith
 cuts-longer text longer (fails fault rest) l h = omega arith
 
@@ -57,7 +57,7 @@ pub follow-cuts : {A B : Type 0} (text : List ℕ) (r : Reading A) (next : A →
 follow-cuts text (got x rest) next h n = cuts-longer rest text (next x rest) h (n x rest)
 follow-cuts text (fails fault rest) next h n = h
 
-pub keeps-if : {A : Type 0} (text : List ℕ) (t : Bool) (x y : Reading A) → Keeps text x → Keeps text y → Keeps text (if t then x else y)
+keeps-if : {A : Type 0} (text : List ℕ) (t : Bool) (x y : Reading A) → Keeps text x → Keeps text y → Keeps text (if t then x else y)
 keeps-if text true x y a b = a
 keeps-if text false x y a b = b
 
@@ -85,11 +85,11 @@ abbrev pub Leaves : List ℕ → Option (List ℕ) → Type 0
 Leaves text None = Unit {0}
 Leaves text (Some rest) = length rest ≤ length text
 
-pub leaves-if : (text : List ℕ) (t : Bool) (x y : Option (List ℕ)) → Leaves text x → Leaves text y → Leaves text (if t then x else y)
+leaves-if : (text : List ℕ) (t : Bool) (x y : Option (List ℕ)) → Leaves text x → Leaves text y → Leaves text (if t then x else y)
 leaves-if text true x y a b = a
 leaves-if text false x y a b = b
 
-pub leaves-longer : (text longer : List ℕ) (o : Option (List ℕ)) → length text ≤ length longer → Leaves text o → Leaves longer o
+leaves-longer : (text longer : List ℕ) (o : Option (List ℕ)) → length text ≤ length longer → Leaves text o → Leaves longer o
 leaves-longer text longer None l h = tt
 leaves-longer text longer (Some rest) l h = omega arith
 
@@ -112,7 +112,7 @@ blank_part-takes (b ∷ text) = by (is_space b) (opens_comment (b ∷ text)) (af
     by false true (Some rest) h = omega arith
     by false false c h = tt
 
-pub up_to-within : {A : Type 0} (read : List ℕ → Option (A × List ℕ)) → Takes read → (n : ℕ) (text : List ℕ) → length (up_to n read text).1 ≤ length text
+up_to-within : {A : Type 0} (read : List ℕ → Option (A × List ℕ)) → Takes read → (n : ℕ) (text : List ℕ) → length (up_to n read text).1 ≤ length text
 up_to-within read takes zero text = omega arith
 up_to-within {A = A} read takes (suc n) text = by (λ t. up_to-within read takes n t) (read text) (takes text)
   where
@@ -151,7 +151,7 @@ pub first_of_name : (edition : Edition) (c : ℕ) (cs : List ℕ) → begins_nam
 first_of_name edition c [] h = either_way (is_name_start edition c) (is_digit c) (c == 45) h
 first_of_name edition c (d ∷ cs) h = either_way_and (is_name_start edition c) (is_digit c) (c == 45) (is_name_start edition d) h
 
-pub name_bytes : (edition : Edition) (cs : List ℕ) → begins_name edition cs ≡ true → 0 < length (encode_utf8_all (take_while (is_name_char edition) cs))
+name_bytes : (edition : Edition) (cs : List ℕ) → begins_name edition cs ≡ true → 0 < length (encode_utf8_all (take_while (is_name_char edition) cs))
 name_bytes edition [] h = absurd (cc)
 name_bytes edition (c ∷ cs) h =
     let more : 1 + prefix_len (is_name_char edition) cs ≡ suc (prefix_len (is_name_char edition) cs) = omega arith in
@@ -170,14 +170,6 @@ name-cuts edition text = by (begins_name edition (chars text)) refl
     by true e = omega (arith, name_bytes edition (chars text) e, some_text edition text e, length-drop (length (encode_utf8_all (take_while (is_name_char edition) (chars text)))) text)
     by false e = length-past_byte 45 text
 
-pub byte-cuts : (c : ℕ) (text : List ℕ) → Cuts text (byte c text)
-byte-cuts c [] = omega arith
-byte-cuts c (b ∷ text) = by (b == c)
-  where
-    by : (t : Bool) → Cuts (b ∷ text) (if t then got (tt {0}) text else fails (wrong_byte c (b ∷ text)) (b ∷ text))
-    by true = omega arith
-    by false = omega arith
-
 pub from_quote-leaves : (quote previous : ℕ) (text : List ℕ) → Leaves text (from_quote quote previous text)
 from_quote-leaves quote previous [] = tt
 from_quote-leaves quote previous (b ∷ text) =
@@ -188,91 +180,7 @@ pub string_up_to-keeps : (text : List ℕ) (o : Option (List ℕ)) → Leaves te
 string_up_to-keeps text None h = omega arith
 string_up_to-keeps text (Some closing) h = omega (arith, length-past_one closing)
 
-pub string_or_name-cuts : (edition : Edition) (text : List ℕ) → Cuts text (string_or_name edition text)
-unfolding string_or_name
-string_or_name-cuts edition [] = omega arith
-string_or_name-cuts edition (b ∷ text) =
-    cuts-if (b ∷ text) (is_quote b) (string_up_to text (from_quote b b text)) (name edition (b ∷ text))
-    (keeps-cuts text (b ∷ text) (string_up_to text (from_quote b b text)) (omega arith) (string_up_to-keeps text (from_quote b b text) (from_quote-leaves b b text)))
-    (name-cuts edition (b ∷ text))
-
-pub string_or_name-keeps : (edition : Edition) (text : List ℕ) → Keeps text (string_or_name edition text)
-string_or_name-keeps edition text = cuts-keeps text (string_or_name edition text) (string_or_name-cuts edition text)
-
-pub equated-keeps : (edition : Edition) (operator : List ℕ → Operator) (text : List ℕ) → Keeps text (equated edition operator text)
-equated-keeps edition operator text =
-    keeps-follow text (byte 61 text) _ (cuts-keeps text (byte 61 text) (byte-cuts 61 text)) (λ u rest.
-    keeps-follow rest (string_or_name edition rest) (λ value. got (operator value)) (string_or_name-keeps edition rest) (λ value last. omega arith))
-
-pub attribute_operator-keeps : (edition : Edition) (text : List ℕ) → Keeps text (attribute_operator edition text)
-unfolding attribute_operator
-attribute_operator-keeps edition [] = omega arith
-attribute_operator-keeps edition (b ∷ text) =
-    keeps-if (b ∷ text) (b == 93) _ _ (omega arith)
-    (keeps-if (b ∷ text) (b == 61) _ _ (equated-keeps edition equals (b ∷ text))
-    (keeps-if (b ∷ text) (b == 126) _ _ (keeps-longer text (b ∷ text) (equated edition has_word text) (omega arith) (equated-keeps edition has_word text))
-    (keeps-if (b ∷ text) (b == 124) _ _ (keeps-longer text (b ∷ text) (equated edition begins_with text) (omega arith) (equated-keeps edition begins_with text))
-    (omega arith))))
-
-named-cuts : (edition : Edition) (token : List ℕ → Token) (text : List ℕ) → Cuts text (named edition token text)
-unfolding named
-named-cuts edition token text = cuts-follow text (name edition text) (λ n. got (token n)) (name-cuts edition text) (λ n rest. omega arith)
-
-named-keeps : (edition : Edition) (token : List ℕ → Token) (text : List ℕ) → Keeps text (named edition token text)
-named-keeps edition token text = cuts-keeps text (named edition token text) (named-cuts edition token text)
-
-attribute_after-keeps : (edition : Edition) (text : List ℕ) → Keeps text (attribute_after edition text)
-unfolding attribute_after
-attribute_after-keeps edition text =
-    keeps-follow text (name edition text) _ (cuts-keeps text (name edition text) (name-cuts edition text)) (λ n rest.
-    keeps-follow rest (attribute_operator edition rest) _ (attribute_operator-keeps edition rest) (λ operator next.
-    keeps-follow next (byte 93 next) (λ u. got (attribute_selector n operator)) (cuts-keeps next (byte 93 next) (byte-cuts 93 next)) (λ u last. omega arith)))
-
-pub lang_of-keeps : (value text : List ℕ) → Keeps text (lang_of value text)
-lang_of-keeps value text = keeps-if text (length value == 0) _ _ (omega arith) (omega arith)
-
-lang_after-keeps : (text : List ℕ) → Keeps text (lang_after text)
-unfolding lang_after
-lang_after-keeps text =
-    keeps-follow text (byte 40 text) _ (cuts-keeps text (byte 40 text) (byte-cuts 40 text)) (λ u rest.
-    keeps-follow rest (all_before 41 rest) _ (length-past (λ b. not (b == 41)) rest) (λ value next.
-    keeps-follow next (byte 41 next) (λ u. lang_of (trim value)) (cuts-keeps next (byte 41 next) (byte-cuts 41 next)) (λ u last. lang_of-keeps (trim value) last)))
-
-pub pseudo_class_named-keeps : (n text : List ℕ) → Keeps text (pseudo_class_named n text)
-pseudo_class_named-keeps n text = keeps-if text (bytes_eq n (codes "lang")) _ _ (lang_after-keeps text) (omega arith)
-
-pseudo_class_after-keeps : (edition : Edition) (text : List ℕ) → Keeps text (pseudo_class_after edition text)
-unfolding pseudo_class_after
-pseudo_class_after-keeps edition text = keeps-follow text (name edition text) pseudo_class_named (cuts-keeps text (name edition text) (name-cuts edition text)) (λ n rest. pseudo_class_named-keeps n rest)
-
-pub begun-cuts : (edition : Edition) (text : List ℕ) → Cuts text (begun edition text)
-unfolding begun
-begun-cuts edition [] = named-cuts edition type_selector []
-begun-cuts edition (b ∷ text) =
-    cuts-if (b ∷ text) (b == 62) _ _ (omega arith)
-    (cuts-if (b ∷ text) (b == 43) _ _ (omega arith)
-    (cuts-if (b ∷ text) (b == 42) _ _ (omega arith)
-    (cuts-if (b ∷ text) (b == 35) _ _ (keeps-cuts text (b ∷ text) (named edition id_selector text) (omega arith) (named-keeps edition id_selector text))
-    (cuts-if (b ∷ text) (b == 46) _ _ (keeps-cuts text (b ∷ text) (named edition class_selector text) (omega arith) (named-keeps edition class_selector text))
-    (cuts-if (b ∷ text) (b == 91) _ _ (keeps-cuts text (b ∷ text) (attribute_after edition text) (omega arith) (attribute_after-keeps edition text))
-    (cuts-if (b ∷ text) (b == 58) _ _ (keeps-cuts text (b ∷ text) (pseudo_class_after edition text) (omega arith) (pseudo_class_after-keeps edition text))
-    (named-cuts edition type_selector (b ∷ text))))))))
-
--- a solid piece takes a byte or more
-pub solid-cuts : (edition : Edition) (text : List ℕ) → Cuts text (solid edition text)
-unfolding solid
-solid-cuts edition text = cuts-if text (is_stop text || starts 47 text) (fails no_selector text) (begun edition text) (omega arith) (begun-cuts edition text)
-
-pub piece-cuts : (edition : Edition) (text : List ℕ) → Cuts text (piece edition text)
-unfolding piece
-piece-cuts edition text =
-    follow-cuts text (gap text) _ (gap-keeps text) (λ spaced start.
-    cuts-follow start (solid edition start) _ (solid-cuts edition start) (λ token after. omega arith))
-
 -- a reading that tells no fault takes what the reading takes
 pub found-shrinks : {A : Type 0} (text : List ℕ) (r : Reading A) → Cuts text r → Shrinks text (found r)
 found-shrinks text (got x rest) h = h
 found-shrinks text (fails fault rest) h = tt
-
-pub next_piece-takes : (edition : Edition) → Takes (next_piece edition)
-next_piece-takes edition text = found-shrinks text (piece edition text) (piece-cuts edition text)

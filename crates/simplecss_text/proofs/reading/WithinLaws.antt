@@ -1,4 +1,5 @@
 -- What is left after a selector is no more than the text.
+-- Serves `consume_parts` and `read_rules` (their loops end).
 use Rattle.std.proofs.Common.{ℕ, ◌≤◌, List, length}
 use Rattle.simplecss_text.specs.Characters.{Edition}
 use Rattle.simplecss_text.specs.Selectors.{reads}

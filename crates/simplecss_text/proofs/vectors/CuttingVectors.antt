@@ -1,4 +1,5 @@
 -- A worked text that is cut, computed.
+-- Computes `statement_ends` and `KeepsAcross` of `specs/Cutting`.
 use Rattle.std.proofs.Common.{ap, drop, sym, take, ◌++◌, ◌∙◌, Some, false, arith, suc, zero}
 use Rattle.std.specs.List.{Contains}
 use Rattle.std.specs.Prelude.{◌≡◌, refl, ℕ, List, [], ◌∷◌, codes}

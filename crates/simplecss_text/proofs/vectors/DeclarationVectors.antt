@@ -1,4 +1,5 @@
 -- Worked declarations, computed.
+-- Computes `declaration` and `declarations` of `specs/Declarations`, and so the terms of values.
 use Rattle.std.specs.Prelude.{◌≡◌, refl, [], ◌∷◌, codes, true, false}
 use Rattle.std.specs.Str.{trim_start, trim_end, chars}
 use lib.Utf8.{encode}

@@ -1,4 +1,5 @@
 -- Worked texts that the two editions read apart, computed: a slash, and a character past ASCII.
+-- Computes `kept` of `specs/Statements`, in each edition.
 use Rattle.std.specs.Prelude.{◌≡◌, refl, [], ◌∷◌, codes}
 use Rattle.std.specs.Str.{trim_start, trim_end, chars}
 use lib.Utf8.{encode}

@@ -1,4 +1,5 @@
 -- Worked slices and blanks.
+-- Computes `StandBetween` of `specs/Slices` and `IsBlank` of `specs/Blanks`.
 use Rattle.std.proofs.Common.{◌≡◌, refl, ap, [], ◌∷◌, codes, length, arith, length-append}
 use Rattle.simplecss_text.specs.Slices.{StandBetween}
 use Rattle.simplecss_text.specs.Blanks.{IsComment, IsBlank, IsComments}

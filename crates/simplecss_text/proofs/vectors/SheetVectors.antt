@@ -1,4 +1,5 @@
 -- Worked sheets, computed: what the sheet of some texts prints.
+-- Computes `sheet` and `ordered` of `specs/Sheets`, and `sheet_text` of `specs/Printing`.
 use Rattle.std.specs.Prelude.{◌≡◌, refl, List, [], ◌∷◌, ◌++◌, codes, encode_utf8_all, Some, None, false, filter}
 use Rattle.std.specs.Str.{trim_start, trim_end, chars}
 use lib.Utf8.{encode}

@@ -1,4 +1,5 @@
 -- Worked runs of a tokenizer, computed.
+-- Computes `tokens_of` and `run_of` of `specs/TokenRuns`.
 use Rattle.std.specs.Prelude.{◌≡◌, refl, [], ◌∷◌, codes, Ok, Err, encode_utf8_all}
 use Rattle.std.specs.Str.{trim_start, trim_end, chars}
 use lib.Utf8.{encode}

@@ -7,7 +7,7 @@ use Rattle.simplecss_text.specs.ThisEdition.{this_edition}
 use Rattle.simplecss_text.specs.Cursor.{rest_of}
 use Rattle.simplecss_text.proofs.reading.EndsLaws.{no_texts, ends-ends, ends-got, ends-fails, stand-to, ends-same}
 use Rattle.simplecss_text.proofs.reading.StandLaws.{ends-past_blank, stand-trim}
-use Rattle.simplecss_text.proofs.reading.DeclarationStandLaws.{term-stands}
+use Rattle.simplecss_text.proofs.reading.DeclarationsLawful.{term-stands}
 use Rattle.simplecss_declaration.proofs.FaultLemmas.{passed, not_passed, failed}
 use Rattle.simplecss_declaration.proofs.ValueLemmas.{terms-some, term-takes, value-done, boundary_at_end, before-range, trimmed}
 use Rattle.simplecss_declaration.proofs.reader.take_value.Goals as goal

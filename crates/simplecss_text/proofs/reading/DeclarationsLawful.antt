@@ -1,0 +1,356 @@
+-- Terms, values and declarations owe what every reader owes, and take bytes.
+-- Serves `take_value`, `consume_declaration`, `StyleSheet::{parse, parse_more}` and `laws::{cutting_law, edition_law}`.
+use Rattle.std.proofs.Common.{◌≡◌, ◌⊎◌, ◌≤◌, Bool, List, None, Option, Some, [], ap, arith, codes, drop, eqb, false, if◌then◌else◌, inl, inr, length, not, refl, true, ℕ, ◌&&◌, ◌++◌, ◌==◌, ◌||◌, ◌∙◌, ◌∷◌}
+use Rattle.std.specs.List.{starts_with}
+use Rattle.std.specs.Str.{trim}
+use Rattle.simplecss_text.specs.Reading.{Reader, Ends, Fault, Reading, before, each, ended, fails, found, got, here, left_after, ◌>>=◌, ◌>>◌}
+use Rattle.simplecss_text.specs.Bytes.{after_byte, byte, closed_or, is_digit, optional, past}
+use Rattle.simplecss_text.specs.Characters.{Edition, first_edition, second_edition}
+use Rattle.simplecss_text.specs.Comments.{blank, past_blank}
+use Rattle.simplecss_text.specs.Strings.{from_quote, is_quote, string_after}
+use Rattle.simplecss_text.specs.Terms.{arguments, begins_number, is_hex_digit, is_slash_term, past_decimals, past_hash, past_number, past_unit, quoted, term, word}
+use Rattle.simplecss_text.specs.Declarations.{Property, after_mark, after_term, declaration, importance, important_word, last_or, semicolon, semicolons, term_in_value, terms, trailing, unless_empty, value, value_reader}
+use Rattle.simplecss_text.specs.Blocks.{block_end, declaration_in_block, ends_list, from_block_end}
+use Rattle.simplecss_text.specs.Names.{name}
+use Rattle.simplecss_text.proofs.reading.EndsLaws.{EndsFound, EndsSome, Stands, each-ends, ends-cons, ends-drop, ends-ends, ends-nil, ends-past, ends-tail, ends_some-ends, ends_some-if, length-ends, no_texts}
+use Rattle.simplecss_text.proofs.reading.StandLaws.{ends-past_blank}
+use Rattle.simplecss_text.proofs.reading.TakesLaws.{Cuts, Keeps, blank-keeps, cuts-follow, cuts-if, follow-cuts, from_quote-leaves, keeps-cuts, keeps-follow, length-past, length-past_blank, length-past_byte, name-cuts, string_up_to-keeps}
+use Rattle.simplecss_text.proofs.reading.EachLaws.{Shrinks, Takes}
+use Rattle.simplecss_text.proofs.cutting.GuardLaws.{Along, Equal, Guard, Guarded, Never, Pairs, Repeats, Step, To, at, before-along, each-repeats, guard-got, left-to, on, past-along, starts-along}
+use Rattle.simplecss_text.proofs.cutting.NameGuards.{drop-to}
+use Rattle.simplecss_text.proofs.cutting.SearchLaws.{brace_plain, byte-finds, closed_or-guard, past_blank-to}
+use Rattle.simplecss_text.proofs.editions.EditionLaws.{Shared, each-editions, shared-ends}
+use Rattle.simplecss_text.proofs.reading.Lawful.{Lawful, Owes, blank-lawful, byte-lawful, lawful-cases, lawful-keeps, lawful-stands, name-lawful, optional-lawful, owes-choice, owes-cuts, owes-fails, owes-follow, owes-give, owes-if, owes-left, owes-past, owes-so, owes-starts, passes-starts, past-lawful, past_one-lawful, string_after-lawful}
+
+-- ---- terms
+
+after_byte-ends : (c : ℕ) (text : List ℕ) → EndsSome text (after_byte c text)
+after_byte-ends c [] = tt
+after_byte-ends c (b ∷ text) =
+    ends_some-if (b ∷ text) (b == c) (Some text) (after_byte c text) (ends-tail b text)
+    (ends_some-ends (b ∷ text) text (after_byte c text) (ends-tail b text) (after_byte-ends c text))
+
+closed_or-ends : (text : List ℕ) (fault : Fault) (o : Option (List ℕ)) → EndsSome text o → Ends text (left_after (closed_or fault o))
+closed_or-ends text fault None h = ends-nil text
+closed_or-ends text fault (Some rest) h = h
+
+arguments-lawful : Lawful (λ edition. arguments) (λ edition. arguments)
+arguments-lawful r s =
+    owes-starts 40
+    (record {
+      ends = λ edition. closed_or-ends r ended (after_byte 41 r) (after_byte-ends 41 r);
+      same = λ h. refl;
+      guard = λ edition u v h. closed_or-guard 125 (u ++ v) u ended ended (after_byte 41 r) (after_byte 41 s) (byte-finds 41 u v refl r s h);
+    })
+    (owes-give tt r s)
+
+pub arguments-stands : (text : List ℕ) → Stands text no_texts (arguments text)
+arguments-stands text = lawful-stands (λ edition. arguments) (λ edition. arguments) arguments-lawful first_edition text
+
+past_hash-to : (t u : List ℕ) (a b : Reading (List ℕ)) → Guard Equal 125 t u a b → To 125 t u (past_hash a) (past_hash b)
+past_hash-to t u (got n r) b (inl h) = inl h
+past_hash-to t u (fails f r) b (inl h) = inl (omega (arith, length-past is_hex_digit r))
+past_hash-to t u (got n r) (got m s) (inr h) = inr h.1
+past_hash-to t u (got n r) (fails e s) (inr h) = absurd h
+past_hash-to t u (fails f r) (got m s) (inr h) = absurd h
+past_hash-to t u (fails f r) (fails e s) (inr h) = inr (past-along 125 t u is_hex_digit refl r s h)
+
+past_hash-owes : (r s : List ℕ) (a b : Edition → Reading (List ℕ)) → Owes r s a b → Owes r s (λ edition. got (tt {0}) (past_hash (a edition))) (λ edition. got tt (past_hash (b edition)))
+past_hash-owes r s a b p = record {
+  ends = λ edition. by (a edition) (p.ends edition);
+  same = λ h. ap (λ o. got tt (past_hash o)) (p.same h);
+  guard = λ edition u v h. guard-got Equal 125 (u ++ v) u tt tt _ _ refl (past_hash-to (u ++ v) u (a edition) (b edition) (p.guard edition u v h));
+}
+  where
+    by : (o : Reading (List ℕ)) → Ends r (left_after o) → Ends r (past_hash o)
+    by (got n rest) h = h
+    by (fails fault rest) h = ends-ends r rest (past is_hex_digit rest) h (ends-past is_hex_digit rest)
+
+past_decimals-lawful : Lawful (λ edition text. got (tt {0}) (past_decimals text)) (λ edition text. got tt (past_decimals text))
+past_decimals-lawful r s = passes-starts 46 _ _ _ _ (owes-follow (λ u edition t. got tt (past is_digit t)) (λ u edition t. got tt (past is_digit t)) (past_one-lawful r s) (λ u. past-lawful is_digit)) (owes-give tt r s)
+
+pub ends-past_decimals : (text : List ℕ) → Ends text (past_decimals text)
+ends-past_decimals text = (past_decimals-lawful text text).ends first_edition
+
+past_unit-lawful : Lawful (λ edition text. got (tt {0}) (past_unit edition text)) (λ edition text. got tt (past_unit edition text))
+past_unit-lawful r s = passes-starts 37 _ _ _ _ (past_one-lawful r s) (owes-left (name-lawful r s))
+
+pub ends-past_unit : (edition : Edition) (text : List ℕ) → Ends text (past_unit edition text)
+ends-past_unit edition text = (past_unit-lawful text text).ends edition
+
+past_number-lawful : Lawful (λ edition text. got (tt {0}) (past_number edition text)) (λ edition text. got tt (past_number edition text))
+unfolding past_number
+past_number-lawful r s =
+    owes-follow (λ u edition t. got tt (past_unit edition (past_decimals t))) (λ u edition t. got tt (past_unit edition (past_decimals t))) (past-lawful is_digit r s) (λ u t w.
+    owes-follow (λ x edition y. got tt (past_unit edition y)) (λ x edition y. got tt (past_unit edition y)) (past_decimals-lawful t w) (λ x. past_unit-lawful))
+
+word-lawful : Lawful word word
+unfolding word
+word-lawful r s = owes-follow _ _ (name-lawful r s) (λ n. arguments-lawful)
+
+quoted-lawful : (quote : ℕ) → is_quote quote ≡ true → Lawful (λ edition. quoted quote) (λ edition. quoted quote)
+quoted-lawful quote e r s = owes-follow _ _ (string_after-lawful quote e r s) (λ inside. owes-give tt)
+
+-- no slash begins a term
+slash-editions : (b : ℕ) (text : List ℕ) → (b == 47) ≡ false → is_slash_term first_edition b text ≡ is_slash_term second_edition b text
+slash-editions b text e = rw e refl
+
+-- whether a slash stands next that is a term
+abbrev slash_next : Edition → List ℕ → Bool
+slash_next edition [] = false
+slash_next edition (b ∷ text) = is_slash_term edition b text
+
+slash-along : (edition : Edition) (t u r s : List ℕ) → Along 125 t u r s → slash_next edition r ≡ slash_next edition s
+slash-along first_edition t u r s at = refl
+slash-along second_edition t u r s at = refl
+slash-along first_edition t u r s (on b r1 s1 room h) = refl
+slash-along second_edition t u r s (on b r1 s1 room h) = ap (λ (k : Bool). b == 47 && not k) (starts-along 125 t u 42 r1 s1 h)
+
+term-lawful : Lawful term term
+unfolding term
+term-lawful = lawful-cases term term (owes-fails ended ended [] []) (λ b r s.
+    owes-if (b == 35) (owes-past b (past_hash-owes r s _ _ (name-lawful r s)))
+    (owes-if (begins_number b) (owes-past b (past_number-lawful r s))
+    (owes-so (is_quote b) _ _ (λ e. owes-past b (quoted-lawful b e r s))
+    (owes-choice (b ∷ r) (b ∷ s) (λ edition. b == 44 || is_slash_term edition b r) (λ edition. b == 44 || is_slash_term edition b s) _ _ _ _
+    (λ h. ap (λ (k : Bool). b == 44 || k) (slash-editions b r h.0.1))
+    (λ edition u v h. ap (λ (k : Bool). b == 44 || k) (slash-along edition (u ++ v) u (b ∷ r) (b ∷ s) h))
+    (owes-past b (owes-give tt r s)) (word-lawful (b ∷ r) (b ∷ s))))))
+
+pub term-stands : (edition : Edition) (text : List ℕ) → Stands text no_texts (term edition text)
+term-stands edition text = lawful-stands term term term-lawful edition text
+
+word-cuts : (edition : Edition) (text : List ℕ) → Cuts text (word edition text)
+unfolding word
+word-cuts edition text = cuts-follow text (name edition text) (λ n. arguments) (name-cuts edition text) (λ n rest. lawful-keeps _ _ arguments-lawful edition rest)
+
+quoted-keeps : (quote : ℕ) (text : List ℕ) → Keeps text (quoted quote text)
+quoted-keeps quote text = keeps-follow text (string_after quote text) _ (string_up_to-keeps text (from_quote quote quote text) (from_quote-leaves quote quote text)) (λ inside rest. omega arith)
+
+-- a term takes a byte or more
+pub term-cuts : (edition : Edition) (text : List ℕ) → Cuts text (term edition text)
+unfolding term
+term-cuts edition [] = omega arith
+term-cuts edition (b ∷ text) =
+    cuts-if (b ∷ text) (b == 35) _ _ (owes-cuts b (past_hash-owes text text _ _ (name-lawful text text)) edition)
+    (cuts-if (b ∷ text) (begins_number b) _ _ (owes-cuts b (past_number-lawful text text) edition)
+    (cuts-if (b ∷ text) (is_quote b) _ _ (keeps-cuts text (b ∷ text) (quoted b text) (omega arith) (quoted-keeps b text))
+    (cuts-if (b ∷ text) (b == 44 || is_slash_term edition b text) _ _ (omega arith)
+    (word-cuts edition (b ∷ text)))))
+
+-- ---- values
+
+term_in_value-ends : (edition : Edition) (text : List ℕ) → EndsFound text (term_in_value edition text)
+term_in_value-ends edition text = by (term edition text) ((term-lawful text text).ends edition)
+  where
+    by : (r : Reading (Unit {0})) → Ends text (left_after r) → EndsFound text (after_term r)
+    by (got x rest) h = ends-ends text rest (past_blank rest) h (ends-past_blank rest)
+    by (fails fault rest) h = tt
+
+after_term-shrinks : (text : List ℕ) (r : Reading (Unit {0})) → Cuts text r → Shrinks text (after_term r)
+after_term-shrinks text (got u rest) h = omega (arith, length-past_blank rest)
+after_term-shrinks text (fails fault rest) h = tt
+
+pub term_in_value-takes : (edition : Edition) → Takes (term_in_value edition)
+term_in_value-takes edition text = after_term-shrinks text (term edition text) (term-cuts edition text)
+
+-- what is left after the terms of a value
+ends-terms : (edition : Edition) (text : List ℕ) → Ends text (terms edition text).1
+ends-terms edition text = each-ends (term_in_value edition) (term_in_value-ends edition) text
+
+terms-editions : (text : List ℕ) → Shared text → terms first_edition text ≡ terms second_edition text
+terms-editions text h = each-editions (term_in_value first_edition) (term_in_value second_edition) (λ t k. ap after_term ((term-lawful t t).same k)) (term_in_value-ends first_edition) text h
+
+-- reading a term would pass the brace
+abbrev TermPasses : Edition → List ℕ → List ℕ → Type 0
+TermPasses edition t a = length (left_after (term edition a)) ≤ length t
+
+after_term-step : (u v r : List ℕ) (Stuck : List ℕ → Type 0) (a b : Reading (Unit {0})) → Guard Equal 125 (u ++ v) u a b → (length (left_after a) ≤ length (u ++ v) → Stuck r) → Step (Along 125 (u ++ v) u) Stuck 125 (u ++ v) u r (after_term a) (after_term b)
+after_term-step u v r Stuck (got x p) (got y q) (inl h) stuck = inl (omega (arith, length-past_blank p))
+after_term-step u v r Stuck (got x p) (fails f q) (inl h) stuck = omega (arith, length-past_blank p)
+after_term-step u v r Stuck (fails f p) (got y q) (inl h) stuck = stuck h
+after_term-step u v r Stuck (fails f p) (fails e q) (inl h) stuck = tt
+after_term-step u v r Stuck (got x p) (got y q) (inr h) stuck = by (past_blank p) (past_blank q) (past_blank-to 125 u v brace_plain p q h.1)
+  where
+    by : (c d : List ℕ) → To 125 (u ++ v) u c d → (length c ≤ length (u ++ v)) ⊎ (Along 125 (u ++ v) u p q × Along 125 (u ++ v) u c d)
+    by c d (inl k) = inl k
+    by c d (inr k) = inr (h.1, k)
+after_term-step u v r Stuck (got x p) (fails f q) (inr h) stuck = absurd h
+after_term-step u v r Stuck (fails f p) (got y q) (inr h) stuck = absurd h
+after_term-step u v r Stuck (fails f p) (fails e q) (inr h) stuck = tt
+
+terms-repeats : (edition : Edition) (u v r s : List ℕ) → Along 125 (u ++ v) u r s → Repeats (Along 125 (u ++ v) u) (TermPasses edition (u ++ v)) 125 (u ++ v) u (terms edition r) (terms edition s)
+terms-repeats edition u v r s h =
+    each-repeats (Along 125 (u ++ v) u) (TermPasses edition (u ++ v)) 125 (u ++ v) u (term_in_value edition) (term_in_value-takes edition)
+    (λ a b k. after_term-step u v a (TermPasses edition (u ++ v)) (term edition a) (term edition b) ((term-lawful a b).guard edition u v k) (λ l. l))
+    (length r) r s (omega arith) h
+
+last_or-along : (t u r s : List ℕ) (xs ys : List (List ℕ)) → Along 125 t u r s → Pairs (Along 125 t u) xs ys → Along 125 t u (last_or r xs) (last_or s ys)
+last_or-along t u r s [] [] h p = h
+last_or-along t u r s [] (y ∷ ys) h p = absurd p
+last_or-along t u r s (x ∷ xs) [] h p = absurd p
+last_or-along t u r s (x ∷ xs) (y ∷ ys) h p = last_or-along t u x y xs ys p.0 p.1
+
+-- a value, by its terms
+abbrev value_by : Edition → List ℕ → List (List ℕ) × List ℕ → Reading (List ℕ)
+value_by edition text a = got (trim (before text (last_or text a.0))) (left_after (term edition a.1))
+
+value-lawful : Lawful value_reader value_reader
+unfolding value
+value-lawful r s = record {
+  ends = λ edition. ends-ends r (terms edition r).1 _ (ends-terms edition r) ((term-lawful (terms edition r).1 []).ends edition);
+  same = λ h. both h;
+  guard = λ edition u v h. by edition u v h (terms edition r) (terms edition s) (terms-repeats edition u v r s h);
+}
+  where
+    both : Shared r → value_by first_edition r (terms first_edition r) ≡ value_by second_edition r (terms second_edition r)
+    both h =
+        let rest : List ℕ = (terms first_edition r).1 in
+        let shared : Shared rest = shared-ends r rest (ends-terms first_edition r) h in
+        ap (λ (o : Reading (Unit {0})). got (trim (before r (last_or r (terms first_edition r).0))) (left_after o)) ((term-lawful rest rest).same shared)
+        ∙ ap (value_by second_edition r) (terms-editions r h)
+
+    by : (edition : Edition) (u v : List ℕ) → Along 125 (u ++ v) u r s → (a b : List (List ℕ) × List ℕ) → Repeats (Along 125 (u ++ v) u) (TermPasses edition (u ++ v)) 125 (u ++ v) u a b → Guard Equal 125 (u ++ v) u (value_by edition r a) (value_by edition s b)
+    by edition u v h a b (inl k) = inl (omega (arith, length-ends a.1 (left_after (term edition a.1)) ((term-lawful a.1 a.1).ends edition)))
+    by edition u v h a b (inr (inl k)) = inl k
+    by edition u v h a b (inr (inr k)) =
+        let same : before r (last_or r a.0) ≡ before s (last_or s b.0) = before-along 125 (u ++ v) u r s _ _ h (last_or-along (u ++ v) u r s a.0 b.0 h k.0) in
+        guard-got Equal 125 (u ++ v) u _ _ _ _ (ap trim same) (left-to Equal 125 (u ++ v) u (term edition a.1) (term edition b.1) ((term-lawful a.1 b.1).guard edition u v k.1))
+
+-- ---- what stands behind a value
+
+semicolon-ends : (text : List ℕ) → EndsFound text (semicolon text)
+semicolon-ends [] = tt
+semicolon-ends (b ∷ text) = by (b == 59)
+  where
+    by : (k : Bool) → EndsFound {A = Unit {0}} (b ∷ text) (if k then Some (tt, past_blank text) else None)
+    by true = ends-cons b text (past_blank text) (ends-past_blank text)
+    by false = tt
+
+pub semicolon-takes : Takes semicolon
+semicolon-takes [] = tt
+semicolon-takes (b ∷ text) = by (b == 59)
+  where
+    by : (t : Bool) → Shrinks (b ∷ text) (if t then Some (tt {0}, past_blank text) else None)
+    by true = omega (arith, length-past_blank text)
+    by false = tt
+
+semicolon-step : (u v r s : List ℕ) → Along 125 (u ++ v) u r s → Step Equal Never 125 (u ++ v) u r (semicolon r) (semicolon s)
+semicolon-step u v r s at = tt
+semicolon-step u v r s (on b r1 s1 room h) = by (b == 59)
+  where
+    inner : (c d : List ℕ) → To 125 (u ++ v) u c d → Step {A = Unit {0}} Equal Never 125 (u ++ v) u (b ∷ r1) (Some (tt, c)) (Some (tt, d))
+    inner c d (inl k) = inl k
+    inner c d (inr k) = inr (refl, k)
+
+    by : (k : Bool) → Step {A = Unit {0}} Equal Never 125 (u ++ v) u (b ∷ r1) (if k then Some (tt, past_blank r1) else None) (if k then Some (tt, past_blank s1) else None)
+    by true = inner (past_blank r1) (past_blank s1) (past_blank-to 125 u v brace_plain r1 s1 h)
+    by false = tt
+
+semicolons-lawful : Lawful (λ edition. semicolons) (λ edition. semicolons)
+semicolons-lawful r s = record {
+  ends = λ edition. each-ends semicolon semicolon-ends r;
+  same = λ h. refl;
+  guard = λ edition u v h. by u v (each semicolon r) (each semicolon s) (each-repeats Equal Never 125 (u ++ v) u semicolon semicolon-takes (semicolon-step u v) (length r) r s (omega arith) h);
+}
+  where
+    by : (u v : List ℕ) (a b : List (Unit {0}) × List ℕ) → Repeats Equal Never 125 (u ++ v) u a b → Guard {A = Unit {0}} Equal 125 (u ++ v) u (got tt a.1) (got tt b.1)
+    by u v a b (inl k) = inl k
+    by u v a b (inr (inl k)) = absurd k
+    by u v a b (inr (inr k)) = inr (refl, k.1)
+
+-- no byte of the word is a closing brace
+abbrev NoBrace : List ℕ → Type 0
+NoBrace [] = Unit {0}
+NoBrace (c ∷ word) = (eqb c 125 ≡ false) × NoBrace word
+
+-- a word without a brace stands at both or at neither
+begins-along : (t u word : List ℕ) → NoBrace word → (r s : List ℕ) → Along 125 t u r s → starts_with eqb r word ≡ starts_with eqb s word
+begins-along t u [] n r s h = refl
+begins-along t u (c ∷ word) n r s at = let e : eqb c 125 ≡ false = n.0 in rw e refl
+begins-along t u (c ∷ word) n r s (on b r1 s1 room h) = ap (λ (k : Bool). eqb c b && k) (begins-along t u word n.1 r1 s1 h)
+
+important_word-lawful : Lawful (λ edition. important_word) (λ edition. important_word)
+important_word-lawful r s =
+    owes-choice r s (λ edition. starts_with eqb r (codes "important")) (λ edition. starts_with eqb s (codes "important")) _ _ _ _ (λ h. refl)
+    (λ edition u v h. begins-along (u ++ v) u (codes "important") (refl, (refl, (refl, (refl, (refl, (refl, (refl, (refl, (refl, tt))))))))) r s h)
+    (record { ends = λ edition. ends-drop 9 r; same = λ h. refl; guard = λ edition u v h. guard-got Equal 125 (u ++ v) u true true (drop 9 r) (drop 9 s) refl (drop-to 125 (u ++ v) u 9 r s h) })
+    (owes-give false r s)
+
+after_mark-lawful : Lawful (λ edition. after_mark) (λ edition. after_mark)
+after_mark-lawful r s = owes-follow _ _ (past_one-lawful r s) (λ u r s. owes-follow _ _ (blank-lawful r s) (λ u. important_word-lawful))
+
+importance-lawful : Lawful (λ edition. importance) (λ edition. importance)
+unfolding importance
+importance-lawful r s = owes-starts 33 (after_mark-lawful r s) (owes-give false r s)
+
+trailing-lawful : Lawful (λ edition. trailing) (λ edition. trailing)
+unfolding trailing
+trailing-lawful r s =
+    owes-follow _ _ (blank-lawful r s) (λ u r s.
+    owes-follow _ _ (importance-lawful r s) (λ important r s.
+    owes-follow _ _ (blank-lawful r s) (λ u r s.
+    owes-follow _ _ (semicolons-lawful r s) (λ u r s.
+    owes-follow _ _ (blank-lawful r s) (λ u. owes-give important)))))
+
+pub trailing-stands : (text : List ℕ) → Stands text no_texts (trailing text)
+trailing-stands text = lawful-stands (λ edition. trailing) (λ edition. trailing) trailing-lawful first_edition text
+
+-- ---- declarations
+
+unless_empty-lawful : (start other : List ℕ) (property : Property) → Lawful (λ edition. unless_empty start property) (λ edition. unless_empty other property)
+unless_empty-lawful start other property r s = owes-if (length property.value == 0) (owes-fails _ _ r s) (owes-give property r s)
+
+-- a declaration behind its name
+abbrev behind_name : List ℕ → Edition → Reader Property
+behind_name property edition = do
+  blank
+  byte 58
+  blank
+  start ← here
+  stated ← value_reader edition
+  important ← trailing
+  unless_empty start (record { name = property; value = stated; important = important })
+
+behind_name-lawful : (property : List ℕ) → Lawful (behind_name property) (behind_name property)
+behind_name-lawful property r s =
+    owes-follow _ _ (blank-lawful r s) (λ u r s.
+    owes-follow _ _ (byte-lawful 58 r s) (λ u r s.
+    owes-follow _ _ (blank-lawful r s) (λ u start other.
+    owes-follow _ _ (value-lawful start other) (λ stated r s.
+    owes-follow _ _ (trailing-lawful r s) (λ important.
+    unless_empty-lawful start other (record { name = property; value = stated; important = important }))))))
+
+pub declaration-lawful : Lawful declaration declaration
+unfolding declaration
+declaration-lawful r s =
+    owes-follow _ _ (blank-lawful r s) (λ u r s.
+    owes-follow _ _ (optional-lawful 42 r s) (λ u r s.
+    owes-follow _ _ (name-lawful r s) behind_name-lawful))
+
+-- it takes a byte or more
+pub declaration-cuts : (edition : Edition) (text : List ℕ) → Cuts text (declaration edition text)
+unfolding declaration
+declaration-cuts edition text =
+    follow-cuts text (blank text) _ (blank-keeps text) (λ u a.
+    follow-cuts a (optional 42 a) _ (length-past_byte 42 a) (λ u b.
+    cuts-follow b (name edition b) _ (name-cuts edition b) (λ property. lawful-keeps _ _ (behind_name-lawful property) edition)))
+
+pub declaration-stands : (edition : Edition) (text : List ℕ) → Stands text no_texts (declaration edition text)
+declaration-stands edition text = lawful-stands declaration declaration declaration-lawful edition text
+
+pub declaration-guarded : (edition : Edition) (u v : List ℕ) → Guarded Equal 125 (u ++ v) u (declaration edition) (declaration edition)
+declaration-guarded edition u v r s h = (declaration-lawful r s).guard edition u v h
+
+-- ---- blocks
+
+pub declaration_in_block-ends : (edition : Edition) (text : List ℕ) → EndsFound text (declaration_in_block edition text)
+declaration_in_block-ends edition text = by (ends_list text) (declaration edition text) ((declaration-lawful text text).ends edition)
+  where
+    by : (k : Bool) (r : Reading Property) → Ends text (left_after r) → EndsFound text (if k then None else found r)
+    by true r h = tt
+    by false (got property rest) h = h
+    by false (fails fault rest) h = tt
+
+pub ends-from_block_end : (text : List ℕ) → Ends text (from_block_end text)
+ends-from_block_end text = ends-drop (block_end text) text
