@@ -5,10 +5,10 @@ use Rattle.std.specs.List.{slice_get}
 use Rattle.std.proofs.lemmas.List.{get_or_default, get_or_past, length-map}
 use Rattle.std.proofs.lemmas.Option.{slice_get-map, get_or_from_slice_get}
 use Rattle.std.proofs.lemmas.Simd.{map-map}
-use Rattle.simplecss.specs.Declarations.{Property}
+use Rattle.simplecss.specs.Declarations.{StyleDeclaration}
 use Rattle.simplecss.specs.Placements.{HasPlacement}
 use Rattle.simplecss.specs.Statements.{StyleRule}
-use Rattle.simplecss.specs.StyleRules.{rule_of, rules_of}
+use Rattle.simplecss.specs.SeenRules.{rule_of, rules_of}
 use Rattle.simplecss.specs.declared.sheet.rules.Rule.{Rule}
 use Rattle.simplecss.specs.Trees.{Tree}
 use Rattle.simplecss_index.specs.Places.{selector_at}
@@ -38,16 +38,16 @@ module _ {Node : Type 0} (tree : Tree Node) (n : Node) (rules : List Rule) (plac
         subst (λ place. KnownFrom (IsStated tree n (rules_of rules)) name place None) (sym end) (known_none tree n (rules_of rules) name)
 
     -- none of the rules between two places that follow one another takes the element
-    between : (j : ℕ) → j ≤ length places → (w : Option Property) → KnownFrom (IsStated tree n (rules_of rules)) name (get_or places j (length (map (λ rule. rule.selector) rules))) w → KnownFrom (IsStated tree n (rules_of rules)) name (behind places j) w
+    between : (j : ℕ) → j ≤ length places → (w : Option StyleDeclaration) → KnownFrom (IsStated tree n (rules_of rules)) name (get_or places j (length (map (λ rule. rule.selector) rules))) w → KnownFrom (IsStated tree n (rules_of rules)) name (behind places j) w
     between j le = known_skipped tree n (rules_of rules) name (behind places j) (get_or places j (length (map (λ rule. rule.selector) rules))) (behind_within are j le)
         (λ k rule from to at takes. none_between are j k le from to (subst (λ cs. HasPlacement tree cs n) (sym (selector_there rules k rule at)) takes))
 
-    pub among_all : (i : ℕ) → i ≡ 0 → (w : Option Property) → KnownFrom (IsStated tree n (rules_of rules)) name (get_or places i (length (map (λ rule. rule.selector) rules))) w → Wins (IsStated tree n (rules_of rules)) name w
+    pub among_all : (i : ℕ) → i ≡ 0 → (w : Option StyleDeclaration) → KnownFrom (IsStated tree n (rules_of rules)) name (get_or places i (length (map (λ rule. rule.selector) rules))) w → Wins (IsStated tree n (rules_of rules)) name w
     among_all i first w known =
         known_all tree n (rules_of rules) name w
         (between 0 (omega arith) w (subst (λ i. KnownFrom (IsStated tree n (rules_of rules)) name (get_or places i (length (map (λ rule. rule.selector) rules))) w) first known))
 
-    module _ (i j : ℕ) (next : i ≡ suc j) (within : j < length places) (rule : Rule) (is : rule ≡ get_or rules (get_or places j 0) rule) {A : Type 0} (f : A → Property) (known : Bool) (w : Option A) (tells : known ≡ is_some w) (so_far : KnownFrom (IsStated tree n (rules_of rules)) name (get_or places i (length (map (λ rule. rule.selector) rules))) (option_map f w)) where
+    module _ (i j : ℕ) (next : i ≡ suc j) (within : j < length places) (rule : Rule) (is : rule ≡ get_or rules (get_or places j 0) rule) {A : Type 0} (f : A → StyleDeclaration) (known : Bool) (w : Option A) (tells : known ≡ is_some w) (so_far : KnownFrom (IsStated tree n (rules_of rules)) name (get_or places i (length (map (λ rule. rule.selector) rules))) (option_map f w)) where
       read : slice_get (rules_of rules) (get_or places j 0) ≡ Some (rule_of rule)
       read = rule_read rules (get_or places j 0) rule (place_within j within) is
 
@@ -62,7 +62,7 @@ module _ {Node : Type 0} (tree : Tree Node) (n : Node) (rules : List Rule) (plac
           subst (λ place. KnownFrom (IsStated tree n (rules_of rules)) name place (option_map f w)) same_place
           (known_passed tree n (rules_of rules) name (get_or places j 0) (rule_of rule) read f known w tells (λ takes. outdone) behind_it)
 
-      pub among_here : (b : Property) → (known ≡ true → b.important ≡ true) → ((m : ℕ) → Wins (InRule m (rule_of rule).properties) name (Some b)) → Wins (From (IsStated tree n (rules_of rules)) (get_or places j (length (map (λ rule. rule.selector) rules)))) name (Some b)
+      pub among_here : (b : StyleDeclaration) → (known ≡ true → b.important ≡ true) → ((m : ℕ) → Wins (InRule m (rule_of rule).declarations) name (Some b)) → Wins (From (IsStated tree n (rules_of rules)) (get_or places j (length (map (λ rule. rule.selector) rules)))) name (Some b)
       among_here b heavy best =
           let takes = subst (λ cs. HasPlacement tree cs n) (selector_there rules (get_or places j 0) (rule_of rule) read) (wanted_at are j within).1 in
           subst (λ place. Wins (From (IsStated tree n (rules_of rules)) place) name (Some b)) same_place

@@ -6,7 +6,7 @@ use Rattle.std.proofs.lemmas.Option.{slice_get-map, slice_get-get_or}
 use Rattle.cssq.specs.declared.tree.Line.{Line}
 use Rattle.std.specs.Option.{option_map_or}
 use Rattle.cssq.specs.TreeText.{fields_in, Row, is_equals, value_of, attribute_of}
-use Rattle.cssq.specs.Relatives.{depths_of, parent_place, previous_place}
+use Rattle.cssq.specs.ParentsAndSiblings.{depths_of, parent_place, previous_place}
 use Rattle.cssq.specs.Lines.{row, rows, depths, AreLinked}
 use Rattle.cssq.specs.Nodes.{value_in, attribute_at, name_at}
 use Rattle.cssq.specs.Siblings.{parent_within, previous_within, within_longer}

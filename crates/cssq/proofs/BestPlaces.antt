@@ -8,8 +8,8 @@ use Rattle.std.specs.Cmp.Lexicographic.{bytes_decides}
 use Rattle.std.proofs.lemmas.Bool.{both_ways}
 use Rattle.std.proofs.lemmas.Option.{slice_get_within, slice_get-map, slice_get-get_or, get_or_from_slice_get, same_Some}
 use Rattle.std.proofs.lemmas.List.{take_more, length-map}
-use Rattle.simplecss.specs.Declarations.{Property}
-use Rattle.simplecss.specs.Properties.{property_of, properties_of}
+use Rattle.simplecss.specs.Declarations.{StyleDeclaration}
+use Rattle.simplecss.specs.SeenDeclarations.{declaration_of, declarations_of}
 use Rattle.simplecss.specs.declared.Declaration.{Declaration}
 use Rattle.cssq.specs.Winners.{Standing, weight, Beats, WinsAt, NoneStands, Placed, IsEarlier, ListsInOrder, HaveOwnNames}
 use Rattle.cssq.specs.Winners.Beats.{by_importance, by_rule, by_place}
@@ -20,12 +20,12 @@ use Rattle.cssq.proofs.Listing.{placed_at, slice_get_some, lists_more, lists_sam
 
 -- ---- one more declaration behind a list
 
-over_at : (v p : Property) (k m : ℕ) → k < m → (weight p.important ≡ weight v.important) ⊎ (weight v.important + 1 ≤ weight p.important) → Beats p 0 m v 0 k
+over_at : (v p : StyleDeclaration) (k m : ℕ) → k < m → (weight p.important ≡ weight v.important) ⊎ (weight v.important + 1 ≤ weight p.important) → Beats p 0 m v 0 k
 over_at v p k m lt (inl e) = by_place e refl lt
 over_at v p k m lt (inr less) = by_importance (omega (arith, less))
 
-module _ (ps : List Property) (p : Property) (name : List ℕ) where
-  none_before : (i j : ℕ) (q : Property) → (p.name ≡ name → ⊥) → NoneStands (InRule 0 ps) name → q.name ≡ name → InRule 0 ps i j q ⊎ ((i ≡ 0) × (j ≡ length ps) × (q ≡ p)) → ⊥
+module _ (ps : List StyleDeclaration) (p : StyleDeclaration) (name : List ℕ) where
+  none_before : (i j : ℕ) (q : StyleDeclaration) → (p.name ≡ name → ⊥) → NoneStands (InRule 0 ps) name → q.name ≡ name → InRule 0 ps i j q ⊎ ((i ≡ 0) × (j ≡ length ps) × (q ≡ p)) → ⊥
   none_before i j q not_named none named (inl h) = none i j q h named
   none_before i j q not_named none named (inr h) = not_named (ap (λ x. x.name) (sym h.2) ∙ named)
 
@@ -52,17 +52,17 @@ slice_get_front (suc n) [] k x at = absurd (cc)
 slice_get_front (suc n) (y ∷ ys) zero x at = at
 slice_get_front (suc n) (y ∷ ys) (suc k) x at = slice_get_front n ys k x at
 
-tells_front : (b : Bool) (n : ℕ) (ps : List Property) (r : Option ℕ) (p : Property) → TellsWhether b ps r p → TellsWhether b (take n ps) r p
+tells_front : (b : Bool) (n : ℕ) (ps : List StyleDeclaration) (r : Option ℕ) (p : StyleDeclaration) → TellsWhether b ps r p → TellsWhether b (take n ps) r p
 tells_front b n ps None p tells = tells
 tells_front true n ps (Some k) p tells = λ q at. tells q (slice_get_front n ps k q at)
 tells_front false n ps (Some k) p tells = λ q at. tells q (slice_get_front n ps k q at)
 
 -- a known place is within the list
-pub best_within : (n : ℕ) (ps : List Property) (name : List ℕ) (r : Option ℕ) → IsBestPlace (take n ps) name r → IfSome r (λ k. k < length ps)
+pub best_within : (n : ℕ) (ps : List StyleDeclaration) (name : List ℕ) (r : Option ℕ) → IsBestPlace (take n ps) name r → IfSome r (λ k. k < length ps)
 best_within n ps name None none = tt
 best_within n ps name (Some k) won = slice_get_within ps k won.0 (slice_get_front n ps k won.0 won.1.stated.1)
 
-module _ (ps : List Property) (m : ℕ) (p : Property) (at : slice_get ps m ≡ Some p) (place : List ℕ → Option ℕ) (so_far : (name : List ℕ) → IsBestPlace (take m ps) name (place name)) where
+module _ (ps : List StyleDeclaration) (m : ℕ) (p : StyleDeclaration) (at : slice_get ps m ≡ Some p) (place : List ℕ → Option ℕ) (so_far : (name : List ℕ) → IsBestPlace (take m ps) name (place name)) where
   front_next : take m ps ++ p ∷ [] ≡ take (m + 1) ps
   front_next = ap (λ x. take m ps ++ x ∷ []) (sym (get_or_from_slice_get ps m p p at)) ∙ sym (take_more ps m p (slice_get_within ps m p at))
 
@@ -98,7 +98,7 @@ earlier_not_back (inl a) (inr b) = omega (arith, a, b.0)
 earlier_not_back (inr a) (inl b) = omega (arith, a.0, b)
 earlier_not_back (inr a) (inr b) = omega (arith, a.1, b.1)
 
-one_place_by : (ps : List Property) (name : List ℕ) (k l : ℕ) (p q : Property) → WinsAt (InRule 0 ps) name 0 k p → WinsAt (InRule 0 ps) name 0 l q → (k < l) ⊎ ((l ≡ k) ⊎ (l + 1 ≤ k)) → k ≡ l
+one_place_by : (ps : List StyleDeclaration) (name : List ℕ) (k l : ℕ) (p q : StyleDeclaration) → WinsAt (InRule 0 ps) name 0 k p → WinsAt (InRule 0 ps) name 0 l q → (k < l) ⊎ ((l ≡ k) ⊎ (l + 1 ≤ k)) → k ≡ l
 one_place_by ps name k l p q won other (inl lt) = absurd (not_two (InRule 0 ps) name 0 k 0 l p q (inr (refl, lt)) won other)
 one_place_by ps name k l p q won other (inr (inl e)) = sym e
 one_place_by ps name k l p q won other (inr (inr lt)) = absurd (not_two (InRule 0 ps) name 0 l 0 k q p (inr (refl, omega (arith, lt))) other won)
@@ -106,26 +106,26 @@ one_place_by ps name k l p q won other (inr (inr lt)) = absurd (not_two (InRule 
 any_order : (k l : ℕ) → (k < l) ⊎ ((l ≡ k) ⊎ (l + 1 ≤ k))
 any_order k l = elim (before_or_from l k) [ inl lt ↦ inl lt | inr le ↦ inr (elim (here_or_later l k le) [ inl e ↦ inl (sym e) | inr lt ↦ inr lt ]) ]
 
-moved : {stands : Standing} (i j : ℕ) (q : Property) (k l : ℕ) (p : Property) → i ≡ k → j ≡ l → q ≡ p → WinsAt stands q.name i j q → WinsAt stands p.name k l p
+moved : {stands : Standing} (i j : ℕ) (q : StyleDeclaration) (k l : ℕ) (p : StyleDeclaration) → i ≡ k → j ≡ l → q ≡ p → WinsAt stands q.name i j q → WinsAt stands p.name k l p
 moved {stands} i j q k l p e f g won = subst (λ x. WinsAt stands x.name k l x) g (subst (λ m. WinsAt stands q.name k m q) f (subst (λ m. WinsAt stands q.name m j q) e won))
 
 -- one place wins
-one_place : (ps : List Property) (name : List ℕ) (k l : ℕ) (p q : Property) → WinsAt (InRule 0 ps) name 0 k p → WinsAt (InRule 0 ps) name 0 l q → k ≡ l
+one_place : (ps : List StyleDeclaration) (name : List ℕ) (k l : ℕ) (p q : StyleDeclaration) → WinsAt (InRule 0 ps) name 0 k p → WinsAt (InRule 0 ps) name 0 l q → k ≡ l
 one_place ps name k l p q won other = one_place_by ps name k l p q won other (any_order k l)
 
-module _ (stands : Standing) (ps : List Property) (lists : ListsInOrder stands ps) where
-  at_place : (k : ℕ) (a : Placed) → slice_get lists.placed k ≡ Some a → slice_get ps k ≡ Some a.property
-  at_place k a at = ap (λ l. slice_get l k) (sym lists.are) ∙ slice_get-map (λ x. x.property) lists.placed k ∙ ap (option_map (λ (x : Placed). x.property)) at
+module _ (stands : Standing) (ps : List StyleDeclaration) (lists : ListsInOrder stands ps) where
+  at_place : (k : ℕ) (a : Placed) → slice_get lists.placed k ≡ Some a → slice_get ps k ≡ Some a.declaration
+  at_place k a at = ap (λ l. slice_get l k) (sym lists.are) ∙ slice_get-map (λ x. x.declaration) lists.placed k ∙ ap (option_map (λ (x : Placed). x.declaration)) at
 
   long : length lists.placed ≡ length ps
-  long = sym (length-map lists.placed (λ x. x.property)) ∙ ap length lists.are
+  long = sym (length-map lists.placed (λ x. x.declaration)) ∙ ap length lists.are
 
-  -- where a property stands
-  pub placed_of : (l : ℕ) (q : Property) → slice_get ps l ≡ Some q → (b : Placed) × (slice_get lists.placed l ≡ Some b) × (b.property ≡ q)
+  -- where a declaration stands
+  pub placed_of : (l : ℕ) (q : StyleDeclaration) → slice_get ps l ≡ Some q → (b : Placed) × (slice_get lists.placed l ≡ Some b) × (b.declaration ≡ q)
   placed_of l q at =
       let within = slice_get_within ps l q at in
       let found = slice_get_some lists.placed l (omega (arith, within, long)) in
-      (found.0, found.1, same_Some found.0.property q (sym (at_place l found.0 found.1) ∙ at))
+      (found.0, found.1, same_Some found.0.declaration q (sym (at_place l found.0 found.1) ∙ at))
 
   later_by : (k l : ℕ) (a b : Placed) → slice_get lists.placed k ≡ Some a → slice_get lists.placed l ≡ Some b → IsEarlier a.rule a.place b.rule b.place → (k < l) ⊎ ((l ≡ k) ⊎ (l + 1 ≤ k)) → k < l
   later_by k l a b at_k at_l early (inl lt) = lt
@@ -137,18 +137,18 @@ module _ (stands : Standing) (ps : List Property) (lists : ListsInOrder stands p
   later_index : (k l : ℕ) (a b : Placed) → slice_get lists.placed k ≡ Some a → slice_get lists.placed l ≡ Some b → IsEarlier a.rule a.place b.rule b.place → k < l
   later_index k l a b at_k at_l early = later_by k l a b at_k at_l early (any_order k l)
 
-  beats_index : (k l : ℕ) (a b : Placed) → slice_get lists.placed k ≡ Some a → slice_get lists.placed l ≡ Some b → Beats b.property b.rule b.place a.property a.rule a.place → Beats b.property 0 l a.property 0 k
+  beats_index : (k l : ℕ) (a b : Placed) → slice_get lists.placed k ≡ Some a → slice_get lists.placed l ≡ Some b → Beats b.declaration b.rule b.place a.declaration a.rule a.place → Beats b.declaration 0 l a.declaration 0 k
   beats_index k l a b at_k at_l (by_importance h) = by_importance h
   beats_index k l a b at_k at_l (by_rule e lt) = by_place e refl (later_index k l a b at_k at_l (inl lt))
   beats_index k l a b at_k at_l (by_place e same lt) = by_place e refl (later_index k l a b at_k at_l (inr (same, lt)))
 
-  index_beats : (k l : ℕ) (a b : Placed) → slice_get lists.placed k ≡ Some a → slice_get lists.placed l ≡ Some b → Beats b.property 0 l a.property 0 k → Beats b.property b.rule b.place a.property a.rule a.place
+  index_beats : (k l : ℕ) (a b : Placed) → slice_get lists.placed k ≡ Some a → slice_get lists.placed l ≡ Some b → Beats b.declaration 0 l a.declaration 0 k → Beats b.declaration b.rule b.place a.declaration a.rule a.place
   index_beats k l a b at_k at_l (by_importance h) = by_importance h
   index_beats k l a b at_k at_l (by_rule e lt) = absurd (omega (arith, lt))
   index_beats k l a b at_k at_l (by_place e same lt) = beats_as_later e (lists.rise k l a b lt at_k at_l)
 
   -- what wins in the list wins at its place
-  wins_place : (name : List ℕ) (k : ℕ) (a : Placed) → slice_get lists.placed k ≡ Some a → WinsAt (InRule 0 ps) name 0 k a.property → WinsAt stands name a.rule a.place a.property
+  wins_place : (name : List ℕ) (k : ℕ) (a : Placed) → slice_get lists.placed k ≡ Some a → WinsAt (InRule 0 ps) name 0 k a.declaration → WinsAt stands name a.rule a.place a.declaration
   wins_place name k a at won = record {
     stated = lists.stand k a at;
     named = won.named;
@@ -157,14 +157,14 @@ module _ (stands : Standing) (ps : List Property) (lists : ListsInOrder stands p
         won.unbeaten 0 found.0 q (refl, at_place found.0 (placed_at i j q) found.1) named (beats_index k found.0 a (placed_at i j q) at found.1 beats);
   }
 
-  index_unbeaten : (name : List ℕ) (k : ℕ) (a : Placed) → slice_get lists.placed k ≡ Some a → WinsAt stands name a.rule a.place a.property → (i l : ℕ) (q : Property) → i ≡ 0 → q.name ≡ name → Beats q i l a.property 0 k → (b : Placed) × (slice_get lists.placed l ≡ Some b) × (b.property ≡ q) → ⊥
+  index_unbeaten : (name : List ℕ) (k : ℕ) (a : Placed) → slice_get lists.placed k ≡ Some a → WinsAt stands name a.rule a.place a.declaration → (i l : ℕ) (q : StyleDeclaration) → i ≡ 0 → q.name ≡ name → Beats q i l a.declaration 0 k → (b : Placed) × (slice_get lists.placed l ≡ Some b) × (b.declaration ≡ q) → ⊥
   index_unbeaten name k a at won i l q e named beats found =
       let b = found.0 in
-      let there : Beats b.property 0 l a.property 0 k = subst (λ x. Beats x 0 l a.property 0 k) (sym found.2) (subst (λ m. Beats q m l a.property 0 k) e beats) in
-      won.unbeaten b.rule b.place b.property (lists.stand l b found.1) (ap (λ x. x.name) found.2 ∙ named) (index_beats k l a b at found.1 there)
+      let there : Beats b.declaration 0 l a.declaration 0 k = subst (λ x. Beats x 0 l a.declaration 0 k) (sym found.2) (subst (λ m. Beats q m l a.declaration 0 k) e beats) in
+      won.unbeaten b.rule b.place b.declaration (lists.stand l b found.1) (ap (λ x. x.name) found.2 ∙ named) (index_beats k l a b at found.1 there)
 
   -- what wins at its place wins in the list
-  wins_index : (name : List ℕ) (k : ℕ) (a : Placed) → slice_get lists.placed k ≡ Some a → WinsAt stands name a.rule a.place a.property → WinsAt (InRule 0 ps) name 0 k a.property
+  wins_index : (name : List ℕ) (k : ℕ) (a : Placed) → slice_get lists.placed k ≡ Some a → WinsAt stands name a.rule a.place a.declaration → WinsAt (InRule 0 ps) name 0 k a.declaration
   wins_index name k a at won = record {
     stated = (refl, at_place k a at);
     named = won.named;
@@ -176,14 +176,14 @@ module _ (stands : Standing) (ps : List Property) (lists : ListsInOrder stands p
   Kept m i j p = WinsAt stands p.name i j p × ((k : ℕ) × (k < m) × (slice_get lists.placed k ≡ Some (placed_at i j p)))
 
   module _ (m : ℕ) (a : Placed) (at : slice_get lists.placed m ≡ Some a) where
-    kept_either_at : (i j : ℕ) (q : Property) → WinsAt stands q.name i j q → (k : ℕ) → k < m + 1 → slice_get lists.placed k ≡ Some (placed_at i j q) → (k < m) ⊎ (m ≤ k) → Kept m i j q ⊎ ((i ≡ a.rule) × (j ≡ a.place) × (q ≡ a.property))
+    kept_either_at : (i j : ℕ) (q : StyleDeclaration) → WinsAt stands q.name i j q → (k : ℕ) → k < m + 1 → slice_get lists.placed k ≡ Some (placed_at i j q) → (k < m) ⊎ (m ≤ k) → Kept m i j q ⊎ ((i ≡ a.rule) × (j ≡ a.place) × (q ≡ a.declaration))
     kept_either_at i j q won k within there (inl lt) = inl (won, (k, lt, there))
     kept_either_at i j q won k within there (inr le) =
         let e : k ≡ m = omega (arith, within, le) in
         let same : placed_at i j q ≡ a = same_Some (placed_at i j q) a (sym there ∙ ap (slice_get lists.placed) e ∙ at) in
-        inr (ap (λ x. x.rule) same, ap (λ x. x.place) same, ap (λ x. x.property) same)
+        inr (ap (λ x. x.rule) same, ap (λ x. x.place) same, ap (λ x. x.declaration) same)
 
-    kept_more : WinsAt stands a.property.name a.rule a.place a.property → OneMore (Kept m) (Kept (m + 1)) a.rule a.place a.property
+    kept_more : WinsAt stands a.declaration.name a.rule a.place a.declaration → OneMore (Kept m) (Kept (m + 1)) a.rule a.place a.declaration
     kept_more won = record {
       kept = λ i j q h. (h.0, (h.1.0, (let lt = h.1.1 in omega (arith, lt)), h.1.2));
       new = (won, (m, (let lt : m < m + 1 = omega arith in lt), at));
@@ -191,59 +191,59 @@ module _ (stands : Standing) (ps : List Property) (lists : ListsInOrder stands p
       later = λ i j q h. lists.rise h.1.0 m (placed_at i j q) a h.1.1 h.1.2 at;
     }
 
-    kept_not_at : (i j : ℕ) (q : Property) → (WinsAt stands a.property.name a.rule a.place a.property → ⊥) → WinsAt stands q.name i j q → Kept m i j q ⊎ ((i ≡ a.rule) × (j ≡ a.place) × (q ≡ a.property)) → Kept m i j q
+    kept_not_at : (i j : ℕ) (q : StyleDeclaration) → (WinsAt stands a.declaration.name a.rule a.place a.declaration → ⊥) → WinsAt stands q.name i j q → Kept m i j q ⊎ ((i ≡ a.rule) × (j ≡ a.place) × (q ≡ a.declaration)) → Kept m i j q
     kept_not_at i j q not_won won (inl h) = h
-    kept_not_at i j q not_won won (inr e) = absurd (not_won (moved i j q a.rule a.place a.property e.0 e.1 e.2 won))
+    kept_not_at i j q not_won won (inr e) = absurd (not_won (moved i j q a.rule a.place a.declaration e.0 e.1 e.2 won))
 
-    module _ (place : List ℕ → Option ℕ) (best : (name : List ℕ) → IsBestPlace ps name (place name)) {qs : List Property} (so_far : ListsInOrder (Kept m) qs) where
-      won_here : (r : Option ℕ) → r ≡ Some m → IsBestPlace ps a.property.name r → WinsAt stands a.property.name a.rule a.place a.property
+    module _ (place : List ℕ → Option ℕ) (best : (name : List ℕ) → IsBestPlace ps name (place name)) {qs : List StyleDeclaration} (so_far : ListsInOrder (Kept m) qs) where
+      won_here : (r : Option ℕ) → r ≡ Some m → IsBestPlace ps a.declaration.name r → WinsAt stands a.declaration.name a.rule a.place a.declaration
       won_here None e won = absurd (cc)
       won_here (Some k) e won =
           let same : k ≡ m = same_Some k m e in
-          let is : won.0 ≡ a.property = same_Some won.0 a.property (sym won.1.stated.1 ∙ ap (slice_get ps) same ∙ at_place m a at) in
-          wins_place a.property.name m a at (subst (λ n. WinsAt (InRule 0 ps) a.property.name 0 n a.property) same (subst (λ x. WinsAt (InRule 0 ps) a.property.name 0 k x) is won.1))
+          let is : won.0 ≡ a.declaration = same_Some won.0 a.declaration (sym won.1.stated.1 ∙ ap (slice_get ps) same ∙ at_place m a at) in
+          wins_place a.declaration.name m a at (subst (λ n. WinsAt (InRule 0 ps) a.declaration.name 0 n a.declaration) same (subst (λ x. WinsAt (InRule 0 ps) a.declaration.name 0 k x) is won.1))
 
-      -- the place is the best for its name: the property is kept
-      pub winners_more : place a.property.name ≡ Some m → ListsInOrder (Kept (m + 1)) (qs ++ a.property ∷ [])
-      winners_more e = lists_more (kept_more (won_here (place a.property.name) e (best a.property.name))) so_far
+      -- the place is the best for its name: the declaration is kept
+      pub winners_more : place a.declaration.name ≡ Some m → ListsInOrder (Kept (m + 1)) (qs ++ a.declaration ∷ [])
+      winners_more e = lists_more (kept_more (won_here (place a.declaration.name) e (best a.declaration.name))) so_far
 
-      best_here : (r : Option ℕ) → IsBestPlace ps a.property.name r → WinsAt stands a.property.name a.rule a.place a.property → r ≡ Some m
-      best_here None none won = absurd (none 0 m a.property (refl, at_place m a at) refl)
-      best_here (Some k) found won = ap Some (one_place ps a.property.name k m found.0 a.property found.1 (wins_index a.property.name m a at won))
+      best_here : (r : Option ℕ) → IsBestPlace ps a.declaration.name r → WinsAt stands a.declaration.name a.rule a.place a.declaration → r ≡ Some m
+      best_here None none won = absurd (none 0 m a.declaration (refl, at_place m a at) refl)
+      best_here (Some k) found won = ap Some (one_place ps a.declaration.name k m found.0 a.declaration found.1 (wins_index a.declaration.name m a at won))
 
       -- the place is not: nothing is
-      pub winners_skip : (place a.property.name ≡ Some m → ⊥) → ListsInOrder (Kept (m + 1)) qs
+      pub winners_skip : (place a.declaration.name ≡ Some m → ⊥) → ListsInOrder (Kept (m + 1)) qs
       winners_skip not_best =
           lists_same (λ i j q h. (h.0, (h.1.0, (let lt = h.1.1 in omega (arith, lt)), h.1.2)))
-          (λ i j q h. kept_not_at i j q (λ won. not_best (best_here (place a.property.name) (best a.property.name) won)) h.0 (kept_either_at i j q h.0 h.1.0 h.1.1 h.1.2 (before_or_from m h.1.0))) so_far
+          (λ i j q h. kept_not_at i j q (λ won. not_best (best_here (place a.declaration.name) (best a.declaration.name) won)) h.0 (kept_either_at i j q h.0 h.1.0 h.1.1 h.1.2 (before_or_from m h.1.0))) so_far
 
-  pub winners_all : (m : ℕ) {qs : List Property} → length ps ≤ m → ListsInOrder (Kept m) qs → ListsInOrder (λ i j p. WinsAt stands p.name i j p) qs
+  pub winners_all : (m : ℕ) {qs : List StyleDeclaration} → length ps ≤ m → ListsInOrder (Kept m) qs → ListsInOrder (λ i j p. WinsAt stands p.name i j p) qs
   winners_all m all so_far =
       lists_same (λ i j q h. h.0)
       (λ i j q won. let found = lists.all i j q won.stated in let within = slice_get_within lists.placed found.0 (placed_at i j q) found.1 in (won, (found.0, omega (arith, within, long, all), found.1))) so_far
 
 -- ---- what a list of winners has
 
-module _ (stands : Standing) (ps : List Property) (lists : ListsInOrder (λ i j p. WinsAt stands p.name i j p) ps) where
+module _ (stands : Standing) (ps : List StyleDeclaration) (lists : ListsInOrder (λ i j p. WinsAt stands p.name i j p) ps) where
   pub own_names : HaveOwnNames ps
   own_names k l p q lt at_k at_l same =
       let a = placed_of (λ i j x. WinsAt stands x.name i j x) ps lists k p at_k in
       let b = placed_of (λ i j x. WinsAt stands x.name i j x) ps lists l q at_l in
-      let names : b.0.property.name ≡ a.0.property.name = ap (λ x. x.name) b.2 ∙ sym same ∙ ap (λ x. x.name) (sym a.2) in
-      not_two stands a.0.property.name a.0.rule a.0.place b.0.rule b.0.place a.0.property b.0.property (lists.rise k l a.0 b.0 lt a.1 b.1) (lists.stand k a.0 a.1)
-      (subst (λ x. WinsAt stands x b.0.rule b.0.place b.0.property) names (lists.stand l b.0 b.1))
+      let names : b.0.declaration.name ≡ a.0.declaration.name = ap (λ x. x.name) b.2 ∙ sym same ∙ ap (λ x. x.name) (sym a.2) in
+      not_two stands a.0.declaration.name a.0.rule a.0.place b.0.rule b.0.place a.0.declaration b.0.declaration (lists.rise k l a.0 b.0 lt a.1 b.1) (lists.stand k a.0 a.1)
+      (subst (λ x. WinsAt stands x b.0.rule b.0.place b.0.declaration) names (lists.stand l b.0 b.1))
 
-  wins_for_name : (p : Property) (k : ℕ) → slice_get ps k ≡ Some p → (i : ℕ) × (j : ℕ) × WinsAt stands p.name i j p
+  wins_for_name : (p : StyleDeclaration) (k : ℕ) → slice_get ps k ≡ Some p → (i : ℕ) × (j : ℕ) × WinsAt stands p.name i j p
   wins_for_name p k at =
       let a = placed_of (λ i j x. WinsAt stands x.name i j x) ps lists k p at in
       (a.0.rule, a.0.place, subst (λ x. WinsAt stands x.name a.0.rule a.0.place x) a.2 (lists.stand k a.0 a.1))
 
-  stands_in : (p : Property) (i j : ℕ) → WinsAt stands p.name i j p → (k : ℕ) × (slice_get ps k ≡ Some p)
+  stands_in : (p : StyleDeclaration) (i j : ℕ) → WinsAt stands p.name i j p → (k : ℕ) × (slice_get ps k ≡ Some p)
   stands_in p i j won =
       let found = lists.all i j p won in
       (found.0, at_place (λ i j x. WinsAt stands x.name i j x) ps lists found.0 (placed_at i j p) found.1)
 
-  pub has_winners : (p : Property) → Contains ps p ↔ ((i : ℕ) × (j : ℕ) × WinsAt stands p.name i j p)
+  pub has_winners : (p : StyleDeclaration) → Contains ps p ↔ ((i : ℕ) × (j : ℕ) × WinsAt stands p.name i j p)
   has_winners p = (
     (λ has. wins_for_name p has.0 (slice_get-get_or ps has.0 p has.1 ∙ ap Some has.2)),
     (λ won. let found = stands_in p won.0 won.1 won.2 in (found.0, slice_get_within ps found.0 p found.1, get_or_from_slice_get ps found.0 p p found.1)),
@@ -266,5 +266,5 @@ abbrev pub nothing : Declaration
 nothing = record { name = record { ref_ptr = (0, 0); now = [] }; value = record { ref_ptr = (0, 0); now = [] }; important = false }
 
 -- the declaration of a place is there
-pub stands_at : (ds : List Declaration) (k : ℕ) → k < length ds → slice_get (properties_of ds) k ≡ Some (property_of (get_or ds k nothing))
-stands_at ds k lt = slice_get-map property_of ds k ∙ ap (option_map property_of) (slice_get-get_or ds k nothing lt)
+pub stands_at : (ds : List Declaration) (k : ℕ) → k < length ds → slice_get (declarations_of ds) k ≡ Some (declaration_of (get_or ds k nothing))
+stands_at ds k lt = slice_get-map declaration_of ds k ∙ ap (option_map declaration_of) (slice_get-get_or ds k nothing lt)

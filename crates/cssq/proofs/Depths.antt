@@ -7,7 +7,7 @@ use Rattle.std.specs.Str.{all_ascii_digits}
 use Rattle.std.specs.Str.Parse.{digits_value, ParsesUnsigned}
 use Rattle.std.specs.Result.{OkIff}
 use Rattle.std.proofs.lemmas.Str.Parse.{IsNumeralModel, numerals_by_value, tells_all_ascii_digits, parse_digits}
-use Rattle.cssq.specs.TreeText.{is_depth, depth_of}
+use Rattle.cssq.specs.TreeText.{is_depth, spelled_depth}
 
 all_digits : (bs : List ℕ) → list_all is_ascii_digit bs ≡ all_ascii_digits bs
 all_digits [] = refl
@@ -28,20 +28,20 @@ own = numerals_by_value _ tells_all_ascii_digits
 reads : {E : Type 0} (bs : List ℕ) (r : Result ℕ E) → ParsesUnsigned 64 10 bs r → is_depth bs ≡ true → OkIff r ((0 < length bs) × (digits_value 10 bs < 2 ^ 64)) (digits_value 10 bs)
 reads bs r parsed ok = parse_digits own 64 bs r parsed (digits bs ok).0
 
-pub depth_other : (limit : ℕ) (bs : List ℕ) → is_depth bs ≡ false → None ≡ depth_of limit bs
+pub depth_other : (limit : ℕ) (bs : List ℕ) → is_depth bs ≡ false → None ≡ spelled_depth limit bs
 depth_other limit bs other = grind arith
 
-pub depth_parsed : {E : Type 0} (limit : ℕ) (bs : List ℕ) (r : Result ℕ E) (n : ℕ) → ParsesUnsigned 64 10 bs r → is_depth bs ≡ true → r ≡ Ok n → n ≤ limit → Some n ≡ depth_of limit bs
+pub depth_parsed : {E : Type 0} (limit : ℕ) (bs : List ℕ) (r : Result ℕ E) (n : ℕ) → ParsesUnsigned 64 10 bs r → is_depth bs ≡ true → r ≡ Ok n → n ≤ limit → Some n ≡ spelled_depth limit bs
 depth_parsed {E} limit bs r n parsed ok was small =
     let value : n ≡ digits_value 10 bs = (subst (λ r. OkIff r ((0 < length bs) × (digits_value 10 bs < 2 ^ 64)) (digits_value 10 bs)) was (reads bs r parsed ok)).1 in
     grind arith
 
-pub depth_past : {E : Type 0} (limit : ℕ) (bs : List ℕ) (r : Result ℕ E) (n : ℕ) → ParsesUnsigned 64 10 bs r → is_depth bs ≡ true → r ≡ Ok n → limit < n → None ≡ depth_of limit bs
+pub depth_past : {E : Type 0} (limit : ℕ) (bs : List ℕ) (r : Result ℕ E) (n : ℕ) → ParsesUnsigned 64 10 bs r → is_depth bs ≡ true → r ≡ Ok n → limit < n → None ≡ spelled_depth limit bs
 depth_past {E} limit bs r n parsed ok was large =
     let value : n ≡ digits_value 10 bs = (subst (λ r. OkIff r ((0 < length bs) × (digits_value 10 bs < 2 ^ 64)) (digits_value 10 bs)) was (reads bs r parsed ok)).1 in
     grind arith
 
-pub depth_unparsed : {E : Type 0} (limit : ℕ) (bs : List ℕ) (r : Result ℕ E) (e : E) → ParsesUnsigned 64 10 bs r → is_depth bs ≡ true → r ≡ Err e → limit < 2 ^ 64 → None ≡ depth_of limit bs
+pub depth_unparsed : {E : Type 0} (limit : ℕ) (bs : List ℕ) (r : Result ℕ E) (e : E) → ParsesUnsigned 64 10 bs r → is_depth bs ≡ true → r ≡ Err e → limit < 2 ^ 64 → None ≡ spelled_depth limit bs
 depth_unparsed {E} limit bs r e parsed ok was fits =
     let refused = subst (λ r. OkIff r ((0 < length bs) × (digits_value 10 bs < 2 ^ 64)) (digits_value 10 bs)) was (reads bs r parsed ok) in
     grind arith

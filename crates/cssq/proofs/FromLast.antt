@@ -3,9 +3,9 @@ use Rattle.std.proofs.Common.{◌≡◌, ℕ, zero, suc, ◌+◌, ◌<◌, ◌�
 use Rattle.std.specs.Option.{option_map, is_some}
 use Rattle.std.specs.List.{slice_get}
 use Rattle.std.proofs.lemmas.Option.{slice_get_within, slice_get-map, slice_get_read, same_Some}
-use Rattle.simplecss.specs.Declarations.{Property}
+use Rattle.simplecss.specs.Declarations.{StyleDeclaration}
 use Rattle.simplecss.specs.Statements.{StyleRule}
-use Rattle.simplecss.specs.StyleRules.{rule_of, rules_of}
+use Rattle.simplecss.specs.SeenRules.{rule_of, rules_of}
 use Rattle.simplecss.specs.declared.sheet.rules.Rule.{Rule}
 use Rattle.simplecss.specs.Trees.{Tree}
 use Rattle.simplecss.specs.Placements.{HasPlacement}
@@ -16,13 +16,13 @@ use Rattle.cssq.proofs.Cascading.{weight_small, beats_weight, beats_earlier, not
 
 -- ---- what wins within a rule
 
-heavier_at : (ps : List Property) (name : List ℕ) (b : Property) (won : Wins (InRule 0 ps) name (Some b)) → b.important ≡ false → (j : ℕ) (p : Property) (a : Bool) → p.important ≡ a → slice_get ps j ≡ Some p → p.name ≡ name → a ≡ false
+heavier_at : (ps : List StyleDeclaration) (name : List ℕ) (b : StyleDeclaration) (won : Wins (InRule 0 ps) name (Some b)) → b.important ≡ false → (j : ℕ) (p : StyleDeclaration) (a : Bool) → p.important ≡ a → slice_get ps j ≡ Some p → p.name ≡ name → a ≡ false
 heavier_at ps name b won light j p false e at named = refl
 heavier_at ps name b won light j p true e at named =
     absurd (won.2.unbeaten 0 j p (refl, at) named (by_importance (omega (arith, ap weight e, ap weight light))))
 
 -- where what wins is not important, none of the name is
-pub none_important : (ps : List Property) (name : List ℕ) (b : Property) → Wins (InRule 0 ps) name (Some b) → b.important ≡ false → (j : ℕ) (p : Property) → slice_get ps j ≡ Some p → p.name ≡ name → p.important ≡ false
+pub none_important : (ps : List StyleDeclaration) (name : List ℕ) (b : StyleDeclaration) → Wins (InRule 0 ps) name (Some b) → b.important ≡ false → (j : ℕ) (p : StyleDeclaration) → slice_get ps j ≡ Some p → p.name ≡ name → p.important ≡ false
 none_important ps name b won light j p = heavier_at ps name b won light j p p.important refl
 
 -- ---- the rules from a place on
@@ -32,7 +32,7 @@ abbrev pub From : Standing → ℕ → Standing
 From stands place k l q = (place ≤ k) × stands k l q
 
 -- what wins in the rules from a place on is known, and is not important
-pub record KnownFrom (stands : Standing) (name : List ℕ) (place : ℕ) (w : Option Property) : Type 0 where
+pub record KnownFrom (stands : Standing) (name : List ℕ) (place : ℕ) (w : Option StyleDeclaration) : Type 0 where
   pub wins : Wins (From stands place) name w
   pub light : IfSome w (λ p. p.important ≡ false)
 
@@ -49,14 +49,14 @@ before_or_from (suc place) (suc k) = elim (before_or_from place k) [ inl lt ↦ 
 
 -- the rule at a place
 module _ {Node : Type 0} (tree : Tree Node) (n : Node) (rules : List StyleRule) (place : ℕ) (rule : StyleRule) (at : slice_get rules place ≡ Some rule) where
-  stated_rule : (k l : ℕ) (q : Property) → k ≡ place → (stated : IsStated tree n rules k l q) → stated.rule ≡ rule
+  stated_rule : (k l : ℕ) (q : StyleDeclaration) → k ≡ place → (stated : IsStated tree n rules k l q) → stated.rule ≡ rule
   stated_rule k l q e stated = same_Some stated.rule rule (sym stated.rule_at ∙ ap (slice_get rules) e ∙ at)
 
-  pub stated_takes : (k l : ℕ) (q : Property) → k ≡ place → IsStated tree n rules k l q → HasPlacement tree rule.components n
+  pub stated_takes : (k l : ℕ) (q : StyleDeclaration) → k ≡ place → IsStated tree n rules k l q → HasPlacement tree rule.components n
   stated_takes k l q e stated = subst (λ r. HasPlacement tree r.components n) (stated_rule k l q e stated) stated.takes
 
-  pub stated_here : (k l : ℕ) (q : Property) → k ≡ place → IsStated tree n rules k l q → slice_get rule.properties l ≡ Some q
-  stated_here k l q e stated = ap (λ r. slice_get r.properties l) (sym (stated_rule k l q e stated)) ∙ stated.declared
+  pub stated_here : (k l : ℕ) (q : StyleDeclaration) → k ≡ place → IsStated tree n rules k l q → slice_get rule.declarations l ≡ Some q
+  stated_here k l q e stated = ap (λ r. slice_get r.declarations l) (sym (stated_rule k l q e stated)) ∙ stated.declared
 
 module _ {Node : Type 0} (tree : Tree Node) (n : Node) (rules : List StyleRule) (name : List ℕ) where
   -- behind the last rule there is nothing
@@ -68,7 +68,7 @@ module _ {Node : Type 0} (tree : Tree Node) (n : Node) (rules : List StyleRule) 
 
   -- nothing stands in the rules from a place up to another, where none of them takes the node
   pub known_skipped : (place later : ℕ) → place ≤ later → ((k : ℕ) (rule : StyleRule) → place ≤ k → k < later → slice_get rules k ≡ Some rule → HasPlacement tree rule.components n → ⊥)
-      → (w : Option Property) → KnownFrom (IsStated tree n rules) name later w → KnownFrom (IsStated tree n rules) name place w
+      → (w : Option StyleDeclaration) → KnownFrom (IsStated tree n rules) name later w → KnownFrom (IsStated tree n rules) name place w
   known_skipped place later le none None known = record {
     wins = λ k l q stands named. elim (before_or_from later k) [
       | inl less ↦ none k stands.1.rule stands.0 less stands.1.rule_at stands.1.takes
@@ -94,7 +94,7 @@ module _ {Node : Type 0} (tree : Tree Node) (n : Node) (rules : List StyleRule) 
         light = known.light;
       }
 
-  pub known_all : (w : Option Property) → KnownFrom (IsStated tree n rules) name 0 w → Wins (IsStated tree n rules) name w
+  pub known_all : (w : Option StyleDeclaration) → KnownFrom (IsStated tree n rules) name 0 w → Wins (IsStated tree n rules) name w
   known_all None known = λ k l q stands named. known.wins k l q (omega arith, stands) named
   known_all (Some v) known =
       let won = known.wins in (
@@ -107,14 +107,14 @@ module _ {Node : Type 0} (tree : Tree Node) (n : Node) (rules : List StyleRule) 
         },
       )
 
-  important_unbeaten : (place : ℕ) (b : Property) (won : Wins (From (IsStated tree n rules) place) name (Some b)) → b.important ≡ true → (k l : ℕ) (q : Property) → IsStated tree n rules k l q → q.name ≡ name → Beats q k l b won.0 won.1 → (k < place) ⊎ (place ≤ k) → ⊥
+  important_unbeaten : (place : ℕ) (b : StyleDeclaration) (won : Wins (From (IsStated tree n rules) place) name (Some b)) → b.important ≡ true → (k l : ℕ) (q : StyleDeclaration) → IsStated tree n rules k l q → q.name ≡ name → Beats q k l b won.0 won.1 → (k < place) ⊎ (place ≤ k) → ⊥
   important_unbeaten place b won heavy k l q stated named beats (inr late) = won.2.unbeaten k l q (late, stated) named beats
   important_unbeaten place b won heavy k l q stated named beats (inl early) =
       let behind = won.2.stated.0 in
       omega (arith, ap weight heavy, weight_small q.important, beats_earlier beats (omega (arith, early, behind)))
 
   -- an important one of a later rule wins over all of earlier rules
-  pub important_wins : (place : ℕ) (b : Property) → Wins (From (IsStated tree n rules) place) name (Some b) → b.important ≡ true → Wins (IsStated tree n rules) name (Some b)
+  pub important_wins : (place : ℕ) (b : StyleDeclaration) → Wins (From (IsStated tree n rules) place) name (Some b) → b.important ≡ true → Wins (IsStated tree n rules) name (Some b)
   important_wins place b won heavy = (
     won.0,
     won.1,
@@ -126,9 +126,9 @@ module _ {Node : Type 0} (tree : Tree Node) (n : Node) (rules : List StyleRule) 
   )
 
   module _ (place : ℕ) (rule : StyleRule) (at : slice_get rules place ≡ Some rule) where
-    module _ {A : Type 0} (f : A → Property) (known : Bool) where
+    module _ {A : Type 0} (f : A → StyleDeclaration) (known : Bool) where
       -- the rule at the place was passed over
-      passed_unbeaten : (v : Property) (m j : ℕ) → place + 1 ≤ m → v.important ≡ false → IsPassedOver tree n rule name known → (k l : ℕ) (q : Property) → IsStated tree n rules k l q → q.name ≡ name → Beats q k l v m j → k ≡ place → ⊥
+      passed_unbeaten : (v : StyleDeclaration) (m j : ℕ) → place + 1 ≤ m → v.important ≡ false → IsPassedOver tree n rule name known → (k l : ℕ) (q : StyleDeclaration) → IsStated tree n rules k l q → q.name ≡ name → Beats q k l v m j → k ≡ place → ⊥
       passed_unbeaten v m j behind light passed k l q stated named beats e =
           let q_light = (passed (stated_takes tree n rules place rule at k l q e stated) l q (stated_here tree n rules place rule at k l q e stated) named).1 in
           omega (arith, ap weight q_light, beats_earlier beats (omega (arith, behind, e)))
@@ -160,13 +160,13 @@ module _ {Node : Type 0} (tree : Tree Node) (n : Node) (rules : List StyleRule) 
           }
 
       -- the rule at the place has a candidate, which is important if one of a later rule is known
-      over_later : (b : Property) (j : ℕ) (w : Option A) → known ≡ is_some w → (known ≡ true → b.important ≡ true) → KnownFrom (IsStated tree n rules) name (place + 1) (option_map f w) → (k l : ℕ) (q : Property) → From (IsStated tree n rules) (place + 1) k l q → q.name ≡ name → Beats q k l b place j → ⊥
+      over_later : (b : StyleDeclaration) (j : ℕ) (w : Option A) → known ≡ is_some w → (known ≡ true → b.important ≡ true) → KnownFrom (IsStated tree n rules) name (place + 1) (option_map f w) → (k l : ℕ) (q : StyleDeclaration) → From (IsStated tree n rules) (place + 1) k l q → q.name ≡ name → Beats q k l b place j → ⊥
       over_later b j None is heavy so_far k l q stands named beats = so_far.wins k l q stands named
       over_later b j (Some x) is heavy so_far k l q stands named beats =
           so_far.wins.2.unbeaten k l q stands named
           (by_importance (omega (arith, ap weight so_far.light, ap weight (heavy is), beats_weight beats)))
 
-      pub known_here : (b : Property) (w : Option A) → known ≡ is_some w → (known ≡ true → b.important ≡ true) → IsCandidate tree n rule name b → KnownFrom (IsStated tree n rules) name (place + 1) (option_map f w) → Wins (From (IsStated tree n rules) place) name (Some b)
+      pub known_here : (b : StyleDeclaration) (w : Option A) → known ≡ is_some w → (known ≡ true → b.important ≡ true) → IsCandidate tree n rule name b → KnownFrom (IsStated tree n rules) name (place + 1) (option_map f w) → Wins (From (IsStated tree n rules) place) name (Some b)
       known_here b w is heavy candidate so_far =
           let won = candidate.best place in
           let here = won.2.stated in (
@@ -182,7 +182,7 @@ module _ {Node : Type 0} (tree : Tree Node) (n : Node) (rules : List StyleRule) 
             },
           )
 
-pub known_on : (stands : Standing) (name : List ℕ) (place : ℕ) (b : Property) → Wins (From stands place) name (Some b) → b.important ≡ false → KnownFrom stands name place (Some b)
+pub known_on : (stands : Standing) (name : List ℕ) (place : ℕ) (b : StyleDeclaration) → Wins (From stands place) name (Some b) → b.important ≡ false → KnownFrom stands name place (Some b)
 known_on stands name place b won light = record { wins = won; light = light }
 
 -- ---- there is one winner
@@ -197,26 +197,26 @@ any_places i k j l (inl lt) c = inl (inl lt)
 any_places i k j l (inr le) c = later_places i k j l (here_or_later j i le) c
 
 module _ {Node : Type 0} (tree : Tree Node) (n : Node) (rules : List StyleRule) (name : List ℕ) where
-  stated_once : (i k j l : ℕ) (p q : Property) → IsStated tree n rules i k p → IsStated tree n rules j l q → i ≡ j → k ≡ l → p ≡ q
+  stated_once : (i k j l : ℕ) (p q : StyleDeclaration) → IsStated tree n rules i k p → IsStated tree n rules j l q → i ≡ j → k ≡ l → p ≡ q
   stated_once i k j l p q stated other e f =
-      same_Some p q (sym (stated_here tree n rules j other.rule other.rule_at i k p e stated) ∙ ap (slice_get other.rule.properties) f ∙ other.declared)
+      same_Some p q (sym (stated_here tree n rules j other.rule other.rule_at i k p e stated) ∙ ap (slice_get other.rule.declarations) f ∙ other.declared)
 
-  one_at : (i k j l : ℕ) (p q : Property) → WinsAt (IsStated tree n rules) name i k p → WinsAt (IsStated tree n rules) name j l q → IsEarlier i k j l ⊎ (((i ≡ j) × (k ≡ l)) ⊎ IsEarlier j l i k) → p ≡ q
+  one_at : (i k j l : ℕ) (p q : StyleDeclaration) → WinsAt (IsStated tree n rules) name i k p → WinsAt (IsStated tree n rules) name j l q → IsEarlier i k j l ⊎ (((i ≡ j) × (k ≡ l)) ⊎ IsEarlier j l i k) → p ≡ q
   one_at i k j l p q won other (inl lt) = absurd (not_two _ name i k j l p q lt won other)
   one_at i k j l p q won other (inr (inl e)) = stated_once i k j l p q won.stated other.stated e.0 e.1
   one_at i k j l p q won other (inr (inr lt)) = absurd (not_two _ name j l i k q p lt other won)
 
-  one_winner : (p q : Property) → Wins (IsStated tree n rules) name (Some p) → Wins (IsStated tree n rules) name (Some q) → p ≡ q
+  one_winner : (p q : StyleDeclaration) → Wins (IsStated tree n rules) name (Some p) → Wins (IsStated tree n rules) name (Some q) → p ≡ q
   one_winner p q won other = one_at won.0 won.1 other.0 other.1 p q won.2 other.2 (any_places won.0 won.1 other.0 other.1 (before_or_from other.0 won.0) (before_or_from other.1 won.1))
 
   -- what is answered is the winner, and there is no other
-  pub winner_only : {A : Type 0} (f : A → Property) (r : Option A) → Wins (IsStated tree n rules) name (option_map f r) → (p : Property) → Wins (IsStated tree n rules) name (Some p) ↔ (option_map f r ≡ Some p)
+  pub winner_only : {A : Type 0} (f : A → StyleDeclaration) (r : Option A) → Wins (IsStated tree n rules) name (option_map f r) → (p : StyleDeclaration) → Wins (IsStated tree n rules) name (Some p) ↔ (option_map f r ≡ Some p)
   winner_only f None none p = (λ won. absurd (none won.0 won.1 p won.2.stated won.2.named), λ e. absurd (cc))
   winner_only f (Some d) won p = (λ other. ap Some (one_winner (f d) p won other), λ e. subst (λ q. Wins (IsStated tree n rules) name (Some q)) (same_Some (f d) p e) won)
 
 -- ---- what the walk answers
 
-module _ {A : Type 0} (f : A → Property) (stands : Standing) (name : List ℕ) where
+module _ {A : Type 0} (f : A → StyleDeclaration) (stands : Standing) (name : List ℕ) where
   pub winner_found : (r : Option A) → Wins stands name (option_map f r) → IfSome r (λ d. Wins stands name (Some (f d)))
   winner_found None wins = tt
   winner_found (Some d) wins = wins

@@ -63,7 +63,7 @@ module _ {P : ℕ → Type 0} {number : ℕ} {places : List ℕ} (are : AreThePl
 -- ---- the answers of the rules
 
 nothing : StyleRule
-nothing = record { components = []; properties = [] }
+nothing = record { components = []; declarations = [] }
 
 -- the selectors of rules are those of what the rules say
 pub same_selectors : {R : Type 0} (f : R → StyleRule) (rules : List R) → map (λ rule. (f rule).components) rules ≡ map (λ rule. rule.components) (map f rules)

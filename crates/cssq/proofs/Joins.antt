@@ -7,7 +7,7 @@ use Rattle.std.proofs.lemmas.List.{length-map, map-append}
 use Rattle.std.proofs.lemmas.Option.{slice_get_within, slice_get-get_or}
 use Rattle.cssq.specs.declared.tree.entry.Entry.{Entry}
 use Rattle.cssq.specs.declared.tree.Line.{Line}
-use Rattle.cssq.specs.Relatives.{last_place, parent_place, previous_place}
+use Rattle.cssq.specs.ParentsAndSiblings.{last_place, parent_place, previous_place}
 use Rattle.cssq.specs.Lines.{depths, AreLinked}
 use Rattle.cssq.proofs.Linked.{depth_at}
 use Rattle.cssq.specs.Siblings.{equal_at, parent_old, parent_new, previous_old, previous_new, none_near, lesser_near, equal_near}

@@ -6,7 +6,7 @@ pub mod Linked
 pub mod Joins
 pub mod Attributes
 pub mod Reading
-pub mod Styled
+pub mod StyledWrites
 pub mod Written
 pub mod MatchLines
 pub mod Operands

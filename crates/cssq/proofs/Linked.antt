@@ -4,7 +4,7 @@ use Rattle.std.specs.Prelude.{nat_le}
 use Rattle.std.proofs.lemmas.List.{length-map, get_or-map}
 use Rattle.std.proofs.lemmas.Option.{slice_get-get_or}
 use Rattle.cssq.specs.declared.tree.Line.{Line}
-use Rattle.cssq.specs.Relatives.{last_place}
+use Rattle.cssq.specs.ParentsAndSiblings.{last_place}
 use Rattle.cssq.specs.Lines.{depths, AreLinked}
 use Rattle.cssq.specs.Places.{IsCandidate, steps_left, parent_candidate, some_last, none_last}
 

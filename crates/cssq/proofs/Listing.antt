@@ -3,7 +3,7 @@ use Rattle.std.proofs.Common.{◌≡◌, ℕ, zero, suc, ◌+◌, ◌<◌, ◌�
 use Rattle.std.specs.List.{slice_get}
 use Rattle.std.proofs.lemmas.Option.{slice_get_within, get_or_from_slice_get, same_Some}
 use Rattle.std.proofs.lemmas.List.{take_more, take_all, map-append}
-use Rattle.simplecss.specs.Declarations.{Property}
+use Rattle.simplecss.specs.Declarations.{StyleDeclaration}
 use Rattle.simplecss.specs.Statements.{StyleRule}
 use Rattle.simplecss.specs.Trees.{Tree}
 use Rattle.simplecss.specs.Placements.{HasPlacement}
@@ -11,10 +11,10 @@ use Rattle.cssq.specs.Winners.{Standing, IsStated, Placed, IsEarlier, ListsInOrd
 use Rattle.cssq.proofs.Cascading.{OneMore, slice_get_push, slice_get_kept, slice_get_last}
 use Rattle.cssq.proofs.FromLast.{before_or_from, stated_takes, stated_here}
 
-abbrev pub placed_at : ℕ → ℕ → Property → Placed
-placed_at i j p = record { rule = i; place = j; property = p }
+abbrev pub placed_at : ℕ → ℕ → StyleDeclaration → Placed
+placed_at i j p = record { rule = i; place = j; declaration = p }
 
-pub lists_none : (stands : Standing) → ((i j : ℕ) (p : Property) → stands i j p → ⊥) → ListsInOrder stands []
+pub lists_none : (stands : Standing) → ((i j : ℕ) (p : StyleDeclaration) → stands i j p → ⊥) → ListsInOrder stands []
 lists_none stands none = record {
   placed = [];
   are = refl;
@@ -24,27 +24,27 @@ lists_none stands none = record {
 }
 
 -- where the same stands, the same list does
-pub lists_same : {before after : Standing} {ps : List Property} → ((i j : ℕ) (p : Property) → before i j p → after i j p) → ((i j : ℕ) (p : Property) → after i j p → before i j p) → ListsInOrder before ps → ListsInOrder after ps
+pub lists_same : {before after : Standing} {ps : List StyleDeclaration} → ((i j : ℕ) (p : StyleDeclaration) → before i j p → after i j p) → ((i j : ℕ) (p : StyleDeclaration) → after i j p → before i j p) → ListsInOrder before ps → ListsInOrder after ps
 lists_same forth back lists = record {
   placed = lists.placed;
   are = lists.are;
-  stand = λ k a at. forth a.rule a.place a.property (lists.stand k a at);
+  stand = λ k a at. forth a.rule a.place a.declaration (lists.stand k a at);
   rise = lists.rise;
   all = λ i j p h. lists.all i j p (back i j p h);
 }
 
-module _ {before after : Standing} {i j : ℕ} {p : Property} (more : OneMore before after i j p) {ps : List Property} (lists : ListsInOrder before ps) where
-  new_stands : (k : ℕ) (a : Placed) → (slice_get lists.placed k ≡ Some a) ⊎ ((k ≡ length lists.placed) × (a ≡ placed_at i j p)) → after a.rule a.place a.property
-  new_stands k a (inl at) = more.kept a.rule a.place a.property (lists.stand k a at)
-  new_stands k a (inr e) = subst (λ x. after x.rule x.place x.property) (sym e.1) more.new
+module _ {before after : Standing} {i j : ℕ} {p : StyleDeclaration} (more : OneMore before after i j p) {ps : List StyleDeclaration} (lists : ListsInOrder before ps) where
+  new_stands : (k : ℕ) (a : Placed) → (slice_get lists.placed k ≡ Some a) ⊎ ((k ≡ length lists.placed) × (a ≡ placed_at i j p)) → after a.rule a.place a.declaration
+  new_stands k a (inl at) = more.kept a.rule a.place a.declaration (lists.stand k a at)
+  new_stands k a (inr e) = subst (λ x. after x.rule x.place x.declaration) (sym e.1) more.new
 
   new_rises : (k l : ℕ) (a b : Placed) → k < l → (slice_get lists.placed k ≡ Some a) ⊎ ((k ≡ length lists.placed) × (a ≡ placed_at i j p)) → (slice_get lists.placed l ≡ Some b) ⊎ ((l ≡ length lists.placed) × (b ≡ placed_at i j p)) → IsEarlier a.rule a.place b.rule b.place
   new_rises k l a b lt (inl at_k) (inl at_l) = lists.rise k l a b lt at_k at_l
-  new_rises k l a b lt (inl at_k) (inr e) = subst (λ x. IsEarlier a.rule a.place x.rule x.place) (sym e.1) (more.later a.rule a.place a.property (lists.stand k a at_k))
+  new_rises k l a b lt (inl at_k) (inr e) = subst (λ x. IsEarlier a.rule a.place x.rule x.place) (sym e.1) (more.later a.rule a.place a.declaration (lists.stand k a at_k))
   new_rises k l a b lt (inr e) (inl at_l) = let within = slice_get_within lists.placed l b at_l in absurd (omega (arith, within, lt, e.0))
   new_rises k l a b lt (inr e) (inr f) = absurd (omega (arith, lt, e.0, f.0))
 
-  new_all : (k l : ℕ) (q : Property) → before k l q ⊎ ((k ≡ i) × (l ≡ j) × (q ≡ p)) → (m : ℕ) × (slice_get (lists.placed ++ placed_at i j p ∷ []) m ≡ Some (placed_at k l q))
+  new_all : (k l : ℕ) (q : StyleDeclaration) → before k l q ⊎ ((k ≡ i) × (l ≡ j) × (q ≡ p)) → (m : ℕ) × (slice_get (lists.placed ++ placed_at i j p ∷ []) m ≡ Some (placed_at k l q))
   new_all k l q (inl h) = let found = lists.all k l q h in (found.0, slice_get_kept lists.placed (placed_at i j p) found.0 (placed_at k l q) found.1)
   new_all k l q (inr e) = (length lists.placed, slice_get_last lists.placed (placed_at i j p) ∙ (λ t. Some (placed_at (sym e.0 t) (sym e.1 t) (sym e.2 t))))
 
@@ -52,7 +52,7 @@ module _ {before after : Standing} {i j : ℕ} {p : Property} (more : OneMore be
   pub lists_more : ListsInOrder after (ps ++ p ∷ [])
   lists_more = record {
     placed = lists.placed ++ placed_at i j p ∷ [];
-    are = map-append (λ a. a.property) lists.placed (placed_at i j p ∷ []) ∙ ap (λ l. l ++ p ∷ []) lists.are;
+    are = map-append (λ a. a.declaration) lists.placed (placed_at i j p ∷ []) ∙ ap (λ l. l ++ p ∷ []) lists.are;
     stand = λ k a at. new_stands k a (slice_get_push lists.placed (placed_at i j p) k a at);
     rise = λ k l a b lt at_k at_l. new_rises k l a b lt (slice_get_push lists.placed (placed_at i j p) k a at_k) (slice_get_push lists.placed (placed_at i j p) l b at_l);
     all = λ k l q h. new_all k l q (more.either k l q h);
@@ -65,25 +65,25 @@ abbrev pub Before : Standing → ℕ → Standing
 Before stands m i j p = (i < m) × stands i j p
 
 -- what stands there, and the first declarations of the next rule
-abbrev Partly : Standing → ℕ → List Property → ℕ → Standing
+abbrev Partly : Standing → ℕ → List StyleDeclaration → ℕ → Standing
 Partly stands m declared c i j p = ((i < m) × stands i j p) ⊎ ((i ≡ m) × (j < c) × (slice_get declared j ≡ Some p))
 
-module _ (stands : Standing) (m : ℕ) (declared : List Property) (c : ℕ) (p : Property) (at : slice_get declared c ≡ Some p) where
-  part_kept : (k l : ℕ) (q : Property) → Partly stands m declared c k l q → Partly stands m declared (c + 1) k l q
+module _ (stands : Standing) (m : ℕ) (declared : List StyleDeclaration) (c : ℕ) (p : StyleDeclaration) (at : slice_get declared c ≡ Some p) where
+  part_kept : (k l : ℕ) (q : StyleDeclaration) → Partly stands m declared c k l q → Partly stands m declared (c + 1) k l q
   part_kept k l q (inl h) = inl h
   part_kept k l q (inr h) = let lt = h.1 in inr (h.0, omega (arith, lt), h.2)
 
-  part_either_at : (k l : ℕ) (q : Property) → k ≡ m → slice_get declared l ≡ Some q → (l < c) ⊎ (c ≤ l) → l < c + 1 → Partly stands m declared c k l q ⊎ ((k ≡ m) × (l ≡ c) × (q ≡ p))
+  part_either_at : (k l : ℕ) (q : StyleDeclaration) → k ≡ m → slice_get declared l ≡ Some q → (l < c) ⊎ (c ≤ l) → l < c + 1 → Partly stands m declared c k l q ⊎ ((k ≡ m) × (l ≡ c) × (q ≡ p))
   part_either_at k l q e here (inl lt) within = inl (inr (e, lt, here))
   part_either_at k l q e here (inr le) within =
       let same : l ≡ c = omega (arith, le, within) in
       inr (e, same, same_Some q p (sym here ∙ ap (slice_get declared) same ∙ at))
 
-  part_either : (k l : ℕ) (q : Property) → Partly stands m declared (c + 1) k l q → Partly stands m declared c k l q ⊎ ((k ≡ m) × (l ≡ c) × (q ≡ p))
+  part_either : (k l : ℕ) (q : StyleDeclaration) → Partly stands m declared (c + 1) k l q → Partly stands m declared c k l q ⊎ ((k ≡ m) × (l ≡ c) × (q ≡ p))
   part_either k l q (inl h) = inl (inl h)
   part_either k l q (inr h) = part_either_at k l q h.0 h.2 (before_or_from c l) h.1
 
-  part_later : (k l : ℕ) (q : Property) → Partly stands m declared c k l q → IsEarlier k l m c
+  part_later : (k l : ℕ) (q : StyleDeclaration) → Partly stands m declared c k l q → IsEarlier k l m c
   part_later k l q (inl h) = inl h.0
   part_later k l q (inr h) = inr (h.0, h.1)
 
@@ -95,7 +95,7 @@ module _ (stands : Standing) (m : ℕ) (declared : List Property) (c : ℕ) (p :
     later = part_later;
   }
 
-none_of_part : (stands : Standing) (m : ℕ) (declared : List Property) (k l : ℕ) (q : Property) → Partly stands m declared 0 k l q → Before stands m k l q
+none_of_part : (stands : Standing) (m : ℕ) (declared : List StyleDeclaration) (k l : ℕ) (q : StyleDeclaration) → Partly stands m declared 0 k l q → Before stands m k l q
 none_of_part stands m declared k l q (inl h) = h
 none_of_part stands m declared k l q (inr h) = let lt = h.1 in absurd (omega (arith, lt))
 
@@ -105,7 +105,7 @@ slice_get_some [] c lt = absurd (omega arith)
 slice_get_some (p ∷ ps) zero lt = (p, refl)
 slice_get_some (p ∷ ps) (suc c) lt = slice_get_some ps c (omega arith)
 
-listed_after : (stands : Standing) (m : ℕ) (declared ps : List Property) (c : ℕ) → (p : Property) × (slice_get declared c ≡ Some p) → ListsInOrder (Partly stands m declared c) (ps ++ take c declared) → ListsInOrder (Partly stands m declared (suc c)) (ps ++ take (suc c) declared)
+listed_after : (stands : Standing) (m : ℕ) (declared ps : List StyleDeclaration) (c : ℕ) → (p : StyleDeclaration) × (slice_get declared c ≡ Some p) → ListsInOrder (Partly stands m declared c) (ps ++ take c declared) → ListsInOrder (Partly stands m declared (suc c)) (ps ++ take (suc c) declared)
 listed_after stands m declared ps c found lists =
     let p = found.0 in
     let within = slice_get_within declared c p found.1 in
@@ -118,44 +118,44 @@ listed_after stands m declared ps c found lists =
     subst (ListsInOrder (Partly stands m declared (suc c))) front
     (subst (λ k. ListsInOrder (Partly stands m declared k) ((ps ++ take c declared) ++ p ∷ [])) next (lists_more (part_more stands m declared c p found.1) lists))
 
-listed_next : (stands : Standing) (m : ℕ) (declared ps : List Property) (c : ℕ) → c < length declared → ListsInOrder (Partly stands m declared c) (ps ++ take c declared) → ListsInOrder (Partly stands m declared (suc c)) (ps ++ take (suc c) declared)
+listed_next : (stands : Standing) (m : ℕ) (declared ps : List StyleDeclaration) (c : ℕ) → c < length declared → ListsInOrder (Partly stands m declared c) (ps ++ take c declared) → ListsInOrder (Partly stands m declared (suc c)) (ps ++ take (suc c) declared)
 listed_next stands m declared ps c lt lists = listed_after stands m declared ps c (slice_get_some declared c lt) lists
 
-listed_part : (stands : Standing) (m : ℕ) (declared ps : List Property) → ListsInOrder (Before stands m) ps → (c : ℕ) → c ≤ length declared → ListsInOrder (Partly stands m declared c) (ps ++ take c declared)
+listed_part : (stands : Standing) (m : ℕ) (declared ps : List StyleDeclaration) → ListsInOrder (Before stands m) ps → (c : ℕ) → c ≤ length declared → ListsInOrder (Partly stands m declared c) (ps ++ take c declared)
 listed_part stands m declared ps lists zero le =
     subst (ListsInOrder (Partly stands m declared 0)) (sym (append-nil ps)) (lists_same (λ i j p h. inl h) (none_of_part stands m declared) lists)
 listed_part stands m declared ps lists (suc c) le = listed_next stands m declared ps c (omega arith) (listed_part stands m declared ps lists c (omega arith))
 
 module _ {Node : Type 0} (tree : Tree Node) (n : Node) (rules : List StyleRule) (m : ℕ) (rule : StyleRule) (at : slice_get rules m ≡ Some rule) where
-  whole_forth : HasPlacement tree rule.components n → (i j : ℕ) (p : Property) → Partly (IsStated tree n rules) m rule.properties (length rule.properties) i j p → Before (IsStated tree n rules) (m + 1) i j p
+  whole_forth : HasPlacement tree rule.components n → (i j : ℕ) (p : StyleDeclaration) → Partly (IsStated tree n rules) m rule.declarations (length rule.declarations) i j p → Before (IsStated tree n rules) (m + 1) i j p
   whole_forth takes i j p (inl h) = let lt = h.0 in (omega (arith, lt), h.1)
   whole_forth takes i j p (inr h) =
       let e = h.0 in
       (omega (arith, e), record { rule = rule; rule_at = ap (slice_get rules) e ∙ at; takes = takes; declared = h.2 })
 
-  whole_back_at : (i j : ℕ) (p : Property) → IsStated tree n rules i j p → i < m + 1 → (i < m) ⊎ (m ≤ i) → Partly (IsStated tree n rules) m rule.properties (length rule.properties) i j p
+  whole_back_at : (i j : ℕ) (p : StyleDeclaration) → IsStated tree n rules i j p → i < m + 1 → (i < m) ⊎ (m ≤ i) → Partly (IsStated tree n rules) m rule.declarations (length rule.declarations) i j p
   whole_back_at i j p stated within (inl lt) = inl (lt, stated)
   whole_back_at i j p stated within (inr le) =
       let e : i ≡ m = omega (arith, within, le) in
       let here = stated_here tree n rules m rule at i j p e stated in
-      inr (e, slice_get_within rule.properties j p here, here)
+      inr (e, slice_get_within rule.declarations j p here, here)
 
   -- the rule has a placement: all that it declares is added
-  pub lists_rule : {ps : List Property} → HasPlacement tree rule.components n → ListsInOrder (Before (IsStated tree n rules) m) ps → ListsInOrder (Before (IsStated tree n rules) (m + 1)) (ps ++ rule.properties)
+  pub lists_rule : {ps : List StyleDeclaration} → HasPlacement tree rule.components n → ListsInOrder (Before (IsStated tree n rules) m) ps → ListsInOrder (Before (IsStated tree n rules) (m + 1)) (ps ++ rule.declarations)
   lists_rule {ps} takes lists =
-      subst (λ l. ListsInOrder (Before (IsStated tree n rules) (m + 1)) (ps ++ l)) (take_all (length rule.properties) rule.properties (omega arith))
-      (lists_same (whole_forth takes) (λ i j p h. whole_back_at i j p h.1 h.0 (before_or_from m i)) (listed_part (IsStated tree n rules) m rule.properties ps lists (length rule.properties) (omega arith)))
+      subst (λ l. ListsInOrder (Before (IsStated tree n rules) (m + 1)) (ps ++ l)) (take_all (length rule.declarations) rule.declarations (omega arith))
+      (lists_same (whole_forth takes) (λ i j p h. whole_back_at i j p h.1 h.0 (before_or_from m i)) (listed_part (IsStated tree n rules) m rule.declarations ps lists (length rule.declarations) (omega arith)))
 
-  skipped_at : (i j : ℕ) (p : Property) → (HasPlacement tree rule.components n → ⊥) → IsStated tree n rules i j p → i < m + 1 → (i < m) ⊎ (m ≤ i) → Before (IsStated tree n rules) m i j p
+  skipped_at : (i j : ℕ) (p : StyleDeclaration) → (HasPlacement tree rule.components n → ⊥) → IsStated tree n rules i j p → i < m + 1 → (i < m) ⊎ (m ≤ i) → Before (IsStated tree n rules) m i j p
   skipped_at i j p not_taken stated within (inl lt) = (lt, stated)
   skipped_at i j p not_taken stated within (inr le) =
       let e : i ≡ m = omega (arith, within, le) in
       absurd (not_taken (stated_takes tree n rules m rule at i j p e stated))
 
   -- the rule has none: nothing is
-  pub lists_skip : {ps : List Property} → (HasPlacement tree rule.components n → ⊥) → ListsInOrder (Before (IsStated tree n rules) m) ps → ListsInOrder (Before (IsStated tree n rules) (m + 1)) ps
+  pub lists_skip : {ps : List StyleDeclaration} → (HasPlacement tree rule.components n → ⊥) → ListsInOrder (Before (IsStated tree n rules) m) ps → ListsInOrder (Before (IsStated tree n rules) (m + 1)) ps
   lists_skip not_taken lists = lists_same (λ i j p h. (let lt = h.0 in omega (arith, lt), h.1)) (λ i j p h. skipped_at i j p not_taken h.1 h.0 (before_or_from m i)) lists
 
-pub lists_all : {Node : Type 0} (tree : Tree Node) (n : Node) (rules : List StyleRule) (m : ℕ) {ps : List Property} → length rules ≤ m → ListsInOrder (Before (IsStated tree n rules) m) ps → ListsInOrder (IsStated tree n rules) ps
+pub lists_all : {Node : Type 0} (tree : Tree Node) (n : Node) (rules : List StyleRule) (m : ℕ) {ps : List StyleDeclaration} → length rules ≤ m → ListsInOrder (Before (IsStated tree n rules) m) ps → ListsInOrder (IsStated tree n rules) ps
 lists_all tree n rules m all lists =
     lists_same (λ i j p h. h.1) (λ i j p h. (let within = slice_get_within rules i h.rule h.rule_at in omega (arith, within, all), h)) lists

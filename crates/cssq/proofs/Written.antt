@@ -4,7 +4,7 @@ use Rattle.std.proofs.lemmas.Grind.{common_steps}
 use Rattle.std.specs.Prelude.{Result, Ok, Err, OnOk, OnErr, IfErr}
 use Rattle.cssq.specs.declared.runs.RunFault.{RunFault}
 use Rattle.cssq.specs.declared.runs.RunFault.TheVariants.{Refused, Tree, Memory, Output}
-use Rattle.cssq.specs.Outcomes.{AppendsProperPart, Runs}
+use Rattle.cssq.specs.Writing.{AppendsProperPart, Writes}
 use Rattle.std.specs.Io.KnownBytes.{Appends}
 use Rattle.std.proofs.KnownBytes.{Appends-trans}
 
@@ -21,7 +21,7 @@ wrote_more bytes front rest n a b c whole wrote took = (
 
 -- what `write_out` leaves, where the bytes are due
 pub runs_written : (IsDue : Result (List ℕ) RunFault → Type 0) (bytes : List ℕ) (r : Result (Unit {0}) RunFault) (old new : Option (List ℕ)) → IsDue (Ok bytes)
-    → OnOk r (Appends old new bytes) → OnErr r (AppendsProperPart old new bytes) → IfErr r (λ fault. fault ≡ Output) → Runs IsDue r old new
+    → OnOk r (Appends old new bytes) → OnErr r (AppendsProperPart old new bytes) → IfErr r (λ fault. fault ≡ Output) → Writes IsDue r old new
 runs_written IsDue bytes (Ok x) old new due ok err fault = (bytes, due, ok)
 runs_written IsDue bytes (Err Output) old new due ok err fault = (bytes, due, err)
 runs_written IsDue bytes (Err Memory) old new due ok err fault = absurd (cc)

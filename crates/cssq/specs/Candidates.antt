@@ -1,7 +1,7 @@
 -- What wins within one rule or one list, and what a rule that is passed over says.
 use Rattle.std.specs.Prelude.{◌≡◌, ℕ, ◌<◌, ◌≤◌, Bool, true, false, not, ◌&&◌, if◌then◌else◌, List, Option, None, Some}
 use Rattle.std.specs.List.{slice_get}
-use Rattle.simplecss.specs.Declarations.{Property}
+use Rattle.simplecss.specs.Declarations.{StyleDeclaration}
 use Rattle.simplecss.specs.Statements.{StyleRule}
 use Rattle.simplecss.specs.Trees.{Tree}
 use Rattle.simplecss.specs.Placements.{HasPlacement}
@@ -12,24 +12,24 @@ use Rattle.std.specs.Cmp.Lexicographic.{slice_cmp}
 use Rattle.cssq.specs.Winners.{Standing, weight, Wins, WinsAt, NoneStands}
 
 -- the declarations of one rule, which is at place i
-abbrev pub InRule : ℕ → List Property → Standing
-InRule i properties k l q = (k ≡ i) × (slice_get properties l ≡ Some q)
+abbrev pub InRule : ℕ → List StyleDeclaration → Standing
+InRule i declarations k l q = (k ≡ i) × (slice_get declarations l ≡ Some q)
 
 -- the later, unless the earlier alone is important
-abbrev pub better_of : Option Property → Property → Property
+abbrev pub better_of : Option StyleDeclaration → StyleDeclaration → StyleDeclaration
 better_of None later = later
 better_of (Some earlier) later = if earlier.important && not later.important then earlier else later
 
 -- the rule has a placement on the node, and this is what wins in it, whatever the rule's place
-pub record IsCandidate {Node : Type 0} (tree : Tree Node) (n : Node) (rule : StyleRule) (name : List ℕ) (p : Property) : Type 0 where
+pub record IsCandidate {Node : Type 0} (tree : Tree Node) (n : Node) (rule : StyleRule) (name : List ℕ) (p : StyleDeclaration) : Type 0 where
   pub takes : HasPlacement tree rule.components n
-  pub best : (i : ℕ) → Wins (InRule i rule.properties) name (Some p)
+  pub best : (i : ℕ) → Wins (InRule i rule.declarations) name (Some p)
 
 -- whatever declaration of the name the rule has, one of a later rule is known, and this one is not
 -- important
 abbrev pub IsOutdone : StyleRule → List ℕ → Bool → Type 0
 IsOutdone rule name is_later_known =
-    (j : ℕ) (p : Property) → slice_get rule.properties j ≡ Some p → p.name ≡ name → (is_later_known ≡ true) × (p.important ≡ false)
+    (j : ℕ) (p : StyleDeclaration) → slice_get rule.declarations j ≡ Some p → p.name ≡ name → (is_later_known ≡ true) × (p.important ≡ false)
 
 -- if the rule has a placement on the node, it is outdone
 abbrev pub IsPassedOver : {Node : Type 0} → Tree Node → Node → StyleRule → List ℕ → Bool → Type 0
@@ -39,19 +39,19 @@ IsPassedOver tree n rule name is_later_known = HasPlacement tree rule.components
 abbrev pub place_for : BTreeMap (Bor (List ℕ)) ℕ → List ℕ → Option ℕ
 place_for places name = get_by (λ key. slice_cmp nat_cmp name key.now) places
 
--- the place of what wins for the name among the properties of a list, or none where none has the
+-- the place of what wins for the name among the declarations of a list, or none where none has the
 -- name
-abbrev pub IsBestPlace : List Property → List ℕ → Option ℕ → Type 0
-IsBestPlace properties name None = NoneStands (InRule 0 properties) name
-IsBestPlace properties name (Some k) = (p : Property) × WinsAt (InRule 0 properties) name 0 k p
+abbrev pub IsBestPlace : List StyleDeclaration → List ℕ → Option ℕ → Type 0
+IsBestPlace declarations name None = NoneStands (InRule 0 declarations) name
+IsBestPlace declarations name (Some k) = (p : StyleDeclaration) × WinsAt (InRule 0 declarations) name 0 k p
 
 -- the map has for each name the place of what wins for it
-abbrev pub HasBestPlaces : BTreeMap (Bor (List ℕ)) ℕ → List Property → Type 0
-HasBestPlaces places properties = (name : List ℕ) → IsBestPlace properties name (place_for places name)
+abbrev pub HasBestPlaces : BTreeMap (Bor (List ℕ)) ℕ → List StyleDeclaration → Type 0
+HasBestPlaces places declarations = (name : List ℕ) → IsBestPlace declarations name (place_for places name)
 
 -- whether the later takes over from what stands at the known place, if one is known: it is no
 -- lighter
-abbrev pub TellsWhether : Bool → List Property → Option ℕ → Property → Type 0
-TellsWhether takes_over properties None later = takes_over ≡ true
-TellsWhether true properties (Some k) later = (p : Property) → slice_get properties k ≡ Some p → weight p.important ≤ weight later.important
-TellsWhether false properties (Some k) later = (p : Property) → slice_get properties k ≡ Some p → weight later.important < weight p.important
+abbrev pub TellsWhether : Bool → List StyleDeclaration → Option ℕ → StyleDeclaration → Type 0
+TellsWhether takes_over declarations None later = takes_over ≡ true
+TellsWhether true declarations (Some k) later = (p : StyleDeclaration) → slice_get declarations k ≡ Some p → weight p.important ≤ weight later.important
+TellsWhether false declarations (Some k) later = (p : StyleDeclaration) → slice_get declarations k ≡ Some p → weight later.important < weight p.important

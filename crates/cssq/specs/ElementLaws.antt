@@ -10,8 +10,8 @@ use Rattle.std.proofs.lemmas.Grind.{common_steps}
 use Rattle.simplecss.specs.Keys.{TellsKeys}
 use Rattle.simplecss.specs.Keys.Key.{by_id, by_class, by_name, by_nothing}
 use Rattle.simplecss.specs.Trees.{DepthCountsAncestors, SiblingsShareParent}
-use Rattle.cssq.specs.Relatives.{depths_of, last_place, parent_place, nearest_place, previous_place}
-use Rattle.cssq.specs.Nodes.{Spot, spot, parent_of, ancestors_within, depth_of, page_tree, told_of}
+use Rattle.cssq.specs.ParentsAndSiblings.{depths_of, last_place, parent_place, nearest_place, previous_place}
+use Rattle.cssq.specs.Nodes.{Spot, spot, parent_of, ancestors_within, ancestor_count, page_tree, told_of}
 use Rattle.cssq.specs.Siblings.{equal_near, equal_at, previous_is, parent_within, nearest_before}
 
 -- the ancestors from the parent on
@@ -45,7 +45,7 @@ enough (suc m) (suc n) depths place lt lt' =
     ∙ sym (above_at n depths place (parent_place depths place) refl)
 
 counted : (x : Spot) (r : Option ℕ) → parent_place (depths_of x.rows) x.place ≡ r
-    → MatchOption (option_map (spot x.rows) r) (depth_of x ≡ 0) (λ p. depth_of x ≡ depth_of p + 1)
+    → MatchOption (option_map (spot x.rows) r) (ancestor_count x ≡ 0) (λ p. ancestor_count x ≡ ancestor_count p + 1)
 counted x None is = above_at x.place (depths_of x.rows) x.place None is
 counted x (Some j) is =
     let before : j < x.place = subst (λ r. IfSome r (λ j. j < x.place)) is (parent_within (depths_of x.rows) x.place) in

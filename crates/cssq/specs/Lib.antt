@@ -1,5 +1,5 @@
 pub mod TreeText
-pub mod Relatives
+pub mod ParentsAndSiblings
 pub mod Nodes
 pub mod Lines
 pub mod Places
@@ -7,7 +7,7 @@ pub mod Siblings
 pub mod ElementLaws
 pub mod Command
 pub mod Faults
-pub mod Outcomes
+pub mod Writing
 pub mod SelectorRuns
 pub mod SheetRuns
 pub mod MatchRuns

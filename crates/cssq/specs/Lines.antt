@@ -6,7 +6,7 @@ use Rattle.cssq.specs.declared.tree.Line.{Line}
 use Rattle.cssq.specs.declared.tree.TreeFault.{TreeFault}
 use Rattle.cssq.specs.declared.tree.TreeFault.TheVariants.{BadDepth, EmptyName, NoEquals, RepeatedKey, Memory}
 use Rattle.cssq.specs.TreeText.{Row, fields_of, fields_in, attribute_of, row_of, faults_of_line}
-use Rattle.cssq.specs.Relatives.{parent_place, previous_place}
+use Rattle.cssq.specs.ParentsAndSiblings.{parent_place, previous_place}
 
 -- what a line says
 abbrev pub row : Entry → Row

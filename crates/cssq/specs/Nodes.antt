@@ -2,13 +2,13 @@
 use Rattle.std.specs.Prelude.{ℕ, zero, suc, ◌+◌, Bool, false, List, [], ◌∷◌, Option, None, Some, if◌then◌else◌, bytes_eq, codes, is_none}
 use Rattle.std.specs.List.{slice_get}
 use Rattle.std.specs.Option.{option_map, option_map_or}
-use Rattle.simplecss.specs.Components.{Operator, Class}
-use Rattle.simplecss.specs.Components.Class.{first_child, link, visited, hover, active, focus, lang}
+use Rattle.simplecss.specs.Components.{Operator, KnownPseudoClass}
+use Rattle.simplecss.specs.Components.KnownPseudoClass.{first_child, link, visited, hover, active, focus, lang}
 use Rattle.simplecss.specs.Keys.{Told}
 use Rattle.simplecss.specs.Trees.{Tree}
 use Rattle.simplecss.specs.Operators.{is_as_asked}
 use Rattle.cssq.specs.TreeText.{Row}
-use Rattle.cssq.specs.Relatives.{depths_of, parent_place, previous_place}
+use Rattle.cssq.specs.ParentsAndSiblings.{depths_of, parent_place, previous_place}
 
 -- a place among the rows
 pub record Spot : Type 0 where
@@ -33,8 +33,8 @@ ancestors_within zero depths place = 0
 ancestors_within (suc steps) depths place = elim (parent_place depths place) [ None ↦ 0 | Some parent ↦ ancestors_within steps depths parent + 1 ]
 
 -- the number of the ancestors
-abbrev pub depth_of : Spot → ℕ
-depth_of s = ancestors_within (suc s.place) (depths_of s.rows) s.place
+abbrev pub ancestor_count : Spot → ℕ
+ancestor_count s = ancestors_within (suc s.place) (depths_of s.rows) s.place
 
 -- the name of the element at a place
 abbrev pub name_at : List Row → ℕ → List ℕ
@@ -58,7 +58,7 @@ abbrev pub meets_operator : Spot → List ℕ → Operator → Bool
 meets_operator s key operator = option_map_or (is_as_asked operator) (attribute_at s.rows s.place key) false
 
 -- the first child has no previous sibling; an element is in no other state
-abbrev pub is_in : Spot → Class → Bool
+abbrev pub is_in : Spot → KnownPseudoClass → Bool
 is_in s first_child = is_none (previous_place (depths_of s.rows) s.place)
 is_in s link = false
 is_in s visited = false
@@ -72,10 +72,10 @@ abbrev pub page_tree : Tree Spot
 page_tree = record {
   parent = parent_of;
   previous_sibling = previous_of;
-  depth = depth_of;
+  depth = ancestor_count;
   is_named = has_name;
   has_attribute = meets_operator;
-  is_in_class = is_in;
+  is_in_pseudo_class = is_in;
 }
 
 -- the element's name, and the values of its attributes `id` and `class`

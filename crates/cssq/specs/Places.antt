@@ -5,7 +5,7 @@ use Rattle.std.specs.Prelude.{nat_le, nat_lt}
 use Rattle.std.proofs.lemmas.Bool.{cases_order, both_ways}
 use Rattle.std.proofs.lemmas.Bool.Decides.{nat_tests}
 use Rattle.std.proofs.lemmas.List.{get_or-take, length-take-le}
-use Rattle.cssq.specs.Relatives.{last_place, parent_place}
+use Rattle.cssq.specs.ParentsAndSiblings.{last_place, parent_place}
 
 -- r is the last place of xs at which the test passes, if there is one
 abbrev pub IsLast : (ℕ → Bool) → List ℕ → Option ℕ → Type 0

@@ -6,7 +6,7 @@ use Rattle.std.proofs.lemmas.Bool.{cases_order}
 use Rattle.std.proofs.lemmas.Bool.Decides.{nat_tests}
 use Rattle.std.proofs.lemmas.Grind.{common_steps}
 use Rattle.std.proofs.lemmas.List.{take-append-le, take_all, length-take, length-take-le, get_or-take}
-use Rattle.cssq.specs.Relatives.{last_place, parent_place, nearest_place, previous_place}
+use Rattle.cssq.specs.ParentsAndSiblings.{last_place, parent_place, nearest_place, previous_place}
 use Rattle.cssq.specs.Places.{IsLast, last_place_is, last_place_of}
 
 module _ (ds : List ℕ) (d : ℕ) where

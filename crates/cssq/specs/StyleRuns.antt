@@ -1,7 +1,7 @@
 -- What a run over a sheet, a tree and a name is to write.
 use Rattle.std.specs.Prelude.{◌≡◌, ℕ, ◌+◌, length, Bool, true, false, List, [], ◌∷◌, ◌++◌, decimal, codes, Option, None, Some, Result, Ok, Err}
 use Rattle.simplecss.specs.ThisEdition.{this_edition}
-use Rattle.simplecss.specs.Declarations.{Property}
+use Rattle.simplecss.specs.Declarations.{StyleDeclaration}
 use Rattle.simplecss.specs.Statements.{StyleRule}
 use Rattle.simplecss.specs.Sheets.{sheet}
 use Rattle.cssq.specs.declared.runs.RunFault.{RunFault}
@@ -17,18 +17,18 @@ mark true = codes " !important"
 mark false = []
 
 -- a space, the value, and the mark of an important one; nothing where none wins
-abbrev pub winner_text : Option Property → List ℕ
+abbrev pub winner_text : Option StyleDeclaration → List ℕ
 winner_text None = []
 winner_text (Some p) = 32 ∷ (p.value ++ mark p.important)
 
 -- an element's number, a colon, what wins there, and a newline
-abbrev pub style_line : ℕ → Option Property → List ℕ
+abbrev pub style_line : ℕ → Option StyleDeclaration → List ℕ
 style_line number winner = decimal number ++ (58 ∷ (winner_text winner ++ 10 ∷ []))
 
 -- the line of the element at a place
 abbrev pub IsStyleLineOf : List ℕ → List StyleRule → List Row → ℕ → List ℕ → Type 0
 IsStyleLineOf name rules rows place line =
-    (winner : Option Property) × Wins (IsStated page_tree (spot rows place) rules) name winner × (line ≡ style_line (place + 1) winner)
+    (winner : Option StyleDeclaration) × Wins (IsStated page_tree (spot rows place) rules) name winner × (line ≡ style_line (place + 1) winner)
 
 -- the lines of all elements, in turn
 abbrev pub IsStyleText : List ℕ → List StyleRule → List Row → List ℕ → Type 0

@@ -85,12 +85,12 @@ is_depth [] = false
 is_depth (c ∷ cs) = if c == 48 then length cs == 0 else list_all is_ascii_digit (c ∷ cs)
 
 -- the depth that a field spells, where that is at most the limit
-abbrev pub depth_of : ℕ → List ℕ → Option ℕ
-depth_of limit field = if is_depth field && nat_le (digits_value 10 field) limit then Some (digits_value 10 field) else None
+abbrev pub spelled_depth : ℕ → List ℕ → Option ℕ
+spelled_depth limit field = if is_depth field && nat_le (digits_value 10 field) limit then Some (digits_value 10 field) else None
 
 -- the first field is no depth, or one above the limit
 abbrev pub depth_fault : ℕ → ℕ → List (List ℕ) → Option TreeFault
-depth_fault number limit fields = if is_none (depth_of limit (depth_text fields)) then Some (BadDepth number) else None
+depth_fault number limit fields = if is_none (spelled_depth limit (depth_text fields)) then Some (BadDepth number) else None
 
 -- the name is missing or empty
 abbrev pub name_fault : ℕ → List (List ℕ) → Option TreeFault

@@ -1,22 +1,22 @@
 -- Which declarations win on an element: the cascade (CSS 2.1 section 6.4.1) within one style sheet.
 use Rattle.std.specs.Prelude.{◌≡◌, ◌⊎◌, ℕ, ◌<◌, Bool, true, false, List, map, Option, None, Some}
 use Rattle.std.specs.List.{slice_get}
-use Rattle.simplecss.specs.Declarations.{Property}
+use Rattle.simplecss.specs.Declarations.{StyleDeclaration}
 use Rattle.simplecss.specs.Statements.{StyleRule}
 use Rattle.simplecss.specs.Trees.{Tree}
 use Rattle.simplecss.specs.Placements.{HasPlacement}
 
 -- Where declarations stand: of which rule's place and which place in it, and which of them.
 abbrev pub Standing : Type 1
-Standing = ℕ → ℕ → Property → Type 0
+Standing = ℕ → ℕ → StyleDeclaration → Type 0
 
--- The property is the declaration at place j of the rule at place i, and this rule has a placement
+-- The declaration stands at place j of the rule at place i, and this rule has a placement
 -- on the node.
-pub record IsStated {Node : Type 0} (tree : Tree Node) (n : Node) (rules : List StyleRule) (i j : ℕ) (p : Property) : Type 0 where
+pub record IsStated {Node : Type 0} (tree : Tree Node) (n : Node) (rules : List StyleRule) (i j : ℕ) (p : StyleDeclaration) : Type 0 where
   pub rule : StyleRule
   pub rule_at : slice_get rules i ≡ Some rule
   pub takes : HasPlacement tree rule.components n
-  pub declared : slice_get rule.properties j ≡ Some p
+  pub declared : slice_get rule.declarations j ≡ Some p
 
 -- an important declaration weighs more
 abbrev pub weight : Bool → ℕ
@@ -26,30 +26,30 @@ weight false = 0
 -- A declaration x at place j of the rule at place i beats y at place l of the rule at place k: x is
 -- more important; or as important and of a later rule; or as important, of the same rule, and later
 -- in it.
-pub data Beats (x : Property) (i j : ℕ) (y : Property) (k l : ℕ) : Type 0 where
+pub data Beats (x : StyleDeclaration) (i j : ℕ) (y : StyleDeclaration) (k l : ℕ) : Type 0 where
   by_importance : weight y.important < weight x.important → Beats x i j y k l
   by_rule : weight x.important ≡ weight y.important → k < i → Beats x i j y k l
   by_place : weight x.important ≡ weight y.important → k ≡ i → l < j → Beats x i j y k l
 
--- The property of the name stands at this place, and no other of the name that stands somewhere
+-- The declaration of the name stands at this place, and no other of the name that stands somewhere
 -- beats it there.
-pub record WinsAt (stands : Standing) (name : List ℕ) (i j : ℕ) (p : Property) : Type 0 where
+pub record WinsAt (stands : Standing) (name : List ℕ) (i j : ℕ) (p : StyleDeclaration) : Type 0 where
   pub stated : stands i j p
   pub named : p.name ≡ name
-  pub unbeaten : (k l : ℕ) (q : Property) → stands k l q → q.name ≡ name → Beats q k l p i j → ⊥
+  pub unbeaten : (k l : ℕ) (q : StyleDeclaration) → stands k l q → q.name ≡ name → Beats q k l p i j → ⊥
 
 -- none of the name stands anywhere
 abbrev pub NoneStands : Standing → List ℕ → Type 0
-NoneStands stands name = (i j : ℕ) (p : Property) → stands i j p → p.name ≡ name → ⊥
+NoneStands stands name = (i j : ℕ) (p : StyleDeclaration) → stands i j p → p.name ≡ name → ⊥
 
 -- what wins, or none where none of the name stands anywhere
-abbrev pub Wins : Standing → List ℕ → Option Property → Type 0
+abbrev pub Wins : Standing → List ℕ → Option StyleDeclaration → Type 0
 Wins stands name None = NoneStands stands name
 Wins stands name (Some p) = (i : ℕ) × (j : ℕ) × WinsAt stands name i j p
 
 -- Among the declarations of a name in the rules that have a placement on the node, a winner is one
 -- that no other beats.
-abbrev pub IsWinner : {Node : Type 0} → Tree Node → Node → List ℕ → List StyleRule → Property → Type 0
+abbrev pub IsWinner : {Node : Type 0} → Tree Node → Node → List ℕ → List StyleRule → StyleDeclaration → Type 0
 IsWinner tree n name rules p = Wins (IsStated tree n rules) name (Some p)
 
 -- no rule that has a placement on the node has a declaration of the name
@@ -64,23 +64,23 @@ WinsForItsName tree n rules i j p = WinsAt (IsStated tree n rules) p.name i j p
 pub record Placed : Type 0 where
   pub rule : ℕ
   pub place : ℕ
-  pub property : Property
+  pub declaration : StyleDeclaration
 
 -- the place k of rule i is before the place l of rule j
 abbrev pub IsEarlier : ℕ → ℕ → ℕ → ℕ → Type 0
 IsEarlier i k j l = (i < j) ⊎ ((i ≡ j) × (k < l))
 
--- The properties are all that stand somewhere, once for each place at which one does, in the order
+-- The declarations are all that stand somewhere, once for each place at which one does, in the order
 -- of their places.
-pub record ListsInOrder (stands : Standing) (properties : List Property) : Type 0 where
+pub record ListsInOrder (stands : Standing) (declarations : List StyleDeclaration) : Type 0 where
   pub placed : List Placed
-  pub are : map (λ a. a.property) placed ≡ properties
-  pub stand : (k : ℕ) (a : Placed) → slice_get placed k ≡ Some a → stands a.rule a.place a.property
+  pub are : map (λ a. a.declaration) placed ≡ declarations
+  pub stand : (k : ℕ) (a : Placed) → slice_get placed k ≡ Some a → stands a.rule a.place a.declaration
   pub rise : (k l : ℕ) (a b : Placed) → k < l → slice_get placed k ≡ Some a → slice_get placed l ≡ Some b
       → IsEarlier a.rule a.place b.rule b.place
-  pub all : (i j : ℕ) (p : Property) → stands i j p
-      → (k : ℕ) × (slice_get placed k ≡ Some (record { rule = i; place = j; property = p }))
+  pub all : (i j : ℕ) (p : StyleDeclaration) → stands i j p
+      → (k : ℕ) × (slice_get placed k ≡ Some (record { rule = i; place = j; declaration = p }))
 
--- no two of the properties have one name
-abbrev pub HaveOwnNames : List Property → Type 0
-HaveOwnNames properties = (k l : ℕ) (p q : Property) → k < l → slice_get properties k ≡ Some p → slice_get properties l ≡ Some q → p.name ≡ q.name → ⊥
+-- no two of the declarations have one name
+abbrev pub HaveOwnNames : List StyleDeclaration → Type 0
+HaveOwnNames declarations = (k l : ℕ) (p q : StyleDeclaration) → k < l → slice_get declarations k ≡ Some p → slice_get declarations l ≡ Some q → p.name ≡ q.name → ⊥

@@ -3,9 +3,9 @@
 ghost use Rattle.std.specs.Prelude.{◌≡◌, ◌↔◌, ℕ, ◌<◌, length, map, Contains, IfOk, IfSome, IsNone};
 ghost use Rattle.std.specs.Prelude.{IsTrue, Some};
 ghost use Rattle.std.specs.Option.{option_map};
-ghost use Rattle.simplecss.specs.Declarations.{Property};
-ghost use Rattle.simplecss.specs.Properties.{property_of, properties_of};
-ghost use Rattle.simplecss.specs.StyleRules.{rule_of, rules_of, rules_in};
+ghost use Rattle.simplecss.specs.Declarations.{StyleDeclaration};
+ghost use Rattle.simplecss.specs.SeenDeclarations.{declaration_of, declarations_of};
+ghost use Rattle.simplecss.specs.SeenRules.{rule_of, rules_of, rules_in};
 ghost use Rattle.cssq.specs.Winners.{Wins, IsStated, IsWinner, HasNoWinner, WinsForItsName};
 ghost use Rattle.cssq.specs.Winners.{ListsInOrder, HaveOwnNames};
 ghost use Rattle.cssq.specs.Candidates.{better_of, InRule, IsCandidate, IsOutdone, IsPassedOver};
@@ -18,8 +18,8 @@ use std::collections::BTreeMap;
 
 /// The later of two declarations of a rule, unless the earlier alone is important.
 fn better_of<'a>(earlier: Option<Declaration<'a>>, later: Declaration<'a>) -> Declaration<'a>
-    ensures { property_of result
-        ≡ better_of (option_map property_of earlier.entry) (property_of later.entry) }
+    ensures { declaration_of result
+        ≡ better_of (option_map declaration_of earlier.entry) (declaration_of later.entry) }
 {
     match earlier {
         Some(first) if first.important && !later.important => first,
@@ -31,8 +31,8 @@ fn better_of<'a>(earlier: Option<Declaration<'a>>, later: Declaration<'a>) -> De
 /// last.
 fn best_of<'a>(declarations: &[Declaration<'a>], name: &str) -> Option<Declaration<'a>>
     // Whatever the rule's place.
-    ensures { (i : ℕ) → Wins (InRule i (properties_of declarations.now)) name.now
-        (option_map property_of result) }
+    ensures { (i : ℕ) → Wins (InRule i (declarations_of declarations.now)) name.now
+        (option_map declaration_of result) }
 {
     let mut best: Option<Declaration<'a>> = None;
     for declaration in declarations {
@@ -47,7 +47,7 @@ fn best_of<'a>(declarations: &[Declaration<'a>], name: &str) -> Option<Declarati
 /// this one is not important.
 fn contender<'a>(rule: &Rule<'a>, name: &str, is_later_known: bool) -> Option<Declaration<'a>>
     ensures best { IfSome result (λ best. (i : ℕ)
-        → Wins (InRule i (rule_of rule.now).properties) name.now (Some (property_of best))) }
+        → Wins (InRule i (rule_of rule.now).declarations) name.now (Some (declaration_of best))) }
     ensures important { IsTrue is_later_known → IfSome result (λ best. IsTrue best.important) }
     ensures outdone { IsNone result → IsOutdone (rule_of rule.now) name.now is_later_known }
 {
@@ -67,7 +67,7 @@ fn candidate<'a, E: Element>(
     is_later_known: bool,
 ) -> Option<Declaration<'a>>
     ensures found { IfSome result (λ best.
-        IsCandidate E.tree (E.node element.now) (rule_of rule.now) name.now (property_of best)) }
+        IsCandidate E.tree (E.node element.now) (rule_of rule.now) name.now (declaration_of best)) }
     ensures important { IsTrue is_later_known → IfSome result (λ best. IsTrue best.important) }
     ensures passed_over { IsNone result
         → IsPassedOver E.tree (E.node element.now) (rule_of rule.now) name.now is_later_known }
@@ -91,14 +91,14 @@ pub fn winning<'a, E: Element>(
     name: &str,
 ) -> Option<Declaration<'a>>
     ensures winner { IfSome result
-        (λ d. IsWinner E.tree (E.node element.now) name.now (rules_in sheet.now) (property_of d)) }
+        (λ d. IsWinner E.tree (E.node element.now) name.now (rules_in sheet.now) (declaration_of d)) }
     ensures none { IsNone result
         ↔ HasNoWinner E.tree (E.node element.now) name.now (rules_in sheet.now) }
 
     // And there is no other winner.
-    ensures only { (p : Property)
+    ensures only { (p : StyleDeclaration)
         → IsWinner E.tree (E.node element.now) name.now (rules_in sheet.now) p
-        ↔ (option_map property_of result ≡ Some p) }
+        ↔ (option_map declaration_of result ≡ Some p) }
 {
     let rules = sheet.rules.as_slice();
     let mut winner: Option<Declaration<'a>> = None;
@@ -126,7 +126,7 @@ pub(crate) fn winning_by<'a, E: Keyed>(
     requires { index.now ≡ map (λ rule. rule.selector) rules.now }
     ensures { IfOk result (λ winner.
         Wins (IsStated E.tree (E.node element.now) (rules_of rules.now)) name.now
-        (option_map property_of winner)) }
+        (option_map declaration_of winner)) }
 {
     index.matching(rules, element, places)?;
     let places = places.as_slice();
@@ -151,7 +151,7 @@ fn stated_on<'a, E: Element>(
 ) -> Result<Vec<Declaration<'a>>, AllocError>
     ensures { IfOk result
         (λ all. ListsInOrder (IsStated E.tree (E.node element.now) (rules_of rules.now))
-        (properties_of all.items)) }
+        (declarations_of all.items)) }
 {
     let mut all = Vec::new(alloc);
     for rule in rules {
@@ -170,7 +170,7 @@ fn takes_over(
     later: &Declaration<'_>,
 ) -> bool
     requires { IfSome known (λ k. k < length declarations.now) }
-    ensures { TellsWhether result (properties_of declarations.now) known (property_of later.now) }
+    ensures { TellsWhether result (declarations_of declarations.now) known (declaration_of later.now) }
 {
     let Some(place) = known else {
         return true;
@@ -183,7 +183,7 @@ fn best_places<'a>(
     alloc: Global,
     declarations: &[Declaration<'a>],
 ) -> Result<BTreeMap<&'a str, usize>, AllocError>
-    ensures { IfOk result (λ places. HasBestPlaces places (properties_of declarations.now)) }
+    ensures { IfOk result (λ places. HasBestPlaces places (declarations_of declarations.now)) }
 {
     let mut places: BTreeMap<&'a str, usize> = BTreeMap::new(alloc);
     for (place, declaration) in declarations.iter().enumerate() {
@@ -206,12 +206,12 @@ pub fn winners<'a, E: Element>(
 ) -> Result<Vec<Declaration<'a>>, AllocError>
     ensures order { IfOk result (λ all.
         ListsInOrder (WinsForItsName E.tree (E.node element.now) (rules_in sheet.now))
-        (properties_of all.items)) }
+        (declarations_of all.items)) }
 
     // So it has what wins for each name, and each name once.
-    ensures winners { IfOk result (λ all. (p : Property) → Contains (properties_of all.items) p
+    ensures winners { IfOk result (λ all. (p : StyleDeclaration) → Contains (declarations_of all.items) p
         ↔ IsWinner E.tree (E.node element.now) p.name (rules_in sheet.now) p) }
-    ensures names { IfOk result (λ all. HaveOwnNames (properties_of all.items)) }
+    ensures names { IfOk result (λ all. HaveOwnNames (declarations_of all.items)) }
 {
     let stated = stated_on(alloc, &sheet.rules, element)?;
     let places = best_places(alloc, &stated)?;

@@ -5,16 +5,16 @@ ghost use Rattle.std.specs.Prelude.{string_bytes, map, decimal};
 ghost use Rattle.std.specs.Option.{option_map};
 ghost use Rattle.std.specs.Fmt.{WritesStyledOnOk};
 ghost use Rattle.std.specs.Io.KnownBytes.{Appends};
-ghost use Rattle.cssq.specs.Outcomes.{AppendsProperPart, Runs};
+ghost use Rattle.cssq.specs.Writing.{AppendsProperPart, Writes};
 ghost use Rattle.cssq.specs.Faults.{status_of, message_of, run_fault};
 ghost use Rattle.cssq.specs.SelectorRuns.{selector_line, IsSelectorRun};
 ghost use Rattle.cssq.specs.SheetRuns.{sheet_output, IsSheetRun};
 ghost use Rattle.cssq.specs.MatchRuns.{numbers_line, IsMatchText, IsMatchRun};
 ghost use Rattle.cssq.specs.StyleRuns.{style_line, IsStyleText, IsStyleRun};
 ghost use Rattle.cssq.specs.declared.runs.RunFault.TheVariants.{Memory};
-ghost use Rattle.simplecss.specs.Properties.{property_of};
+ghost use Rattle.simplecss.specs.SeenDeclarations.{declaration_of};
 ghost use Rattle.simplecss.specs.Sheets.{sheet};
-ghost use Rattle.simplecss.specs.StyleRules.{rules_of, rules_in};
+ghost use Rattle.simplecss.specs.SeenRules.{rules_of, rules_in};
 
 use crate::cascade::winning_by;
 use crate::tree::{Page, TreeFault};
@@ -61,7 +61,7 @@ impl fmt::Display for RunFault {
 
     ghost styled_output = { λ fault _. Some (message_of fault) };
 
-    #[tactic(auto, using(crate::proofs::Styled::plain_of_styled))]
+    #[tactic(auto, using(crate::proofs::StyledWrites::plain_of_styled))]
     fn fmt<W: fmt::Write>(&self, f: &mut fmt::Formatter<W>) -> fmt::Result {
         match *self {
             RunFault::Refused => f.write_str("cssq: selector refused"),
@@ -73,7 +73,7 @@ impl fmt::Display for RunFault {
 }
 
 /// Writes the line of a tree's fault: its number and that of the line.
-#[tactic(auto, using(crate::proofs::Styled::styled_four))]
+#[tactic(auto, using(crate::proofs::StyledWrites::styled_four))]
 fn write_tree_fault<W: fmt::Write>(f: &mut fmt::Formatter<W>, fault: TreeFault) -> fmt::Result
     ensures { WritesStyledOnOk W.write_str_gives f.old result
         (message_of (RunFault.Tree fault)) f.new }
@@ -159,7 +159,7 @@ pub fn run_selector<R: Log, W: Write>(
     text: &str,
     out: &mut W,
 ) -> Result<(), RunFault>
-    ensures { Runs (IsSelectorRun text.now) result (W.contents out.old) (W.contents out.new) }
+    ensures { Writes (IsSelectorRun text.now) result (W.contents out.old) (W.contents out.new) }
 {
     let Some(selector) = Selector::parse(rt, alloc, text)? else {
         return Err(RunFault::Refused);
@@ -190,7 +190,7 @@ pub fn run_sheet<R: Log, W: Write>(
     texts: &[&str],
     out: &mut W,
 ) -> Result<(), RunFault>
-    ensures { Runs (IsSheetRun (map (λ text. text.now) texts.now)) result (W.contents out.old)
+    ensures { Writes (IsSheetRun (map (λ text. text.now) texts.now)) result (W.contents out.old)
         (W.contents out.new) }
 {
     let sheet = StyleSheet::parse_all(rt, alloc, texts)?;
@@ -242,7 +242,7 @@ pub fn run_match<R: Log, W: Write>(
     tree: &str,
     out: &mut W,
 ) -> Result<(), RunFault>
-    ensures { Runs (IsMatchRun sheet.now tree.now) result (W.contents out.old)
+    ensures { Writes (IsMatchRun sheet.now tree.now) result (W.contents out.old)
         (W.contents out.new) }
 {
     let sheet = StyleSheet::parse(rt, alloc, sheet)?;
@@ -259,7 +259,7 @@ fn push_winner(
     winner: Option<Declaration<'_>>,
 ) -> Result<(), AllocError>
     ensures { OnOk result (string_bytes out.new
-        ≡ string_bytes out.old ++ style_line number (option_map property_of winner.entry)) }
+        ≡ string_bytes out.old ++ style_line number (option_map declaration_of winner.entry)) }
 {
     write!(out, "{number}:")?;
     if let Some(declaration) = winner {
@@ -310,7 +310,7 @@ pub fn run_style<R: Log, W: Write>(
     name: &str,
     out: &mut W,
 ) -> Result<(), RunFault>
-    ensures { Runs (IsStyleRun sheet.now tree.now name.now) result (W.contents out.old)
+    ensures { Writes (IsStyleRun sheet.now tree.now name.now) result (W.contents out.old)
         (W.contents out.new) }
 {
     let sheet = StyleSheet::parse(rt, alloc, sheet)?;

@@ -6,10 +6,10 @@ ghost use Rattle.std.specs.Prelude.{option_map};
 ghost use Rattle.std.specs.List.{list_all, slice_get};
 ghost use Rattle.std.specs.Char.{is_ascii_digit};
 ghost use Rattle.cssq.specs.TreeText.{attribute_of, fields_in, fields_of, has_equals, key_of};
-ghost use Rattle.cssq.specs.TreeText.{value_of, lines_of, is_depth, depth_of, has_key};
+ghost use Rattle.cssq.specs.TreeText.{value_of, lines_of, is_depth, spelled_depth, has_key};
 ghost use Rattle.cssq.specs.TreeText.{field_faults, fault_number, fault_line, faults_of_line};
 ghost use Rattle.cssq.specs.TreeText.{tree_of, IsFaultOf};
-ghost use Rattle.cssq.specs.Relatives.{depths_of, last_place, parent_place, previous_place};
+ghost use Rattle.cssq.specs.ParentsAndSiblings.{depths_of, last_place, parent_place, previous_place};
 ghost use Rattle.cssq.specs.Nodes.{spot, name_at, attribute_at, value_in};
 ghost use Rattle.cssq.specs.Lines.{depths, AreLinked, IsToldOf, Says};
 
@@ -127,8 +127,8 @@ fn are_digits(bytes: &[u8]) -> bool
 
 /// The depth that the field spells, where that is at most the limit.
 #[tactic(auto, using(crate::proofs::Depths::depth_other))]
-fn depth_of(field: &str, limit: usize) -> Option<usize>
-    ensures value { result ≡ depth_of limit field.now }
+fn spelled_depth(field: &str, limit: usize) -> Option<usize>
+    ensures value { result ≡ spelled_depth limit field.now }
     ensures within { IfSome result (λ depth. depth ≤ limit) }
 {
     if !is_depth(field) {
@@ -277,7 +277,7 @@ fn read_line(alloc: Global, number: usize, limit: usize, line: &str) -> Result<E
     ensures within { IfOk result (λ e. e.depth ≤ limit) }
 {
     let (depth, rest) = cut_field(line);
-    let Some(depth) = depth_of(depth, limit) else {
+    let Some(depth) = spelled_depth(depth, limit) else {
         return Err(TreeFault::BadDepth(number));
     };
     let Some(rest) = rest else {

@@ -6,12 +6,12 @@ use Rattle.std.specs.Str.{IsCharBoundary}
 use Rattle.simplecss_text.specs.Reading.{Reading, got, fails, found, each, followed_by}
 use Rattle.simplecss_text.specs.Bytes.{past_byte}
 use Rattle.simplecss_text.specs.Characters.{Edition}
-use Rattle.simplecss_text.specs.Declarations.{Property, declaration, next_declaration}
+use Rattle.simplecss_text.specs.Declarations.{StyleDeclaration, declaration, next_declaration}
 use Rattle.simplecss_text.specs.Blocks.{count_of, closes_block, block_end, from_block_end, ends_list, declaration_in_block, past_broken, past_list}
 use Rattle.simplecss_text.proofs.reading.EachLaws.{took, each-none, each-some}
 use Rattle.simplecss_text.proofs.reading.DeclarationLaws.{next_declaration-takes, declaration_in_block-takes}
 use Rattle.simplecss_text.proofs.reading.LeastLaws.{least-is, least-none, least-le, least-passes}
-use Rattle.simplecss_declaration.specs.Answers.{FailsAt}
+use Rattle.simplecss_declaration.specs.UntoldFaults.{FailsAt}
 use Rattle.simplecss.specs.BlockDepths.{closes_at, ClosesFirst, ClosesNowhere}
 use Rattle.simplecss_declaration.proofs.DeclarationLists.{found-none}
 
@@ -111,12 +111,12 @@ boundary_at_block_end text = (
       absurd (omega (arith, brace)),
 )
 
-pub list-some : (edition : Edition) (text rest : List ℕ) (p : Property) → ends_list text ≡ false → declaration edition text ≡ got p rest → each (declaration_in_block edition) text ≡ followed_by p (each (declaration_in_block edition) rest)
+pub list-some : (edition : Edition) (text rest : List ℕ) (p : StyleDeclaration) → ends_list text ≡ false → declaration edition text ≡ got p rest → each (declaration_in_block edition) text ≡ followed_by p (each (declaration_in_block edition) rest)
 list-some edition text rest p e f =
     let read : declaration_in_block edition text ≡ Some (p, rest) = rw e (ap found f) in
     each-some (declaration_in_block edition) (declaration_in_block-takes edition) text rest p read
 
-pub list-less : (edition : Edition) (text rest : List ℕ) (p : Property) → declaration edition text ≡ got p rest → length rest < length text
+pub list-less : (edition : Edition) (text rest : List ℕ) (p : StyleDeclaration) → declaration edition text ≡ got p rest → length rest < length text
 list-less edition text rest p f = took (next_declaration edition) (next_declaration-takes edition) text rest p (ap found f)
 
 pub list-none : (edition : Edition) (text : List ℕ) → ends_list text ≡ true → each (declaration_in_block edition) text ≡ ([], text)
@@ -135,6 +135,6 @@ past_list-end edition text e = rw e refl
 pub past_list-broken : (edition : Edition) (text left : List ℕ) → ends_list text ≡ false → FailsAt (declaration edition text) left → past_list edition text ≡ past_byte 125 (from_block_end left)
 past_list-broken edition text left e h = rw e (by (declaration edition text) h)
   where
-    by : (r : Reading Property) → FailsAt r left → past_broken r ≡ past_byte 125 (from_block_end left)
+    by : (r : Reading StyleDeclaration) → FailsAt r left → past_broken r ≡ past_byte 125 (from_block_end left)
     by (got p rest) h = absurd h
     by (fails fault rest) h = ap (λ (t : List ℕ). past_byte 125 (from_block_end t)) (sym h)

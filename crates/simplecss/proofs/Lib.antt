@@ -1,5 +1,5 @@
 pub use Rattle.simplecss_selector.proofs.KeyLemmas
-pub use Rattle.simplecss_text.proofs.printed.Styled
+pub use Rattle.simplecss_text.proofs.printed.StyledWrites
 pub mod Joins
 pub mod ListLemmas
 pub mod DeclarationEquality

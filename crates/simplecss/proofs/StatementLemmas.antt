@@ -7,7 +7,7 @@ use Rattle.simplecss_text.specs.Bytes.{past_one, starts, after_byte}
 use Rattle.simplecss_text.specs.Characters.{Edition}
 use Rattle.simplecss_text.specs.Comments.{opens_comment, past_blank, blank}
 use Rattle.simplecss_text.specs.Components.{Component}
-use Rattle.simplecss_text.specs.Declarations.{Property}
+use Rattle.simplecss_text.specs.Declarations.{StyleDeclaration}
 use Rattle.simplecss_text.specs.Blocks.{block}
 use Rattle.simplecss_text.specs.Statements.{StyleRule, part, part_and_comma, parts, next_block, statement, ends_statements, next_statement, statements}
 use Rattle.simplecss_text.proofs.reading.EachLaws.{took, option_cases, each-none, each-some}
@@ -60,7 +60,7 @@ pair-of e f = rw (e, f) refl
 -- ---- the block of a rule set
 
 -- the block behind the first opening brace, if there is one
-abbrev block_behind : Edition → Option (List ℕ) → List Property × List ℕ
+abbrev block_behind : Edition → Option (List ℕ) → List StyleDeclaration × List ℕ
 block_behind edition None = ([], [])
 block_behind edition (Some text) = block edition text
 

@@ -9,7 +9,7 @@ use Rattle.simplecss_text.proofs.bytes.GapLaws.{past_blank-again}
 use Rattle.simplecss_text.proofs.reading.TakesLaws.{length-past_blank}
 use Rattle.simplecss.specs.declared.sheet.statement_reader.Statement.{Statement}
 use Rattle.simplecss.specs.SheetPlaces.{StandsNext}
-use Rattle.simplecss.specs.StyleRules.{rules_of}
+use Rattle.simplecss.specs.SeenRules.{rules_of}
 use Rattle.simplecss.proofs.StatementLemmas.{statement-less, pair-of}
 
 module _ (text : List ℕ) (place : ℕ) (s : Statement) (start : drop s.start text ≡ past_blank (drop place text)) (next : next_statement this_edition (drop place text) ≡ Some (statement this_edition (drop s.start text))) (end : drop s.end text ≡ (statement this_edition (drop s.start text)).1) where

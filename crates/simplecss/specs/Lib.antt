@@ -1,22 +1,22 @@
-pub mod StyleRules
+pub mod SeenRules
 pub mod RulePlaces
 pub mod SharedBlocks
 pub mod BlockDepths
 pub mod SheetPlaces
 -- What contracts of the crates below speak of, under the names of this crate.
-pub use Rattle.simplecss_declaration.specs.Answers
-pub use Rattle.simplecss_declaration.specs.Coming
-pub use Rattle.simplecss_declaration.specs.Properties
-pub use Rattle.simplecss_selector.specs.Asked
-pub use Rattle.simplecss_selector.specs.Given
+pub use Rattle.simplecss_declaration.specs.UntoldFaults
+pub use Rattle.simplecss_declaration.specs.DeclarationTokenizers
+pub use Rattle.simplecss_declaration.specs.SeenDeclarations
+pub use Rattle.simplecss_selector.specs.SeenOperators
+pub use Rattle.simplecss_selector.specs.SeenTokens
 pub use Rattle.simplecss_selector.specs.Keys
-pub use Rattle.simplecss_selector.specs.KeyValues
+pub use Rattle.simplecss_selector.specs.SeenKeys
 pub use Rattle.simplecss_selector.specs.ListTrees
 pub use Rattle.simplecss_selector.specs.Meanings
 pub use Rattle.simplecss_selector.specs.Operators
 pub use Rattle.simplecss_selector.specs.Placements
 pub use Rattle.simplecss_selector.specs.Shapes
-pub use Rattle.simplecss_selector.specs.Tokenizer
+pub use Rattle.simplecss_selector.specs.SelectorTokenizers
 pub use Rattle.simplecss_selector.specs.Trees
 pub use Rattle.simplecss_text.specs.Blanks
 pub use Rattle.simplecss_text.specs.Blocks
@@ -37,7 +37,7 @@ pub use Rattle.simplecss_text.specs.Printing
 pub use Rattle.simplecss_text.specs.PrintingLaws
 pub use Rattle.simplecss_text.specs.Ranks
 pub use Rattle.simplecss_text.specs.Reading
-pub use Rattle.simplecss_text.specs.Runs
+pub use Rattle.simplecss_text.specs.ByteTests
 pub use Rattle.simplecss_text.specs.Selectors
 pub use Rattle.simplecss_text.specs.Sheets
 pub use Rattle.simplecss_text.specs.Slices
@@ -46,5 +46,5 @@ pub use Rattle.simplecss_text.specs.Statements
 pub use Rattle.simplecss_text.specs.Strings
 pub use Rattle.simplecss_text.specs.Terms
 pub use Rattle.simplecss_text.specs.ThisEdition
-pub use Rattle.simplecss_text.specs.TokenRuns
+pub use Rattle.simplecss_text.specs.TokenSequences
 pub use Rattle.simplecss_text.specs.Tokens

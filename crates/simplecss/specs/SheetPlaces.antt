@@ -5,7 +5,7 @@ use Rattle.simplecss_text.specs.Comments.{past_blank}
 use Rattle.simplecss_text.specs.Statements.{next_statement}
 use Rattle.simplecss_text.specs.ThisEdition.{this_edition}
 use Rattle.simplecss.specs.declared.sheet.statement_reader.Statement.{Statement}
-use Rattle.simplecss.specs.StyleRules.{rules_of}
+use Rattle.simplecss.specs.SeenRules.{rules_of}
 
 -- The statement is the one that stands next behind a place of the text: it begins behind the blank
 -- there, gives the rules of the grammar, and what is left behind it is what the grammar leaves.

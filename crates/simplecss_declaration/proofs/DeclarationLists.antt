@@ -2,12 +2,12 @@
 use Rattle.std.proofs.Common.{◌≡◌, ℕ, List, [], ◌∷◌, None, refl, ap}
 use Rattle.simplecss_text.specs.Reading.{Reading, got, fails, found, each}
 use Rattle.simplecss_text.specs.Characters.{Edition}
-use Rattle.simplecss_text.specs.Declarations.{Property, declaration, next_declaration, declarations}
+use Rattle.simplecss_text.specs.Declarations.{StyleDeclaration, declaration, next_declaration, declarations}
 use Rattle.simplecss_text.proofs.reading.EachLaws.{each-none, each-some}
 use Rattle.simplecss_text.proofs.reading.DeclarationLaws.{next_declaration-takes}
-use Rattle.simplecss_declaration.specs.Answers.{FailsAt}
+use Rattle.simplecss_declaration.specs.UntoldFaults.{FailsAt}
 
-pub declarations-some : (edition : Edition) (text rest : List ℕ) (p : Property) → declaration edition text ≡ got p rest → declarations edition text ≡ p ∷ declarations edition rest
+pub declarations-some : (edition : Edition) (text rest : List ℕ) (p : StyleDeclaration) → declaration edition text ≡ got p rest → declarations edition text ≡ p ∷ declarations edition rest
 unfolding declarations
 declarations-some edition text rest p e = ap (λ r. r.0) (each-some (next_declaration edition) (next_declaration-takes edition) text rest p (ap found e))
 

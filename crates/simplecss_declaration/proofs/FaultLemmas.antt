@@ -1,7 +1,7 @@
 -- Readings that fail.
 use Rattle.std.proofs.Common.{◌≡◌, ℕ, List, Bool, true, false, sym, ap}
 use Rattle.simplecss_text.specs.Reading.{Fault, Reading, got, fails}
-use Rattle.simplecss_declaration.specs.Answers.{FailsAt, Passes}
+use Rattle.simplecss_declaration.specs.UntoldFaults.{FailsAt, Passes}
 
 -- there is a fault
 pub failed : {A : Type 0} (r : Reading A) (left : List ℕ) → FailsAt r left → (fault : Fault) × (r ≡ fails fault left)

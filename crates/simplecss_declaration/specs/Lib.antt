@@ -1,3 +1,3 @@
-pub mod Properties
-pub mod Answers
-pub mod Coming
+pub mod SeenDeclarations
+pub mod UntoldFaults
+pub mod DeclarationTokenizers

@@ -11,14 +11,14 @@ use std::fmt::Display;
 /// stands in a printed sheet. Width, fill and flags of the formatter change nothing.
 impl<'a> Display for Declaration<'a> {
     ghost use Rattle.std.specs.Prelude.{Some};
-    ghost use Rattle.simplecss_text.specs.Printing.{property_text};
-    ghost use Rattle.simplecss_declaration.specs.Properties.{property_of};
+    ghost use Rattle.simplecss_text.specs.Printing.{declaration_text};
+    ghost use Rattle.simplecss_declaration.specs.SeenDeclarations.{declaration_of};
 
-    ghost output = { λ d. Some (property_text (property_of d)) };
+    ghost output = { λ d. Some (declaration_text (declaration_of d)) };
 
-    ghost styled_output = { λ d _. Some (property_text (property_of d)) };
+    ghost styled_output = { λ d _. Some (declaration_text (declaration_of d)) };
 
-    #[tactic(auto, using(simplecss_text::proofs::printed::Styled::plain_of_styled, simplecss_text::proofs::printed::Styled::styled_three))]
+    #[tactic(auto, using(simplecss_text::proofs::printed::StyledWrites::plain_of_styled, simplecss_text::proofs::printed::StyledWrites::styled_three))]
     fn fmt<W: fmt::Write>(&self, f: &mut fmt::Formatter<W>) -> fmt::Result {
         write_stated(f, self.name, self.value)?;
         f.write_str(important_mark(self.important))?;
@@ -27,7 +27,7 @@ impl<'a> Display for Declaration<'a> {
 }
 
 /// Writes the name, a colon and the value.
-#[tactic(auto, using(simplecss_text::proofs::printed::Styled::styled_three))]
+#[tactic(auto, using(simplecss_text::proofs::printed::StyledWrites::styled_three))]
 fn write_stated<W: fmt::Write>(f: &mut fmt::Formatter<W>, name: &str, value: &str) -> fmt::Result
     ensures { WritesStyledOnOk W.write_str_gives f.old result
         (name.now ++ codes ":" ++ value.now) f.new }

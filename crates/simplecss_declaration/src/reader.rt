@@ -9,8 +9,8 @@ ghost use Rattle.simplecss_text.specs.Declarations.{importance, semicolon, trail
 ghost use Rattle.simplecss_text.specs.Declarations.{declaration as declaration_read};
 ghost use Rattle.simplecss_text.specs.ThisEdition.{this_edition};
 ghost use Rattle.simplecss_text.specs.Cursor.{text_of, rest_of};
-ghost use Rattle.simplecss_declaration.specs.Answers.{Answers, Passes};
-ghost use Rattle.simplecss_declaration.specs.Properties.{property_of};
+ghost use Rattle.simplecss_declaration.specs.UntoldFaults.{Answers, Passes};
+ghost use Rattle.simplecss_declaration.specs.SeenDeclarations.{declaration_of};
 
 use super::declarations::Declaration;
 use super::terms::pass_term;
@@ -123,7 +123,7 @@ fn pass_colon(s: &mut Stream<'_>) -> bool
 #[tactic(auto, unfolding(simplecss_text::specs::Declarations::declaration))]
 pub fn consume_declaration<'a>(s: &mut Stream<'a>) -> Option<Declaration<'a>>
     ensures text { text_of s.new ≡ text_of s.old }
-    ensures reads { Answers property_of (declaration_read this_edition (rest_of s.old)) result
+    ensures reads { Answers declaration_of (declaration_read this_edition (rest_of s.old)) result
         (rest_of s.new) }
     ensures stands { IfSome result
         (λ d. StandBetween (rest_of s.old) (rest_of s.new) (d.name.now ∷ d.value.now ∷ [])) }

@@ -6,7 +6,7 @@ ghost use Rattle.simplecss_text.specs.Names.{name as name_read};
 ghost use Rattle.simplecss_text.specs.Terms.{past_hash, past_number, word, term};
 ghost use Rattle.simplecss_text.specs.ThisEdition.{this_edition};
 ghost use Rattle.simplecss_text.specs.Cursor.{text_of, rest_of};
-ghost use Rattle.simplecss_declaration.specs.Answers.{Passes};
+ghost use Rattle.simplecss_declaration.specs.UntoldFaults.{Passes};
 
 use super::digits;
 use simplecss_text::stream::Stream;

@@ -14,7 +14,7 @@ pub struct DeclarationTokenizer<'a> {
 }
 
 impl<'a> From<&'a str> for DeclarationTokenizer<'a> {
-    ghost use Rattle.simplecss_declaration.specs.Coming.{Begins};
+    ghost use Rattle.simplecss_declaration.specs.DeclarationTokenizers.{Begins};
 
     ghost from_gives = { λ text t. Begins text.now t };
 
@@ -29,15 +29,15 @@ impl<'a> From<&'a str> for DeclarationTokenizer<'a> {
 impl<'a> DeclarationTokenizer<'a> {
     ghost use Rattle.std.specs.Prelude.{◌≡◌, drop};
     ghost use Rattle.std.specs.Str.{IsCharBoundary};
-    ghost use Rattle.simplecss_declaration.specs.Coming.{source, place_in, left_of};
+    ghost use Rattle.simplecss_declaration.specs.DeclarationTokenizers.{whole_text, place_in, left_of};
 
     /// The place up to which the text was read, in bytes from its start. It is at most the text's
     /// length and stands between two characters.
     #[inline(always)]
     pub fn pos(&self) -> usize
         ensures place { result ≡ place_in self.now }
-        ensures rest { drop result (source self.now) ≡ left_of self.now }
-        ensures boundary { IsCharBoundary (source self.now) result }
+        ensures rest { drop result (whole_text self.now) ≡ left_of self.now }
+        ensures boundary { IsCharBoundary (whole_text self.now) result }
     {
         self.stream.pos()
     }
@@ -45,7 +45,7 @@ impl<'a> DeclarationTokenizer<'a> {
 
 impl<'a> Iterator for DeclarationTokenizer<'a> {
     ghost use Rattle.std.specs.Iterator.{item_count};
-    ghost use Rattle.simplecss_declaration.specs.Coming.{still_to_come, GivesDeclaration};
+    ghost use Rattle.simplecss_declaration.specs.DeclarationTokenizers.{still_to_come, GivesDeclaration};
 
     type Item = Declaration<'a>;
 

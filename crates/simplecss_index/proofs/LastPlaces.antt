@@ -113,9 +113,9 @@ module _ (told : Told) (lasts : Lasts) where
     id_key None e h = absurd h
     id_key (Some text) e h = (by_id text, ap (is_value_as_asked (equals text)) e ∙ (bytes_eq-Decides text text).1 refl, h)
 
-    class_key : (class : Option (List ℕ)) → told.class ≡ class → ClassLeads lasts class place → KeyLeads told lasts place
-    class_key None e h = absurd h
-    class_key (Some value) e h = (by_class h.0, ap (is_value_as_asked (has_word h.0)) e ∙ h.1, h.2)
+    pseudo_class_key : (class : Option (List ℕ)) → told.class ≡ class → ClassLeads lasts class place → KeyLeads told lasts place
+    pseudo_class_key None e h = absurd h
+    pseudo_class_key (Some value) e h = (by_class h.0, ap (is_value_as_asked (has_word h.0)) e ∙ h.1, h.2)
 
     key_id : (id : Option (List ℕ)) (text : List ℕ) → is_value_as_asked (equals text) id ≡ true → last_for lasts (by_id text) ≡ Some place → IdLeads lasts id place
     key_id None text has is = absurd (false≢true has)
@@ -132,7 +132,7 @@ module _ (told : Told) (lasts : Lasts) where
         there (inl (inl (inl h))) = (by_nothing, refl, h)
         there (inl (inl (inr h))) = (by_name told.name, (bytes_eq-Decides told.name told.name).1 refl, h)
         there (inl (inr h)) = id_key told.id refl h
-        there (inr h) = class_key told.class refl h
+        there (inr h) = pseudo_class_key told.class refl h
 
         back : (key : Key) → IsTrue (tells_key told key) → last_for lasts key ≡ Some place → (((last_for lasts by_nothing ≡ Some place) ⊎ (last_for lasts (by_name told.name) ≡ Some place)) ⊎ IdLeads lasts told.id place) ⊎ ClassLeads lasts told.class place
         back (by_id text) has is = inl (inr (key_id told.id text has is))

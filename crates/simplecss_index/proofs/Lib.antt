@@ -3,6 +3,6 @@ pub mod Ascending
 pub mod LastPlaces
 pub mod Following
 pub mod Chaining
-pub mod Answers
+pub mod AskedInTurn
 pub mod Candidates
 pub mod Keeping

@@ -3,7 +3,7 @@ use Rattle.std.specs.Prelude.{◌≡◌, ◌↔◌, ℕ, ◌+◌, ◌*◌, Bool,
 use Rattle.std.specs.List.{AllZip, items_where_true, range_with_len}
 use Rattle.simplecss.specs.Components.{Component}
 use Rattle.simplecss.specs.Keys.{Told, tells_key, key_of}
-use Rattle.simplecss.specs.Placements.{HasPlacement, longest_run}
+use Rattle.simplecss.specs.Placements.{HasPlacement, longest_stretch}
 use Rattle.simplecss.specs.Trees.{Tree}
 use Rattle.simplecss_index.specs.Places.{selector_at, key_at, AreThePlaces}
 
@@ -21,7 +21,7 @@ AreCandidates told selectors =
 -- the most tests that asking whether a selector matches takes: for the element and each of its
 -- ancestors one for each component of the longest stretch that child and adjacent steps join
 abbrev pub most_tests : {Node : Type 0} → Tree Node → Node → List Component → ℕ
-most_tests tree element selector = longest_run selector * (tree.depth element + 1)
+most_tests tree element selector = longest_stretch selector * (tree.depth element + 1)
 
 -- the selectors whose key is told
 abbrev pub keyed_for : Told → List (List Component) → List (List Component)

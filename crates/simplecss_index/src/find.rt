@@ -2,7 +2,7 @@
 ghost use Rattle.std.specs.Prelude.{◌≡◌, ◌<◌, ◌↔◌, ℕ, OnOk, Some, Contains, length};
 ghost use Rattle.std.specs.List.Sorted.{IsStrictlyIncreasing};
 ghost use Rattle.std.specs.Option.{option_map};
-ghost use Rattle.simplecss.specs.KeyValues.{key_value};
+ghost use Rattle.simplecss.specs.SeenKeys.{key_value};
 ghost use Rattle.simplecss_index.specs.Lasts.{last_for, IdLeads, ClassLeads, KeyLeads};
 ghost use Rattle.simplecss_index.specs.Matching.{AreCandidates};
 ghost use Rattle.simplecss_index.specs.Places.{key_at, Adds};

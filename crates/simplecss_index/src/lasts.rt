@@ -1,7 +1,7 @@
 //! The last place that each key has.
 ghost use Rattle.std.specs.Prelude.{◌≡◌, IfOk, OnOk, None};
 ghost use Rattle.simplecss.specs.Keys.{Key as KeyValue};
-ghost use Rattle.simplecss.specs.KeyValues.{key_value};
+ghost use Rattle.simplecss.specs.SeenKeys.{key_value};
 ghost use Rattle.simplecss_index.specs.Lasts.{last_for, TakesPlace};
 
 use simplecss::Key;

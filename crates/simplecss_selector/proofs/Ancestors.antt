@@ -6,8 +6,8 @@ use Rattle.simplecss_text.specs.Components.Combinator.{none, descendant, child, 
 use Rattle.simplecss_selector.specs.Trees.{Tree, SiblingsShareParent}
 use Rattle.simplecss_selector.specs.Placements.{IsAncestor, Relates, is_step}
 use Rattle.simplecss_selector.specs.Placements.IsAncestor.{is_parent, is_further}
-use Rattle.simplecss_selector.specs.Searches.{IsAtOrAbove, IsWithin}
-use Rattle.simplecss_selector.specs.Searches.IsAtOrAbove.{here, above}
+use Rattle.simplecss_selector.specs.PlacementSearch.{IsAtOrAbove, IsWithin}
+use Rattle.simplecss_selector.specs.PlacementSearch.IsAtOrAbove.{here, above}
 
 pub same_some : {A : Type 0} {x y : A} → Some x ≡ Some y → x ≡ y
 same_some e = cc

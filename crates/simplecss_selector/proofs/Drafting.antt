@@ -4,7 +4,7 @@ use Rattle.simplecss_text.specs.Components.{Component}
 use Rattle.simplecss_text.specs.Selectors.{Role, Outcome, cut, type_among, subselectors_among, component_of, components_of, selector_of, with_role}
 use Rattle.simplecss_text.specs.Selectors.Role.{any_type, of_type, with, joint, unknown}
 use Rattle.simplecss_text.specs.Selectors.Outcome.{refused, accepted}
-use Rattle.simplecss_selector.specs.Drafts.{Drafted, begun, drafted_after, continued, selector_after}
+use Rattle.simplecss_selector.specs.SelectorDrafts.{Drafted, empty_draft, drafted_after, continued, selector_after}
 
 -- the component with what the roles ask besides
 abbrev pub extended : Component → List Role → Component
@@ -27,12 +27,12 @@ continued-cut (joint combinator ∷ roles) d =
     ∙ ap (λ c. d.done ++ c ∷ component_of (combinator, (cut roles).0) ∷ map component_of (cut roles).1) (sym (extended-none d.last))
 continued-cut (unknown ∷ roles) d = continued-cut roles d
 
-pub continued-begun : (roles : List Role) → continued begun roles ≡ components_of roles
-continued-begun roles = continued-cut roles begun
+pub continued-by_byte : (roles : List Role) → continued empty_draft roles ≡ components_of roles
+continued-by_byte roles = continued-cut roles empty_draft
 
-pub selector_after-begun : (outcome : Outcome) → selector_after begun outcome ≡ selector_of outcome
-selector_after-begun (refused left) = refl
-selector_after-begun (accepted roles left) = ap (λ cs. (Some cs, left)) (continued-begun roles)
+pub selector_after-empty_draft : (outcome : Outcome) → selector_after empty_draft outcome ≡ selector_of outcome
+selector_after-empty_draft (refused left) = refl
+selector_after-empty_draft (accepted roles left) = ap (λ cs. (Some cs, left)) (continued-by_byte roles)
 
 -- one more role is read
 pub selector_after-with_role : (d : Drafted) (role : Role) (outcome : Outcome) → selector_after d (with_role role outcome) ≡ selector_after (drafted_after role d) outcome

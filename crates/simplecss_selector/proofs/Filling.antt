@@ -7,15 +7,15 @@ use Rattle.std.specs.List.{slice_range}
 use Rattle.std.specs.Option.{option_map}
 use Rattle.simplecss_text.specs.Components.{Component, Combinator}
 use Rattle.simplecss_text.specs.Components.Combinator.{none}
-use Rattle.simplecss_selector.specs.Combinators.{combinator_of}
-use Rattle.simplecss_selector.specs.Runs.{kept_ends_after}
+use Rattle.simplecss_selector.specs.SeenCombinators.{combinator_of}
+use Rattle.simplecss_selector.specs.Stretches.{kept_ends_after}
 use Rattle.simplecss_selector.specs.Shapes.{component_at, any_component, IsSelector}
-use Rattle.simplecss_selector.specs.Seen.{subselector_of, component_of_part, components_from, Tile, last_end, drafted, IsFlat}
-use Rattle.simplecss_selector.specs.Drafts.{with_subselector, joined, finished}
+use Rattle.simplecss_selector.specs.SeenSelectors.{subselector_of, component_of_part, components_from, Tile, last_end, drafted, IsFlat}
+use Rattle.simplecss_selector.specs.SelectorDrafts.{with_subselector, joined, finished}
 use Rattle.simplecss_selector.specs.declared.selector.Part.{Part}
 use Rattle.simplecss_selector.specs.declared.selector.SubSelector.{SubSelector}
 use Rattle.simplecss_selector.proofs.Flat.{components_from-length}
-use Rattle.simplecss_selector.proofs.RunEnds.{AreRunEnds-same, AreRunEnds-push}
+use Rattle.simplecss_selector.proofs.StretchEnds.{AreStretchEnds-same, AreStretchEnds-push}
 
 pub components_from-append : (start : ℕ) (ps qs : List Part) (ss : List SubSelector) → components_from start (ps ++ qs) ss ≡ components_from start ps ss ++ components_from (last_end start ps) qs ss
 components_from-append start [] qs ss = refl
@@ -112,8 +112,8 @@ flat_more ps p q ss ts n m kept f j h e =
     record {
       selector = IsSelector-joints cs ds same f.selector;
       tiled = Tile-push 0 ps q (last_end 0 ps) m t.2 (omega (arith, t.0, t.1)) e;
-      runs = AreRunEnds-same cs ds kept (sym (length-joints cs) ∙ ap length same ∙ length-joints ds)
-          (λ k. joint_at cs k ∙ ap (λ js. get_or js k none) same ∙ sym (joint_at ds k)) f.runs;
+      stretches = AreStretchEnds-same cs ds kept (sym (length-joints cs) ∙ ap length same ∙ length-joints ds)
+          (λ k. joint_at cs k ∙ ap (λ js. get_or js k none) same ∙ sym (joint_at ds k)) f.stretches;
     }
 
 components_from-push : (ps : List Part) (q : Part) (ss : List SubSelector) → components_from 0 (ps ++ q ∷ []) ss ≡ components_from 0 ps ss ++ component_of_part q (slice_range ss (last_end 0 ps) q.end) ∷ []
@@ -128,7 +128,7 @@ flat_joined ps q ss n m kept f j e done =
     record {
       selector = rw (components_from-push ps q ss) (IsSelector-push cs c f.selector j);
       tiled = Tile-push 0 ps q n n f.tiled (omega arith) e;
-      runs = rw (done ∙ sym (components_from-length 0 ps ss), components_from-push ps q ss) (AreRunEnds-push cs c kept some j f.runs);
+      stretches = rw (done ∙ sym (components_from-length 0 ps ss), components_from-push ps q ss) (AreStretchEnds-push cs c kept some j f.stretches);
     }
 
 pub drafted-finished : (ps : List Part) (ss : List SubSelector) (p : Part) → components_from 0 (ps ++ p ∷ []) ss ≡ finished (drafted ps ss p)

@@ -3,9 +3,9 @@ use Rattle.std.proofs.Common.{◌≡◌, ℕ, zero, suc, ◌+◌, ◌-◌, sub-o
 use Rattle.std.specs.List.{slice_range}
 use Rattle.std.proofs.lemmas.List.{length-append}
 use Rattle.simplecss_text.specs.Components.{Component}
-use Rattle.simplecss_selector.specs.Combinators.{combinator_of}
+use Rattle.simplecss_selector.specs.SeenCombinators.{combinator_of}
 use Rattle.simplecss_selector.specs.Shapes.{component_at}
-use Rattle.simplecss_selector.specs.Seen.{component_of_part, components_from, Tile}
+use Rattle.simplecss_selector.specs.SeenSelectors.{component_of_part, components_from, Tile}
 use Rattle.simplecss_selector.specs.declared.selector.Part.{Part}
 use Rattle.simplecss_selector.specs.declared.selector.SubSelector.{SubSelector}
 

@@ -10,11 +10,11 @@ use Rattle.std.proofs.lemmas.Bool.Decides.{Decides-eqb, same_from_decides}
 use Rattle.std.proofs.lemmas.List.{take-map, drop_all, map-append, length-map, length-take, length-drop}
 use Rattle.std.proofs.lemmas.List.Folds.{drop_split}
 use Rattle.simplecss_text.specs.Components.{Component, Subselector, Combinator}
-use Rattle.simplecss_selector.specs.Asked.{operator_of, class_of}
-use Rattle.simplecss_selector.specs.Combinators.{combinator_of}
-use Rattle.simplecss_selector.specs.Seen.{subselector_of, components_from, Tile}
+use Rattle.simplecss_selector.specs.SeenOperators.{operator_of, pseudo_class_of}
+use Rattle.simplecss_selector.specs.SeenCombinators.{combinator_of}
+use Rattle.simplecss_selector.specs.SeenSelectors.{subselector_of, components_from, Tile}
 use Rattle.simplecss_text.specs.Bytes.{text_eq}
-use Rattle.simplecss_selector.specs.Equality.{operator_eq, class_eq, combinator_eq, subselector_eq, selector_eq}
+use Rattle.simplecss_selector.specs.Equality.{operator_eq, pseudo_class_eq, combinator_eq, subselector_eq, selector_eq}
 use Rattle.simplecss_selector.specs.EqualityLaws.{and_left, and_right, and_both, combinator_decides, name_decides, subselector_decides, selector_decides}
 use Rattle.simplecss_selector.specs.declared.operator.AttributeOperator.{AttributeOperator}
 use Rattle.simplecss_selector.specs.declared.operator.AttributeOperator.TheVariants.{Exists, Matches, Contains, StartsWith}
@@ -52,7 +52,7 @@ by_operator (StartsWith x) (Matches y) = refl
 by_operator (StartsWith x) (Contains y) = refl
 by_operator (StartsWith x) (StartsWith y) = refl
 
-pub by_class : (a b : PseudoClass) → class_test.it a b ≡ class_eq (class_of a) (class_of b)
+pub by_class : (a b : PseudoClass) → class_test.it a b ≡ pseudo_class_eq (pseudo_class_of a) (pseudo_class_of b)
 by_class FirstChild FirstChild = refl
 by_class FirstChild Link = refl
 by_class FirstChild Visited = refl

@@ -1,4 +1,4 @@
--- Placing a run at the nearest node that fits loses nothing.
+-- Placing a stretch at the nearest node that fits loses nothing.
 use Rattle.std.proofs.Common.{refl, ◌≡◌, ℕ, zero, suc, ◌+◌, ◌<◌, ◌≤◌, ◌↔◌, List, [], ◌∷◌, length, IsTrue, arith, Some, None, sym, ◌∙◌, add-one, subst}
 use Rattle.std.proofs.Math.Seq.{take-length}
 use Rattle.std.proofs.lemmas.Bool.{false≢true}
@@ -6,10 +6,10 @@ use Rattle.simplecss_text.specs.Components.{Component, Combinator}
 use Rattle.simplecss_text.specs.Components.Combinator.{none, descendant, child, adjacent}
 use Rattle.simplecss_selector.specs.Trees.{Tree, SiblingsShareParent}
 use Rattle.simplecss_selector.specs.Placements.{Meets, Relates, HasPlacement, is_step}
-use Rattle.simplecss_selector.specs.Searches.{IsAtOrAbove, IsWithin, Reaches, CanPlace, IfMore, first_of, step_from}
+use Rattle.simplecss_selector.specs.PlacementSearch.{IsAtOrAbove, IsWithin, Reaches, CanPlace, IfMore, first_of, step_from}
 use Rattle.simplecss_selector.specs.Shapes.{component_at}
-use Rattle.simplecss_selector.specs.Searches.IsAtOrAbove.{here, above}
-use Rattle.simplecss_selector.specs.Fits.{LeavesRest}
+use Rattle.simplecss_selector.specs.PlacementSearch.IsAtOrAbove.{here, above}
+use Rattle.simplecss_selector.specs.StretchFits.{LeavesRest}
 use Rattle.simplecss_selector.proofs.Ancestors.{same_some, no_some, no_ancestor, ancestor_from, at_or_above_from, within_above, within_step}
 use Rattle.simplecss_selector.proofs.Reaching.{first_of-suc, reaches_from, placement_from}
 
@@ -64,7 +64,7 @@ module _ {Node : Type 0} (tree : Tree Node) (cs : List Component) where
             (o.1.0, within_step tree shared (component_at cs p).combinator step k.1 o.1.1 related, o.1.2));
       })
 
-  -- the run does not fit where a component is not met
+  -- the stretch does not fit where a component is not met
   pub not_met : (left p : ℕ) (n u : Node) → p < length cs → (Meets tree u (component_at cs p).compound → ⊥) → Tracks left (p + 1) n u → Reaches tree (first_of cs left) n → ⊥
   not_met left zero n u within fails t h = fails ((opened_first u within).0 (t.onward h))
   not_met left (suc p) n u within fails t h = fails ((opened (suc p) u (omega arith) within).0 (t.onward h)).0
@@ -73,13 +73,13 @@ module _ {Node : Type 0} (tree : Tree Node) (cs : List Component) where
   pub no_node : (left p : ℕ) (n u : Node) → 0 < p → p < length cs → ((v : Node) → Relates tree (component_at cs p).combinator v u → ⊥) → Tracks left (p + 1) n u → Reaches tree (first_of cs left) n → ⊥
   no_node left p n u some within fails t h = let o = (opened p u some within).0 (t.onward h) in fails o.1.0 o.1.1
 
-  -- nothing above the top of a run
+  -- nothing above the top of a stretch
   pub no_rest : (left p : ℕ) (n u : Node) → 0 < p → p < length cs → (component_at cs p).combinator ≡ descendant → tree.parent u ≡ None → Tracks left (p + 1) n u → (m : Node) → IsWithin tree m n → Reaches tree (first_of cs left) m → ⊥
   no_rest left p n u some within e top t m w h =
       let k = t.nothing_lost m w h in let o = (opened p k.0 some within).0 k.2 in
       no_ancestor tree top (k.1 o.1.0 (subst (λ (c : Combinator). Relates tree c o.1.0 k.0) e o.1.1))
 
-  -- the rest of the components are placed above the top of the run
+  -- the rest of the components are placed above the top of the stretch
   pub leaves_rest : (left p : ℕ) (n u v : Node) → 0 < p → p < left → p < length cs → (component_at cs p).combinator ≡ descendant → Meets tree u (component_at cs p).compound → tree.parent u ≡ Some v → tree.depth v < tree.depth n → Tracks left (p + 1) n u → LeavesRest tree cs left p n v
   leaves_rest left p n u v some fewer within e met parent higher t =
       record {
@@ -92,7 +92,7 @@ module _ {Node : Type 0} (tree : Tree Node) (cs : List Component) where
             (met, (h.0, subst (λ (c : Combinator). Relates tree c h.0 u) (sym e) (ancestor_from tree parent h.1), h.2)));
       }
 
-  -- where the run does not fit, the components can be placed at or above the node if they can be above it
+  -- where the stretch does not fit, the components can be placed at or above the node if they can be above it
   pub misfit_up : (left : ℕ) (n p : Node) → tree.parent n ≡ Some p → (Reaches tree (first_of cs left) n → ⊥) → CanPlace tree (first_of cs left) n ↔ CanPlace tree (first_of cs left) p
   misfit_up left n p e fails =
       (λ h. up h.0 h.1 h.2, λ h. (h.0, above e h.1, h.2))
@@ -131,7 +131,7 @@ no_step tree adjacent n d e v r = no_some e r
 pub placement_of : {Node : Type 0} (tree : Tree Node) (cs : List Component) (k : ℕ) (n : Node) → k ≡ length cs → HasPlacement tree cs n ↔ Reaches tree (first_of cs k) n
 placement_of tree cs k n e = rw e (placement_is tree cs n)
 
--- from the element on, what a first run leaves
+-- from the element on, what a first stretch leaves
 pub first_rest : {Node : Type 0} (tree : Tree Node) (cs : List Component) (k rest : ℕ) (n v : Node) → k ≡ length cs → LeavesRest tree cs k rest n v → HasPlacement tree cs n ↔ CanPlace tree (first_of cs rest) v
 first_rest tree cs k rest n v e l =
     let p = placement_of tree cs k n e in

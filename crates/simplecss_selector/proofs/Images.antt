@@ -8,7 +8,7 @@ use Rattle.simplecss_text.specs.Components.Combinator.{none, descendant, child, 
 use Rattle.simplecss_selector.specs.Trees.{Tree}
 use Rattle.simplecss_selector.specs.Placements.{IsAncestor, HasName, Holds, Meets, Relates, HasPlacement}
 use Rattle.simplecss_selector.specs.Placements.IsAncestor.{is_parent, is_further}
-use Rattle.simplecss_selector.specs.Searches.{Reaches, backwards}
+use Rattle.simplecss_selector.specs.PlacementSearch.{Reaches, backwards}
 use Rattle.simplecss_selector.specs.Meanings.{KeepsMeanings}
 use Rattle.simplecss_selector.proofs.Ancestors.{same_some, no_some}
 use Rattle.simplecss_selector.proofs.Reaching.{reaches_from, placement_from}
@@ -62,7 +62,7 @@ module _ {M N : Type 0} (tree : Tree M) (other : Tree N) (image : M → N) (keep
   holds_kept : (s : Subselector) (n : M) → Holds tree n s ↔ Holds other (image n) s
   holds_kept (attribute name operator) n =
       (λ h. keeps.attributes n name operator ∙ h, λ h. sym (keeps.attributes n name operator) ∙ h)
-  holds_kept (pseudo_class class) n = (λ h. keeps.classes n class ∙ h, λ h. sym (keeps.classes n class) ∙ h)
+  holds_kept (pseudo_class class) n = (λ h. keeps.pseudo_classes n class ∙ h, λ h. sym (keeps.pseudo_classes n class) ∙ h)
 
   meets_kept : (compound : Compound) (n : M) → Meets tree n compound ↔ Meets other (image n) compound
   meets_kept compound n =

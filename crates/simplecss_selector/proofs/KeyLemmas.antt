@@ -10,7 +10,7 @@ use Rattle.simplecss_text.specs.Components.Operator.{exists, equals, has_word, b
 use Rattle.simplecss_text.specs.Components.Subselector.{attribute, pseudo_class}
 use Rattle.simplecss_selector.specs.Trees.{Tree}
 use Rattle.simplecss_selector.specs.Placements.{HasPlacement, Meets, HasName, Holds}
-use Rattle.simplecss_selector.specs.Searches.{Reaches, first_of}
+use Rattle.simplecss_selector.specs.PlacementSearch.{Reaches, first_of}
 use Rattle.simplecss_selector.specs.Shapes.{component_at}
 use Rattle.simplecss_selector.specs.Keys.{equal_text, wanted_word, asked_id, asked_class, first_asked, key_among, compound_key, key_of, has_key}
 use Rattle.simplecss_selector.proofs.Reaching.{first_of-suc}

@@ -4,7 +4,7 @@ use Rattle.std.proofs.Math.Seq.{take-suc}
 use Rattle.simplecss_text.specs.Components.{Component}
 use Rattle.simplecss_selector.specs.Trees.{Tree}
 use Rattle.simplecss_selector.specs.Placements.{GoesOn, HasPlacement}
-use Rattle.simplecss_selector.specs.Searches.{Reaches, backwards, first_of}
+use Rattle.simplecss_selector.specs.PlacementSearch.{Reaches, backwards, first_of}
 use Rattle.simplecss_selector.specs.Shapes.{component_at, any_component}
 
 pub reaches_on : {Node : Type 0} (tree : Tree Node) (a : Component) (cs bs : List Component) (ns : List Node) (before end : Node) → GoesOn tree before cs ns end → Reaches tree (a ∷ bs) before → Reaches tree (backwards cs (a ∷ bs)) end

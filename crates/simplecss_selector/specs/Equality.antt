@@ -3,9 +3,9 @@ use Rattle.std.specs.Prelude.{ℕ, List, [], Bool, false, ◌&&◌, ◌==◌}
 use Rattle.std.specs.Cmp.Lexicographic.{pointwise}
 use Rattle.std.specs.Option.{option_eq}
 use Rattle.simplecss_text.specs.Bytes.{text_eq}
-use Rattle.simplecss_text.specs.Components.{Operator, Class, Subselector, Combinator, Component}
+use Rattle.simplecss_text.specs.Components.{Operator, KnownPseudoClass, Subselector, Combinator, Component}
 use Rattle.simplecss_text.specs.Components.Operator.{exists, equals, has_word, begins_with}
-use Rattle.simplecss_text.specs.Components.Class.{first_child, link, visited, hover, active, focus, lang}
+use Rattle.simplecss_text.specs.Components.KnownPseudoClass.{first_child, link, visited, hover, active, focus, lang}
 use Rattle.simplecss_text.specs.Components.Subselector.{attribute, pseudo_class}
 use Rattle.simplecss_text.specs.Components.Combinator.{none, descendant, child, adjacent}
 
@@ -16,14 +16,14 @@ operator_key (equals value) = (1, value)
 operator_key (has_word value) = (2, value)
 operator_key (begins_with value) = (3, value)
 
-abbrev pub class_key : Class → ℕ × List ℕ
-class_key first_child = (0, [])
-class_key link = (1, [])
-class_key visited = (2, [])
-class_key hover = (3, [])
-class_key active = (4, [])
-class_key focus = (5, [])
-class_key (lang language) = (6, language)
+abbrev pub pseudo_class_key : KnownPseudoClass → ℕ × List ℕ
+pseudo_class_key first_child = (0, [])
+pseudo_class_key link = (1, [])
+pseudo_class_key visited = (2, [])
+pseudo_class_key hover = (3, [])
+pseudo_class_key active = (4, [])
+pseudo_class_key focus = (5, [])
+pseudo_class_key (lang language) = (6, language)
 
 abbrev pub combinator_key : Combinator → ℕ
 combinator_key none = 0
@@ -38,15 +38,15 @@ key_eq a b = (a.0 == b.0) && text_eq a.1 b.1
 abbrev pub operator_eq : Operator → Operator → Bool
 operator_eq a b = key_eq (operator_key a) (operator_key b)
 
-abbrev pub class_eq : Class → Class → Bool
-class_eq a b = key_eq (class_key a) (class_key b)
+abbrev pub pseudo_class_eq : KnownPseudoClass → KnownPseudoClass → Bool
+pseudo_class_eq a b = key_eq (pseudo_class_key a) (pseudo_class_key b)
 
 abbrev pub combinator_eq : Combinator → Combinator → Bool
 combinator_eq a b = combinator_key a == combinator_key b
 
 abbrev pub subselector_eq : Subselector → Subselector → Bool
 subselector_eq (attribute name operator) (attribute other_name other_operator) = text_eq name other_name && operator_eq operator other_operator
-subselector_eq (pseudo_class class) (pseudo_class other_class) = class_eq class other_class
+subselector_eq (pseudo_class class) (pseudo_class other_class) = pseudo_class_eq class other_class
 subselector_eq (attribute name operator) (pseudo_class class) = false
 subselector_eq (pseudo_class class) (attribute name operator) = false
 

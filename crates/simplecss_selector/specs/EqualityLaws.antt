@@ -7,13 +7,13 @@ use Rattle.std.specs.Cmp.{IsPartialEquivalence, partial_equiv_from_equiv, decide
 use Rattle.std.specs.Cmp.Lexicographic.{pointwise, pointwise_decides, bytes_decides}
 use Rattle.std.specs.Option.{option_eq}
 use Rattle.std.proofs.lemmas.Bool.Decides.{Decides-eqb}
-use Rattle.simplecss_text.specs.Components.{Operator, Class, Subselector, Combinator, Component}
+use Rattle.simplecss_text.specs.Components.{Operator, KnownPseudoClass, Subselector, Combinator, Component}
 use Rattle.simplecss_text.specs.Components.Operator.{exists, equals, has_word, begins_with}
-use Rattle.simplecss_text.specs.Components.Class.{first_child, link, visited, hover, active, focus, lang}
+use Rattle.simplecss_text.specs.Components.KnownPseudoClass.{first_child, link, visited, hover, active, focus, lang}
 use Rattle.simplecss_text.specs.Components.Subselector.{attribute, pseudo_class}
 use Rattle.simplecss_text.specs.Components.Combinator.{none, descendant, child, adjacent}
 use Rattle.simplecss_text.specs.Bytes.{text_eq}
-use Rattle.simplecss_selector.specs.Equality.{operator_key, class_key, combinator_key, key_eq, operator_eq, class_eq, combinator_eq, subselector_eq, component_eq, selector_eq}
+use Rattle.simplecss_selector.specs.Equality.{operator_key, pseudo_class_key, combinator_key, key_eq, operator_eq, pseudo_class_eq, combinator_eq, subselector_eq, component_eq, selector_eq}
 
 pub and_left : (a b : Bool) → (a && b) ≡ true → a ≡ true
 and_left true b h = refl
@@ -63,19 +63,19 @@ operator_decides = decides_by_key key_eq key_decides operator_key operator_back 
     undone (has_word text) = refl
     undone (begins_with text) = refl
 
-abbrev class_back : ℕ × List ℕ → Class
-class_back (zero, text) = first_child
-class_back (suc zero, text) = link
-class_back (suc (suc zero), text) = visited
-class_back (suc (suc (suc zero)), text) = hover
-class_back (suc (suc (suc (suc zero))), text) = active
-class_back (suc (suc (suc (suc (suc zero)))), text) = focus
-class_back (suc (suc (suc (suc (suc (suc n))))), text) = lang text
+abbrev pseudo_class_back : ℕ × List ℕ → KnownPseudoClass
+pseudo_class_back (zero, text) = first_child
+pseudo_class_back (suc zero, text) = link
+pseudo_class_back (suc (suc zero), text) = visited
+pseudo_class_back (suc (suc (suc zero)), text) = hover
+pseudo_class_back (suc (suc (suc (suc zero))), text) = active
+pseudo_class_back (suc (suc (suc (suc (suc zero)))), text) = focus
+pseudo_class_back (suc (suc (suc (suc (suc (suc n))))), text) = lang text
 
-pub class_decides : (a b : Class) → Decides (class_eq a b) (a ≡ b)
-class_decides = decides_by_key key_eq key_decides class_key class_back undone
+pub pseudo_class_decides : (a b : KnownPseudoClass) → Decides (pseudo_class_eq a b) (a ≡ b)
+pseudo_class_decides = decides_by_key key_eq key_decides pseudo_class_key pseudo_class_back undone
   where
-    undone : (c : Class) → class_back (class_key c) ≡ c
+    undone : (c : KnownPseudoClass) → pseudo_class_back (pseudo_class_key c) ≡ c
     undone first_child = refl
     undone link = refl
     undone visited = refl
@@ -115,8 +115,8 @@ subselector_decides (attribute n o) (attribute m p) =
           and_both x y (t.1 same_name) (d.1 same_operator)),
     )
 subselector_decides (pseudo_class c) (pseudo_class d) = (
-  (λ h. λ i. pseudo_class ((class_decides c d).0 h i)),
-  (λ e. let same : c ≡ d = cc in (class_decides c d).1 same),
+  (λ h. λ i. pseudo_class ((pseudo_class_decides c d).0 h i)),
+  (λ e. let same : c ≡ d = cc in (pseudo_class_decides c d).1 same),
 )
 subselector_decides (attribute n o) (pseudo_class d) = ((λ h. absurd (cc)), (λ e. absurd (cc)))
 subselector_decides (pseudo_class c) (attribute n o) = ((λ h. absurd (cc)), (λ e. absurd (cc)))

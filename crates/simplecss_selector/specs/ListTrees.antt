@@ -6,7 +6,7 @@ use Rattle.std.proofs.Common.{◌≡◌, ℕ, zero, suc, ◌+◌, ◌<◌, Bool,
 use Rattle.std.specs.Prelude.{nat_lt, nat_eq, if◌then◌else◌}
 use Rattle.std.specs.Option.{option_map, option_eq}
 use Rattle.std.proofs.lemmas.Bool.Decides.{nat_tests}
-use Rattle.simplecss_text.specs.Components.{Operator, Class}
+use Rattle.simplecss_text.specs.Components.{Operator, KnownPseudoClass}
 use Rattle.simplecss_selector.specs.Trees.{Tree, DepthCountsAncestors, SiblingsShareParent}
 
 -- What a list says of a place in it: its parent and its previous sibling, if it names any, and what
@@ -16,7 +16,7 @@ pub record ListOf (Rows : Type 0) : Type 0 where
   pub previous_sibling : Rows → ℕ → Option ℕ
   pub is_named : Rows → ℕ → List ℕ → Bool
   pub has_attribute : Rows → ℕ → List ℕ → Operator → Bool
-  pub is_in_class : Rows → ℕ → Class → Bool
+  pub is_in_pseudo_class : Rows → ℕ → KnownPseudoClass → Bool
 
 -- a place, where it stands before this one
 abbrev pub earlier : ℕ → Option ℕ → Option ℕ
@@ -72,7 +72,7 @@ list_tree list = record {
   depth = λ n. length (ancestors (list.parent n.0) n.1);
   is_named = λ n. list.is_named n.0 n.1;
   has_attribute = λ n. list.has_attribute n.0 n.1;
-  is_in_class = λ n. list.is_in_class n.0 n.1;
+  is_in_pseudo_class = λ n. list.is_in_pseudo_class n.0 n.1;
 }
 
 kept_before : (p i : ℕ) (b : Bool) → nat_lt p i ≡ b → IfSome (cond b (Some p) None) (λ p. p < i)

@@ -18,7 +18,7 @@ HasName tree n (Some name) = IsTrue (tree.is_named n name)
 -- the node has an attribute of the name whose value is as asked, or is in the pseudo-class
 abbrev pub Holds : {Node : Type 0} → Tree Node → Node → Subselector → Type 0
 Holds tree n (attribute name operator) = IsTrue (tree.has_attribute n name operator)
-Holds tree n (pseudo_class class) = IsTrue (tree.is_in_class n class)
+Holds tree n (pseudo_class class) = IsTrue (tree.is_in_pseudo_class n class)
 
 -- the node has the type name, if there is one, and every subselector holds of it
 abbrev pub Meets : {Node : Type 0} → Tree Node → Node → Compound → Type 0
@@ -68,6 +68,6 @@ joined_length [] = 0
 joined_length (c ∷ cs) = if is_joined c then joined_length cs + 1 else 0
 
 -- the number of components in the longest stretch that child and adjacent steps alone join
-abbrev pub longest_run : List Component → ℕ
-longest_run [] = 0
-longest_run (c ∷ cs) = max (joined_length cs + 1) (longest_run cs)
+abbrev pub longest_stretch : List Component → ℕ
+longest_stretch [] = 0
+longest_stretch (c ∷ cs) = max (joined_length cs + 1) (longest_stretch cs)

@@ -1,6 +1,6 @@
 -- What elements mean: nodes of a tree, and what each answers.
 use Rattle.std.specs.Prelude.{◌≡◌, ℕ, ◌+◌, List, Bool, Option, MatchOption, IfSome}
-use Rattle.simplecss_text.specs.Components.{Operator, Class}
+use Rattle.simplecss_text.specs.Components.{Operator, KnownPseudoClass}
 
 -- A tree: of each node the parent and the previous sibling, if there are any, the number of its
 -- ancestors, and what it answers to a type name, to an attribute's name with an operator, and to a
@@ -11,7 +11,7 @@ pub record Tree (Node : Type 0) : Type 0 where
   pub depth : Node → ℕ
   pub is_named : Node → List ℕ → Bool
   pub has_attribute : Node → List ℕ → Operator → Bool
-  pub is_in_class : Node → Class → Bool
+  pub is_in_pseudo_class : Node → KnownPseudoClass → Bool
 
 -- a node has depth 0 exactly if it has no parent, and else one more than its parent
 abbrev pub DepthCountsAncestors : {Node : Type 0} → Tree Node → Type 0

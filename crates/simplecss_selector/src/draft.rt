@@ -1,11 +1,11 @@
 //! A selector that is being made.
 ghost use Rattle.std.specs.Prelude.{◌≢◌, ◌≡◌, ◌+◌, ◌++◌, ◌∷◌, [], IfOk, OnErr, OnOk, vec_len};
 ghost use Rattle.simplecss_text.specs.Components.Combinator.{none as no_combinator};
-ghost use Rattle.simplecss_selector.specs.Combinators.{combinator_of};
-ghost use Rattle.simplecss_selector.specs.Drafts.{begun, with_name, with_subselector, joined};
-ghost use Rattle.simplecss_selector.specs.Drafts.{finished};
-ghost use Rattle.simplecss_selector.specs.Runs.{kept_ends_after};
-ghost use Rattle.simplecss_selector.specs.Seen.{subselector_of};
+ghost use Rattle.simplecss_selector.specs.SeenCombinators.{combinator_of};
+ghost use Rattle.simplecss_selector.specs.SelectorDrafts.{empty_draft, with_name, with_subselector, joined};
+ghost use Rattle.simplecss_selector.specs.SelectorDrafts.{finished};
+ghost use Rattle.simplecss_selector.specs.Stretches.{kept_ends_after};
+ghost use Rattle.simplecss_selector.specs.SeenSelectors.{subselector_of};
 
 use crate::selector::{Combinator, Part, Selector, SubSelector};
 use std::alloc::{AllocError, Global};
@@ -18,8 +18,8 @@ pub(crate) struct Draft<'a> {
     parts: Vec<Part<'a>>,
     /// The subselectors of all components, the one that is being filled included.
     subselectors: Vec<SubSelector<'a>>,
-    /// Where the runs end that are done, as a selector keeps it.
-    run_ends: Vec<usize>,
+    /// Where the stretches end that are done, as a selector keeps it.
+    stretch_ends: Vec<usize>,
     /// Of the component that is being filled.
     combinator: Combinator,
     /// Of the same component.
@@ -28,11 +28,11 @@ pub(crate) struct Draft<'a> {
 
 impl<'a> Model for Draft<'a> {
     ghost use Rattle.std.specs.Prelude.{◌++◌, ◌∷◌, [], vec_len};
-    ghost use Rattle.simplecss_selector.specs.Drafts.{Drafted};
+    ghost use Rattle.simplecss_selector.specs.SelectorDrafts.{Drafted};
 
     ghost Value = { Drafted };
 
-    ghost use Rattle.simplecss_selector.specs.Seen.{drafted, IsFlat};
+    ghost use Rattle.simplecss_selector.specs.SeenSelectors.{drafted, IsFlat};
 
     ghost view = { λ d. drafted d.parts.items d.subselectors.items
         (record { combinator = d.combinator; name = d.name; end = vec_len d.subselectors }) };
@@ -40,11 +40,11 @@ impl<'a> Model for Draft<'a> {
     ghost invariant = { λ d. IsFlat
         (d.parts.items
         ++ (record { combinator = d.combinator; name = d.name; end = vec_len d.subselectors }) ∷ [])
-        d.subselectors.items (vec_len d.subselectors) d.run_ends.items };
+        d.subselectors.items (vec_len d.subselectors) d.stretch_ends.items };
 }
 
 /// Adds to a list, of which the first growth makes room for two: few components have more
-/// subselectors, and few selectors more runs.
+/// subselectors, and few selectors more stretches.
 #[inline(always)]
 fn push_few<T: Drop>(list: &mut Vec<T>, item: T) -> Result<(), AllocError>
     ensures ok { OnOk result (list.new.items ≡ list.old.items ++ item ∷ []) }
@@ -58,19 +58,19 @@ fn push_few<T: Drop>(list: &mut Vec<T>, item: T) -> Result<(), AllocError>
     Ok(())
 }
 
-/// Adds the end of a run, where a component that is joined to those before it begins another.
+/// Adds the end of a stretch, where a component that is joined to those before it begins another.
 #[inline(always)]
-fn push_run_end(
-    run_ends: &mut Vec<usize>,
+fn push_stretch_end(
+    stretch_ends: &mut Vec<usize>,
     end: usize,
     combinator: Combinator,
 ) -> Result<(), AllocError>
-    ensures ok { OnOk result (run_ends.new.items
-        ≡ kept_ends_after (combinator_of combinator) end run_ends.old.items) }
-    ensures err { OnErr result (run_ends.new.items ≡ run_ends.old.items) }
+    ensures ok { OnOk result (stretch_ends.new.items
+        ≡ kept_ends_after (combinator_of combinator) end stretch_ends.old.items) }
+    ensures err { OnErr result (stretch_ends.new.items ≡ stretch_ends.old.items) }
 {
     match combinator {
-        Combinator::Descendant => push_few(run_ends, end),
+        Combinator::Descendant => push_few(stretch_ends, end),
         Combinator::None | Combinator::Child | Combinator::Adjacent => Ok(()),
     }
 }
@@ -78,12 +78,12 @@ fn push_run_end(
 impl<'a> Draft<'a> {
     /// One component, of any type, with nothing else asked.
     pub(crate) fn new(alloc: Global) -> Draft<'a>
-        ensures { result ≡ begun }
+        ensures { result ≡ empty_draft }
     {
         Draft {
             parts: Vec::new(alloc),
             subselectors: Vec::new(alloc),
-            run_ends: Vec::new(alloc),
+            stretch_ends: Vec::new(alloc),
             combinator: Combinator::None,
             name: None,
         }
@@ -124,7 +124,7 @@ impl<'a> Draft<'a> {
             end: self.subselectors.len(),
         };
         self.parts.push(part)?;
-        if let Err(error) = push_run_end(&mut self.run_ends, self.parts.len(), combinator) {
+        if let Err(error) = push_stretch_end(&mut self.stretch_ends, self.parts.len(), combinator) {
             self.parts.pop();
             return Err(error);
         }
@@ -141,7 +141,7 @@ impl<'a> Draft<'a> {
         let Draft {
             parts,
             subselectors,
-            run_ends,
+            stretch_ends,
             combinator,
             name,
         } = self;
@@ -154,7 +154,7 @@ impl<'a> Draft<'a> {
             parts,
             last,
             subselectors,
-            run_ends,
+            stretch_ends,
         }
     }
 }

@@ -17,7 +17,7 @@ use crate::{AttributeOperator, PseudoClass};
 ///   is_named = λ entries i name. option_map_or (λ e. bytes_eq e.name.now name) (slice_get entries i) false;
 ///   has_attribute = λ entries i name operator. bytes_eq name (codes "class")
 ///       && option_map_or (λ e. is_as_asked operator e.class.now) (slice_get entries i) false;
-///   is_in_class = λ entries i class. false;
+///   is_in_pseudo_class = λ entries i class. false;
 /// }
 /// ```
 ///
@@ -71,7 +71,7 @@ pub trait Element: Drop {
     ghost use Rattle.std.specs.Prelude.{◌≡◌, Option, option_map};
     ghost use Rattle.simplecss_selector.specs.Trees.{Tree, DepthCountsAncestors};
     ghost use Rattle.simplecss_selector.specs.Trees.{SiblingsShareParent};
-    ghost use Rattle.simplecss_selector.specs.Asked.{operator_of, class_of};
+    ghost use Rattle.simplecss_selector.specs.SeenOperators.{operator_of, pseudo_class_of};
 
     ghost Node: { Type 0 };
 
@@ -98,7 +98,7 @@ pub trait Element: Drop {
 
     /// Whether the element is in the pseudo-class.
     fn pseudo_class_matches(&self, class: PseudoClass<'_>) -> bool
-        ensures { result ≡ tree.is_in_class (node self.now) (class_of class.entry) };
+        ensures { result ≡ tree.is_in_pseudo_class (node self.now) (pseudo_class_of class.entry) };
 
     ghost depth_law: { DepthCountsAncestors tree };
 

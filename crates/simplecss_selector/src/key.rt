@@ -2,7 +2,7 @@
 ghost use Rattle.std.specs.Prelude.{◌≡◌, map};
 ghost use Rattle.std.specs.Option.{option_map};
 ghost use Rattle.simplecss_selector.specs.Keys.{asked_id, asked_class, first_asked};
-ghost use Rattle.simplecss_selector.specs.Seen.{subselector_of};
+ghost use Rattle.simplecss_selector.specs.SeenSelectors.{subselector_of};
 
 use crate::selector::SubSelector;
 

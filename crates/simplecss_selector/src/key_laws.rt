@@ -2,7 +2,7 @@
 ghost use Rattle.std.specs.Prelude.{◌≡◌, ◌↔◌, IsTrue, List};
 ghost use Rattle.simplecss_text.specs.Components.{Component};
 ghost use Rattle.simplecss_selector.specs.Keys.{key_of, has_key};
-ghost use Rattle.simplecss_selector.specs.KeyValues.{key_value};
+ghost use Rattle.simplecss_selector.specs.SeenKeys.{key_value};
 ghost use Rattle.simplecss_selector.specs.Placements.{HasPlacement};
 
 use crate::{Element, Key};

@@ -1,14 +1,14 @@
 //! Laws of selectors: each is the contract of a function that does nothing.
 ghost use Rattle.std.specs.Prelude.{◌≡◌, ◌≤◌, ◌↔◌, ℕ, List, IsTrue};
 ghost use Rattle.simplecss_text.specs.ThisEdition.{this_edition};
-ghost use Rattle.simplecss_text.specs.TokenRuns.{fault_count, run_of};
-ghost use Rattle.simplecss_selector.specs.Given.{token_of};
+ghost use Rattle.simplecss_text.specs.TokenSequences.{fault_count, sequence_of};
+ghost use Rattle.simplecss_selector.specs.SeenTokens.{token_of};
 
 use crate::SelectorToken;
 
 /// What a tokenizer gives on any text has at most two errors.
 pub fn at_most_two_errors()
-    ensures { (text : List ℕ) → fault_count (run_of this_edition text) ≤ 2 }
+    ensures { (text : List ℕ) → fault_count (sequence_of this_edition text) ≤ 2 }
 {}
 
 /// Tokens are equal exactly if they are of the same kind and their names and values have the same

@@ -1,17 +1,17 @@
-//! Matching: a search that places each run of child and adjacent steps once.
+//! Matching: a search that places each stretch of child and adjacent steps once.
 ghost use Rattle.std.specs.Prelude.{◌≡◌, ◌+◌, ◌*◌, ◌<◌, ◌≤◌, ◌↔◌, ◌∷◌, IsTrue, length, slice_index};
 ghost use Rattle.std.specs.Option.{option_map};
-ghost use Rattle.simplecss_selector.specs.Combinators.{combinator_of};
-ghost use Rattle.simplecss_selector.specs.Fits.{Finds, TestsPlaced};
-ghost use Rattle.simplecss_selector.specs.Placements.{Meets, HasPlacement, longest_run};
-ghost use Rattle.simplecss_selector.specs.Runs.{IsRun};
-ghost use Rattle.simplecss_selector.specs.Searches.{step_from as node_before};
+ghost use Rattle.simplecss_selector.specs.SeenCombinators.{combinator_of};
+ghost use Rattle.simplecss_selector.specs.StretchFits.{Finds, TestsPlaced};
+ghost use Rattle.simplecss_selector.specs.Placements.{Meets, HasPlacement, longest_stretch};
+ghost use Rattle.simplecss_selector.specs.Stretches.{IsStretch};
+ghost use Rattle.simplecss_selector.specs.PlacementSearch.{step_from as node_before};
 ghost use Rattle.simplecss_selector.specs.Shapes.{component_at};
 
 use crate::selector::{Combinator, Selector};
 use crate::{Element, Tests};
 
-/// What trying a run of child and adjacent steps at one node has found.
+/// What trying a stretch of child and adjacent steps at one node has found.
 #[derive(Drop)]
 enum Fit<E> {
     /// A component is not met, or has no node.
@@ -20,20 +20,20 @@ enum Fit<E> {
     Alone,
     /// All are met, and no component is left.
     Whole,
-    /// All are met, and the components before the run are left, to be placed at or above the node.
+    /// All are met, and the components before the stretch are left, to be placed at or above the node.
     Rest(E),
 }
 
-/// A run of child and adjacent steps: the places of its first and of its last component.
+/// A stretch of child and adjacent steps: the places of its first and of its last component.
 #[derive(Clone, Copy)]
-struct Run {
+struct Stretch {
     /// The place of the first.
     first: usize,
     /// The place of the last.
     last: usize,
 }
 
-/// Where a run begins, before which so many of the runs with these ends stand.
+/// Where a stretch begins, before which so many of the stretches with these ends stand.
 #[inline(always)]
 fn begin_after(ends: &[usize], count: usize) -> usize
     requires { count ≤ length ends.now }
@@ -42,15 +42,15 @@ fn begin_after(ends: &[usize], count: usize) -> usize
     if count == 0 { 0 } else { ends[count - 1] }
 }
 
-/// The run of this number, from 0 on, of the runs with these ends.
+/// The stretch of this number, from 0 on, of the stretches with these ends.
 #[inline(always)]
-fn run_at(ends: &[usize], number: usize) -> Run
+fn stretch_at(ends: &[usize], number: usize) -> Stretch
     requires within { number < length ends.now }
     requires some { 0 < slice_index ends.now number }
     ensures first { result.first ≡ slice_index (0 ∷ ends.now) number }
     ensures last { result.last + 1 ≡ slice_index ends.now number }
 {
-    Run {
+    Stretch {
         first: begin_after(ends, number),
         last: ends[number] - 1,
     }
@@ -97,19 +97,24 @@ pub(crate) fn is_met_at<E: Element>(
     true
 }
 
-/// Goes up the run from `lowest`, which meets its last component.
+/// Goes up the stretch from `lowest`, which meets its last component.
 #[inline(always)]
-fn climb<E: Element>(selector: &Selector<'_>, run: Run, lowest: &E, tests: &mut Tests) -> Fit<E>
-    requires run { IsRun selector.now run.first run.last }
-    requires met { Meets E.tree (E.node lowest.now) (component_at selector.now run.last).compound }
-    ensures finds { Finds E.tree E.node selector.now run.first run.last (E.node lowest.now) result }
-    ensures placed { TestsPlaced run.first run.last tests.old (tests.new + 1) result }
+fn climb<E: Element>(
+    selector: &Selector<'_>,
+    stretch: Stretch,
+    lowest: &E,
+    tests: &mut Tests,
+) -> Fit<E>
+    requires stretch { IsStretch selector.now stretch.first stretch.last }
+    requires met { Meets E.tree (E.node lowest.now) (component_at selector.now stretch.last).compound }
+    ensures finds { Finds E.tree E.node selector.now stretch.first stretch.last (E.node lowest.now) result }
+    ensures placed { TestsPlaced stretch.first stretch.last tests.old (tests.new + 1) result }
     ensures tested { tests.old ≤ tests.new }
-    ensures bounded { tests.new + 1 ≤ tests.old + longest_run selector.now }
+    ensures bounded { tests.new + 1 ≤ tests.old + longest_stretch selector.now }
 {
-    let mut place = run.last;
+    let mut place = stretch.last;
     let mut top: Option<E> = None;
-    'steps: while place > run.first {
+    'steps: while place > stretch.first {
         let node = top.as_ref().unwrap_or(lowest);
         let Some(before) = step_from(selector.combinator(place), node) else {
             return Fit::Misfit;
@@ -120,7 +125,7 @@ fn climb<E: Element>(selector: &Selector<'_>, run: Run, lowest: &E, tests: &mut 
         }
         top = Some(before);
     }
-    if run.first == 0 {
+    if stretch.first == 0 {
         return Fit::Whole;
     }
     let node = top.as_ref().unwrap_or(lowest);
@@ -130,22 +135,27 @@ fn climb<E: Element>(selector: &Selector<'_>, run: Run, lowest: &E, tests: &mut 
     }
 }
 
-/// Tries the run with its last component on `lowest`.
+/// Tries the stretch with its last component on `lowest`.
 #[inline(always)]
-fn place_run<E: Element>(selector: &Selector<'_>, run: Run, lowest: &E, tests: &mut Tests) -> Fit<E>
-    requires { IsRun selector.now run.first run.last }
-    ensures finds { Finds E.tree E.node selector.now run.first run.last (E.node lowest.now) result }
-    ensures placed { TestsPlaced run.first run.last tests.old tests.new result }
+fn place_stretch<E: Element>(
+    selector: &Selector<'_>,
+    stretch: Stretch,
+    lowest: &E,
+    tests: &mut Tests,
+) -> Fit<E>
+    requires { IsStretch selector.now stretch.first stretch.last }
+    ensures finds { Finds E.tree E.node selector.now stretch.first stretch.last (E.node lowest.now) result }
+    ensures placed { TestsPlaced stretch.first stretch.last tests.old tests.new result }
     ensures tested { tests.old < tests.new }
-    ensures bounded { tests.new ≤ tests.old + longest_run selector.now }
+    ensures bounded { tests.new ≤ tests.old + longest_stretch selector.now }
 {
-    if !is_met_at(selector, run.last, lowest, tests) {
+    if !is_met_at(selector, stretch.last, lowest, tests) {
         return Fit::Misfit;
     }
-    climb(selector, run, lowest, tests)
+    climb(selector, stretch, lowest, tests)
 }
 
-/// Goes on from the element, which meets the last component, through the runs. Out of line, since
+/// Goes on from the element, which meets the last component, through the stretches. Out of line, since
 /// most elements do not meet the last component.
 #[inline(never)]
 pub(crate) fn goes_on<E: Element>(
@@ -160,20 +170,20 @@ pub(crate) fn goes_on<E: Element>(
     ensures tested { tests.old ≤ tests.new }
     ensures all_when_true { IsTrue result → tests.old + last ≤ tests.new }
     ensures bounded { tests.new + 1
-        ≤ tests.old + longest_run selector.now * (E.tree.depth (E.node element.now) + 1) }
+        ≤ tests.old + longest_stretch selector.now * (E.tree.depth (E.node element.now) + 1) }
 {
-    let ends = selector.run_ends.as_slice();
+    let ends = selector.stretch_ends.as_slice();
     let mut number = ends.len();
     let first = begin_after(ends, number);
-    let mut candidate = match climb(selector, Run { first, last }, element, tests) {
+    let mut candidate = match climb(selector, Stretch { first, last }, element, tests) {
         Fit::Misfit | Fit::Alone => return false,
         Fit::Whole => return true,
         Fit::Rest(above) => above,
     };
     number -= 1;
-    let mut run = run_at(ends, number);
+    let mut stretch = stretch_at(ends, number);
     loop {
-        match place_run(selector, run, &candidate, tests) {
+        match place_stretch(selector, stretch, &candidate, tests) {
             Fit::Alone => return false,
             Fit::Whole => return true,
             Fit::Misfit => match candidate.parent_element() {
@@ -183,7 +193,7 @@ pub(crate) fn goes_on<E: Element>(
             Fit::Rest(above) => {
                 candidate = above;
                 number -= 1;
-                run = run_at(ends, number);
+                stretch = stretch_at(ends, number);
             }
         }
     }

@@ -18,7 +18,7 @@ pub enum AttributeOperator<'a> {
 
 impl<'a> AttributeOperator<'a> {
     ghost use Rattle.std.specs.Prelude.{◌≡◌, ◌↔◌, IsTrue};
-    ghost use Rattle.simplecss_selector.specs.Asked.{operator_of};
+    ghost use Rattle.simplecss_selector.specs.SeenOperators.{operator_of};
     ghost use Rattle.simplecss_selector.specs.Operators.{is_as_asked, IsAsAsked};
 
     /// Whether the value of an attribute is as the operator asks.

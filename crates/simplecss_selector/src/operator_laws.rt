@@ -1,6 +1,6 @@
 //! Laws of equality, for what selectors ask.
 ghost use Rattle.std.specs.Prelude.{◌≡◌, ◌↔◌, IsTrue};
-ghost use Rattle.simplecss_selector.specs.Asked.{operator_of, class_of};
+ghost use Rattle.simplecss_selector.specs.SeenOperators.{operator_of, pseudo_class_of};
 
 use crate::{AttributeOperator, PseudoClass};
 
@@ -11,5 +11,5 @@ pub fn operator_equality_laws()
         → IsTrue (⟦<AttributeOperator<'static> as PartialEq>⟧.eq a b)
         ↔ (operator_of a ≡ operator_of b) }
     ensures classes { (a b : PseudoClass)
-        → IsTrue (⟦<PseudoClass<'static> as PartialEq>⟧.eq a b) ↔ (class_of a ≡ class_of b) }
+        → IsTrue (⟦<PseudoClass<'static> as PartialEq>⟧.eq a b) ↔ (pseudo_class_of a ≡ pseudo_class_of b) }
 {}

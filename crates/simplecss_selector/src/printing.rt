@@ -4,11 +4,11 @@ ghost use Rattle.std.specs.Prelude.{◌≡◌, ◌++◌, map};
 ghost use Rattle.std.specs.Fmt.{WritesStyledOnOk};
 ghost use Rattle.std.specs.List.{flat_map};
 ghost use Rattle.std.specs.Option.{option_map};
-ghost use Rattle.simplecss_text.specs.Printing.{class_text, operator_text, subselector_text};
+ghost use Rattle.simplecss_text.specs.Printing.{pseudo_class_text, operator_text, subselector_text};
 ghost use Rattle.simplecss_text.specs.Printing.{combinator_text, type_text, component_text};
-ghost use Rattle.simplecss_selector.specs.Asked.{operator_of, class_of};
-ghost use Rattle.simplecss_selector.specs.Combinators.{combinator_of};
-ghost use Rattle.simplecss_selector.specs.Seen.{subselector_of, component_of_part};
+ghost use Rattle.simplecss_selector.specs.SeenOperators.{operator_of, pseudo_class_of};
+ghost use Rattle.simplecss_selector.specs.SeenCombinators.{combinator_of};
+ghost use Rattle.simplecss_selector.specs.SeenSelectors.{subselector_of, component_of_part};
 
 use crate::selector::{Combinator, Part, Selector, SubSelector};
 use crate::{AttributeOperator, PseudoClass};
@@ -16,14 +16,14 @@ use std::fmt;
 
 impl<'a> fmt::Display for PseudoClass<'a> {
     ghost use Rattle.std.specs.Prelude.{Some};
-    ghost use Rattle.simplecss_text.specs.Printing.{class_text};
-    ghost use Rattle.simplecss_selector.specs.Asked.{class_of};
+    ghost use Rattle.simplecss_text.specs.Printing.{pseudo_class_text};
+    ghost use Rattle.simplecss_selector.specs.SeenOperators.{pseudo_class_of};
 
-    ghost output = { λ c. Some (class_text (class_of c)) };
+    ghost output = { λ c. Some (pseudo_class_text (pseudo_class_of c)) };
 
-    ghost styled_output = { λ c _. Some (class_text (class_of c)) };
+    ghost styled_output = { λ c _. Some (pseudo_class_text (pseudo_class_of c)) };
 
-    #[tactic(auto, using(simplecss_text::proofs::printed::Styled::plain_of_styled))]
+    #[tactic(auto, using(simplecss_text::proofs::printed::StyledWrites::plain_of_styled))]
     fn fmt<W: fmt::Write>(&self, f: &mut fmt::Formatter<W>) -> fmt::Result {
         write_class(f, *self)
     }
@@ -37,7 +37,7 @@ impl<'a> fmt::Display for Selector<'a> {
 
     ghost styled_output = { λ s _. Some (selector_text s) };
 
-    #[tactic(auto, using(simplecss_text::proofs::printed::Styled::plain_of_styled))]
+    #[tactic(auto, using(simplecss_text::proofs::printed::StyledWrites::plain_of_styled))]
     fn fmt<W: fmt::Write>(&self, f: &mut fmt::Formatter<W>) -> fmt::Result {
         for place in 0..self.len() {
             let (part, subselectors) = self.component(place);
@@ -48,7 +48,7 @@ impl<'a> fmt::Display for Selector<'a> {
 }
 
 /// Writes a component, with what stands before it.
-#[tactic(auto, using(simplecss_text::proofs::printed::Styled::styled_three))]
+#[tactic(auto, using(simplecss_text::proofs::printed::StyledWrites::styled_three))]
 fn write_component<W: fmt::Write>(
     f: &mut fmt::Formatter<W>,
     part: Part,
@@ -99,7 +99,7 @@ fn write_subselectors<W: fmt::Write>(
 }
 
 /// Writes an attribute in brackets, or a pseudo-class behind its colon.
-#[tactic(auto, using(simplecss_text::proofs::printed::Styled::styled_two, simplecss_text::proofs::printed::Styled::styled_four))]
+#[tactic(auto, using(simplecss_text::proofs::printed::StyledWrites::styled_two, simplecss_text::proofs::printed::StyledWrites::styled_four))]
 fn write_subselector<W: fmt::Write>(
     f: &mut fmt::Formatter<W>,
     subselector: SubSelector,
@@ -140,7 +140,7 @@ fn write_operator<W: fmt::Write>(
 /// Writes a pseudo-class without its colon.
 fn write_class<W: fmt::Write>(f: &mut fmt::Formatter<W>, class: PseudoClass) -> fmt::Result
     ensures { WritesStyledOnOk W.write_str_gives f.old result
-        (class_text (class_of class.entry)) f.new }
+        (pseudo_class_text (pseudo_class_of class.entry)) f.new }
 {
     match class {
         PseudoClass::FirstChild => f.write_str("first-child"),
@@ -154,7 +154,7 @@ fn write_class<W: fmt::Write>(f: &mut fmt::Formatter<W>, class: PseudoClass) -> 
 }
 
 /// Writes three texts one after another.
-#[tactic(auto, using(simplecss_text::proofs::printed::Styled::styled_three))]
+#[tactic(auto, using(simplecss_text::proofs::printed::StyledWrites::styled_three))]
 fn write_three<W: fmt::Write>(f: &mut fmt::Formatter<W>, a: &str, b: &str, c: &str) -> fmt::Result
     ensures { WritesStyledOnOk W.write_str_gives f.old result (a.now ++ b.now ++ c.now) f.new }
 {

@@ -2,11 +2,11 @@
 ghost use Rattle.std.specs.Prelude.{◌≡◌, drop, IfOk, IfSome};
 ghost use Rattle.std.specs.Str.{IsCharBoundary};
 ghost use Rattle.simplecss_text.specs.PrintingLaws.{SelectorReadsBack};
-ghost use Rattle.simplecss_text.specs.Selectors.{role_of, class_named, reads};
+ghost use Rattle.simplecss_text.specs.Selectors.{role_of, known_pseudo_class, reads};
 ghost use Rattle.simplecss_text.specs.ThisEdition.{this_edition};
-ghost use Rattle.simplecss_selector.specs.Drafts.{drafted_after};
-ghost use Rattle.simplecss_selector.specs.Given.{token_of};
-ghost use Rattle.simplecss_selector.specs.Filled.{class_seen, is_known};
+ghost use Rattle.simplecss_selector.specs.SelectorDrafts.{drafted_after};
+ghost use Rattle.simplecss_selector.specs.SeenTokens.{token_of};
+ghost use Rattle.simplecss_selector.specs.KnownPseudoClasses.{pseudo_class_seen, is_known};
 
 use crate::draft::Draft;
 use crate::selector::{Combinator, Selector, SubSelector};
@@ -17,7 +17,7 @@ use std::alloc::{AllocError, Global};
 /// The pseudo-class of a name, if there is one.
 #[inline(always)]
 fn pseudo_class<'a>(name: &str) -> Option<PseudoClass<'a>>
-    ensures { class_seen result ≡ class_named name.now }
+    ensures { pseudo_class_seen result ≡ known_pseudo_class name.now }
 {
     match name {
         "first-child" => Some(PseudoClass::FirstChild),

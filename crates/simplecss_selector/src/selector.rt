@@ -4,10 +4,10 @@ ghost use Rattle.std.specs.Prelude.{◌≡◌, ◌+◌, ◌*◌, ◌<◌, ◌≤
 ghost use Rattle.std.specs.Prelude.{slice_index_or, IsTrue};
 ghost use Rattle.std.specs.List.{slice_range};
 ghost use Rattle.simplecss_selector.specs.Placements.{Holds};
-ghost use Rattle.simplecss_selector.specs.Combinators.{combinator_of};
+ghost use Rattle.simplecss_selector.specs.SeenCombinators.{combinator_of};
 ghost use Rattle.simplecss_text.specs.Components.Combinator.{none as no_combinator};
 ghost use Rattle.simplecss_text.specs.Specificity.{is_id};
-ghost use Rattle.simplecss_selector.specs.Seen.{component_of_part, subselector_of};
+ghost use Rattle.simplecss_selector.specs.SeenSelectors.{component_of_part, subselector_of};
 ghost use Rattle.std.specs.Option.{option_map};
 ghost use Rattle.simplecss_selector.specs.Keys.{asked_id, asked_class};
 
@@ -64,10 +64,10 @@ pub struct Selector<'a> {
     pub(crate) last: Part<'a>,
     /// The subselectors of all components, one component after the other.
     pub(crate) subselectors: Vec<SubSelector<'a>>,
-    /// For each run of child and adjacent steps but the last, in order, the number of components up
-    /// to its end. The last run ends with the components, so that a selector of one run takes no
+    /// For each stretch of child and adjacent steps but the last, in order, the number of components up
+    /// to its end. The last stretch ends with the components, so that a selector of one stretch takes no
     /// memory for it.
-    pub(crate) run_ends: Vec<usize>,
+    pub(crate) stretch_ends: Vec<usize>,
 }
 
 impl<'a> Model for Selector<'a> {
@@ -77,12 +77,12 @@ impl<'a> Model for Selector<'a> {
     ghost Value = { List Component };
 
     ghost use Rattle.std.specs.Prelude.{◌++◌, ◌∷◌, [], vec_len};
-    ghost use Rattle.simplecss_selector.specs.Seen.{components_from, IsFlat};
+    ghost use Rattle.simplecss_selector.specs.SeenSelectors.{components_from, IsFlat};
 
     ghost view = { λ s. components_from 0 (s.parts.items ++ s.last ∷ []) s.subselectors.items };
 
     ghost invariant = { λ s. IsFlat (s.parts.items ++ s.last ∷ [])
-        s.subselectors.items (vec_len s.subselectors) s.run_ends.items };
+        s.subselectors.items (vec_len s.subselectors) s.stretch_ends.items };
 }
 
 impl<'a> SubSelector<'a> {
@@ -227,7 +227,7 @@ impl<'a> Selector<'a> {
     /// The selector that a text begins with, or `None` where it is refused (CSS 2.1 section 5).
     ///
     /// It ends where the text ends, before `,` or `{`, or before a `/` that opens no comment and
-    /// stands directly behind a simple selector. It is refused at the first error of its tokens,
+    /// stands directly behind a part of a simple selector. It is refused at the first error of its tokens,
     /// and at a pseudo-class of no known name; the logger is told so. The error is that a growth
     /// was refused.
     pub fn parse<R: Log>(
@@ -265,7 +265,7 @@ impl<'a> Selector<'a> {
 
 /// Matching.
 impl<'a> Selector<'a> {
-    ghost use Rattle.simplecss_selector.specs.Placements.{HasPlacement, longest_run};
+    ghost use Rattle.simplecss_selector.specs.Placements.{HasPlacement, longest_stretch};
 
     /// Whether the selector matches the element, with a count of the tests that were made.
     pub fn matches_counted<E: Element>(&self, element: &E, tests: &mut Tests) -> bool
@@ -274,8 +274,8 @@ impl<'a> Selector<'a> {
         ensures all_when_true { IsTrue result → tests.old + length self.now ≤ tests.new }
         ensures at_most { tests.new
             ≤ tests.old + length self.now * (E.tree.depth (E.node element.now) + 1) }
-        ensures at_most_by_runs { tests.new
-            ≤ tests.old + longest_run self.now * (E.tree.depth (E.node element.now) + 1) }
+        ensures at_most_by_stretches { tests.new
+            ≤ tests.old + longest_stretch self.now * (E.tree.depth (E.node element.now) + 1) }
     {
         let last = self.last_place();
         if !is_met_at(self, last, element, tests) {
@@ -300,7 +300,7 @@ impl<'a> Selector<'a> {
     ghost use Rattle.std.specs.Prelude.{IfOk};
     ghost use Rattle.simplecss_text.specs.Specificity.{specificity};
     ghost use Rattle.simplecss_selector.specs.Keys.{key_of};
-    ghost use Rattle.simplecss_selector.specs.KeyValues.{key_value};
+    ghost use Rattle.simplecss_selector.specs.SeenKeys.{key_value};
 
     /// How specific the selector is: the number of attributes named `id` with any operator, of all
     /// other attributes and pseudo-classes, and of type names, each 255 where it is greater. An id
@@ -348,7 +348,7 @@ impl<'a> Selector<'a> {
             parts: Vec::from_slice(*self.parts.allocator(), &self.parts)?,
             last: self.last,
             subselectors: Vec::from_slice(*self.subselectors.allocator(), &self.subselectors)?,
-            run_ends: Vec::from_slice(*self.run_ends.allocator(), &self.run_ends)?,
+            stretch_ends: Vec::from_slice(*self.stretch_ends.allocator(), &self.stretch_ends)?,
         })
     }
 }

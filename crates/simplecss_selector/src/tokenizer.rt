@@ -9,23 +9,23 @@ ghost use Rattle.simplecss_text.specs.Pieces.{attribute_after as attribute_read}
 ghost use Rattle.simplecss_text.specs.Pieces.{attribute_operator as operator_read};
 ghost use Rattle.simplecss_text.specs.Pieces.{lang_after as language_read};
 ghost use Rattle.simplecss_text.specs.Pieces.{pseudo_class_after as pseudo_class_read};
-ghost use Rattle.simplecss_text.specs.Pieces.{begun as begun_read};
-ghost use Rattle.simplecss_selector.specs.Asked.{operator_of};
-ghost use Rattle.simplecss_selector.specs.Given.{token_of};
+ghost use Rattle.simplecss_text.specs.Pieces.{solid_by_byte as solid_read};
+ghost use Rattle.simplecss_selector.specs.SeenOperators.{operator_of};
+ghost use Rattle.simplecss_selector.specs.SeenTokens.{token_of};
 ghost use Rattle.simplecss_selector.specs.declared.token.SelectorToken.TheVariants.{AttributeSelector};
 ghost use Rattle.simplecss_selector.specs.declared.token.SelectorToken.TheVariants.{LangPseudoClass};
 ghost use Rattle.simplecss_selector.specs.declared.token.SelectorToken.TheVariants.{PseudoClass};
-ghost use Rattle.simplecss_selector.specs.Announced.{announced, IsNamed, IsSimple};
-ghost use Rattle.simplecss_selector.specs.Announced.{state_after_fault};
+ghost use Rattle.simplecss_selector.specs.NextKinds.{next_kind, IsNamed, IsSimplePiece};
+ghost use Rattle.simplecss_selector.specs.NextKinds.{stage_after_fault};
 
 use crate::{AttributeOperator, SelectorToken};
 use simplecss_text::stream::Stream;
 use simplecss_text::{Error, readers, scan};
 use std::iter::FusedIterator;
 
-/// What the byte behind a gap announces.
+/// The kind of what stands behind a gap, by its first byte.
 #[derive(Clone, Copy)]
-enum Follows {
+enum NextKind {
     /// The end of the text, `,` or `{`.
     Stop,
     /// A `/`. It opens no comment, since a gap stands before it.
@@ -50,10 +50,10 @@ enum Follows {
 
 /// Where a tokenizer is.
 #[derive(Clone, Copy)]
-enum State {
+enum Stage {
     /// At the start of the text, or behind a combinator.
     Open,
-    /// Behind a simple selector.
+    /// Behind a simple piece: `*`, a type name, an id, a class, an attribute or a pseudo-class.
     Closed,
     /// Behind a first error: that a selector is missing is still to be told.
     Missing,
@@ -64,33 +64,33 @@ enum State {
 /// The tokens of a selector's text, in order, up to the first error.
 ///
 /// They end where the text ends, or before `,` or `{`, or before a `/` that opens no comment and
-/// stands directly behind a simple selector. Behind an error at most one more comes, that a
+/// stands directly behind a part of a simple selector. Behind an error at most one more comes, that a
 /// selector is missing. No memory is taken.
 #[derive(Drop)]
 pub struct SelectorTokenizer<'a> {
     /// The text, and the place up to which it was read.
     stream: Stream<'a>,
     /// What may come there.
-    state: State,
+    stage: Stage,
 }
 
 /// What the byte announces that stands next.
 #[inline(always)]
-#[tactic(auto, unfolding(crate::specs::Announced::announced))]
-fn what_follows(stream: &Stream<'_>) -> Follows
-    ensures { result ≡ announced (rest_of stream.now) }
+#[tactic(auto, unfolding(crate::specs::NextKinds::next_kind))]
+fn next_kind(stream: &Stream<'_>) -> NextKind
+    ensures { result ≡ next_kind (rest_of stream.now) }
 {
     match readers::peek(stream) {
-        None | Some(b',' | b'{') => Follows::Stop,
-        Some(b'/') => Follows::Slash,
-        Some(b'>') => Follows::Child,
-        Some(b'+') => Follows::Adjacent,
-        Some(b'*') => Follows::Universal,
-        Some(b'#') => Follows::Id,
-        Some(b'.') => Follows::Class,
-        Some(b'[') => Follows::Attribute,
-        Some(b':') => Follows::Colon,
-        Some(_) => Follows::Other,
+        None | Some(b',' | b'{') => NextKind::Stop,
+        Some(b'/') => NextKind::Slash,
+        Some(b'>') => NextKind::Child,
+        Some(b'+') => NextKind::Adjacent,
+        Some(b'*') => NextKind::Universal,
+        Some(b'#') => NextKind::Id,
+        Some(b'.') => NextKind::Class,
+        Some(b'[') => NextKind::Attribute,
+        Some(b':') => NextKind::Colon,
+        Some(_) => NextKind::Other,
     }
 }
 
@@ -190,11 +190,11 @@ fn text_before<'a>(stream: &mut Stream<'a>, byte: u8) -> &'a str
 
 /// A child combinator, which the byte has announced.
 #[inline(always)]
-#[tactic(auto, unfolding(simplecss_text::specs::Pieces::begun, crate::specs::Announced::announced))]
+#[tactic(auto, unfolding(simplecss_text::specs::Pieces::solid_by_byte, crate::specs::NextKinds::next_kind))]
 fn child<'a>(stream: &mut Stream<'a>) -> SelectorToken<'a>
-    requires { announced (rest_of stream.old) ≡ Follows.Child }
+    requires { next_kind (rest_of stream.old) ≡ NextKind.Child }
     ensures text { text_of stream.new ≡ text_of stream.old }
-    ensures reads { begun_read this_edition (rest_of stream.old)
+    ensures reads { solid_read this_edition (rest_of stream.old)
         ≡ got (token_of result) (rest_of stream.new) }
 {
     stream.try_consume_byte(b'>');
@@ -203,11 +203,11 @@ fn child<'a>(stream: &mut Stream<'a>) -> SelectorToken<'a>
 
 /// An adjacent combinator, which the byte has announced.
 #[inline(always)]
-#[tactic(auto, unfolding(simplecss_text::specs::Pieces::begun, crate::specs::Announced::announced))]
+#[tactic(auto, unfolding(simplecss_text::specs::Pieces::solid_by_byte, crate::specs::NextKinds::next_kind))]
 fn adjacent<'a>(stream: &mut Stream<'a>) -> SelectorToken<'a>
-    requires { announced (rest_of stream.old) ≡ Follows.Adjacent }
+    requires { next_kind (rest_of stream.old) ≡ NextKind.Adjacent }
     ensures text { text_of stream.new ≡ text_of stream.old }
-    ensures reads { begun_read this_edition (rest_of stream.old)
+    ensures reads { solid_read this_edition (rest_of stream.old)
         ≡ got (token_of result) (rest_of stream.new) }
 {
     stream.try_consume_byte(b'+');
@@ -216,23 +216,23 @@ fn adjacent<'a>(stream: &mut Stream<'a>) -> SelectorToken<'a>
 
 /// The name of an id or a class behind its sign, or of a type.
 #[inline(always)]
-#[tactic(auto, unfolding(simplecss_text::specs::Pieces::begun, simplecss_text::specs::Pieces::named, crate::specs::Announced::announced))]
-fn name<'a>(stream: &mut Stream<'a>, follows: Follows) -> Result<SelectorToken<'a>, Error>
-    requires here { announced (rest_of stream.old) ≡ follows }
+#[tactic(auto, unfolding(simplecss_text::specs::Pieces::solid_by_byte, simplecss_text::specs::Pieces::named_token, crate::specs::NextKinds::next_kind))]
+fn name<'a>(stream: &mut Stream<'a>, follows: NextKind) -> Result<SelectorToken<'a>, Error>
+    requires here { next_kind (rest_of stream.old) ≡ follows }
     requires named { IsNamed follows }
     ensures text { text_of stream.new ≡ text_of stream.old }
     ensures reads { Gives token_of (text_of stream.old)
-        (begun_read this_edition (rest_of stream.old)) result (rest_of stream.new) }
+        (solid_read this_edition (rest_of stream.old)) result (rest_of stream.new) }
 {
     match follows {
-        Follows::Id => stream.try_consume_byte(b'#'),
-        Follows::Class => stream.try_consume_byte(b'.'),
+        NextKind::Id => stream.try_consume_byte(b'#'),
+        NextKind::Class => stream.try_consume_byte(b'.'),
         _ => {}
     }
     let name = stream.consume_ident()?;
     Ok(match follows {
-        Follows::Id => SelectorToken::IdSelector(name),
-        Follows::Class => SelectorToken::ClassSelector(name),
+        NextKind::Id => SelectorToken::IdSelector(name),
+        NextKind::Class => SelectorToken::ClassSelector(name),
         _ => SelectorToken::TypeSelector(name),
     })
 }
@@ -240,26 +240,26 @@ fn name<'a>(stream: &mut Stream<'a>, follows: Follows) -> Result<SelectorToken<'
 /// A solid piece, which the byte has announced. At a stop and at a `/` it is read as a type, and
 /// fails.
 #[inline(always)]
-#[tactic(auto, unfolding(simplecss_text::specs::Pieces::begun, simplecss_text::specs::Pieces::named, crate::specs::Announced::announced))]
-fn solid_piece<'a>(stream: &mut Stream<'a>, follows: Follows) -> Result<SelectorToken<'a>, Error>
-    requires { announced (rest_of stream.old) ≡ follows }
+#[tactic(auto, unfolding(simplecss_text::specs::Pieces::solid_by_byte, simplecss_text::specs::Pieces::named_token, crate::specs::NextKinds::next_kind))]
+fn solid_piece<'a>(stream: &mut Stream<'a>, follows: NextKind) -> Result<SelectorToken<'a>, Error>
+    requires { next_kind (rest_of stream.old) ≡ follows }
     ensures text { text_of stream.new ≡ text_of stream.old }
     ensures reads { Gives token_of (text_of stream.old)
-        (begun_read this_edition (rest_of stream.old)) result (rest_of stream.new) }
+        (solid_read this_edition (rest_of stream.old)) result (rest_of stream.new) }
 {
     match follows {
-        Follows::Child => Ok(child(stream)),
-        Follows::Adjacent => Ok(adjacent(stream)),
-        Follows::Universal => {
+        NextKind::Child => Ok(child(stream)),
+        NextKind::Adjacent => Ok(adjacent(stream)),
+        NextKind::Universal => {
             stream.try_consume_byte(b'*');
             Ok(SelectorToken::UniversalSelector)
         }
-        Follows::Attribute => {
+        NextKind::Attribute => {
             stream.try_consume_byte(b'[');
             let (name, operator) = attribute(stream)?;
             Ok(SelectorToken::AttributeSelector(name, operator))
         }
-        Follows::Colon => {
+        NextKind::Colon => {
             stream.try_consume_byte(b':');
             Ok(match pseudo_class(stream)? {
                 (language, true) => SelectorToken::LangPseudoClass(language),
@@ -271,7 +271,7 @@ fn solid_piece<'a>(stream: &mut Stream<'a>, follows: Follows) -> Result<Selector
 }
 
 impl<'a> From<&'a str> for SelectorTokenizer<'a> {
-    ghost use Rattle.simplecss_selector.specs.Tokenizer.{Begins};
+    ghost use Rattle.simplecss_selector.specs.SelectorTokenizers.{Begins};
 
     ghost from_gives = { λ text t. Begins text.now t };
 
@@ -279,7 +279,7 @@ impl<'a> From<&'a str> for SelectorTokenizer<'a> {
     fn from(text: &'a str) -> SelectorTokenizer<'a> {
         SelectorTokenizer {
             stream: Stream::from(text),
-            state: State::Open,
+            stage: Stage::Open,
         }
     }
 }
@@ -289,142 +289,142 @@ impl<'a> SelectorTokenizer<'a> {
     ghost use Rattle.std.specs.Prelude.{drop};
     ghost use Rattle.std.specs.Str.{IsCharBoundary};
     ghost use Rattle.simplecss_text.specs.Comments.{gap};
-    ghost use Rattle.simplecss_selector.specs.Tokenizer.{source, place_in, left_of, run_in};
-    ghost use Rattle.simplecss_selector.specs.Tokenizer.{still_to_come, GivesFirst};
+    ghost use Rattle.simplecss_selector.specs.SelectorTokenizers.{whole_text, place_in, left_of, sequence_in};
+    ghost use Rattle.simplecss_selector.specs.SelectorTokenizers.{still_to_come, GivesFirst};
 
     /// The place up to which the text was read, in bytes from its start. It is at most the text's
     /// length and stands between two characters.
     #[inline(always)]
     pub fn pos(&self) -> usize
         ensures place { result ≡ place_in self.now }
-        ensures rest { drop result (source self.now) ≡ left_of self.now }
-        ensures boundary { IsCharBoundary (source self.now) result }
+        ensures rest { drop result (whole_text self.now) ≡ left_of self.now }
+        ensures boundary { IsCharBoundary (whole_text self.now) result }
     {
         self.stream.pos()
     }
 
-    /// What comes at the start of the text or behind a combinator: a token of a simple selector, or
+    /// What comes at the start of the text or behind a combinator: the token of a simple piece, or
     /// an error.
     #[inline(always)]
     fn next_open(&mut self) -> Result<SelectorToken<'a>, Error>
-        ensures source { source self.new ≡ source self.old }
-        ensures first { GivesFirst (source self.old) (run_in State.Open (left_of self.old))
+        ensures whole_text { whole_text self.new ≡ whole_text self.old }
+        ensures first { GivesFirst (whole_text self.old) (sequence_in Stage.Open (left_of self.old))
             (Some result)
             (left_of self.new) (still_to_come self.new) }
     {
         if let Err(error) = readers::consume_gap(&mut self.stream) {
-            self.state = State::Missing;
+            self.stage = Stage::Missing;
             return Err(error);
         }
-        let follows = what_follows(&self.stream);
+        let follows = next_kind(&self.stream);
         match follows {
-            Follows::Stop | Follows::Slash => {
-                self.state = State::Ended;
+            NextKind::Stop | NextKind::Slash => {
+                self.stage = Stage::Ended;
                 Err(Error::SelectorMissing)
             }
-            Follows::Child | Follows::Adjacent => {
-                self.state = State::Ended;
+            NextKind::Child | NextKind::Adjacent => {
+                self.stage = Stage::Ended;
                 Err(Error::UnexpectedCombinator)
             }
             _ => match solid_piece(&mut self.stream, follows) {
                 Ok(token) => {
-                    self.state = State::Closed;
+                    self.stage = Stage::Closed;
                     Ok(token)
                 }
                 Err(error) => {
-                    self.state = after_fault(follows);
+                    self.stage = after_fault(follows);
                     Err(error)
                 }
             },
         }
     }
 
-    /// What comes behind a simple selector.
+    /// What comes behind a simple piece.
     #[inline(always)]
     fn next_closed(&mut self) -> Option<Result<SelectorToken<'a>, Error>>
-        requires { self.old.state ≡ State.Closed }
-        ensures source { source self.new ≡ source self.old }
-        ensures first { GivesFirst (source self.old) (run_in State.Closed (left_of self.old)) result
+        requires { self.old.stage ≡ Stage.Closed }
+        ensures whole_text { whole_text self.new ≡ whole_text self.old }
+        ensures first { GivesFirst (whole_text self.old) (sequence_in Stage.Closed (left_of self.old)) result
             (left_of self.new) (still_to_come self.new) }
     {
         let spaced = match readers::consume_gap(&mut self.stream) {
             Ok(spaced) => spaced,
             Err(error) => {
-                self.state = State::Ended;
+                self.stage = Stage::Ended;
                 return Some(Err(error));
             }
         };
-        let follows = what_follows(&self.stream);
+        let follows = next_kind(&self.stream);
         match follows {
-            Follows::Stop => {
-                self.state = State::Ended;
+            NextKind::Stop => {
+                self.stage = Stage::Ended;
                 None
             }
-            Follows::Slash if spaced => {
-                self.state = State::Ended;
+            NextKind::Slash if spaced => {
+                self.stage = Stage::Ended;
                 Some(Err(slash_error(&mut self.stream)))
             }
-            Follows::Slash => {
-                self.state = State::Ended;
+            NextKind::Slash => {
+                self.stage = Stage::Ended;
                 None
             }
-            Follows::Child => {
-                self.state = State::Open;
+            NextKind::Child => {
+                self.stage = Stage::Open;
                 Some(Ok(child(&mut self.stream)))
             }
-            Follows::Adjacent => {
-                self.state = State::Open;
+            NextKind::Adjacent => {
+                self.stage = Stage::Open;
                 Some(Ok(adjacent(&mut self.stream)))
             }
             _ if spaced => {
-                self.state = State::Open;
+                self.stage = Stage::Open;
                 Some(Ok(SelectorToken::DescendantCombinator))
             }
             _ => Some(self.next_joined(follows)),
         }
     }
 
-    /// What comes directly behind a simple selector: a subselector goes on the compound, and
+    /// What comes directly behind a simple piece: a subselector goes on the simple selector, and
     /// another head is refused.
     #[inline(always)]
-    fn next_joined(&mut self, follows: Follows) -> Result<SelectorToken<'a>, Error>
-        requires state { self.old.state ≡ State.Closed }
-        requires here { announced (left_of self.old) ≡ follows }
-        requires simple { IsSimple follows }
-        ensures source { source self.new ≡ source self.old }
+    fn next_joined(&mut self, follows: NextKind) -> Result<SelectorToken<'a>, Error>
+        requires stage { self.old.stage ≡ Stage.Closed }
+        requires here { next_kind (left_of self.old) ≡ follows }
+        requires simple { IsSimplePiece follows }
+        ensures whole_text { whole_text self.new ≡ whole_text self.old }
         ensures first { (text : List ℕ) → gap text ≡ gives_value false (left_of self.old)
-            → GivesFirst (source self.old) (run_in State.Closed text) (Some result)
+            → GivesFirst (whole_text self.old) (sequence_in Stage.Closed text) (Some result)
             (left_of self.new) (still_to_come self.new) }
     {
-        if let Follows::Universal = follows {
-            self.state = State::Ended;
+        if let NextKind::Universal = follows {
+            self.stage = Stage::Ended;
             return Err(Error::UnexpectedSelector);
         }
         match solid_piece(&mut self.stream, follows) {
             Ok(token) => match follows {
-                Follows::Other => {
-                    self.state = State::Ended;
+                NextKind::Other => {
+                    self.stage = Stage::Ended;
                     Err(Error::UnexpectedSelector)
                 }
                 _ => Ok(token),
             },
             Err(error) => {
-                self.state = State::Ended;
+                self.stage = Stage::Ended;
                 Err(error)
             }
         }
     }
 }
 
-/// Where a tokenizer is behind a fault in place of a simple selector: where no head begins, that
-/// one is missing is still to be told.
+/// Where a tokenizer is behind a fault in place of a simple piece: where no head begins, that a
+/// selector is missing is still to be told.
 #[inline(always)]
-fn after_fault(follows: Follows) -> State
-    ensures { result ≡ state_after_fault follows }
+fn after_fault(follows: NextKind) -> Stage
+    ensures { result ≡ stage_after_fault follows }
 {
     match follows {
-        Follows::Other => State::Missing,
-        _ => State::Ended,
+        NextKind::Other => Stage::Missing,
+        _ => Stage::Ended,
     }
 }
 
@@ -445,7 +445,7 @@ fn slash_error(stream: &mut Stream<'_>) -> Error
 
 impl<'a> Iterator for SelectorTokenizer<'a> {
     ghost use Rattle.std.specs.Iterator.{item_count};
-    ghost use Rattle.simplecss_selector.specs.Tokenizer.{items_left, GivesItem};
+    ghost use Rattle.simplecss_selector.specs.SelectorTokenizers.{items_left, GivesItem};
 
     type Item = Result<SelectorToken<'a>, Error>;
 
@@ -457,14 +457,14 @@ impl<'a> Iterator for SelectorTokenizer<'a> {
     /// before.
     #[inline(always)]
     fn next(&mut self) -> Option<Result<SelectorToken<'a>, Error>> {
-        match self.state {
-            State::Open => Some(self.next_open()),
-            State::Closed => self.next_closed(),
-            State::Missing => {
-                self.state = State::Ended;
+        match self.stage {
+            Stage::Open => Some(self.next_open()),
+            Stage::Closed => self.next_closed(),
+            Stage::Missing => {
+                self.stage = Stage::Ended;
                 Some(Err(Error::SelectorMissing))
             }
-            State::Ended => None,
+            Stage::Ended => None,
         }
     }
 }

@@ -12,7 +12,7 @@ pub mod ReadValues
 pub mod ReadOperators
 pub mod ReadBlanks
 pub mod ReadPieces
-pub mod ReadRuns
+pub mod ReadSequences
 pub mod ReadSelectors
 pub mod TailLaws
-pub mod Styled
+pub mod StyledWrites

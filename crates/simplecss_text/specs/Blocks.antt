@@ -3,7 +3,7 @@ use Rattle.std.specs.Prelude.{ℕ, zero, suc, Bool, ◌||◌, ◌&&◌, ◌==◌
 use Rattle.simplecss_text.specs.Reading.{Reading, got, fails, each}
 use Rattle.simplecss_text.specs.Bytes.{starts, past_byte}
 use Rattle.simplecss_text.specs.Characters.{Edition}
-use Rattle.simplecss_text.specs.Declarations.{Property, declaration, next_declaration}
+use Rattle.simplecss_text.specs.Declarations.{StyleDeclaration, declaration, next_declaration}
 
 -- the least number below n that passes, or n
 abbrev pub least : (ℕ → Bool) → ℕ → ℕ
@@ -33,13 +33,13 @@ abbrev pub ends_list : List ℕ → Bool
 ends_list text = length text == 0 || starts 125 text
 
 -- a declaration where the list of them goes on
-abbrev pub declaration_in_block : Edition → List ℕ → Option (Property × List ℕ)
+abbrev pub declaration_in_block : Edition → List ℕ → Option (StyleDeclaration × List ℕ)
 declaration_in_block edition text = if ends_list text then None else next_declaration edition text
 
 -- Behind a broken declaration all is passed up to the end of the block that reading is in, and its
 -- brace.
-abbrev pub past_broken : Reading Property → List ℕ
-past_broken (got property rest) = rest
+abbrev pub past_broken : Reading StyleDeclaration → List ℕ
+past_broken (got declared rest) = rest
 past_broken (fails fault rest) = past_byte 125 (from_block_end rest)
 
 -- what is left behind the list of declarations
@@ -49,7 +49,7 @@ past_list edition text = if ends_list text then text else past_broken (declarati
 -- The declarations of a block behind its opening brace, and what is left after the block. One brace
 -- that stands directly there is passed, so a block that a broken declaration ended may take a
 -- further one.
-unfoldable pub block : Edition → List ℕ → List Property × List ℕ
+unfoldable pub block : Edition → List ℕ → List StyleDeclaration × List ℕ
 block edition text =
     let listed = each (declaration_in_block edition) text in
     (listed.0, past_byte 125 (past_list edition listed.1))

@@ -2,7 +2,7 @@
 use Rattle.std.specs.Prelude.{◌≡◌, ℕ, List, [], ◌∷◌, ◌++◌, take, drop, map, Option, IsUtf8}
 use Rattle.std.specs.List.{Contains}
 use Rattle.std.specs.Option.{option_map}
-use Rattle.simplecss_text.specs.Reading.{each, place_of}
+use Rattle.simplecss_text.specs.Reading.{each, rest_place}
 use Rattle.simplecss_text.specs.Characters.{Edition}
 use Rattle.simplecss_text.specs.Statements.{StyleRule, next_statement, kept}
 use Rattle.simplecss_text.specs.Sheets.{sheet}
@@ -17,7 +17,7 @@ rests_behind edition text = (each (behind_statement edition) text).0
 
 -- the places at which the statements of a text end
 abbrev pub statement_ends : Edition → List ℕ → List ℕ
-statement_ends edition text = map (place_of text) (rests_behind edition text)
+statement_ends edition text = map (rest_place text) (rests_behind edition text)
 
 -- one of the statements of the text ends at the place
 abbrev pub StatementEndsAt : Edition → List ℕ → ℕ → Type 0

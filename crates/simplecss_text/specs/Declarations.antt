@@ -10,7 +10,7 @@ use Rattle.simplecss_text.specs.Names.{name}
 use Rattle.simplecss_text.specs.Terms.{term}
 
 -- What a declaration says: the name of a property, a value of it, and whether it is important.
-pub record Property : Type 0 where
+pub record StyleDeclaration : Type 0 where
   pub name : List ℕ
   pub value : List ℕ
   pub important : Bool
@@ -79,16 +79,16 @@ trailing = do
   give important
 
 -- the declaration, unless its value is empty, which began at `start`
-abbrev pub unless_empty : (start : List ℕ) → Property → Reader Property
-unless_empty start property text =
-    if length property.value == 0 then fails (no_value start) text else got property text
+abbrev pub unless_empty : (start : List ℕ) → StyleDeclaration → Reader StyleDeclaration
+unless_empty start declared text =
+    if length declared.value == 0 then fails (no_value start) text else got declared text
 
 -- the same, as a reader
 abbrev pub value_reader : Edition → Reader (List ℕ)
 value_reader edition text = always (value edition text)
 
 -- A declaration, or its first fault. An asterisk before the name is dropped.
-unfoldable pub declaration : Edition → Reader Property
+unfoldable pub declaration : Edition → Reader StyleDeclaration
 declaration edition = do
   blank
   optional 42
@@ -102,9 +102,9 @@ declaration edition = do
   unless_empty start (record { name = property; value = stated; important = important })
 
 -- the same, where the fault is not told
-abbrev pub next_declaration : Edition → List ℕ → Option (Property × List ℕ)
+abbrev pub next_declaration : Edition → List ℕ → Option (StyleDeclaration × List ℕ)
 next_declaration edition text = found (declaration edition text)
 
 -- the declarations of a text, up to the first fault or the end
-unfoldable pub declarations : Edition → List ℕ → List Property
+unfoldable pub declarations : Edition → List ℕ → List StyleDeclaration
 declarations edition text = (each (next_declaration edition) text).0

@@ -1,6 +1,6 @@
 -- The errors that tell faults, and how they print.
 use Rattle.std.specs.Prelude.{◌≡◌, ℕ, List, [], ◌∷◌, ◌++◌, codes, decimal, encode_utf8, Option, Some, None, Result, Ok, Err}
-use Rattle.simplecss_text.specs.Reading.{Fault, ended, wrong_byte, no_name, no_comment, no_value, no_selector, unexpected_selector, unexpected_combinator, no_attribute_form, no_language, Reading, got, fails, place_of}
+use Rattle.simplecss_text.specs.Reading.{Fault, ended, wrong_byte, no_name, no_comment, no_value, no_selector, unexpected_selector, unexpected_combinator, no_attribute_form, no_language, Reading, got, fails, rest_place}
 use Rattle.simplecss_text.specs.Positions.{position}
 use Rattle.simplecss_text.specs.declared.TextPos.{TextPos}
 use Rattle.simplecss_text.specs.declared.Error.{Error}
@@ -8,7 +8,7 @@ use Rattle.simplecss_text.specs.declared.Error.TheVariants.{UnexpectedEndOfStrea
 
 -- the position in the text where this rest begins
 abbrev pub position_of : List ℕ → List ℕ → TextPos
-position_of text rest = position text (place_of text rest)
+position_of text rest = position text (rest_place text rest)
 
 -- the error that another byte than the expected one stands there, or none at all
 abbrev pub byte_error : List ℕ → ℕ → List ℕ → Error
@@ -71,6 +71,6 @@ error_text InvalidAttributeSelector = codes "invalid or unsupported attribute se
 error_text InvalidLanguagePseudoClass = codes "invalid language pseudo-class"
 
 -- The same of a call that tells no error: `None` where the reading fails by this fault.
-abbrev pub Finds : {X A : Type 0} → (X → A) → Fault → Reading A → Option X → List ℕ → Type 0
-Finds view fault reading (Some x) left = reading ≡ got (view x) left
-Finds view fault reading None left = reading ≡ fails fault left
+abbrev pub GivesOrNone : {X A : Type 0} → (X → A) → Fault → Reading A → Option X → List ℕ → Type 0
+GivesOrNone view fault reading (Some x) left = reading ≡ got (view x) left
+GivesOrNone view fault reading None left = reading ≡ fails fault left

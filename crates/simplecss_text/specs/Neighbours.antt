@@ -10,9 +10,9 @@ use Rattle.simplecss_text.specs.Pieces.Ending.{at_stop, at_slash, without_head, 
 
 -- The left side of a gap: open at the start of the text and after a combinator, closed after a
 -- simple piece.
-pub data Left : Type 0 where
-  open_left : Left
-  closed_left : Left
+pub data Side : Type 0 where
+  open_side : Side
+  closed_side : Side
 
 -- What follows a gap, with what is left where it begins, or for a type after it, where the table
 -- names that place.
@@ -40,34 +40,34 @@ pub data Answer : Type 0 where
 
 -- The table of neighbours, by the left side, whether the gap has a space byte, and what follows it.
 -- Where a fault follows, the table adds none of its own.
-abbrev pub between : Left → Bool → Follows → Answer
+abbrev pub between : Side → Bool → Follows → Answer
 -- at the start of the text, or behind a combinator
-between open_left spaced subselector = nothing
-between open_left spaced (universal start) = nothing
-between open_left spaced (type_name after) = nothing
-between open_left spaced (combinator start) = refuses unexpected_combinator start
-between open_left spaced (stop start) = refuses no_selector start
-between open_left spaced (slash start) = refuses no_selector start
-between open_left spaced faulty_piece = nothing
-between open_left spaced faulty_gap = nothing
+between open_side spaced subselector = nothing
+between open_side spaced (universal start) = nothing
+between open_side spaced (type_name after) = nothing
+between open_side spaced (combinator start) = refuses unexpected_combinator start
+between open_side spaced (stop start) = refuses no_selector start
+between open_side spaced (slash start) = refuses no_selector start
+between open_side spaced faulty_piece = nothing
+between open_side spaced faulty_gap = nothing
 -- behind a simple piece, without a space byte
-between closed_left false subselector = nothing
-between closed_left false (universal start) = refuses unexpected_selector start
-between closed_left false (type_name after) = refuses unexpected_selector after
-between closed_left false (combinator start) = nothing
-between closed_left false (stop start) = ends_tokens
-between closed_left false (slash start) = ends_tokens
-between closed_left false faulty_piece = nothing
-between closed_left false faulty_gap = nothing
+between closed_side false subselector = nothing
+between closed_side false (universal start) = refuses unexpected_selector start
+between closed_side false (type_name after) = refuses unexpected_selector after
+between closed_side false (combinator start) = nothing
+between closed_side false (stop start) = ends_tokens
+between closed_side false (slash start) = ends_tokens
+between closed_side false faulty_piece = nothing
+between closed_side false faulty_gap = nothing
 -- behind a simple piece and a space byte
-between closed_left true subselector = descends
-between closed_left true (universal start) = descends
-between closed_left true (type_name after) = descends
-between closed_left true (combinator start) = nothing
-between closed_left true (stop start) = ends_tokens
-between closed_left true (slash start) = refuses (no_comment start) (past_one start)
-between closed_left true faulty_piece = descends
-between closed_left true faulty_gap = nothing
+between closed_side true subselector = descends
+between closed_side true (universal start) = descends
+between closed_side true (type_name after) = descends
+between closed_side true (combinator start) = nothing
+between closed_side true (stop start) = ends_tokens
+between closed_side true (slash start) = refuses (no_comment start) (past_one start)
+between closed_side true faulty_piece = descends
+between closed_side true faulty_gap = nothing
 
 -- what a piece with this token is as the one that follows (a descendant combinator is no piece)
 abbrev pub follows_as : Token → (start after : List ℕ) → Follows
@@ -83,26 +83,26 @@ follows_as child_combinator start after = combinator start
 follows_as adjacent_combinator start after = combinator start
 
 -- what stands between the left side and a piece
-abbrev pub before_piece : Left → Piece → Answer
-before_piece left p = between left p.spaced (follows_as p.token p.start p.after)
+abbrev pub before_piece : Side → Piece → Answer
+before_piece side p = between side p.spaced (follows_as p.token p.start p.after)
 
 -- what stands between the left side and the ending
-abbrev pub before_ending : Left → Ending → Answer
-before_ending left (at_stop spaced start) = between left spaced (stop start)
-before_ending left (at_slash spaced start) = between left spaced (slash start)
-before_ending left (without_head spaced start fault after) = between left spaced faulty_piece
-before_ending left (within_piece spaced start fault after) = between left spaced faulty_piece
-before_ending left (within_gap fault after) = between left false faulty_gap
+abbrev pub before_ending : Side → Ending → Answer
+before_ending side (at_stop spaced start) = between side spaced (stop start)
+before_ending side (at_slash spaced start) = between side spaced (slash start)
+before_ending side (without_head spaced start fault after) = between side spaced faulty_piece
+before_ending side (within_piece spaced start fault after) = between side spaced faulty_piece
+before_ending side (within_gap fault after) = between side false faulty_gap
 
 -- the left side of the gap behind a token
-abbrev pub left_behind : Token → Left
-left_behind universal_selector = closed_left
-left_behind (type_selector n) = closed_left
-left_behind (id_selector n) = closed_left
-left_behind (class_selector n) = closed_left
-left_behind (attribute_selector n operator) = closed_left
-left_behind (named_pseudo_class n) = closed_left
-left_behind (lang_pseudo_class value) = closed_left
-left_behind descendant_combinator = open_left
-left_behind child_combinator = open_left
-left_behind adjacent_combinator = open_left
+abbrev pub side_behind : Token → Side
+side_behind universal_selector = closed_side
+side_behind (type_selector n) = closed_side
+side_behind (id_selector n) = closed_side
+side_behind (class_selector n) = closed_side
+side_behind (attribute_selector n operator) = closed_side
+side_behind (named_pseudo_class n) = closed_side
+side_behind (lang_pseudo_class value) = closed_side
+side_behind descendant_combinator = open_side
+side_behind child_combinator = open_side
+side_behind adjacent_combinator = open_side

@@ -64,33 +64,33 @@ pseudo_class_after edition = do
   pseudo_class_named n
 
 -- a name, and the token of that name
-unfoldable pub named : Edition → (List ℕ → Token) → Reader Token
-named edition token = do
+unfoldable pub named_token : Edition → (List ℕ → Token) → Reader Token
+named_token edition token = do
   n ← name edition
   give (token n)
 
 -- The solid piece that a byte begins: `>`, `+`, `*`, an id, a class, an attribute, a pseudo-class,
 -- or else a type.
-unfoldable pub begun : Edition → Reader Token
-begun edition [] = named edition type_selector []
-begun edition (b ∷ text) =
+unfoldable pub solid_by_byte : Edition → Reader Token
+solid_by_byte edition [] = named_token edition type_selector []
+solid_by_byte edition (b ∷ text) =
     if b == 62 then got child_combinator text
     else (if b == 43 then got adjacent_combinator text
     else (if b == 42 then got universal_selector text
-    else (if b == 35 then named edition id_selector text
-    else (if b == 46 then named edition class_selector text
+    else (if b == 35 then named_token edition id_selector text
+    else (if b == 46 then named_token edition class_selector text
     else (if b == 91 then attribute_after edition text
     else (if b == 58 then pseudo_class_after edition text
-    else named edition type_selector (b ∷ text)))))))
+    else named_token edition type_selector (b ∷ text)))))))
 
 -- the end of the text, `,` or `{`
-abbrev pub is_stop : List ℕ → Bool
-is_stop text = length text == 0 || starts 44 text || starts 123 text
+abbrev pub ends_selector : List ℕ → Bool
+ends_selector text = length text == 0 || starts 44 text || starts 123 text
 
 -- A solid piece. At a stop and at a `/` stands none.
 unfoldable pub solid : Edition → Reader Token
 solid edition text =
-    if is_stop text || starts 47 text then fails no_selector text else begun edition text
+    if ends_selector text || starts 47 text then fails no_selector text else solid_by_byte edition text
 
 -- A gap and a solid piece: whether the gap has a space byte, what is left where the solid piece
 -- begins, its token, and what is left after it.
@@ -147,7 +147,7 @@ fault_ending spaced start (fails fault after) =
 abbrev pub gap_ending : Edition → Reading Bool → Ending
 gap_ending edition (fails fault after) = within_gap fault after
 gap_ending edition (got spaced start) =
-    if is_stop start then at_stop spaced start
+    if ends_selector start then at_stop spaced start
     else (if starts 47 start then at_slash spaced start
     else fault_ending spaced start (solid edition start))
 

@@ -1,23 +1,23 @@
 -- The printed texts of selectors and sheets, as joins of the texts of their parts.
 use Rattle.std.specs.Prelude.{ℕ, Bool, true, not, ◌||◌, ◌&&◌, ◌==◌, if◌then◌else◌, List, [], ◌∷◌, ◌++◌, Option, None, Some, codes, map}
 use Rattle.std.specs.List.{flat_map, join_with_byte, list_all}
-use Rattle.simplecss_text.specs.Components.{Operator, Class, Subselector, Combinator, Component}
+use Rattle.simplecss_text.specs.Components.{Operator, KnownPseudoClass, Subselector, Combinator, Component}
 use Rattle.simplecss_text.specs.Components.Operator.{exists, equals, has_word, begins_with}
-use Rattle.simplecss_text.specs.Components.Class.{first_child, link, visited, hover, active, focus, lang}
+use Rattle.simplecss_text.specs.Components.KnownPseudoClass.{first_child, link, visited, hover, active, focus, lang}
 use Rattle.simplecss_text.specs.Components.Subselector.{attribute, pseudo_class}
 use Rattle.simplecss_text.specs.Components.Combinator.{none, descendant, child, adjacent}
-use Rattle.simplecss_text.specs.Declarations.{Property}
+use Rattle.simplecss_text.specs.Declarations.{StyleDeclaration}
 use Rattle.simplecss_text.specs.Statements.{StyleRule}
 
 -- a pseudo-class without its colon
-abbrev pub class_text : Class → List ℕ
-class_text first_child = codes "first-child"
-class_text link = codes "link"
-class_text visited = codes "visited"
-class_text hover = codes "hover"
-class_text active = codes "active"
-class_text focus = codes "focus"
-class_text (lang language) = codes "lang(" ++ language ++ codes ")"
+abbrev pub pseudo_class_text : KnownPseudoClass → List ℕ
+pseudo_class_text first_child = codes "first-child"
+pseudo_class_text link = codes "link"
+pseudo_class_text visited = codes "visited"
+pseudo_class_text hover = codes "hover"
+pseudo_class_text active = codes "active"
+pseudo_class_text focus = codes "focus"
+pseudo_class_text (lang language) = codes "lang(" ++ language ++ codes ")"
 
 -- an operator and its value, which always stands in apostrophes
 abbrev pub operator_text : Operator → List ℕ
@@ -29,7 +29,7 @@ operator_text (begins_with value) = codes "|='" ++ value ++ codes "'"
 -- an attribute in brackets, or a pseudo-class behind its colon
 abbrev pub subselector_text : Subselector → List ℕ
 subselector_text (attribute name operator) = codes "[" ++ name ++ operator_text operator ++ codes "]"
-subselector_text (pseudo_class class) = codes ":" ++ class_text class
+subselector_text (pseudo_class class) = codes ":" ++ pseudo_class_text class
 
 -- what stands before a component
 abbrev pub combinator_text : Combinator → List ℕ
@@ -56,12 +56,12 @@ abbrev pub important_text : Bool → List ℕ
 important_text important = if important then codes " !important" else []
 
 -- a declaration, closed by a semicolon
-abbrev pub property_text : Property → List ℕ
-property_text p = p.name ++ codes ":" ++ p.value ++ important_text p.important ++ codes ";"
+abbrev pub declaration_text : StyleDeclaration → List ℕ
+declaration_text p = p.name ++ codes ":" ++ p.value ++ important_text p.important ++ codes ";"
 
 -- the selector, and the declarations between braces
 abbrev pub rule_text : StyleRule → List ℕ
-rule_text rule = selector_text rule.components ++ codes " { " ++ flat_map property_text rule.properties ++ codes " }"
+rule_text rule = selector_text rule.components ++ codes " { " ++ flat_map declaration_text rule.declarations ++ codes " }"
 
 -- the rules' texts, with a newline between each two
 abbrev pub sheet_text : List StyleRule → List ℕ

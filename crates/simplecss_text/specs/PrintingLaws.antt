@@ -8,10 +8,10 @@ use Rattle.simplecss_text.specs.Characters.{Edition}
 use Rattle.simplecss_text.specs.Comments.{opens_comment, past_blank}
 use Rattle.simplecss_text.specs.Components.{Component}
 use Rattle.simplecss_text.specs.Selectors.{reads}
-use Rattle.simplecss_text.specs.Declarations.{Property, declaration}
+use Rattle.simplecss_text.specs.Declarations.{StyleDeclaration, declaration}
 use Rattle.simplecss_text.specs.Statements.{StyleRule, statement}
 use Rattle.simplecss_text.specs.Sheets.{sheet}
-use Rattle.simplecss_text.specs.Printing.{selector_text, property_text, rule_text, sheet_text, is_clean}
+use Rattle.simplecss_text.specs.Printing.{selector_text, declaration_text, rule_text, sheet_text, is_clean}
 
 -- Printed, the selector reads as itself, with nothing left, exactly if it is clean.
 abbrev pub ReadsBack : Edition → List Component → Type 0
@@ -67,9 +67,9 @@ IsNarrow text = IsUtf8 text × (has_wide_space text ≡ false)
 -- Printed before a text, the declaration reads as itself, and the blank at the front of that text
 -- is passed, where behind that blank stands no semicolon and no open comment. So before a name what
 -- is left begins at that name, and before ` }` at the brace.
-abbrev pub DeclarationReadsBack : Edition → Property → Type 0
+abbrev pub DeclarationReadsBack : Edition → StyleDeclaration → Type 0
 DeclarationReadsBack edition p =
-    (text : List ℕ) → opens_comment (past_blank text) ≡ false → starts 59 (past_blank text) ≡ false → declaration edition (property_text p ++ text) ≡ got p (past_blank text)
+    (text : List ℕ) → opens_comment (past_blank text) ≡ false → starts 59 (past_blank text) ≡ false → declaration edition (declaration_text p ++ text) ≡ got p (past_blank text)
 
 -- Printed before any text, the rule is one statement, which gives this rule alone and leaves that
 -- text.
@@ -84,7 +84,7 @@ are_clean rules = list_all (λ rule. is_clean rule.components) rules
 -- selectors are clean, the sheet that the printed rules are read into has these rules, in their
 -- order.
 pub record PrintsBack (edition : Edition) (rules : List StyleRule) : Type 0 where
-  pub declarations : All (λ rule. All (DeclarationReadsBack edition) rule.properties) rules
+  pub declarations : All (λ rule. All (DeclarationReadsBack edition) rule.declarations) rules
   pub each_rule : All (λ rule. is_clean rule.components ≡ true → RuleReadsBack edition rule) rules
   pub whole : are_clean rules ≡ true → sheet edition (sheet_text rules ∷ []) ≡ rules
 

@@ -1,15 +1,15 @@
 -- The selector of a text.
 use Rattle.std.specs.Prelude.{ℕ, if◌then◌else◌, List, [], ◌∷◌, map, bytes_eq, codes, Option, None, Some, Ok, Err}
 use Rattle.simplecss_text.specs.Characters.{Edition}
-use Rattle.simplecss_text.specs.Components.{Class, Subselector, Combinator, Component}
+use Rattle.simplecss_text.specs.Components.{KnownPseudoClass, Subselector, Combinator, Component}
 use Rattle.simplecss_text.specs.Components.Operator.{equals, has_word}
-use Rattle.simplecss_text.specs.Components.Class.{first_child, link, visited, hover, active, focus, lang}
+use Rattle.simplecss_text.specs.Components.KnownPseudoClass.{first_child, link, visited, hover, active, focus, lang}
 use Rattle.simplecss_text.specs.Components.Subselector.{attribute, pseudo_class}
 use Rattle.simplecss_text.specs.Components.Combinator.{none, descendant, child, adjacent}
 use Rattle.simplecss_text.specs.Tokens.{Token}
 use Rattle.simplecss_text.specs.Tokens.Token.{universal_selector, type_selector, id_selector, class_selector, attribute_selector, named_pseudo_class, lang_pseudo_class, descendant_combinator, child_combinator, adjacent_combinator}
-use Rattle.simplecss_text.specs.TokenRuns.{Run, run_of}
-use Rattle.simplecss_text.specs.TokenRuns.Run.{item, run_end}
+use Rattle.simplecss_text.specs.TokenSequences.{TokenSequence, sequence_of}
+use Rattle.simplecss_text.specs.TokenSequences.TokenSequence.{item, sequence_end}
 
 -- What a token is in a selector.
 pub data Role : Type 0 where
@@ -21,8 +21,8 @@ pub data Role : Type 0 where
   unknown : Role
 
 -- the pseudo-class of a name
-abbrev pub class_named : List ℕ → Option Class
-class_named n =
+abbrev pub known_pseudo_class : List ℕ → Option KnownPseudoClass
+known_pseudo_class n =
     if bytes_eq n (codes "first-child") then Some first_child
     else (if bytes_eq n (codes "link") then Some link
     else (if bytes_eq n (codes "visited") then Some visited
@@ -32,9 +32,9 @@ class_named n =
     else None)))))
 
 -- what a pseudo-class is in a selector, if its name is known
-abbrev pub class_role : Option Class → Role
-class_role None = unknown
-class_role (Some class) = with (pseudo_class class)
+abbrev pub pseudo_class_role : Option KnownPseudoClass → Role
+pseudo_class_role None = unknown
+pseudo_class_role (Some class) = with (pseudo_class class)
 
 -- What a token is in a selector. A class is an attribute `class` with a word, and an id is an
 -- attribute `id` that equals a text.
@@ -44,13 +44,13 @@ role_of (type_selector n) = of_type n
 role_of (id_selector n) = with (attribute (codes "id") (equals n))
 role_of (class_selector n) = with (attribute (codes "class") (has_word n))
 role_of (attribute_selector n operator) = with (attribute n operator)
-role_of (named_pseudo_class n) = class_role (class_named n)
+role_of (named_pseudo_class n) = pseudo_class_role (known_pseudo_class n)
 role_of (lang_pseudo_class value) = with (pseudo_class (lang value))
 role_of descendant_combinator = joint descendant
 role_of child_combinator = joint child
 role_of adjacent_combinator = joint adjacent
 
--- A run is refused at its first fault or unknown pseudo-class, and else gives its tokens' roles.
+-- A sequence is refused at its first fault or unknown pseudo-class, and else gives its tokens' roles.
 -- With it what is left there.
 pub data Outcome : Type 0 where
   refused : (left : List ℕ) → Outcome
@@ -69,9 +69,9 @@ after_role (with subselector) after rest = with_role (with subselector) rest
 after_role (joint combinator) after rest = with_role (joint combinator) rest
 after_role unknown after rest = refused after
 
--- what a run comes to
-abbrev pub outcome : Run → Outcome
-outcome (run_end left) = accepted [] left
+-- what a sequence comes to
+abbrev pub outcome : TokenSequence → Outcome
+outcome (sequence_end left) = accepted [] left
 outcome (item (Err fault) after rest) = refused after
 outcome (item (Ok token) after rest) = after_role (role_of token) after (outcome rest)
 
@@ -120,4 +120,4 @@ selector_of (accepted roles left) = (Some (components_of roles), left)
 
 -- the selector at the front of a text, or none, and what is left where reading ends
 unfoldable pub reads : Edition → List ℕ → Option (List Component) × List ℕ
-reads edition text = selector_of (outcome (run_of edition text))
+reads edition text = selector_of (outcome (sequence_of edition text))

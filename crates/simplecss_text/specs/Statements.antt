@@ -8,13 +8,13 @@ use Rattle.simplecss_text.specs.Comments.{opens_comment, past_blank}
 use Rattle.simplecss_text.specs.Names.{name}
 use Rattle.simplecss_text.specs.Components.{Component}
 use Rattle.simplecss_text.specs.Selectors.{reads}
-use Rattle.simplecss_text.specs.Declarations.{Property}
+use Rattle.simplecss_text.specs.Declarations.{StyleDeclaration}
 use Rattle.simplecss_text.specs.Blocks.{block, from_block_end}
 
 -- A rule of a sheet: the components of its selector, and what its declarations say.
 pub record StyleRule : Type 0 where
   pub components : List Component
-  pub properties : List Property
+  pub declarations : List StyleDeclaration
 
 -- A part of a rule set: its selector, if it gave one, and what is left after it and the space bytes
 -- behind it.
@@ -35,7 +35,7 @@ parts edition text =
 
 -- The declarations of the block that the next opening brace begins, and what is left after it.
 -- Without a brace there are none, and the text is used up.
-unfoldable pub next_block : Edition → List ℕ → List Property × List ℕ
+unfoldable pub next_block : Edition → List ℕ → List StyleDeclaration × List ℕ
 next_block edition text =
     let opened = past (λ b. not (b == 123)) text in
     if starts 123 opened then block edition (past_one opened) else ([], [])
@@ -46,25 +46,25 @@ unfoldable pub rule_set : Edition → List ℕ → List StyleRule × List ℕ
 rule_set edition text =
     let head = parts edition (past_byte 44 text) in
     let body = next_block edition head.1 in
-    (map (λ selector. record { components = selector; properties = body.0 }) head.0, body.1)
+    (map (λ selector. record { components = selector; declarations = body.0 }) head.0, body.1)
 
 -- what is left behind a semicolon, or a block and its closing brace
-abbrev pub past_at_end : List ℕ → List ℕ
-past_at_end text = if starts 123 text then past_byte 125 (from_block_end (past_one text)) else past_byte 59 text
+abbrev pub past_semicolon_or_block : List ℕ → List ℕ
+past_semicolon_or_block text = if starts 123 text then past_byte 125 (from_block_end (past_one text)) else past_byte 59 text
 
 -- Behind the name of an at-rule all is passed up to a semicolon or a block. Without a name it ends
 -- where the fault leaves reading.
-abbrev pub past_at_name : Reading (List ℕ) → List ℕ
-past_at_name (got n rest) = past_at_end (past (is_neither 59 123) rest)
-past_at_name (fails fault rest) = rest
+abbrev pub at_rule_rest_by_name : Reading (List ℕ) → List ℕ
+at_rule_rest_by_name (got n rest) = past_semicolon_or_block (past (is_neither 59 123) rest)
+at_rule_rest_by_name (fails fault rest) = rest
 
 -- what is left after an at-rule, behind its sign
-unfoldable pub past_at_rule : Edition → List ℕ → List ℕ
-past_at_rule edition text = past_at_name (name edition text)
+unfoldable pub at_rule_rest : Edition → List ℕ → List ℕ
+at_rule_rest edition text = at_rule_rest_by_name (name edition text)
 
 -- a statement: the rules that it gives, and what is left after it
 unfoldable pub statement : Edition → List ℕ → List StyleRule × List ℕ
-statement edition text = if starts 64 text then ([], past_at_rule edition (past_one text)) else rule_set edition text
+statement edition text = if starts 64 text then ([], at_rule_rest edition (past_one text)) else rule_set edition text
 
 -- the text has ended, or a comment is open there
 abbrev pub ends_statements : List ℕ → Bool
@@ -80,12 +80,12 @@ unfoldable pub statements : Edition → List ℕ → List (List StyleRule)
 statements edition text = (each (next_statement edition) text).0
 
 -- the rule has a declaration
-abbrev pub has_property : StyleRule → Bool
-has_property rule = not (length rule.properties == 0)
+abbrev pub has_declaration : StyleRule → Bool
+has_declaration rule = not (length rule.declarations == 0)
 
 -- the rules of all statements of a text, in order, that have a declaration
 abbrev pub kept : Edition → List ℕ → List StyleRule
-kept edition text = filter has_property (flat_map (λ rules. rules) (statements edition text))
+kept edition text = filter has_declaration (flat_map (λ rules. rules) (statements edition text))
 
 -- the text is a blank and then a comment that is not closed
 abbrev pub is_open_comment : List ℕ → Bool

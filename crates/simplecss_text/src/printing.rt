@@ -17,7 +17,7 @@ impl fmt::Display for TextPos {
 
     ghost styled_output = { λ pos _. Some (position_text pos) };
 
-    #[tactic(auto, using(crate::proofs::printed::Styled::plain_of_styled))]
+    #[tactic(auto, using(crate::proofs::printed::StyledWrites::plain_of_styled))]
     fn fmt<W: fmt::Write>(&self, f: &mut fmt::Formatter<W>) -> fmt::Result {
         write_position(f, *self)
     }
@@ -34,7 +34,7 @@ impl fmt::Display for Error {
 
     ghost styled_output = { λ e _. Some (error_text e) };
 
-    #[tactic(auto, using(crate::proofs::printed::Styled::plain_of_styled))]
+    #[tactic(auto, using(crate::proofs::printed::StyledWrites::plain_of_styled))]
     fn fmt<W: fmt::Write>(&self, f: &mut fmt::Formatter<W>) -> fmt::Result {
         write_error(f, *self)
     }
@@ -63,7 +63,7 @@ fn write_error<W: fmt::Write>(f: &mut fmt::Formatter<W>, error: Error) -> fmt::R
 }
 
 /// Writes what an `InvalidByte` prints.
-#[tactic(auto, using(crate::proofs::printed::Styled::styled_three))]
+#[tactic(auto, using(crate::proofs::printed::StyledWrites::styled_three))]
 fn write_invalid_byte<W: fmt::Write>(
     f: &mut fmt::Formatter<W>,
     expected: u8,
@@ -79,7 +79,7 @@ fn write_invalid_byte<W: fmt::Write>(
 }
 
 /// Writes the front of it, up to the second byte. Each byte is the character with its number.
-#[tactic(auto, using(crate::proofs::printed::Styled::styled_four))]
+#[tactic(auto, using(crate::proofs::printed::StyledWrites::styled_four))]
 fn write_bytes<W: fmt::Write>(f: &mut fmt::Formatter<W>, expected: u8, actual: u8) -> fmt::Result
     ensures { WritesStyledOnOk W.write_str_gives f.old result
         (codes "expected '" ++ encode_utf8 expected ++ codes "' not '" ++ encode_utf8 actual) f.new }
@@ -91,7 +91,7 @@ fn write_bytes<W: fmt::Write>(f: &mut fmt::Formatter<W>, expected: u8, actual: u
 }
 
 /// Writes the words and the position.
-#[tactic(auto, using(crate::proofs::printed::Styled::styled_two))]
+#[tactic(auto, using(crate::proofs::printed::StyledWrites::styled_two))]
 fn write_at<W: fmt::Write>(f: &mut fmt::Formatter<W>, words: &str, pos: TextPos) -> fmt::Result
     ensures { WritesStyledOnOk W.write_str_gives f.old result
         (words.now ++ position_text pos) f.new }
@@ -101,7 +101,7 @@ fn write_at<W: fmt::Write>(f: &mut fmt::Formatter<W>, words: &str, pos: TextPos)
 }
 
 /// Writes the row, a colon and the column.
-#[tactic(auto, using(crate::proofs::printed::Styled::styled_three))]
+#[tactic(auto, using(crate::proofs::printed::StyledWrites::styled_three))]
 fn write_position<W: fmt::Write>(f: &mut fmt::Formatter<W>, pos: TextPos) -> fmt::Result
     ensures { WritesStyledOnOk W.write_str_gives f.old result (position_text pos) f.new }
 {

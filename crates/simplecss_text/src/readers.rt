@@ -8,7 +8,7 @@ ghost use Rattle.simplecss_text.specs.Comments.{past_blank, blank, gap as gap_re
 ghost use Rattle.simplecss_text.specs.Names.{name as name_read};
 ghost use Rattle.simplecss_text.specs.Strings.{string_after};
 ghost use Rattle.simplecss_text.specs.ThisEdition.{this_edition};
-ghost use Rattle.simplecss_text.specs.Errors.{Gives, Finds};
+ghost use Rattle.simplecss_text.specs.Errors.{Gives, GivesOrNone};
 ghost use Rattle.simplecss_text.specs.Cursor.{text_of, rest_of};
 
 use crate::stream::Stream;
@@ -52,7 +52,7 @@ pub fn pass_byte(s: &mut Stream<'_>, byte: u8) -> bool
 #[inline(always)]
 pub fn take_name<'a>(s: &mut Stream<'a>) -> Option<&'a str>
     ensures text { text_of s.new ≡ text_of s.old }
-    ensures reads { Finds (λ found. found.now) (no_name (rest_of s.old))
+    ensures reads { GivesOrNone (λ found. found.now) (no_name (rest_of s.old))
         (name_read this_edition (rest_of s.old)) result (rest_of s.new) }
 {
     let text = s.slice_tail();
@@ -75,7 +75,7 @@ pub fn take_name<'a>(s: &mut Stream<'a>) -> Option<&'a str>
 pub fn take_string<'a>(s: &mut Stream<'a>, quote: u8) -> Option<&'a str>
     requires { quote < 128 }
     ensures text { text_of s.new ≡ text_of s.old }
-    ensures reads { Finds (λ value. value.now) ended (string_after quote (rest_of s.old))
+    ensures reads { GivesOrNone (λ value. value.now) ended (string_after quote (rest_of s.old))
         result (rest_of s.new) }
 {
     let text = s.slice_tail();
@@ -97,7 +97,7 @@ pub fn take_string<'a>(s: &mut Stream<'a>, quote: u8) -> Option<&'a str>
 #[inline(always)]
 pub fn pass_blank(s: &mut Stream<'_>) -> bool
     ensures text { text_of s.new ≡ text_of s.old }
-    ensures reads { Finds (λ u. u) (no_comment (past_blank (rest_of s.old))) (blank (rest_of s.old))
+    ensures reads { GivesOrNone (λ u. u) (no_comment (past_blank (rest_of s.old))) (blank (rest_of s.old))
         (if result then Some tt else None) (rest_of s.new) }
 {
     let gap = scan::find_gap(s.slice_tail());

@@ -62,7 +62,7 @@ impl<'a> Stream<'a> {
     ghost use Rattle.simplecss_text.specs.Strings.{string_or_name};
     ghost use Rattle.simplecss_text.specs.Positions.{position};
     ghost use Rattle.simplecss_text.specs.Errors.{Gives, position_of};
-    ghost use Rattle.simplecss_text.specs.Runs.{IsByteTest, EndsRun};
+    ghost use Rattle.simplecss_text.specs.ByteTests.{IsByteTest, PassesUpTo};
 
     /// The text, at its start.
     #[tactic(auto, using(crate::proofs::bytes::CutLemmas::boundary_at_start))]
@@ -177,7 +177,7 @@ impl<'a> Stream<'a> {
     pub fn skip_bytes<F: Fn(u8) -> bool>(&mut self, f: F)
         requires { IsByteTest (F.pre f) (F.post f) (text_of self.old) }
         ensures text { text_of self.new ≡ text_of self.old }
-        ensures run { EndsRun (F.post f) (text_of self.old) (place_of self.old)
+        ensures run { PassesUpTo (F.post f) (text_of self.old) (place_of self.old)
             (place_of self.new) }
     {
         let bytes = self.text.as_bytes();
@@ -193,7 +193,7 @@ impl<'a> Stream<'a> {
     pub fn consume_bytes<F: Fn(u8) -> bool>(&mut self, f: F) -> &'a str
         requires { IsByteTest (F.pre f) (F.post f) (text_of self.old) }
         ensures text { text_of self.new ≡ text_of self.old }
-        ensures run { EndsRun (F.post f) (text_of self.old) (place_of self.old)
+        ensures run { PassesUpTo (F.post f) (text_of self.old) (place_of self.old)
             (place_of self.new) }
         ensures value { result.now
             ≡ slice_range (text_of self.old) (place_of self.old) (place_of self.new) }

@@ -1,3 +1,3 @@
 mod Growing
 mod Languages
-pub mod Styled
+pub mod StyledWrites

@@ -3,8 +3,8 @@ use Rattle.std.specs.Prelude.{ℕ, Bool, true, false, List, [], ◌∷◌, ◌&&
 use Rattle.std.specs.List.{slice_get}
 use Rattle.std.specs.Option.{option_map_or, option_and_then, option_or}
 use Rattle.std.specs.Str.{str_eq_ignore_ascii_case}
-use Rattle.simplecss.specs.Components.{Class}
-use Rattle.simplecss.specs.Components.Class.{first_child, link, visited, hover, active, focus, lang}
+use Rattle.simplecss.specs.Components.{KnownPseudoClass}
+use Rattle.simplecss.specs.Components.KnownPseudoClass.{first_child, link, visited, hover, active, focus, lang}
 use Rattle.simplecss.specs.ListTrees.{ListOf, ancestors, sibling_by, list_tree}
 use Rattle.simplecss.specs.Keys.{Told, TellsKeys}
 use Rattle.simplecss.specs.Keys.Key.{by_id, by_class, by_name, by_nothing}
@@ -61,7 +61,7 @@ is_in_language tag language =
 
 -- The first child has no previous sibling; of the other pseudo-classes the states tell, and the
 -- language.
-abbrev pub is_in : List Row → ℕ → Class → Bool
+abbrev pub is_in : List Row → ℕ → KnownPseudoClass → Bool
 is_in rows i first_child = is_none (sibling_by (named_parent rows) (named_previous rows) i)
 is_in rows i link = (states_at rows i).link
 is_in rows i visited = (states_at rows i).visited
@@ -77,7 +77,7 @@ elements = record {
   previous_sibling = named_previous;
   is_named = λ rows i name. bytes_eq (name_at rows i) name;
   has_attribute = λ rows i name operator. option_map_or (is_as_asked operator) (attribute_at rows i name) false;
-  is_in_class = is_in;
+  is_in_pseudo_class = is_in;
 }
 
 -- The elements of all trees.

@@ -46,7 +46,7 @@ impl fmt::Display for TreeError {
 
     ghost styled_output = { λ error _. Some (message_of error) };
 
-    #[tactic(auto, using(crate::proofs::Styled::plain_of_styled))]
+    #[tactic(auto, using(crate::proofs::StyledWrites::plain_of_styled))]
     fn fmt<W: fmt::Write>(&self, f: &mut fmt::Formatter<W>) -> fmt::Result {
         match self {
             TreeError::NoElement => f.write_str("no such element"),

@@ -13,5 +13,5 @@ entry_list = record {
   is_named = λ entries i name. option_map_or (λ e. bytes_eq e.name.now name) (slice_get entries i) false;
   has_attribute = λ entries i name operator. bytes_eq name (codes "class")
       && option_map_or (λ e. is_as_asked operator e.class.now) (slice_get entries i) false;
-  is_in_class = λ entries i class. false;
+  is_in_pseudo_class = λ entries i class. false;
 }

@@ -1,8 +1,8 @@
 //! Style sheets that are edited: rules and declarations are plain vectors.
 ghost use Rattle.std.specs.Prelude.{◌≡◌, ◌++◌, ◌∷◌, [], OnOk};
-ghost use Rattle.simplecss.specs.Properties.{property_of};
+ghost use Rattle.simplecss.specs.SeenDeclarations.{declaration_of};
 ghost use Rattle.simplecss.specs.Statements.{StyleRule};
-ghost use Rattle.simplecss.specs.StyleRules.{rules_in};
+ghost use Rattle.simplecss.specs.SeenRules.{rules_in};
 
 use log::sink::Discard;
 use simplecss::{Declaration, Rule, Selector, StyleSheet};
@@ -16,7 +16,7 @@ pub fn push_rule<'a>(
     declaration: Declaration<'a>,
 ) -> Result<(), AllocError>
     ensures { let rule : StyleRule =
-        record { components = selector.entry; properties = property_of declaration.entry ∷ [] } in
+        record { components = selector.entry; declarations = declaration_of declaration.entry ∷ [] } in
         OnOk result (rules_in sheet.new ≡ rules_in sheet.old ++ rule ∷ []) }
 {
     let declarations = vec![in alloc; declaration]?;

@@ -5,9 +5,9 @@ ghost use Rattle.std.specs.Prelude.{◌≡◌, length, map, count_by, IfOk, IfSo
 ghost use Rattle.std.specs.Prelude.{IsErr, All, false};
 ghost use Rattle.simplecss.specs.ThisEdition.{this_edition};
 ghost use Rattle.simplecss.specs.Declarations.{declarations};
-ghost use Rattle.simplecss.specs.TokenRuns.{tokens_of};
-ghost use Rattle.simplecss.specs.Properties.{property_of};
-ghost use Rattle.simplecss.specs.Given.{item_seen};
+ghost use Rattle.simplecss.specs.TokenSequences.{tokens_of};
+ghost use Rattle.simplecss.specs.SeenDeclarations.{declaration_of};
+ghost use Rattle.simplecss.specs.SeenTokens.{item_seen};
 
 use simplecss::{Declaration, DeclarationTokenizer, Error, SelectorToken, SelectorTokenizer};
 use std::alloc::{AllocError, Global};
@@ -47,7 +47,7 @@ pub fn all_declarations<'a>(
     alloc: Global,
     text: &'a str,
 ) -> Result<Vec<Declaration<'a>>, AllocError>
-    ensures { IfOk result (λ all. map property_of all.items ≡ declarations this_edition text.now) }
+    ensures { IfOk result (λ all. map declaration_of all.items ≡ declarations this_edition text.now) }
 {
     DeclarationTokenizer::from(text).collect(alloc)
 }

@@ -8,7 +8,7 @@ ghost use Rattle.simplecss_text.specs.Blocks.{ends_list, declaration_in_block, p
 ghost use Rattle.simplecss_text.specs.ThisEdition.{this_edition};
 ghost use Rattle.simplecss_text.specs.Cursor.{text_of, rest_of};
 ghost use Rattle.simplecss.specs.BlockDepths.{ClosesFirst, ClosesNowhere};
-ghost use Rattle.simplecss_declaration.specs.Properties.{property_of};
+ghost use Rattle.simplecss_declaration.specs.SeenDeclarations.{declaration_of};
 
 use simplecss_declaration::{Declaration, consume_declaration};
 use simplecss_text::readers;
@@ -124,7 +124,7 @@ fn consume_declarations<'a>(
     declarations: &mut Vec<Declaration<'a>>,
 ) -> Result<(), AllocError>
     ensures text { text_of s.new ≡ text_of s.old }
-    ensures values { OnOk result (map property_of declarations.new.items
+    ensures values { OnOk result (map declaration_of declarations.new.items
         ≡ (each (declaration_in_block this_edition) (rest_of s.old)).0) }
     ensures rest { OnOk result (rest_of s.new
         ≡ past_list this_edition (each (declaration_in_block this_edition) (rest_of s.old)).1) }
@@ -152,7 +152,7 @@ pub fn consume_block<'a>(
 ) -> Result<(), AllocError>
     ensures text { text_of s.new ≡ text_of s.old }
     ensures reads { OnOk result (block this_edition (rest_of s.old)
-        ≡ (map property_of declarations.new.items, rest_of s.new)) }
+        ≡ (map declaration_of declarations.new.items, rest_of s.new)) }
 {
     consume_declarations(s, declarations)?;
     s.try_consume_byte(b'}');

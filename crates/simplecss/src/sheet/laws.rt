@@ -3,15 +3,15 @@ ghost use Rattle.std.specs.Prelude.{◌≡◌, ◌↔◌, ◌<◌, ℕ, List, Is
 ghost use Rattle.std.specs.List.{AllPass, flat_map, slice_get};
 ghost use Rattle.std.specs.List.Sorted.{IsPermutation, IsSortedBy, IsStableBy};
 ghost use Rattle.simplecss_text.specs.Ranks.{rank_by};
-ghost use Rattle.simplecss_text.specs.Statements.{StyleRule, has_property, kept};
+ghost use Rattle.simplecss_text.specs.Statements.{StyleRule, has_declaration, kept};
 ghost use Rattle.simplecss_text.specs.Sheets.{is_smaller, ordered, sheet};
 ghost use Rattle.std.specs.Str.{IsUtf8};
 ghost use Rattle.simplecss_text.specs.Cutting.{StatementEndsAt, KeepsAcross};
 ghost use Rattle.simplecss_text.specs.Editions.{IsCommon, KeepsInBoth};
 ghost use Rattle.simplecss_text.specs.ThisEdition.{this_edition};
-ghost use Rattle.simplecss_declaration.specs.Properties.{property_of};
+ghost use Rattle.simplecss_declaration.specs.SeenDeclarations.{declaration_of};
 ghost use Rattle.simplecss.specs.RulePlaces.{ComesBefore};
-ghost use Rattle.simplecss.specs.StyleRules.{rule_of};
+ghost use Rattle.simplecss.specs.SeenRules.{rule_of};
 
 use crate::sheet::Rule;
 use simplecss_declaration::Declaration;
@@ -46,7 +46,7 @@ pub fn place_law()
 
 /// Each rule of a style sheet that was read has a declaration.
 pub fn sheet_law()
-    ensures { (texts : List (List ℕ)) → AllPass has_property (sheet this_edition texts) }
+    ensures { (texts : List (List ℕ)) → AllPass has_declaration (sheet this_edition texts) }
 {}
 
 /// A text has the rules of its front up to a place and then those of what stands from there on,
@@ -69,5 +69,5 @@ pub fn equality_laws()
         ↔ (rule_of a ≡ rule_of b) }
     ensures declarations { (a b : Declaration)
         → IsTrue (⟦<Declaration<'static> as PartialEq>⟧.eq a b)
-        ↔ (property_of a ≡ property_of b) }
+        ↔ (declaration_of a ≡ declaration_of b) }
 {}

@@ -1,9 +1,9 @@
 //! The order of rules by specificity.
 ghost use Rattle.std.specs.Prelude.{◌≡◌, ◌++◌, OnErr, OnOk, filter};
 ghost use Rattle.simplecss_text.specs.Specificity.{specificity};
-ghost use Rattle.simplecss_text.specs.Statements.{has_property};
+ghost use Rattle.simplecss_text.specs.Statements.{has_declaration};
 ghost use Rattle.simplecss_text.specs.Sheets.{ordered};
-ghost use Rattle.simplecss.specs.StyleRules.{rule_of, rules_of};
+ghost use Rattle.simplecss.specs.SeenRules.{rule_of, rules_of};
 
 use crate::sheet::Rule;
 use std::alloc::AllocError;
@@ -23,14 +23,14 @@ fn sort_rules(rules: &mut Vec<Rule>) -> Result<(), AllocError>
 
 /// Whether the rule has a declaration.
 fn has_declaration(rule: &Rule) -> bool
-    ensures { result ≡ has_property (rule_of rule.now) }
+    ensures { result ≡ has_declaration (rule_of rule.now) }
 {
     !rule.declarations.is_empty()
 }
 
 /// Drops the rules without a declaration.
 fn drop_empty(rules: &mut Vec<Rule>)
-    ensures { rules_of rules.new.items ≡ filter has_property (rules_of rules.old.items) }
+    ensures { rules_of rules.new.items ≡ filter has_declaration (rules_of rules.old.items) }
 {
     rules.retain(|rule| has_declaration(rule));
 }
@@ -51,7 +51,7 @@ fn join<'a>(rules: &mut Vec<Rule<'a>>, mut more: Vec<Rule<'a>>) -> Result<(), Al
 /// Adds rules, orders all that have a declaration, and drops the others. An `Err` changes nothing.
 pub(crate) fn merge<'a>(rules: &mut Vec<Rule<'a>>, more: Vec<Rule<'a>>) -> Result<(), AllocError>
     ensures ok { OnOk result (rules_of rules.new.items
-        ≡ ordered (filter has_property (rules_of rules.old.items ++ rules_of more.entry.items))) }
+        ≡ ordered (filter has_declaration (rules_of rules.old.items ++ rules_of more.entry.items))) }
     ensures err { OnErr result (rules.new.items ≡ rules.old.items) }
 {
     let len = rules.len();

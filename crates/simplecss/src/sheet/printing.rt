@@ -2,9 +2,9 @@
 ghost use Rattle.std.specs.Prelude.{◌∷◌};
 ghost use Rattle.std.specs.Fmt.{WritesStyledOnOk};
 ghost use Rattle.std.specs.List.{flat_map};
-ghost use Rattle.simplecss_text.specs.Printing.{property_text, rule_text, sheet_text};
-ghost use Rattle.simplecss_declaration.specs.Properties.{property_of, properties_of};
-ghost use Rattle.simplecss.specs.StyleRules.{rule_of, rules_of};
+ghost use Rattle.simplecss_text.specs.Printing.{declaration_text, rule_text, sheet_text};
+ghost use Rattle.simplecss_declaration.specs.SeenDeclarations.{declaration_of, declarations_of};
+ghost use Rattle.simplecss.specs.SeenRules.{rule_of, rules_of};
 
 use crate::sheet::{Rule, StyleSheet};
 use simplecss_declaration::Declaration;
@@ -16,13 +16,13 @@ use std::fmt::Display;
 impl<'a> Display for StyleSheet<'a> {
     ghost use Rattle.std.specs.Prelude.{Some};
     ghost use Rattle.simplecss_text.specs.Printing.{sheet_text};
-    ghost use Rattle.simplecss.specs.StyleRules.{rules_in};
+    ghost use Rattle.simplecss.specs.SeenRules.{rules_in};
 
     ghost output = { λ s. Some (sheet_text (rules_in s)) };
 
     ghost styled_output = { λ s _. Some (sheet_text (rules_in s)) };
 
-    #[tactic(auto, using(simplecss_text::proofs::printed::Styled::plain_of_styled))]
+    #[tactic(auto, using(simplecss_text::proofs::printed::StyledWrites::plain_of_styled))]
     fn fmt<W: fmt::Write>(&self, f: &mut fmt::Formatter<W>) -> fmt::Result {
         write_rules(f, self.rules.as_slice())
     }
@@ -34,13 +34,13 @@ impl<'a> Display for StyleSheet<'a> {
 impl<'a> Display for Rule<'a> {
     ghost use Rattle.std.specs.Prelude.{Some};
     ghost use Rattle.simplecss_text.specs.Printing.{rule_text};
-    ghost use Rattle.simplecss.specs.StyleRules.{rule_of};
+    ghost use Rattle.simplecss.specs.SeenRules.{rule_of};
 
     ghost output = { λ r. Some (rule_text (rule_of r)) };
 
     ghost styled_output = { λ r _. Some (rule_text (rule_of r)) };
 
-    #[tactic(auto, using(simplecss_text::proofs::printed::Styled::plain_of_styled))]
+    #[tactic(auto, using(simplecss_text::proofs::printed::StyledWrites::plain_of_styled))]
     fn fmt<W: fmt::Write>(&self, f: &mut fmt::Formatter<W>) -> fmt::Result {
         write_rule(f, self)
     }
@@ -70,7 +70,7 @@ fn write_lines<W: fmt::Write>(f: &mut fmt::Formatter<W>, rules: &[Rule]) -> fmt:
 }
 
 /// Writes a newline and the rule.
-#[tactic(auto, using(simplecss_text::proofs::printed::Styled::styled_two))]
+#[tactic(auto, using(simplecss_text::proofs::printed::StyledWrites::styled_two))]
 fn write_line<W: fmt::Write>(f: &mut fmt::Formatter<W>, rule: &Rule) -> fmt::Result
     ensures { WritesStyledOnOk W.write_str_gives f.old result
         (10 ∷ rule_text (rule_of rule.now)) f.new }
@@ -80,7 +80,7 @@ fn write_line<W: fmt::Write>(f: &mut fmt::Formatter<W>, rule: &Rule) -> fmt::Res
 }
 
 /// Writes the selector, and the declarations between braces.
-#[tactic(auto, using(simplecss_text::proofs::printed::Styled::styled_four))]
+#[tactic(auto, using(simplecss_text::proofs::printed::StyledWrites::styled_four))]
 fn write_rule<W: fmt::Write>(f: &mut fmt::Formatter<W>, rule: &Rule) -> fmt::Result
     ensures { WritesStyledOnOk W.write_str_gives f.old result (rule_text (rule_of rule.now)) f.new }
 {
@@ -96,7 +96,7 @@ fn write_declarations<W: fmt::Write>(
     declarations: &[Declaration],
 ) -> fmt::Result
     ensures { WritesStyledOnOk W.write_str_gives f.old result
-        (flat_map property_text (properties_of declarations.now)) f.new }
+        (flat_map declaration_text (declarations_of declarations.now)) f.new }
 {
     for declaration in declarations {
         write_declaration(f, declaration)?;
@@ -110,7 +110,7 @@ fn write_declaration<W: fmt::Write>(
     declaration: &Declaration,
 ) -> fmt::Result
     ensures { WritesStyledOnOk W.write_str_gives f.old result
-        (property_text (property_of declaration.now)) f.new }
+        (declaration_text (declaration_of declaration.now)) f.new }
 {
     declaration.fmt(f)
 }

@@ -3,11 +3,11 @@ ghost use Rattle.std.specs.Prelude.{◌≡◌, ◌++◌, ◌∷◌, [], List, �
 ghost use Rattle.std.specs.Prelude.{MatchBool, MatchOption, None, Some, filter, map, true, false};
 ghost use Rattle.std.specs.List.{All, flat_map};
 ghost use Rattle.simplecss_text.specs.Comments.{past_blank};
-ghost use Rattle.simplecss_text.specs.Statements.{has_property, kept, statement, next_statement};
+ghost use Rattle.simplecss_text.specs.Statements.{has_declaration, kept, statement, next_statement};
 ghost use Rattle.simplecss_text.specs.Statements.{statements, is_open_comment};
 ghost use Rattle.simplecss_text.specs.ThisEdition.{this_edition};
 ghost use Rattle.simplecss_text.specs.Cursor.{text_of, rest_of};
-ghost use Rattle.simplecss.specs.StyleRules.{rule_of, rules_of};
+ghost use Rattle.simplecss.specs.SeenRules.{rule_of, rules_of};
 
 use super::rules::Rule;
 use super::statements::RuleReader;
@@ -58,8 +58,8 @@ fn add_rules<'a, R: Log>(
     rules: &mut Vec<Rule<'a>>,
 ) -> Result<(), AllocError>
     ensures kept { (texts : List (List ℕ))
-        → filter has_property (rules_of rules.old.items) ≡ flat_map (kept this_edition) texts
-        → OnOk result (filter has_property (rules_of rules.new.items)
+        → filter has_declaration (rules_of rules.old.items) ≡ flat_map (kept this_edition) texts
+        → OnOk result (filter has_declaration (rules_of rules.new.items)
         ≡ flat_map (kept this_edition) (texts ++ text.now ∷ [])) }
     ensures utf8 { IsUtf8 text.now }
 {
@@ -75,7 +75,7 @@ pub(crate) fn read_all<'a, R: Log>(
     alloc: Global,
     texts: &[&'a str],
 ) -> Result<Vec<Rule<'a>>, AllocError>
-    ensures kept { IfOk result (λ rules. filter has_property (rules_of rules.items)
+    ensures kept { IfOk result (λ rules. filter has_declaration (rules_of rules.items)
         ≡ flat_map (kept this_edition) (map (λ text. text.now) texts.now)) }
     ensures utf8 { IsOk result → All (λ text. IsUtf8 text.now) texts.now }
 {

@@ -1,12 +1,12 @@
 //! Rule sets and at-rules.
 ghost use Rattle.std.specs.Prelude.{◌≡◌, ◌++◌, [], IfOk, OnOk, map, option_to_list};
-ghost use Rattle.simplecss_text.specs.Statements.{part, parts, next_block, rule_set, past_at_rule};
-ghost use Rattle.simplecss_text.specs.Statements.{past_at_end, statement};
+ghost use Rattle.simplecss_text.specs.Statements.{part, parts, next_block, rule_set, at_rule_rest};
+ghost use Rattle.simplecss_text.specs.Statements.{past_semicolon_or_block, statement};
 ghost use Rattle.simplecss_text.specs.Bytes.{is_neither, past};
 ghost use Rattle.simplecss_text.specs.ThisEdition.{this_edition};
 ghost use Rattle.simplecss_text.specs.Cursor.{text_of, rest_of};
-ghost use Rattle.simplecss_declaration.specs.Properties.{property_of};
-ghost use Rattle.simplecss.specs.StyleRules.{rule_of};
+ghost use Rattle.simplecss_declaration.specs.SeenDeclarations.{declaration_of};
+ghost use Rattle.simplecss.specs.SeenRules.{rule_of};
 ghost use Rattle.simplecss.specs.SharedBlocks.{rules_with};
 
 use super::blocks::{consume_block, pass_block};
@@ -80,7 +80,7 @@ fn consume_next_block<'a>(
 ) -> Result<(), AllocError>
     ensures text { text_of s.new ≡ text_of s.old }
     ensures reads { OnOk result (next_block this_edition (rest_of s.old)
-        ≡ (map property_of declarations.new.items, rest_of s.new)) }
+        ≡ (map declaration_of declarations.new.items, rest_of s.new)) }
 {
     match scan::find_byte(s.slice_tail(), b'{') {
         Some(at) => {
@@ -104,7 +104,7 @@ fn push_rules<'a>(
     declarations: &[Declaration<'a>],
 ) -> Result<(), AllocError>
     ensures { OnOk result (map rule_of rules.new.items ≡ map rule_of rules.old.items
-        ++ rules_with (map property_of declarations.now) selectors.old.items) }
+        ++ rules_with (map declaration_of declarations.now) selectors.old.items) }
 {
     'selectors: for selector in selectors.drain(..) {
         let declarations = Vec::from_slice(alloc, declarations)?;
@@ -120,7 +120,7 @@ fn push_rules<'a>(
 /// that.
 fn pass_to_end(s: &mut Stream<'_>)
     ensures text { text_of s.new ≡ text_of s.old }
-    ensures rest { rest_of s.new ≡ past_at_end (past (is_neither 59 123) (rest_of s.old)) }
+    ensures rest { rest_of s.new ≡ past_semicolon_or_block (past (is_neither 59 123) (rest_of s.old)) }
 {
     s.advance(ends::before_either(s.slice_tail(), b';', b'{'));
     if readers::pass_byte(s, b'{') {
@@ -132,10 +132,10 @@ fn pass_to_end(s: &mut Stream<'_>)
 
 /// Passes an at-rule behind its sign, and tells the logger that it is passed. A faulty name ends
 /// it.
-#[tactic(auto, unfolding(simplecss_text::specs::Statements::past_at_rule))]
+#[tactic(auto, unfolding(simplecss_text::specs::Statements::at_rule_rest))]
 fn pass_at_rule<R: Log>(rt: &R, s: &mut Stream<'_>)
     ensures text { text_of s.new ≡ text_of s.old }
-    ensures rest { rest_of s.new ≡ past_at_rule this_edition (rest_of s.old) }
+    ensures rest { rest_of s.new ≡ at_rule_rest this_edition (rest_of s.old) }
 {
     if let Some(name) = readers::take_name(s) {
         warn!(rt; "The @{} rule is not supported. Skipped.", name);

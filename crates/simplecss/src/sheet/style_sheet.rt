@@ -4,13 +4,13 @@ ghost use Rattle.std.specs.Prelude.{true, false};
 ghost use Rattle.std.specs.List.{All, AllPass};
 ghost use Rattle.simplecss_text.specs.Characters.{first_edition};
 ghost use Rattle.simplecss_text.specs.Editions.{IsCommon};
-ghost use Rattle.simplecss_text.specs.Statements.{has_property, kept, is_open_comment};
+ghost use Rattle.simplecss_text.specs.Statements.{has_declaration, kept, is_open_comment};
 ghost use Rattle.simplecss_text.specs.Sheets.{ordered, sheet};
 ghost use Rattle.simplecss_text.specs.Cutting.{GoesOn};
 ghost use Rattle.simplecss_text.specs.ThisEdition.{this_edition};
 ghost use Rattle.simplecss_text.specs.PrintingLaws.{SelectorsReadBack, has_wide_space, PrintsBack};
 ghost use Rattle.simplecss_text.specs.PrintingLaws.{PrintsBackAfter};
-ghost use Rattle.simplecss.specs.StyleRules.{rules_in};
+ghost use Rattle.simplecss.specs.SeenRules.{rules_in};
 
 use crate::sheet::{Rule, order, reading};
 use log::Log;
@@ -60,7 +60,7 @@ impl<'a> StyleSheet<'a> {
     pub fn parse_all<R: Log>(rt: &R, alloc: Global, texts: &[&'a str]) -> Result<Self, AllocError>
         ensures sheet { IfOk result
             (λ s. rules_in s ≡ sheet this_edition (map (λ text. text.now) texts.now)) }
-        ensures filled { IfOk result (λ s. AllPass has_property (rules_in s)) }
+        ensures filled { IfOk result (λ s. AllPass has_declaration (rules_in s)) }
         ensures selectors { IfOk result (λ s. SelectorsReadBack this_edition (rules_in s)) }
         ensures prints_back { All (λ text. has_wide_space text.now ≡ false) texts.now
             → IfOk result (λ s. PrintsBack this_edition (rules_in s)) }
@@ -84,7 +84,7 @@ impl<'a> StyleSheet<'a> {
         // The old rules that have a declaration and then those of the text, in order.
         ensures ok { OnOk result (is_open_comment text.now ≡ false
             → rules_in self.new
-            ≡ ordered (filter has_property (rules_in self.old) ++ kept this_edition text.now)) }
+            ≡ ordered (filter has_declaration (rules_in self.old) ++ kept this_edition text.now)) }
         ensures nothing { is_open_comment text.now ≡ true → rules_in self.new ≡ rules_in self.old }
         ensures err { OnErr result (rules_in self.new ≡ rules_in self.old) }
         // The sheet of some texts is then the sheet of these and of this one, and each of its rules
@@ -92,7 +92,7 @@ impl<'a> StyleSheet<'a> {
         ensures sheet { (texts : List (List ℕ)) → rules_in self.old ≡ sheet this_edition texts
             → OnOk result (rules_in self.new ≡ sheet this_edition (texts ++ text.now ∷ [])) }
         ensures filled { (texts : List (List ℕ)) → rules_in self.old ≡ sheet this_edition texts
-            → AllPass has_property (rules_in self.new) }
+            → AllPass has_declaration (rules_in self.new) }
         // A text may be read in pieces that are cut where a statement ends.
         ensures pieces { OnOk result
             (GoesOn this_edition (rules_in self.old) text.now (rules_in self.new)) }

@@ -10,8 +10,8 @@ use Rattle.simplecss_text.specs.Characters.{Edition, first_edition, second_editi
 use Rattle.simplecss_text.specs.Comments.{opens_comment, after_comment, blank_part, past_blank, blank}
 use Rattle.simplecss_text.specs.Names.{name}
 use Rattle.simplecss_text.specs.Terms.{arguments, word, term}
-use Rattle.simplecss_text.specs.Declarations.{Property, last_or, terms, value, important_word, importance, semicolon, semicolons, trailing, unless_empty, declaration}
-use Rattle.simplecss_text.specs.Printing.{important_text, property_text}
+use Rattle.simplecss_text.specs.Declarations.{StyleDeclaration, last_or, terms, value, important_word, importance, semicolon, semicolons, trailing, unless_empty, declaration}
+use Rattle.simplecss_text.specs.Printing.{important_text, declaration_text}
 use Rattle.simplecss_text.specs.PrintingLaws.{IsNarrow, DeclarationReadsBack}
 use Rattle.simplecss_text.proofs.reading.DeclarationsLawful.{semicolon-takes}
 use Rattle.simplecss_text.proofs.reading.EndsLaws.{before-append, ends-past_byte, Stands, no_texts}
@@ -32,7 +32,7 @@ use Rattle.simplecss_text.proofs.again.ReadDeclarations.{LeavesText, name-text, 
 use Rattle.simplecss_text.proofs.again.ValuesAgain.{valued-closed, valued-again, value-reads, IsValueText, narrow-parts, terms-end, TermsEnd, value_text-is}
 
 -- what a declaration satisfies that was read from a text without white space past ASCII
-pub record IsProperty (edition : Edition) (p : Property) : Type 0 where
+pub record IsDeclaration (edition : Edition) (p : StyleDeclaration) : Type 0 where
   pub name_is : IsName edition p.name
   pub value_is : IsValueText edition p.value
   pub some : (length p.value == 0) ≡ false
@@ -51,23 +51,23 @@ name-narrow edition text n =
     (name-is edition text m rest n.0 e, got-holds (λ m rest. IsNarrow rest) (name edition text) m rest (narrow-got text (name edition text) n (name_unseen-stands edition text) (name-text edition text n.0)) e))
 
 -- the declaration, from its value
-abbrev stated_as : Edition → List ℕ → List ℕ → List ℕ → Bool → Reader Property
+abbrev stated_as : Edition → List ℕ → List ℕ → List ℕ → Bool → Reader StyleDeclaration
 stated_as edition name start v important = unless_empty start (record { name = name; value = v; important = important })
 
 nothing_stated : (start : List ℕ) → trim (before start start) ≡ []
 unfolding trim_start trim_end chars
 nothing_stated start = ap trim (before-append [] start) ∙ refl
 
-stated-is : (edition : Edition) (name start : List ℕ) (important : Bool) (text : List ℕ) → IsName edition name → IsNarrow start → IfGot (λ p rest. IsProperty edition p) (stated_as edition name start (value edition start).0 important text)
+stated-is : (edition : Edition) (name start : List ℕ) (important : Bool) (text : List ℕ) → IsName edition name → IsNarrow start → IfGot (λ p rest. IsDeclaration edition p) (stated_as edition name start (value edition start).0 important text)
 unfolding value
 stated-is edition name start important text w n = by (terms-end edition start)
   where
     P : List ℕ → Type 0
-    P v = IfGot (λ p rest. IsProperty edition p) (stated_as edition name start v important text)
+    P v = IfGot (λ p rest. IsDeclaration edition p) (stated_as edition name start v important text)
 
     some_stated : (v : List ℕ) → IsValueText edition v → P v
     some_stated v x =
-        if_got-if (λ p rest. IsProperty edition p) (length v == 0) (fails (no_value start) text) (got (record { name = name; value = v; important = important }) text) (λ e. tt)
+        if_got-if (λ p rest. IsDeclaration edition p) (length v == 0) (fails (no_value start) text) (got (record { name = name; value = v; important = important }) text) (λ e. tt)
         (λ e. record { name_is = w; value_is = x; some = e })
 
     by : TermsEnd edition start → P (value edition start).0
@@ -79,12 +79,12 @@ stated-is edition name start important text w n = by (terms-end edition start)
         subst P (sym v) (some_stated (trim (before start x.0)) (value_text-is edition x.0 start n x.1))
 
 -- the declaration, from what stands behind its name
-abbrev behind_name : Edition → List ℕ → Reader Property
+abbrev behind_name : Edition → List ℕ → Reader StyleDeclaration
 behind_name edition name c = follow (blank c) (λ x d. follow (byte 58 d) (λ x e. follow (blank e) (λ x start. follow (trailing (value edition start).1) (stated_as edition name start (value edition start).0))))
 
-named-is : (edition : Edition) (name c : List ℕ) → IsName edition name → IsNarrow c → IfGot (λ p rest. IsProperty edition p) (behind_name edition name c)
+named-is : (edition : Edition) (name c : List ℕ) → IsName edition name → IsNarrow c → IfGot (λ p rest. IsDeclaration edition p) (behind_name edition name c)
 named-is edition name c w n =
-    let P : Property → List ℕ → Type 0 = λ p rest. IsProperty edition p in
+    let P : StyleDeclaration → List ℕ → Type 0 = λ p rest. IsDeclaration edition p in
     let Q : Unit {0} → List ℕ → Type 0 = λ x rest. IsNarrow rest in
     if_got-follow Q P (blank c) _ (narrow-got c (blank c) n (blank-stands c) (blank-text c n.0)) (λ x d nd.
     if_got-follow Q P (byte 58 d) _ (narrow-got d (byte 58 d) nd (byte-stands 58 d) (byte-text 58 d (omega arith) nd.0)) (λ x e ne.
@@ -93,15 +93,15 @@ named-is edition name c w n =
     stated-is edition name start important h w ns))))
 
 -- behind a name that ends the text stands no colon
-ended-is : (edition : Edition) (name c : List ℕ) → c ≡ [] → IfGot (λ p rest. IsProperty edition p) (behind_name edition name c)
+ended-is : (edition : Edition) (name c : List ℕ) → c ≡ [] → IfGot (λ p rest. IsDeclaration edition p) (behind_name edition name c)
 unfolding blank each
-ended-is edition name c e = subst (λ (t : List ℕ). IfGot (λ p rest. IsProperty edition p) (behind_name edition name t)) (sym e) tt
+ended-is edition name c e = subst (λ (t : List ℕ). IfGot (λ p rest. IsDeclaration edition p) (behind_name edition name t)) (sym e) tt
 
 -- what was read as a declaration from such a text
-pub declaration-is : (edition : Edition) (text : List ℕ) → IsNarrow text → IfGot (λ p rest. IsProperty edition p) (declaration edition text)
+pub declaration-is : (edition : Edition) (text : List ℕ) → IsNarrow text → IfGot (λ p rest. IsDeclaration edition p) (declaration edition text)
 unfolding declaration
 declaration-is edition text n =
-    let P : Property → List ℕ → Type 0 = λ p rest. IsProperty edition p in
+    let P : StyleDeclaration → List ℕ → Type 0 = λ p rest. IsDeclaration edition p in
     if_got-follow (λ x rest. IsNarrow rest) P (blank text) _ (narrow-got text (blank text) n (blank-stands text) (blank-text text n.0)) (λ x a na.
     let b = past_byte 42 a in
     let nb = narrow-end a b na (ends-past_byte 42 a) (utf8-past_byte_if 42 a (omega arith) na.0) in
@@ -218,8 +218,8 @@ stated-again edition v true text w o e =
     }
 
 -- a printed declaration, part by part
-pub property-assoc : (p : Property) (text : List ℕ) → property_text p ++ text ≡ p.name ++ (58 ∷ (p.value ++ (important_text p.important ++ (59 ∷ text))))
-property-assoc p text = by p.name p.value (important_text p.important)
+pub declaration_text-assoc : (p : StyleDeclaration) (text : List ℕ) → declaration_text p ++ text ≡ p.name ++ (58 ∷ (p.value ++ (important_text p.important ++ (59 ∷ text))))
+declaration_text-assoc p text = by p.name p.value (important_text p.important)
   where
     by : (n v i : List ℕ) → ((((n ++ (58 ∷ [])) ++ v) ++ i) ++ (59 ∷ [])) ++ text ≡ n ++ (58 ∷ (v ++ (i ++ (59 ∷ text))))
     by n v i =
@@ -228,10 +228,10 @@ property-assoc p text = by p.name p.value (important_text p.important)
         ∙ append_assoc (n ++ (58 ∷ [])) v (i ++ (59 ∷ text))
         ∙ append_assoc n (58 ∷ []) (v ++ (i ++ (59 ∷ text)))
 
-behind_name-reads : (edition : Edition) (p : Property) (text behind : List ℕ) → (length p.value == 0) ≡ false → StatedAgain edition p.value p.important text behind → behind_name edition p.name (58 ∷ (p.value ++ (important_text p.important ++ (59 ∷ text)))) ≡ got p behind
+behind_name-reads : (edition : Edition) (p : StyleDeclaration) (text behind : List ℕ) → (length p.value == 0) ≡ false → StatedAgain edition p.value p.important text behind → behind_name edition p.name (58 ∷ (p.value ++ (important_text p.important ++ (59 ∷ text)))) ≡ got p behind
 behind_name-reads edition p text behind some w =
     let start = p.value ++ (important_text p.important ++ (59 ∷ text)) in
-    let from_value : List ℕ → Reading Property = λ s. follow (trailing (value edition s).1) (stated_as edition p.name s (value edition s).0) in
+    let from_value : List ℕ → Reading StyleDeclaration = λ s. follow (trailing (value edition s).1) (stated_as edition p.name s (value edition s).0) in
     let value_is = w.stated in
     let left_is = w.trails in
     follow-got (blank (58 ∷ start)) tt (58 ∷ start) (λ x d. follow (byte 58 d) (λ x e. follow (blank e) (λ x. from_value))) (blank-none (58 ∷ start) (no_gap-byte 58 start refl refl))
@@ -251,17 +251,17 @@ no_star edition b text w = let e = by edition w in rw e refl
     by second_edition w = other_byte second_edition 42 b (omega arith) refl w
 
 -- A declaration that was read from a text without white space past ASCII reads back.
-pub property-reads_back : (edition : Edition) (p : Property) → IsProperty edition p → DeclarationReadsBack edition p
+pub printed_declaration-reads_back : (edition : Edition) (p : StyleDeclaration) → IsDeclaration edition p → DeclarationReadsBack edition p
 unfolding declaration
-property-reads_back edition p w text o e =
+printed_declaration-reads_back edition p w text o e =
     let behind = 58 ∷ (p.value ++ (important_text p.important ++ (59 ∷ text))) in
     let f = name-first edition p.name w.name_is in
     let whole = p.name ++ behind in
     let begins : whole ≡ f.first ∷ (f.others ++ behind) = ap (λ l. l ++ behind) f.is in
     let calm : NoGap whole = subst NoGap (sym begins) (no_gap-name edition f.first (f.others ++ behind) f.fit) in
     let star : past_byte 42 whole ≡ whole = ap (past_byte 42) begins ∙ no_star edition f.first (f.others ++ behind) f.fit ∙ sym begins in
-    let from_name : List ℕ → Reading Property = λ b. follow (name edition b) (λ m. behind_name edition m) in
-    ap (declaration edition) (property-assoc p text)
+    let from_name : List ℕ → Reading StyleDeclaration = λ b. follow (name edition b) (λ m. behind_name edition m) in
+    ap (declaration edition) (declaration_text-assoc p text)
     ∙ follow-got (blank whole) tt whole (λ x a. from_name (past_byte 42 a)) (blank-none whole calm)
     ∙ ap from_name star
     ∙ follow-got (name edition whole) p.name behind (λ m. behind_name edition m) (name-reads edition p.name behind w.name_is (colon_ends edition (p.value ++ (important_text p.important ++ (59 ∷ text)))))

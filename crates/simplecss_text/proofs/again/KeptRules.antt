@@ -9,9 +9,9 @@ use Rattle.simplecss_text.specs.Characters.{Edition, is_space}
 use Rattle.simplecss_text.specs.Comments.{past_blank}
 use Rattle.simplecss_text.specs.Components.{Component}
 use Rattle.simplecss_text.specs.Selectors.{reads}
-use Rattle.simplecss_text.specs.Declarations.{Property, declaration}
+use Rattle.simplecss_text.specs.Declarations.{StyleDeclaration, declaration}
 use Rattle.simplecss_text.specs.Blocks.{ends_list, declaration_in_block, block}
-use Rattle.simplecss_text.specs.Statements.{StyleRule, part, part_and_comma, parts, next_block, rule_set, past_at_rule, statement, ends_statements, next_statement, statements, has_property, kept}
+use Rattle.simplecss_text.specs.Statements.{StyleRule, part, part_and_comma, parts, next_block, rule_set, at_rule_rest, statement, ends_statements, next_statement, statements, has_declaration, kept}
 use Rattle.simplecss_text.specs.Ranks.{rank_by, of_rank, ordered_by}
 use Rattle.simplecss_text.specs.Sheets.{is_smaller, sheet}
 use Rattle.simplecss_text.proofs.reading.EndsLaws.{ends-ends, ends-past, ends-past_one, ends-past_byte, Stands, no_texts}
@@ -27,19 +27,19 @@ use Rattle.simplecss_text.proofs.cutting.StatementEnds.{part-ends, parts-ends}
 use Rattle.simplecss_text.proofs.cutting.StatementCuts.{EndsWell, next_statement-well}
 
 -- What is known of the texts, and of the declarations that are read from them. It is known of each end that is a text.
-pub record Known (edition : Edition) (Q : List ℕ → Type 0) (R : Property → Type 0) : Type 0 where
+pub record Known (edition : Edition) (Q : List ℕ → Type 0) (R : StyleDeclaration → Type 0) : Type 0 where
   pub is_text : (text : List ℕ) → Q text → IsUtf8 text
   pub of_end : (text rest : List ℕ) → Q text → Ends text rest → IsUtf8 rest → Q rest
   pub declares : (text : List ℕ) → Q text → IfGot (λ p rest. R p) (declaration edition text)
 
 -- a selector behind which a block stands, and its declarations
-pub record IsRule (edition : Edition) (R : Property → Type 0) (rule : StyleRule) : Type 0 where
+pub record IsRule (edition : Edition) (R : StyleDeclaration → Type 0) (rule : StyleRule) : Type 0 where
   pub selector : IsSelector edition rule.components (123 ∷ [])
-  pub properties : AllByRecursion R rule.properties
+  pub declarations : AllByRecursion R rule.declarations
 
 -- a rule that has a declaration
-abbrev pub IfKept : Edition → (Property → Type 0) → StyleRule → Type 0
-IfKept edition R rule = has_property rule ≡ true → IsRule edition R rule
+abbrev pub IfKept : Edition → (StyleDeclaration → Type 0) → StyleRule → Type 0
+IfKept edition R rule = has_declaration rule ≡ true → IsRule edition R rule
 
 -- selectors
 
@@ -92,22 +92,22 @@ parts-are edition text u some =
 
 -- declarations
 
-declared : (edition : Edition) (Q : List ℕ → Type 0) (R : Property → Type 0) → Known edition Q R → (text : List ℕ) → Q text → (r : Reading Property) → IfGot (λ p rest. R p) r → Stands text no_texts r → LeavesText r → IfTaken R Q (found r)
+declared : (edition : Edition) (Q : List ℕ → Type 0) (R : StyleDeclaration → Type 0) → Known edition Q R → (text : List ℕ) → Q text → (r : Reading StyleDeclaration) → IfGot (λ p rest. R p) r → Stands text no_texts r → LeavesText r → IfTaken R Q (found r)
 declared edition Q R known text q (got p rest) h k l = (h, known.of_end text rest q k.at l)
 declared edition Q R known text q (fails fault rest) h k l = tt
 
-in_block : (edition : Edition) (Q : List ℕ → Type 0) (R : Property → Type 0) → Known edition Q R → (text : List ℕ) → Q text → IfTaken R Q (declaration_in_block edition text)
+in_block : (edition : Edition) (Q : List ℕ → Type 0) (R : StyleDeclaration → Type 0) → Known edition Q R → (text : List ℕ) → Q text → IfTaken R Q (declaration_in_block edition text)
 in_block edition Q R known text q = by (ends_list text)
   where
     by : (t : Bool) → IfTaken R Q (if t then None else found (declaration edition text))
     by true = tt
     by false = declared edition Q R known text q (declaration edition text) (known.declares text q) (declaration-stands edition text) (declaration-text edition text (known.is_text text q))
 
-block-declares : (edition : Edition) (Q : List ℕ → Type 0) (R : Property → Type 0) → Known edition Q R → (text : List ℕ) → Q text → AllByRecursion R (block edition text).0
+block-declares : (edition : Edition) (Q : List ℕ → Type 0) (R : StyleDeclaration → Type 0) → Known edition Q R → (text : List ℕ) → Q text → AllByRecursion R (block edition text).0
 unfolding block
 block-declares edition Q R known text q = (each-all R Q (declaration_in_block edition) (in_block edition Q R known) text q).0
 
-next_block-declares : (edition : Edition) (Q : List ℕ → Type 0) (R : Property → Type 0) → Known edition Q R → (whole text : List ℕ) → Q whole → Ends whole text → AllByRecursion R (next_block edition text).0
+next_block-declares : (edition : Edition) (Q : List ℕ → Type 0) (R : StyleDeclaration → Type 0) → Known edition Q R → (whole text : List ℕ) → Q whole → Ends whole text → AllByRecursion R (next_block edition text).0
 unfolding next_block
 next_block-declares edition Q R known whole text q e = by (starts 123 opened) refl
   where
@@ -125,47 +125,47 @@ next_block-declares edition Q R known whole text q e = by (starts 123 opened) re
 
 -- rule sets
 
-rules-are : (edition : Edition) (R : Property → Type 0) (properties : List Property) (selectors : List (List Component)) → AllByRecursion R properties → AllByRecursion (IsBeforeBlock edition) selectors → AllByRecursion (IfKept edition R) (map (λ selector. record { components = selector; properties = properties }) selectors)
-rules-are edition R properties [] ps h = tt
-rules-are edition R properties (s ∷ selectors) ps h = ((λ kept. record { selector = h.0; properties = ps }), rules-are edition R properties selectors ps h.1)
+rules-are : (edition : Edition) (R : StyleDeclaration → Type 0) (declarations : List StyleDeclaration) (selectors : List (List Component)) → AllByRecursion R declarations → AllByRecursion (IsBeforeBlock edition) selectors → AllByRecursion (IfKept edition R) (map (λ selector. record { components = selector; declarations = declarations }) selectors)
+rules-are edition R declarations [] ps h = tt
+rules-are edition R declarations (s ∷ selectors) ps h = ((λ kept. record { selector = h.0; declarations = ps }), rules-are edition R declarations selectors ps h.1)
 
-rules-dropped : (edition : Edition) (R : Property → Type 0) (properties : List Property) (selectors : List (List Component)) → properties ≡ [] → AllByRecursion (IfKept edition R) (map (λ selector. record { components = selector; properties = properties }) selectors)
-rules-dropped edition R properties [] e = tt
-rules-dropped edition R properties (s ∷ selectors) e = ((λ kept. absurd (let none_there : not (length properties == 0) ≡ false = rw e refl in cc)), rules-dropped edition R properties selectors e)
+rules-dropped : (edition : Edition) (R : StyleDeclaration → Type 0) (declarations : List StyleDeclaration) (selectors : List (List Component)) → declarations ≡ [] → AllByRecursion (IfKept edition R) (map (λ selector. record { components = selector; declarations = declarations }) selectors)
+rules-dropped edition R declarations [] e = tt
+rules-dropped edition R declarations (s ∷ selectors) e = ((λ kept. absurd (let none_there : not (length declarations == 0) ≡ false = rw e refl in cc)), rules-dropped edition R declarations selectors e)
 
 next_block-nil : (edition : Edition) → (next_block edition []).0 ≡ []
 unfolding next_block
 next_block-nil edition = refl
 
-rule_set-are : (edition : Edition) (Q : List ℕ → Type 0) (R : Property → Type 0) → Known edition Q R → (text : List ℕ) → Q text → AllByRecursion (IfKept edition R) (rule_set edition text).0
+rule_set-are : (edition : Edition) (Q : List ℕ → Type 0) (R : StyleDeclaration → Type 0) → Known edition Q R → (text : List ℕ) → Q text → AllByRecursion (IfKept edition R) (rule_set edition text).0
 unfolding rule_set
 rule_set-are edition Q R known text q = by (parts edition start).1 refl
   where
     start : List ℕ
     start = past_byte 44 text
 
-    properties : List Property
-    properties = (next_block edition (parts edition start).1).0
+    declarations : List StyleDeclaration
+    declarations = (next_block edition (parts edition start).1).0
 
     u : IsUtf8 start
     u = utf8-past_byte_if 44 text (omega arith) (known.is_text text q)
 
-    by : (rest : List ℕ) → (parts edition start).1 ≡ rest → AllByRecursion (IfKept edition R) (map (λ selector. record { components = selector; properties = properties }) (parts edition start).0)
-    by [] e = rules-dropped edition R properties (parts edition start).0 (ap (λ t. (next_block edition t).0) e ∙ next_block-nil edition)
+    by : (rest : List ℕ) → (parts edition start).1 ≡ rest → AllByRecursion (IfKept edition R) (map (λ selector. record { components = selector; declarations = declarations }) (parts edition start).0)
+    by [] e = rules-dropped edition R declarations (parts edition start).0 (ap (λ t. (next_block edition t).0) e ∙ next_block-nil edition)
     by (b ∷ rest) e =
-        rules-are edition R properties (parts edition start).0
+        rules-are edition R declarations (parts edition start).0
         (next_block-declares edition Q R known text (parts edition start).1 q (ends-ends text start (parts edition start).1 (ends-past_byte 44 text) (parts-ends edition start)))
         (parts-are edition start u (λ none_left. let both = sym e ∙ none_left in cc))
 
-statement-are : (edition : Edition) (Q : List ℕ → Type 0) (R : Property → Type 0) → Known edition Q R → (text : List ℕ) → Q text → AllByRecursion (IfKept edition R) (statement edition text).0
+statement-are : (edition : Edition) (Q : List ℕ → Type 0) (R : StyleDeclaration → Type 0) → Known edition Q R → (text : List ℕ) → Q text → AllByRecursion (IfKept edition R) (statement edition text).0
 unfolding statement
 statement-are edition Q R known text q = by (starts 64 text)
   where
-    by : (t : Bool) → AllByRecursion (IfKept edition R) (if t then ([], past_at_rule edition (past_one text)) else rule_set edition text).0
+    by : (t : Bool) → AllByRecursion (IfKept edition R) (if t then ([], at_rule_rest edition (past_one text)) else rule_set edition text).0
     by true = tt
     by false = rule_set-are edition Q R known text q
 
-next_statement-are : (edition : Edition) (Q : List ℕ → Type 0) (R : Property → Type 0) → Known edition Q R → (text : List ℕ) → Q text → IfTaken (AllByRecursion (IfKept edition R)) Q (next_statement edition text)
+next_statement-are : (edition : Edition) (Q : List ℕ → Type 0) (R : StyleDeclaration → Type 0) → Known edition Q R → (text : List ℕ) → Q text → IfTaken (AllByRecursion (IfKept edition R)) Q (next_statement edition text)
 next_statement-are edition Q R known text q = by (ends_statements (past_blank text)) refl
   where
     start : List ℕ
@@ -187,19 +187,19 @@ all-flat_map P [] h = tt
 all-flat_map P (xs ∷ xss) h = all-append P xs (flat_map (λ xs. xs) xss) h.0 (all-flat_map P xss h.1)
 
 -- a rule with a declaration
-abbrev pub IsKept : Edition → (Property → Type 0) → StyleRule → Type 0
-IsKept edition R rule = IsRule edition R rule × (has_property rule ≡ true)
+abbrev pub IsKept : Edition → (StyleDeclaration → Type 0) → StyleRule → Type 0
+IsKept edition R rule = IsRule edition R rule × (has_declaration rule ≡ true)
 
-all-kept : (edition : Edition) (R : Property → Type 0) (rules : List StyleRule) → AllByRecursion (IfKept edition R) rules → AllByRecursion (IsKept edition R) (filter has_property rules)
+all-kept : (edition : Edition) (R : StyleDeclaration → Type 0) (rules : List StyleRule) → AllByRecursion (IfKept edition R) rules → AllByRecursion (IsKept edition R) (filter has_declaration rules)
 all-kept edition R [] h = tt
-all-kept edition R (rule ∷ rules) h = by (has_property rule) refl (all-kept edition R rules h.1)
+all-kept edition R (rule ∷ rules) h = by (has_declaration rule) refl (all-kept edition R rules h.1)
   where
-    by : (t : Bool) → has_property rule ≡ t → AllByRecursion (IsKept edition R) (filter has_property rules) → AllByRecursion (IsKept edition R) (cond t (rule ∷ filter has_property rules) (filter has_property rules))
+    by : (t : Bool) → has_declaration rule ≡ t → AllByRecursion (IsKept edition R) (filter has_declaration rules) → AllByRecursion (IsKept edition R) (cond t (rule ∷ filter has_declaration rules) (filter has_declaration rules))
     by true e more = ((h.0 e, e), more)
     by false e more = more
 
 -- the kept rules of a text
-pub kept-are : (edition : Edition) (Q : List ℕ → Type 0) (R : Property → Type 0) → Known edition Q R → (text : List ℕ) → Q text → AllByRecursion (IsKept edition R) (kept edition text)
+pub kept-are : (edition : Edition) (Q : List ℕ → Type 0) (R : StyleDeclaration → Type 0) → Known edition Q R → (text : List ℕ) → Q text → AllByRecursion (IsKept edition R) (kept edition text)
 unfolding statements
 kept-are edition Q R known text q =
     all-kept edition R (flat_map (λ rules. rules) (statements edition text))
@@ -238,10 +238,10 @@ all-ordered_by {A = A} P less xs h =
     if_some-map P (λ (p : ℕ × A). p.1) (find (λ (p : ℕ × A). rank_by less xs p.0 p.1 == k) (enumerate_from 0 xs))
     (all-find (λ (p : ℕ × A). P p.1) (λ (p : ℕ × A). rank_by less xs p.0 p.1 == k) (enumerate_from 0 xs) (all-enumerate P 0 xs h)))
 
-each-kept : (edition : Edition) (Q : List ℕ → Type 0) (R : Property → Type 0) → Known edition Q R → (texts : List (List ℕ)) → AllByRecursion Q texts → AllByRecursion (IsKept edition R) (flat_map (kept edition) texts)
+each-kept : (edition : Edition) (Q : List ℕ → Type 0) (R : StyleDeclaration → Type 0) → Known edition Q R → (texts : List (List ℕ)) → AllByRecursion Q texts → AllByRecursion (IsKept edition R) (flat_map (kept edition) texts)
 each-kept edition Q R known [] q = tt
 each-kept edition Q R known (text ∷ texts) q = all-append (IsKept edition R) (kept edition text) (flat_map (kept edition) texts) (kept-are edition Q R known text q.0) (each-kept edition Q R known texts q.1)
 
 -- the rules of a sheet
-pub sheet-are : (edition : Edition) (Q : List ℕ → Type 0) (R : Property → Type 0) → Known edition Q R → (texts : List (List ℕ)) → AllByRecursion Q texts → AllByRecursion (IsKept edition R) (sheet edition texts)
+pub sheet-are : (edition : Edition) (Q : List ℕ → Type 0) (R : StyleDeclaration → Type 0) → Known edition Q R → (texts : List (List ℕ)) → AllByRecursion Q texts → AllByRecursion (IsKept edition R) (sheet edition texts)
 sheet-are edition Q R known texts q = all-ordered_by (IsKept edition R) is_smaller (flat_map (kept edition) texts) (each-kept edition Q R known texts q)

@@ -4,8 +4,8 @@ use Rattle.std.proofs.Common.{false, ℕ, ◌≡◌, List, [], ◌∷◌, ◌++�
 use Rattle.std.specs.List.{AllByRecursion, All}
 use Rattle.std.proofs.lemmas.List.Elements.{All-nil, All-push, All-append, All-weaker, All-filter, All-from_recursion, recursion_from_All}
 use Rattle.simplecss_text.specs.Characters.{Edition}
-use Rattle.simplecss_text.specs.Declarations.{Property, declaration}
-use Rattle.simplecss_text.specs.Statements.{StyleRule, has_property, kept}
+use Rattle.simplecss_text.specs.Declarations.{StyleDeclaration, declaration}
+use Rattle.simplecss_text.specs.Statements.{StyleRule, has_declaration, kept}
 use Rattle.simplecss_text.specs.Sheets.{is_smaller, ordered, sheet}
 use Rattle.simplecss_text.specs.PrintingLaws.{ends_in_hyphen, SelectorReadsBack, SelectorsReadBack}
 use Rattle.simplecss_text.proofs.printed.GotLaws.{Anything, if_got}
@@ -24,7 +24,7 @@ texts-known edition = record {
 abbrev pub ReadsBackAsKept : Edition → StyleRule → Type 0
 ReadsBackAsKept edition rule = SelectorReadsBack edition rule.components × (ends_in_hyphen rule.components ≡ false)
 
-kept-both : (edition : Edition) (R : Property → Type 0) (rules : List StyleRule) → AllByRecursion (IsKept edition R) rules → AllByRecursion (ReadsBackAsKept edition) rules
+kept-both : (edition : Edition) (R : StyleDeclaration → Type 0) (rules : List StyleRule) → AllByRecursion (IsKept edition R) rules → AllByRecursion (ReadsBackAsKept edition) rules
 kept-both edition R [] h = tt
 kept-both edition R (rule ∷ rules) h =
     ((selector-reads_back_both edition rule.components 123 [] h.0.0.selector, selector-no_hyphen edition rule.components 123 [] h.0.0.selector), kept-both edition R rules h.1)
@@ -62,9 +62,9 @@ pub text-reads_back : (edition : Edition) (text : List ℕ) → IsUtf8 text → 
 text-reads_back edition text u = sheet-reads_back edition (text ∷ []) (All-push IsUtf8 [] text (All-nil IsUtf8) u)
 
 -- So do those of a sheet into which one more text was read.
-pub more-reads_back : (edition : Edition) (rules : List StyleRule) (text : List ℕ) → SelectorsReadBack edition rules → IsUtf8 text → SelectorsReadBack edition (ordered (filter has_property rules ++ kept edition text))
+pub more-reads_back : (edition : Edition) (rules : List StyleRule) (text : List ℕ) → SelectorsReadBack edition rules → IsUtf8 text → SelectorsReadBack edition (ordered (filter has_declaration rules ++ kept edition text))
 more-reads_back edition rules text h u =
     let P : StyleRule → Type 0 = ReadsBackAsKept edition in
-    ordered-reads_back edition (filter has_property rules ++ kept edition text)
-    (from_each edition (filter has_property rules ++ kept edition text)
-    (All-append P (filter has_property rules) (kept edition text) (All-filter has_property P rules (to_each edition rules h)) (to_each edition (kept edition text) (kept-reads_back edition text u))))
+    ordered-reads_back edition (filter has_declaration rules ++ kept edition text)
+    (from_each edition (filter has_declaration rules ++ kept edition text)
+    (All-append P (filter has_declaration rules) (kept edition text) (All-filter has_declaration P rules (to_each edition rules h)) (to_each edition (kept edition text) (kept-reads_back edition text u))))

@@ -13,7 +13,7 @@ use Rattle.simplecss_text.specs.Comments.{opens_comment, past_blank, blank}
 use Rattle.simplecss_text.specs.Names.{name}
 use Rattle.simplecss_text.specs.Strings.{is_quote, from_quote, string_up_to}
 use Rattle.simplecss_text.specs.Terms.{is_hex_digit, past_hash, past_decimals, past_unit, past_number, arguments, word, quoted, is_slash_term, begins_number, term}
-use Rattle.simplecss_text.specs.Declarations.{Property, after_term, term_in_value, terms, value, value_reader, important_word, after_mark, importance, semicolon, trailing, unless_empty, declaration}
+use Rattle.simplecss_text.specs.Declarations.{StyleDeclaration, after_term, term_in_value, terms, value, value_reader, important_word, after_mark, importance, semicolon, trailing, unless_empty, declaration}
 use Rattle.simplecss_text.proofs.printed.PrintedHeads.{same_byte}
 use Rattle.simplecss_text.proofs.bytes.Utf8Laws.{utf8-behind_byte, utf8-past_byte, utf8-past_byte_if, utf8-past, utf8-second}
 use Rattle.simplecss_text.proofs.printed.GotLaws.{IfBehind, after_byte-behind, IfTaken, Anything, each-all}
@@ -149,8 +149,8 @@ pub byte-text : (c : ℕ) (text : List ℕ) → c < 128 → IsUtf8 text → Leav
 byte-text c [] low u = u
 byte-text c (b ∷ text) low u = text-if (b == c) (got tt text) (fails (wrong_byte c (b ∷ text)) (b ∷ text)) (λ e. utf8-past_byte b text (let same = same_byte b c e in omega arith) u) (λ e. u)
 
-unless_empty-text : (start : List ℕ) (property : Property) (text : List ℕ) → IsUtf8 text → LeavesText (unless_empty start property text)
-unless_empty-text start property text u = text-if (length property.value == 0) _ _ (λ e. u) (λ e. u)
+unless_empty-text : (start : List ℕ) (declared : StyleDeclaration) (text : List ℕ) → IsUtf8 text → LeavesText (unless_empty start declared text)
+unless_empty-text start declared text u = text-if (length declared.value == 0) _ _ (λ e. u) (λ e. u)
 
 -- what is left after a declaration, or its first fault, is a text
 pub declaration-text : (edition : Edition) (text : List ℕ) → IsUtf8 text → LeavesText (declaration edition text)

@@ -8,10 +8,10 @@ use Rattle.simplecss_text.specs.Characters.{Edition, first_edition, second_editi
 use Rattle.simplecss_text.specs.Comments.{opens_comment, past_blank, blank}
 use Rattle.simplecss_text.specs.Components.{Combinator, Component}
 use Rattle.simplecss_text.specs.Selectors.{reads}
-use Rattle.simplecss_text.specs.Declarations.{Property, declaration}
+use Rattle.simplecss_text.specs.Declarations.{StyleDeclaration, declaration}
 use Rattle.simplecss_text.specs.Blocks.{ends_list, declaration_in_block, past_list, block}
 use Rattle.simplecss_text.specs.Statements.{StyleRule, part, part_and_comma, parts, next_block, rule_set, statement}
-use Rattle.simplecss_text.specs.Printing.{property_text, type_text, subselector_text, component_text, selector_text, rule_text, is_clean}
+use Rattle.simplecss_text.specs.Printing.{declaration_text, type_text, subselector_text, component_text, selector_text, rule_text, is_clean}
 use Rattle.simplecss_text.specs.PrintingLaws.{RuleReadsBack}
 use Rattle.simplecss_text.proofs.reading.EachLaws.{each-none, each-some}
 use Rattle.simplecss_text.proofs.reading.DeclarationLaws.{declaration_in_block-takes}
@@ -22,7 +22,7 @@ use Rattle.simplecss_text.proofs.printed.PrintedSelectors.{IsSelector}
 use Rattle.simplecss_text.proofs.printed.ReadSelectors.{selector-reads_back_before}
 use Rattle.simplecss_text.proofs.again.KeptRules.{IsKept}
 use Rattle.simplecss_text.proofs.again.BlankTails.{past_blank-space}
-use Rattle.simplecss_text.proofs.again.DeclarationsAgain.{IsProperty, property-reads_back, property-assoc}
+use Rattle.simplecss_text.proofs.again.DeclarationsAgain.{IsDeclaration, printed_declaration-reads_back, declaration_text-assoc}
 
 -- A text that begins with a star or with a byte that may begin a name.
 pub record BeginsPart (edition : Edition) (text : List ℕ) : Type 0 where
@@ -86,8 +86,8 @@ selector-begins edition (c ∷ cs) b tail w =
 
 -- the declarations of a block
 
-property-begins : (edition : Edition) (p : Property) (text : List ℕ) → IsProperty edition p → BeginsPart edition (property_text p ++ text)
-property-begins edition p text w = subst (BeginsPart edition) (sym (property-assoc p text)) (begins-append edition p.name _ (begins-name edition p.name w.name_is))
+declaration-begins : (edition : Edition) (p : StyleDeclaration) (text : List ℕ) → IsDeclaration edition p → BeginsPart edition (declaration_text p ++ text)
+declaration-begins edition p text w = subst (BeginsPart edition) (sym (declaration_text-assoc p text)) (begins-append edition p.name _ (begins-name edition p.name w.name_is))
 
 list_goes_on : (edition : Edition) (text : List ℕ) → BeginsPart edition text → ends_list text ≡ false
 list_goes_on edition text w =
@@ -96,14 +96,14 @@ list_goes_on edition text w =
     ap ends_list w.is ∙ rw (some, no) refl
 
 -- where the list of declarations goes on
-abbrev in_list : Edition → Bool → List ℕ → Option (Property × List ℕ)
+abbrev in_list : Edition → Bool → List ℕ → Option (StyleDeclaration × List ℕ)
 in_list edition t text = if t then None else found (declaration edition text)
 
-one-declaration : (edition : Edition) (p : Property) (text : List ℕ) → IsProperty edition p → opens_comment (past_blank text) ≡ false → starts 59 (past_blank text) ≡ false → declaration_in_block edition (property_text p ++ text) ≡ Some (p, past_blank text)
+one-declaration : (edition : Edition) (p : StyleDeclaration) (text : List ℕ) → IsDeclaration edition p → opens_comment (past_blank text) ≡ false → starts 59 (past_blank text) ≡ false → declaration_in_block edition (declaration_text p ++ text) ≡ Some (p, past_blank text)
 one-declaration edition p text w o e =
-    let whole = property_text p ++ text in
-    ap (λ t. in_list edition t whole) (list_goes_on edition whole (property-begins edition p text w))
-    ∙ ap found (property-reads_back edition p w text o e)
+    let whole = declaration_text p ++ text in
+    ap (λ t. in_list edition t whole) (list_goes_on edition whole (declaration-begins edition p text w))
+    ∙ ap found (printed_declaration-reads_back edition p w text o e)
 
 closing-none : (edition : Edition) (text : List ℕ) → declaration_in_block edition (125 ∷ text) ≡ None
 closing-none edition text = let some = some-length 125 text in rw some refl
@@ -112,22 +112,22 @@ closing-blank : (text : List ℕ) → past_blank (32 ∷ 125 ∷ text) ≡ 125 �
 closing-blank text = past_blank-space 32 (125 ∷ text) refl ∙ calm-blank (125 ∷ text) (no_gap-byte 125 text refl refl)
 
 -- the declarations of a printed block, and what is left at its closing brace
-declarations-again : (edition : Edition) (p : Property) (ps : List Property) (text : List ℕ) → IsProperty edition p → AllByRecursion (IsProperty edition) ps
-    → each (declaration_in_block edition) (property_text p ++ (flat_map property_text ps ++ (32 ∷ 125 ∷ text))) ≡ (p ∷ ps, 125 ∷ text)
+declarations-again : (edition : Edition) (p : StyleDeclaration) (ps : List StyleDeclaration) (text : List ℕ) → IsDeclaration edition p → AllByRecursion (IsDeclaration edition) ps
+    → each (declaration_in_block edition) (declaration_text p ++ (flat_map declaration_text ps ++ (32 ∷ 125 ∷ text))) ≡ (p ∷ ps, 125 ∷ text)
 declarations-again edition p [] text w ws =
     let tail = 32 ∷ 125 ∷ text in
     let behind = closing-blank text in
-    each-some (declaration_in_block edition) (declaration_in_block-takes edition) (property_text p ++ tail) (past_blank tail) p (one-declaration edition p tail w (ap opens_comment behind) (ap (starts 59) behind))
+    each-some (declaration_in_block edition) (declaration_in_block-takes edition) (declaration_text p ++ tail) (past_blank tail) p (one-declaration edition p tail w (ap opens_comment behind) (ap (starts 59) behind))
     ∙ ap (λ t. followed_by p (each (declaration_in_block edition) t)) behind
     ∙ ap (followed_by p) (each-none (declaration_in_block edition) (125 ∷ text) (closing-none edition text))
 declarations-again edition p (q ∷ ps) text w ws =
-    let next = property_text q ++ (flat_map property_text ps ++ (32 ∷ 125 ∷ text)) in
-    let tail = flat_map property_text (q ∷ ps) ++ (32 ∷ 125 ∷ text) in
-    let same : tail ≡ next = append_assoc (property_text q) (flat_map property_text ps) (32 ∷ 125 ∷ text) in
-    let begins = property-begins edition q (flat_map property_text ps ++ (32 ∷ 125 ∷ text)) ws.0 in
+    let next = declaration_text q ++ (flat_map declaration_text ps ++ (32 ∷ 125 ∷ text)) in
+    let tail = flat_map declaration_text (q ∷ ps) ++ (32 ∷ 125 ∷ text) in
+    let same : tail ≡ next = append_assoc (declaration_text q) (flat_map declaration_text ps) (32 ∷ 125 ∷ text) in
+    let begins = declaration-begins edition q (flat_map declaration_text ps ++ (32 ∷ 125 ∷ text)) ws.0 in
     let calm = part_calm edition next begins in
     let behind : past_blank tail ≡ next = ap past_blank same ∙ calm-blank next calm in
-    each-some (declaration_in_block edition) (declaration_in_block-takes edition) (property_text p ++ tail) (past_blank tail) p
+    each-some (declaration_in_block edition) (declaration_in_block-takes edition) (declaration_text p ++ tail) (past_blank tail) p
     (one-declaration edition p tail w (ap opens_comment behind ∙ calm.closed) (ap (starts 59) behind ∙ part_starts edition 59 next (omega arith) refl refl refl begins))
     ∙ ap (λ t. followed_by p (each (declaration_in_block edition) t)) behind
     ∙ ap (followed_by p) (declarations-again edition q ps text ws.0 ws.1)
@@ -142,7 +142,7 @@ declaration-space : (edition : Edition) (text : List ℕ) → declaration editio
 unfolding declaration
 declaration-space edition text = let same = blank-space text in rw same refl
 
-spaced-list : (edition : Edition) (text rest : List ℕ) (p : Property) → declaration_in_block edition text ≡ Some (p, rest) → ends_list text ≡ false → each (declaration_in_block edition) (32 ∷ text) ≡ each (declaration_in_block edition) text
+spaced-list : (edition : Edition) (text rest : List ℕ) (p : StyleDeclaration) → declaration_in_block edition text ≡ Some (p, rest) → ends_list text ≡ false → each (declaration_in_block edition) (32 ∷ text) ≡ each (declaration_in_block edition) text
 spaced-list edition text rest p e goes =
     let some = some-length 32 text in
     let open_list : ends_list (32 ∷ text) ≡ false = rw some refl in
@@ -152,27 +152,27 @@ spaced-list edition text rest p e goes =
     ∙ sym (each-some (declaration_in_block edition) (declaration_in_block-takes edition) text rest p e)
 
 -- where something is read first, it is found
-first-found : (edition : Edition) (text : List ℕ) (p : Property) (ps : List Property) (left : List ℕ) → each (declaration_in_block edition) text ≡ (p ∷ ps, left) → (found_there : Option (Property × List ℕ)) → declaration_in_block edition text ≡ found_there → (q : Property) × (rest : List ℕ) × (declaration_in_block edition text ≡ Some (q, rest))
+first-found : (edition : Edition) (text : List ℕ) (p : StyleDeclaration) (ps : List StyleDeclaration) (left : List ℕ) → each (declaration_in_block edition) text ≡ (p ∷ ps, left) → (found_there : Option (StyleDeclaration × List ℕ)) → declaration_in_block edition text ≡ found_there → (q : StyleDeclaration) × (rest : List ℕ) × (declaration_in_block edition text ≡ Some (q, rest))
 first-found edition text p ps left e None f = absurd (let none_there = sym (ap (λ r. r.0) (each-none (declaration_in_block edition) text f)) ∙ ap (λ r. r.0) e in cc)
 first-found edition text p ps left e (Some x) f = (x.0, x.1, f)
 
 -- behind the brace and the space, the declarations of a printed block are read, and what follows it is left
-block-again : (edition : Edition) (p : Property) (ps : List Property) (text : List ℕ) → IsProperty edition p → AllByRecursion (IsProperty edition) ps → block edition (32 ∷ (flat_map property_text (p ∷ ps) ++ (32 ∷ 125 ∷ text))) ≡ (p ∷ ps, text)
+block-again : (edition : Edition) (p : StyleDeclaration) (ps : List StyleDeclaration) (text : List ℕ) → IsDeclaration edition p → AllByRecursion (IsDeclaration edition) ps → block edition (32 ∷ (flat_map declaration_text (p ∷ ps) ++ (32 ∷ 125 ∷ text))) ≡ (p ∷ ps, text)
 unfolding block
 block-again edition p ps text w ws =
-    let inside = property_text p ++ (flat_map property_text ps ++ (32 ∷ 125 ∷ text)) in
-    let same : flat_map property_text (p ∷ ps) ++ (32 ∷ 125 ∷ text) ≡ inside = append_assoc (property_text p) (flat_map property_text ps) (32 ∷ 125 ∷ text) in
+    let inside = declaration_text p ++ (flat_map declaration_text ps ++ (32 ∷ 125 ∷ text)) in
+    let same : flat_map declaration_text (p ∷ ps) ++ (32 ∷ 125 ∷ text) ≡ inside = append_assoc (declaration_text p) (flat_map declaration_text ps) (32 ∷ 125 ∷ text) in
     let listed = declarations-again edition p ps text w ws in
     let there = first-found edition inside p ps (125 ∷ text) listed (declaration_in_block edition inside) refl in
-    let spaced = spaced-list edition inside there.1 there.0 there.2 (list_goes_on edition inside (property-begins edition p (flat_map property_text ps ++ (32 ∷ 125 ∷ text)) w)) in
-    let all : each (declaration_in_block edition) (32 ∷ (flat_map property_text (p ∷ ps) ++ (32 ∷ 125 ∷ text))) ≡ (p ∷ ps, 125 ∷ text) = ap (λ t. each (declaration_in_block edition) (32 ∷ t)) same ∙ spaced ∙ listed in
+    let spaced = spaced-list edition inside there.1 there.0 there.2 (list_goes_on edition inside (declaration-begins edition p (flat_map declaration_text ps ++ (32 ∷ 125 ∷ text)) w)) in
+    let all : each (declaration_in_block edition) (32 ∷ (flat_map declaration_text (p ∷ ps) ++ (32 ∷ 125 ∷ text))) ≡ (p ∷ ps, 125 ∷ text) = ap (λ t. each (declaration_in_block edition) (32 ∷ t)) same ∙ spaced ∙ listed in
     let some = some-length 125 text in
-    ap (λ (r : List Property × List ℕ). (r.0, past_byte 125 (past_list edition r.1))) all ∙ rw some refl
+    ap (λ (r : List StyleDeclaration × List ℕ). (r.0, past_byte 125 (past_list edition r.1))) all ∙ rw some refl
 
 -- the rule
 
-rule-assoc : (rule : StyleRule) (text : List ℕ) → rule_text rule ++ text ≡ selector_text rule.components ++ (32 ∷ 123 ∷ 32 ∷ (flat_map property_text rule.properties ++ (32 ∷ 125 ∷ text)))
-rule-assoc rule text = by (selector_text rule.components) (flat_map property_text rule.properties)
+rule-assoc : (rule : StyleRule) (text : List ℕ) → rule_text rule ++ text ≡ selector_text rule.components ++ (32 ∷ 123 ∷ 32 ∷ (flat_map declaration_text rule.declarations ++ (32 ∷ 125 ∷ text)))
+rule-assoc rule text = by (selector_text rule.components) (flat_map declaration_text rule.declarations)
   where
     by : (s p : List ℕ) → (((s ++ (32 ∷ 123 ∷ 32 ∷ [])) ++ p) ++ (32 ∷ 125 ∷ [])) ++ text ≡ s ++ (32 ∷ 123 ∷ 32 ∷ (p ++ (32 ∷ 125 ∷ text)))
     by s p =
@@ -196,7 +196,7 @@ next_block-again : (edition : Edition) (inside : List ℕ) → next_block editio
 unfolding next_block
 next_block-again edition inside = refl
 
-rule_set-again : (edition : Edition) (s : List Component) (p : Property) (ps : List Property) (text inside behind : List ℕ) → past_byte 44 text ≡ text → reads edition text ≡ (Some s, 123 ∷ inside) → block edition inside ≡ (p ∷ ps, behind) → rule_set edition text ≡ (record { components = s; properties = p ∷ ps } ∷ [], behind)
+rule_set-again : (edition : Edition) (s : List Component) (p : StyleDeclaration) (ps : List StyleDeclaration) (text inside behind : List ℕ) → past_byte 44 text ≡ text → reads edition text ≡ (Some s, 123 ∷ inside) → block edition inside ≡ (p ∷ ps, behind) → rule_set edition text ≡ (record { components = s; declarations = p ∷ ps } ∷ [], behind)
 unfolding rule_set
 rule_set-again edition s p ps text inside behind start e b =
     let head : parts edition (past_byte 44 text) ≡ (s ∷ [], 123 ∷ inside) = ap (parts edition) start ∙ parts-again edition s text inside (part-again edition s text inside e) in
@@ -207,10 +207,10 @@ statement-again : (edition : Edition) (text : List ℕ) → starts 64 text ≡ f
 unfolding statement
 statement-again edition text e = rw e refl
 
-printed-rule : (edition : Edition) (s : List Component) (p : Property) (ps : List Property) → IsSelector edition s (123 ∷ []) → is_clean s ≡ true → IsProperty edition p → AllByRecursion (IsProperty edition) ps → RuleReadsBack edition (record { components = s; properties = p ∷ ps })
+printed-rule : (edition : Edition) (s : List Component) (p : StyleDeclaration) (ps : List StyleDeclaration) → IsSelector edition s (123 ∷ []) → is_clean s ≡ true → IsDeclaration edition p → AllByRecursion (IsDeclaration edition) ps → RuleReadsBack edition (record { components = s; declarations = p ∷ ps })
 printed-rule edition s p ps w clean wp ws text =
-    let rule : StyleRule = record { components = s; properties = p ∷ ps } in
-    let inside = 32 ∷ (flat_map property_text (p ∷ ps) ++ (32 ∷ 125 ∷ text)) in
+    let rule : StyleRule = record { components = s; declarations = p ∷ ps } in
+    let inside = 32 ∷ (flat_map declaration_text (p ∷ ps) ++ (32 ∷ 125 ∷ text)) in
     let whole = selector_text s ++ (32 ∷ 123 ∷ inside) in
     let begins = begins-append edition (selector_text s) (32 ∷ 123 ∷ inside) (selector-begins edition s 123 [] w) in
     let read : reads edition whole ≡ (Some s, 123 ∷ inside) = (selector-reads_back_before edition s 123 [] w inside).1 clean in
@@ -219,10 +219,10 @@ printed-rule edition s p ps w clean wp ws text =
     ∙ rule_set-again edition s p ps whole inside text (part_byte edition 44 whole (omega arith) refl refl refl begins) read (block-again edition p ps text wp ws)
 
 -- A rule that was read from a text without white space past ASCII, and whose selector is clean, reads back.
-pub rule-reads_back : (edition : Edition) (rule : StyleRule) → IsKept edition (IsProperty edition) rule → is_clean rule.components ≡ true → RuleReadsBack edition rule
-rule-reads_back edition rule w clean = by rule.properties w.1 w.0.properties
+pub rule-reads_back : (edition : Edition) (rule : StyleRule) → IsKept edition (IsDeclaration edition) rule → is_clean rule.components ≡ true → RuleReadsBack edition rule
+rule-reads_back edition rule w clean = by rule.declarations w.1 w.0.declarations
   where
-    by : (ps : List Property) → not (length ps == 0) ≡ true → AllByRecursion (IsProperty edition) ps → RuleReadsBack edition (record { components = rule.components; properties = ps })
+    by : (ps : List StyleDeclaration) → not (length ps == 0) ≡ true → AllByRecursion (IsDeclaration edition) ps → RuleReadsBack edition (record { components = rule.components; declarations = ps })
     by [] some h = absurd (cc)
     by (p ∷ ps) some h = printed-rule edition rule.components p ps w.0.selector clean h.0 h.1
 

@@ -5,8 +5,8 @@ use Rattle.std.specs.List.{flat_map, AllByRecursion, All}
 use Rattle.std.proofs.lemmas.List.Elements.{All-nil, All-push, All-from_recursion, recursion_from_All}
 use Rattle.simplecss_text.specs.Reading.{each, followed_by}
 use Rattle.simplecss_text.specs.Characters.{Edition}
-use Rattle.simplecss_text.specs.Declarations.{Property}
-use Rattle.simplecss_text.specs.Statements.{StyleRule, statement, ends_statements, next_statement, statements, has_property, kept}
+use Rattle.simplecss_text.specs.Declarations.{StyleDeclaration}
+use Rattle.simplecss_text.specs.Statements.{StyleRule, statement, ends_statements, next_statement, statements, has_declaration, kept}
 use Rattle.simplecss_text.specs.Sheets.{is_smaller, ordered, sheet}
 use Rattle.simplecss_text.specs.Printing.{rule_text, sheet_text, is_clean}
 use Rattle.simplecss_text.specs.PrintingLaws.{IsNarrow, DeclarationReadsBack, RuleReadsBack, are_clean, PrintsBack, PrintsBackAfter}
@@ -15,21 +15,21 @@ use Rattle.simplecss_text.proofs.reading.StatementLaws.{next_statement-takes}
 use Rattle.simplecss_text.proofs.printed.PrintedNames.{both_true}
 use Rattle.simplecss_text.proofs.printed.PrintedPieces.{some-length}
 use Rattle.simplecss_text.proofs.again.BlankTails.{past_blank-space}
-use Rattle.simplecss_text.proofs.again.DeclarationsAgain.{property-reads_back, IsProperty, narrow-end, declaration-is}
+use Rattle.simplecss_text.proofs.again.DeclarationsAgain.{printed_declaration-reads_back, IsDeclaration, narrow-end, declaration-is}
 use Rattle.simplecss_text.proofs.again.KeptRules.{Known, IsKept, sheet-are}
 use Rattle.simplecss_text.proofs.again.RulesAgain.{BeginsPart, part_calm, calm-blank, rule-reads_back, rule-begins}
 use Rattle.simplecss_text.proofs.order.RankLemmas.{ordered_twice}
 use Rattle.simplecss_text.proofs.order.OrderLemmas.{smaller_order}
 
 -- texts without white space past ASCII, and the declarations that are read from them
-narrow-known : (edition : Edition) → Known edition IsNarrow (IsProperty edition)
+narrow-known : (edition : Edition) → Known edition IsNarrow (IsDeclaration edition)
 narrow-known edition = record { is_text = λ text n. n.0; of_end = narrow-end; declares = declaration-is edition }
 
 -- rules that read back
 abbrev pub Printable : Edition → StyleRule → Type 0
-Printable edition rule = IsKept edition (IsProperty edition) rule × (is_clean rule.components ≡ true)
+Printable edition rule = IsKept edition (IsDeclaration edition) rule × (is_clean rule.components ≡ true)
 
-all-printable : (edition : Edition) (rules : List StyleRule) → AllByRecursion (IsKept edition (IsProperty edition)) rules → are_clean rules ≡ true → AllByRecursion (Printable edition) rules
+all-printable : (edition : Edition) (rules : List StyleRule) → AllByRecursion (IsKept edition (IsDeclaration edition)) rules → are_clean rules ≡ true → AllByRecursion (Printable edition) rules
 all-printable edition [] h clean = tt
 all-printable edition (rule ∷ rules) h clean =
     let parts = both_true (is_clean rule.components) (are_clean rules) clean in
@@ -81,12 +81,12 @@ each-alone : (rules : List StyleRule) → flat_map (λ rules. rules) (map alone 
 each-alone [] = refl
 each-alone (rule ∷ rules) = ap (λ l. rule ∷ l) (each-alone rules)
 
-all-have : (edition : Edition) (rules : List StyleRule) → AllByRecursion (Printable edition) rules → filter has_property rules ≡ rules
+all-have : (edition : Edition) (rules : List StyleRule) → AllByRecursion (Printable edition) rules → filter has_declaration rules ≡ rules
 all-have edition [] w = refl
 all-have edition (rule ∷ rules) w = let there = w.0.0.1 in let more = all-have edition rules w.1 in rw (there, more) refl
 
 abbrev kept_of : List (List StyleRule) → List StyleRule
-kept_of listed = filter has_property (flat_map (λ rules. rules) listed)
+kept_of listed = filter has_declaration (flat_map (λ rules. rules) listed)
 
 -- The kept rules of a printed sheet are its rules.
 kept-again : (edition : Edition) (rules : List StyleRule) → AllByRecursion (Printable edition) rules → kept edition (sheet_text rules) ≡ rules
@@ -94,22 +94,22 @@ unfolding statements
 kept-again edition [] w = ap (λ (r : List (List StyleRule) × List ℕ). kept_of r.0) (each-none (next_statement edition) [] (nothing_left edition))
 kept-again edition (rule ∷ rules) w =
     ap (λ (r : List (List StyleRule) × List ℕ). kept_of r.0) (statements-again edition rule rules (sheet_text (rule ∷ rules)) w refl)
-    ∙ ap (filter has_property) (each-alone (rule ∷ rules)) ∙ all-have edition (rule ∷ rules) w
+    ∙ ap (filter has_declaration) (each-alone (rule ∷ rules)) ∙ all-have edition (rule ∷ rules) w
 
 -- The printed sheet of rules that read back gives the rules, in their order.
 ordered-again : (edition : Edition) (rules : List StyleRule) → AllByRecursion (Printable edition) rules → sheet edition (sheet_text rules ∷ []) ≡ ordered rules
 ordered-again edition rules w = ap ordered (append-nil (kept edition (sheet_text rules)) ∙ kept-again edition rules w)
 
-declarations-back : (edition : Edition) (ps : List Property) → AllByRecursion (IsProperty edition) ps → AllByRecursion (DeclarationReadsBack edition) ps
+declarations-back : (edition : Edition) (ps : List StyleDeclaration) → AllByRecursion (IsDeclaration edition) ps → AllByRecursion (DeclarationReadsBack edition) ps
 declarations-back edition [] w = tt
-declarations-back edition (p ∷ ps) w = (property-reads_back edition p w.0, declarations-back edition ps w.1)
+declarations-back edition (p ∷ ps) w = (printed_declaration-reads_back edition p w.0, declarations-back edition ps w.1)
 
-each-declaration : (edition : Edition) (rules : List StyleRule) → AllByRecursion (IsKept edition (IsProperty edition)) rules → AllByRecursion (λ rule. All (DeclarationReadsBack edition) rule.properties) rules
+each-declaration : (edition : Edition) (rules : List StyleRule) → AllByRecursion (IsKept edition (IsDeclaration edition)) rules → AllByRecursion (λ rule. All (DeclarationReadsBack edition) rule.declarations) rules
 each-declaration edition [] w = tt
 each-declaration edition (rule ∷ rules) w =
-    (All-from_recursion (DeclarationReadsBack edition) rule.properties (declarations-back edition rule.properties w.0.0.properties), each-declaration edition rules w.1)
+    (All-from_recursion (DeclarationReadsBack edition) rule.declarations (declarations-back edition rule.declarations w.0.0.declarations), each-declaration edition rules w.1)
 
-each-rule : (edition : Edition) (rules : List StyleRule) → AllByRecursion (IsKept edition (IsProperty edition)) rules → AllByRecursion (λ rule. is_clean rule.components ≡ true → RuleReadsBack edition rule) rules
+each-rule : (edition : Edition) (rules : List StyleRule) → AllByRecursion (IsKept edition (IsDeclaration edition)) rules → AllByRecursion (λ rule. is_clean rule.components ≡ true → RuleReadsBack edition rule) rules
 each-rule edition [] w = tt
 each-rule edition (rule ∷ rules) w = (rule-reads_back edition rule w.0, each-rule edition rules w.1)
 
@@ -117,9 +117,9 @@ each-rule edition (rule ∷ rules) w = (rule-reads_back edition rule w.0, each-r
 pub sheet-prints_back : (edition : Edition) (texts : List (List ℕ)) → All IsNarrow texts → PrintsBack edition (sheet edition texts)
 sheet-prints_back edition texts narrow =
     let rules = sheet edition texts in
-    let are = sheet-are edition IsNarrow (IsProperty edition) (narrow-known edition) texts (recursion_from_All IsNarrow texts narrow) in
+    let are = sheet-are edition IsNarrow (IsDeclaration edition) (narrow-known edition) texts (recursion_from_All IsNarrow texts narrow) in
     record {
-      declarations = All-from_recursion (λ rule. All (DeclarationReadsBack edition) rule.properties) rules (each-declaration edition rules are);
+      declarations = All-from_recursion (λ rule. All (DeclarationReadsBack edition) rule.declarations) rules (each-declaration edition rules are);
       each_rule = All-from_recursion (λ rule. is_clean rule.components ≡ true → RuleReadsBack edition rule) rules (each-rule edition rules are);
       whole = λ clean. ordered-again edition rules (all-printable edition rules are clean) ∙ ordered_twice is_smaller smaller_order (flat_map (kept edition) texts);
     }

@@ -9,7 +9,7 @@ use Rattle.std.proofs.lemmas.List.Sums.{prefix_len-le-length, prefix_len_passes,
 use Rattle.std.proofs.lemmas.Str.{IsUtf8-had, IsCharBoundary-after_ascii, IsCharBoundary-start, lead_after_ascii, IsUtf8-drop}
 use Rattle.simplecss_text.specs.Bytes.{starts_by, starts_two, is_ascii}
 use Rattle.simplecss_text.specs.Characters.{is_space}
-use Rattle.simplecss_text.specs.Runs.{IsByteTest, EndsRun}
+use Rattle.simplecss_text.specs.ByteTests.{IsByteTest, PassesUpTo}
 
 -- behind an ASCII byte
 IsCharBoundary-behind : (text : List ℕ) (n : ℕ) → IsUtf8 text → 0 < n → n ≤ length text → slice_index text (n - 1) < 128 → IsCharBoundary text n
@@ -41,7 +41,7 @@ pub is_space-ascii : (b : ℕ) → is_space b ≡ true → b < 128
 is_space-ascii b e = grind (arith, nat_tests)
 
 -- The run of bytes that a test passes ends between two characters.
-pub IsCharBoundary-run : (pre : ℕ → Type 0) (post : ℕ → Bool → Type 0) (text : List ℕ) (p q : ℕ) → IsByteTest pre post text → EndsRun post text p q → IsUtf8 text → IsCharBoundary text p → IsCharBoundary text q
+pub IsCharBoundary-run : (pre : ℕ → Type 0) (post : ℕ → Bool → Type 0) (text : List ℕ) (p q : ℕ) → IsByteTest pre post text → PassesUpTo post text p q → IsUtf8 text → IsCharBoundary text p → IsCharBoundary text q
 IsCharBoundary-run pre post text p q t run utf8 start = (
   run.within,
   λ l wide.

@@ -10,7 +10,7 @@ use Rattle.simplecss_text.specs.Bytes.{is_neither, past, past_byte}
 use Rattle.simplecss_text.specs.Characters.{Edition, first_edition, is_name_start, second_edition}
 use Rattle.simplecss_text.specs.Names.{begins_name, name, past_name_chars}
 use Rattle.simplecss_text.specs.Blocks.{from_block_end}
-use Rattle.simplecss_text.specs.Statements.{past_at_end, past_at_name, past_at_rule}
+use Rattle.simplecss_text.specs.Statements.{past_semicolon_or_block, at_rule_rest_by_name, at_rule_rest}
 use Rattle.simplecss_text.proofs.reading.TakesLaws.{length-past, length-past_byte}
 use Rattle.simplecss_text.proofs.reading.DeclarationLaws.{length-from_block_end}
 use Rattle.simplecss_text.proofs.reading.EndsLaws.{ends-same}
@@ -33,11 +33,11 @@ along-next g t u c x r s (on b r1 s1 room h) e l =
     (s1, (ap (λ (d : ℕ). d ∷ s1) first, subst (λ (z : List ℕ). Along g t u z s1) rest h))
 
 -- an at-rule that ends behind a semicolon
-pub at_rule-semicolon : (edition : Edition) (t u r s n rest : List ℕ) → Along 59 t u r s → name edition r ≡ got n rest → past (is_neither 59 123) rest ≡ 59 ∷ t → past_at_rule edition s ≡ u
-unfolding past_at_rule
+pub at_rule-semicolon : (edition : Edition) (t u r s n rest : List ℕ) → Along 59 t u r s → name edition r ≡ got n rest → past (is_neither 59 123) rest ≡ 59 ∷ t → at_rule_rest edition s ≡ u
+unfolding at_rule_rest
 at_rule-semicolon edition t u r s n rest h e f = by (name edition r) (name edition s) e (name-guarded_by_semicolon edition t u r s h)
   where
-    by : (a b : Reading (List ℕ)) → a ≡ got n rest → Guard Equal 59 t u a b → past_at_name b ≡ u
+    by : (a b : Reading (List ℕ)) → a ≡ got n rest → Guard Equal 59 t u a b → at_rule_rest_by_name b ≡ u
     by (fails q x) b g k = absurd (cc)
     by (got m x) b g (inl l) =
         let same : x ≡ rest = cc in
@@ -46,7 +46,7 @@ at_rule-semicolon edition t u r s n rest h e f = by (name edition r) (name editi
     by (got m x) (got o y) g (inr k) =
         let same : x ≡ rest = cc in
         let there : past (is_neither 59 123) x ≡ 59 ∷ t = ap (past (is_neither 59 123)) same ∙ f in
-        ap past_at_end (along-at 59 t u (past (is_neither 59 123) x) (past (is_neither 59 123) y) (past-along 59 t u (is_neither 59 123) refl x y k.1) there)
+        ap past_semicolon_or_block (along-at 59 t u (past (is_neither 59 123) x) (past (is_neither 59 123) y) (past-along 59 t u (is_neither 59 123) refl x y k.1) there)
 
 -- a block that ends behind the brace
 block_end-at : (u v inner y : List ℕ) → Along 125 (u ++ v) u inner y → from_block_end inner ≡ 125 ∷ (u ++ v) → past_byte 125 (from_block_end y) ≡ u
@@ -57,20 +57,20 @@ block_end-at u v inner y h e = by (from_block_end-to u v inner y h)
     by (inr k) = ap (past_byte 125) (along-at 125 (u ++ v) u (from_block_end inner) (from_block_end y) k e)
 
 -- an at-rule that ends behind a block
-pub at_rule-block : (edition : Edition) (u v r s n rest inner : List ℕ) → Along 125 (u ++ v) u r s → name edition r ≡ got n rest → past (is_neither 59 123) rest ≡ 123 ∷ inner → from_block_end inner ≡ 125 ∷ (u ++ v) → past_at_rule edition s ≡ u
-unfolding past_at_rule
+pub at_rule-block : (edition : Edition) (u v r s n rest inner : List ℕ) → Along 125 (u ++ v) u r s → name edition r ≡ got n rest → past (is_neither 59 123) rest ≡ 123 ∷ inner → from_block_end inner ≡ 125 ∷ (u ++ v) → at_rule_rest edition s ≡ u
+unfolding at_rule_rest
 at_rule-block edition u v r s n rest inner h e f g = by (name edition r) (name edition s) e (name-guarded edition (u ++ v) u r s h)
   where
     long : length (u ++ v) < length inner
     long = omega (arith, ap length g, length-from_block_end inner)
 
-    opened : (x y : List ℕ) → x ≡ 123 ∷ inner → To 125 (u ++ v) u x y → past_at_end y ≡ u
+    opened : (x y : List ℕ) → x ≡ 123 ∷ inner → To 125 (u ++ v) u x y → past_semicolon_or_block y ≡ u
     opened x y k (inl l) = absurd (omega (arith, l, ap length k, long))
     opened x y k (inr along) =
         let found = along-next 125 (u ++ v) u 123 inner x y along k long in
-        ap past_at_end found.1.0 ∙ block_end-at u v inner found.0 found.1.1 g
+        ap past_semicolon_or_block found.1.0 ∙ block_end-at u v inner found.0 found.1.1 g
 
-    by : (a b : Reading (List ℕ)) → a ≡ got n rest → Guard Equal 125 (u ++ v) u a b → past_at_name b ≡ u
+    by : (a b : Reading (List ℕ)) → a ≡ got n rest → Guard Equal 125 (u ++ v) u a b → at_rule_rest_by_name b ≡ u
     by (fails q x) b k along = absurd (cc)
     by (got m x) b k (inl l) =
         let same : x ≡ rest = cc in
@@ -91,13 +91,13 @@ name_fault-left edition text left fault e = by (begins_name edition (chars text)
     by true f h = absurd (cc)
     by false f h = (f, cc)
 
-at_rule-no_name : (edition : Edition) (text : List ℕ) → begins_name edition (chars text) ≡ false → past_at_rule edition text ≡ past_byte 45 text
-unfolding past_at_rule name
+at_rule-no_name : (edition : Edition) (text : List ℕ) → begins_name edition (chars text) ≡ false → at_rule_rest edition text ≡ past_byte 45 text
+unfolding at_rule_rest name
 at_rule-no_name edition text e = rw e refl
 
 -- a lone hyphen that ends the text is a name
-at_rule-hyphen : (edition : Edition) → past_at_rule edition (45 ∷ []) ≡ []
-unfolding past_at_rule name past_name_chars chars encode
+at_rule-hyphen : (edition : Edition) → at_rule_rest edition (45 ∷ []) ≡ []
+unfolding at_rule_rest name past_name_chars chars encode
 at_rule-hyphen first_edition = refl
 at_rule-hyphen second_edition = refl
 
@@ -160,24 +160,24 @@ nothing_in_front [] v l = refl
 nothing_in_front (b ∷ w) v l = absurd (omega (arith, l, length-append w v))
 
 -- an at-rule that ends at the fault of its name
-pub at_rule-fault : (edition : Edition) (s v w : List ℕ) (fault : Fault) → IsUtf8 s → name edition (s ++ v) ≡ fails fault (w ++ v) → past_at_rule edition s ≡ w
+pub at_rule-fault : (edition : Edition) (s v w : List ℕ) (fault : Fault) → IsUtf8 s → name edition (s ++ v) ≡ fails fault (w ++ v) → at_rule_rest edition s ≡ w
 at_rule-fault edition s v w fault u e = by s u (name_fault-left edition (s ++ v) (w ++ v) fault e).0 (name_fault-left edition (s ++ v) (w ++ v) fault e).1
   where
-    by : (s : List ℕ) → IsUtf8 s → begins_name edition (chars (s ++ v)) ≡ false → w ++ v ≡ past_byte 45 (s ++ v) → past_at_rule edition s ≡ w
+    by : (s : List ℕ) → IsUtf8 s → begins_name edition (chars (s ++ v)) ≡ false → w ++ v ≡ past_byte 45 (s ++ v) → at_rule_rest edition s ≡ w
     by [] i f g =
         let none : begins_name edition (chars []) ≡ false = rw chars-nil refl in
         let short : w ≡ [] = nothing_in_front w v (omega (arith, ap length g, length-past_byte 45 v)) in
         at_rule-no_name edition [] none ∙ sym short
     by (b ∷ s) i f g = hyphen (b == 45) refl (g)
       where
-        behind : (x : List ℕ) → b ≡ 45 → w ≡ x → IsUtf8 (b ∷ x) → begins_name edition (chars (b ∷ (x ++ v))) ≡ false → past_at_rule edition (b ∷ x) ≡ w
-        behind [] is same j k = ap (λ (c : ℕ). past_at_rule edition (c ∷ [])) is ∙ at_rule-hyphen edition ∙ sym same
+        behind : (x : List ℕ) → b ≡ 45 → w ≡ x → IsUtf8 (b ∷ x) → begins_name edition (chars (b ∷ (x ++ v))) ≡ false → at_rule_rest edition (b ∷ x) ≡ w
+        behind [] is same j k = ap (λ (c : ℕ). at_rule_rest edition (c ∷ [])) is ∙ at_rule-hyphen edition ∙ sym same
         behind (d ∷ x) is same j k =
             let tail : IsUtf8 (d ∷ x) = utf8-behind (b ∷ d ∷ x) (d ∷ x) b (omega (arith, is)) j (ends-same (b ∷ d ∷ x)) in
             let none : begins_name edition (chars (45 ∷ (d ∷ x))) ≡ false = no_name-behind_hyphen edition d x v tail (ap (λ (c : ℕ). begins_name edition (chars (c ∷ ((d ∷ x) ++ v)))) (sym is) ∙ k) in
-            ap (λ (c : ℕ). past_at_rule edition (c ∷ (d ∷ x))) is ∙ at_rule-no_name edition (45 ∷ (d ∷ x)) none ∙ sym same
+            ap (λ (c : ℕ). at_rule_rest edition (c ∷ (d ∷ x))) is ∙ at_rule-no_name edition (45 ∷ (d ∷ x)) none ∙ sym same
 
-        hyphen : (k : Bool) → (b == 45) ≡ k → w ++ v ≡ (if k then s ++ v else b ∷ (s ++ v)) → past_at_rule edition (b ∷ s) ≡ w
+        hyphen : (k : Bool) → (b == 45) ≡ k → w ++ v ≡ (if k then s ++ v else b ∷ (s ++ v)) → at_rule_rest edition (b ∷ s) ≡ w
         hyphen true h k = behind s (eqb-true b 45 h) (append_cancel_right w s v k) i f
         hyphen false h k =
             let none : begins_name edition (chars (b ∷ s)) ≡ false = no_name-front edition b s v i h f in

@@ -4,7 +4,7 @@ use Rattle.std.proofs.Common.{◌≡◌, ℕ, zero, suc, ◌<◌, ◌≤◌, Lis
 use Rattle.simplecss_text.specs.Reading.{Reading, got, fails, each, found, left_after}
 use Rattle.simplecss_text.specs.Bytes.{past_byte, starts}
 use Rattle.simplecss_text.specs.Characters.{Edition}
-use Rattle.simplecss_text.specs.Declarations.{Property, declaration, next_declaration}
+use Rattle.simplecss_text.specs.Declarations.{StyleDeclaration, declaration, next_declaration}
 use Rattle.simplecss_text.specs.Blocks.{closes_block, block_end, from_block_end, ends_list, declaration_in_block, past_broken, past_list, block}
 use Rattle.simplecss_text.proofs.reading.EachLaws.{each-stops}
 use Rattle.simplecss_text.proofs.reading.TakesLaws.{Cuts, length-past_byte}
@@ -62,7 +62,7 @@ list-lost edition t a l = by (ends_list a) refl
         brace true f = inl (omega arith)
         brace false f = absurd (cc)
 
-    broken : (d : Reading Property) → Cuts a d → Lost t (past_broken d)
+    broken : (d : Reading StyleDeclaration) → Cuts a d → Lost t (past_broken d)
     broken (got p rest) c = inl (omega arith)
     broken (fails f rest) c = broken-lost t rest (omega arith)
 
@@ -71,7 +71,7 @@ list-lost edition t a l = by (ends_list a) refl
     by false e = brace-lost t (past_broken (declaration edition a)) (broken (declaration edition a) (declaration-cuts edition a))
 
 -- What a block leaves: less than t or nothing, or the same list was read and it ends alike
-abbrev pub BlockSame : List ℕ → List ℕ → List Property × List ℕ → List Property × List ℕ → Type 0
+abbrev pub BlockSame : List ℕ → List ℕ → List StyleDeclaration × List ℕ → List StyleDeclaration × List ℕ → Type 0
 BlockSame t u a b = Lost t a.1 ⊎ ((a.0 ≡ b.0) × Exact 125 t u a.1 b.1)
 
 pub none_broken : (edition : Edition) (a : List ℕ) → ends_list a ≡ false → declaration_in_block edition a ≡ None → found (declaration edition a) ≡ None
@@ -81,11 +81,11 @@ none_broken edition a e n = by (ends_list a) e n
     by true f m = absurd (cc)
     by false f m = m
 
-stuck-lost : (t : List ℕ) (d : Reading Property) → found d ≡ None → length (left_after d) ≤ length t → Lost t (past_broken d)
+stuck-lost : (t : List ℕ) (d : Reading StyleDeclaration) → found d ≡ None → length (left_after d) ≤ length t → Lost t (past_broken d)
 stuck-lost t (got p rest) e l = absurd (cc)
 stuck-lost t (fails f rest) e l = broken-lost t rest l
 
-broken-same : (u v : List ℕ) (d e : Reading Property) → found d ≡ None → Guard Equal 125 (u ++ v) u d e → Lost (u ++ v) (past_byte 125 (past_broken d)) ⊎ Exact 125 (u ++ v) u (past_byte 125 (past_broken d)) (past_byte 125 (past_broken e))
+broken-same : (u v : List ℕ) (d e : Reading StyleDeclaration) → found d ≡ None → Guard Equal 125 (u ++ v) u d e → Lost (u ++ v) (past_byte 125 (past_broken d)) ⊎ Exact 125 (u ++ v) u (past_byte 125 (past_broken d)) (past_byte 125 (past_broken e))
 broken-same u v d e n (inl h) = inl (brace-lost (u ++ v) (past_broken d) (stuck-lost (u ++ v) d n h))
 broken-same u v (got p r) e n (inr h) = absurd (cc)
 broken-same u v (fails f r) (got q s) n (inr h) = absurd h
@@ -103,7 +103,7 @@ pub block-same : (edition : Edition) (u v r s : List ℕ) → Along 125 (u ++ v)
 unfolding block
 block-same edition u v r s h = by (each (declaration_in_block edition) r) (each (declaration_in_block edition) s) (each-stops (declaration_in_block edition) (declaration_in_block-takes edition) r) (listed-repeats edition u v r s h)
   where
-    by : (a b : List Property × List ℕ) → declaration_in_block edition a.1 ≡ None → Repeats Equal (DeclarationPasses edition (u ++ v)) 125 (u ++ v) u a b → BlockSame (u ++ v) u (a.0, past_byte 125 (past_list edition a.1)) (b.0, past_byte 125 (past_list edition b.1))
+    by : (a b : List StyleDeclaration × List ℕ) → declaration_in_block edition a.1 ≡ None → Repeats Equal (DeclarationPasses edition (u ++ v)) 125 (u ++ v) u a b → BlockSame (u ++ v) u (a.0, past_byte 125 (past_list edition a.1)) (b.0, past_byte 125 (past_list edition b.1))
     by a b n (inl l) = inl (list-lost edition (u ++ v) a.1 l)
     by a b n (inr (inl (passes e l))) = inl (rw e (brace-lost (u ++ v) (past_broken (declaration edition a.1)) (stuck-lost (u ++ v) (declaration edition a.1) (none_broken edition a.1 e n) l)))
     by a b n (inr (inr k)) = ends (ends_list a.1) (ends_list b.1) refl (ends_list-along (u ++ v) u a.1 b.1 k.1)

@@ -3,7 +3,7 @@
 use Rattle.std.proofs.Common.{◌≡◌, ℕ, ◌≤◌, List, ◌++◌, Bool, true, false, if◌then◌else◌, length, None, arith, refl, inl, inr}
 use Rattle.simplecss_text.specs.Reading.{Reading, got, fails, each, found, left_after}
 use Rattle.simplecss_text.specs.Characters.{Edition}
-use Rattle.simplecss_text.specs.Declarations.{Property, declaration, next_declaration}
+use Rattle.simplecss_text.specs.Declarations.{StyleDeclaration, declaration, next_declaration}
 use Rattle.simplecss_text.specs.Blocks.{ends_list, declaration_in_block}
 use Rattle.simplecss_text.proofs.reading.DeclarationLaws.{declaration_in_block-takes}
 use Rattle.simplecss_text.proofs.cutting.GuardLaws.{Along, at, on, Guard, Equal, Step, Repeats, each-repeats, not_empty}
@@ -17,7 +17,7 @@ pub ends_list-along : (t u r s : List ℕ) → Along 125 t u r s → ends_list r
 ends_list-along t u r s at = rw (not_empty 125 t, not_empty 125 u) refl
 ends_list-along t u r s (on b r1 s1 room h) = rw (not_empty b r1, not_empty b s1) refl
 
-found-step : (edition : Edition) (t u r : List ℕ) (a b : Reading Property) → Guard Equal 125 t u a b → (length (left_after a) ≤ length t → DeclarationPasses edition t r) → Step Equal (DeclarationPasses edition t) 125 t u r (found a) (found b)
+found-step : (edition : Edition) (t u r : List ℕ) (a b : Reading StyleDeclaration) → Guard Equal 125 t u a b → (length (left_after a) ≤ length t → DeclarationPasses edition t r) → Step Equal (DeclarationPasses edition t) 125 t u r (found a) (found b)
 found-step edition t u r (got x p) (got y q) (inl h) stuck = inl h
 found-step edition t u r (got x p) (fails f q) (inl h) stuck = h
 found-step edition t u r (fails f p) (got y q) (inl h) stuck = stuck h

@@ -7,9 +7,9 @@ use Rattle.std.specs.List.{flat_map}
 use Rattle.std.specs.Option.{option_map}
 use Rattle.std.specs.Prelude.{Result, Ok, Err}
 use Rattle.std.specs.Result.{OnOk}
-use Rattle.simplecss_text.specs.Reading.{before, each, Ends, found, place_of}
+use Rattle.simplecss_text.specs.Reading.{before, each, Ends, found, rest_place}
 use Rattle.simplecss_text.specs.Characters.{Edition}
-use Rattle.simplecss_text.specs.Statements.{StyleRule, has_property, kept, next_statement, statements}
+use Rattle.simplecss_text.specs.Statements.{StyleRule, has_declaration, kept, next_statement, statements}
 use Rattle.simplecss_text.specs.Sheets.{ordered, sheet}
 use Rattle.simplecss_text.specs.Cutting.{behind_statement, rests_behind, GoesOn, KeepsAcross, StatementEndsAt}
 use Rattle.simplecss_text.proofs.reading.EachLaws.{Shrinks, Takes, each-none, each-some, option_cases}
@@ -50,21 +50,21 @@ each-cut {X = X} read takes well local nil v text (behind _ next x f r) i u e =
     let front : (each read u).0 ≡ x ∷ (each read w).0 = ap (λ r. r.0) (each-some read takes u w x (local u v w x (subst IsUtf8 e i) cut whole)) in
     first ∙ ap (λ (l : List X). x ∷ l) (each-cut read takes well local nil v next r on w parts) ∙ ap (λ (l : List X). l ++ (each read v).0) (sym front)
 
-filter-append : (xs ys : List StyleRule) → filter has_property (xs ++ ys) ≡ filter has_property xs ++ filter has_property ys
+filter-append : (xs ys : List StyleRule) → filter has_declaration (xs ++ ys) ≡ filter has_declaration xs ++ filter has_declaration ys
 filter-append [] ys = refl
-filter-append (x ∷ xs) ys = by (has_property x) (filter-append xs ys)
+filter-append (x ∷ xs) ys = by (has_declaration x) (filter-append xs ys)
   where
-    by : (k : Bool) → filter has_property (xs ++ ys) ≡ filter has_property xs ++ filter has_property ys → (if k then x ∷ filter has_property (xs ++ ys) else filter has_property (xs ++ ys)) ≡ (if k then x ∷ filter has_property xs else filter has_property xs) ++ filter has_property ys
+    by : (k : Bool) → filter has_declaration (xs ++ ys) ≡ filter has_declaration xs ++ filter has_declaration ys → (if k then x ∷ filter has_declaration (xs ++ ys) else filter has_declaration (xs ++ ys)) ≡ (if k then x ∷ filter has_declaration xs else filter has_declaration xs) ++ filter has_declaration ys
     by true ih = ap (λ (l : List StyleRule). x ∷ l) ih
     by false ih = ih
 
-kept-append : (a b : List (List StyleRule)) → filter has_property (flat_map (λ rules. rules) (a ++ b)) ≡ filter has_property (flat_map (λ rules. rules) a) ++ filter has_property (flat_map (λ rules. rules) b)
+kept-append : (a b : List (List StyleRule)) → filter has_declaration (flat_map (λ rules. rules) (a ++ b)) ≡ filter has_declaration (flat_map (λ rules. rules) a) ++ filter has_declaration (flat_map (λ rules. rules) b)
 kept-append [] b = refl
 kept-append (x ∷ a) b =
     filter-append x (flat_map (λ rules. rules) (a ++ b))
-    ∙ ap (λ (l : List StyleRule). filter has_property x ++ l) (kept-append a b)
-    ∙ sym (append_assoc (filter has_property x) (filter has_property (flat_map (λ rules. rules) a)) (filter has_property (flat_map (λ rules. rules) b)))
-    ∙ ap (λ (l : List StyleRule). l ++ filter has_property (flat_map (λ rules. rules) b)) (sym (filter-append x (flat_map (λ rules. rules) a)))
+    ∙ ap (λ (l : List StyleRule). filter has_declaration x ++ l) (kept-append a b)
+    ∙ sym (append_assoc (filter has_declaration x) (filter has_declaration (flat_map (λ rules. rules) a)) (filter has_declaration (flat_map (λ rules. rules) b)))
+    ∙ ap (λ (l : List StyleRule). l ++ filter has_declaration (flat_map (λ rules. rules) b)) (sym (filter-append x (flat_map (λ rules. rules) a)))
 
 -- the kept rules of a text that is cut where a statement ends
 kept-cut : (edition : Edition) (v text : List ℕ) → Reaches (next_statement edition) v text → IsUtf8 text → (u : List ℕ) → text ≡ u ++ v → kept edition text ≡ kept edition u ++ kept edition v
@@ -110,18 +110,18 @@ rests-reached edition (suc k) text d l =
     ]
 
 -- a rest and the place where it begins
-drop_place : (text rest : List ℕ) → Ends text rest → drop (place_of text rest) text ≡ rest
-drop_place text rest e = append_cancel_left (before text rest) (drop (place_of text rest) text) rest (take-append-drop (place_of text rest) text ∙ sym e)
+drop_place : (text rest : List ℕ) → Ends text rest → drop (rest_place text rest) text ≡ rest
+drop_place text rest e = append_cancel_left (before text rest) (drop (rest_place text rest) text) rest (take-append-drop (rest_place text rest) text ∙ sym e)
 
 -- The rules of a text that is cut where one of its statements ends are those of the front and then those of the rest.
 pub keeps_across : (edition : Edition) (text : List ℕ) (place : ℕ) → IsUtf8 text → StatementEndsAt edition text place → KeepsAcross edition text place
 keeps_across edition text place i (k, l, is) =
-    let within : k < length (rests_behind edition text) = omega (arith, l, length-map (rests_behind edition text) (place_of text)) in
+    let within : k < length (rests_behind edition text) = omega (arith, l, length-map (rests_behind edition text) (rest_place text)) in
     let rest : List ℕ = get_or (rests_behind edition text) k [] in
     let reached : Reaches (next_statement edition) rest text = rests-reached edition k text [] within in
     let ends : Ends text rest = (reaches-well (next_statement edition) (next_statement-well edition) rest text reached).0 in
-    let here : place_of text rest ≡ place = sym (get_or-map (place_of text) (rests_behind edition text) k [] place within) ∙ is in
-    let there : KeepsAcross edition text (place_of text rest) = kept-cut edition rest text reached i (before text rest) (sym ends) ∙ ap (λ (t : List ℕ). kept edition (before text rest) ++ kept edition t) (sym (drop_place text rest ends)) in
+    let here : rest_place text rest ≡ place = sym (get_or-map (rest_place text) (rests_behind edition text) k [] place within) ∙ is in
+    let there : KeepsAcross edition text (rest_place text rest) = kept-cut edition rest text reached i (before text rest) (sym ends) ∙ ap (λ (t : List ℕ). kept edition (before text rest) ++ kept edition t) (sym (drop_place text rest ends)) in
     subst (KeepsAcross edition text) here there
 
 -- ---- sheets

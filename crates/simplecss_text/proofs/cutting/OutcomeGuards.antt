@@ -1,4 +1,4 @@
--- What a run comes to is guarded by a closing brace.
+-- What a sequence comes to is guarded by a closing brace.
 -- Serves `StyleSheet::parse_more` and `laws::cutting_law` (a text read in pieces).
 use Rattle.std.proofs.Common.{Bool, List, [], false, if◌then◌else◌, inl, inr, length, refl, true, ℕ, ◌∷◌, ◌≡◌, ◌≤◌, ◌⊎◌, Err, Ok, arith}
 use Rattle.simplecss_text.specs.Reading.{Fault}
@@ -9,19 +9,19 @@ use Rattle.simplecss_text.specs.Tokens.{Token}
 use Rattle.simplecss_text.specs.Tokens.Token.{adjacent_combinator, attribute_selector, child_combinator, class_selector, descendant_combinator, id_selector, lang_pseudo_class, named_pseudo_class, type_selector, universal_selector}
 use Rattle.simplecss_text.specs.Pieces.{begins_subselector}
 use Rattle.simplecss_text.specs.Pieces.Ending.{within_piece, without_head}
-use Rattle.simplecss_text.specs.Neighbours.{Follows, Left, between, follows_as}
+use Rattle.simplecss_text.specs.Neighbours.{Follows, Side, between, follows_as}
 use Rattle.simplecss_text.specs.Neighbours.Follows.{combinator, faulty_gap, faulty_piece, slash, stop, subselector, type_name, universal}
-use Rattle.simplecss_text.specs.Neighbours.Left.{closed_left, open_left}
-use Rattle.simplecss_text.specs.TokenRuns.{Run, answered, run, run_from}
-use Rattle.simplecss_text.specs.TokenRuns.Run.{item, run_end}
+use Rattle.simplecss_text.specs.Neighbours.Side.{closed_side, open_side}
+use Rattle.simplecss_text.specs.TokenSequences.{TokenSequence, answered, sequence, sequence_from}
+use Rattle.simplecss_text.specs.TokenSequences.TokenSequence.{item, sequence_end}
 use Rattle.simplecss_text.specs.Selectors.{Outcome, Role, after_role, outcome, with_role, role_of}
 use Rattle.simplecss_text.specs.Selectors.Outcome.{accepted, refused}
 use Rattle.simplecss_text.specs.Selectors.Role.{with, any_type, joint, of_type, unknown}
 use Rattle.simplecss_text.proofs.reading.EndsLaws.{length-ends, no_texts}
 use Rattle.simplecss_text.proofs.reading.StandLaws.{sees_nothing}
-use Rattle.simplecss_text.proofs.reading.RunStandLaws.{RunStands, run_from-stands}
+use Rattle.simplecss_text.proofs.reading.SequenceStandLaws.{SequenceStands, sequence_from-stands}
 use Rattle.simplecss_text.proofs.cutting.GuardLaws.{Along, To}
-use Rattle.simplecss_text.proofs.reading.RunSteps.{fault_end}
+use Rattle.simplecss_text.proofs.reading.SequenceSteps.{fault_end}
 
 -- what an outcome leaves to read
 abbrev pub left_of : Outcome → List ℕ
@@ -77,19 +77,19 @@ follows_as-alike g t u child_combinator a b x y h k = combinators a b h
 follows_as-alike g t u adjacent_combinator a b x y h k = combinators a b h
 
 -- what stands before what follows, and then what comes
-pub answered-guard : (g : ℕ) (t u : List ℕ) (left : Left) (spaced : Bool) (e f : Follows) (a b : List ℕ) (p q : Run) → FollowsAlike g t u e f → OutcomeGuard g t u (outcome p) (outcome q) → OutcomeGuard g t u (outcome (answered (between left spaced e) a p)) (outcome (answered (between left spaced f) b q))
-answered-guard g t u open_left spaced e f a b p q subselectors h = h
-answered-guard g t u open_left spaced e f a b p q (universals x y k) h = h
-answered-guard g t u open_left spaced e f a b p q (type_names x y k) h = h
-answered-guard g t u open_left spaced e f a b p q (combinators x y k) h = inr (both_refused x y k)
-answered-guard g t u closed_left false e f a b p q subselectors h = h
-answered-guard g t u closed_left false e f a b p q (universals x y k) h = inr (both_refused x y k)
-answered-guard g t u closed_left false e f a b p q (type_names x y k) h = inr (both_refused x y k)
-answered-guard g t u closed_left false e f a b p q (combinators x y k) h = h
-answered-guard g t u closed_left true e f a b p q subselectors h = with_role-guard g t u (joint descendant) (outcome p) (outcome q) h
-answered-guard g t u closed_left true e f a b p q (universals x y k) h = with_role-guard g t u (joint descendant) (outcome p) (outcome q) h
-answered-guard g t u closed_left true e f a b p q (type_names x y k) h = with_role-guard g t u (joint descendant) (outcome p) (outcome q) h
-answered-guard g t u closed_left true e f a b p q (combinators x y k) h = h
+pub answered-guard : (g : ℕ) (t u : List ℕ) (side : Side) (spaced : Bool) (e f : Follows) (a b : List ℕ) (p q : TokenSequence) → FollowsAlike g t u e f → OutcomeGuard g t u (outcome p) (outcome q) → OutcomeGuard g t u (outcome (answered (between side spaced e) a p)) (outcome (answered (between side spaced f) b q))
+answered-guard g t u open_side spaced e f a b p q subselectors h = h
+answered-guard g t u open_side spaced e f a b p q (universals x y k) h = h
+answered-guard g t u open_side spaced e f a b p q (type_names x y k) h = h
+answered-guard g t u open_side spaced e f a b p q (combinators x y k) h = inr (both_refused x y k)
+answered-guard g t u closed_side false e f a b p q subselectors h = h
+answered-guard g t u closed_side false e f a b p q (universals x y k) h = inr (both_refused x y k)
+answered-guard g t u closed_side false e f a b p q (type_names x y k) h = inr (both_refused x y k)
+answered-guard g t u closed_side false e f a b p q (combinators x y k) h = h
+answered-guard g t u closed_side true e f a b p q subselectors h = with_role-guard g t u (joint descendant) (outcome p) (outcome q) h
+answered-guard g t u closed_side true e f a b p q (universals x y k) h = with_role-guard g t u (joint descendant) (outcome p) (outcome q) h
+answered-guard g t u closed_side true e f a b p q (type_names x y k) h = with_role-guard g t u (joint descendant) (outcome p) (outcome q) h
+answered-guard g t u closed_side true e f a b p q (combinators x y k) h = h
 
 -- a piece that leaves no more than n bytes, and where its place decides, begins with no more
 abbrev pub PassedBy : ℕ → Follows → Type 0
@@ -105,23 +105,23 @@ PassedBy n faulty_gap = ⊥
 with_role-passed : (n : ℕ) (role : Role) (o : Outcome) → length (left_of o) ≤ n → length (left_of (with_role role o)) ≤ n
 with_role-passed n role o l = rw (left_of-with_role role o) l
 
-pub answered-passed : (n : ℕ) (left : Left) (spaced : Bool) (f : Follows) (start : List ℕ) (next : Run) → PassedBy n f → length (left_of (outcome next)) ≤ n → length (left_of (outcome (answered (between left spaced f) start next))) ≤ n
-answered-passed n open_left spaced subselector start next p l = l
-answered-passed n open_left spaced (universal x) start next p l = l
-answered-passed n open_left spaced (type_name x) start next p l = l
-answered-passed n open_left spaced (combinator x) start next p l = p
-answered-passed n closed_left false subselector start next p l = l
-answered-passed n closed_left false (universal x) start next p l = p
-answered-passed n closed_left false (type_name x) start next p l = p
-answered-passed n closed_left false (combinator x) start next p l = l
-answered-passed n closed_left true subselector start next p l = with_role-passed n (joint descendant) (outcome next) l
-answered-passed n closed_left true (universal x) start next p l = with_role-passed n (joint descendant) (outcome next) l
-answered-passed n closed_left true (type_name x) start next p l = with_role-passed n (joint descendant) (outcome next) l
-answered-passed n closed_left true (combinator x) start next p l = l
-answered-passed n left spaced (stop x) start next p l = absurd p
-answered-passed n left spaced (slash x) start next p l = absurd p
-answered-passed n left spaced faulty_piece start next p l = absurd p
-answered-passed n left spaced faulty_gap start next p l = absurd p
+pub answered-passed : (n : ℕ) (side : Side) (spaced : Bool) (f : Follows) (start : List ℕ) (next : TokenSequence) → PassedBy n f → length (left_of (outcome next)) ≤ n → length (left_of (outcome (answered (between side spaced f) start next))) ≤ n
+answered-passed n open_side spaced subselector start next p l = l
+answered-passed n open_side spaced (universal x) start next p l = l
+answered-passed n open_side spaced (type_name x) start next p l = l
+answered-passed n open_side spaced (combinator x) start next p l = p
+answered-passed n closed_side false subselector start next p l = l
+answered-passed n closed_side false (universal x) start next p l = p
+answered-passed n closed_side false (type_name x) start next p l = p
+answered-passed n closed_side false (combinator x) start next p l = l
+answered-passed n closed_side true subselector start next p l = with_role-passed n (joint descendant) (outcome next) l
+answered-passed n closed_side true (universal x) start next p l = with_role-passed n (joint descendant) (outcome next) l
+answered-passed n closed_side true (type_name x) start next p l = with_role-passed n (joint descendant) (outcome next) l
+answered-passed n closed_side true (combinator x) start next p l = l
+answered-passed n side spaced (stop x) start next p l = absurd p
+answered-passed n side spaced (slash x) start next p l = absurd p
+answered-passed n side spaced faulty_piece start next p l = absurd p
+answered-passed n side spaced faulty_gap start next p l = absurd p
 
 pub after_role-passed : (n : ℕ) (role : Role) (after : List ℕ) (o : Outcome) → length after ≤ n → length (left_of o) ≤ n → length (left_of (after_role role after o)) ≤ n
 after_role-passed n any_type after o a l = with_role-passed n any_type o l
@@ -130,16 +130,16 @@ after_role-passed n (with s) after o a l = with_role-passed n (with s) o l
 after_role-passed n (joint c) after o a l = with_role-passed n (joint c) o l
 after_role-passed n unknown after o a l = a
 
--- what a run leaves is no more than its text
-length-left_of : (n : ℕ) (text : List ℕ) (r : Run) → length text ≤ n → RunStands no_texts text r → length (left_of (outcome r)) ≤ n
-length-left_of n text (run_end left) l h = omega (arith, l, length-ends text left h)
+-- what a sequence leaves is no more than its text
+length-left_of : (n : ℕ) (text : List ℕ) (r : TokenSequence) → length text ≤ n → SequenceStands no_texts text r → length (left_of (outcome r)) ≤ n
+length-left_of n text (sequence_end left) l h = omega (arith, l, length-ends text left h)
 length-left_of n text (item (Err fault) after rest) l h = omega (arith, l, length-ends text after h.0)
 length-left_of n text (item (Ok token) after rest) l h =
     let less : length after ≤ n = omega (arith, l, length-ends text after h.0) in
     after_role-passed n (role_of token) after (outcome rest) less (length-left_of n after rest less h.1)
 
-pub left_of-run : (edition : Edition) (left : Left) (n : ℕ) (text : List ℕ) → length text ≤ n → length (left_of (outcome (run_from edition left text))) ≤ n
-left_of-run edition left n text l = length-left_of n text (run_from edition left text) l (run_from-stands sees_nothing edition left text tt)
+pub left_of-sequence : (edition : Edition) (side : Side) (n : ℕ) (text : List ℕ) → length text ≤ n → length (left_of (outcome (sequence_from edition side text))) ≤ n
+left_of-sequence edition side n text l = length-left_of n text (sequence_from edition side text) l (sequence_from-stands sees_nothing edition side text tt)
 
 -- a piece that begins and ends where no more than n bytes are left
 pub follows_as-passed : (n : ℕ) (token : Token) (start after : List ℕ) → length start ≤ n → length after ≤ n → PassedBy n (follows_as token start after)
@@ -155,13 +155,13 @@ follows_as-passed n child_combinator start after s a = s
 follows_as-passed n adjacent_combinator start after s a = s
 
 -- the outcome at a fault of a solid piece
-pub fault_end-outcome : (left : Left) (spaced : Bool) (start : List ℕ) (fault : Fault) (after : List ℕ) → outcome (run left [] (fault_end spaced start fault after)) ≡ refused after
-fault_end-outcome left spaced start fault after = by left spaced (starts_by begins_subselector start)
+pub fault_end-outcome : (side : Side) (spaced : Bool) (start : List ℕ) (fault : Fault) (after : List ℕ) → outcome (sequence side [] (fault_end spaced start fault after)) ≡ refused after
+fault_end-outcome side spaced start fault after = by side spaced (starts_by begins_subselector start)
   where
-    by : (l : Left) (s k : Bool) → outcome (run l [] (if k then within_piece s start fault after else without_head s start fault after)) ≡ refused after
-    by open_left s true = refl
-    by open_left s false = refl
-    by closed_left true true = refl
-    by closed_left true false = refl
-    by closed_left false true = refl
-    by closed_left false false = refl
+    by : (l : Side) (s k : Bool) → outcome (sequence l [] (if k then within_piece s start fault after else without_head s start fault after)) ≡ refused after
+    by open_side s true = refl
+    by open_side s false = refl
+    by closed_side true true = refl
+    by closed_side true false = refl
+    by closed_side false true = refl
+    by closed_side false false = refl

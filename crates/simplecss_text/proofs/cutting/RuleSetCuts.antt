@@ -7,7 +7,7 @@ use Rattle.simplecss_text.specs.Bytes.{past, past_one, past_byte, starts}
 use Rattle.simplecss_text.specs.Characters.{Edition, is_space}
 use Rattle.simplecss_text.specs.Components.{Component}
 use Rattle.simplecss_text.specs.Selectors.{reads}
-use Rattle.simplecss_text.specs.Declarations.{Property}
+use Rattle.simplecss_text.specs.Declarations.{StyleDeclaration}
 use Rattle.simplecss_text.specs.Blocks.{block}
 use Rattle.simplecss_text.specs.Statements.{StyleRule, part, part_and_comma, parts, next_block, rule_set}
 use Rattle.simplecss_text.proofs.reading.TakesLaws.{length-past}
@@ -104,14 +104,14 @@ pub rule_set-same : (edition : Edition) (u v r s : List ℕ) → Along 125 (u ++
 unfolding rule_set
 rule_set-same edition u v r s h = comma (past_byte 44 r) (past_byte 44 s) (past_byte-along 125 (u ++ v) u 44 r s h)
   where
-    body : (xs ys : List (List Component)) (c d : List Property × List ℕ) → xs ≡ ys → BlockSame (u ++ v) u c d → RulesSame (u ++ v) u (map (λ selector. record { components = selector; properties = c.0 }) xs, c.1) (map (λ selector. record { components = selector; properties = d.0 }) ys, d.1)
+    body : (xs ys : List (List Component)) (c d : List StyleDeclaration × List ℕ) → xs ≡ ys → BlockSame (u ++ v) u c d → RulesSame (u ++ v) u (map (λ selector. record { components = selector; declarations = c.0 }) xs, c.1) (map (λ selector. record { components = selector; declarations = d.0 }) ys, d.1)
     body xs ys c d e (inl l) = inl l
     body xs ys c d e (inr (f, k)) = inr (rw (e, f) refl, k)
 
-    head : (a b : List (List Component) × List ℕ) → Same (u ++ v) u a b → RulesSame (u ++ v) u (map (λ selector. record { components = selector; properties = (next_block edition a.1).0 }) a.0, (next_block edition a.1).1) (map (λ selector. record { components = selector; properties = (next_block edition b.1).0 }) b.0, (next_block edition b.1).1)
+    head : (a b : List (List Component) × List ℕ) → Same (u ++ v) u a b → RulesSame (u ++ v) u (map (λ selector. record { components = selector; declarations = (next_block edition a.1).0 }) a.0, (next_block edition a.1).1) (map (λ selector. record { components = selector; declarations = (next_block edition b.1).0 }) b.0, (next_block edition b.1).1)
     head a b (inl l) = inl (next_block-lost edition (u ++ v) a.1 l)
     head a b (inr (e, k)) = body a.0 b.0 (next_block edition a.1) (next_block edition b.1) e (next_block-same edition u v a.1 b.1 k)
 
-    comma : (x y : List ℕ) → To 125 (u ++ v) u x y → RulesSame (u ++ v) u (map (λ selector. record { components = selector; properties = (next_block edition (parts edition x).1).0 }) (parts edition x).0, (next_block edition (parts edition x).1).1) (map (λ selector. record { components = selector; properties = (next_block edition (parts edition y).1).0 }) (parts edition y).0, (next_block edition (parts edition y).1).1)
+    comma : (x y : List ℕ) → To 125 (u ++ v) u x y → RulesSame (u ++ v) u (map (λ selector. record { components = selector; declarations = (next_block edition (parts edition x).1).0 }) (parts edition x).0, (next_block edition (parts edition x).1).1) (map (λ selector. record { components = selector; declarations = (next_block edition (parts edition y).1).0 }) (parts edition y).0, (next_block edition (parts edition y).1).1)
     comma x y (inl l) = inl (next_block-lost edition (u ++ v) (parts edition x).1 (omega (arith, length-parts edition x)))
     comma x y (inr k) = head (parts edition x) (parts edition y) (parts-same edition u v x y k)

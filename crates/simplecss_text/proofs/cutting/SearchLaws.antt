@@ -11,20 +11,20 @@ use Rattle.simplecss_text.proofs.reading.TakesLaws.{Leaves, after_close-leaves, 
 use Rattle.simplecss_text.proofs.cutting.GuardLaws.{Along, at, on, To, Guard, Guarded, Equal, Step, Never, Repeats, each-repeats, guard-got, guard-if, starts-along, past_one-along, before-along}
 
 -- what two searches find: where the first finds nothing, neither does the second
-abbrev pub Finds : ℕ → List ℕ → List ℕ → Option (List ℕ) → Option (List ℕ) → Type 0
-Finds g t u None None = Unit {0}
-Finds g t u None (Some b) = ⊥
-Finds g t u (Some a) None = length a ≤ length t
-Finds g t u (Some a) (Some b) = To g t u a b
+abbrev pub FindsAlike : ℕ → List ℕ → List ℕ → Option (List ℕ) → Option (List ℕ) → Type 0
+FindsAlike g t u None None = Unit {0}
+FindsAlike g t u None (Some b) = ⊥
+FindsAlike g t u (Some a) None = length a ≤ length t
+FindsAlike g t u (Some a) (Some b) = To g t u a b
 
 -- behind the brace
-finds-behind : (g : ℕ) (t u : List ℕ) (o p : Option (List ℕ)) → Leaves t o → (o ≡ None → p ≡ None) → Finds g t u o p
+finds-behind : (g : ℕ) (t u : List ℕ) (o p : Option (List ℕ)) → Leaves t o → (o ≡ None → p ≡ None) → FindsAlike g t u o p
 finds-behind g t u None None l h = tt
 finds-behind g t u None (Some b) l h = let e : Some b ≡ None = h refl in absurd (cc)
 finds-behind g t u (Some a) None l h = l
 finds-behind g t u (Some a) (Some b) l h = inl l
 
-finds-if : (g : ℕ) (t u : List ℕ) (c d : Bool) (a b x y : Option (List ℕ)) → c ≡ d → Finds g t u a b → Finds g t u x y → Finds g t u (if c then a else x) (if d then b else y)
+finds-if : (g : ℕ) (t u : List ℕ) (c d : Bool) (a b x y : Option (List ℕ)) → c ≡ d → FindsAlike g t u a b → FindsAlike g t u x y → FindsAlike g t u (if c then a else x) (if d then b else y)
 finds-if g t u true true a b x y e p q = p
 finds-if g t u false false a b x y e p q = q
 finds-if g t u true false a b x y e p q = absurd (cc)
@@ -83,27 +83,27 @@ pub record Plain (g : ℕ) : Type 0 where
 pub brace_plain : Plain 125
 brace_plain = record { space = refl; slash = refl; star = refl }
 
-close-finds : (g : ℕ) (u v : List ℕ) → Plain g → (r s : List ℕ) → Along g (u ++ v) u r s → Finds g (u ++ v) u (after_close r) (after_close s)
+close-finds : (g : ℕ) (u v : List ℕ) → Plain g → (r s : List ℕ) → Along g (u ++ v) u r s → FindsAlike g (u ++ v) u (after_close r) (after_close s)
 close-finds g u v p r s at = let e : (g == 42) ≡ false = p.star in rw e (finds-behind g (u ++ v) u (after_close (u ++ v)) (after_close u) (after_close-leaves (u ++ v)) (close_front u v))
 close-finds g u v p r s (on b r1 s1 room h) =
     let same : starts_two 42 47 (b ∷ r1) ≡ starts_two 42 47 (b ∷ s1) = ap (λ (k : Bool). b == 42 && k) (starts-along g (u ++ v) u 47 r1 s1 h) in
     finds-if g (u ++ v) u (starts_two 42 47 (b ∷ r1)) (starts_two 42 47 (b ∷ s1)) _ _ _ _ same (past_one-along g (u ++ v) u r1 s1 h) (close-finds g u v p r1 s1 h)
 
-pub byte-finds : (c : ℕ) (u v : List ℕ) → (125 == c) ≡ false → (r s : List ℕ) → Along 125 (u ++ v) u r s → Finds 125 (u ++ v) u (after_byte c r) (after_byte c s)
+pub byte-finds : (c : ℕ) (u v : List ℕ) → (125 == c) ≡ false → (r s : List ℕ) → Along 125 (u ++ v) u r s → FindsAlike 125 (u ++ v) u (after_byte c r) (after_byte c s)
 byte-finds c u v e r s at = rw e (finds-behind 125 (u ++ v) u (after_byte c (u ++ v)) (after_byte c u) (byte-leaves c (u ++ v)) (byte_front c u v))
 byte-finds c u v e r s (on b r1 s1 room h) = finds-if 125 (u ++ v) u (b == c) (b == c) _ _ _ _ refl (inr h) (byte-finds c u v e r1 s1 h)
 
-quote-finds : (quote : ℕ) (u v : List ℕ) → (125 == quote) ≡ false → (previous : ℕ) (r s : List ℕ) → Along 125 (u ++ v) u r s → Finds 125 (u ++ v) u (from_quote quote previous r) (from_quote quote previous s)
+quote-finds : (quote : ℕ) (u v : List ℕ) → (125 == quote) ≡ false → (previous : ℕ) (r s : List ℕ) → Along 125 (u ++ v) u r s → FindsAlike 125 (u ++ v) u (from_quote quote previous r) (from_quote quote previous s)
 quote-finds quote u v e previous r s at = rw e (finds-behind 125 (u ++ v) u (from_quote quote 125 (u ++ v)) (from_quote quote 125 u) (from_quote-leaves quote 125 (u ++ v)) (quote_front quote 125 u v))
 quote-finds quote u v e previous r s (on b r1 s1 room h) = finds-if 125 (u ++ v) u (b == quote && not (previous == 92)) (b == quote && not (previous == 92)) _ _ _ _ refl (inr (on b r1 s1 room h)) (quote-finds quote u v e b r1 s1 h)
 
-pub closed_or-guard : (g : ℕ) (t u : List ℕ) (f e : Fault) (o p : Option (List ℕ)) → Finds g t u o p → Guard Equal g t u (closed_or f o) (closed_or e p)
+pub closed_or-guard : (g : ℕ) (t u : List ℕ) (f e : Fault) (o p : Option (List ℕ)) → FindsAlike g t u o p → Guard Equal g t u (closed_or f o) (closed_or e p)
 closed_or-guard g t u f e None None h = inl (omega arith)
 closed_or-guard g t u f e None (Some b) h = absurd h
 closed_or-guard g t u f e (Some a) None h = inl h
 closed_or-guard g t u f e (Some a) (Some b) h = guard-got Equal g t u tt tt a b refl h
 
-string_up_to-guard : (g : ℕ) (t u r s : List ℕ) (o p : Option (List ℕ)) → Along g t u r s → Finds g t u o p → Guard Equal g t u (string_up_to r o) (string_up_to s p)
+string_up_to-guard : (g : ℕ) (t u r s : List ℕ) (o p : Option (List ℕ)) → Along g t u r s → FindsAlike g t u o p → Guard Equal g t u (string_up_to r o) (string_up_to s p)
 string_up_to-guard g t u r s None None h k = inl (omega arith)
 string_up_to-guard g t u r s None (Some b) h k = absurd k
 string_up_to-guard g t u r s (Some a) None h k = inl (omega (arith, length-past_one a))
@@ -129,7 +129,7 @@ blank_part-step g u v p r s at =
     rw (e, f) tt
 blank_part-step g u v p r s (on b r1 s1 room h) = by (is_space b)
   where
-    closes : (o p : Option (List ℕ)) → Finds g (u ++ v) u o p → Step Equal Never g (u ++ v) u (b ∷ r1) (option_map (λ (rest : List ℕ). (false, rest)) o) (option_map (λ (rest : List ℕ). (false, rest)) p)
+    closes : (o p : Option (List ℕ)) → FindsAlike g (u ++ v) u o p → Step Equal Never g (u ++ v) u (b ∷ r1) (option_map (λ (rest : List ℕ). (false, rest)) o) (option_map (λ (rest : List ℕ). (false, rest)) p)
     closes None None k = tt
     closes None (Some y) k = absurd k
     closes (Some x) None k = k

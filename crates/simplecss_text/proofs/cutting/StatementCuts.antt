@@ -10,7 +10,7 @@ use Rattle.simplecss_text.specs.Characters.{Edition}
 use Rattle.simplecss_text.specs.Comments.{past_blank}
 use Rattle.simplecss_text.specs.Names.{name}
 use Rattle.simplecss_text.specs.Blocks.{from_block_end}
-use Rattle.simplecss_text.specs.Statements.{StyleRule, ends_statements, next_statement, past_at_rule, rule_set, statement}
+use Rattle.simplecss_text.specs.Statements.{StyleRule, ends_statements, next_statement, at_rule_rest, rule_set, statement}
 use Rattle.simplecss_text.proofs.reading.EndsLaws.{ends-ends, ends-got, ends-nil, ends-past, ends-same, ends-tail, itself, length-ends}
 use Rattle.simplecss_text.proofs.reading.StandLaws.{name-stands, utf8-behind, ends-past_blank}
 use Rattle.simplecss_text.proofs.cutting.GuardLaws.{Along, To, at, longer-along, not_empty, on, starts-along}
@@ -43,7 +43,7 @@ statement-ends edition (b ∷ text) rules rest e = by (b == 64) refl e
     of_rules f g (inl h) = text_ends (sym (ap (λ r. r.1) g) ∙ h)
     of_rules f g (inr h) = rules_end f g (subst (λ (x : List ℕ). Ends (b ∷ text) (125 ∷ x)) (ap (λ r. r.1) g) h)
 
-    by : (k : Bool) → (b == 64) ≡ k → (if k then ([], past_at_rule edition text) else rule_set edition (b ∷ text)) ≡ (rules, rest) → NextEnds edition (b ∷ text) rules rest
+    by : (k : Bool) → (b == 64) ≡ k → (if k then ([], at_rule_rest edition text) else rule_set edition (b ∷ text)) ≡ (rules, rest) → NextEnds edition (b ∷ text) rules rest
     by true f g = at_rule_ends text (ap (λ (c : ℕ). c ∷ text) (eqb-true b 64 f)) (sym (ap (λ r. r.0) g)) (subst (AtRuleEnds edition text) (ap (λ r. r.1) g) (at_rule-ends edition text))
     by false f g = of_rules f g (rule_set-behind edition (b ∷ text))
 
@@ -158,7 +158,7 @@ rule_set-cut edition w v r s rules h e = by (rule_set edition r) (rule_set editi
         inr (rw (same, ruled) refl)
 
 -- an at-rule, from behind its sign
-at_rule-cut : (edition : Edition) (s v w rest : List ℕ) → IsUtf8 (s ++ v) → IsUtf8 v → rest ≡ w ++ v → AtRuleEnds edition (s ++ v) rest → (w ++ v ≡ []) ⊎ (past_at_rule edition s ≡ w)
+at_rule-cut : (edition : Edition) (s v w rest : List ℕ) → IsUtf8 (s ++ v) → IsUtf8 v → rest ≡ w ++ v → AtRuleEnds edition (s ++ v) rest → (w ++ v ≡ []) ⊎ (at_rule_rest edition s ≡ w)
 at_rule-cut edition s v w rest whole cut e uses_up = inl (sym e)
 at_rule-cut edition s v w rest whole cut e (at_fault fault left f) = inr (at_rule-fault edition s v w fault (utf8-front s v whole cut) (f ∙ ap (fails fault) e))
 at_rule-cut edition s v w rest whole cut e (at_semicolon n x left f g) =
@@ -192,7 +192,7 @@ next_statement-cut edition u v w rules whole cut e = by (next_statement-ends edi
         let goes : ends_statements (past_blank u) ≡ false = sym (ends_statements-along (w ++ v) w (past_blank (u ++ v)) (past_blank u) along) ∙ more in
         next_statement-reads edition u w rules goes (rw sign r)
 
-    at_sign : (s : List ℕ) → past_blank u ≡ 64 ∷ s → rules ≡ [] → (w ++ v ≡ []) ⊎ (past_at_rule edition s ≡ w) → next_statement edition u ≡ Some (rules, w)
+    at_sign : (s : List ℕ) → past_blank u ≡ 64 ∷ s → rules ≡ [] → (w ++ v ≡ []) ⊎ (at_rule_rest edition s ≡ w) → next_statement edition u ≡ Some (rules, w)
     at_sign s is none (inl n) = nil n
     at_sign s is none (inr r) =
         let goes : ends_statements (past_blank u) ≡ false = ap ends_statements is ∙ rw (not_empty 64 s) refl in

@@ -7,13 +7,13 @@ use Rattle.simplecss_text.specs.Bytes.{is_neither, past, past_byte, past_one, st
 use Rattle.simplecss_text.specs.Characters.{Edition, is_space}
 use Rattle.simplecss_text.specs.Names.{name}
 use Rattle.simplecss_text.specs.Selectors.{reads}
-use Rattle.simplecss_text.specs.Declarations.{Property, declaration}
+use Rattle.simplecss_text.specs.Declarations.{StyleDeclaration, declaration}
 use Rattle.simplecss_text.specs.Blocks.{block, declaration_in_block, ends_list, from_block_end, past_broken}
-use Rattle.simplecss_text.specs.Statements.{next_block, part, part_and_comma, parts, past_at_end, past_at_name, past_at_rule, rule_set}
+use Rattle.simplecss_text.specs.Statements.{next_block, part, part_and_comma, parts, past_semicolon_or_block, at_rule_rest_by_name, at_rule_rest, rule_set}
 use Rattle.simplecss_text.proofs.reading.EachLaws.{each-stops}
 use Rattle.simplecss_text.proofs.reading.DeclarationLaws.{declaration_in_block-takes}
 use Rattle.simplecss_text.proofs.reading.EndsLaws.{EndsFound, Stands, each-ends, ends-ends, ends-past, ends-past_byte, ends-past_one, ends-tail, no_texts}
-use Rattle.simplecss_text.proofs.reading.RunStandLaws.{reads-ends}
+use Rattle.simplecss_text.proofs.reading.SequenceStandLaws.{reads-ends}
 use Rattle.simplecss_text.proofs.cutting.GuardLaws.{not_empty}
 use Rattle.simplecss_text.proofs.reading.DeclarationsLawful.{declaration-stands, declaration_in_block-ends, ends-from_block_end}
 use Rattle.simplecss_text.proofs.cutting.BlockEndGuards.{no_brace}
@@ -62,8 +62,8 @@ list_end (b ∷ text) e = inr (rw (not_empty b text) at e)
 broken-behind : (edition : Edition) (text : List ℕ) → found (declaration edition text) ≡ None → BehindBrace text (past_byte 125 (past_broken (declaration edition text)))
 broken-behind edition text none = by (declaration edition text) (declaration-stands edition text) none
   where
-    by : (r : Reading Property) → Stands text no_texts r → found r ≡ None → BehindBrace text (past_byte 125 (past_broken r))
-    by (got property rest) h e = absurd (cc)
+    by : (r : Reading StyleDeclaration) → Stands text no_texts r → found r ≡ None → BehindBrace text (past_byte 125 (past_broken r))
+    by (got declared rest) h e = absurd (cc)
     by (fails fault rest) h e = behind-further text (past_byte 125 (from_block_end rest)) (behind-brace text (from_block_end rest) (ends-ends text rest (from_block_end rest) h.at (ends-from_block_end rest)) (at_brace rest))
 
 block-behind : (edition : Edition) (text : List ℕ) → BehindBrace text (block edition text).1
@@ -144,7 +144,7 @@ at_block-ends edition text n rest inner e f = by (at_brace inner)
     by (inl h) = rw h uses_up
     by (inr h) = at_block n rest inner (past_byte 125 (from_block_end inner)) e f (starts-is 125 (from_block_end inner) h)
 
-at_end-ends : (edition : Edition) (text n rest : List ℕ) → name edition text ≡ got n rest → (x : List ℕ) → past (is_neither 59 123) rest ≡ x → AtRuleEnds edition text (past_at_end x)
+at_end-ends : (edition : Edition) (text n rest : List ℕ) → name edition text ≡ got n rest → (x : List ℕ) → past (is_neither 59 123) rest ≡ x → AtRuleEnds edition text (past_semicolon_or_block x)
 at_end-ends edition text n rest e [] f = uses_up
 at_end-ends edition text n rest e (b ∷ x) f = by (b == 123) refl
   where
@@ -154,10 +154,10 @@ at_end-ends edition text n rest e (b ∷ x) f = by (b == 123) refl
         let semicolon : (b == 59) ≡ true = neither_one b (past-stops (is_neither 59 123) rest b x f) g in
         rw semicolon (at_semicolon n rest x e (f ∙ ap (λ (c : ℕ). c ∷ x) (eqb-true b 59 semicolon)))
 
-pub at_rule-ends : (edition : Edition) (text : List ℕ) → AtRuleEnds edition text (past_at_rule edition text)
-unfolding past_at_rule
+pub at_rule-ends : (edition : Edition) (text : List ℕ) → AtRuleEnds edition text (at_rule_rest edition text)
+unfolding at_rule_rest
 at_rule-ends edition text = by (name edition text) refl
   where
-    by : (r : Reading (List ℕ)) → name edition text ≡ r → AtRuleEnds edition text (past_at_name r)
+    by : (r : Reading (List ℕ)) → name edition text ≡ r → AtRuleEnds edition text (at_rule_rest_by_name r)
     by (fails fault left) e = at_fault fault left e
     by (got n rest) e = at_end-ends edition text n rest e (past (is_neither 59 123) rest) refl

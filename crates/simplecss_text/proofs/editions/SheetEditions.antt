@@ -7,9 +7,9 @@ use Rattle.simplecss_text.specs.Bytes.{past, past_byte, past_one, starts}
 use Rattle.simplecss_text.specs.Characters.{Edition, first_edition, is_space, second_edition}
 use Rattle.simplecss_text.specs.Comments.{gap, past_blank}
 use Rattle.simplecss_text.specs.Components.{Component}
-use Rattle.simplecss_text.specs.Declarations.{Property}
+use Rattle.simplecss_text.specs.Declarations.{StyleDeclaration}
 use Rattle.simplecss_text.specs.Blocks.{block, declaration_in_block, ends_list, past_broken, past_list}
-use Rattle.simplecss_text.specs.Statements.{StyleRule, ends_statements, has_property, next_block, next_statement, part, part_and_comma, parts, past_at_name, past_at_rule, rule_set, statement, statements}
+use Rattle.simplecss_text.specs.Statements.{StyleRule, ends_statements, has_declaration, next_block, next_statement, part, part_and_comma, parts, at_rule_rest_by_name, at_rule_rest, rule_set, statement, statements}
 use Rattle.simplecss_text.specs.Sheets.{ordered, sheet}
 use Rattle.simplecss_text.specs.Editions.{IsCommon, KeepsInBoth}
 use Rattle.simplecss_text.proofs.reading.EndsLaws.{EndsFound, Stands, each-ends, ends-ends, ends-past, ends-past_byte, ends-past_one, ends-same, no_texts}
@@ -18,12 +18,12 @@ use Rattle.simplecss_text.proofs.reading.DeclarationsLawful.{declaration-lawful,
 use Rattle.simplecss_text.proofs.cutting.StatementEnds.{part_and_comma-ends, parts-ends}
 use Rattle.simplecss_text.proofs.cutting.StatementCuts.{next_statement-well}
 use Rattle.simplecss_text.proofs.editions.EditionLaws.{Shared, each-editions, if-editions, name-editions, shared-ends, shared-from}
-use Rattle.simplecss_text.specs.Pieces.{solid, Piece, ending, fault_ending, gap_ending, is_stop, next_piece, piece, pieces, solid}
-use Rattle.simplecss_text.specs.Neighbours.{Left}
-use Rattle.simplecss_text.specs.Neighbours.Left.{open_left}
-use Rattle.simplecss_text.specs.TokenRuns.{Run, run, run_from}
+use Rattle.simplecss_text.specs.Pieces.{solid, Piece, ending, fault_ending, gap_ending, ends_selector, next_piece, piece, pieces, solid}
+use Rattle.simplecss_text.specs.Neighbours.{Side}
+use Rattle.simplecss_text.specs.Neighbours.Side.{open_side}
+use Rattle.simplecss_text.specs.TokenSequences.{TokenSequence, sequence, sequence_from}
 use Rattle.simplecss_text.specs.Selectors.{outcome, reads, selector_of}
-use Rattle.simplecss_text.proofs.reading.RunStandLaws.{PieceStands, piece-stands}
+use Rattle.simplecss_text.proofs.reading.SequenceStandLaws.{PieceStands, piece-stands}
 use Rattle.simplecss_text.proofs.reading.PiecesLawful.{solid-lawful}
 
 -- ---- selectors
@@ -56,21 +56,21 @@ ending-editions text h = by (gap text) (gap-stands text)
     by : (r : Reading Bool) → Stands text no_texts r → gap_ending first_edition r ≡ gap_ending second_edition r
     by (fails fault after) s = refl
     by (got spaced start) s =
-        if-editions (is_stop start) _ _ _ _ refl
+        if-editions (ends_selector start) _ _ _ _ refl
         (if-editions (starts 47 start) _ _ _ _ refl
         (ap (fault_ending spaced start) ((solid-lawful start start).same (shared-ends text start s.at h))))
 
-run_from-editions : (left : Left) (text : List ℕ) → Shared text → run_from first_edition left text ≡ run_from second_edition left text
-unfolding run_from
-run_from-editions left text h =
+sequence_from-editions : (side : Side) (text : List ℕ) → Shared text → sequence_from first_edition side text ≡ sequence_from second_edition side text
+unfolding sequence_from
+sequence_from-editions side text h =
     let rest : List ℕ = (pieces first_edition text).1 in
     let shared : Shared rest = shared-ends text rest (each-ends (next_piece first_edition) (next_piece-ends first_edition) text) h in
-    ap (run left (pieces first_edition text).0) (ending-editions rest shared)
-    ∙ ap (λ (r : List Piece × List ℕ). run left r.0 (ending second_edition r.1)) (pieces-editions text h)
+    ap (sequence side (pieces first_edition text).0) (ending-editions rest shared)
+    ∙ ap (λ (r : List Piece × List ℕ). sequence side r.0 (ending second_edition r.1)) (pieces-editions text h)
 
 reads-editions : (text : List ℕ) → Shared text → reads first_edition text ≡ reads second_edition text
 unfolding reads
-reads-editions text h = ap (λ (r : Run). selector_of (outcome r)) (run_from-editions open_left text h)
+reads-editions text h = ap (λ (r : TokenSequence). selector_of (outcome r)) (sequence_from-editions open_side text h)
 
 -- ---- blocks, rule sets, sheets
 
@@ -80,11 +80,11 @@ declaration_in_block-editions text h = if-editions (ends_list text) _ _ _ _ refl
 block-editions : (text : List ℕ) → Shared text → block first_edition text ≡ block second_edition text
 unfolding block
 block-editions text h =
-    let listed : List Property × List ℕ = each (declaration_in_block first_edition) text in
+    let listed : List StyleDeclaration × List ℕ = each (declaration_in_block first_edition) text in
     let shared : Shared listed.1 = shared-ends text listed.1 (each-ends (declaration_in_block first_edition) (declaration_in_block-ends first_edition) text) h in
     let last : past_list first_edition listed.1 ≡ past_list second_edition listed.1 = if-editions (ends_list listed.1) _ _ _ _ refl (ap past_broken ((declaration-lawful listed.1 listed.1).same shared)) in
     ap (λ (t : List ℕ). (listed.0, past_byte 125 t)) last
-    ∙ ap (λ (r : List Property × List ℕ). (r.0, past_byte 125 (past_list second_edition r.1))) (each-editions (declaration_in_block first_edition) (declaration_in_block second_edition) declaration_in_block-editions (declaration_in_block-ends first_edition) text h)
+    ∙ ap (λ (r : List StyleDeclaration × List ℕ). (r.0, past_byte 125 (past_list second_edition r.1))) (each-editions (declaration_in_block first_edition) (declaration_in_block second_edition) declaration_in_block-editions (declaration_in_block-ends first_edition) text h)
 
 next_block-editions : (text : List ℕ) → Shared text → next_block first_edition text ≡ next_block second_edition text
 unfolding next_block
@@ -114,18 +114,18 @@ rule_set-editions text h =
     let start : List ℕ = past_byte 44 text in
     let shared : Shared start = shared-ends text start (ends-past_byte 44 text) h in
     let head : List (List Component) × List ℕ = parts first_edition start in
-    ap (λ (body : List Property × List ℕ). (map (λ selector. record { components = selector; properties = body.0 }) head.0, body.1)) (next_block-editions head.1 (shared-ends start head.1 (parts-ends first_edition start) shared))
-    ∙ ap (λ (r : List (List Component) × List ℕ). (map (λ selector. record { components = selector; properties = (next_block second_edition r.1).0 }) r.0, (next_block second_edition r.1).1)) (parts-editions start shared)
+    ap (λ (body : List StyleDeclaration × List ℕ). (map (λ selector. record { components = selector; declarations = body.0 }) head.0, body.1)) (next_block-editions head.1 (shared-ends start head.1 (parts-ends first_edition start) shared))
+    ∙ ap (λ (r : List (List Component) × List ℕ). (map (λ selector. record { components = selector; declarations = (next_block second_edition r.1).0 }) r.0, (next_block second_edition r.1).1)) (parts-editions start shared)
 
-past_at_rule-editions : (text : List ℕ) → Shared text → past_at_rule first_edition text ≡ past_at_rule second_edition text
-unfolding past_at_rule
-past_at_rule-editions text h = ap past_at_name (name-editions text h)
+at_rule_rest-editions : (text : List ℕ) → Shared text → at_rule_rest first_edition text ≡ at_rule_rest second_edition text
+unfolding at_rule_rest
+at_rule_rest-editions text h = ap at_rule_rest_by_name (name-editions text h)
 
 statement-editions : (text : List ℕ) → Shared text → statement first_edition text ≡ statement second_edition text
 unfolding statement
 statement-editions text h =
     if-editions (starts 64 text) _ _ _ _
-    (ap (λ (t : List ℕ). ([], t)) (past_at_rule-editions (past_one text) (shared-ends text (past_one text) (ends-past_one text) h)))
+    (ap (λ (t : List ℕ). ([], t)) (at_rule_rest-editions (past_one text) (shared-ends text (past_one text) (ends-past_one text) h)))
     (rule_set-editions text h)
 
 next_statement-editions : (text : List ℕ) → Shared text → next_statement first_edition text ≡ next_statement second_edition text
@@ -142,7 +142,7 @@ next_statement-found edition text = by (next_statement edition text) refl
 pub keeps_in_both : (text : List ℕ) → IsCommon text → KeepsInBoth text
 unfolding statements
 keeps_in_both text h =
-    ap (λ (r : List (List StyleRule) × List ℕ). filter has_property (flat_map (λ rules. rules) r.0))
+    ap (λ (r : List (List StyleRule) × List ℕ). filter has_declaration (flat_map (λ rules. rules) r.0))
     (each-editions (next_statement first_edition) (next_statement second_edition) next_statement-editions (next_statement-found first_edition) text (shared-from text h))
 
 -- any two editions give the same sheet of one such text

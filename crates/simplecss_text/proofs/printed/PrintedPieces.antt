@@ -10,16 +10,16 @@ use Rattle.simplecss_text.specs.Reading.{Reading, got, follow, before}
 use Rattle.simplecss_text.specs.Bytes.{all_before, byte}
 use Rattle.simplecss_text.specs.Characters.{Edition, first_edition, second_edition, is_name_char}
 use Rattle.simplecss_text.specs.Strings.{from_quote, string_or_name}
-use Rattle.simplecss_text.specs.Components.{Operator, Class, Subselector}
+use Rattle.simplecss_text.specs.Components.{Operator, KnownPseudoClass, Subselector}
 use Rattle.simplecss_text.specs.Components.Operator.{exists, equals, has_word, begins_with}
-use Rattle.simplecss_text.specs.Components.Class.{first_child, link, visited, hover, active, focus, lang}
+use Rattle.simplecss_text.specs.Components.KnownPseudoClass.{first_child, link, visited, hover, active, focus, lang}
 use Rattle.simplecss_text.specs.Components.Subselector.{attribute, pseudo_class}
 use Rattle.simplecss_text.specs.Tokens.{Token}
 use Rattle.simplecss_text.specs.Tokens.Token.{attribute_selector, named_pseudo_class, lang_pseudo_class}
-use Rattle.simplecss_text.specs.Pieces.{attribute_operator, equated, attribute_after, lang_of, lang_after, pseudo_class_named, pseudo_class_after, begun, solid}
+use Rattle.simplecss_text.specs.Pieces.{attribute_operator, equated, attribute_after, lang_of, lang_after, pseudo_class_named, pseudo_class_after, solid_by_byte, solid}
 use Rattle.simplecss_text.specs.Selectors.{role_of}
 use Rattle.simplecss_text.specs.Selectors.Role.{with}
-use Rattle.simplecss_text.specs.Printing.{class_text, operator_text, subselector_text, escaped_after, is_clean_operator, is_clean_subselector}
+use Rattle.simplecss_text.specs.Printing.{pseudo_class_text, operator_text, subselector_text, escaped_after, is_clean_operator, is_clean_subselector}
 use Rattle.simplecss_text.proofs.printed.PrintedNames.{IsName, name-reads, ends_names, ends_names-byte, prefix_len-whole, begins_any_name}
 
 -- the last byte of a text, before which stands `previous`
@@ -156,7 +156,7 @@ lang-reads v tail w =
     ap (λ r. follow r next) (all_before-reads v tail w.within) ∙ ap (λ t. lang_of t tail) w.trimmed ∙ rw some refl
 
 -- the names of the pseudo-classes
-abbrev pub IsClass : Class → Type 0
+abbrev pub IsClass : KnownPseudoClass → Type 0
 IsClass first_child = Unit {0}
 IsClass link = Unit {0}
 IsClass visited = Unit {0}
@@ -205,7 +205,7 @@ lang_name first_edition = word_name first_edition (codes "lang") refl refl refl 
 lang_name second_edition = word_name second_edition (codes "lang") refl refl refl refl
 
 -- the token of a printed pseudo-class
-abbrev pub class_token : Class → Token
+abbrev pub class_token : KnownPseudoClass → Token
 class_token first_child = named_pseudo_class (codes "first-child")
 class_token link = named_pseudo_class (codes "link")
 class_token visited = named_pseudo_class (codes "visited")
@@ -232,7 +232,7 @@ lang_class-reads edition v tail w =
     ap (λ r. follow r pseudo_class_named) (name-reads edition (codes "lang") (40 ∷ (v ++ (41 ∷ tail))) (lang_name edition) (open_ends edition (v ++ (41 ∷ tail)))) ∙ lang-reads v tail w
 
 -- a pseudo-class is read back
-class-reads : (edition : Edition) (class : Class) (tail : List ℕ) → IsClass class → ends_names edition tail ≡ false → pseudo_class_after edition (class_text class ++ tail) ≡ got (class_token class) tail
+class-reads : (edition : Edition) (class : KnownPseudoClass) (tail : List ℕ) → IsClass class → ends_names edition tail ≡ false → pseudo_class_after edition (pseudo_class_text class ++ tail) ≡ got (class_token class) tail
 class-reads edition first_child tail w s = named-reads edition (codes "first-child") tail (first_child_name edition) refl s
 class-reads edition link tail w s = named-reads edition (codes "link") tail (link_name edition) refl s
 class-reads edition visited tail w s = named-reads edition (codes "visited") tail (visited_name edition) refl s
@@ -251,7 +251,7 @@ abbrev pub printed_token : Subselector → Token
 printed_token (attribute n o) = attribute_selector n o
 printed_token (pseudo_class class) = class_token class
 
-class-role : (class : Class) → role_of (class_token class) ≡ with (pseudo_class class)
+class-role : (class : KnownPseudoClass) → role_of (class_token class) ≡ with (pseudo_class class)
 class-role first_child = refl
 class-role link = refl
 class-role visited = refl
@@ -274,23 +274,23 @@ pub some-length : (b : ℕ) (text : List ℕ) → (length (b ∷ text) == 0) ≡
 some-length b text = grind arith
 
 -- where no stop and no slash stands, a solid piece is what the byte begins
-pub solid-begun : (edition : Edition) (b : ℕ) (text : List ℕ) → (b == 44) ≡ false → (b == 123) ≡ false → (b == 47) ≡ false → solid edition (b ∷ text) ≡ begun edition (b ∷ text)
+pub solid-by_byte : (edition : Edition) (b : ℕ) (text : List ℕ) → (b == 44) ≡ false → (b == 123) ≡ false → (b == 47) ≡ false → solid edition (b ∷ text) ≡ solid_by_byte edition (b ∷ text)
 unfolding solid
-solid-begun edition b text comma brace slash = let some = some-length b text in rw (some, comma, brace, slash) refl
+solid-by_byte edition b text comma brace slash = let some = some-length b text in rw (some, comma, brace, slash) refl
 
 -- a bracket begins an attribute
-pub begun-attribute : (edition : Edition) (text : List ℕ) → begun edition (91 ∷ text) ≡ attribute_after edition text
-unfolding begun
-begun-attribute edition text = refl
+pub solid_by_byte-attribute : (edition : Edition) (text : List ℕ) → solid_by_byte edition (91 ∷ text) ≡ attribute_after edition text
+unfolding solid_by_byte
+solid_by_byte-attribute edition text = refl
 
-begun-class : (edition : Edition) (text : List ℕ) → begun edition (58 ∷ text) ≡ pseudo_class_after edition text
-unfolding begun
-begun-class edition text = refl
+solid_by_byte-class : (edition : Edition) (text : List ℕ) → solid_by_byte edition (58 ∷ text) ≡ pseudo_class_after edition text
+unfolding solid_by_byte
+solid_by_byte-class edition text = refl
 
 -- a printed subselector is one solid piece
 pub subselector-reads : (edition : Edition) (s : Subselector) (tail : List ℕ) → IsSubselector edition s → is_clean_subselector s ≡ true → ends_names edition tail ≡ false → solid edition (subselector_text s ++ tail) ≡ got (printed_token s) tail
 subselector-reads edition (attribute n o) tail w c e =
-    solid-begun edition 91 (((n ++ operator_text o) ++ (93 ∷ [])) ++ tail) refl refl refl ∙ begun-attribute edition (((n ++ operator_text o) ++ (93 ∷ [])) ++ tail)
+    solid-by_byte edition 91 (((n ++ operator_text o) ++ (93 ∷ [])) ++ tail) refl refl refl ∙ solid_by_byte-attribute edition (((n ++ operator_text o) ++ (93 ∷ [])) ++ tail)
     ∙ ap (attribute_after edition) (bracketed n (operator_text o) tail) ∙ attribute-reads edition n o tail w.0 w.1 c
 subselector-reads edition (pseudo_class class) tail w c e =
-    solid-begun edition 58 (class_text class ++ tail) refl refl refl ∙ begun-class edition (class_text class ++ tail) ∙ class-reads edition class tail w e
+    solid-by_byte edition 58 (pseudo_class_text class ++ tail) refl refl refl ∙ solid_by_byte-class edition (pseudo_class_text class ++ tail) ∙ class-reads edition class tail w e

@@ -6,29 +6,29 @@ use Rattle.simplecss_text.specs.Reading.{got}
 use Rattle.simplecss_text.specs.Characters.{Edition, first_edition, second_edition, is_name_char}
 use Rattle.simplecss_text.specs.Comments.{blank_part, gap}
 use Rattle.simplecss_text.specs.Components.{Subselector, Combinator, Compound, Component}
-use Rattle.simplecss_text.specs.Components.Class.{first_child, link, visited, hover, active, focus, lang}
+use Rattle.simplecss_text.specs.Components.KnownPseudoClass.{first_child, link, visited, hover, active, focus, lang}
 use Rattle.simplecss_text.specs.Components.Subselector.{attribute, pseudo_class}
 use Rattle.simplecss_text.specs.Components.Combinator.{none, descendant, child, adjacent}
 use Rattle.simplecss_text.specs.Tokens.Token.{child_combinator, adjacent_combinator}
-use Rattle.simplecss_text.specs.Pieces.{begun, solid, is_stop}
-use Rattle.simplecss_text.specs.Neighbours.{Left, before_piece, left_behind}
-use Rattle.simplecss_text.specs.Neighbours.Left.{open_left, closed_left}
-use Rattle.simplecss_text.specs.TokenRuns.{Run, run_from, run_of, answered, token_then}
+use Rattle.simplecss_text.specs.Pieces.{solid_by_byte, solid, ends_selector}
+use Rattle.simplecss_text.specs.Neighbours.{Side, before_piece, side_behind}
+use Rattle.simplecss_text.specs.Neighbours.Side.{open_side, closed_side}
+use Rattle.simplecss_text.specs.TokenSequences.{TokenSequence, sequence_from, sequence_of, answered, token_then}
 use Rattle.simplecss_text.specs.Selectors.{Role, with_role, after_role, outcome, cut, type_among, subselectors_among, component_of, components_of, selector_of, reads}
 use Rattle.simplecss_text.specs.Selectors.Role.{any_type, of_type, with, joint}
 use Rattle.simplecss_text.specs.Selectors.Outcome.{accepted}
 use Rattle.simplecss_text.specs.Printing.{subselector_text, type_text, component_text, selector_text, is_clean_subselector, is_clean}
 use Rattle.simplecss_text.proofs.reading.EachLaws.{each-none}
-use Rattle.simplecss_text.proofs.reading.RunLaws.{run_from-piece}
-use Rattle.simplecss_text.proofs.reading.JoiningLaws.{piece_of, piece-read, descends-token, run_from-stop}
+use Rattle.simplecss_text.proofs.reading.SequenceLaws.{sequence_from-piece}
+use Rattle.simplecss_text.proofs.reading.JoiningLaws.{piece_of, piece-read, descends-token, sequence_from-stop}
 use Rattle.simplecss_text.proofs.printed.PrintedNames.{both_true, ends_names, ends_names-byte, ends_names-nil}
-use Rattle.simplecss_text.proofs.printed.PrintedPieces.{IsSubselector, printed_token, printed_token-role, subselector-reads, solid-begun, some-length}
+use Rattle.simplecss_text.proofs.printed.PrintedPieces.{IsSubselector, printed_token, printed_token-role, subselector-reads, solid-by_byte, some-length}
 use Rattle.simplecss_text.proofs.printed.PrintedHeads.{NoGap, no_gap-byte, gap-none, gap-space, IsTypeName, head_token, head_role, head-reads, head-no_gap}
 
 -- Behind a simple piece the text goes on with these roles, and then this is left. No name goes on there.
 pub record Goes (edition : Edition) (text : List ℕ) (roles : List Role) (left : List ℕ) : Type 0 where
   pub ends : ends_names edition text ≡ false
-  pub runs : outcome (run_from edition closed_left text) ≡ accepted roles left
+  pub runs : outcome (sequence_from edition closed_side text) ≡ accepted roles left
 
 -- no name goes on at an ASCII byte that is no name character
 pub ends_low : (edition : Edition) (b : ℕ) (text : List ℕ) → b < 128 → is_name_char first_edition b ≡ false → is_name_char second_edition b ≡ false → ends_names edition (b ∷ text) ≡ false
@@ -45,7 +45,7 @@ pub subselector-no_gap : (s : Subselector) (tail : List ℕ) → NoGap (subselec
 subselector-no_gap (attribute n o) tail = no_gap-byte 91 _ refl refl
 subselector-no_gap (pseudo_class class) tail = no_gap-byte 58 _ refl refl
 
-subselector-answer : (s : Subselector) (start after : List ℕ) (rest : Left → Run) → answered (before_piece closed_left (piece_of false start (printed_token s) after)) start (token_then (printed_token s) after (rest (left_behind (printed_token s)))) ≡ token_then (printed_token s) after (rest closed_left)
+subselector-answer : (s : Subselector) (start after : List ℕ) (rest : Side → TokenSequence) → answered (before_piece closed_side (piece_of false start (printed_token s) after)) start (token_then (printed_token s) after (rest (side_behind (printed_token s)))) ≡ token_then (printed_token s) after (rest closed_side)
 subselector-answer (attribute n o) start after rest = refl
 subselector-answer (pseudo_class first_child) start after rest = refl
 subselector-answer (pseudo_class link) start after rest = refl
@@ -56,18 +56,18 @@ subselector-answer (pseudo_class focus) start after rest = refl
 subselector-answer (pseudo_class (lang v)) start after rest = refl
 
 -- behind a simple piece a printed subselector is its token
-pub subselector-run : (edition : Edition) (s : Subselector) (tail : List ℕ) → IsSubselector edition s → is_clean_subselector s ≡ true → ends_names edition tail ≡ false → run_from edition closed_left (subselector_text s ++ tail) ≡ token_then (printed_token s) tail (run_from edition closed_left tail)
-subselector-run edition s tail w c e =
+pub subselector-sequence : (edition : Edition) (s : Subselector) (tail : List ℕ) → IsSubselector edition s → is_clean_subselector s ≡ true → ends_names edition tail ≡ false → sequence_from edition closed_side (subselector_text s ++ tail) ≡ token_then (printed_token s) tail (sequence_from edition closed_side tail)
+subselector-sequence edition s tail w c e =
     let text = subselector_text s ++ tail in
-    run_from-piece edition closed_left text tail (piece_of false text (printed_token s) tail) (piece-read edition text text tail false (printed_token s) (gap-none text (subselector-no_gap s tail)) (subselector-reads edition s tail w c e))
-    ∙ subselector-answer s text tail (λ left. run_from edition left tail)
+    sequence_from-piece edition closed_side text tail (piece_of false text (printed_token s) tail) (piece-read edition text text tail false (printed_token s) (gap-none text (subselector-no_gap s tail)) (subselector-reads edition s tail w c e))
+    ∙ subselector-answer s text tail (λ left. sequence_from edition left tail)
 
 -- and goes on as what follows it
 subselector-goes : (edition : Edition) (s : Subselector) (tail left : List ℕ) (roles : List Role) → IsSubselector edition s → is_clean_subselector s ≡ true → Goes edition tail roles left → Goes edition (subselector_text s ++ tail) (with s ∷ roles) left
 subselector-goes edition s tail left roles w c g = record {
   ends = subselector-ends edition s tail;
-  runs = ap outcome (subselector-run edition s tail w c g.ends)
-      ∙ ap (λ r. after_role r tail (outcome (run_from edition closed_left tail))) (printed_token-role s)
+  runs = ap outcome (subselector-sequence edition s tail w c g.ends)
+      ∙ ap (λ r. after_role r tail (outcome (sequence_from edition closed_side tail))) (printed_token-role s)
       ∙ ap (with_role (with s)) g.runs;
 }
 
@@ -86,26 +86,26 @@ subselectors-go edition (s ∷ ss) tail left roles w c g =
     (subselector-goes edition s (flat_map subselector_text ss ++ tail) left (map with ss ++ roles) w.0 h.0 more)
 
 -- behind an open left side nothing stands before a head
-pub head-answer : (o : Option (List ℕ)) (spaced : Bool) (start after : List ℕ) (rest : Left → Run) → answered (before_piece open_left (piece_of spaced start (head_token o) after)) start (token_then (head_token o) after (rest (left_behind (head_token o)))) ≡ token_then (head_token o) after (rest closed_left)
+pub head-answer : (o : Option (List ℕ)) (spaced : Bool) (start after : List ℕ) (rest : Side → TokenSequence) → answered (before_piece open_side (piece_of spaced start (head_token o) after)) start (token_then (head_token o) after (rest (side_behind (head_token o)))) ≡ token_then (head_token o) after (rest closed_side)
 head-answer None spaced start after rest = refl
 head-answer (Some n) spaced start after rest = refl
 
-head-outcome : (o : Option (List ℕ)) (after left : List ℕ) (roles : List Role) (rest : Run) → outcome rest ≡ accepted roles left → outcome (token_then (head_token o) after rest) ≡ accepted (head_role o ∷ roles) left
+head-outcome : (o : Option (List ℕ)) (after left : List ℕ) (roles : List Role) (rest : TokenSequence) → outcome rest ≡ accepted roles left → outcome (token_then (head_token o) after rest) ≡ accepted (head_role o ∷ roles) left
 head-outcome None after left roles rest e = ap (with_role any_type) e
 head-outcome (Some n) after left roles rest e = ap (with_role (of_type n)) e
 
 -- a head closes the left side
-pub head-closes : (o : Option (List ℕ)) → left_behind (head_token o) ≡ closed_left
+pub head-closes : (o : Option (List ℕ)) → side_behind (head_token o) ≡ closed_side
 head-closes None = refl
 head-closes (Some n) = refl
 
 -- behind an open left side stands a head, after a gap
-head-opens : (edition : Edition) (o : Option (List ℕ)) (text tail left : List ℕ) (spaced : Bool) (roles : List Role) → IsTypeName edition o tail → gap text ≡ got spaced (type_text o ++ tail) → Goes edition tail roles left → outcome (run_from edition open_left text) ≡ accepted (head_role o ∷ roles) left
+head-opens : (edition : Edition) (o : Option (List ℕ)) (text tail left : List ℕ) (spaced : Bool) (roles : List Role) → IsTypeName edition o tail → gap text ≡ got spaced (type_text o ++ tail) → Goes edition tail roles left → outcome (sequence_from edition open_side text) ≡ accepted (head_role o ∷ roles) left
 head-opens edition o text tail left spaced roles w gapped g =
     let start = type_text o ++ tail in
-    ap outcome (run_from-piece edition open_left text tail (piece_of spaced start (head_token o) tail) (piece-read edition text start tail spaced (head_token o) gapped (head-reads edition o tail w g.ends)))
-    ∙ ap outcome (head-answer o spaced start tail (λ l. run_from edition l tail))
-    ∙ head-outcome o tail left roles (run_from edition closed_left tail) g.runs
+    ap outcome (sequence_from-piece edition open_side text tail (piece_of spaced start (head_token o) tail) (piece-read edition text start tail spaced (head_token o) gapped (head-reads edition o tail w g.ends)))
+    ∙ ap outcome (head-answer o spaced start tail (λ l. sequence_from edition l tail))
+    ∙ head-outcome o tail left roles (sequence_from edition closed_side tail) g.runs
 
 -- what a compound satisfies that was read, where this text stands behind it, and its roles
 pub record IsCompound (edition : Edition) (c : Compound) (behind : List ℕ) : Type 0 where
@@ -149,7 +149,7 @@ pub compound-no_gap : (edition : Edition) (c : Compound) (tail : List ℕ) → I
 compound-no_gap edition c tail w = subst NoGap (sym (compound-assoc c tail)) (head-no_gap edition c.name (flat_map subselector_text c.subselectors ++ tail) w.head)
 
 -- behind an open left side stands a compound, after a gap
-compound-opens : (edition : Edition) (c : Compound) (text tail left : List ℕ) (spaced : Bool) (roles : List Role) → IsCompound edition c tail → is_clean_compound c ≡ true → gap text ≡ got spaced (compound_text c ++ tail) → Goes edition tail roles left → outcome (run_from edition open_left text) ≡ accepted (compound_roles c ++ roles) left
+compound-opens : (edition : Edition) (c : Compound) (text tail left : List ℕ) (spaced : Bool) (roles : List Role) → IsCompound edition c tail → is_clean_compound c ≡ true → gap text ≡ got spaced (compound_text c ++ tail) → Goes edition tail roles left → outcome (sequence_from edition open_side text) ≡ accepted (compound_roles c ++ roles) left
 compound-opens edition c text tail left spaced roles w clean gapped g =
     head-opens edition c.name text (flat_map subselector_text c.subselectors ++ tail) left spaced (map with c.subselectors ++ roles) w.head (gapped ∙ ap (got spaced) (compound-assoc c tail))
     (subselectors-go edition c.subselectors tail left roles w.others clean g)
@@ -160,20 +160,20 @@ compound-solid edition c tail left roles w clean g =
     ∙ head-reads edition c.name (flat_map subselector_text c.subselectors ++ tail) w.head (subselectors-go edition c.subselectors tail left roles w.others clean g).ends
 
 solid-child : (edition : Edition) (text : List ℕ) → solid edition (62 ∷ text) ≡ got child_combinator text
-unfolding begun
-solid-child edition text = solid-begun edition 62 text refl refl refl
+unfolding solid_by_byte
+solid-child edition text = solid-by_byte edition 62 text refl refl refl
 
 solid-adjacent : (edition : Edition) (text : List ℕ) → solid edition (43 ∷ text) ≡ got adjacent_combinator text
-unfolding begun
-solid-adjacent edition text = solid-begun edition 43 text refl refl refl
+unfolding solid_by_byte
+solid-adjacent edition text = solid-by_byte edition 43 text refl refl refl
 
 -- a child combinator between spaces
-pub child-run : (edition : Edition) (text : List ℕ) → run_from edition closed_left (32 ∷ 62 ∷ text) ≡ token_then child_combinator text (run_from edition open_left text)
-child-run edition text = run_from-piece edition closed_left (32 ∷ 62 ∷ text) text (piece_of true (62 ∷ text) child_combinator text) (piece-read edition (32 ∷ 62 ∷ text) (62 ∷ text) text true child_combinator (gap-space (62 ∷ text) (no_gap-byte 62 text refl refl)) (solid-child edition text))
+pub child-sequence : (edition : Edition) (text : List ℕ) → sequence_from edition closed_side (32 ∷ 62 ∷ text) ≡ token_then child_combinator text (sequence_from edition open_side text)
+child-sequence edition text = sequence_from-piece edition closed_side (32 ∷ 62 ∷ text) text (piece_of true (62 ∷ text) child_combinator text) (piece-read edition (32 ∷ 62 ∷ text) (62 ∷ text) text true child_combinator (gap-space (62 ∷ text) (no_gap-byte 62 text refl refl)) (solid-child edition text))
 
 -- an adjacent combinator between spaces
-pub adjacent-run : (edition : Edition) (text : List ℕ) → run_from edition closed_left (32 ∷ 43 ∷ text) ≡ token_then adjacent_combinator text (run_from edition open_left text)
-adjacent-run edition text = run_from-piece edition closed_left (32 ∷ 43 ∷ text) text (piece_of true (43 ∷ text) adjacent_combinator text) (piece-read edition (32 ∷ 43 ∷ text) (43 ∷ text) text true adjacent_combinator (gap-space (43 ∷ text) (no_gap-byte 43 text refl refl)) (solid-adjacent edition text))
+pub adjacent-sequence : (edition : Edition) (text : List ℕ) → sequence_from edition closed_side (32 ∷ 43 ∷ text) ≡ token_then adjacent_combinator text (sequence_from edition open_side text)
+adjacent-sequence edition text = sequence_from-piece edition closed_side (32 ∷ 43 ∷ text) text (piece_of true (43 ∷ text) adjacent_combinator text) (piece-read edition (32 ∷ 43 ∷ text) (43 ∷ text) text true adjacent_combinator (gap-space (43 ∷ text) (no_gap-byte 43 text refl refl)) (solid-adjacent edition text))
 
 -- the text of a component, by its combinator and its compound
 abbrev pub joined_text : Combinator → List ℕ → List ℕ
@@ -207,14 +207,14 @@ joined-goes edition child c tail left roles n w clean g =
     let text = compound_text c ++ tail in
     record {
       ends = ends_low edition 32 (62 ∷ 32 ∷ text) (omega arith) refl refl;
-      runs = ap outcome (child-run edition (32 ∷ text))
+      runs = ap outcome (child-sequence edition (32 ∷ text))
           ∙ ap (with_role (joint child)) (compound-opens edition c (32 ∷ text) tail left true roles w clean (gap-space text (compound-no_gap edition c tail w)) g);
     }
 joined-goes edition adjacent c tail left roles n w clean g =
     let text = compound_text c ++ tail in
     record {
       ends = ends_low edition 32 (43 ∷ 32 ∷ text) (omega arith) refl refl;
-      runs = ap outcome (adjacent-run edition (32 ∷ text))
+      runs = ap outcome (adjacent-sequence edition (32 ∷ text))
           ∙ ap (with_role (joint adjacent)) (compound-opens edition c (32 ∷ text) tail left true roles w clean (gap-space text (compound-no_gap edition c tail w)) g);
     }
 
@@ -313,7 +313,7 @@ selector-reads edition c cs tail left w ws clean g =
     let none_more : Goes edition (selector_text cs ++ tail) (flat_map component_roles cs) left = subst (λ (r : List Role). Goes edition (selector_text cs ++ tail) r left) (append-nil (flat_map component_roles cs)) more in
     let text = append_assoc (compound_text c) (selector_text cs) tail in
     let all = compound_text c ++ (selector_text cs ++ tail) in
-    ap (λ t. selector_of (outcome (run_of edition t))) text
+    ap (λ t. selector_of (outcome (sequence_of edition t))) text
     ∙ ap selector_of (compound-opens edition c all (selector_text cs ++ tail) left false (flat_map component_roles cs) w h.0 (gap-none all (compound-no_gap edition c (selector_text cs ++ tail) w)) none_more)
     ∙ ap (λ l. (Some l, left)) (components_of-roles c cs)
 
@@ -326,9 +326,9 @@ printed-reads edition (c ∷ cs) tail left w clean g =
 
 -- what does not go on with a selector: the end, and a space with a brace behind it
 
-stop-outcome : (edition : Edition) (text start : List ℕ) (spaced : Bool) → gap text ≡ got spaced start → is_stop start ≡ true → outcome (run_from edition closed_left text) ≡ accepted [] start
-stop-outcome edition text start false g e = ap outcome (run_from-stop edition closed_left text start false g e)
-stop-outcome edition text start true g e = ap outcome (run_from-stop edition closed_left text start true g e)
+stop-outcome : (edition : Edition) (text start : List ℕ) (spaced : Bool) → gap text ≡ got spaced start → ends_selector start ≡ true → outcome (sequence_from edition closed_side text) ≡ accepted [] start
+stop-outcome edition text start false g e = ap outcome (sequence_from-stop edition closed_side text start false g e)
+stop-outcome edition text start true g e = ap outcome (sequence_from-stop edition closed_side text start true g e)
 
 nil-no_gap : NoGap []
 nil-no_gap = record { none = each-none blank_part [] refl; closed = refl }

@@ -12,7 +12,7 @@ use Rattle.simplecss_text.specs.Names.{name}
 use Rattle.simplecss_text.specs.Components.{Operator}
 use Rattle.simplecss_text.specs.Tokens.{Token}
 use Rattle.simplecss_text.specs.Tokens.Token.{universal_selector, type_selector, id_selector, class_selector, attribute_selector, named_pseudo_class, lang_pseudo_class, descendant_combinator, child_combinator, adjacent_combinator}
-use Rattle.simplecss_text.specs.Pieces.{attribute_operator, attribute_after, lang_of, lang_after, pseudo_class_named, pseudo_class_after, named, begun, is_stop, solid}
+use Rattle.simplecss_text.specs.Pieces.{attribute_operator, attribute_after, lang_of, lang_after, pseudo_class_named, pseudo_class_after, named_token, solid_by_byte, ends_selector, solid}
 use Rattle.simplecss_text.proofs.printed.PrintedNames.{IsName, both_true}
 use Rattle.simplecss_text.proofs.printed.PrintedPieces.{IsValue, IsOperator, IsLanguage}
 use Rattle.simplecss_text.proofs.bytes.Utf8Laws.{utf8-past_byte, utf8-before_byte, utf8-behind_byte}
@@ -47,9 +47,9 @@ name-gives edition text u = if_got (λ n rest. ReadName edition text n rest) (na
 read_name-value : (edition : Edition) (text n rest : List ℕ) → ReadName edition text n rest → IsValue n
 read_name-value edition text n rest w = elim (w.is) [ inl i ↦ name-value_is edition n i | inr h ↦ subst IsValue (sym h.0) refl ]
 
-named-gives : (edition : Edition) (token : List ℕ → Token) (text : List ℕ) → ((n rest : List ℕ) → ReadName edition text n rest → GoodToken edition (token n) rest) → IsUtf8 text → IfGot (ReadToken edition) (named edition token text)
-unfolding named
-named-gives edition token text each u =
+named_token-gives : (edition : Edition) (token : List ℕ → Token) (text : List ℕ) → ((n rest : List ℕ) → ReadName edition text n rest → GoodToken edition (token n) rest) → IsUtf8 text → IfGot (ReadToken edition) (named_token edition token text)
+unfolding named_token
+named_token-gives edition token text each u =
     if_got-follow (λ n rest. ReadName edition text n rest) (ReadToken edition) (name edition text) (λ n. got (token n)) (name-gives edition text u) (λ n rest w. (each n rest w, w.rest_is))
 
 -- a name that more stands behind is no lone hyphen
@@ -126,21 +126,21 @@ pseudo_class_after-gives edition text u =
     if_got-follow (λ n rest. ReadName edition text n rest) (ReadToken edition) (name edition text) pseudo_class_named (name-gives edition text u) (λ n rest w.
     if_got-if (ReadToken edition) (bytes_eq n (codes "lang")) (lang_after rest) (got (named_pseudo_class n) rest) (λ e. lang_after-gives edition rest w.rest_is) (λ e. (tt, w.rest_is)))
 
-begun-gives : (edition : Edition) (text : List ℕ) → IsUtf8 text → IfGot (ReadToken edition) (begun edition text)
-unfolding begun
-begun-gives edition [] u = named-gives edition type_selector [] (λ n rest w. w.is) u
-begun-gives edition (b ∷ text) u =
+solid_by_byte-gives : (edition : Edition) (text : List ℕ) → IsUtf8 text → IfGot (ReadToken edition) (solid_by_byte edition text)
+unfolding solid_by_byte
+solid_by_byte-gives edition [] u = named_token-gives edition type_selector [] (λ n rest w. w.is) u
+solid_by_byte-gives edition (b ∷ text) u =
     let P = ReadToken edition in
     if_got-if P (b == 62) (got child_combinator text) _ (λ e. (tt, utf8-past_byte 62 text (omega arith) (same_begins b 62 text e u))) (λ e0.
     if_got-if P (b == 43) (got adjacent_combinator text) _ (λ e. (tt, utf8-past_byte 43 text (omega arith) (same_begins b 43 text e u))) (λ e1.
     if_got-if P (b == 42) (got universal_selector text) _ (λ e. (tt, utf8-past_byte 42 text (omega arith) (same_begins b 42 text e u))) (λ e2.
-    if_got-if P (b == 35) (named edition id_selector text) _ (λ e. named-gives edition id_selector text (λ n rest w. read_name-value edition text n rest w) (utf8-past_byte 35 text (omega arith) (same_begins b 35 text e u))) (λ e3.
-    if_got-if P (b == 46) (named edition class_selector text) _ (λ e. named-gives edition class_selector text (λ n rest w. read_name-value edition text n rest w) (utf8-past_byte 46 text (omega arith) (same_begins b 46 text e u))) (λ e4.
+    if_got-if P (b == 35) (named_token edition id_selector text) _ (λ e. named_token-gives edition id_selector text (λ n rest w. read_name-value edition text n rest w) (utf8-past_byte 35 text (omega arith) (same_begins b 35 text e u))) (λ e3.
+    if_got-if P (b == 46) (named_token edition class_selector text) _ (λ e. named_token-gives edition class_selector text (λ n rest w. read_name-value edition text n rest w) (utf8-past_byte 46 text (omega arith) (same_begins b 46 text e u))) (λ e4.
     if_got-if P (b == 91) (attribute_after edition text) _ (λ e. attribute_after-gives edition text (utf8-past_byte 91 text (omega arith) (same_begins b 91 text e u))) (λ e5.
-    if_got-if P (b == 58) (pseudo_class_after edition text) (named edition type_selector (b ∷ text)) (λ e. pseudo_class_after-gives edition text (utf8-past_byte 58 text (omega arith) (same_begins b 58 text e u))) (λ e6.
-    named-gives edition type_selector (b ∷ text) (λ n rest w. w.is) u)))))))
+    if_got-if P (b == 58) (pseudo_class_after edition text) (named_token edition type_selector (b ∷ text)) (λ e. pseudo_class_after-gives edition text (utf8-past_byte 58 text (omega arith) (same_begins b 58 text e u))) (λ e6.
+    named_token-gives edition type_selector (b ∷ text) (λ n rest w. w.is) u)))))))
 
 -- a solid piece that was read from a text
 pub solid-gives : (edition : Edition) (text : List ℕ) → IsUtf8 text → IfGot (ReadToken edition) (solid edition text)
 unfolding solid
-solid-gives edition text u = if_got-if (ReadToken edition) (is_stop text || starts 47 text) (fails no_selector text) (begun edition text) (λ e. tt) (λ e. begun-gives edition text u)
+solid-gives edition text u = if_got-if (ReadToken edition) (ends_selector text || starts 47 text) (fails no_selector text) (solid_by_byte edition text) (λ e. tt) (λ e. solid_by_byte-gives edition text u)

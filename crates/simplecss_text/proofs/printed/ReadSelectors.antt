@@ -9,7 +9,7 @@ use Rattle.simplecss_text.specs.Characters.{Edition, first_edition, second_editi
 use Rattle.simplecss_text.specs.Components.{Subselector, Combinator, Compound, Component}
 use Rattle.simplecss_text.specs.Components.Subselector.{attribute, pseudo_class}
 use Rattle.simplecss_text.specs.Components.Combinator.{none, descendant, child, adjacent}
-use Rattle.simplecss_text.specs.TokenRuns.{run_of}
+use Rattle.simplecss_text.specs.TokenSequences.{sequence_of}
 use Rattle.simplecss_text.specs.Selectors.{Outcome, outcome, components_of, selector_of, reads}
 use Rattle.simplecss_text.specs.Selectors.Outcome.{refused, accepted}
 use Rattle.simplecss_text.specs.Printing.{subselector_text, component_text, selector_text, is_clean}
@@ -18,7 +18,7 @@ use Rattle.simplecss_text.proofs.printed.PrintedNames.{IsName, begins_any_name}
 use Rattle.simplecss_text.proofs.printed.PrintedHeads.{IsTypeName}
 use Rattle.simplecss_text.proofs.printed.PrintedSelectors.{IsCompound, Joins, EachJoined, IsSelector, goes-end, goes-space_brace}
 use Rattle.simplecss_text.proofs.printed.PrintingLaw.{printing-law}
-use Rattle.simplecss_text.proofs.printed.ReadRuns.{IfBegins, run-is}
+use Rattle.simplecss_text.proofs.printed.ReadSequences.{IfBegins, sequence-is}
 
 selector_of-is : (edition : Edition) (o : Outcome) (s : List Component) (left : List ℕ) → IfBegins edition o → selector_of o ≡ (Some s, left) → IsSelector edition s left
 selector_of-is edition (refused rest) s left h e = absurd (let none : Path (Option (List Component)) None (Some s) = ap (λ (r : Option (List Component) × List ℕ). r.0) e in cc)
@@ -32,7 +32,7 @@ selector_of-is edition (accepted roles rest) s left h e =
 -- a selector that was read, by what was left behind it
 pub reads-is : (edition : Edition) (text left : List ℕ) (s : List Component) → IsUtf8 text → reads edition text ≡ (Some s, left) → IsSelector edition s left
 unfolding reads
-reads-is edition text left s u e = selector_of-is edition (outcome (run_of edition text)) s left ((run-is edition text u).1) e
+reads-is edition text left s u e = selector_of-is edition (outcome (sequence_of edition text)) s left ((sequence-is edition text u).1) e
 
 -- what stands behind a selector that was read may change, but for the end of the text
 

@@ -12,20 +12,20 @@ use Rattle.simplecss_text.specs.Components.Operator.{exists, equals, has_word, b
 use Rattle.simplecss_text.specs.Components.Subselector.{attribute, pseudo_class}
 use Rattle.simplecss_text.specs.Components.Combinator.{none, descendant, child, adjacent}
 use Rattle.simplecss_text.specs.Tokens.Token.{attribute_selector}
-use Rattle.simplecss_text.specs.Pieces.{attribute_operator, equated, attribute_after, solid, is_stop, begins_subselector}
+use Rattle.simplecss_text.specs.Pieces.{attribute_operator, equated, attribute_after, solid, ends_selector, begins_subselector}
 use Rattle.simplecss_text.specs.Pieces.Ending.{within_piece, without_head}
-use Rattle.simplecss_text.specs.Neighbours.Left.{open_left, closed_left}
-use Rattle.simplecss_text.specs.TokenRuns.{run, run_from, run_of, token_then}
+use Rattle.simplecss_text.specs.Neighbours.Side.{open_side, closed_side}
+use Rattle.simplecss_text.specs.TokenSequences.{sequence, sequence_from, sequence_of, token_then}
 use Rattle.simplecss_text.specs.Selectors.{Outcome, with_role, after_role, outcome, cut, subselectors_among, component_of, selector_of, reads}
 use Rattle.simplecss_text.specs.Selectors.Role.{with, joint}
 use Rattle.simplecss_text.specs.Selectors.Outcome.{refused, accepted}
 use Rattle.simplecss_text.specs.Printing.{operator_text, subselector_text, type_text, component_text, selector_text, is_clean_operator, is_clean_subselector, is_clean}
-use Rattle.simplecss_text.proofs.reading.RunLaws.{run_from-piece, run_from-ending}
+use Rattle.simplecss_text.proofs.reading.SequenceLaws.{sequence_from-piece, sequence_from-ending}
 use Rattle.simplecss_text.proofs.reading.JoiningLaws.{piece_of, piece-read, piece-fault, ending-fault, descends-token}
 use Rattle.simplecss_text.proofs.printed.PrintedNames.{IsName, name-reads, ends_names}
-use Rattle.simplecss_text.proofs.printed.PrintedPieces.{string-cut, quoted, operator-ends, bracketed, begun-attribute, IsSubselector, printed_token-role, solid-begun, some-length}
+use Rattle.simplecss_text.proofs.printed.PrintedPieces.{string-cut, quoted, operator-ends, bracketed, solid_by_byte-attribute, IsSubselector, printed_token-role, solid-by_byte, some-length}
 use Rattle.simplecss_text.proofs.printed.PrintedHeads.{gap-none, gap-space, IsTypeName, head_token, head_role, head-reads}
-use Rattle.simplecss_text.proofs.printed.PrintedSelectors.{ends_low, subselector-ends, subselector-no_gap, subselector-run, EachIs, head-answer, head-closes, compound-assoc, compound-no_gap, child-run, adjacent-run, IsCompound, compound_text, is_clean_compound, Joins, joined_text, component-assoc, EachJoined, IsSelector}
+use Rattle.simplecss_text.proofs.printed.PrintedSelectors.{ends_low, subselector-ends, subselector-no_gap, subselector-sequence, EachIs, head-answer, head-closes, compound-assoc, compound-no_gap, child-sequence, adjacent-sequence, IsCompound, compound_text, is_clean_compound, Joins, joined_text, component-assoc, EachJoined, IsSelector}
 
 longer : (v front more : List ℕ) → v ≡ front ++ (39 ∷ more) → front ≡ v → ⊥
 longer v front more e same = omega (arith, ap length e, ap length same, length-append front (39 ∷ more))
@@ -101,56 +101,56 @@ differs-joint (refused left) j (Some n) ss c cs h = tt
 differs-joint (accepted roles left) j None ss c cs h = λ e f. h (ap (first_subselectors []) f) (ap tail_of f)
 differs-joint (accepted roles left) j (Some n) ss c cs h = λ e f. h (ap (first_subselectors []) f) (ap tail_of f)
 
-no_stop : (more : List ℕ) → is_stop (91 ∷ more) ≡ false
+no_stop : (more : List ℕ) → ends_selector (91 ∷ more) ≡ false
 no_stop more = rw (some-length 91 more) refl
 
 -- an attribute that is not clean
-other-run : (edition : Edition) (n : List ℕ) (p o : Operator) (rest text more : List ℕ) (ss : List Subselector) (cs : List Component) → (p ≡ o → ⊥) → text ≡ 91 ∷ more → gap text ≡ got false text → solid edition text ≡ follow (byte 93 rest) (λ u. got (attribute_selector n p)) → Differs (outcome (run_from edition closed_left text)) (attribute n o ∷ ss) cs
-other-run edition n p o rest text more ss cs differs is g s = by (byte 93 rest) s
+other-sequence : (edition : Edition) (n : List ℕ) (p o : Operator) (rest text more : List ℕ) (ss : List Subselector) (cs : List Component) → (p ≡ o → ⊥) → text ≡ 91 ∷ more → gap text ≡ got false text → solid edition text ≡ follow (byte 93 rest) (λ u. got (attribute_selector n p)) → Differs (outcome (sequence_from edition closed_side text)) (attribute n o ∷ ss) cs
+other-sequence edition n p o rest text more ss cs differs is g s = by (byte 93 rest) s
   where
     operator_in : Subselector → Operator
     operator_in (attribute m q) = q
     operator_in (pseudo_class class) = o
 
-    by : (r : Reading (Unit {0})) → solid edition text ≡ follow r (λ u. got (attribute_selector n p)) → Differs (outcome (run_from edition closed_left text)) (attribute n o ∷ ss) cs
+    by : (r : Reading (Unit {0})) → solid edition text ≡ follow r (λ u. got (attribute_selector n p)) → Differs (outcome (sequence_from edition closed_side text)) (attribute n o ∷ ss) cs
     by (got u after) e =
         subst (λ (k : Outcome). Differs k (attribute n o ∷ ss) cs)
-        (sym (ap outcome (run_from-piece edition closed_left text after (piece_of false text (attribute_selector n p) after) (piece-read edition text text after false (attribute_selector n p) g e))))
-        (differs-other (outcome (run_from edition closed_left after)) (attribute n p) (attribute n o) ss cs (λ same. differs (ap operator_in same)))
+        (sym (ap outcome (sequence_from-piece edition closed_side text after (piece_of false text (attribute_selector n p) after) (piece-read edition text text after false (attribute_selector n p) g e))))
+        (differs-other (outcome (sequence_from edition closed_side after)) (attribute n p) (attribute n o) ss cs (λ same. differs (ap operator_in same)))
     by (fails fault after) e =
         subst (λ (k : Outcome). Differs k (attribute n o ∷ ss) cs)
-        (sym (ap outcome (run_from-ending edition closed_left text after fault (piece-fault edition text text after false fault g e)
-        ∙ ap (run closed_left []) (ending-fault edition text text after false fault g e (ap is_stop is ∙ no_stop more) (ap (starts 47) is)))))
-        (subst (λ (l : List ℕ). Differs (outcome (run closed_left [] (if starts_by begins_subselector l then within_piece false text fault after else without_head false text fault after))) (attribute n o ∷ ss) cs) (sym is) tt)
+        (sym (ap outcome (sequence_from-ending edition closed_side text after fault (piece-fault edition text text after false fault g e)
+        ∙ ap (sequence closed_side []) (ending-fault edition text text after false fault g e (ap ends_selector is ∙ no_stop more) (ap (starts 47) is)))))
+        (subst (λ (l : List ℕ). Differs (outcome (sequence closed_side [] (if starts_by begins_subselector l then within_piece false text fault after else without_head false text fault after))) (attribute n o ∷ ss) cs) (sym is) tt)
 
-unclean-differs : (edition : Edition) (s : Subselector) (ss : List Subselector) (tail : List ℕ) (cs : List Component) → IsSubselector edition s → is_clean_subselector s ≡ false → Differs (outcome (run_from edition closed_left (subselector_text s ++ tail))) (s ∷ ss) cs
+unclean-differs : (edition : Edition) (s : Subselector) (ss : List Subselector) (tail : List ℕ) (cs : List Component) → IsSubselector edition s → is_clean_subselector s ≡ false → Differs (outcome (sequence_from edition closed_side (subselector_text s ++ tail))) (s ∷ ss) cs
 unclean-differs edition (attribute n o) ss tail cs w c =
     let x = operator-cut edition o tail c in
     let more = ((n ++ operator_text o) ++ (93 ∷ [])) ++ tail in
-    other-run edition n x.other o x.rest (subselector_text (attribute n o) ++ tail) more ss cs x.differs refl (gap-none (subselector_text (attribute n o) ++ tail) (subselector-no_gap (attribute n o) tail))
-    (solid-begun edition 91 more refl refl refl ∙ begun-attribute edition more ∙ ap (attribute_after edition) (bracketed n (operator_text o) tail) ∙ attribute-cut edition n o tail w.0 x)
+    other-sequence edition n x.other o x.rest (subselector_text (attribute n o) ++ tail) more ss cs x.differs refl (gap-none (subselector_text (attribute n o) ++ tail) (subselector-no_gap (attribute n o) tail))
+    (solid-by_byte edition 91 more refl refl refl ∙ solid_by_byte-attribute edition more ∙ ap (attribute_after edition) (bracketed n (operator_text o) tail) ∙ attribute-cut edition n o tail w.0 x)
 unclean-differs edition (pseudo_class class) ss tail cs w c = absurd (cc)
 
-clean-differs : (edition : Edition) (s : Subselector) (ss : List Subselector) (tail : List ℕ) (cs : List Component) → IsSubselector edition s → is_clean_subselector s ≡ true → ends_names edition tail ≡ false → Differs (outcome (run_from edition closed_left tail)) ss cs → Differs (outcome (run_from edition closed_left (subselector_text s ++ tail))) (s ∷ ss) cs
+clean-differs : (edition : Edition) (s : Subselector) (ss : List Subselector) (tail : List ℕ) (cs : List Component) → IsSubselector edition s → is_clean_subselector s ≡ true → ends_names edition tail ≡ false → Differs (outcome (sequence_from edition closed_side tail)) ss cs → Differs (outcome (sequence_from edition closed_side (subselector_text s ++ tail))) (s ∷ ss) cs
 clean-differs edition s ss tail cs w c e d =
-    let o = outcome (run_from edition closed_left tail) in
-    let is = ap outcome (subselector-run edition s tail w c e) ∙ ap (λ r. after_role r tail (outcome (run_from edition closed_left tail))) (printed_token-role s) in
+    let o = outcome (sequence_from edition closed_side tail) in
+    let is = ap outcome (subselector-sequence edition s tail w c e) ∙ ap (λ r. after_role r tail (outcome (sequence_from edition closed_side tail))) (printed_token-role s) in
     subst (λ (k : Outcome). Differs k (s ∷ ss) cs) (sym is) (differs-with o s ss cs d)
 
 subselectors-end : (edition : Edition) (ss : List Subselector) (tail : List ℕ) → ends_names edition tail ≡ false → ends_names edition (flat_map subselector_text ss ++ tail) ≡ false
 subselectors-end edition [] tail e = e
 subselectors-end edition (s ∷ ss) tail e = ap (ends_names edition) (append_assoc (subselector_text s) (flat_map subselector_text ss) tail) ∙ subselector-ends edition s (flat_map subselector_text ss ++ tail)
 
-subselectors-differ : (edition : Edition) (ss : List Subselector) (tail : List ℕ) (cs : List Component) → EachIs edition ss → ends_names edition tail ≡ false → (list_all is_clean_subselector ss ≡ false) ⊎ Differs (outcome (run_from edition closed_left tail)) [] cs → Differs (outcome (run_from edition closed_left (flat_map subselector_text ss ++ tail))) ss cs
+subselectors-differ : (edition : Edition) (ss : List Subselector) (tail : List ℕ) (cs : List Component) → EachIs edition ss → ends_names edition tail ≡ false → (list_all is_clean_subselector ss ≡ false) ⊎ Differs (outcome (sequence_from edition closed_side tail)) [] cs → Differs (outcome (sequence_from edition closed_side (flat_map subselector_text ss ++ tail))) ss cs
 subselectors-differ edition [] tail cs w e (inl h) = absurd (cc)
 subselectors-differ edition [] tail cs w e (inr d) = d
 subselectors-differ edition (s ∷ ss) tail cs w e h =
-    subst (λ (t : List ℕ). Differs (outcome (run_from edition closed_left t)) (s ∷ ss) cs) (sym (append_assoc (subselector_text s) (flat_map subselector_text ss) tail))
+    subst (λ (t : List ℕ). Differs (outcome (sequence_from edition closed_side t)) (s ∷ ss) cs) (sym (append_assoc (subselector_text s) (flat_map subselector_text ss) tail))
     (by (is_clean_subselector s) refl h (λ k. subselectors-differ edition ss tail cs w.1 e k))
   where
-    by : (t : Bool) → is_clean_subselector s ≡ t → (t && list_all is_clean_subselector ss ≡ false) ⊎ Differs (outcome (run_from edition closed_left tail)) [] cs
-        → ((list_all is_clean_subselector ss ≡ false) ⊎ Differs (outcome (run_from edition closed_left tail)) [] cs → Differs (outcome (run_from edition closed_left (flat_map subselector_text ss ++ tail))) ss cs)
-        → Differs (outcome (run_from edition closed_left (subselector_text s ++ (flat_map subselector_text ss ++ tail)))) (s ∷ ss) cs
+    by : (t : Bool) → is_clean_subselector s ≡ t → (t && list_all is_clean_subselector ss ≡ false) ⊎ Differs (outcome (sequence_from edition closed_side tail)) [] cs
+        → ((list_all is_clean_subselector ss ≡ false) ⊎ Differs (outcome (sequence_from edition closed_side tail)) [] cs → Differs (outcome (sequence_from edition closed_side (flat_map subselector_text ss ++ tail))) ss cs)
+        → Differs (outcome (sequence_from edition closed_side (subselector_text s ++ (flat_map subselector_text ss ++ tail)))) (s ∷ ss) cs
     by false c k more = unclean-differs edition s ss (flat_map subselector_text ss ++ tail) cs w.0 c
     by true c k more = clean-differs edition s ss (flat_map subselector_text ss ++ tail) cs w.0 c (subselectors-end edition ss tail e) (more k)
 
@@ -158,18 +158,18 @@ subselectors-differ edition (s ∷ ss) tail cs w e h =
 abbrev pub head_text : Option (List ℕ) → List ℕ → List ℕ
 head_text o tail = type_text o ++ tail
 
-head-outcome : (edition : Edition) (o : Option (List ℕ)) (text tail : List ℕ) (spaced : Bool) → IsTypeName edition o tail → gap text ≡ got spaced (head_text o tail) → ends_names edition tail ≡ false → outcome (run_from edition open_left text) ≡ with_role (head_role o) (outcome (run_from edition closed_left tail))
+head-outcome : (edition : Edition) (o : Option (List ℕ)) (text tail : List ℕ) (spaced : Bool) → IsTypeName edition o tail → gap text ≡ got spaced (head_text o tail) → ends_names edition tail ≡ false → outcome (sequence_from edition open_side text) ≡ with_role (head_role o) (outcome (sequence_from edition closed_side tail))
 head-outcome edition o text tail spaced w g e =
     let start = head_text o tail in
-    ap outcome (run_from-piece edition open_left text tail (piece_of spaced start (head_token o) tail) (piece-read edition text start tail spaced (head_token o) g (head-reads edition o tail w e)))
-    ∙ ap outcome (head-answer o spaced start tail (λ l. run_from edition l tail))
+    ap outcome (sequence_from-piece edition open_side text tail (piece_of spaced start (head_token o) tail) (piece-read edition text start tail spaced (head_token o) g (head-reads edition o tail w e)))
+    ∙ ap outcome (head-answer o spaced start tail (λ l. sequence_from edition l tail))
     ∙ by o
   where
-    by : (o : Option (List ℕ)) → outcome (token_then (head_token o) tail (run_from edition closed_left tail)) ≡ with_role (head_role o) (outcome (run_from edition closed_left tail))
+    by : (o : Option (List ℕ)) → outcome (token_then (head_token o) tail (sequence_from edition closed_side tail)) ≡ with_role (head_role o) (outcome (sequence_from edition closed_side tail))
     by None = refl
     by (Some n) = refl
 
-joined-outcome : (edition : Edition) (j : Combinator) (c : Compound) (tail : List ℕ) → Joins j → IsCompound edition c tail → ends_names edition tail ≡ false → outcome (run_from edition closed_left (joined_text j (compound_text c ++ tail))) ≡ with_role (joint j) (with_role (head_role c.name) (outcome (run_from edition closed_left (flat_map subselector_text c.subselectors ++ tail))))
+joined-outcome : (edition : Edition) (j : Combinator) (c : Compound) (tail : List ℕ) → Joins j → IsCompound edition c tail → ends_names edition tail ≡ false → outcome (sequence_from edition closed_side (joined_text j (compound_text c ++ tail))) ≡ with_role (joint j) (with_role (head_role c.name) (outcome (sequence_from edition closed_side (flat_map subselector_text c.subselectors ++ tail))))
 joined-outcome edition none c tail n w e = absurd n
 joined-outcome edition descendant c tail n w e =
     let text = compound_text c ++ tail in
@@ -181,12 +181,12 @@ joined-outcome edition descendant c tail n w e =
 joined-outcome edition child c tail n w e =
     let text = compound_text c ++ tail in
     let behind = flat_map subselector_text c.subselectors ++ tail in
-    ap outcome (child-run edition (32 ∷ text))
+    ap outcome (child-sequence edition (32 ∷ text))
     ∙ ap (with_role (joint child)) (head-outcome edition c.name (32 ∷ text) behind true w.head (gap-space text (compound-no_gap edition c tail w) ∙ ap (got true) (compound-assoc c tail)) (subselectors-end edition c.subselectors tail e))
 joined-outcome edition adjacent c tail n w e =
     let text = compound_text c ++ tail in
     let behind = flat_map subselector_text c.subselectors ++ tail in
-    ap outcome (adjacent-run edition (32 ∷ text))
+    ap outcome (adjacent-sequence edition (32 ∷ text))
     ∙ ap (with_role (joint adjacent)) (head-outcome edition c.name (32 ∷ text) behind true w.head (gap-space text (compound-no_gap edition c tail w) ∙ ap (got true) (compound-assoc c tail)) (subselectors-end edition c.subselectors tail e))
 
 joined-ends : (edition : Edition) (j : Combinator) (text : List ℕ) → Joins j → ends_names edition (joined_text j text) ≡ false
@@ -210,14 +210,14 @@ or_later : {A B C : Type 0} → (B → C) → A ⊎ B → A ⊎ C
 or_later f (inl a) = inl a
 or_later f (inr b) = inr (f b)
 
-components-differ : (edition : Edition) (cs : List Component) (tail : List ℕ) → EachJoined edition cs tail → ends_names edition tail ≡ false → is_clean cs ≡ false → Differs (outcome (run_from edition closed_left (selector_text cs ++ tail))) [] cs
+components-differ : (edition : Edition) (cs : List Component) (tail : List ℕ) → EachJoined edition cs tail → ends_names edition tail ≡ false → is_clean cs ≡ false → Differs (outcome (sequence_from edition closed_side (selector_text cs ++ tail))) [] cs
 components-differ edition [] tail w e h = absurd (cc)
 components-differ edition (c ∷ cs) tail w e h =
     let behind = selector_text cs ++ tail in
     let ends = components-end edition cs tail w.1 e in
-    let o = outcome (run_from edition closed_left (flat_map subselector_text c.compound.subselectors ++ behind)) in
+    let o = outcome (sequence_from edition closed_side (flat_map subselector_text c.compound.subselectors ++ behind)) in
     let inner = subselectors-differ edition c.compound.subselectors behind cs w.0.compound.others ends (or_later (components-differ edition cs tail w.1 e) (either_unclean (is_clean_compound c.compound) (is_clean cs) h)) in
-    let is = ap (λ t. outcome (run_from edition closed_left t)) (components-assoc c cs tail) ∙ joined-outcome edition c.combinator c.compound behind w.0.joins w.0.compound ends in
+    let is = ap (λ t. outcome (sequence_from edition closed_side t)) (components-assoc c cs tail) ∙ joined-outcome edition c.combinator c.compound behind w.0.joins w.0.compound ends in
     subst (λ (k : Outcome). Differs k [] (c ∷ cs)) (sym is) (differs-joint o c.combinator c.compound.name [] c cs inner)
 
 -- the list of a selector that was found
@@ -239,11 +239,11 @@ printed-differs edition [] tail w h e = absurd w
 printed-differs edition (c ∷ cs) tail w h e =
     let behind = selector_text cs ++ tail in
     let ends = components-end edition cs tail w.2 e in
-    let o = outcome (run_from edition closed_left (flat_map subselector_text c.compound.subselectors ++ behind)) in
+    let o = outcome (sequence_from edition closed_side (flat_map subselector_text c.compound.subselectors ++ behind)) in
     let inner = subselectors-differ edition c.compound.subselectors behind cs w.1.others ends (or_later (components-differ edition cs tail w.2 e) (either_unclean (is_clean_compound c.compound) (is_clean cs) h)) in
     let first : selector_text (c ∷ cs) ++ tail ≡ compound_text c.compound ++ behind = components-assoc c cs tail ∙ ap (λ j. joined_text j (compound_text c.compound ++ behind)) w.0 in
     let text = compound_text c.compound ++ behind in
-    let is : outcome (run_of edition (selector_text (c ∷ cs) ++ tail)) ≡ with_role (head_role c.compound.name) o =
-    ap (λ t. outcome (run_of edition t)) first
+    let is : outcome (sequence_of edition (selector_text (c ∷ cs) ++ tail)) ≡ with_role (head_role c.compound.name) o =
+    ap (λ t. outcome (sequence_of edition t)) first
     ∙ head-outcome edition c.compound.name text (flat_map subselector_text c.compound.subselectors ++ behind) false w.1.head (gap-none text (compound-no_gap edition c.compound behind w.1) ∙ ap (got false) (compound-assoc c.compound behind)) (subselectors-end edition c.compound.subselectors behind ends) in
     λ found. differs-selector o c.compound.name c cs inner (ap (λ k. (selector_of k).0) (sym is) ∙ found)

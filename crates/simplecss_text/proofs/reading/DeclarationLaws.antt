@@ -3,7 +3,7 @@
 use Rattle.std.proofs.Common.{ℕ, ◌≤◌, List, Bool, true, false, if◌then◌else◌, length, Option, None, arith, length-drop}
 use Rattle.simplecss_text.specs.Reading.{Reading, got, fails, each}
 use Rattle.simplecss_text.specs.Characters.{Edition}
-use Rattle.simplecss_text.specs.Declarations.{Property, declaration, next_declaration}
+use Rattle.simplecss_text.specs.Declarations.{StyleDeclaration, declaration, next_declaration}
 use Rattle.simplecss_text.specs.Blocks.{block_end, from_block_end, ends_list, declaration_in_block, past_broken, past_list, block}
 use Rattle.simplecss_text.proofs.reading.DeclarationsLawful.{declaration-cuts}
 use Rattle.simplecss_text.proofs.reading.EachLaws.{Shrinks, Takes}
@@ -22,8 +22,8 @@ declaration_in_block-takes edition text = shrinks-unless text (ends_list text) (
 pub length-from_block_end : (text : List ℕ) → length (from_block_end text) ≤ length text
 length-from_block_end text = omega (arith, length-drop (block_end text) text)
 
-length-past_broken : (text : List ℕ) (r : Reading Property) → Keeps text r → length (past_broken r) ≤ length text
-length-past_broken text (got property rest) h = h
+length-past_broken : (text : List ℕ) (r : Reading StyleDeclaration) → Keeps text r → length (past_broken r) ≤ length text
+length-past_broken text (got declared rest) h = h
 length-past_broken text (fails fault rest) h = omega (arith, length-past_byte 125 (from_block_end rest), length-from_block_end rest)
 
 length-past_list : (edition : Edition) (text : List ℕ) → length (past_list edition text) ≤ length text

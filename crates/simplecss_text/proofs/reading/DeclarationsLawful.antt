@@ -9,7 +9,7 @@ use Rattle.simplecss_text.specs.Characters.{Edition, first_edition, second_editi
 use Rattle.simplecss_text.specs.Comments.{blank, past_blank}
 use Rattle.simplecss_text.specs.Strings.{from_quote, is_quote, string_after}
 use Rattle.simplecss_text.specs.Terms.{arguments, begins_number, is_hex_digit, is_slash_term, past_decimals, past_hash, past_number, past_unit, quoted, term, word}
-use Rattle.simplecss_text.specs.Declarations.{Property, after_mark, after_term, declaration, importance, important_word, last_or, semicolon, semicolons, term_in_value, terms, trailing, unless_empty, value, value_reader}
+use Rattle.simplecss_text.specs.Declarations.{StyleDeclaration, after_mark, after_term, declaration, importance, important_word, last_or, semicolon, semicolons, term_in_value, terms, trailing, unless_empty, value, value_reader}
 use Rattle.simplecss_text.specs.Blocks.{block_end, declaration_in_block, ends_list, from_block_end}
 use Rattle.simplecss_text.specs.Names.{name}
 use Rattle.simplecss_text.proofs.reading.EndsLaws.{EndsFound, EndsSome, Stands, each-ends, ends-cons, ends-drop, ends-ends, ends-nil, ends-past, ends-tail, ends_some-ends, ends_some-if, length-ends, no_texts}
@@ -298,11 +298,11 @@ trailing-stands text = lawful-stands (λ edition. trailing) (λ edition. trailin
 
 -- ---- declarations
 
-unless_empty-lawful : (start other : List ℕ) (property : Property) → Lawful (λ edition. unless_empty start property) (λ edition. unless_empty other property)
-unless_empty-lawful start other property r s = owes-if (length property.value == 0) (owes-fails _ _ r s) (owes-give property r s)
+unless_empty-lawful : (start other : List ℕ) (declared : StyleDeclaration) → Lawful (λ edition. unless_empty start declared) (λ edition. unless_empty other declared)
+unless_empty-lawful start other declared r s = owes-if (length declared.value == 0) (owes-fails _ _ r s) (owes-give declared r s)
 
 -- a declaration behind its name
-abbrev behind_name : List ℕ → Edition → Reader Property
+abbrev behind_name : List ℕ → Edition → Reader StyleDeclaration
 behind_name property edition = do
   blank
   byte 58
@@ -347,9 +347,9 @@ declaration-guarded edition u v r s h = (declaration-lawful r s).guard edition u
 pub declaration_in_block-ends : (edition : Edition) (text : List ℕ) → EndsFound text (declaration_in_block edition text)
 declaration_in_block-ends edition text = by (ends_list text) (declaration edition text) ((declaration-lawful text text).ends edition)
   where
-    by : (k : Bool) (r : Reading Property) → Ends text (left_after r) → EndsFound text (if k then None else found r)
+    by : (k : Bool) (r : Reading StyleDeclaration) → Ends text (left_after r) → EndsFound text (if k then None else found r)
     by true r h = tt
-    by false (got property rest) h = h
+    by false (got declared rest) h = h
     by false (fails fault rest) h = tt
 
 pub ends-from_block_end : (text : List ℕ) → Ends text (from_block_end text)

@@ -13,7 +13,7 @@ use Rattle.simplecss_text.specs.Components.{Operator}
 use Rattle.simplecss_text.specs.Components.Operator.{begins_with, equals, exists, has_word}
 use Rattle.simplecss_text.specs.Tokens.{Token}
 use Rattle.simplecss_text.specs.Tokens.Token.{adjacent_combinator, attribute_selector, child_combinator, class_selector, id_selector, lang_pseudo_class, named_pseudo_class, type_selector, universal_selector}
-use Rattle.simplecss_text.specs.Pieces.{attribute_after, attribute_operator, begun, equated, is_stop, lang_after, lang_of, named, next_piece, piece, pseudo_class_after, pseudo_class_named, solid}
+use Rattle.simplecss_text.specs.Pieces.{attribute_after, attribute_operator, solid_by_byte, equated, ends_selector, lang_after, lang_of, named_token, next_piece, piece, pseudo_class_after, pseudo_class_named, solid}
 use Rattle.simplecss_text.proofs.reading.EachLaws.{Takes}
 use Rattle.simplecss_text.proofs.reading.TakesLaws.{Cuts, cuts-follow, cuts-if, follow-cuts, found-shrinks, gap-keeps, name-cuts}
 use Rattle.simplecss_text.proofs.reading.EndsLaws.{ends-past}
@@ -26,9 +26,9 @@ unfolding string_or_name
 string_or_name-lawful = lawful-cases string_or_name string_or_name (owes-fails ended ended [] []) (λ b r s.
     owes-so (is_quote b) _ _ (λ e. owes-past b (string_after-lawful b e r s)) (name-lawful (b ∷ r) (b ∷ s)))
 
-named-lawful : (token : List ℕ → Token) → Lawful (λ edition. named edition token) (λ edition. named edition token)
-unfolding named
-named-lawful token r s = owes-follow _ _ (name-lawful r s) (λ n. owes-give (token n))
+named_token-lawful : (token : List ℕ → Token) → Lawful (λ edition. named_token edition token) (λ edition. named_token edition token)
+unfolding named_token
+named_token-lawful token r s = owes-follow _ _ (name-lawful r s) (λ n. owes-give (token n))
 
 -- ---- attributes
 
@@ -82,31 +82,31 @@ pseudo_class_after-lawful r s = owes-follow (λ n edition. pseudo_class_named n)
 
 -- ---- solid pieces
 
-begun-lawful : Lawful begun begun
-unfolding begun
-begun-lawful = lawful-cases begun begun (named-lawful type_selector [] []) (λ b r s.
+solid_by_byte-lawful : Lawful solid_by_byte solid_by_byte
+unfolding solid_by_byte
+solid_by_byte-lawful = lawful-cases solid_by_byte solid_by_byte (named_token-lawful type_selector [] []) (λ b r s.
     owes-if (b == 62) (owes-past b (owes-give child_combinator r s))
     (owes-if (b == 43) (owes-past b (owes-give adjacent_combinator r s))
     (owes-if (b == 42) (owes-past b (owes-give universal_selector r s))
-    (owes-if (b == 35) (owes-past b (named-lawful id_selector r s))
-    (owes-if (b == 46) (owes-past b (named-lawful class_selector r s))
+    (owes-if (b == 35) (owes-past b (named_token-lawful id_selector r s))
+    (owes-if (b == 46) (owes-past b (named_token-lawful class_selector r s))
     (owes-if (b == 91) (owes-past b (attribute_after-lawful r s))
     (owes-if (b == 58) (owes-past b (pseudo_class_after-lawful r s))
-    (named-lawful type_selector (b ∷ r) (b ∷ s)))))))))
+    (named_token-lawful type_selector (b ∷ r) (b ∷ s)))))))))
 
-pub begun-guarded : (edition : Edition) (u v : List ℕ) → Guarded Equal 125 (u ++ v) u (begun edition) (begun edition)
-begun-guarded edition u v r s h = (begun-lawful r s).guard edition u v h
+pub solid_by_byte-guarded : (edition : Edition) (u v : List ℕ) → Guarded Equal 125 (u ++ v) u (solid_by_byte edition) (solid_by_byte edition)
+solid_by_byte-guarded edition u v r s h = (solid_by_byte-lawful r s).guard edition u v h
 
-pub is_stop-along : (g : ℕ) (t u r s : List ℕ) → Along g t u r s → is_stop r ≡ is_stop s
-is_stop-along g t u r s at = rw (not_empty g t, not_empty g u) refl
-is_stop-along g t u r s (on b r1 s1 room h) = rw (not_empty b r1, not_empty b s1) refl
+pub ends_selector-along : (g : ℕ) (t u r s : List ℕ) → Along g t u r s → ends_selector r ≡ ends_selector s
+ends_selector-along g t u r s at = rw (not_empty g t, not_empty g u) refl
+ends_selector-along g t u r s (on b r1 s1 room h) = rw (not_empty b r1, not_empty b s1) refl
 
 pub solid-lawful : Lawful solid solid
 unfolding solid
 solid-lawful r s =
-    owes-choice r s (λ edition. is_stop r || starts 47 r) (λ edition. is_stop s || starts 47 s) _ _ _ _ (λ h. refl)
-    (λ edition u v h. let e = is_stop-along 125 (u ++ v) u r s h in let f = starts-along 125 (u ++ v) u 47 r s h in rw (e, f) refl)
-    (owes-fails no_selector no_selector r s) (begun-lawful r s)
+    owes-choice r s (λ edition. ends_selector r || starts 47 r) (λ edition. ends_selector s || starts 47 s) _ _ _ _ (λ h. refl)
+    (λ edition u v h. let e = ends_selector-along 125 (u ++ v) u r s h in let f = starts-along 125 (u ++ v) u 47 r s h in rw (e, f) refl)
+    (owes-fails no_selector no_selector r s) (solid_by_byte-lawful r s)
 
 -- ---- gaps
 
@@ -137,27 +137,27 @@ gap-guarded u v r s h = gap_of-to (u ++ v) u (each blank_part r) (each blank_par
 
 -- ---- pieces take a byte or more
 
-named-cuts : (edition : Edition) (token : List ℕ → Token) (text : List ℕ) → Cuts text (named edition token text)
-unfolding named
-named-cuts edition token text = cuts-follow text (name edition text) (λ n. got (token n)) (name-cuts edition text) (λ n rest. omega arith)
+named_token-cuts : (edition : Edition) (token : List ℕ → Token) (text : List ℕ) → Cuts text (named_token edition token text)
+unfolding named_token
+named_token-cuts edition token text = cuts-follow text (name edition text) (λ n. got (token n)) (name-cuts edition text) (λ n rest. omega arith)
 
-pub begun-cuts : (edition : Edition) (text : List ℕ) → Cuts text (begun edition text)
-unfolding begun
-begun-cuts edition [] = named-cuts edition type_selector []
-begun-cuts edition (b ∷ text) =
+pub solid_by_byte-cuts : (edition : Edition) (text : List ℕ) → Cuts text (solid_by_byte edition text)
+unfolding solid_by_byte
+solid_by_byte-cuts edition [] = named_token-cuts edition type_selector []
+solid_by_byte-cuts edition (b ∷ text) =
     cuts-if (b ∷ text) (b == 62) _ _ (omega arith)
     (cuts-if (b ∷ text) (b == 43) _ _ (omega arith)
     (cuts-if (b ∷ text) (b == 42) _ _ (omega arith)
-    (cuts-if (b ∷ text) (b == 35) _ _ (owes-cuts b (named-lawful id_selector text text) edition)
-    (cuts-if (b ∷ text) (b == 46) _ _ (owes-cuts b (named-lawful class_selector text text) edition)
+    (cuts-if (b ∷ text) (b == 35) _ _ (owes-cuts b (named_token-lawful id_selector text text) edition)
+    (cuts-if (b ∷ text) (b == 46) _ _ (owes-cuts b (named_token-lawful class_selector text text) edition)
     (cuts-if (b ∷ text) (b == 91) _ _ (owes-cuts b (attribute_after-lawful text text) edition)
     (cuts-if (b ∷ text) (b == 58) _ _ (owes-cuts b (pseudo_class_after-lawful text text) edition)
-    (named-cuts edition type_selector (b ∷ text))))))))
+    (named_token-cuts edition type_selector (b ∷ text))))))))
 
 -- a solid piece takes a byte or more
 pub solid-cuts : (edition : Edition) (text : List ℕ) → Cuts text (solid edition text)
 unfolding solid
-solid-cuts edition text = cuts-if text (is_stop text || starts 47 text) (fails no_selector text) (begun edition text) (omega arith) (begun-cuts edition text)
+solid-cuts edition text = cuts-if text (ends_selector text || starts 47 text) (fails no_selector text) (solid_by_byte edition text) (omega arith) (solid_by_byte-cuts edition text)
 
 piece-cuts : (edition : Edition) (text : List ℕ) → Cuts text (piece edition text)
 unfolding piece

@@ -22,7 +22,7 @@ use Rattle.simplecss_text.specs.Components.{Operator}
 use Rattle.simplecss_text.specs.Components.Operator.{equals, has_word, begins_with}
 use Rattle.simplecss_text.specs.Tokens.{Token, token_texts, operator_texts}
 use Rattle.simplecss_text.specs.Tokens.Token.{universal_selector, type_selector, id_selector, class_selector, attribute_selector, named_pseudo_class, lang_pseudo_class, child_combinator, adjacent_combinator}
-use Rattle.simplecss_text.specs.Pieces.{attribute_operator, equated, attribute_after, lang_of, lang_after, pseudo_class_named, pseudo_class_after, named, begun, is_stop, solid}
+use Rattle.simplecss_text.specs.Pieces.{attribute_operator, equated, attribute_after, lang_of, lang_after, pseudo_class_named, pseudo_class_after, named_token, solid_by_byte, ends_selector, solid}
 use Rattle.simplecss_text.proofs.reading.EndsLaws.{before-append, ends-append, ends-by, ends-same, ends-nil, ends-drop, ends-cons, ends-tail, ends-past_one, ends-past_byte, ends-past, EndsSome, ends_some-if, ends_some-ends, EndsFound, each-ends, stand-from, stand-to, stand-ends, stand-before, Stands, no_texts, itself, stands-unseen, stands-from, stands-if, stands-then, stands-follow}
 
 -- ---- bytes, comments and blanks
@@ -281,34 +281,34 @@ pseudo_class_after-stands {Good = Good} {texts = texts} sees edition text good =
         stands-from text rest texts (lang_after rest) (stand-ends text rest (n ∷ []) h) (lang_after-stands sees rest (sees.behind text rest 103 (omega arith) good (ends-by text (108 ∷ 97 ∷ 110 ∷ []) (103 ∷ rest) whole)))
     by n rest h is false t = sees.seen text (got (named_pseudo_class n) rest) (record { at = h })
 
-named-stands : (edition : Edition) (token : List ℕ → Token) → ((n : List ℕ) → token_texts (token n) ≡ itself n) → (text : List ℕ) → Stands text token_texts (named edition token text)
-unfolding named
-named-stands edition token is text =
+named_token-stands : (edition : Edition) (token : List ℕ → Token) → ((n : List ℕ) → token_texts (token n) ≡ itself n) → (text : List ℕ) → Stands text token_texts (named_token edition token text)
+unfolding named_token
+named_token-stands edition token is text =
     stands-follow text itself token_texts (name edition text) (λ n. got (token n)) (name-stands edition text) (λ n rest e h.
     record { at = subst (StandBetween text rest) (sym (is n)) h })
 
-begun-stands : {Good : List ℕ → Type 0} {texts : Token → List (List ℕ)} → Sees Good texts → (edition : Edition) (whole text : List ℕ) → Good whole → Ends whole text → Stands text texts (begun edition text)
-unfolding begun
-begun-stands sees edition whole [] good e = sees.seen [] (named edition type_selector []) (named-stands edition type_selector (λ n. refl) [])
-begun-stands {Good = Good} {texts = texts} sees edition whole (b ∷ text) good e =
+solid_by_byte-stands : {Good : List ℕ → Type 0} {texts : Token → List (List ℕ)} → Sees Good texts → (edition : Edition) (whole text : List ℕ) → Good whole → Ends whole text → Stands text texts (solid_by_byte edition text)
+unfolding solid_by_byte
+solid_by_byte-stands sees edition whole [] good e = sees.seen [] (named_token edition type_selector []) (named_token-stands edition type_selector (λ n. refl) [])
+solid_by_byte-stands {Good = Good} {texts = texts} sees edition whole (b ∷ text) good e =
     stands-if (b ∷ text) texts (b == 62) _ _ (sees.seen (b ∷ text) (got child_combinator text) (record { at = ends-tail b text }))
     (stands-if (b ∷ text) texts (b == 43) _ _ (sees.seen (b ∷ text) (got adjacent_combinator text) (record { at = ends-tail b text }))
     (stands-if (b ∷ text) texts (b == 42) _ _ (sees.seen (b ∷ text) (got universal_selector text) (record { at = ends-tail b text }))
-    (stands-if (b ∷ text) texts (b == 35) _ _ (more (named edition id_selector text) (named-stands edition id_selector (λ n. refl) text))
-    (stands-if (b ∷ text) texts (b == 46) _ _ (more (named edition class_selector text) (named-stands edition class_selector (λ n. refl) text))
+    (stands-if (b ∷ text) texts (b == 35) _ _ (more (named_token edition id_selector text) (named_token-stands edition id_selector (λ n. refl) text))
+    (stands-if (b ∷ text) texts (b == 46) _ _ (more (named_token edition class_selector text) (named_token-stands edition class_selector (λ n. refl) text))
     (stands-if (b ∷ text) texts (b == 91) _ _ (more (attribute_after edition text) (attribute_after-stands edition text))
     (by (b == 58) refl))))))
   where
     more : (r : Reading Token) → Stands text token_texts r → Stands (b ∷ text) texts r
     more r h = sees.seen (b ∷ text) r (stands-from (b ∷ text) text token_texts r (ends-tail b text) h)
 
-    by : (t : Bool) → (b == 58) ≡ t → Stands (b ∷ text) texts (if t then pseudo_class_after edition text else named edition type_selector (b ∷ text))
+    by : (t : Bool) → (b == 58) ≡ t → Stands (b ∷ text) texts (if t then pseudo_class_after edition text else named_token edition type_selector (b ∷ text))
     by true t =
         let ascii : b < 128 = omega (arith, eqb-true b 58 t) in
         stands-from (b ∷ text) text texts (pseudo_class_after edition text) (ends-tail b text) (pseudo_class_after-stands sees edition text (sees.behind whole text b ascii good e))
-    by false t = sees.seen (b ∷ text) (named edition type_selector (b ∷ text)) (named-stands edition type_selector (λ n. refl) (b ∷ text))
+    by false t = sees.seen (b ∷ text) (named_token edition type_selector (b ∷ text)) (named_token-stands edition type_selector (λ n. refl) (b ∷ text))
 
 pub solid-stands : {Good : List ℕ → Type 0} {texts : Token → List (List ℕ)} → Sees Good texts → (edition : Edition) (whole text : List ℕ) → Good whole → Ends whole text → Stands text texts (solid edition text)
 unfolding solid
 solid-stands {texts = texts} sees edition whole text good e =
-    stands-if text texts (is_stop text || starts 47 text) (fails no_selector text) (begun edition text) (record { at = ends-same text }) (begun-stands sees edition whole text good e)
+    stands-if text texts (ends_selector text || starts 47 text) (fails no_selector text) (solid_by_byte edition text) (record { at = ends-same text }) (solid_by_byte-stands sees edition whole text good e)

@@ -6,7 +6,7 @@ use Rattle.simplecss_text.specs.Bytes.{past, past_one, past_byte, starts, is_nei
 use Rattle.simplecss_text.specs.Characters.{Edition, is_space}
 use Rattle.simplecss_text.specs.Comments.{past_blank}
 use Rattle.simplecss_text.specs.Names.{name}
-use Rattle.simplecss_text.specs.Statements.{part, part_and_comma, parts, next_block, rule_set, past_at_end, past_at_name, past_at_rule, statement, ends_statements, next_statement}
+use Rattle.simplecss_text.specs.Statements.{part, part_and_comma, parts, next_block, rule_set, past_semicolon_or_block, at_rule_rest_by_name, at_rule_rest, statement, ends_statements, next_statement}
 use Rattle.simplecss_text.specs.Selectors.{reads}
 use Rattle.simplecss_text.specs.Blocks.{block, from_block_end}
 use Rattle.simplecss_text.proofs.reading.EachLaws.{Shrinks, Takes}
@@ -15,20 +15,20 @@ use Rattle.simplecss_text.proofs.reading.DeclarationLaws.{length-block, length-f
 use Rattle.simplecss_text.proofs.reading.WithinLaws.{length-reads}
 
 -- what is left behind a semicolon or a block
-length-past_at_end : (text : List ℕ) → length (past_at_end text) ≤ length text
-length-past_at_end text = by (starts 123 text)
+length-past_semicolon_or_block : (text : List ℕ) → length (past_semicolon_or_block text) ≤ length text
+length-past_semicolon_or_block text = by (starts 123 text)
   where
     by : (t : Bool) → length (if t then past_byte 125 (from_block_end (past_one text)) else past_byte 59 text) ≤ length text
     by true = omega (arith, length-past_byte 125 (from_block_end (past_one text)), length-from_block_end (past_one text), length-past_one text)
     by false = length-past_byte 59 text
 
-length-past_at_name : (text : List ℕ) (r : Reading (List ℕ)) → Keeps text r → length (past_at_name r) ≤ length text
-length-past_at_name text (got n rest) h = omega (arith, length-past_at_end (past (is_neither 59 123) rest), length-past (is_neither 59 123) rest)
-length-past_at_name text (fails fault rest) h = h
+length-at_rule_rest_by_name : (text : List ℕ) (r : Reading (List ℕ)) → Keeps text r → length (at_rule_rest_by_name r) ≤ length text
+length-at_rule_rest_by_name text (got n rest) h = omega (arith, length-past_semicolon_or_block (past (is_neither 59 123) rest), length-past (is_neither 59 123) rest)
+length-at_rule_rest_by_name text (fails fault rest) h = h
 
-length-past_at_rule : (edition : Edition) (text : List ℕ) → length (past_at_rule edition text) ≤ length text
-unfolding past_at_rule
-length-past_at_rule edition text = length-past_at_name text (name edition text) (cuts-keeps text (name edition text) (name-cuts edition text))
+length-at_rule_rest : (edition : Edition) (text : List ℕ) → length (at_rule_rest edition text) ≤ length text
+unfolding at_rule_rest
+length-at_rule_rest edition text = length-at_rule_rest_by_name text (name edition text) (cuts-keeps text (name edition text) (name-cuts edition text))
 
 -- a block that is looked for leaves less than a text that is not empty
 next_block-less : (edition : Edition) (text : List ℕ) (bound : ℕ) → length text ≤ bound → 0 < bound → length (next_block edition text).1 < bound
@@ -74,8 +74,8 @@ unfolding statement
 length-statement edition [] p = absurd (omega (arith, p))
 length-statement edition (b ∷ text) p = by (b == 64)
   where
-    by : (t : Bool) → length (if t then ([], past_at_rule edition text) else rule_set edition (b ∷ text)).1 < length (b ∷ text)
-    by true = omega (arith, length-past_at_rule edition text)
+    by : (t : Bool) → length (if t then ([], at_rule_rest edition text) else rule_set edition (b ∷ text)).1 < length (b ∷ text)
+    by true = omega (arith, length-at_rule_rest edition text)
     by false = length-rule_set edition (b ∷ text) (omega arith)
 
 pub next_statement-takes : (edition : Edition) → Takes (next_statement edition)

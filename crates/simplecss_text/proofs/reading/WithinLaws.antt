@@ -4,7 +4,7 @@ use Rattle.std.proofs.Common.{ℕ, ◌≤◌, List, length}
 use Rattle.simplecss_text.specs.Characters.{Edition}
 use Rattle.simplecss_text.specs.Selectors.{reads}
 use Rattle.simplecss_text.proofs.reading.EndsLaws.{length-ends}
-use Rattle.simplecss_text.proofs.reading.RunStandLaws.{reads-ends}
+use Rattle.simplecss_text.proofs.reading.SequenceStandLaws.{reads-ends}
 
 pub length-reads : (edition : Edition) (text : List ℕ) → length (reads edition text).1 ≤ length text
 length-reads edition text = length-ends text (reads edition text).1 (reads-ends edition text)

@@ -8,13 +8,13 @@ use Rattle.simplecss_text.specs.Comments.{comment, blank, gap}
 use Rattle.simplecss_text.specs.Names.{past_name_chars, name}
 use Rattle.simplecss_text.specs.Strings.{string_or_name}
 use Rattle.simplecss_text.specs.Characters.{Edition, first_edition, second_edition}
-use Rattle.simplecss_text.specs.Pieces.{attribute_operator, attribute_after, lang_after, pseudo_class_after, named, begun, solid, piece, ending}
-use Rattle.simplecss_text.specs.TokenRuns.{run_from}
+use Rattle.simplecss_text.specs.Pieces.{attribute_operator, attribute_after, lang_after, pseudo_class_after, named_token, solid_by_byte, solid, piece, ending}
+use Rattle.simplecss_text.specs.TokenSequences.{sequence_from}
 use Rattle.simplecss_text.specs.Selectors.{reads}
 use Rattle.simplecss_text.specs.Terms.{word, past_number, term}
 use Rattle.simplecss_text.specs.Declarations.{value, importance, trailing, declaration, declarations}
 use Rattle.simplecss_text.specs.Blocks.{block, block_end}
-use Rattle.simplecss_text.specs.Statements.{part, parts, next_block, rule_set, past_at_rule, statement, statements}
+use Rattle.simplecss_text.specs.Statements.{part, parts, next_block, rule_set, at_rule_rest, statement, statements}
 use Rattle.simplecss_text.specs.Sheets.{sheet}
 use Rattle.simplecss_text.specs.Printing.{sheet_text}
 use Rattle.simplecss_text.specs.PrintingLaws.{has_wide_space, are_clean}
@@ -24,7 +24,7 @@ pub bare_apostrophe : (edition : Edition) →
     (are_clean (sheet edition (codes "[a=\"it's\"] { b:c }" ∷ [])) ≡ false)
     × (sheet_text (sheet edition (codes "[a=\"it's\"] { b:c }" ∷ [])) ≡ codes "*[a='it's'] { b:c; }")
     × (sheet edition (codes "*[a='it's'] { b:c; }" ∷ []) ≡ [])
-unfolding each comment blank gap past_name_chars name string_or_name attribute_operator attribute_after lang_after pseudo_class_after named begun solid piece ending run_from chars encode trim_start trim_end reads part parts next_block rule_set past_at_rule statement statements block block_end word past_number term value importance trailing declaration declarations
+unfolding each comment blank gap past_name_chars name string_or_name attribute_operator attribute_after lang_after pseudo_class_after named_token solid_by_byte solid piece ending sequence_from chars encode trim_start trim_end reads part parts next_block rule_set at_rule_rest statement statements block block_end word past_number term value importance trailing declaration declarations
 bare_apostrophe first_edition = (refl, refl, refl)
 bare_apostrophe second_edition = (refl, refl, refl)
 
@@ -33,7 +33,7 @@ pub escaped_apostrophe : (edition : Edition) →
     (are_clean (sheet edition (codes "[a=\"it\\'s\"] { b:c }" ∷ [])) ≡ true)
     × (sheet_text (sheet edition (codes "[a=\"it\\'s\"] { b:c }" ∷ [])) ≡ codes "*[a='it\\'s'] { b:c; }")
     × (sheet edition (codes "*[a='it\\'s'] { b:c; }" ∷ []) ≡ sheet edition (codes "[a=\"it\\'s\"] { b:c }" ∷ []))
-unfolding each comment blank gap past_name_chars name string_or_name attribute_operator attribute_after lang_after pseudo_class_after named begun solid piece ending run_from chars encode trim_start trim_end reads part parts next_block rule_set past_at_rule statement statements block block_end word past_number term value importance trailing declaration declarations
+unfolding each comment blank gap past_name_chars name string_or_name attribute_operator attribute_after lang_after pseudo_class_after named_token solid_by_byte solid piece ending sequence_from chars encode trim_start trim_end reads part parts next_block rule_set at_rule_rest statement statements block block_end word past_number term value importance trailing declaration declarations
 escaped_apostrophe first_edition = (refl, refl, refl)
 escaped_apostrophe second_edition = (refl, refl, refl)
 
@@ -42,6 +42,6 @@ pub ideographic_space : (edition : Edition) →
     (has_wide_space (codes "a { b:" ++ (227 ∷ 128 ∷ 128 ∷ codes "(c) }")) ≡ true)
     × (sheet_text (sheet edition ((codes "a { b:" ++ (227 ∷ 128 ∷ 128 ∷ codes "(c) }")) ∷ [])) ≡ codes "a { b:(c); }")
     × (sheet edition (codes "a { b:(c); }" ∷ []) ≡ [])
-unfolding each comment blank gap past_name_chars name string_or_name attribute_operator attribute_after lang_after pseudo_class_after named begun solid piece ending run_from chars encode trim_start trim_end reads part parts next_block rule_set past_at_rule statement statements block block_end word past_number term value importance trailing declaration declarations
+unfolding each comment blank gap past_name_chars name string_or_name attribute_operator attribute_after lang_after pseudo_class_after named_token solid_by_byte solid piece ending sequence_from chars encode trim_start trim_end reads part parts next_block rule_set at_rule_rest statement statements block block_end word past_number term value importance trailing declaration declarations
 ideographic_space first_edition = (refl, refl, refl)
 ideographic_space second_edition = (refl, refl, refl)

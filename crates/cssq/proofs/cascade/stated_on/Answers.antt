@@ -1,8 +1,8 @@
 use Rattle.std.proofs.Common.{◌≡◌, ◌+◌, ◌++◌, ◌≤◌, ap, ◌∙◌, sym, subst}
 use Rattle.std.proofs.lemmas.Bool.{both_ways}
 use Rattle.std.proofs.lemmas.List.{map-append, length-map}
-use Rattle.simplecss.specs.Properties.{property_of, properties_of}
-use Rattle.simplecss.specs.StyleRules.{rule_of, rules_of}
+use Rattle.simplecss.specs.SeenDeclarations.{declaration_of, declarations_of}
+use Rattle.simplecss.specs.SeenRules.{rule_of, rules_of}
 use Rattle.cssq.specs.Winners.{IsStated, ListsInOrder}
 use Rattle.cssq.proofs.FromLast.{rule_read}
 use Rattle.cssq.proofs.Listing.{Before, lists_rule, lists_skip, lists_all}
@@ -24,10 +24,10 @@ loop-rule-preserved g c =
           let read : c.if-matches.all.items ≡ w.extend_from_slice.new.self.items = ap (λ v. v.items) w.all-is in
           let grown : w.extend_from_slice.new.self.items ≡ old ++ w.deref.result.now = w.in_ok-extend_from_slice.ensures.items in
           let same : old ++ w.deref.result.now ≡ old ++ declared = ap (λ ds. old ++ ds) w.deref.ensures.value in
-          let items : properties_of c.if-matches.all.items ≡ properties_of old ++ properties_of declared = ap properties_of (read ∙ grown ∙ same) ∙ map-append property_of old declared in
+          let items : declarations_of c.if-matches.all.items ≡ declarations_of old ++ declarations_of declared = ap declarations_of (read ∙ grown ∙ same) ∙ map-append declaration_of old declared in
           subst (ListsInOrder (Before (IsStated tree n rules) (m + 1))) (sym items) (lists_rule tree n rules m (rule_of rule) at (c.matches.ensures.0 w.if-matches.true) c.loop-rule.invariant)
       | else-matches w ↦
-          subst (ListsInOrder (Before (IsStated tree n rules) (m + 1))) (ap (λ v. properties_of v.items) (sym w.all-is))
+          subst (ListsInOrder (Before (IsStated tree n rules) (m + 1))) (ap (λ v. declarations_of v.items) (sym w.all-is))
           (lists_skip tree n rules m (rule_of rule) at (λ takes. both_ways c.matches.result w.if-matches.false (c.matches.ensures.1 takes)) c.loop-rule.invariant)
     ]
 

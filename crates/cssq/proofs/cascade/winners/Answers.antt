@@ -1,8 +1,8 @@
 use Rattle.std.proofs.Common.{◌≡◌, ◌+◌, ◌++◌, ◌∷◌, ◌≤◌, [], Some, get_or, nat_eq, ap, ◌∙◌, sym, subst}
 use Rattle.std.specs.Option.{option_eq}
 use Rattle.std.proofs.lemmas.List.{map-append, length-map}
-use Rattle.simplecss.specs.Properties.{property_of, properties_of}
-use Rattle.simplecss.specs.StyleRules.{rules_of}
+use Rattle.simplecss.specs.SeenDeclarations.{declaration_of, declarations_of}
+use Rattle.simplecss.specs.SeenRules.{rules_of}
 use Rattle.cssq.specs.Winners.{IsStated, ListsInOrder}
 use Rattle.cssq.specs.Candidates.{place_for}
 use Rattle.cssq.proofs.BestPlaces.{Kept, nothing, stands_at, placed_of, winners_more, winners_skip, winners_all, has_winners, own_names, same_place, other_place}
@@ -19,23 +19,23 @@ loop-place-preserved g c =
     let best = c.loop-place.invariant.1 in
     let so_far = c.loop-place.invariant.2 in
     let places = c.in_ok-places.places in
-    let b = placed_of stands (properties_of ds) lists k (property_of d) (stands_at ds k c.loop-place-test.true) in
+    let b = placed_of stands (declarations_of ds) lists k (declaration_of d) (stands_at ds k c.loop-place-test.true) in
     let known : c.copied.result ≡ place_for places d.name.now = c.copied.ensures ∙ c.get.ensures.value in
-    let same_name : place_for places d.name.now ≡ place_for places b.0.property.name = ap (λ p. place_for places p.name) (sym b.2) in
+    let same_name : place_for places d.name.now ≡ place_for places b.0.declaration.name = ap (λ p. place_for places p.name) (sym b.2) in
     let test : c.eq.result ≡ option_eq nat_eq c.copied.result (Some k) = c.eq.ensures in
     elim c.if-eq.branch [
       | then-eq+in_ok-push w ↦
-          let items = ap (λ v. properties_of v.items) w.all-is ∙ ap properties_of w.in_ok-push.ensures.items ∙ map-append property_of c.loop-place.all.items (d ∷ []) in (
+          let items = ap (λ v. declarations_of v.items) w.all-is ∙ ap declarations_of w.in_ok-push.ensures.items ∙ map-append declaration_of c.loop-place.all.items (d ∷ []) in (
             lists,
             best,
-            subst (ListsInOrder (Kept stands (properties_of ds) lists (k + 1))) (ap (λ p. properties_of c.loop-place.all.items ++ p ∷ []) b.2 ∙ sym items)
-                (winners_more stands (properties_of ds) lists k b.0 b.1 (place_for places) best so_far (sym same_name ∙ sym known ∙ same_place c.copied.result k (sym test ∙ w.if-eq.true))),
+            subst (ListsInOrder (Kept stands (declarations_of ds) lists (k + 1))) (ap (λ p. declarations_of c.loop-place.all.items ++ p ∷ []) b.2 ∙ sym items)
+                (winners_more stands (declarations_of ds) lists k b.0 b.1 (place_for places) best so_far (sym same_name ∙ sym known ∙ same_place c.copied.result k (sym test ∙ w.if-eq.true))),
           )
       | else-eq w ↦ (
         lists,
         best,
-        subst (ListsInOrder (Kept stands (properties_of ds) lists (k + 1))) (ap (λ v. properties_of v.items) (sym w.all-is))
-            (winners_skip stands (properties_of ds) lists k b.0 b.1 (place_for places) best so_far (λ is. other_place c.copied.result k (sym test ∙ w.if-eq.false) (known ∙ same_name ∙ is))),
+        subst (ListsInOrder (Kept stands (declarations_of ds) lists (k + 1))) (ap (λ v. declarations_of v.items) (sym w.all-is))
+            (winners_skip stands (declarations_of ds) lists k b.0 b.1 (place_for places) best so_far (λ is. other_place c.copied.result k (sym test ∙ w.if-eq.false) (known ∙ same_name ∙ is))),
       )
     ]
 
@@ -43,6 +43,6 @@ pub returns : goal.returns
 returns g c =
     let stands = IsStated g.E.Element.tree (g.E.Element.node c.args.element.now) (rules_of c.args.sheet.now.rules.items) in
     let ds = c.deref-declaration-items.result.now in
-    let won = properties_of c.loop-place.all.items in
-    let lists = winners_all stands (properties_of ds) c.loop-place.invariant.0 c.loop-place.place (subst (λ n. n ≤ c.loop-place.place) (sym (length-map ds property_of)) c.loop-place-test.false) c.loop-place.invariant.2 in
+    let won = declarations_of c.loop-place.all.items in
+    let lists = winners_all stands (declarations_of ds) c.loop-place.invariant.0 c.loop-place.place (subst (λ n. n ≤ c.loop-place.place) (sym (length-map ds declaration_of)) c.loop-place-test.false) c.loop-place.invariant.2 in
     record { order = lists; winners = has_winners stands won lists; names = own_names stands won lists }

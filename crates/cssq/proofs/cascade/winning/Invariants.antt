@@ -1,6 +1,6 @@
 use Rattle.std.specs.Option.{option_map}
-use Rattle.simplecss.specs.Properties.{property_of}
-use Rattle.simplecss.specs.StyleRules.{rules_of}
+use Rattle.simplecss.specs.SeenDeclarations.{declaration_of}
+use Rattle.simplecss.specs.SeenRules.{rules_of}
 use Rattle.cssq.specs.Winners.{IsStated}
 use Rattle.cssq.proofs.FromLast.{KnownFrom}
 use Rattle.cssq.proofs.cascade.winning.Given as goal
@@ -8,4 +8,4 @@ use Rattle.cssq.proofs.cascade.winning.Given as goal
 -- what wins among the rules that were looked at
 abbrev pub invariant-loop-place : goal.invariant-loop-place
 invariant-loop-place g l =
-    KnownFrom (IsStated g.E.Element.tree (g.E.Element.node l.element) (rules_of l.rules)) l.name l.place (option_map property_of l.winner)
+    KnownFrom (IsStated g.E.Element.tree (g.E.Element.node l.element) (rules_of l.rules)) l.name l.place (option_map declaration_of l.winner)

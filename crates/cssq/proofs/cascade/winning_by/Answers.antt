@@ -1,6 +1,6 @@
 use Rattle.std.proofs.Common.{◌-◌, Some, length, get_or, map, refl, sym, subst, rules, arith}
-use Rattle.simplecss.specs.Properties.{property_of}
-use Rattle.simplecss.specs.StyleRules.{rules_of}
+use Rattle.simplecss.specs.SeenDeclarations.{declaration_of}
+use Rattle.simplecss.specs.SeenRules.{rules_of}
 use Rattle.simplecss_index.specs.Matching.{AreMatches}
 use Rattle.cssq.specs.Winners.{IsStated, Wins}
 use Rattle.cssq.proofs.FromLast.{From, known_on, important_wins}
@@ -35,14 +35,14 @@ pub loop-i-preserved-in_default : goal.loop-i-preserved-in_default
 loop-i-preserved-in_default g c =
     let positive = c.loop-i-test.true in
     let within = c.loop-i.auto.i in
-    among_passed g.E.Element.tree (g.E.Element.node c.args.element.now) c.args.rules.now c.as_slice-places.result.now (found g (goal.at.loop-i-preserved-in_default g c).After-as_slice-places) c.args.name.now c.loop-i.i (c.loop-i.i - 1) (omega arith) (omega arith) c.index-rules-places.result c.index-rules-places.is property_of c.is_some.result c.loop-i.winner c.is_some.ensures c.loop-i.invariant (c.in_default.ensures.outdone refl)
+    among_passed g.E.Element.tree (g.E.Element.node c.args.element.now) c.args.rules.now c.as_slice-places.result.now (found g (goal.at.loop-i-preserved-in_default g c).After-as_slice-places) c.args.name.now c.loop-i.i (c.loop-i.i - 1) (omega arith) (omega arith) c.index-rules-places.result c.index-rules-places.is declaration_of c.is_some.result c.loop-i.winner c.is_some.ensures c.loop-i.invariant (c.in_default.ensures.outdone refl)
 
 -- the contender wins in the rules from its own on
-wins_from : (g : Over) (c : In-Some g) → AreMatches g.E.Element.tree (g.E.Element.node c.args.element.now) (map (λ rule. rule.selector) c.args.rules.now) c.as_slice-places.result.now → Wins (From (IsStated g.E.Element.tree (g.E.Element.node c.args.element.now) (rules_of c.args.rules.now)) (get_or c.as_slice-places.result.now (c.loop-i.i - 1) (length (map (λ rule. rule.selector) c.args.rules.now)))) c.args.name.now (Some (property_of c.in-Some.best))
+wins_from : (g : Over) (c : In-Some g) → AreMatches g.E.Element.tree (g.E.Element.node c.args.element.now) (map (λ rule. rule.selector) c.args.rules.now) c.as_slice-places.result.now → Wins (From (IsStated g.E.Element.tree (g.E.Element.node c.args.element.now) (rules_of c.args.rules.now)) (get_or c.as_slice-places.result.now (c.loop-i.i - 1) (length (map (λ rule. rule.selector) c.args.rules.now)))) c.args.name.now (Some (declaration_of c.in-Some.best))
 wins_from g c are =
     let positive = c.loop-i-test.true in
     let within = c.loop-i.auto.i in
-    among_here g.E.Element.tree (g.E.Element.node c.args.element.now) c.args.rules.now c.as_slice-places.result.now are c.args.name.now c.loop-i.i (c.loop-i.i - 1) (omega arith) (omega arith) c.index-rules-places.result c.index-rules-places.is property_of c.is_some.result c.loop-i.winner c.is_some.ensures c.loop-i.invariant (property_of c.in-Some.best) c.in-Some.ensures.important c.in-Some.ensures.best
+    among_here g.E.Element.tree (g.E.Element.node c.args.element.now) c.args.rules.now c.as_slice-places.result.now are c.args.name.now c.loop-i.i (c.loop-i.i - 1) (omega arith) (omega arith) c.index-rules-places.result c.index-rules-places.is declaration_of c.is_some.result c.loop-i.winner c.is_some.ensures c.loop-i.invariant (declaration_of c.in-Some.best) c.in-Some.ensures.important c.in-Some.ensures.best
 
 pub loop-i-preserved : goal.loop-i-preserved
 loop-i-preserved g c = known_on _ _ _ _ (wins_from g (goal.at.loop-i-preserved g c).In-Some (found g (goal.at.loop-i-preserved g c).After-as_slice-places)) c.if-best.false

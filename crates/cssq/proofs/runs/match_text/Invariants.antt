@@ -1,5 +1,5 @@
 use Rattle.std.proofs.Common.{map, string_bytes}
-use Rattle.simplecss.specs.StyleRules.{rule_of}
+use Rattle.simplecss.specs.SeenRules.{rule_of}
 use Rattle.cssq.specs.MatchRuns.{IsLineOf}
 use Rattle.cssq.proofs.MatchLines.{LinesSoFar}
 use Rattle.cssq.proofs.runs.match_text.Given as goal

@@ -1,5 +1,5 @@
 use Rattle.std.proofs.Common.{string_bytes}
-use Rattle.simplecss.specs.StyleRules.{rules_of}
+use Rattle.simplecss.specs.SeenRules.{rules_of}
 use Rattle.cssq.specs.StyleRuns.{IsStyleLineOf}
 use Rattle.cssq.proofs.MatchLines.{LinesSoFar}
 use Rattle.cssq.proofs.runs.style_text.Given as goal

@@ -1,6 +1,6 @@
 use Rattle.std.proofs.Common.{◌≡◌, decimal, ap, ◌∙◌, ◌++◌}
 use Rattle.std.proofs.Output.{has_written_styled_of_eq}
-use Rattle.simplecss.proofs.Styled.{appends_written}
+use Rattle.simplecss.proofs.StyledWrites.{appends_written}
 use Rattle.cssq.proofs.runs.write_decimal.Goals as goal
 
 -- the digits are written into a text that was empty

@@ -29,7 +29,7 @@ places-preserved g c =
     ] in
     record {
       keeps = keeps;
-      tested = asked_more (λ rule. rule.selector) IsMet rules places c.places.places c.places.kept c.places.i v before lt c.requires.within cost c.args.tests.now c.places.tests c.matches_counted.new.tests c.places.invariant.tested c.matches_counted.ensures.at_most_by_runs;
+      tested = asked_more (λ rule. rule.selector) IsMet rules places c.places.places c.places.kept c.places.i v before lt c.requires.within cost c.args.tests.now c.places.tests c.matches_counted.new.tests c.places.invariant.tested c.matches_counted.ensures.at_most_by_stretches;
     }
 
 pub returns-clause-exactly : goal.returns-clause-exactly

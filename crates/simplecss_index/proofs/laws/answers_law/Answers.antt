@@ -1,4 +1,4 @@
-use Rattle.simplecss_index.proofs.Answers.{answers_of}
+use Rattle.simplecss_index.proofs.AskedInTurn.{answers_of}
 use Rattle.simplecss_index.proofs.laws.answers_law.Goals as goal
 
 pub returns : goal.returns

@@ -1,6 +1,6 @@
 use Rattle.std.proofs.Common.{◌≡◌, map, drop}
 use Rattle.simplecss_selector.specs.Keys.{asked_class, first_asked}
-use Rattle.simplecss_selector.specs.Seen.{subselector_of}
+use Rattle.simplecss_selector.specs.SeenSelectors.{subselector_of}
 use Rattle.simplecss_selector.proofs.key.first_class.Given as goal
 
 -- the answer is that of what is left

@@ -1,6 +1,6 @@
 use Rattle.simplecss_text.specs.ThisEdition.{this_edition}
-use Rattle.simplecss_text.proofs.reading.RunLaws.{run_of-two}
+use Rattle.simplecss_text.proofs.reading.SequenceLaws.{sequence_of-two}
 use Rattle.simplecss_selector.proofs.laws.at_most_two_errors.Goals as goal
 
 pub returns : goal.returns
-returns c = run_of-two this_edition
+returns c = sequence_of-two this_edition

@@ -3,7 +3,7 @@ use Rattle.std.specs.Option.{option_map_or}
 use Rattle.simplecss_selector.specs.Placements.{Meets}
 use Rattle.simplecss_selector.specs.Shapes.{component_at}
 use Rattle.simplecss_selector.proofs.Greedy.{Tracks}
-use Rattle.simplecss_selector.proofs.Stretches.{AreJoined}
+use Rattle.simplecss_selector.proofs.LongestStretch.{AreJoined}
 use Rattle.simplecss_selector.proofs.matching.climb.Given as goal
 
 -- the components from `place` on are met, from `lowest` up to `top`
@@ -14,13 +14,13 @@ invariant-steps g l =
     let n = node l.lowest in
     let u = option_map_or node l.top n in
     record {
-      from_run : l.run.first ≤ l.place;
-      within_run : l.place ≤ l.run.last;
-      tracks : Tracks tree l.selector (l.run.last + 1) (l.place + 1) n u;
+      from_stretch : l.stretch.first ≤ l.place;
+      within_stretch : l.place ≤ l.stretch.last;
+      tracks : Tracks tree l.selector (l.stretch.last + 1) (l.place + 1) n u;
       met : Meets tree u (component_at l.selector l.place).compound;
-      joined : AreJoined l.selector (l.place + 1) (l.run.last + 1);
+      joined : AreJoined l.selector (l.place + 1) (l.stretch.last + 1);
       no_deeper : tree.depth u ≤ tree.depth n;
-      counted : l.tests + l.place ≡ l.initial.tests + l.run.last;
+      counted : l.tests + l.place ≡ l.initial.tests + l.stretch.last;
     }
 
 abbrev pub decreases-steps : goal.decreases-steps

@@ -1,21 +1,21 @@
 use Rattle.std.proofs.Common.{◌≡◌, ◌+◌, ◌*◌, ◌<◌, ◌≤◌, ◌↔◌, ◌∷◌, length, get_or}
-use Rattle.simplecss_selector.specs.Placements.{HasPlacement, longest_run}
-use Rattle.simplecss_selector.specs.Runs.{IsRun}
-use Rattle.simplecss_selector.specs.Searches.{CanPlace, first_of}
+use Rattle.simplecss_selector.specs.Placements.{HasPlacement, longest_stretch}
+use Rattle.simplecss_selector.specs.Stretches.{IsStretch}
+use Rattle.simplecss_selector.specs.PlacementSearch.{CanPlace, first_of}
 use Rattle.simplecss_selector.proofs.matching.goes_on.Given as goal
 
--- the selector matches exactly if the components up to the end of the run can be placed at or above the candidate
+-- the selector matches exactly if the components up to the end of the stretch can be placed at or above the candidate
 abbrev pub invariant-loop-candidate : goal.invariant-loop-candidate
 invariant-loop-candidate g l =
     let tree = g.E.Element.tree in
     let node = g.E.Element.node in
     record {
       numbered : l.number < length l.ends;
-      begun : l.run.first ≡ get_or (0 ∷ l.ends) l.number 0;
-      is_run : IsRun l.selector l.run.first l.run.last;
-      same : HasPlacement tree l.selector (node l.element) ↔ CanPlace tree (first_of l.selector (l.run.last + 1)) (node l.candidate);
-      spent : l.tests + 1 + longest_run l.selector * (tree.depth (node l.candidate) + 1) ≤ l.fn.tests + longest_run l.selector * (tree.depth (node l.element) + 1);
-      placed : l.fn.tests + l.fn.last ≤ l.tests + (l.run.last + 1);
+      begun : l.stretch.first ≡ get_or (0 ∷ l.ends) l.number 0;
+      is_stretch : IsStretch l.selector l.stretch.first l.stretch.last;
+      same : HasPlacement tree l.selector (node l.element) ↔ CanPlace tree (first_of l.selector (l.stretch.last + 1)) (node l.candidate);
+      spent : l.tests + 1 + longest_stretch l.selector * (tree.depth (node l.candidate) + 1) ≤ l.fn.tests + longest_stretch l.selector * (tree.depth (node l.element) + 1);
+      placed : l.fn.tests + l.fn.last ≤ l.tests + (l.stretch.last + 1);
       tested : l.fn.tests ≤ l.tests;
     }
 

@@ -1,7 +1,7 @@
 use Rattle.std.proofs.Common.{refl}
 use Rattle.std.proofs.lemmas.Bool.{false≢true}
 use Rattle.simplecss_selector.specs.Placements.{Holds}
-use Rattle.simplecss_selector.specs.Seen.{subselector_of}
+use Rattle.simplecss_selector.specs.SeenSelectors.{subselector_of}
 use Rattle.simplecss_selector.proofs.Meeting.{whole_step, whole_fails}
 use Rattle.simplecss_selector.proofs.matching.is_met_at.Goals as goal
 

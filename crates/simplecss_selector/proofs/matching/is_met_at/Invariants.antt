@@ -1,7 +1,7 @@
 use Rattle.std.proofs.Common.{◌↔◌, drop, map, All}
 use Rattle.simplecss_selector.specs.Placements.{Meets, Holds}
 use Rattle.simplecss_selector.specs.Shapes.{component_at}
-use Rattle.simplecss_selector.specs.Seen.{subselector_of}
+use Rattle.simplecss_selector.specs.SeenSelectors.{subselector_of}
 use Rattle.simplecss_selector.proofs.matching.is_met_at.Given as goal
 
 -- the component is met exactly if what is left of its subselectors holds

@@ -1,6 +1,6 @@
 use Rattle.std.proofs.Common.{sym, ◌∙◌}
-use Rattle.simplecss_selector.specs.Asked.{operator_of, class_of}
-use Rattle.simplecss_selector.specs.EqualityLaws.{operator_decides, class_decides}
+use Rattle.simplecss_selector.specs.SeenOperators.{operator_of, pseudo_class_of}
+use Rattle.simplecss_selector.specs.EqualityLaws.{operator_decides, pseudo_class_decides}
 use Rattle.simplecss_selector.proofs.FlatEquality.{by_operator, by_class}
 use Rattle.simplecss_selector.proofs.operator_laws.operator_equality_laws.Goals as goal
 
@@ -11,5 +11,5 @@ returns-clause-operators c a b =
 
 pub returns-clause-classes : goal.returns-clause-classes
 returns-clause-classes c a b =
-    let same = class_decides (class_of a) (class_of b) in
+    let same = pseudo_class_decides (pseudo_class_of a) (pseudo_class_of b) in
     (λ e. same.0 (sym (by_class a b) ∙ e), λ e. by_class a b ∙ same.1 e)

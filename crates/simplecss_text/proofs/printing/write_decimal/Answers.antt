@@ -1,6 +1,6 @@
 use Rattle.std.proofs.Common.{◌≡◌, decimal, ap, ◌∙◌, ◌++◌}
 use Rattle.std.proofs.Output.{has_written_styled_of_eq}
-use Rattle.simplecss_text.proofs.printed.Styled.{appends_written}
+use Rattle.simplecss_text.proofs.printed.StyledWrites.{appends_written}
 use Rattle.simplecss_text.proofs.printing.write_decimal.Goals as goal
 
 -- the digits are written into a text that was empty

@@ -4,7 +4,7 @@ use Rattle.simplecss_text.specs.Blocks.{declaration_in_block, past_list}
 use Rattle.simplecss_text.specs.ThisEdition.{this_edition}
 use Rattle.simplecss_text.specs.Cursor.{rest_of}
 use Rattle.simplecss_text.proofs.reading.EachLaws.{done_start, done_step, done_end}
-use Rattle.simplecss_declaration.specs.Properties.{property_of}
+use Rattle.simplecss_declaration.specs.SeenDeclarations.{declaration_of}
 use Rattle.simplecss.proofs.BlockLemmas.{list-some, list-less, list-none, list-broken, past_list-end, past_list-broken}
 use Rattle.simplecss.proofs.sheet.blocks.consume_declarations.Goals as goal
 
@@ -16,10 +16,10 @@ list-init c = record { same = refl; read = rw c.clear.ensures.items (done_start 
 
 pub list-preserved : goal.list-preserved
 list-preserved c =
-    let step = list-some this_edition (rest_of c.list.s) (rest_of c.consume_declaration.new.s) (property_of c.in-Some.declaration) (sym c.at_list_end.ensures ∙ c.list-test.true) c.in-Some.ensures.reads in
+    let step = list-some this_edition (rest_of c.list.s) (rest_of c.consume_declaration.new.s) (declaration_of c.in-Some.declaration) (sym c.at_list_end.ensures ∙ c.list-test.true) c.in-Some.ensures.reads in
     record {
       same = c.in-Some.ensures.text ∙ c.list.invariant.same;
-      read = rw (c.in_ok-push-in-Some.ensures.items, map-append property_of c.list.declarations.items (c.in-Some.declaration ∷ [])) (done_step (declaration_in_block this_edition) _ _ _ _ _ step c.list.invariant.read);
+      read = rw (c.in_ok-push-in-Some.ensures.items, map-append declaration_of c.list.declarations.items (c.in-Some.declaration ∷ [])) (done_step (declaration_in_block this_edition) _ _ _ _ _ step c.list.invariant.read);
     }
 
 pub returns-in-None-clause-values : goal.returns-in-None-clause-values

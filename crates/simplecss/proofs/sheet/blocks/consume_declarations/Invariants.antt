@@ -3,13 +3,13 @@ use Rattle.simplecss_text.specs.Blocks.{declaration_in_block}
 use Rattle.simplecss_text.specs.ThisEdition.{this_edition}
 use Rattle.simplecss_text.specs.Cursor.{text_of, rest_of}
 use Rattle.simplecss_text.proofs.reading.EachLaws.{Done}
-use Rattle.simplecss_declaration.specs.Properties.{property_of}
+use Rattle.simplecss_declaration.specs.SeenDeclarations.{declaration_of}
 use Rattle.simplecss.proofs.sheet.blocks.consume_declarations.Given as goal
 
 abbrev pub invariant-list : goal.invariant-list
 invariant-list l = record {
   same : text_of l.s ≡ text_of l.initial.s;
-  read : Done (declaration_in_block this_edition) (map property_of l.declarations.items) (rest_of l.s) (rest_of l.initial.s);
+  read : Done (declaration_in_block this_edition) (map declaration_of l.declarations.items) (rest_of l.s) (rest_of l.initial.s);
 }
 
 abbrev pub decreases-list : goal.decreases-list

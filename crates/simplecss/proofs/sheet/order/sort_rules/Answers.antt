@@ -6,7 +6,7 @@ use Rattle.std.proofs.lemmas.Result.{on_ok_weaker}
 use Rattle.std.proofs.lemmas.List.Sorted.{answers_always, ranks_by}
 use Rattle.simplecss_text.specs.Sheets.{is_smaller}
 use Rattle.simplecss.specs.declared.sheet.rules.Rule.{Rule}
-use Rattle.simplecss.specs.StyleRules.{rule_of}
+use Rattle.simplecss.specs.SeenRules.{rule_of}
 use Rattle.simplecss_text.proofs.order.OrderLemmas.{weight, smaller_order}
 use Rattle.simplecss_text.proofs.order.RankLemmas.{ordered_is, arranges_from_sort, arranges-map}
 use Rattle.simplecss.proofs.sheet.order.sort_rules.Goals as goal

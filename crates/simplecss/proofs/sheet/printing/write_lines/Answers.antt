@@ -1,7 +1,7 @@
 use Rattle.std.proofs.Common.{◌<◌, ◌∷◌, length, arith, rules}
 use Rattle.simplecss_text.specs.Printing.{rule_text}
-use Rattle.simplecss.specs.StyleRules.{rule_of}
-use Rattle.simplecss_text.proofs.printed.Styled.{styled_step}
+use Rattle.simplecss.specs.SeenRules.{rule_of}
+use Rattle.simplecss_text.proofs.printed.StyledWrites.{styled_step}
 use Rattle.simplecss.proofs.sheet.printing.write_lines.Goals as goal
 
 pub loop-rule-preserved : goal.loop-rule-preserved

@@ -3,7 +3,7 @@ use Rattle.std.specs.Fmt.{HasWrittenStyled}
 use Rattle.std.proofs.Output.{has_written_styled_of_eq, has_written_styled_append}
 use Rattle.std.proofs.lemmas.List.Folds.{flat_map-map}
 use Rattle.simplecss_text.specs.Printing.{rule_text, sheet_text}
-use Rattle.simplecss.specs.StyleRules.{rule_of}
+use Rattle.simplecss.specs.SeenRules.{rule_of}
 use Rattle.simplecss.proofs.Joins.{join_first}
 use Rattle.simplecss.proofs.sheet.printing.write_rules.Goals as goal
 

@@ -3,9 +3,9 @@ use Rattle.std.specs.List.{filter}
 use Rattle.std.proofs.lemmas.Result.{on_ok_weaker}
 use Rattle.std.proofs.lemmas.List.{map-append}
 use Rattle.std.proofs.lemmas.List.Elements.{filter-append}
-use Rattle.simplecss_text.specs.Statements.{has_property, kept, statements}
+use Rattle.simplecss_text.specs.Statements.{has_declaration, kept, statements}
 use Rattle.simplecss_text.specs.ThisEdition.{this_edition}
-use Rattle.simplecss.specs.StyleRules.{rule_of, rules_of}
+use Rattle.simplecss.specs.SeenRules.{rule_of, rules_of}
 use Rattle.simplecss.proofs.SheetLemmas.{texts_more, texts_open}
 use Rattle.simplecss.proofs.sheet.reading.add_rules.Goals as goal
 
@@ -14,11 +14,11 @@ returns-in-Some-clause-kept g c texts was =
     let old = rules_of c.args.rules.now.items in
     let text = c.args.text.now in
     let read : rules_of c.in-Some.more.items ≡ flat_map (λ given. given) (statements this_edition text) = search rules in
-    on_ok_weaker {P = c.append.new.self.items ≡ c.args.rules.now.items ++ c.in-Some.more.items} {Q = filter has_property (rules_of c.append.new.self.items) ≡ flat_map (kept this_edition) (texts ++ text ∷ [])} c.append.result
+    on_ok_weaker {P = c.append.new.self.items ≡ c.args.rules.now.items ++ c.in-Some.more.items} {Q = filter has_declaration (rules_of c.append.new.self.items) ≡ flat_map (kept this_edition) (texts ++ text ∷ [])} c.append.result
     (λ ok.
-    ap (λ l. filter has_property (rules_of l)) ok
-    ∙ ap (filter has_property) (map-append rule_of c.args.rules.now.items c.in-Some.more.items ∙ ap (λ l. old ++ l) read)
-    ∙ filter-append has_property old (flat_map (λ given. given) (statements this_edition text))
+    ap (λ l. filter has_declaration (rules_of l)) ok
+    ∙ ap (filter has_declaration) (map-append rule_of c.args.rules.now.items c.in-Some.more.items ∙ ap (λ l. old ++ l) read)
+    ∙ filter-append has_declaration old (flat_map (λ given. given) (statements this_edition text))
     ∙ ap (λ l. l ++ kept this_edition text) was ∙ sym (texts_more this_edition texts text))
     (search rules)
 

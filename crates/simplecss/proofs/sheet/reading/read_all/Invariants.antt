@@ -1,12 +1,12 @@
 use Rattle.std.proofs.Common.{◌≡◌, map, take, flat_map, IsUtf8}
 use Rattle.std.specs.List.{filter, All}
 use Rattle.simplecss_text.specs.ThisEdition.{this_edition}
-use Rattle.simplecss_text.specs.Statements.{has_property, kept}
-use Rattle.simplecss.specs.StyleRules.{rules_of}
+use Rattle.simplecss_text.specs.Statements.{has_declaration, kept}
+use Rattle.simplecss.specs.SeenRules.{rules_of}
 use Rattle.simplecss.proofs.sheet.reading.read_all.Given as goal
 
 -- the rules so far are those of the first texts
 abbrev pub invariant-loop-text : goal.invariant-loop-text
 invariant-loop-text g l =
-    (filter has_property (rules_of l.rules.items) ≡ flat_map (kept this_edition) (map (λ text. text.now) (take l.text-index l.texts)))
+    (filter has_declaration (rules_of l.rules.items) ≡ flat_map (kept this_edition) (map (λ text. text.now) (take l.text-index l.texts)))
     × All (λ text. IsUtf8 text.now) (take l.text-index l.texts)

@@ -4,7 +4,7 @@ use Rattle.simplecss_text.specs.Comments.{opens_comment, past_blank}
 use Rattle.simplecss_text.specs.Statements.{statement}
 use Rattle.simplecss_text.specs.ThisEdition.{this_edition}
 use Rattle.simplecss_text.specs.Cursor.{rest_of}
-use Rattle.simplecss.specs.StyleRules.{rule_of}
+use Rattle.simplecss.specs.SeenRules.{rule_of}
 use Rattle.simplecss.proofs.StatementLemmas.{rules_from, rules_from-some, rules_from-none, rules_from-blank, statement-less, blank-got, blank-open}
 use Rattle.simplecss.proofs.sheet.reading.read_rules.Goals as goal
 

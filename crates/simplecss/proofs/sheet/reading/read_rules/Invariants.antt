@@ -1,7 +1,7 @@
 use Rattle.std.proofs.Common.{◌≡◌, ◌++◌, map, length}
 use Rattle.simplecss_text.specs.ThisEdition.{this_edition}
 use Rattle.simplecss_text.specs.Cursor.{rest_of}
-use Rattle.simplecss.specs.StyleRules.{rule_of}
+use Rattle.simplecss.specs.SeenRules.{rule_of}
 use Rattle.simplecss.proofs.StatementLemmas.{rules_from}
 use Rattle.simplecss.proofs.sheet.reading.read_rules.Given as goal
 

@@ -1,13 +1,13 @@
 use Rattle.std.proofs.Common.{◌∙◌, Some, sym, subst, ap, length, List, ℕ, arith}
 use Rattle.simplecss_text.specs.Reading.{Ends}
 use Rattle.simplecss_text.specs.Cursor.{rest_of}
-use Rattle.simplecss_text.specs.Declarations.{Property, declaration, declarations}
+use Rattle.simplecss_text.specs.Declarations.{StyleDeclaration, declaration, declarations}
 use Rattle.simplecss_text.specs.ThisEdition.{this_edition}
 use Rattle.simplecss_text.specs.Reading.{found}
 use Rattle.simplecss_text.proofs.reading.EndsLaws.{ends-nil, stand-ends}
 use Rattle.simplecss_text.proofs.reading.PlaceLaws.{place-ends}
-use Rattle.simplecss_declaration.specs.Properties.{property_of}
-use Rattle.simplecss_declaration.specs.Coming.{given_texts}
+use Rattle.simplecss_declaration.specs.SeenDeclarations.{declaration_of}
+use Rattle.simplecss_declaration.specs.DeclarationTokenizers.{given_texts}
 use Rattle.simplecss_declaration.proofs.DeclarationLists.{declarations-some, declarations-none, declarations-nil, found-none}
 use Rattle.simplecss_declaration.proofs.tokenizer.DeclarationTokenizerIterator.next.Goals as goal
 
@@ -17,7 +17,7 @@ returns-in-Some-clause-steps c =
     let new = c.consume_declaration.new.s in
     let d = c.in-Some.declaration in
     record {
-      items = declarations-some this_edition (rest_of old) (rest_of new) (property_of d) c.in-Some.ensures.reads;
+      items = declarations-some this_edition (rest_of old) (rest_of new) (declaration_of d) c.in-Some.ensures.reads;
       text = c.consume_declaration.ensures.text;
       reads = ap found c.in-Some.ensures.reads;
       slices = c.in-Some.ensures.stands;
@@ -26,8 +26,8 @@ returns-in-Some-clause-steps c =
 
 pub returns-in-Some-clause-goes : goal.returns-in-Some-clause-goes
 returns-in-Some-clause-goes c =
-    let step = declarations-some this_edition (rest_of c.args.self.now.stream) (rest_of c.consume_declaration.new.s) (property_of c.in-Some.declaration) c.in-Some.ensures.reads in
-    record { on = λ _. (tt, tt, omega (arith, ap (λ (l : List Property). length l) step)); keeps = tt; rests = λ _. tt }
+    let step = declarations-some this_edition (rest_of c.args.self.now.stream) (rest_of c.consume_declaration.new.s) (declaration_of c.in-Some.declaration) c.in-Some.ensures.reads in
+    record { on = λ _. (tt, tt, omega (arith, ap (λ (l : List StyleDeclaration). length l) step)); keeps = tt; rests = λ _. tt }
 
 pub returns-in-None-clause-steps : goal.returns-in-None-clause-steps
 returns-in-None-clause-steps c =

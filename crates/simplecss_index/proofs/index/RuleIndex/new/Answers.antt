@@ -1,7 +1,7 @@
 use Rattle.std.proofs.Common.{map, ap, ◌∙◌, arith}
 use Rattle.std.proofs.lemmas.List.{take_all, length-map}
 use Rattle.simplecss.specs.Keys.{key_of}
-use Rattle.simplecss.specs.KeyValues.{key_value}
+use Rattle.simplecss.specs.SeenKeys.{key_value}
 use Rattle.simplecss_index.proofs.Chaining.{rule_more}
 use Rattle.simplecss_index.proofs.index.RuleIndex.new.Goals as goal
 

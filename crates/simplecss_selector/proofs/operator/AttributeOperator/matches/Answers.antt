@@ -2,7 +2,7 @@ use Rattle.std.proofs.Common.{◌↔◌, false, IsTrue, ap, arith}
 use Rattle.std.proofs.lemmas.Grind.{common_steps}
 use Rattle.std.proofs.lemmas.Bool.{false≢true}
 use Rattle.simplecss_text.specs.Components.Operator.{has_word}
-use Rattle.simplecss_selector.specs.Asked.{operator_of}
+use Rattle.simplecss_selector.specs.SeenOperators.{operator_of}
 use Rattle.simplecss_selector.specs.Operators.{IsAsAsked}
 use Rattle.simplecss_selector.proofs.AskedValues.{asked_by, starts_not, is_as_asked-IsAsAsked}
 use Rattle.simplecss_selector.proofs.operator.AttributeOperator.matches.Goals as goal

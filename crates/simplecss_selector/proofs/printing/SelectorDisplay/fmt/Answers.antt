@@ -4,7 +4,7 @@ use Rattle.std.proofs.lemmas.List.{take_all}
 use Rattle.std.proofs.Output.{has_written_styled_of_eq}
 use Rattle.simplecss_text.specs.Printing.{component_text}
 use Rattle.simplecss_selector.specs.Shapes.{any_component}
-use Rattle.simplecss_text.proofs.printed.Styled.{plain_of_styled, styled_step_at}
+use Rattle.simplecss_text.proofs.printed.StyledWrites.{plain_of_styled, styled_step_at}
 use Rattle.simplecss_selector.proofs.printing.SelectorDisplay.fmt.Goals as goal
 
 pub returns-clause-styled : goal.returns-clause-styled

@@ -1,8 +1,8 @@
 use Rattle.std.proofs.Common.{◌+◌, length, refl, arith}
 use Rattle.std.proofs.lemmas.Bool.{false≢true}
-use Rattle.simplecss_selector.specs.Placements.{longest_run}
+use Rattle.simplecss_selector.specs.Placements.{longest_stretch}
 use Rattle.simplecss_selector.proofs.Greedy.{not_met, tracks_from, alone_reached, placement_of}
-use Rattle.simplecss_selector.proofs.Stretches.{once_le, longest_run-some, run_times-le}
+use Rattle.simplecss_selector.proofs.LongestStretch.{once_le, longest_stretch-some, stretch_times-le}
 use Rattle.simplecss_selector.proofs.selector.Selector.matches_counted.Goals as goal
 
 pub returns-then-not-is_met_at-clause-answer : goal.returns-then-not-is_met_at-clause-answer
@@ -25,10 +25,10 @@ pub returns-then-last-eq0-clause-at_most : goal.returns-then-last-eq0-clause-at_
 returns-then-last-eq0-clause-at_most g c =
     omega (arith, c.is_met_at.ensures.counted, once_le (length c.args.self.now) (g.E.Element.tree.depth (g.E.Element.node c.args.element.now)) (omega arith))
 
-pub returns-then-last-eq0-clause-at_most_by_runs : goal.returns-then-last-eq0-clause-at_most_by_runs
-returns-then-last-eq0-clause-at_most_by_runs g c =
-    omega (arith, c.is_met_at.ensures.counted, once_le (longest_run c.args.self.now) (g.E.Element.tree.depth (g.E.Element.node c.args.element.now)) (longest_run-some c.args.self.now (omega arith)))
+pub returns-then-last-eq0-clause-at_most_by_stretches : goal.returns-then-last-eq0-clause-at_most_by_stretches
+returns-then-last-eq0-clause-at_most_by_stretches g c =
+    omega (arith, c.is_met_at.ensures.counted, once_le (longest_stretch c.args.self.now) (g.E.Element.tree.depth (g.E.Element.node c.args.element.now)) (longest_stretch-some c.args.self.now (omega arith)))
 
 pub returns-clause-at_most : goal.returns-clause-at_most
 returns-clause-at_most g c =
-    omega (arith, c.goes_on.ensures.bounded, c.is_met_at.ensures.counted, run_times-le c.args.self.now (g.E.Element.tree.depth (g.E.Element.node c.args.element.now) + 1))
+    omega (arith, c.goes_on.ensures.bounded, c.is_met_at.ensures.counted, stretch_times-le c.args.self.now (g.E.Element.tree.depth (g.E.Element.node c.args.element.now) + 1))

@@ -1,28 +1,28 @@
 use Rattle.std.proofs.Common.{ℕ, List, ◌∙◌, subst}
 use Rattle.simplecss_text.specs.Errors.{FailsBy}
-use Rattle.simplecss_text.specs.Pieces.{begun}
+use Rattle.simplecss_text.specs.Pieces.{solid_by_byte}
 use Rattle.simplecss_text.specs.ThisEdition.{this_edition}
 use Rattle.simplecss_text.specs.Cursor.{rest_of}
-use Rattle.simplecss_selector.specs.Tokenizer.{source, left_of}
+use Rattle.simplecss_selector.specs.SelectorTokenizers.{whole_text, left_of}
 use Rattle.simplecss_selector.proofs.Firsts.{simple_unless, open_gap-first, open_none-first, open_joint-first, open_token-first, open_fault-first}
 use Rattle.simplecss_selector.proofs.tokenizer.SelectorTokenizer.next_open.Goals as goal
 
 pub returns-in-Err-clause-first : goal.returns-in-Err-clause-first
-returns-in-Err-clause-first c = open_gap-first (source c.args.self.now) (left_of c.args.self.now) (rest_of c.consume_gap.new.s) c.in-Err.error c.in-Err.ensures.reads
+returns-in-Err-clause-first c = open_gap-first (whole_text c.args.self.now) (left_of c.args.self.now) (rest_of c.consume_gap.new.s) c.in-Err.error c.in-Err.ensures.reads
 
 pub returns-in-Stop-clause-first : goal.returns-in-Stop-clause-first
-returns-in-Stop-clause-first c = open_none-first (source c.args.self.now) (left_of c.args.self.now) (rest_of c.consume_gap.new.s) _ c.what_follows-follows.result c.in_default.ensures.reads c.what_follows-follows.ensures c.in-Stop.is
+returns-in-Stop-clause-first c = open_none-first (whole_text c.args.self.now) (left_of c.args.self.now) (rest_of c.consume_gap.new.s) _ c.next_kind-follows.result c.in_default.ensures.reads c.next_kind-follows.ensures c.in-Stop.is
 
 pub returns-in-Child-clause-first : goal.returns-in-Child-clause-first
-returns-in-Child-clause-first c = open_joint-first (source c.args.self.now) (left_of c.args.self.now) (rest_of c.consume_gap.new.s) _ c.what_follows-follows.result c.in_default.ensures.reads c.what_follows-follows.ensures c.in-Child.is
+returns-in-Child-clause-first c = open_joint-first (whole_text c.args.self.now) (left_of c.args.self.now) (rest_of c.consume_gap.new.s) _ c.next_kind-follows.result c.in_default.ensures.reads c.next_kind-follows.ensures c.in-Child.is
 
 pub returns-in-Ok : goal.returns-in-Ok
 returns-in-Ok c =
     let f = c.in_default-follows in
     record {
-      source = c.solid_piece.ensures.text ∙ c.consume_gap.ensures.text;
-      first = open_token-first (source c.args.self.now) (left_of c.args.self.now) (rest_of c.consume_gap.new.s) (rest_of c.solid_piece.new.stream) _ c.what_follows-follows.result c.in-Ok.token c.in_default.ensures.reads c.what_follows-follows.ensures
-          (simple_unless c.what_follows-follows.result f.not-Stop f.not-Slash f.not-Child f.not-Adjacent) c.in-Ok.ensures.reads;
+      whole_text = c.solid_piece.ensures.text ∙ c.consume_gap.ensures.text;
+      first = open_token-first (whole_text c.args.self.now) (left_of c.args.self.now) (rest_of c.consume_gap.new.s) (rest_of c.solid_piece.new.stream) _ c.next_kind-follows.result c.in-Ok.token c.in_default.ensures.reads c.next_kind-follows.ensures
+          (simple_unless c.next_kind-follows.result f.not-Stop f.not-Slash f.not-Child f.not-Adjacent) c.in-Ok.ensures.reads;
     }
 
 pub returns-in-Err-solid_piece : goal.returns-in-Err-solid_piece
@@ -30,10 +30,10 @@ returns-in-Err-solid_piece c =
     let f = c.in_default-follows in
     let start = rest_of c.consume_gap.new.s in
     let after = rest_of c.solid_piece.new.stream in
-    let told : FailsBy (source c.args.self.now) (begun this_edition start) c.in-Err-solid_piece.error after =
-    subst (λ (text : List ℕ). FailsBy text (begun this_edition start) c.in-Err-solid_piece.error after) c.consume_gap.ensures.text c.in-Err-solid_piece.ensures.reads in
+    let told : FailsBy (whole_text c.args.self.now) (solid_by_byte this_edition start) c.in-Err-solid_piece.error after =
+    subst (λ (text : List ℕ). FailsBy text (solid_by_byte this_edition start) c.in-Err-solid_piece.error after) c.consume_gap.ensures.text c.in-Err-solid_piece.ensures.reads in
     record {
-      source = c.solid_piece.ensures.text ∙ c.consume_gap.ensures.text;
-      first = rw c.after_fault-self.ensures (open_fault-first (source c.args.self.now) (left_of c.args.self.now) start after _ c.what_follows-follows.result c.in-Err-solid_piece.error c.in_default.ensures.reads c.what_follows-follows.ensures
-          (simple_unless c.what_follows-follows.result f.not-Stop f.not-Slash f.not-Child f.not-Adjacent) told);
+      whole_text = c.solid_piece.ensures.text ∙ c.consume_gap.ensures.text;
+      first = rw c.after_fault-self.ensures (open_fault-first (whole_text c.args.self.now) (left_of c.args.self.now) start after _ c.next_kind-follows.result c.in-Err-solid_piece.error c.in_default.ensures.reads c.next_kind-follows.ensures
+          (simple_unless c.next_kind-follows.result f.not-Stop f.not-Slash f.not-Child f.not-Adjacent) told);
     }

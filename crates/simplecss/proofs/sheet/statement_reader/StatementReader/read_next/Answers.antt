@@ -4,7 +4,7 @@ use Rattle.simplecss_text.specs.Cursor.{text_of, rest_of}
 use Rattle.simplecss_text.specs.Statements.{statement}
 use Rattle.simplecss_text.specs.ThisEdition.{this_edition}
 use Rattle.simplecss.specs.SheetPlaces.{StandsNext}
-use Rattle.simplecss.specs.StyleRules.{rule_of}
+use Rattle.simplecss.specs.SeenRules.{rule_of}
 use Rattle.simplecss.proofs.StatementPlaces.{stands_next}
 use Rattle.simplecss.proofs.sheet.statement_reader.StatementReader.read_next.Goals as goal
 

@@ -1,13 +1,13 @@
 use Rattle.std.proofs.Common.{◌≡◌, List, ℕ, sym, subst, map, refl, rules, IsUtf8}
 use Rattle.std.specs.List.{AllPass}
 use Rattle.std.proofs.lemmas.List.Elements.{All-map}
-use Rattle.simplecss_text.specs.Statements.{has_property}
+use Rattle.simplecss_text.specs.Statements.{has_declaration}
 use Rattle.simplecss_text.specs.Sheets.{sheet}
 use Rattle.simplecss_text.specs.ThisEdition.{this_edition}
 use Rattle.simplecss_text.specs.PrintingLaws.{IsNarrow, SelectorsReadBack, PrintsBack}
 use Rattle.simplecss_text.proofs.again.KeptSelectors.{sheet-reads_back}
 use Rattle.simplecss_text.proofs.again.SheetsAgain.{sheet-prints_back}
-use Rattle.simplecss.specs.StyleRules.{rules_of}
+use Rattle.simplecss.specs.SeenRules.{rules_of}
 use Rattle.simplecss.proofs.SheetLemmas.{AllPass-sheet}
 use Rattle.simplecss.proofs.sheet.style_sheet.StyleSheet.parse_all.Goals as goal
 
@@ -15,7 +15,7 @@ pub returns-clause-filled : goal.returns-clause-filled
 returns-clause-filled g c =
     let texts : List (List ℕ) = map (λ text. text.now) c.args.texts.now in
     let is : rules_of c.merge.new.rules.items ≡ sheet this_edition texts = search rules in
-    subst (AllPass has_property) (sym is) (AllPass-sheet this_edition texts)
+    subst (AllPass has_declaration) (sym is) (AllPass-sheet this_edition texts)
 
 pub returns-clause-selectors : goal.returns-clause-selectors
 returns-clause-selectors g c =

@@ -2,22 +2,22 @@ use Rattle.std.proofs.Common.{◌≡◌, ◌++◌, ◌∷◌, [], ◌∙◌, ℕ
 use Rattle.std.specs.List.{filter, AllPass}
 use Rattle.std.proofs.lemmas.Result.{on_ok_weaker, on_err_weaker}
 use Rattle.std.proofs.lemmas.List.Elements.{filter-append}
-use Rattle.simplecss_text.specs.Statements.{StyleRule, has_property, kept, statements}
+use Rattle.simplecss_text.specs.Statements.{StyleRule, has_declaration, kept, statements}
 use Rattle.simplecss_text.specs.PrintingLaws.{SelectorsReadBack, PrintsBackAfter}
 use Rattle.simplecss_text.specs.Sheets.{ordered, sheet}
 use Rattle.simplecss_text.specs.ThisEdition.{this_edition}
 use Rattle.simplecss_text.proofs.cutting.CuttingLaws.{goes_on, goes_on-ok}
 use Rattle.simplecss_text.proofs.again.KeptSelectors.{more-reads_back}
 use Rattle.simplecss_text.proofs.again.SheetsAgain.{prints_back-after, prints_back-same}
-use Rattle.simplecss.specs.StyleRules.{rule_of, rules_of}
+use Rattle.simplecss.specs.SeenRules.{rule_of, rules_of}
 use Rattle.simplecss.proofs.SheetLemmas.{AllPass-sheet, sheet_more, sheet_open}
 use Rattle.simplecss.proofs.sheet.style_sheet.StyleSheet.parse_more.Goals as goal
 
 pub returns-in_err-more-clause-filled : goal.returns-in_err-more-clause-filled
-returns-in_err-more-clause-filled g c texts was = subst (AllPass has_property) (sym was) (AllPass-sheet this_edition texts)
+returns-in_err-more-clause-filled g c texts was = subst (AllPass has_declaration) (sym was) (AllPass-sheet this_edition texts)
 
 pub returns-in-None-clause-filled : goal.returns-in-None-clause-filled
-returns-in-None-clause-filled g c texts was = subst (AllPass has_property) (sym was) (AllPass-sheet this_edition texts)
+returns-in-None-clause-filled g c texts was = subst (AllPass has_declaration) (sym was) (AllPass-sheet this_edition texts)
 
 pub returns-in-None-clause-sheet : goal.returns-in-None-clause-sheet
 returns-in-None-clause-sheet g c texts was = was ∙ sym (sheet_open this_edition texts c.args.text.now (search rules))
@@ -28,11 +28,11 @@ merged g c texts was =
     let old = rules_of c.args.self.now.rules.items in
     let text = c.args.text.now in
     let read : map rule_of c.in-Some.more.items ≡ flat_map (λ given. given) (statements this_edition text) = search rules in
-    on_ok_weaker {P = rules_of c.merge.new.rules.items ≡ ordered (filter has_property (old ++ map rule_of c.in-Some.more.items))} {Q = rules_of c.merge.new.rules.items ≡ sheet this_edition (texts ++ text ∷ [])} c.merge.result
+    on_ok_weaker {P = rules_of c.merge.new.rules.items ≡ ordered (filter has_declaration (old ++ map rule_of c.in-Some.more.items))} {Q = rules_of c.merge.new.rules.items ≡ sheet this_edition (texts ++ text ∷ [])} c.merge.result
     (λ ok.
-    ok ∙ ap (λ l. ordered (filter has_property (old ++ l))) read
-    ∙ ap ordered (filter-append has_property old (flat_map (λ given. given) (statements this_edition text)))
-    ∙ ap (λ l. ordered (filter has_property l ++ kept this_edition text)) was ∙ sym (sheet_more this_edition texts text))
+    ok ∙ ap (λ l. ordered (filter has_declaration (old ++ l))) read
+    ∙ ap ordered (filter-append has_declaration old (flat_map (λ given. given) (statements this_edition text)))
+    ∙ ap (λ l. ordered (filter has_declaration l ++ kept this_edition text)) was ∙ sym (sheet_more this_edition texts text))
     c.merge.ensures.ok
 
 pub returns-in-Some-clause-sheet : goal.returns-in-Some-clause-sheet
@@ -46,8 +46,8 @@ either_way (Err e) ok err = err
 pub returns-in-Some-clause-filled : goal.returns-in-Some-clause-filled
 returns-in-Some-clause-filled g c texts was =
     either_way c.merge.result
-    (on_ok_weaker c.merge.result (λ (e : rules_of c.merge.new.rules.items ≡ sheet this_edition (texts ++ c.args.text.now ∷ [])). subst (AllPass has_property) (sym e) (AllPass-sheet this_edition (texts ++ c.args.text.now ∷ []))) (merged g c texts was))
-    (on_err_weaker c.merge.result (λ (e : c.merge.new.rules.items ≡ c.args.self.now.rules.items). subst (AllPass has_property) (sym (ap rules_of e ∙ was)) (AllPass-sheet this_edition texts)) c.merge.ensures.err)
+    (on_ok_weaker c.merge.result (λ (e : rules_of c.merge.new.rules.items ≡ sheet this_edition (texts ++ c.args.text.now ∷ [])). subst (AllPass has_declaration) (sym e) (AllPass-sheet this_edition (texts ++ c.args.text.now ∷ []))) (merged g c texts was))
+    (on_err_weaker c.merge.result (λ (e : c.merge.new.rules.items ≡ c.args.self.now.rules.items). subst (AllPass has_declaration) (sym (ap rules_of e ∙ was)) (AllPass-sheet this_edition texts)) c.merge.ensures.err)
 
 pub returns-in-Some-clause-pieces : goal.returns-in-Some-clause-pieces
 returns-in-Some-clause-pieces g c =
@@ -64,9 +64,9 @@ returns-in-Some-clause-selectors g c back =
     let text = c.args.text.now in
     let read : map rule_of c.in-Some.more.items ≡ flat_map (λ given. given) (statements this_edition text) = search rules in
     either_way c.merge.result
-    (on_ok_weaker c.merge.result (λ (e : rules_of c.merge.new.rules.items ≡ ordered (filter has_property (old ++ map rule_of c.in-Some.more.items))).
-    let is : rules_of c.merge.new.rules.items ≡ ordered (filter has_property old ++ kept this_edition text) =
-    e ∙ ap (λ l. ordered (filter has_property (old ++ l))) read ∙ ap ordered (filter-append has_property old (flat_map (λ given. given) (statements this_edition text))) in
+    (on_ok_weaker c.merge.result (λ (e : rules_of c.merge.new.rules.items ≡ ordered (filter has_declaration (old ++ map rule_of c.in-Some.more.items))).
+    let is : rules_of c.merge.new.rules.items ≡ ordered (filter has_declaration old ++ kept this_edition text) =
+    e ∙ ap (λ l. ordered (filter has_declaration (old ++ l))) read ∙ ap ordered (filter-append has_declaration old (flat_map (λ given. given) (statements this_edition text))) in
     subst (SelectorsReadBack this_edition) (sym is) (more-reads_back this_edition old text back c.utf8.text)) c.merge.ensures.ok)
     (on_err_weaker c.merge.result (λ (e : c.merge.new.rules.items ≡ c.args.self.now.rules.items). subst (SelectorsReadBack this_edition) (sym (ap rules_of e)) back) c.merge.ensures.err)
 

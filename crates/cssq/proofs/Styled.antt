@@ -1,2 +1,0 @@
--- Writes that follow one another, whatever the formatter's options: the lemmas of the crates below.
-pub use Rattle.simplecss.proofs.Styled.{plain_of_styled, styled_four}

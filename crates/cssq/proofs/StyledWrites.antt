@@ -1,0 +1,2 @@
+-- Writes that follow one another, whatever the formatter's options: the lemmas of the crates below.
+pub use Rattle.simplecss.proofs.StyledWrites.{plain_of_styled, styled_four}

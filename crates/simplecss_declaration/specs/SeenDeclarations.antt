@@ -1,0 +1,11 @@
+-- What contracts see of declarations: the bytes of their texts, wherever they lie.
+use Rattle.std.specs.Prelude.{List, map}
+use Rattle.simplecss_text.specs.Declarations.{StyleDeclaration}
+use Rattle.simplecss_declaration.specs.declared.declarations.Declaration.{Declaration}
+
+abbrev pub declaration_of : Declaration → StyleDeclaration
+declaration_of d = record { name = d.name.now; value = d.value.now; important = d.important }
+
+-- what each declaration of a list says, in turn
+abbrev pub declarations_of : List Declaration → List StyleDeclaration
+declarations_of declarations = map declaration_of declarations

@@ -1,0 +1,34 @@
+-- Single steps of the search for a placement.
+use Rattle.simplecss_selector.specs.declared.matching.Fit.{Fit}
+use Rattle.simplecss_selector.specs.declared.matching.Fit.TheVariants.{Misfit, Alone, Whole, Rest}
+use Rattle.std.proofs.Common.{◌≡◌, ℕ, ◌+◌, arith, Option, Some, None, ap, sym, ◌∙◌, Bor}
+use Rattle.std.specs.Option.{option_copied, unwrap_or, option_map_or}
+use Rattle.simplecss_text.specs.Components.{Combinator as Seen}
+use Rattle.std.proofs.Common.{IsTrue}
+use Rattle.std.proofs.lemmas.Bool.{false≢true}
+use Rattle.simplecss_selector.specs.Placements.{is_step}
+use Rattle.simplecss_selector.specs.Trees.{Tree}
+use Rattle.simplecss_selector.specs.StretchFits.{TestsPlaced}
+use Rattle.simplecss_selector.specs.PlacementSearch.{step_from}
+use Rattle.simplecss_text.specs.Components.Combinator.{descendant}
+
+taken : {T Node : Type 0} (node : T → Node) (r : Option (Bor T)) (top : Option T) (low : Bor T) → option_copied r ≡ top → node (unwrap_or r low).now ≡ option_map_or node top (node low.now)
+taken node None top low e = ap (λ (o : Option _). option_map_or node o (node low.now)) e
+taken node (Some x) top low e = ap (λ (o : Option _). option_map_or node o (node low.now)) e
+
+-- the node that is borrowed is the top, or the lowest where there is no top yet
+pub borrowed : {T Node : Type 0} (node : T → Node) (r : Option (Bor T)) (top : Option T) (low b : Bor T) → option_copied r ≡ top → b ≡ unwrap_or r low → node b.now ≡ option_map_or node top (node low.now)
+borrowed node r top low b e f = ap (λ (x : Bor _). node x.now) f ∙ taken node r top low e
+
+pub step_at : {Node : Type 0} (tree : Tree Node) (c d : Seen) (x u : Node) (o : Option Node) → c ≡ d → x ≡ u → o ≡ step_from tree c x → step_from tree d u ≡ o
+step_at tree c d x u o e f s = cc
+
+pub step_not : (c : Seen) → IsTrue (is_step c) → c ≡ descendant → ⊥
+step_not c s e = false≢true (ap is_step (sym e) ∙ s)
+
+-- the tests, with one made before
+pub tests_before : {E : Type 0} (first last before begun after : ℕ) (fit : Fit E) → begun ≡ before + 1 → TestsPlaced first last begun (after + 1) fit → TestsPlaced first last before after fit
+tests_before first last before begun after Misfit e h = tt
+tests_before first last before begun after Alone e h = tt
+tests_before first last before begun after Whole e h = omega arith
+tests_before first last before begun after (Rest node) e h = omega arith

@@ -1,0 +1,59 @@
+-- A selector that is being made, one component after the other.
+use Rattle.std.specs.Prelude.{ℕ, List, [], ◌∷◌, ◌++◌, Option, None, Some}
+use Rattle.simplecss_text.specs.Components.{Subselector, Combinator, Component}
+use Rattle.simplecss_text.specs.Components.Combinator.{none}
+use Rattle.simplecss_text.specs.Selectors.{Role, Outcome}
+use Rattle.simplecss_text.specs.Selectors.Role.{any_type, of_type, with, joint, unknown}
+use Rattle.simplecss_text.specs.Selectors.Outcome.{refused, accepted}
+
+-- the components that are done, and the one that is being filled
+pub record Drafted : Type 0 where
+  pub done : List Component
+  pub last : Component
+
+-- any type, and nothing else asked
+abbrev pub bare : Combinator → Component
+bare combinator = record { combinator = combinator; compound = record { name = None; subselectors = [] } }
+
+-- the component with a type name
+abbrev pub component_named : List ℕ → Component → Component
+component_named name c = record { combinator = c.combinator; compound = record { name = Some name; subselectors = c.compound.subselectors } }
+
+-- the component with one more subselector
+abbrev pub narrowed : Subselector → Component → Component
+narrowed subselector c = record { combinator = c.combinator; compound = record { name = c.compound.name; subselectors = c.compound.subselectors ++ subselector ∷ [] } }
+
+abbrev pub empty_draft : Drafted
+empty_draft = record { done = []; last = bare none }
+
+abbrev pub with_name : List ℕ → Drafted → Drafted
+with_name name d = record { done = d.done; last = component_named name d.last }
+
+abbrev pub with_subselector : Subselector → Drafted → Drafted
+with_subselector subselector d = record { done = d.done; last = narrowed subselector d.last }
+
+-- the last component is done, and the next one is joined to it
+abbrev pub joined : Combinator → Drafted → Drafted
+joined combinator d = record { done = d.done ++ d.last ∷ []; last = bare combinator }
+
+abbrev pub finished : Drafted → List Component
+finished d = d.done ++ d.last ∷ []
+
+-- what a role does to the draft
+abbrev pub drafted_after : Role → Drafted → Drafted
+drafted_after any_type d = d
+drafted_after (of_type name) d = with_name name d
+drafted_after (with subselector) d = with_subselector subselector d
+drafted_after (joint combinator) d = joined combinator d
+drafted_after unknown d = d
+
+-- the components of the draft and of the roles that follow
+abbrev pub continued : Drafted → List Role → List Component
+continued d [] = finished d
+continued d (role ∷ roles) = continued (drafted_after role d) roles
+
+-- the selector of the draft and of what is still to be read, or none, and what is left where
+-- reading ends
+abbrev pub selector_after : Drafted → Outcome → Option (List Component) × List ℕ
+selector_after d (refused left) = (None, left)
+selector_after d (accepted roles left) = (Some (continued d roles), left)

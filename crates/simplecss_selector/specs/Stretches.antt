@@ -1,0 +1,38 @@
+-- The stretches of child and adjacent steps that a selector is cut into.
+use Rattle.std.specs.Prelude.{◌≡◌, ℕ, ◌<◌, ◌≤◌, ◌↔◌, List, [], ◌∷◌, ◌++◌, ◌⊎◌, Some, None, length}
+use Rattle.std.specs.List.{Contains, last_or}
+use Rattle.std.specs.List.Sorted.{IsStrictlyIncreasing}
+use Rattle.simplecss_text.specs.Components.{Component, Combinator}
+use Rattle.simplecss_text.specs.Components.Combinator.{none, descendant, child, adjacent}
+use Rattle.simplecss_selector.specs.Shapes.{component_at}
+
+-- a component begins a stretch exactly if it is the first or its combinator is descendant
+abbrev pub BeginsStretch : List Component → ℕ → Type 0
+BeginsStretch cs k = (k ≡ 0) ⊎ ((component_at cs k).combinator ≡ descendant)
+
+-- The components from `first` to `last` are in one stretch, which the first of them begins.
+pub record IsStretch (cs : List Component) (first last : ℕ) : Type 0 where
+  pub ordered : first ≤ last
+  pub within : last < length cs
+  pub begun : BeginsStretch cs first
+  pub unbroken : (k : ℕ) → first < k → k ≤ last → BeginsStretch cs k → ⊥
+
+-- For each stretch, in order, the number of components up to its end: these ends rise strictly from 0
+-- on, the last is the number of components, and a component begins a stretch exactly if it is the first
+-- or stands where a stretch ends.
+pub record AreStretchEnds (cs : List Component) (ends : List ℕ) : Type 0 where
+  pub rising : IsStrictlyIncreasing (0 ∷ ends)
+  pub whole : last_or None ends ≡ Some (length cs)
+  pub begins : (k : ℕ) → k < length cs → BeginsStretch cs k ↔ Contains (0 ∷ ends) k
+
+-- the ends of all stretches, where those before the last stretch are kept, and the last stretch ends with the
+-- components
+abbrev pub all_stretch_ends : List Component → List ℕ → List ℕ
+all_stretch_ends cs kept = kept ++ length cs ∷ []
+
+-- the ends that are kept, once one more component is joined to the first n
+abbrev pub kept_ends_after : Combinator → ℕ → List ℕ → List ℕ
+kept_ends_after none n kept = kept
+kept_ends_after descendant n kept = kept ++ n ∷ []
+kept_ends_after child n kept = kept
+kept_ends_after adjacent n kept = kept

@@ -1,2 +1,0 @@
--- What is written whatever the formatter's options: the lemma of the crates below.
-pub use Rattle.simplecss.proofs.Styled.{plain_of_styled}
