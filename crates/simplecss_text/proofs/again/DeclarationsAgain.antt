@@ -191,7 +191,7 @@ value-no_gap edition v q tail w quiet = by v w.first closed
         part_is s t e f = rw (e, f) refl
 
 -- what a value is read as, and what stands behind it
-pub record StatedAgain (edition : Edition) (v : List ℕ) (important : Bool) (text behind : List ℕ) : Type 0 where
+record StatedAgain (edition : Edition) (v : List ℕ) (important : Bool) (text behind : List ℕ) : Type 0 where
   pub left : List ℕ
   pub calm : NoGap (v ++ (important_text important ++ (59 ∷ text)))
   pub stated : value edition (v ++ (important_text important ++ (59 ∷ text))) ≡ (v, left)

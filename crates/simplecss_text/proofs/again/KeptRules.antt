@@ -38,13 +38,13 @@ pub record IsRule (edition : Edition) (R : StyleDeclaration → Type 0) (rule : 
   pub declarations : AllByRecursion R rule.declarations
 
 -- a rule that has a declaration
-abbrev pub IfKept : Edition → (StyleDeclaration → Type 0) → StyleRule → Type 0
+abbrev IfKept : Edition → (StyleDeclaration → Type 0) → StyleRule → Type 0
 IfKept edition R rule = has_declaration rule ≡ true → IsRule edition R rule
 
 -- selectors
 
 -- a selector that a block can stand behind
-abbrev pub IsBeforeBlock : Edition → List Component → Type 0
+abbrev IsBeforeBlock : Edition → List Component → Type 0
 IsBeforeBlock edition s = IsSelector edition s (123 ∷ [])
 
 -- a part behind which more text stands

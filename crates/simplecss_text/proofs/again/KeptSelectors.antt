@@ -21,7 +21,7 @@ texts-known edition = record {
 }
 
 -- a selector that reads back, and ends in no lone hyphen
-abbrev pub ReadsBackAsKept : Edition → StyleRule → Type 0
+abbrev ReadsBackAsKept : Edition → StyleRule → Type 0
 ReadsBackAsKept edition rule = SelectorReadsBack edition rule.components × (ends_in_hyphen rule.components ≡ false)
 
 kept-both : (edition : Edition) (R : StyleDeclaration → Type 0) (rules : List StyleRule) → AllByRecursion (IsKept edition R) rules → AllByRecursion (ReadsBackAsKept edition) rules

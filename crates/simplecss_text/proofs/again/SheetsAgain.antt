@@ -26,7 +26,7 @@ narrow-known : (edition : Edition) → Known edition IsNarrow (IsDeclaration edi
 narrow-known edition = record { is_text = λ text n. n.0; of_end = narrow-end; declares = declaration-is edition }
 
 -- rules that read back
-abbrev pub Printable : Edition → StyleRule → Type 0
+abbrev Printable : Edition → StyleRule → Type 0
 Printable edition rule = IsKept edition (IsDeclaration edition) rule × (is_clean rule.components ≡ true)
 
 all-printable : (edition : Edition) (rules : List StyleRule) → AllByRecursion (IsKept edition (IsDeclaration edition)) rules → are_clean rules ≡ true → AllByRecursion (Printable edition) rules

@@ -27,7 +27,7 @@ abbrev pub is_bare : ℕ → Bool
 is_bare b = not ((nat_lt 8 b && nat_lt b 14) || b == 32)
 
 -- Nothing was passed, or what was passed ends with such a byte.
-pub data EndsBare (text rest : List ℕ) : Type 0 where
+data EndsBare (text rest : List ℕ) : Type 0 where
   nothing : text ≡ rest → EndsBare text rest
   some : (passed : List ℕ) (b : ℕ) → text ≡ passed ++ (b ∷ rest) → is_bare b ≡ true → EndsBare text rest
 

@@ -19,16 +19,16 @@ use Rattle.simplecss_text.proofs.cutting.AtRuleCuts.{nothing_in_front}
 use Rattle.simplecss_text.proofs.cutting.StatementCuts.{EndsWell, next_statement-cut, next_statement-well, well-then}
 
 -- a piece of the text ends where rest is left, or the text begins there
-pub data Reaches {X : Type 0} (read : List ℕ → Option (X × List ℕ)) (rest : List ℕ) : List ℕ → Type 0 where
+data Reaches {X : Type 0} (read : List ℕ → Option (X × List ℕ)) (rest : List ℕ) : List ℕ → Type 0 where
   at_rest : Reaches read rest rest
   behind : (text next : List ℕ) (x : X) → read text ≡ Some (x, next) → Reaches read rest next → Reaches read rest text
 
 -- What stands behind the end of what is read makes no difference.
-abbrev pub Local : {X : Type 0} → (List ℕ → Option (X × List ℕ)) → Type 0
+abbrev Local : {X : Type 0} → (List ℕ → Option (X × List ℕ)) → Type 0
 Local {X = X} read = (u v w : List ℕ) (x : X) → IsUtf8 (u ++ v) → IsUtf8 v → read (u ++ v) ≡ Some (x, w ++ v) → read u ≡ Some (x, w)
 
 -- each reading leaves an end of the text that is UTF-8 if the text is
-abbrev pub LeavesWell : {X : Type 0} → (List ℕ → Option (X × List ℕ)) → Type 0
+abbrev LeavesWell : {X : Type 0} → (List ℕ → Option (X × List ℕ)) → Type 0
 LeavesWell {X = X} read = (text rest : List ℕ) (x : X) → read text ≡ Some (x, rest) → EndsWell text rest
 
 reaches-well : {X : Type 0} (read : List ℕ → Option (X × List ℕ)) → LeavesWell read → (rest text : List ℕ) → Reaches read rest text → EndsWell text rest

@@ -9,16 +9,16 @@ use Rattle.simplecss_text.specs.Names.{begins_name, past_name_chars, name}
 use Rattle.simplecss_text.proofs.cutting.GuardLaws.{Along, at, on, To, Guard, Guarded, Equal, guard-fails, guard-if, past_byte-along, before-along, longer-along}
 
 -- no name has this character
-abbrev pub Outside : Edition → ℕ → Type 0
+abbrev Outside : Edition → ℕ → Type 0
 Outside edition c = (is_name_start edition c ≡ false) × (is_name_char edition c ≡ false) × ((c == 45) ≡ false)
 
 -- Two lists with the same front, and then the same character that no name has.
-pub data Heads (edition : Edition) : List ℕ → List ℕ → Type 0 where
+data Heads (edition : Edition) : List ℕ → List ℕ → Type 0 where
   meet : (c : ℕ) (xs ys : List ℕ) → Outside edition c → Heads edition (c ∷ xs) (c ∷ ys)
   next : (c : ℕ) (xs ys : List ℕ) → Heads edition xs ys → Heads edition (c ∷ xs) (c ∷ ys)
 
 -- an ASCII byte that no name has
-pub record Ends_names (edition : Edition) (g : ℕ) : Type 0 where
+record Ends_names (edition : Edition) (g : ℕ) : Type 0 where
   pub alone : continuation_len g ≡ 0
   pub bits : lead_bits g ≡ g
   pub outside : Outside edition g

@@ -7,17 +7,17 @@ use lib.Utf8.{encode}
 use Rattle.simplecss_text.proofs.cutting.GuardLaws.{Along, Room, at, on}
 
 -- the next n bytes stand there, and are past ASCII
-abbrev pub Wide : ℕ → List ℕ → Type 0
+abbrev Wide : ℕ → List ℕ → Type 0
 Wide zero text = Unit {0}
 Wide (suc n) [] = ⊥
 Wide (suc n) (b ∷ text) = (128 ≤ b) × Wide n text
 
 -- a byte in the middle of a character
-abbrev pub Inner : ℕ → Type 0
+abbrev Inner : ℕ → Type 0
 Inner b = (continuation_len b ≡ 1) × (lead_bits b ≡ 0)
 
 -- each byte is one in the middle of a character, or the character that it begins stands there whole
-abbrev pub Covered : List ℕ → Type 0
+abbrev Covered : List ℕ → Type 0
 Covered [] = Unit {0}
 Covered (b ∷ text) = (Wide (continuation_len b) text ⊎ Inner b) × Covered text
 

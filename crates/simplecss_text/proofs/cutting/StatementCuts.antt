@@ -25,7 +25,7 @@ use Rattle.simplecss_text.proofs.cutting.RoomLaws.{along-from}
 -- ---- how a blank and a statement end
 
 -- How a statement ends behind a blank: the text is used up, or it is a rule set that ends behind a brace, or an at-rule.
-pub data NextEnds (edition : Edition) (text : List ℕ) (rules : List StyleRule) (rest : List ℕ) : Type 0 where
+data NextEnds (edition : Edition) (text : List ℕ) (rules : List StyleRule) (rest : List ℕ) : Type 0 where
   text_ends : rest ≡ [] → NextEnds edition text rules rest
   rules_end : starts 64 text ≡ false → rule_set edition text ≡ (rules, rest) → Ends text (125 ∷ rest) → NextEnds edition text rules rest
   at_rule_ends : (after : List ℕ) → text ≡ 64 ∷ after → rules ≡ [] → AtRuleEnds edition after rest → NextEnds edition text rules rest

@@ -42,7 +42,7 @@ from_quote-clean previous (b ∷ v) tail c l = by (b == 39) (previous == 92) ref
     by false p eq ep h more = rw eq (more h)
 
 -- where an apostrophe stands behind no backslash, the string ends there
-pub record CutShort (previous : ℕ) (v tail : List ℕ) : Type 0 where
+record CutShort (previous : ℕ) (v tail : List ℕ) : Type 0 where
   pub front : List ℕ
   pub more : List ℕ
   pub is : v ≡ front ++ (39 ∷ more)

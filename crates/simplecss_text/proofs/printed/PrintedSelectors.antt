@@ -113,11 +113,11 @@ pub record IsCompound (edition : Edition) (c : Compound) (behind : List ℕ) : T
   pub others : EachIs edition c.subselectors
 
 -- the roles of a compound
-abbrev pub compound_roles : Compound → List Role
+abbrev compound_roles : Compound → List Role
 compound_roles c = head_role c.name ∷ map with c.subselectors
 
 -- the roles of a component
-abbrev pub component_roles : Component → List Role
+abbrev component_roles : Component → List Role
 component_roles c = joint c.combinator ∷ compound_roles c.compound
 
 -- the printed text of a compound
@@ -255,7 +255,7 @@ cut-compound c roles = by c.name
     by (Some n) = ap (λ (r : List Role × List (Combinator × List Role)). (of_type n ∷ r.0, r.1)) (cut-subselectors c.subselectors roles)
 
 -- a component as it is cut out of the roles
-abbrev pub cut_component : Component → Combinator × List Role
+abbrev cut_component : Component → Combinator × List Role
 cut_component c = (c.combinator, compound_roles c.compound)
 
 cut-components : (cs : List Component) → cut (flat_map component_roles cs) ≡ ([], map cut_component cs)

@@ -40,7 +40,7 @@ equated-cut : (edition : Edition) (operator : List ℕ → Operator) (v front mo
 equated-cut edition operator v front more tail e = rw (quoted v tail, e) refl
 
 -- an operator that is not clean reads as another one
-pub record OtherOperator (edition : Edition) (o : Operator) (tail : List ℕ) : Type 0 where
+record OtherOperator (edition : Edition) (o : Operator) (tail : List ℕ) : Type 0 where
   pub other : Operator
   pub rest : List ℕ
   pub differs : other ≡ o → ⊥
@@ -68,7 +68,7 @@ attribute-cut edition n o tail w x =
     rw (first, second) refl
 
 -- The outcome behind a simple piece gives other subselectors or other components than these, or none.
-abbrev pub Differs : Outcome → List Subselector → List Component → Type 0
+abbrev Differs : Outcome → List Subselector → List Component → Type 0
 Differs (refused left) ss cs = Unit {0}
 Differs (accepted roles left) ss cs = subselectors_among (cut roles).0 ≡ ss → map component_of (cut roles).1 ≡ cs → ⊥
 
@@ -155,7 +155,7 @@ subselectors-differ edition (s ∷ ss) tail cs w e h =
     by true c k more = clean-differs edition s ss (flat_map subselector_text ss ++ tail) cs w.0 c (subselectors-end edition ss tail e) (more k)
 
 -- a printed head and what stands behind it
-abbrev pub head_text : Option (List ℕ) → List ℕ → List ℕ
+abbrev head_text : Option (List ℕ) → List ℕ → List ℕ
 head_text o tail = type_text o ++ tail
 
 head-outcome : (edition : Edition) (o : Option (List ℕ)) (text tail : List ℕ) (spaced : Bool) → IsTypeName edition o tail → gap text ≡ got spaced (head_text o tail) → ends_names edition tail ≡ false → outcome (sequence_from edition open_side text) ≡ with_role (head_role o) (outcome (sequence_from edition closed_side tail))

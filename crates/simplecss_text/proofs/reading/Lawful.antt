@@ -15,14 +15,17 @@ use Rattle.simplecss_text.proofs.cutting.NameGuards.{name-guarded}
 use Rattle.simplecss_text.proofs.cutting.SearchLaws.{blank-guarded, quote_no_brace, string_after-guarded}
 use Rattle.simplecss_text.proofs.editions.EditionLaws.{Shared, name-editions, shared-ends}
 
--- What a reading of the text r owes, in either edition: what it leaves is an end of r; both editions come to the same where r has
--- ASCII bytes alone and no slash; and it is guarded by a closing brace, where b is the reading of another text s.
+-- What a reading of the text r owes, in either edition.
+-- `ends`: what it leaves is an end of r.
+-- `same`: where r has ASCII bytes alone and no slash, both editions come to the same.
+-- `guard`: where another text s is alike up to a closing brace, and b reads s, the brace was passed or both come to the same.
 pub record Owes {A : Type 0} (r s : List ℕ) (a b : Edition → Reading A) : Type 0 where
   pub ends : (edition : Edition) → Ends r (left_after (a edition))
   pub same : Shared r → a first_edition ≡ a second_edition
   pub guard : (edition : Edition) (u v : List ℕ) → Along 125 (u ++ v) u r s → Guard Equal 125 (u ++ v) u (a edition) (b edition)
 
--- A reader owes it in every text. Where it knows a place of the text, n knows that of the other text; else n is m.
+-- A reader owes it in every text. In the other text n reads, which is m, unless m knows a place of its text: then n knows a place
+-- of the other.
 abbrev pub Lawful : {A : Type 0} → (Edition → Reader A) → (Edition → Reader A) → Type 0
 Lawful m n = (r s : List ℕ) → Owes r s (λ edition. m edition r) (λ edition. n edition s)
 
@@ -76,7 +79,6 @@ owes-past {r = r} {s = s} {a = a} {b = b} c p = record {
     by edition u v (inl l) = inl (omega (arith, length-ends r (left_after (a edition)) (p.ends edition)))
     by edition u v (inr h) = p.guard edition u v h
 
--- so what is left is never longer
 keeps-ends : {A : Type 0} (text : List ℕ) (r : Reading A) → Ends text (left_after r) → Keeps text r
 keeps-ends text (got x rest) h = length-ends text rest h
 keeps-ends text (fails f rest) h = length-ends text rest h
@@ -117,13 +119,15 @@ lawful-cases m n none some r s = record { ends = λ edition. ended edition r; sa
 
 -- ---- what comes of it
 
+-- what is left is no more than the text
 pub lawful-keeps : {A : Type 0} (m n : Edition → Reader A) → Lawful m n → (edition : Edition) (text : List ℕ) → Keeps text (m edition text)
 lawful-keeps m n p edition text = keeps-ends text (m edition text) ((p text text).ends edition)
 
--- behind a byte that was passed it is less
+-- and behind a byte that was passed it is less
 pub owes-cuts : {A : Type 0} {r s : List ℕ} {a b : Edition → Reading A} (c : ℕ) → Owes r s a b → (edition : Edition) → Cuts (c ∷ r) (a edition)
 owes-cuts {r = r} {a = a} c p edition = keeps-cuts r (c ∷ r) (a edition) (omega arith) (keeps-ends r (a edition) (p.ends edition))
 
+-- it is an end of the text
 pub lawful-stands : {A : Type 0} (m n : Edition → Reader A) → Lawful m n → (edition : Edition) (text : List ℕ) → Stands text no_texts (m edition text)
 lawful-stands {A = A} m n p edition text = by (m edition text) ((p text text).ends edition)
   where

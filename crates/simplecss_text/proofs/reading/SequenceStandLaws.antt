@@ -175,7 +175,7 @@ piece-stands {texts = texts} sees edition whole text good e = by (gap text) (gap
     by (fails fault rest) h = h.at
 
 -- pieces, each behind the one before, and what is left behind the last
-abbrev pub PiecesStand : (Token → List (List ℕ)) → List ℕ → List Piece × List ℕ → Type 0
+abbrev PiecesStand : (Token → List (List ℕ)) → List ℕ → List Piece × List ℕ → Type 0
 PiecesStand texts text ([], left) = Ends text left
 PiecesStand texts text (p ∷ ps, left) = Ends text p.start × StandBetween p.start p.after (texts p.token) × PiecesStand texts p.after (ps, left)
 
