@@ -28,7 +28,8 @@ module _ {P : ℕ → Type 0} {number : ℕ} {places : List ℕ} (are : AreThePl
   rising : (i j : ℕ) → i < j → j < length places → get_or places i 0 < get_or places j 0
   rising i j less within = AllPairs-from_increasing places are.ascending i j 0 less within
 
-  -- the place of number j, or the number of all where there is no further one, is at most that number
+  -- the place of number j, or the number of all where there is no further one, is at most that
+  -- number
   pub next_within : (j : ℕ) → get_or places j number ≤ number
   next_within j = elim (before_or_from (length places) j) [
     | inl less ↦ (let same = get_or_default places j number 0 less in let below = (wanted_at j less).0 in omega (arith, same, below))
@@ -53,7 +54,8 @@ module _ {P : ℕ → Type 0} {number : ℕ} {places : List ℕ} (are : AreThePl
     | inr more ↦ (let here = get_or_default places j number 0 (omega (arith, more, within)) in let there = get_or_default places i k 0 within in let up = rising j i (omega (arith, more)) within in omega (arith, here, there, is, to, up))
   ]
 
-  -- none that is wanted stands between two places that follow one another, nor before the first, nor behind the last
+  -- none that is wanted stands between two places that follow one another, nor before the first,
+  -- nor behind the last
   pub none_between : (j k : ℕ) → j ≤ length places → behind places j ≤ k → k < get_or places j number → P k → ⊥
   none_between j k le from to wanted =
       let below = next_within j in

@@ -70,8 +70,8 @@ pub record Placed : Type 0 where
 abbrev pub IsEarlier : ℕ → ℕ → ℕ → ℕ → Type 0
 IsEarlier i k j l = (i < j) ⊎ ((i ≡ j) × (k < l))
 
--- The declarations are all that stand somewhere, once for each place at which one does, in the order
--- of their places.
+-- The declarations are all that stand somewhere, once for each place at which one does, in the
+-- order of their places.
 pub record ListsInOrder (stands : Standing) (declarations : List StyleDeclaration) : Type 0 where
   pub placed : List Placed
   pub are : map (λ a. a.declaration) placed ≡ declarations

@@ -36,7 +36,8 @@ same_test a b c d there back = by (a == b) (c == d) refl refl
     by true false e f = sym (eq-eqb c d (there (eqb-true a b e))) ∙ f
     by false true e f = sym e ∙ eq-eqb a b (back (eqb-true c d f))
 
--- No block ends before the place that the text begins in, and so many of those that begin before it are open there.
+-- No block ends before the place that the text begins in, and so many of those that begin before it
+-- are open there.
 pub record IsInside (text : List ℕ) (place depth : ℕ) : Type 0 where
   pub counts : depth + count_of 125 (take place text) ≡ count_of 123 (take place text)
   pub none : (k : ℕ) → k < place → closes_block text k ≡ false

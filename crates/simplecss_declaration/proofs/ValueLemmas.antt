@@ -57,7 +57,8 @@ before-range text rest = ap (λ n. take n text) (omega arith)
 pub trimmed : (text rest ranged result : List ℕ) → ranged ≡ slice_range text 0 (length text - length rest) → result ≡ trim ranged → result ≡ trim (before text rest)
 trimmed text rest ranged result r t = t ∙ ap (λ (v : List ℕ). trim v) (r ∙ before-range text rest)
 
--- A declaration's name and value stand in order, where each of its parts was read from what the one before left.
+-- A declaration's name and value stand in order, where each of its parts was read from what the one
+-- before left.
 pub declaration-slices : (edition : Edition) (text a b n c d start g h v : List ℕ) (important : Bool) → blank text ≡ got tt a → b ≡ past_byte 42 a → name edition b ≡ got n c → blank c ≡ got tt d → byte 58 d ≡ got tt start
     → (e : List ℕ) → blank start ≡ got tt e → StandBetween e g (v ∷ []) → trailing g ≡ got important h → StandBetween text h (n ∷ v ∷ [])
 declaration-slices edition text a b n c d start g h v important e1 e2 e3 e4 e5 e e6 e7 e8 =

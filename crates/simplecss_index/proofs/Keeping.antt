@@ -28,7 +28,8 @@ increasing_push places place up below k h = at (order (k + 2) (length places))
         let s : get_or (places ++ place ∷ []) (k + 1) 0 ≡ place = subst (λ n. get_or (places ++ place ∷ []) n 0 ≡ place) e (get_or-append_seam places place [] 0) in
         rw (get_or_append_left places (place ∷ []) 0 k a, s) (below (get_or places k 0) (Contains-get_or places k 0 a))
 
--- of the first i of the places those that are as wanted were kept, at the front, and the others still stand there
+-- of the first i of the places those that are as wanted were kept, at the front, and the others
+-- still stand there
 pub record Keeps (IsWanted : ℕ → Type 0) (places now : List ℕ) (kept i : ℕ) : Type 0 where
   pub few : kept ≤ i
   pub ascending : IsStrictlyIncreasing (take kept now)

@@ -61,7 +61,8 @@ within_above tree (above e q) a h = is_further e (within_above tree q a h)
 pub sibling_parent : {Node : Type 0} (tree : Tree Node) → SiblingsShareParent tree → {s n : Node} → tree.previous_sibling n ≡ Some s → tree.parent s ≡ tree.parent n
 sibling_parent tree shared {s} {n} e = let h = shared n in rw e at h
 
--- one child or adjacent step from each of two nodes keeps the ancestors of the one within those of the other
+-- one child or adjacent step from each of two nodes keeps the ancestors of the one within those of
+-- the other
 pub within_step : {Node : Type 0} (tree : Tree Node) → SiblingsShareParent tree → (c : Combinator) {m n m' n' : Node} → IsTrue (is_step c) → IsWithin tree m n → Relates tree c m' m → Relates tree c n' n → IsWithin tree m' n'
 within_step tree shared none s w r r' a h = absurd r
 within_step tree shared descendant s w r r' a h = absurd (false≢true s)

@@ -35,7 +35,8 @@ module _ {Node : Type 0} (tree : Tree Node) (cs : List Component) where
   pub placement_is : (n : Node) → HasPlacement tree cs n ↔ Reaches tree (first_of cs (length cs)) n
   placement_is n = rw (take-length) (reaches_from tree cs n, placement_from tree cs n)
 
-  -- the components before `p`, tried with the last of them on `u`, stand for those before `left` on `n`
+  -- the components before `p`, tried with the last of them on `u`, stand for those before `left` on
+  -- `n`
   pub record Tracks (left p : ℕ) (n u : Node) : Type 0 where
     pub onward : Reaches tree (first_of cs left) n → Reaches tree (first_of cs p) u
     pub back : Reaches tree (first_of cs p) u → Reaches tree (first_of cs left) n
@@ -92,7 +93,8 @@ module _ {Node : Type 0} (tree : Tree Node) (cs : List Component) where
             (met, (h.0, subst (λ (c : Combinator). Relates tree c h.0 u) (sym e) (ancestor_from tree parent h.1), h.2)));
       }
 
-  -- where the stretch does not fit, the components can be placed at or above the node if they can be above it
+  -- where the stretch does not fit, the components can be placed at or above the node if they can
+  -- be above it
   pub misfit_up : (left : ℕ) (n p : Node) → tree.parent n ≡ Some p → (Reaches tree (first_of cs left) n → ⊥) → CanPlace tree (first_of cs left) n ↔ CanPlace tree (first_of cs left) p
   misfit_up left n p e fails =
       (λ h. up h.0 h.1 h.2, λ h. (h.0, above e h.1, h.2))

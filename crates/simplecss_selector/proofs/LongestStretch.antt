@@ -30,8 +30,8 @@ longest_stretch-bound (c ∷ cs) (suc p) (suc l) h w j =
     let b : l ≤ p + longest_stretch cs = longest_stretch-bound cs p l (omega arith) (omega arith) (λ k a b. j (suc k) (omega arith) (omega arith)) in
     omega arith
 
--- A stretch that was gone up from the place `last` to `place`, with one test at each, took no more tests than the longest
--- has components.
+-- A stretch that was gone up from the place `last` to `place`, with one test at each, took no more
+-- tests than the longest has components.
 pub stretch_tests-bound : (cs : List Component) (place last before after : ℕ) → place ≤ last → last < length cs → AreJoined cs (place + 1) (last + 1) → after + place ≡ before + last → after + 1 ≤ before + longest_stretch cs
 stretch_tests-bound cs place last before after h w j counted =
     omega (arith, counted, longest_stretch-bound cs place (last + 1) (omega (arith, h)) (omega (arith, w)) j)

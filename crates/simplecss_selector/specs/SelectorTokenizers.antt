@@ -39,8 +39,8 @@ sequence_in Ended text = sequence_end text
 abbrev pub still_to_come : SelectorTokenizer → TokenSequence
 still_to_come t = sequence_in t.stage (left_of t)
 
--- A call on a text gave the first item of a sequence, left `left` to read, and the sequence `after` to come;
--- or nothing was to come.
+-- A call on a text gave the first item of a sequence, left `left` to read, and the sequence `after`
+-- to come; or nothing was to come.
 abbrev pub GivesFirst : List ℕ → TokenSequence → Option (Result SelectorToken Error) → (left : List ℕ) → (after : TokenSequence)
     → Type 0
 GivesFirst text before None left after = (before ≡ sequence_end left) × (after ≡ sequence_end left)
@@ -75,8 +75,8 @@ pub record Begins (text : List ℕ) (t : SelectorTokenizer) : Type 0 where
   pub whole_text_is : whole_text t ≡ text
   pub at_start : place_in t ≡ 0
   pub left : left_of t ≡ text
-  -- the sequence of the text is still to come: at most as many tokens and errors as it has bytes, and
-  -- two more
+  -- the sequence of the text is still to come: at most as many tokens and errors as it has bytes,
+  -- and two more
   pub sequence : still_to_come t ≡ sequence_of this_edition text
   pub to_come : items_left t ≡ tokens_of this_edition text
   pub few : length (items_left t) ≤ length text + 2

@@ -17,16 +17,16 @@ pub record IsStretch (cs : List Component) (first last : ℕ) : Type 0 where
   pub begun : BeginsStretch cs first
   pub unbroken : (k : ℕ) → first < k → k ≤ last → BeginsStretch cs k → ⊥
 
--- For each stretch, in order, the number of components up to its end: these ends rise strictly from 0
--- on, the last is the number of components, and a component begins a stretch exactly if it is the first
--- or stands where a stretch ends.
+-- For each stretch, in order, the number of components up to its end: these ends rise strictly from
+-- 0 on, the last is the number of components, and a component begins a stretch exactly if it is the
+-- first or stands where a stretch ends.
 pub record AreStretchEnds (cs : List Component) (ends : List ℕ) : Type 0 where
   pub rising : IsStrictlyIncreasing (0 ∷ ends)
   pub whole : last_or None ends ≡ Some (length cs)
   pub begins : (k : ℕ) → k < length cs → BeginsStretch cs k ↔ Contains (0 ∷ ends) k
 
--- the ends of all stretches, where those before the last stretch are kept, and the last stretch ends with the
--- components
+-- the ends of all stretches, where those before the last stretch are kept, and the last stretch
+-- ends with the components
 abbrev pub all_stretch_ends : List Component → List ℕ → List ℕ
 all_stretch_ends cs kept = kept ++ length cs ∷ []
 

@@ -2,6 +2,7 @@
 -- crate tie them to the readers: the blank that is read at the front of a text is its longest front
 -- that is a blank.
 use Rattle.std.specs.Prelude.{◌≡◌, ℕ, ◌<◌, List, [], ◌∷◌, ◌++◌, true, false, length, drop}
+use Rattle.simplecss_text.specs.AsciiBytes.{asterisk, slash}
 use Rattle.simplecss_text.specs.Bytes.{starts_two}
 use Rattle.simplecss_text.specs.Characters.{is_space}
 
@@ -9,8 +10,8 @@ use Rattle.simplecss_text.specs.Characters.{is_space}
 -- earlier. The two marks have no byte in common, so `/*/` is no comment.
 pub record IsComment (text : List ℕ) : Type 0 where
   pub inside : List ℕ
-  pub is : text ≡ (47 ∷ 42 ∷ []) ++ (inside ++ (42 ∷ 47 ∷ []))
-  pub first : (k : ℕ) → k < length inside → starts_two 42 47 (drop k (inside ++ (42 ∷ 47 ∷ []))) ≡ false
+  pub is : text ≡ (slash ∷ asterisk ∷ []) ++ (inside ++ (asterisk ∷ slash ∷ []))
+  pub first : (k : ℕ) → k < length inside → starts_two asterisk slash (drop k (inside ++ (asterisk ∷ slash ∷ []))) ≡ false
 
 -- The text is a blank: it is cut into space bytes and comments, one after the other. It may be
 -- empty.

@@ -1,11 +1,15 @@
--- Blocks.
+-- Blocks: the declarations between two braces, and where a block ends that a broken declaration
+-- leaves unread.
 use Rattle.std.specs.Prelude.{ℕ, zero, suc, Bool, ◌||◌, ◌&&◌, ◌==◌, nat_lt, if◌then◌else◌, List, length, take, drop, slice_index, count_by, Option, None}
+use Rattle.simplecss_text.specs.AsciiBytes.{open_brace, close_brace}
 use Rattle.simplecss_text.specs.Reading.{Reading, got, fails, each}
 use Rattle.simplecss_text.specs.Bytes.{starts, past_byte}
 use Rattle.simplecss_text.specs.Characters.{Edition}
 use Rattle.simplecss_text.specs.Declarations.{StyleDeclaration, declaration, next_declaration}
 
--- the least number below n that passes, or n
+-- The least number below n that passes, or n where none does. Below n + 1 it is the one below n, if
+-- there is one, and else n itself, if that passes: so the number is the least, though the
+-- definition goes down from n.
 abbrev pub least : (ℕ → Bool) → ℕ → ℕ
 least test zero = 0
 least test (suc n) = if nat_lt (least test n) n then least test n else (if test n then n else suc n)
@@ -17,7 +21,7 @@ count_of byte text = count_by (λ b. b == byte) text
 -- a closing brace stands at the place, and before it as many opening as closing ones
 abbrev pub closes_block : List ℕ → ℕ → Bool
 closes_block text place =
-    slice_index text place == 125 && count_of 123 (take place text) == count_of 125 (take place text)
+    slice_index text place == close_brace && count_of open_brace (take place text) == count_of close_brace (take place text)
 
 -- Where the block ends that reading is in: the least place that closes it, else the end of the
 -- text. Quotes and comments are not looked at.
@@ -30,7 +34,7 @@ from_block_end text = drop (block_end text) text
 
 -- the text has ended, or a closing brace stands there
 abbrev pub ends_list : List ℕ → Bool
-ends_list text = length text == 0 || starts 125 text
+ends_list text = length text == 0 || starts close_brace text
 
 -- a declaration where the list of them goes on
 abbrev pub declaration_in_block : Edition → List ℕ → Option (StyleDeclaration × List ℕ)
@@ -40,7 +44,7 @@ declaration_in_block edition text = if ends_list text then None else next_declar
 -- brace.
 abbrev pub past_broken : Reading StyleDeclaration → List ℕ
 past_broken (got declared rest) = rest
-past_broken (fails fault rest) = past_byte 125 (from_block_end rest)
+past_broken (fails fault rest) = past_byte close_brace (from_block_end rest)
 
 -- what is left behind the list of declarations
 abbrev pub past_list : Edition → List ℕ → List ℕ
@@ -52,4 +56,4 @@ past_list edition text = if ends_list text then text else past_broken (declarati
 unfoldable pub block : Edition → List ℕ → List StyleDeclaration × List ℕ
 block edition text =
     let listed = each (declaration_in_block edition) text in
-    (listed.0, past_byte 125 (past_list edition listed.1))
+    (listed.0, past_byte close_brace (past_list edition listed.1))

@@ -1,5 +1,11 @@
 -- The characters of a text: space bytes, and the characters of names, in two editions of the rules.
+--
+-- Space bytes stand between things: they are what CSS 2.1 (section 4.1.1) calls white space. Where
+-- a value or a language is trimmed at its ends, what goes is the white space of Unicode, as `trim`
+-- of a string does: that has the space bytes, and also the vertical tab and, past ASCII, as the
+-- no-break space and the ideographic space, characters that a name may have.
 use Rattle.std.specs.Prelude.{ℕ, Bool, ◌||◌, ◌==◌, nat_le}
+use Rattle.simplecss_text.specs.AsciiBytes.{tab, newline, form_feed, carriage_return, space, hyphen, underscore}
 use Rattle.simplecss_text.specs.Bytes.{is_within, is_digit}
 
 -- Which edition of the rules. They differ in the first character past ASCII that a name may have,
@@ -8,9 +14,9 @@ pub data Edition : Type 0 where
   first_edition : Edition
   second_edition : Edition
 
--- a space, a tab, a newline, a carriage return or a form feed
+-- a space byte: a space, a tab, a newline, a carriage return or a form feed
 abbrev pub is_space : ℕ → Bool
-is_space b = b == 0x20 || b == 0x09 || b == 0x0A || b == 0x0D || b == 0x0C
+is_space b = b == space || b == tab || b == newline || b == carriage_return || b == form_feed
 
 -- an ASCII letter
 abbrev pub is_letter : ℕ → Bool
@@ -25,8 +31,8 @@ first_wide second_edition = 0xA0
 
 -- an underscore, a letter, or a character past ASCII that a name may have
 abbrev pub is_name_start : Edition → ℕ → Bool
-is_name_start edition c = c == 95 || is_letter c || nat_le (first_wide edition) c
+is_name_start edition c = c == underscore || is_letter c || nat_le (first_wide edition) c
 
 -- a name start, a digit or a hyphen
 abbrev pub is_name_char : Edition → ℕ → Bool
-is_name_char edition c = is_name_start edition c || is_digit c || c == 45
+is_name_char edition c = is_name_start edition c || is_digit c || c == hyphen

@@ -2,18 +2,19 @@
 use Rattle.std.specs.Prelude.{ℕ, Bool, true, false, if◌then◌else◌, List, [], ◌∷◌, drop, Option, Some, None}
 use Rattle.std.specs.List.{list_any}
 use Rattle.std.specs.Option.{option_map}
+use Rattle.simplecss_text.specs.AsciiBytes.{asterisk, slash}
 use Rattle.simplecss_text.specs.Reading.{no_comment, got, fails, Reader, ◌>>=◌, ◌>>◌, give, here, each}
 use Rattle.simplecss_text.specs.Bytes.{past_one, starts_two, past_byte, closed_or}
 use Rattle.simplecss_text.specs.Characters.{is_space}
 
 -- `/*` stands there
 abbrev pub opens_comment : List ℕ → Bool
-opens_comment text = starts_two 47 42 text
+opens_comment text = starts_two slash asterisk text
 
 -- what is left after the first `*/`
 abbrev pub after_close : List ℕ → Option (List ℕ)
 after_close [] = None
-after_close (b ∷ text) = if starts_two 42 47 (b ∷ text) then Some (past_one text) else after_close text
+after_close (b ∷ text) = if starts_two asterisk slash (b ∷ text) then Some (past_one text) else after_close text
 
 -- What is left after the comment that opens here: it closes by the first `*/` behind its `/*`. So
 -- `/*/` is not closed.
@@ -25,7 +26,7 @@ after_comment text = after_close (drop 2 text)
 unfoldable pub comment : Reader (Unit {0})
 comment text =
     if opens_comment text then closed_or (no_comment text) (after_comment text)
-    else fails (no_comment text) (past_byte 47 text)
+    else fails (no_comment text) (past_byte slash text)
 
 -- One part of a blank, a space byte or a closed comment: whether it is a space byte, and what is
 -- left after it.

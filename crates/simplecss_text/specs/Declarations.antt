@@ -1,7 +1,8 @@
--- Declarations.
+-- Declarations: a name, a colon, a value, and what may stand behind the value.
 use Rattle.std.specs.Prelude.{ℕ, Bool, true, false, ◌==◌, eqb, if◌then◌else◌, List, [], ◌∷◌, length, drop, codes, Option, Some, None}
 use Rattle.std.specs.Str.{trim}
 use Rattle.std.specs.List.{starts_with}
+use Rattle.simplecss_text.specs.AsciiBytes.{exclamation_mark, asterisk, colon, semicolon as semicolon_byte}
 use Rattle.simplecss_text.specs.Reading.{no_value, Reading, got, fails, Reader, ◌>>=◌, ◌>>◌, give, here, left_after, found, always, before, each}
 use Rattle.simplecss_text.specs.Bytes.{past_one, starts, byte, optional, any_byte}
 use Rattle.simplecss_text.specs.Characters.{Edition}
@@ -21,7 +22,8 @@ last_or other [] = other
 last_or other (x ∷ xs) = last_or x xs
 
 -- What is left after a term, and what is left after the blank behind it. (A comment that is open
--- there is left to the part behind the value.)
+-- there is no fault yet: no term begins at its slash, so the value ends there and passes nothing of
+-- it, and the part behind the value tells the fault.)
 abbrev pub after_term : Reading (Unit {0}) → Option (List ℕ × List ℕ)
 after_term (got u rest) = Some (rest, past_blank rest)
 after_term (fails fault rest) = None
@@ -35,8 +37,9 @@ term_in_value edition text = after_term (term edition text)
 abbrev pub terms : Edition → List ℕ → List (List ℕ) × List ℕ
 terms edition text = each (term_in_value edition) text
 
--- A value: from the first term to the end of the last one, without white space at either end. What
--- is left is that after the term that could not be read.
+-- A value: from the first term to the end of the last one, without the white space of Unicode at
+-- either end. What is left is that after the term that could not be read: where no term begins it
+-- is as before, but for a hyphen, which a missing name passes.
 unfoldable pub value : Edition → List ℕ → List ℕ × List ℕ
 value edition text =
     (trim (before text (last_or text (terms edition text).0)), left_after (term edition (terms edition text).1))
@@ -56,11 +59,11 @@ after_mark = do
 -- whether an exclamation mark stands there, and behind a blank the word `important`; a mark is
 -- passed without the word too
 unfoldable pub importance : Reader Bool
-importance text = if starts 33 text then after_mark text else got false text
+importance text = if starts exclamation_mark text then after_mark text else got false text
 
 -- a semicolon, and the blank behind it
 abbrev pub semicolon : List ℕ → Option (Unit {0} × List ℕ)
-semicolon text = if starts 59 text then Some (tt, past_blank (past_one text)) else None
+semicolon text = if starts semicolon_byte text then Some (tt, past_blank (past_one text)) else None
 
 -- any number of semicolons, each with the blank behind it
 abbrev pub semicolons : Reader (Unit {0})
@@ -91,10 +94,10 @@ value_reader edition text = always (value edition text)
 unfoldable pub declaration : Edition → Reader StyleDeclaration
 declaration edition = do
   blank
-  optional 42
+  optional asterisk
   property ← name edition
   blank
-  byte 58
+  byte colon
   blank
   start ← here
   stated ← value_reader edition

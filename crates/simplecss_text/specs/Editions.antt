@@ -1,12 +1,13 @@
 -- Texts that both editions of the rules read alike.
 use Rattle.std.specs.Prelude.{◌≡◌, ℕ, ◌<◌, false, ◌==◌, List}
 use Rattle.std.specs.List.{All}
+use Rattle.simplecss_text.specs.AsciiBytes.{slash}
 use Rattle.simplecss_text.specs.Characters.{first_edition, second_edition}
 use Rattle.simplecss_text.specs.Statements.{kept}
 
 -- ASCII bytes, and no slash among them
 abbrev pub IsCommon : List ℕ → Type 0
-IsCommon text = All (λ b. (b < 128) × ((b == 47) ≡ false)) text
+IsCommon text = All (λ b. (b < 128) × ((b == slash) ≡ false)) text
 
 -- both editions give the same rules
 abbrev pub KeepsInBoth : List ℕ → Type 0

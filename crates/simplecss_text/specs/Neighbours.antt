@@ -25,8 +25,6 @@ pub data Follows : Type 0 where
   slash : (start : List ℕ) → Follows
   -- a fault in place of a simple piece
   faulty_piece : Follows
-  -- a fault in the gap, a comment that is not closed
-  faulty_gap : Follows
 
 -- What stands between the left side and what follows.
 pub data Answer : Type 0 where
@@ -39,7 +37,8 @@ pub data Answer : Type 0 where
   refuses : Fault → (after : List ℕ) → Answer
 
 -- The table of neighbours, by the left side, whether the gap has a space byte, and what follows it.
--- Where a fault follows, the table adds none of its own.
+-- Where a fault follows, the table adds none of its own. It is not asked where a comment in the gap
+-- is not closed: nothing follows there.
 abbrev pub between : Side → Bool → Follows → Answer
 -- at the start of the text, or behind a combinator
 between open_side spaced subselector = nothing
@@ -49,7 +48,6 @@ between open_side spaced (combinator start) = refuses unexpected_combinator star
 between open_side spaced (stop start) = refuses no_selector start
 between open_side spaced (slash start) = refuses no_selector start
 between open_side spaced faulty_piece = nothing
-between open_side spaced faulty_gap = nothing
 -- behind a simple piece, without a space byte
 between closed_side false subselector = nothing
 between closed_side false (universal start) = refuses unexpected_selector start
@@ -58,7 +56,6 @@ between closed_side false (combinator start) = nothing
 between closed_side false (stop start) = ends_tokens
 between closed_side false (slash start) = ends_tokens
 between closed_side false faulty_piece = nothing
-between closed_side false faulty_gap = nothing
 -- behind a simple piece and a space byte
 between closed_side true subselector = descends
 between closed_side true (universal start) = descends
@@ -67,7 +64,6 @@ between closed_side true (combinator start) = nothing
 between closed_side true (stop start) = ends_tokens
 between closed_side true (slash start) = refuses (no_comment start) (past_one start)
 between closed_side true faulty_piece = descends
-between closed_side true faulty_gap = nothing
 
 -- what a piece with this token is as the one that follows (a descendant combinator is no piece)
 abbrev pub follows_as : Token → (start after : List ℕ) → Follows
@@ -86,13 +82,14 @@ follows_as adjacent_combinator start after = combinator start
 abbrev pub before_piece : Side → Piece → Answer
 before_piece side p = between side p.spaced (follows_as p.token p.start p.after)
 
--- what stands between the left side and the ending
+-- What stands between the left side and the ending. Where a comment is open, that is its fault
+-- alone, which comes with the ending.
 abbrev pub before_ending : Side → Ending → Answer
 before_ending side (at_stop spaced start) = between side spaced (stop start)
 before_ending side (at_slash spaced start) = between side spaced (slash start)
 before_ending side (without_head spaced start fault after) = between side spaced faulty_piece
 before_ending side (within_piece spaced start fault after) = between side spaced faulty_piece
-before_ending side (within_gap fault after) = between side false faulty_gap
+before_ending side (within_gap fault after) = nothing
 
 -- the left side of the gap behind a token
 abbrev pub side_behind : Token → Side

@@ -1,9 +1,11 @@
--- A text as the pieces of a selector: a gap and a solid piece in turn, up to a stop or a fault. A
--- gap is a blank, which may be empty. A solid piece is `>` or `+`, or it is simple: a head, which
--- is `*` or a type name, or a subselector, which is an id, a class, an attribute or a pseudo-class.
--- What a piece is depends on no piece before it.
+-- A text as the pieces of a selector: a gap and a solid piece in turn, up to a stop, a slash or a
+-- fault. A gap is a blank, which may be empty. A solid piece is `>` or `+`, or it is simple: a
+-- head, which is `*` or a type name, or a subselector, which is an id, a class, an attribute or a
+-- pseudo-class. A head and the subselectors behind it make what CSS 2.1 (section 5.2) calls a
+-- simple selector. What a piece is depends on no piece before it.
 use Rattle.std.specs.Prelude.{ℕ, Bool, ◌||◌, ◌==◌, if◌then◌else◌, List, [], ◌∷◌, length, bytes_eq, codes, Option}
 use Rattle.std.specs.Str.{trim}
+use Rattle.simplecss_text.specs.AsciiBytes.{number_sign, asterisk, plus_sign, comma, full_stop, slash, colon, equals_sign, greater_than_sign, vertical_bar, tilde, open_parenthesis, close_parenthesis, open_bracket, close_bracket, open_brace}
 use Rattle.simplecss_text.specs.Reading.{Fault, ended, no_attribute_form, no_language, no_selector, Reading, got, fails, Reader, ◌>>=◌, ◌>>◌, give, here, found, each}
 use Rattle.simplecss_text.specs.Bytes.{starts, starts_by, byte, all_before}
 use Rattle.simplecss_text.specs.Characters.{Edition}
@@ -18,7 +20,7 @@ use Rattle.simplecss_text.specs.Tokens.Token.{universal_selector, type_selector,
 -- an equals sign and a value
 abbrev pub equated : Edition → (List ℕ → Operator) → Reader Operator
 equated edition operator = do
-  byte 61
+  byte equals_sign
   value ← string_or_name edition
   give (operator value)
 
@@ -27,10 +29,10 @@ equated edition operator = do
 unfoldable pub attribute_operator : Edition → Reader Operator
 attribute_operator edition [] = fails ended []
 attribute_operator edition (b ∷ text) =
-    if b == 93 then got exists (b ∷ text)
-    else (if b == 61 then equated edition equals (b ∷ text)
-    else (if b == 126 then equated edition has_word text
-    else (if b == 124 then equated edition begins_with text
+    if b == close_bracket then got exists (b ∷ text)
+    else (if b == equals_sign then equated edition equals (b ∷ text)
+    else (if b == tilde then equated edition has_word text
+    else (if b == vertical_bar then equated edition begins_with text
     else fails no_attribute_form (b ∷ text))))
 
 -- an attribute after its opening bracket
@@ -38,19 +40,19 @@ unfoldable pub attribute_after : Edition → Reader Token
 attribute_after edition = do
   n ← name edition
   operator ← attribute_operator edition
-  byte 93
+  byte close_bracket
   give (attribute_selector n operator)
 
 -- the language, unless it is empty
 abbrev pub lang_of : List ℕ → Reader Token
 lang_of value text = if length value == 0 then fails no_language text else got (lang_pseudo_class value) text
 
--- what follows `:lang`: a language in parentheses, without the white space round it
+-- what follows `:lang`: a language in parentheses, without the white space of Unicode round it
 unfoldable pub lang_after : Reader Token
 lang_after = do
-  byte 40
-  value ← all_before 41
-  byte 41
+  byte open_parenthesis
+  value ← all_before close_parenthesis
+  byte close_parenthesis
   lang_of (trim value)
 
 -- what follows the name of a pseudo-class: a language behind `lang`, else nothing
@@ -74,23 +76,24 @@ named_token edition token = do
 unfoldable pub solid_by_byte : Edition → Reader Token
 solid_by_byte edition [] = named_token edition type_selector []
 solid_by_byte edition (b ∷ text) =
-    if b == 62 then got child_combinator text
-    else (if b == 43 then got adjacent_combinator text
-    else (if b == 42 then got universal_selector text
-    else (if b == 35 then named_token edition id_selector text
-    else (if b == 46 then named_token edition class_selector text
-    else (if b == 91 then attribute_after edition text
-    else (if b == 58 then pseudo_class_after edition text
+    if b == greater_than_sign then got child_combinator text
+    else (if b == plus_sign then got adjacent_combinator text
+    else (if b == asterisk then got universal_selector text
+    else (if b == number_sign then named_token edition id_selector text
+    else (if b == full_stop then named_token edition class_selector text
+    else (if b == open_bracket then attribute_after edition text
+    else (if b == colon then pseudo_class_after edition text
     else named_token edition type_selector (b ∷ text)))))))
 
--- the end of the text, `,` or `{`
+-- a stop: the end of the text, `,` or `{`
 abbrev pub ends_selector : List ℕ → Bool
-ends_selector text = length text == 0 || starts 44 text || starts 123 text
+ends_selector text = length text == 0 || starts comma text || starts open_brace text
 
--- A solid piece. At a stop and at a `/` stands none.
+-- A solid piece. At a stop and at a `/` stands none. That fault is never told: it only ends the
+-- pieces, and what they end by is looked at anew, by `ending`.
 unfoldable pub solid : Edition → Reader Token
 solid edition text =
-    if ends_selector text || starts 47 text then fails no_selector text else solid_by_byte edition text
+    if ends_selector text || starts slash text then fails no_selector text else solid_by_byte edition text
 
 -- A gap and a solid piece: whether the gap has a space byte, what is left where the solid piece
 -- begins, its token, and what is left after it.
@@ -133,10 +136,10 @@ pub data Ending : Type 0 where
 
 -- a `#`, a `.`, a `[` or a `:`, which begin a subselector
 abbrev pub begins_subselector : ℕ → Bool
-begins_subselector b = b == 35 || b == 46 || b == 91 || b == 58
+begins_subselector b = b == number_sign || b == full_stop || b == open_bracket || b == colon
 
 -- The fault of a solid piece: inside a subselector, or for want of a head. (A piece that can be
--- read is no ending.)
+-- read is no ending, so that the first clause is never asked.)
 abbrev pub fault_ending : Bool → List ℕ → Reading Token → Ending
 fault_ending spaced start (got token after) = at_stop spaced start
 fault_ending spaced start (fails fault after) =
@@ -148,7 +151,7 @@ abbrev pub gap_ending : Edition → Reading Bool → Ending
 gap_ending edition (fails fault after) = within_gap fault after
 gap_ending edition (got spaced start) =
     if ends_selector start then at_stop spaced start
-    else (if starts 47 start then at_slash spaced start
+    else (if starts slash start then at_slash spaced start
     else fault_ending spaced start (solid edition start))
 
 -- what the pieces of a text end by, from what is left where no further one stands

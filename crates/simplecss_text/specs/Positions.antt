@@ -1,6 +1,7 @@
 -- Rows and columns.
 use Rattle.std.specs.Prelude.{ℕ, ◌+◌, ◌-◌, List, ◌==◌, if◌then◌else◌, length, take, min, count_by, chars}
 use Rattle.std.specs.List.{after_last}
+use Rattle.simplecss_text.specs.AsciiBytes.{newline}
 use Rattle.simplecss_text.specs.declared.TextPos.{TextPos}
 
 -- the greatest `u32`
@@ -19,6 +20,6 @@ in_whole start inner = record {
 -- the last of them. Both stop at the greatest `u32`.
 unfoldable pub position : List ℕ → ℕ → TextPos
 position text place = record {
-  row = min greatest (1 + count_by (λ b. b == 10) (take place text));
-  col = min greatest (1 + length (chars (after_last (λ b. b == 10) (take place text))));
+  row = min greatest (1 + count_by (λ b. b == newline) (take place text));
+  col = min greatest (1 + length (chars (after_last (λ b. b == newline) (take place text))));
 }

@@ -1,6 +1,7 @@
 -- The printed texts of selectors and sheets, as joins of the texts of their parts.
 use Rattle.std.specs.Prelude.{ℕ, Bool, true, not, ◌||◌, ◌&&◌, ◌==◌, if◌then◌else◌, List, [], ◌∷◌, ◌++◌, Option, None, Some, codes, map}
 use Rattle.std.specs.List.{flat_map, join_with_byte, list_all}
+use Rattle.simplecss_text.specs.AsciiBytes.{newline, single_quote, backslash}
 use Rattle.simplecss_text.specs.Components.{Operator, KnownPseudoClass, Subselector, Combinator, Component}
 use Rattle.simplecss_text.specs.Components.Operator.{exists, equals, has_word, begins_with}
 use Rattle.simplecss_text.specs.Components.KnownPseudoClass.{first_child, link, visited, hover, active, focus, lang}
@@ -65,13 +66,13 @@ rule_text rule = selector_text rule.components ++ codes " { " ++ flat_map declar
 
 -- the rules' texts, with a newline between each two
 abbrev pub sheet_text : List StyleRule → List ℕ
-sheet_text rules = join_with_byte 10 (map rule_text rules)
+sheet_text rules = join_with_byte newline (map rule_text rules)
 
 -- each apostrophe of the text stands right behind a backslash of it; before the text stands
 -- `previous`
 abbrev pub escaped_after : ℕ → List ℕ → Bool
 escaped_after previous [] = true
-escaped_after previous (b ∷ text) = (not (b == 39) || previous == 92) && escaped_after b text
+escaped_after previous (b ∷ text) = (not (b == single_quote) || previous == backslash) && escaped_after b text
 
 -- the value of an operator has no bare apostrophe
 abbrev pub is_clean_operator : Operator → Bool

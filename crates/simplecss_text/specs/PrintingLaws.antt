@@ -2,6 +2,7 @@
 use Rattle.std.specs.Prelude.{◌≡◌, ◌↔◌, ℕ, Bool, true, false, ◌&&◌, ◌==◌, nat_le, List, [], ◌∷◌, ◌++◌, length, bytes_eq, codes, chars, IsUtf8, Option, None, Some}
 use Rattle.std.specs.Char.{is_whitespace}
 use Rattle.std.specs.List.{All, list_any, list_all}
+use Rattle.simplecss_text.specs.AsciiBytes.{semicolon}
 use Rattle.simplecss_text.specs.Reading.{got}
 use Rattle.simplecss_text.specs.Bytes.{starts}
 use Rattle.simplecss_text.specs.Characters.{Edition}
@@ -69,7 +70,7 @@ IsNarrow text = IsUtf8 text × (has_wide_space text ≡ false)
 -- is left begins at that name, and before ` }` at the brace.
 abbrev pub DeclarationReadsBack : Edition → StyleDeclaration → Type 0
 DeclarationReadsBack edition p =
-    (text : List ℕ) → opens_comment (past_blank text) ≡ false → starts 59 (past_blank text) ≡ false → declaration edition (declaration_text p ++ text) ≡ got p (past_blank text)
+    (text : List ℕ) → opens_comment (past_blank text) ≡ false → starts semicolon (past_blank text) ≡ false → declaration edition (declaration_text p ++ text) ≡ got p (past_blank text)
 
 -- Printed before any text, the rule is one statement, which gives this rule alone and leaves that
 -- text.

@@ -50,8 +50,8 @@ role_of descendant_combinator = joint descendant
 role_of child_combinator = joint child
 role_of adjacent_combinator = joint adjacent
 
--- A sequence is refused at its first fault or unknown pseudo-class, and else gives its tokens' roles.
--- With it what is left there.
+-- A sequence is refused at its first fault or unknown pseudo-class, and else gives its tokens'
+-- roles. With it what is left there.
 pub data Outcome : Type 0 where
   refused : (left : List ℕ) → Outcome
   accepted : List Role → (left : List ℕ) → Outcome
@@ -75,7 +75,8 @@ outcome (sequence_end left) = accepted [] left
 outcome (item (Err fault) after rest) = refused after
 outcome (item (Ok token) after rest) = after_role (role_of token) after (outcome rest)
 
--- the roles up to the first combinator, and each combinator with the roles up to the next one
+-- The roles up to the first combinator, and each combinator with the roles up to the next one.
+-- (Accepted roles are all known, so that the last clause is never asked.)
 abbrev pub cut : List Role → List Role × List (Combinator × List Role)
 cut [] = ([], [])
 cut (joint combinator ∷ roles) = ([], (combinator, (cut roles).0) ∷ (cut roles).1)
@@ -84,7 +85,9 @@ cut (of_type n ∷ roles) = (of_type n ∷ (cut roles).0, (cut roles).1)
 cut (with subselector ∷ roles) = (with subselector ∷ (cut roles).0, (cut roles).1)
 cut (unknown ∷ roles) = (unknown ∷ (cut roles).0, (cut roles).1)
 
--- the type name among the roles of a component, if there is one, else the one known before
+-- The type name among the roles of a component, if there is one, else the one known before. (The
+-- roles of one component have no combinator among them, and accepted ones are known, so that the
+-- last two clauses are never asked; the same of the subselectors.)
 abbrev pub type_among : Option (List ℕ) → List Role → Option (List ℕ)
 type_among known [] = known
 type_among known (of_type n ∷ roles) = type_among (Some n) roles

@@ -1,6 +1,7 @@
 -- Rule sets, at-rules, and the rules of a text.
 use Rattle.std.specs.Prelude.{ℕ, Bool, not, ◌||◌, ◌==◌, if◌then◌else◌, List, [], ◌∷◌, ◌++◌, length, map, filter, Option, Some, None}
 use Rattle.std.specs.List.{filter_map, flat_map}
+use Rattle.simplecss_text.specs.AsciiBytes.{comma, semicolon, at_sign, open_brace, close_brace}
 use Rattle.simplecss_text.specs.Reading.{Reading, got, fails, each}
 use Rattle.simplecss_text.specs.Bytes.{past_one, starts, is_neither, past, past_byte}
 use Rattle.simplecss_text.specs.Characters.{Edition, is_space}
@@ -24,7 +25,7 @@ part edition text = ((reads edition text).0, past is_space (reads edition text).
 -- a part that a comma follows, and what is left after the comma
 abbrev pub part_and_comma : Edition → List ℕ → Option (Option (List Component) × List ℕ)
 part_and_comma edition text =
-    if starts 44 (part edition text).1 then Some ((part edition text).0, past_one (part edition text).1) else None
+    if starts comma (part edition text).1 then Some ((part edition text).0, past_one (part edition text).1) else None
 
 -- The selectors of the parts, a comma behind each but the last, and what is left after it.
 unfoldable pub parts : Edition → List ℕ → List (List Component) × List ℕ
@@ -37,25 +38,25 @@ parts edition text =
 -- Without a brace there are none, and the text is used up.
 unfoldable pub next_block : Edition → List ℕ → List StyleDeclaration × List ℕ
 next_block edition text =
-    let opened = past (λ b. not (b == 123)) text in
-    if starts 123 opened then block edition (past_one opened) else ([], [])
+    let opened = past (λ b. not (b == open_brace)) text in
+    if starts open_brace opened then block edition (past_one opened) else ([], [])
 
 -- A rule set: an optional comma, the parts, and the block. Each part that gave a selector is a rule
 -- with all declarations.
 unfoldable pub rule_set : Edition → List ℕ → List StyleRule × List ℕ
 rule_set edition text =
-    let head = parts edition (past_byte 44 text) in
+    let head = parts edition (past_byte comma text) in
     let body = next_block edition head.1 in
     (map (λ selector. record { components = selector; declarations = body.0 }) head.0, body.1)
 
 -- what is left behind a semicolon, or a block and its closing brace
 abbrev pub past_semicolon_or_block : List ℕ → List ℕ
-past_semicolon_or_block text = if starts 123 text then past_byte 125 (from_block_end (past_one text)) else past_byte 59 text
+past_semicolon_or_block text = if starts open_brace text then past_byte close_brace (from_block_end (past_one text)) else past_byte semicolon text
 
 -- Behind the name of an at-rule all is passed up to a semicolon or a block. Without a name it ends
 -- where the fault leaves reading.
 abbrev pub at_rule_rest_by_name : Reading (List ℕ) → List ℕ
-at_rule_rest_by_name (got n rest) = past_semicolon_or_block (past (is_neither 59 123) rest)
+at_rule_rest_by_name (got n rest) = past_semicolon_or_block (past (is_neither semicolon open_brace) rest)
 at_rule_rest_by_name (fails fault rest) = rest
 
 -- what is left after an at-rule, behind its sign
@@ -64,7 +65,7 @@ at_rule_rest edition text = at_rule_rest_by_name (name edition text)
 
 -- a statement: the rules that it gives, and what is left after it
 unfoldable pub statement : Edition → List ℕ → List StyleRule × List ℕ
-statement edition text = if starts 64 text then ([], at_rule_rest edition (past_one text)) else rule_set edition text
+statement edition text = if starts at_sign text then ([], at_rule_rest edition (past_one text)) else rule_set edition text
 
 -- the text has ended, or a comment is open there
 abbrev pub ends_statements : List ℕ → Bool

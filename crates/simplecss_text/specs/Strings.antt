@@ -1,5 +1,6 @@
 -- Strings, and what a value of an attribute may be.
 use Rattle.std.specs.Prelude.{ℕ, Bool, not, ◌&&◌, ◌||◌, ◌==◌, if◌then◌else◌, List, [], ◌∷◌, Option, Some, None}
+use Rattle.simplecss_text.specs.AsciiBytes.{double_quote, single_quote, backslash}
 use Rattle.simplecss_text.specs.Reading.{ended, Reading, got, fails, Reader, before}
 use Rattle.simplecss_text.specs.Bytes.{past_one}
 use Rattle.simplecss_text.specs.Characters.{Edition}
@@ -7,14 +8,14 @@ use Rattle.simplecss_text.specs.Names.{name}
 
 -- a single or a double quote
 abbrev pub is_quote : ℕ → Bool
-is_quote b = b == 39 || b == 34
+is_quote b = b == single_quote || b == double_quote
 
 -- What is left from the first such quote on that no backslash stands right before. Before the text
 -- stands `previous`. It is not asked whether such a backslash is itself behind a backslash.
 abbrev pub from_quote : ℕ → ℕ → List ℕ → Option (List ℕ)
 from_quote quote previous [] = None
 from_quote quote previous (b ∷ text) =
-    if b == quote && not (previous == 92) then Some (b ∷ text) else from_quote quote b text
+    if b == quote && not (previous == backslash) then Some (b ∷ text) else from_quote quote b text
 
 -- the text up to the closing quote, which is passed; without one the text is used up
 abbrev pub string_up_to : List ℕ → Option (List ℕ) → Reading (List ℕ)

@@ -45,7 +45,9 @@ side_with ends_tokens side = side
 side_with (refuses fault after) side = side
 
 -- The fault of an ending. Behind an open left side, or a descendant combinator, a second one
--- follows where a head is missing or a comment is open: that no selector was found.
+-- follows where a head is missing or a comment is open: that no selector was found. At a stop and
+-- at a slash the table of neighbours ends the sequence, or refuses it, so that the first two
+-- clauses are never asked.
 abbrev pub ending_sequence : Side → Ending → TokenSequence
 ending_sequence side (at_stop spaced start) = sequence_end start
 ending_sequence side (at_slash spaced start) = sequence_end start
@@ -55,7 +57,8 @@ ending_sequence side (within_piece spaced start fault after) = fault_sequence fa
 ending_sequence open_side (within_gap fault after) = two_faults_sequence fault after
 ending_sequence closed_side (within_gap fault after) = fault_sequence fault after
 
--- what is left where an ending begins
+-- What is left where a descendant combinator before an ending would be told: where the ending
+-- begins. Where a comment is open none is told, and what is left is nothing, the end of the text.
 abbrev pub start_of : Ending → List ℕ
 start_of (at_stop spaced start) = start
 start_of (at_slash spaced start) = start

@@ -1,5 +1,5 @@
--- What the rules of a text are.
--- Serves `selectors` and `prints_back` of `StyleSheet::{parse, parse_all, parse_more}` (a sheet printed and read again).
+-- What the rules of a text are. Serves `selectors` and `prints_back` of `StyleSheet::{parse,
+-- parse_all, parse_more}` (a sheet printed and read again).
 use Rattle.std.proofs.Common.{◌≡◌, ℕ, ◌+◌, List, [], ◌∷◌, ◌++◌, Bool, true, false, cond, if◌then◌else◌, not, ◌==◌, length, map, filter, Option, Some, None, IfSome, arith, refl, sym, ap, ◌∙◌, IsUtf8}
 use Rattle.std.specs.List.{flat_map, filter_map, find, cons_option, enumerate_from, range_with_len, AllByRecursion}
 use Rattle.std.specs.Option.{option_map}
@@ -26,7 +26,8 @@ use Rattle.simplecss_text.proofs.printed.ReadSelectors.{reads-is, selector-behin
 use Rattle.simplecss_text.proofs.cutting.StatementEnds.{part-ends, parts-ends}
 use Rattle.simplecss_text.proofs.cutting.StatementCuts.{EndsWell, next_statement-well}
 
--- What is known of the texts, and of the declarations that are read from them. It is known of each end that is a text.
+-- What is known of the texts, and of the declarations that are read from them. It is known of each
+-- end that is a text.
 pub record Known (edition : Edition) (Q : List ℕ → Type 0) (R : StyleDeclaration → Type 0) : Type 0 where
   pub is_text : (text : List ℕ) → Q text → IsUtf8 text
   pub of_end : (text rest : List ℕ) → Q text → Ends text rest → IsUtf8 rest → Q rest

@@ -1,5 +1,5 @@
--- A rule that was read, printed and read again.
--- Serves `prints_back` of `StyleSheet::{parse, parse_all, parse_more}` (a sheet printed and read again).
+-- A rule that was read, printed and read again. Serves `prints_back` of `StyleSheet::{parse,
+-- parse_all, parse_more}` (a sheet printed and read again).
 use Rattle.std.proofs.Common.{◌≡◌, ℕ, ◌<◌, ◌⊎◌, inl, inr, List, [], ◌∷◌, ◌++◌, Bool, true, false, if◌then◌else◌, not, ◌==◌, length, refl, sym, ap, ◌∙◌, subst, append_assoc, arith, Option, Some, None}
 use Rattle.std.specs.List.{flat_map, AllByRecursion}
 use Rattle.simplecss_text.specs.Reading.{found, followed_by, each}
@@ -156,7 +156,8 @@ first-found : (edition : Edition) (text : List ℕ) (p : StyleDeclaration) (ps :
 first-found edition text p ps left e None f = absurd (let none_there = sym (ap (λ r. r.0) (each-none (declaration_in_block edition) text f)) ∙ ap (λ r. r.0) e in cc)
 first-found edition text p ps left e (Some x) f = (x.0, x.1, f)
 
--- behind the brace and the space, the declarations of a printed block are read, and what follows it is left
+-- behind the brace and the space, the declarations of a printed block are read, and what follows it
+-- is left
 block-again : (edition : Edition) (p : StyleDeclaration) (ps : List StyleDeclaration) (text : List ℕ) → IsDeclaration edition p → AllByRecursion (IsDeclaration edition) ps → block edition (32 ∷ (flat_map declaration_text (p ∷ ps) ++ (32 ∷ 125 ∷ text))) ≡ (p ∷ ps, text)
 unfolding block
 block-again edition p ps text w ws =
@@ -218,7 +219,8 @@ printed-rule edition s p ps w clean wp ws text =
     ∙ statement-again edition whole (part_starts edition 64 whole (omega arith) refl refl refl begins)
     ∙ rule_set-again edition s p ps whole inside text (part_byte edition 44 whole (omega arith) refl refl refl begins) read (block-again edition p ps text wp ws)
 
--- A rule that was read from a text without white space past ASCII, and whose selector is clean, reads back.
+-- A rule that was read from a text without white space past ASCII, and whose selector is clean,
+-- reads back.
 pub rule-reads_back : (edition : Edition) (rule : StyleRule) → IsKept edition (IsDeclaration edition) rule → is_clean rule.components ≡ true → RuleReadsBack edition rule
 rule-reads_back edition rule w clean = by rule.declarations w.1 w.0.declarations
   where

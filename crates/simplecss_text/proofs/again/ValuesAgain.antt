@@ -1,5 +1,5 @@
--- A value that was read is read again before another tail.
--- Serves `prints_back` of `StyleSheet::{parse, parse_all, parse_more}` (a sheet printed and read again).
+-- A value that was read is read again before another tail. Serves `prints_back` of
+-- `StyleSheet::{parse, parse_all, parse_more}` (a sheet printed and read again).
 use Rattle.std.proofs.Common.{◌≡◌, ℕ, zero, suc, ◌<◌, ◌≤◌, ◌⊎◌, inl, inr, List, [], ◌∷◌, ◌++◌, Bool, true, false, length, arith, refl, sym, ap, ◌∙◌, subst, length-append, append_assoc, IsUtf8}
 use Rattle.std.specs.Str.{chars, trim}
 use Rattle.std.specs.List.{list_any}
@@ -196,7 +196,8 @@ value_text-is edition r text n w =
     let same : v ≡ trim (before text r) = sym (ap trim (ap (λ t. before t r) is ∙ before-append v r) ∙ trimmed) in
     subst (λ (t : List ℕ). IsValueText edition t) same (record { r = r; r_is = left; value_is = parts.0.0; valued = subst (λ (t : List ℕ). Valued edition r t) is w; first = first; trimmed = trimmed })
 
--- A value is read again before a byte that goes on with nothing, where no further term stands behind it.
+-- A value is read again before a byte that goes on with nothing, where no further term stands
+-- behind it.
 pub value-reads : (edition : Edition) (v : List ℕ) (q : ℕ) (tail left : List ℕ) (fault : Fault) → IsValueText edition v → Quiet edition q → term edition (past_blank (q ∷ tail)) ≡ fails fault left → value edition (v ++ (q ∷ tail)) ≡ (v, left)
 unfolding value
 value-reads edition v q tail left fault w quiet e =

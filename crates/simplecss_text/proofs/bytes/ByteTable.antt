@@ -1,5 +1,5 @@
--- A table of bytes agrees with a test, as each of the 256 bytes shows by computing.
--- Serves `scan::{is_ascii_name_start, is_ascii_name_char, is_gap_start}` (a byte tested by a table).
+-- A table of bytes agrees with a test, as each of the 256 bytes shows by computing. Serves
+-- `scan::{is_ascii_name_start, is_ascii_name_char, is_gap_start}` (a byte tested by a table).
 use Rattle.std.proofs.Common.{◌≡◌, ℕ, zero, suc, ◌<◌, Bool, true, false, ◌&&◌, not, nat_eq, bit_and, get_or, List, refl, arith, inl, inr}
 use Rattle.std.specs.Bool.{beq}
 use Rattle.std.proofs.lemmas.Bool.{cases_eq}
@@ -26,7 +26,7 @@ agree_at f g (suc n) h b lt =
 abbrev pub has_flag : List ℕ → ℕ → ℕ → Bool
 has_flag table flag b = not (nat_eq (bit_and (get_or table b 0) flag) 0)
 
--- A flag agrees with a test at this byte, where it does at each. The table is a variable here, so that its entries are not
--- written out in what is shown.
+-- A flag agrees with a test at this byte, where it does at each. The table is a variable here, so
+-- that its entries are not written out in what is shown.
 pub from_table : (table : List ℕ) (flag : ℕ) (test : ℕ → Bool) (b : ℕ) → b < 256 → agree_below (has_flag table flag) test 256 ≡ true → has_flag table flag b ≡ test b
 from_table table flag test b lt h = agree_at _ _ 256 h b lt

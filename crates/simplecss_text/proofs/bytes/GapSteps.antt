@@ -16,7 +16,8 @@ use Rattle.simplecss_text.specs.Characters.{is_space}
 use Rattle.simplecss_text.specs.Bytes.{starts_by, past}
 use Rattle.simplecss_text.proofs.bytes.Utf8Laws.{past-yes, past-no}
 
--- The first bytes of the text are parts of its gap, and this tells whether a space byte is among them.
+-- The first bytes of the text are parts of its gap, and this tells whether a space byte is among
+-- them.
 pub record Passed (text : List ℕ) (len : ℕ) (spaced : Bool) : Type 0 where
   pub boundary : IsCharBoundary text len
   pub rest : past_blank text ≡ past_blank (drop len text)

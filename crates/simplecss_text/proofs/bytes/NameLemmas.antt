@@ -1,5 +1,5 @@
--- Names, a character at a time.
--- Serves `scan::{begins_by_characters, wide_name_chars_len, name_len}` (where a name begins and ends).
+-- Names, a character at a time. Serves `scan::{begins_by_characters, wide_name_chars_len,
+-- name_len}` (where a name begins and ends).
 use Rattle.std.proofs.Common.{◌≡◌, ℕ, suc, ◌+◌, ◌-◌, ◌≤◌, List, [], ◌∷◌, ◌++◌, Bool, true, false, length, drop, refl, ap, sym, ◌∙◌, arith, length-append, length-drop, encode_utf8, encode_utf8_all, drop-drop, ◌&&◌, subst, one-add, get_or, ◌<◌, inl, inr, drop-cons, lt-ltb}
 use Rattle.std.specs.Str.{chars, IsUtf8}
 use Rattle.std.specs.List.{take_while, prefix_len}
@@ -139,7 +139,8 @@ passed-stops edition text u ascii =
         let fails : is_name_char edition b ≡ false = and_first (is_ascii b) (is_name_char edition b) low other in
         past_name_chars-fails edition (drop n text) (drop (suc n) text) b v (shape ∙ ascii-front b (drop (suc n) text) low) fails
 
--- The run of name characters ends behind ASCII ones, at the end of the text or before another ASCII byte.
+-- The run of name characters ends behind ASCII ones, at the end of the text or before another ASCII
+-- byte.
 pub past_name_chars-at : (edition : Edition) (text : List ℕ) (n : ℕ) → IsUtf8 text → n ≤ length text → ((k : ℕ) → k < n → is_ascii_name_char edition (get_or text k 0) ≡ true)
     → (n < length text → (is_ascii_name_char edition (get_or text n 0) ≡ false) × (get_or text n 0 < 128)) → past_name_chars edition text ≡ drop n text
 past_name_chars-at edition text n u within passes stops =

@@ -1,5 +1,5 @@
--- A text without the white space at its ends.
--- Serves `Selector::{parse, parse_front}` and `StyleSheet::parse` (a selector printed and read again).
+-- A text without the white space at its ends. Serves `Selector::{parse, parse_front}` and
+-- `StyleSheet::parse` (a selector printed and read again).
 use Rattle.std.proofs.Common.{◌≡◌, ℕ, List, [], ◌∷◌, ◌++◌, Bool, true, false, cond, ◌&&◌, ◌==◌, length, refl, ap, ◌∙◌, subst, encode_utf8_all, IsUtf8}
 use Rattle.std.specs.Char.{is_whitespace}
 use Rattle.std.specs.Str.{all_scalars, trim_start, trim_end, trim, skip_leading_whitespace, drop_trailing_whitespace}
@@ -65,7 +65,8 @@ scalars-drop (c ∷ cs) h = by (is_whitespace c && length (drop_trailing_whitesp
     by true more = refl
     by false more = rw ((both_true (scalar c) (all_scalars cs) h).0, more) refl
 
--- What stands between the white space at the ends of a text: it is a text, and trimmed again it is the same.
+-- What stands between the white space at the ends of a text: it is a text, and trimmed again it is
+-- the same.
 pub record Trimmed (text inside : List ℕ) : Type 0 where
   pub front : List ℕ
   pub behind : List ℕ

@@ -111,7 +111,8 @@ begins-front edition c [] (d ∷ ds) h e = by (is_name_start edition c) (rw h at
     by false f = h
 begins-front edition c (d ∷ cs) ds h e = e
 
--- the characters of a text with a byte: one and then others, and the first is a hyphen only where the first byte is
+-- the characters of a text with a byte: one and then others, and the first is a hyphen only where
+-- the first byte is
 record FirstChar (b : ℕ) (text : List ℕ) : Type 0 where
   char : ℕ
   others : List ℕ

@@ -113,7 +113,8 @@ rests-reached edition (suc k) text d l =
 drop_place : (text rest : List ℕ) → Ends text rest → drop (rest_place text rest) text ≡ rest
 drop_place text rest e = append_cancel_left (before text rest) (drop (rest_place text rest) text) rest (take-append-drop (rest_place text rest) text ∙ sym e)
 
--- The rules of a text that is cut where one of its statements ends are those of the front and then those of the rest.
+-- The rules of a text that is cut where one of its statements ends are those of the front and then
+-- those of the rest.
 pub keeps_across : (edition : Edition) (text : List ℕ) (place : ℕ) → IsUtf8 text → StatementEndsAt edition text place → KeepsAcross edition text place
 keeps_across edition text place i (k, l, is) =
     let within : k < length (rests_behind edition text) = omega (arith, l, length-map (rests_behind edition text) (rest_place text)) in
@@ -130,7 +131,8 @@ keeps_across edition text place i (k, l, is) =
 kept-more : (edition : Edition) (texts : List (List ℕ)) (text : List ℕ) → flat_map (kept edition) (texts ++ text ∷ []) ≡ flat_map (kept edition) texts ++ kept edition text
 kept-more edition texts text = flat_map-append (kept edition) texts (text ∷ []) ∙ ap (λ (rules : List StyleRule). flat_map (kept edition) texts ++ rules) (append-nil (kept edition text))
 
--- a text read in two pieces gives the sheet that it gives as a whole, where its rules are those of the pieces
+-- a text read in two pieces gives the sheet that it gives as a whole, where its rules are those of
+-- the pieces
 sheet-across : (edition : Edition) (texts : List (List ℕ)) (text : List ℕ) (place : ℕ) → KeepsAcross edition text place → sheet edition ((texts ++ take place text ∷ []) ++ drop place text ∷ []) ≡ sheet edition (texts ++ text ∷ [])
 sheet-across edition texts text place e =
     let front : List ℕ = take place text in
@@ -141,7 +143,8 @@ sheet-across edition texts text place e =
     ∙ ap (λ (rules : List StyleRule). flat_map (kept edition) texts ++ rules) (sym e)
     ∙ sym (kept-more edition texts text))
 
--- A sheet that adds to the texts it was read from the one that it reads goes on where a statement of a text has ended.
+-- A sheet that adds to the texts it was read from the one that it reads goes on where a statement
+-- of a text has ended.
 pub goes_on : (edition : Edition) (old : List StyleRule) (text : List ℕ) (new : List StyleRule) → ((texts : List (List ℕ)) → old ≡ sheet edition texts → new ≡ sheet edition (texts ++ text ∷ [])) → GoesOn edition old text new
 goes_on edition old text new adds texts whole place i ends is before =
     adds (texts ++ take place whole ∷ []) before

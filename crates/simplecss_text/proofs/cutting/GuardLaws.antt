@@ -9,18 +9,19 @@ use Rattle.simplecss_text.specs.Bytes.{past, past_one, past_byte, starts, byte}
 use Rattle.simplecss_text.proofs.reading.EachLaws.{Takes, took, each-none, each-some}
 use Rattle.simplecss_text.proofs.reading.TakesLaws.{Keeps, each-within, length-left_after, length-past}
 
--- A character that begins with the byte b before the text r does not reach over the byte before its end t; a byte in the
--- middle of a character is let through.
+-- A character that begins with the byte b before the text r does not reach over the byte before its
+-- end t; a byte in the middle of a character is let through.
 abbrev pub Room : ℕ → List ℕ → List ℕ → Type 0
 Room b t r = (continuation_len b + length t < length r) ⊎ ((continuation_len b ≡ 1) × (lead_bits b ≡ 0))
 
--- Two texts with the same front, then the byte g, and behind it t in the first and u in the second. No character that
--- begins in the front reaches over g.
+-- Two texts with the same front, then the byte g, and behind it t in the first and u in the second.
+-- No character that begins in the front reaches over g.
 pub data Along (g : ℕ) (t u : List ℕ) : List ℕ → List ℕ → Type 0 where
   at : Along g t u (g ∷ t) (g ∷ u)
   on : (b : ℕ) (r s : List ℕ) → Room b t r → Along g t u r s → Along g t u (b ∷ r) (b ∷ s)
 
--- what is left stands behind the byte g of the first text, or the byte was not passed and the texts are still alike
+-- what is left stands behind the byte g of the first text, or the byte was not passed and the texts
+-- are still alike
 abbrev pub To : ℕ → List ℕ → List ℕ → List ℕ → List ℕ → Type 0
 To g t u r s = (length r ≤ length t) ⊎ Along g t u r s
 
@@ -164,7 +165,8 @@ pairs-equal [] (y ∷ ys) h = absurd h
 pairs-equal (x ∷ xs) [] h = absurd h
 pairs-equal {A = A} (x ∷ xs) (y ∷ ys) h = let e : x ≡ y = h.0 in let f : xs ≡ ys = pairs-equal xs ys h.1 in rw (e, f) refl
 
--- One step of a repetition from r, and one from s. Where only the second finds something, the first is stuck.
+-- One step of a repetition from r, and one from s. Where only the second finds something, the first
+-- is stuck.
 abbrev pub Step : {A : Type 0} → (A → A → Type 0) → (List ℕ → Type 0) → ℕ → List ℕ → List ℕ → List ℕ → Option (A × List ℕ) → Option (A × List ℕ) → Type 0
 Step R Stuck g t u r None None = Unit {0}
 Step R Stuck g t u r None (Some y) = Stuck r

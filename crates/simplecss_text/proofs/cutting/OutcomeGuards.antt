@@ -10,7 +10,7 @@ use Rattle.simplecss_text.specs.Tokens.Token.{adjacent_combinator, attribute_sel
 use Rattle.simplecss_text.specs.Pieces.{begins_subselector}
 use Rattle.simplecss_text.specs.Pieces.Ending.{within_piece, without_head}
 use Rattle.simplecss_text.specs.Neighbours.{Follows, Side, between, follows_as}
-use Rattle.simplecss_text.specs.Neighbours.Follows.{combinator, faulty_gap, faulty_piece, slash, stop, subselector, type_name, universal}
+use Rattle.simplecss_text.specs.Neighbours.Follows.{combinator, faulty_piece, slash, stop, subselector, type_name, universal}
 use Rattle.simplecss_text.specs.Neighbours.Side.{closed_side, open_side}
 use Rattle.simplecss_text.specs.TokenSequences.{TokenSequence, answered, sequence, sequence_from}
 use Rattle.simplecss_text.specs.TokenSequences.TokenSequence.{item, sequence_end}
@@ -100,7 +100,6 @@ PassedBy n (combinator start) = length start ≤ n
 PassedBy n (stop start) = ⊥
 PassedBy n (slash start) = ⊥
 PassedBy n faulty_piece = ⊥
-PassedBy n faulty_gap = ⊥
 
 with_role-passed : (n : ℕ) (role : Role) (o : Outcome) → length (left_of o) ≤ n → length (left_of (with_role role o)) ≤ n
 with_role-passed n role o l = rw (left_of-with_role role o) l
@@ -121,7 +120,6 @@ answered-passed n closed_side true (combinator x) start next p l = l
 answered-passed n side spaced (stop x) start next p l = absurd p
 answered-passed n side spaced (slash x) start next p l = absurd p
 answered-passed n side spaced faulty_piece start next p l = absurd p
-answered-passed n side spaced faulty_gap start next p l = absurd p
 
 pub after_role-passed : (n : ℕ) (role : Role) (after : List ℕ) (o : Outcome) → length after ≤ n → length (left_of o) ≤ n → length (left_of (after_role role after o)) ≤ n
 after_role-passed n any_type after o a l = with_role-passed n any_type o l

@@ -22,7 +22,8 @@ use Rattle.simplecss_text.proofs.reading.PiecesLawful.{solid_by_byte-cuts, solid
 use Rattle.simplecss_text.proofs.reading.SequenceSteps.{piece_sequence, solid_sequence, gap_sequence, sequence_from-by}
 use Rattle.simplecss_text.proofs.cutting.OutcomeGuards.{OutcomeGuard, PassedBy, both_accepted, both_refused, after_role-guard, after_role-passed, answered-guard, answered-passed, fault_end-outcome, follows_as-alike, left_of, left_of-sequence, refused-guard, follows_as-passed}
 
--- where a solid piece leaves no more than n bytes, so does the place that the table of neighbours names for it
+-- where a solid piece leaves no more than n bytes, so does the place that the table of neighbours
+-- names for it
 abbrev TokenPassed : ℕ → List ℕ → Reading Token → Type 0
 TokenPassed n start (got token after) = length after ≤ n → PassedBy n (follows_as token start after)
 TokenPassed n start (fails fault after) = Unit {0}

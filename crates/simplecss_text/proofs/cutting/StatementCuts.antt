@@ -1,5 +1,6 @@
--- A statement reads the same where the text is cut behind it or later.
--- Serves `StyleSheet::parse_more` and `laws::cutting_law` (a text read in pieces), `StyleSheet::parse` and `laws::edition_law`.
+-- A statement reads the same where the text is cut behind it or later. Serves
+-- `StyleSheet::parse_more` and `laws::cutting_law` (a text read in pieces), `StyleSheet::parse` and
+-- `laws::edition_law`.
 use Rattle.std.proofs.Common.{Bool, IsUtf8, List, None, Some, [], ap, arith, eqb-true, false, if◌then◌else◌, inl, inr, refl, subst, sym, true, ℕ, ◌<◌, ◌==◌, ◌∙◌, ◌∷◌, ◌≡◌, append_assoc, length, ◌++◌, ◌⊎◌, append-nil, length-append}
 use Rattle.std.proofs.Math.Seq.{take-append_seam}
 use Rattle.std.proofs.lemmas.List.{append_cancel_right}
@@ -24,7 +25,8 @@ use Rattle.simplecss_text.proofs.cutting.RoomLaws.{along-from}
 
 -- ---- how a blank and a statement end
 
--- How a statement ends behind a blank: the text is used up, or it is a rule set that ends behind a brace, or an at-rule.
+-- How a statement ends behind a blank: the text is used up, or it is a rule set that ends behind a
+-- brace, or an at-rule.
 data NextEnds (edition : Edition) (text : List ℕ) (rules : List StyleRule) (rest : List ℕ) : Type 0 where
   text_ends : rest ≡ [] → NextEnds edition text rules rest
   rules_end : starts 64 text ≡ false → rule_set edition text ≡ (rules, rest) → Ends text (125 ∷ rest) → NextEnds edition text rules rest

@@ -1,5 +1,5 @@
--- Where blocks, rule sets and at-rules end.
--- Serves `StyleSheet::parse_more` and `laws::cutting_law` (a text read in pieces), `StyleSheet::parse` and `laws::edition_law`.
+-- Where blocks, rule sets and at-rules end. Serves `StyleSheet::parse_more` and `laws::cutting_law`
+-- (a text read in pieces), `StyleSheet::parse` and `laws::edition_law`.
 use Rattle.std.proofs.Common.{Bool, List, None, Some, [], ap, eqb-true, false, if◌then◌else◌, inl, inr, not, one-add, refl, subst, sym, true, ℕ, ◌&&◌, ◌==◌, ◌∙◌, ◌∷◌, ◌≡◌, ◌⊎◌}
 use Rattle.std.specs.List.{prefix_len}
 use Rattle.simplecss_text.specs.Reading.{Ends, Fault, Reading, each, fails, found, got}
@@ -122,8 +122,8 @@ rule_set-behind edition text =
 
 -- ---- at-rules
 
--- How an at-rule ends that has this text behind its sign: it uses the text up, or ends at the fault of its name, or
--- behind a semicolon, or behind a block.
+-- How an at-rule ends that has this text behind its sign: it uses the text up, or ends at the fault
+-- of its name, or behind a semicolon, or behind a block.
 pub data AtRuleEnds (edition : Edition) (text : List ℕ) : List ℕ → Type 0 where
   uses_up : AtRuleEnds edition text []
   at_fault : (fault : Fault) (left : List ℕ) → name edition text ≡ fails fault left → AtRuleEnds edition text left

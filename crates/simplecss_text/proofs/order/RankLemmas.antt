@@ -1,5 +1,5 @@
--- Each element at its rank is what a stable sort gives.
--- Serves `order::{sort_rules, merge, drop_empty}` and `laws::{order_laws, place_law}` (the order of rules).
+-- Each element at its rank is what a stable sort gives. Serves `order::{sort_rules, merge,
+-- drop_empty}` and `laws::{order_laws, place_law}` (the order of rules).
 use Rattle.std.proofs.Common.{◌≡◌, ℕ, ◌+◌, ◌<◌, suc, zero, Bool, true, false, cond, not, ◌&&◌, List, [], ◌∷◌, ◌++◌, length, length-append, get_or, take, map, filter, count_by, Option, Some, eqb, eq-eqb, ap, ◌∙◌, sym, subst, refl, arith}
 use Rattle.std.proofs.lemmas.List.{length-map}
 use Rattle.std.specs.Option.{option_map}
@@ -458,8 +458,8 @@ ties_alike lt o y x tied z =
     let over : lt z y ≡ lt z x = same_test (lt z y) (lt z x) (λ h. o.chain z y x h apart.0) (λ h. o.chain z x y h apart.1) in
     λ i. not (under i) && not (over i)
 
--- The elements that tie with y are the same in both lists, where that holds of each y that the function gives: there are as
--- many of them, and if there is one, y ties with what it gives.
+-- The elements that tie with y are the same in both lists, where that holds of each y that the
+-- function gives: there are as many of them, and if there is one, y ties with what it gives.
 stable_at : {X Y : Type 0} (f : X → Y) (lt : Y → Y → Bool) (o : IsStrictWeakOrder lt) (xs ys : List X) → ((x : X) → filter (λ z. ties lt (f x) (f z)) ys ≡ filter (λ z. ties lt (f x) (f z)) xs) → (y : Y) (l m : List X) → filter (λ z. ties lt y (f z)) xs ≡ l → filter (λ z. ties lt y (f z)) ys ≡ m → length m ≡ length l → filter (λ z. ties lt y (f z)) ys ≡ filter (λ z. ties lt y (f z)) xs
 stable_at f lt o xs ys stable y [] [] e g n = g ∙ sym e
 stable_at f lt o xs ys stable y [] (x ∷ m) e g n = absurd (omega arith)

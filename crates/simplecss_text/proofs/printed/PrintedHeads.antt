@@ -1,5 +1,5 @@
--- Printed heads read back, and the gaps of a printed selector.
--- Serves `Selector::{parse, parse_front}` and `StyleSheet::parse` (a selector printed and read again).
+-- Printed heads read back, and the gaps of a printed selector. Serves `Selector::{parse,
+-- parse_front}` and `StyleSheet::parse` (a selector printed and read again).
 use Rattle.std.proofs.Common.{◌≡◌, ℕ, ◌<◌, ◌≤◌, ◌⊎◌, inl, inr, List, [], ◌∷◌, ◌++◌, Bool, true, false, if◌then◌else◌, ◌&&◌, ◌==◌, nat_lt, length, arith, refl, sym, ap, ◌∙◌, subst, length-append, encode_utf8, encode_utf8_all, Option, Some, None}
 use Rattle.std.specs.Str.{chars}
 use Rattle.std.specs.List.{list_all, list_any}
@@ -138,8 +138,8 @@ solid-name_byte edition b text w =
     no : (k : ℕ) → k < 128 → is_name_char edition k ≡ false → (b == k) ≡ false
     no k less e = other_byte edition k b less e w
 
--- What the type of a component satisfies that was read, where this text stands behind it. A hyphen alone is a type only
--- where it ends the text.
+-- What the type of a component satisfies that was read, where this text stands behind it. A hyphen
+-- alone is a type only where it ends the text.
 abbrev pub IsTypeName : Edition → Option (List ℕ) → List ℕ → Type 0
 IsTypeName edition None behind = Unit {0}
 IsTypeName edition (Some n) behind = IsName edition n ⊎ ((n ≡ 45 ∷ []) × (behind ≡ []))

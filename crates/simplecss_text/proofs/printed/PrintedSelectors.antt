@@ -1,5 +1,5 @@
--- A printed selector reads back.
--- Serves `Selector::{parse, parse_front}` and `StyleSheet::parse` (a selector printed and read again).
+-- A printed selector reads back. Serves `Selector::{parse, parse_front}` and `StyleSheet::parse` (a
+-- selector printed and read again).
 use Rattle.std.proofs.Common.{◌≡◌, ℕ, ◌<◌, List, [], ◌∷◌, ◌++◌, Bool, true, false, map, refl, sym, ap, ◌∙◌, subst, append_assoc, append-nil, arith, Option, Some, None}
 use Rattle.std.specs.List.{list_all, flat_map}
 use Rattle.simplecss_text.specs.Reading.{got}
@@ -25,7 +25,8 @@ use Rattle.simplecss_text.proofs.printed.PrintedNames.{both_true, ends_names, en
 use Rattle.simplecss_text.proofs.printed.PrintedPieces.{IsSubselector, printed_token, printed_token-role, subselector-reads, solid-by_byte, some-length}
 use Rattle.simplecss_text.proofs.printed.PrintedHeads.{NoGap, no_gap-byte, gap-none, gap-space, IsTypeName, head_token, head_role, head-reads, head-no_gap}
 
--- Behind a simple piece the text goes on with these roles, and then this is left. No name goes on there.
+-- Behind a simple piece the text goes on with these roles, and then this is left. No name goes on
+-- there.
 pub record Goes (edition : Edition) (text : List ℕ) (roles : List Role) (left : List ℕ) : Type 0 where
   pub ends : ends_names edition text ≡ false
   pub runs : outcome (sequence_from edition closed_side text) ≡ accepted roles left

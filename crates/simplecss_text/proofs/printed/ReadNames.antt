@@ -1,5 +1,5 @@
--- What a name is that was read.
--- Serves `Selector::{parse, parse_front}` and `StyleSheet::parse` (a selector printed and read again).
+-- What a name is that was read. Serves `Selector::{parse, parse_front}` and `StyleSheet::parse` (a
+-- selector printed and read again).
 use Rattle.std.proofs.Common.{◌≡◌, ℕ, ◌⊎◌, inl, inr, List, [], ◌∷◌, ◌++◌, Bool, true, false, cond, if◌then◌else◌, suc, ◌+◌, arith, ◌||◌, ◌&&◌, ◌==◌, length, drop, refl, sym, ap, ◌∙◌, subst, encode_utf8_all, IsUtf8}
 use Rattle.std.specs.Str.{chars, all_scalars}
 use Rattle.std.specs.List.{list_all, prefix_len, take_while}
@@ -82,7 +82,8 @@ taken_begins edition (c ∷ d ∷ cs) h = by (is_name_start edition c) refl
         ∙ ap (λ l. c ∷ l) (taken (is_name_char edition) d cs (start_char edition d both.1)) in
         inl (ap (begins_any_name edition) two ∙ h)
 
--- A name that was read: it is one wherever it stands, or the hyphen that ends the text. What is left is a text.
+-- A name that was read: it is one wherever it stands, or the hyphen that ends the text. What is
+-- left is a text.
 pub record ReadName (edition : Edition) (text n rest : List ℕ) : Type 0 where
   pub is : IsName edition n ⊎ ((n ≡ 45 ∷ []) × (rest ≡ []))
   pub rest_is : IsUtf8 rest

@@ -1,5 +1,5 @@
--- A selector that was read, printed and read again.
--- Serves `laws::printing_law`, `Selector::{parse, parse_front}` and `StyleSheet::parse` (a selector printed and read again).
+-- A selector that was read, printed and read again. Serves `laws::printing_law`, `Selector::{parse,
+-- parse_front}` and `StyleSheet::parse` (a selector printed and read again).
 use Rattle.std.proofs.Common.{◌≡◌, ℕ, inl, inr, ◌↔◌, List, [], ◌∷◌, ◌++◌, Bool, true, false, ◌&&◌, ◌==◌, length, codes, bytes_eq, refl, sym, ap, ◌∙◌, subst, append-nil, Option, Some, None, IfSome, encode_utf8_all, IsUtf8}
 use Rattle.std.specs.List.{flat_map}
 use Rattle.std.proofs.lemmas.Str.{encodes_same}
@@ -180,7 +180,8 @@ selector-reads_back_before edition s b left w tail =
 pub selector-reads_back_both : (edition : Edition) (s : List Component) (b : ℕ) (left : List ℕ) → IsSelector edition s (b ∷ left) → SelectorReadsBack edition s
 selector-reads_back_both edition s b left w = record { alone = selector-reads_back edition s (b ∷ left) w; before_block = λ h. selector-reads_back_before edition s b left w }
 
--- The selector of a text, where it has one, reads back, and before a block where it ends in no lone hyphen.
+-- The selector of a text, where it has one, reads back, and before a block where it ends in no lone
+-- hyphen.
 pub found-reads_back : (edition : Edition) (text : List ℕ) → IsUtf8 text → IfSome (reads edition text).0 (SelectorReadsBack edition)
 found-reads_back edition text u = by (reads edition text).0 refl
   where

@@ -1,5 +1,5 @@
--- What selector a sequence gives that is accepted.
--- Serves `Selector::{parse, parse_front}` and `StyleSheet::parse` (a selector printed and read again).
+-- What selector a sequence gives that is accepted. Serves `Selector::{parse, parse_front}` and
+-- `StyleSheet::parse` (a selector printed and read again).
 use Rattle.std.proofs.Common.{◌≡◌, ℕ, zero, suc, ◌<◌, inl, inr, List, [], ◌∷◌, ◌++◌, Bool, true, false, if◌then◌else◌, map, length, codes, bytes_eq, arith, refl, sym, ap, ◌∙◌, subst, Option, Some, None, IsUtf8}
 use Rattle.std.specs.List.{flat_map}
 use lib.Utf8.{encode}
@@ -44,7 +44,8 @@ pub record GoesOn (edition : Edition) (roles : List Role) (left : List ℕ) : Ty
   pub no_type : (known : Option (List ℕ)) → type_among known (cut roles).0 ≡ known
   pub others : EachJoined edition (others_of roles) left
 
--- At the start of a text, or behind a combinator: a compound, and then components behind combinators.
+-- At the start of a text, or behind a combinator: a compound, and then components behind
+-- combinators.
 pub record Begins (edition : Edition) (roles : List Role) (left : List ℕ) : Type 0 where
   pub compound : IsCompound edition (component_of (none, (cut roles).0)).compound (selector_text (others_of roles) ++ left)
   pub others : EachJoined edition (others_of roles) left
@@ -171,7 +172,8 @@ open_piece edition spaced start descendant_combinator after rest w h = tt
 open_piece edition spaced start child_combinator after rest w h = tt
 open_piece edition spaced start adjacent_combinator after rest w h = tt
 
--- behind a simple piece and a space byte: a descendant combinator, or a combinator that stands there
+-- behind a simple piece and a space byte: a descendant combinator, or a combinator that stands
+-- there
 spaced_piece : (edition : Edition) (start : List ℕ) (token : Token) (after : List ℕ) (rest : Side → TokenSequence) → GoodToken edition token after → Behind edition after rest → IfGoesOn edition (piece_outcome closed_side true start token after rest)
 spaced_piece edition start universal_selector after rest w h = goes_on-joint edition descendant (after_role (role_of universal_selector) after (outcome (rest closed_side))) tt (open_piece edition false start universal_selector after rest w h)
 spaced_piece edition start (type_selector n) after rest w h = goes_on-joint edition descendant (after_role (role_of (type_selector n)) after (outcome (rest closed_side))) tt (open_piece edition false start (type_selector n) after rest w h)

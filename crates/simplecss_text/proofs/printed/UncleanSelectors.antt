@@ -1,5 +1,5 @@
--- A selector that is not clean does not read back.
--- Serves `Selector::{parse, parse_front}` and `StyleSheet::parse` (a selector printed and read again).
+-- A selector that is not clean does not read back. Serves `Selector::{parse, parse_front}` and
+-- `StyleSheet::parse` (a selector printed and read again).
 use Rattle.std.proofs.Common.{◌≡◌, ℕ, ◌⊎◌, inl, inr, List, [], ◌∷◌, ◌++◌, Bool, true, false, ◌&&◌, if◌then◌else◌, map, length, length-append, refl, sym, ap, ◌∙◌, subst, append_assoc, arith, Option, Some, None}
 use Rattle.std.specs.List.{list_all, flat_map}
 use Rattle.simplecss_text.specs.Reading.{Reading, got, fails, follow}
@@ -67,7 +67,8 @@ attribute-cut edition n o tail w x =
     let second = x.reads in
     rw (first, second) refl
 
--- The outcome behind a simple piece gives other subselectors or other components than these, or none.
+-- The outcome behind a simple piece gives other subselectors or other components than these, or
+-- none.
 abbrev Differs : Outcome → List Subselector → List Component → Type 0
 Differs (refused left) ss cs = Unit {0}
 Differs (accepted roles left) ss cs = subselectors_among (cut roles).0 ≡ ss → map component_of (cut roles).1 ≡ cs → ⊥

@@ -1,5 +1,5 @@
--- How many declarations and tokens a text has at most.
--- Serves `SelectorTokenizer::from` and `DeclarationTokenizer::from` (how many items are to come at most).
+-- How many declarations and tokens a text has at most. Serves `SelectorTokenizer::from` and
+-- `DeclarationTokenizer::from` (how many items are to come at most).
 use Rattle.std.proofs.Common.{◌≡◌, ◌≤◌, ◌<◌, ◌+◌, List, ℕ, [], ◌∷◌, Bool, true, false, if◌then◌else◌, suc, zero, length, Option, Some, None, refl, sym, subst, arith}
 use Rattle.std.specs.List.{list_any}
 use Rattle.simplecss_text.specs.Reading.{Fault, Reading, got, fails, up_to, each, and_then}
@@ -11,7 +11,7 @@ use Rattle.simplecss_text.specs.Pieces.{Ending, solid_by_byte, ends_selector, be
 use Rattle.simplecss_text.specs.Pieces.Ending.{at_stop, at_slash, without_head, within_piece, within_gap}
 use Rattle.simplecss_text.specs.Neighbours.{Side, Follows, between, follows_as, before_ending, side_behind}
 use Rattle.simplecss_text.specs.Neighbours.Side.{open_side, closed_side}
-use Rattle.simplecss_text.specs.Neighbours.Follows.{subselector, universal, type_name, combinator, stop, slash, faulty_piece, faulty_gap}
+use Rattle.simplecss_text.specs.Neighbours.Follows.{subselector, universal, type_name, combinator, stop, slash, faulty_piece}
 use Rattle.simplecss_text.specs.TokenSequences.{TokenSequence, sequence, sequence_from, items, answered, side_with, token_then, ending_sequence}
 use Rattle.simplecss_text.specs.Declarations.{next_declaration, declarations}
 use Rattle.simplecss_text.proofs.reading.PiecesLawful.{solid_by_byte-cuts}
@@ -85,7 +85,6 @@ length-between open_side spaced (combinator at) start next n one h = omega arith
 length-between open_side spaced (stop at) start next n one h = omega arith
 length-between open_side spaced (slash at) start next n one h = omega arith
 length-between open_side spaced faulty_piece start next n one h = omega arith
-length-between open_side spaced faulty_gap start next n one h = omega arith
 length-between closed_side false subselector start next n one h = omega arith
 length-between closed_side false (universal at) start next n one h = omega arith
 length-between closed_side false (type_name after) start next n one h = omega arith
@@ -93,7 +92,6 @@ length-between closed_side false (combinator at) start next n one h = omega arit
 length-between closed_side false (stop at) start next n one h = omega arith
 length-between closed_side false (slash at) start next n one h = omega arith
 length-between closed_side false faulty_piece start next n one h = omega arith
-length-between closed_side false faulty_gap start next n one h = omega arith
 length-between closed_side true subselector start next n one h = omega arith
 length-between closed_side true (universal at) start next n one h = omega arith
 length-between closed_side true (type_name after) start next n one h = omega arith
@@ -101,7 +99,6 @@ length-between closed_side true (combinator at) start next n one h = omega arith
 length-between closed_side true (stop at) start next n one h = omega arith
 length-between closed_side true (slash at) start next n one h = omega arith
 length-between closed_side true faulty_piece start next n one h = omega arith
-length-between closed_side true faulty_gap start next n one h = omega arith
 
 length-ending_sequence : (side : Side) (end : Ending) → length (items (ending_sequence side end)) ≤ 2
 length-ending_sequence open_side (at_stop spaced start) = omega arith
@@ -128,7 +125,7 @@ length-sequence_end side (at_stop spaced start) = length-between side spaced (st
 length-sequence_end side (at_slash spaced start) = length-between side spaced (slash start) _ _ 2 (omega arith) (length-ending_sequence (side_with (before_ending side (at_slash spaced start)) side) (at_slash spaced start))
 length-sequence_end side (without_head spaced start fault after) = length-between side spaced faulty_piece _ _ 2 (omega arith) (length-ending_sequence (side_with (before_ending side (without_head spaced start fault after)) side) (without_head spaced start fault after))
 length-sequence_end side (within_piece spaced start fault after) = length-between side spaced faulty_piece _ _ 2 (omega arith) (length-ending_sequence (side_with (before_ending side (within_piece spaced start fault after)) side) (within_piece spaced start fault after))
-length-sequence_end side (within_gap fault after) = length-between side false faulty_gap _ _ 2 (omega arith) (length-ending_sequence (side_with (before_ending side (within_gap fault after)) side) (within_gap fault after))
+length-sequence_end side (within_gap fault after) = length-ending_sequence side (within_gap fault after)
 
 length-fault_end : (side : Side) (spaced : Bool) (start : List ℕ) (fault : Fault) (after : List ℕ) → length (items (sequence side [] (fault_end spaced start fault after))) ≤ space_of spaced + 2
 length-fault_end side spaced start fault after = by (starts_by begins_subselector start)

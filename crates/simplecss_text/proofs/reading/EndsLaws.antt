@@ -1,5 +1,5 @@
--- Ends of a text, and texts that stand in what reading passes.
--- Serves `next` of both tokenizers (slices in order), `StyleSheet::parse_more`, `laws::cutting_law` and `laws::edition_law`.
+-- Ends of a text, and texts that stand in what reading passes. Serves `next` of both tokenizers
+-- (slices in order), `StyleSheet::parse_more`, `laws::cutting_law` and `laws::edition_law`.
 use Rattle.std.proofs.Common.{◌≡◌, ℕ, zero, suc, ◌≤◌, List, [], ◌∷◌, ◌++◌, Bool, true, false, if◌then◌else◌, length, take, drop, ◌-◌, ◌==◌, Option, Some, None, arith, refl, ap, ◌∙◌, subst, append_assoc, append-nil, length-append}
 use Rattle.std.proofs.Math.Seq.{take-append_seam}
 use Rattle.std.proofs.lemmas.List.{take-append-drop}
@@ -117,7 +117,8 @@ stand-ends from to (s ∷ ss) (start, end, a, b, c, d) = ends-ends from start to
 pub stand-before : (text rest : List ℕ) → Ends text rest → StandBetween text rest (before text rest ∷ [])
 stand-before text rest e = (text, rest, ends-same text, e, refl, ends-same rest)
 
--- After a reading an end of the text is left, and the texts of the value that it gives stand before it.
+-- After a reading an end of the text is left, and the texts of the value that it gives stand before
+-- it.
 abbrev pub StandsIn : {A : Type 0} → List ℕ → (A → List (List ℕ)) → Reading A → Type 0
 StandsIn text texts (got x rest) = StandBetween text rest (texts x)
 StandsIn text texts (fails fault rest) = Ends text rest

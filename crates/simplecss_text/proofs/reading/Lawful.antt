@@ -1,5 +1,6 @@
--- What every reader owes, as one record, and what keeps it: choosing, passing a byte, reading one thing after another.
--- Serves the tokenizers, `take_value`, `StyleSheet::{parse, parse_more}` and `laws::{cutting_law, edition_law}`.
+-- What every reader owes, as one record, and what keeps it: choosing, passing a byte, reading one
+-- thing after another. Serves the tokenizers, `take_value`, `StyleSheet::{parse, parse_more}` and
+-- `laws::{cutting_law, edition_law}`.
 use Rattle.std.proofs.Common.{◌≡◌, ℕ, List, [], ◌∷◌, ◌++◌, Bool, true, false, if◌then◌else◌, arith, refl, ap, subst, sym, ◌∙◌, inl, inr}
 use Rattle.simplecss_text.specs.Reading.{Ends, Fault, Reader, Reading, fails, follow, got, left_after}
 use Rattle.simplecss_text.specs.Bytes.{byte, optional, past, past_one, starts}
@@ -15,17 +16,17 @@ use Rattle.simplecss_text.proofs.cutting.NameGuards.{name-guarded}
 use Rattle.simplecss_text.proofs.cutting.SearchLaws.{blank-guarded, quote_no_brace, string_after-guarded}
 use Rattle.simplecss_text.proofs.editions.EditionLaws.{Shared, name-editions, shared-ends}
 
--- What a reading of the text r owes, in either edition.
--- `ends`: what it leaves is an end of r.
--- `same`: where r has ASCII bytes alone and no slash, both editions come to the same.
--- `guard`: where another text s is alike up to a closing brace, and b reads s, the brace was passed or both come to the same.
+-- What a reading of the text r owes, in either edition. `ends`: what it leaves is an end of r.
+-- `same`: where r has ASCII bytes alone and no slash, both editions come to the same. `guard`:
+-- where another text s is alike up to a closing brace, and b reads s, the brace was passed or both
+-- come to the same.
 pub record Owes {A : Type 0} (r s : List ℕ) (a b : Edition → Reading A) : Type 0 where
   pub ends : (edition : Edition) → Ends r (left_after (a edition))
   pub same : Shared r → a first_edition ≡ a second_edition
   pub guard : (edition : Edition) (u v : List ℕ) → Along 125 (u ++ v) u r s → Guard Equal 125 (u ++ v) u (a edition) (b edition)
 
--- A reader owes it in every text. In the other text n reads, which is m, unless m knows a place of its text: then n knows a place
--- of the other.
+-- A reader owes it in every text. In the other text n reads, which is m, unless m knows a place of
+-- its text: then n knows a place of the other.
 abbrev pub Lawful : {A : Type 0} → (Edition → Reader A) → (Edition → Reader A) → Type 0
 Lawful m n = (r s : List ℕ) → Owes r s (λ edition. m edition r) (λ edition. n edition s)
 

@@ -1,5 +1,6 @@
--- What a sequence gives stands in its text, each item behind the one before, and what reading leaves is an end of the text.
--- Serves `next` of `SelectorTokenizer` (slices in order), `consume_parts`, `laws::cutting_law` and `laws::edition_law`.
+-- What a sequence gives stands in its text, each item behind the one before, and what reading
+-- leaves is an end of the text. Serves `next` of `SelectorTokenizer` (slices in order),
+-- `consume_parts`, `laws::cutting_law` and `laws::edition_law`.
 use Rattle.std.proofs.Common.{ℕ, zero, suc, List, [], ◌∷◌, Bool, true, false, if◌then◌else◌, length, Ok, Err, IsUtf8}
 use Rattle.simplecss_text.specs.Reading.{Reading, got, fails, follow, found, and_then, up_to, each, Ends}
 use Rattle.simplecss_text.specs.Bytes.{starts, starts_by}
@@ -12,7 +13,7 @@ use Rattle.simplecss_text.specs.Pieces.{Piece, piece, next_piece, pieces, Ending
 use Rattle.simplecss_text.specs.Pieces.Ending.{at_stop, at_slash, without_head, within_piece, within_gap}
 use Rattle.simplecss_text.specs.Neighbours.{Side, Follows, Answer, between, follows_as, before_piece, before_ending, side_behind}
 use Rattle.simplecss_text.specs.Neighbours.Side.{open_side, closed_side}
-use Rattle.simplecss_text.specs.Neighbours.Follows.{subselector, universal, type_name, combinator, stop, slash, faulty_piece, faulty_gap}
+use Rattle.simplecss_text.specs.Neighbours.Follows.{subselector, universal, type_name, combinator, stop, slash, faulty_piece}
 use Rattle.simplecss_text.specs.Neighbours.Answer.{nothing, descends, ends_tokens, refuses}
 use Rattle.simplecss_text.specs.TokenSequences.{TokenSequence, sequence, sequence_from, sequence_of, answered, side_with, token_then, ending_sequence, start_of, item_texts}
 use Rattle.simplecss_text.specs.TokenSequences.TokenSequence.{item, sequence_end}
@@ -22,7 +23,8 @@ use Rattle.simplecss_text.specs.Selectors.Outcome.{refused, accepted}
 use Rattle.simplecss_text.proofs.reading.EndsLaws.{ends-same, ends-ends, ends-past_one, stand-from, stand-ends, Stands, no_texts}
 use Rattle.simplecss_text.proofs.reading.StandLaws.{gap-stands, Sees, sees_nothing, sees_texts, solid-stands}
 
--- The texts of a sequence's tokens stand in order in the text, each behind the rest that the item before left.
+-- The texts of a sequence's tokens stand in order in the text, each behind the rest that the item
+-- before left.
 abbrev pub SequenceStands : (Token → List (List ℕ)) → List ℕ → TokenSequence → Type 0
 SequenceStands texts text (item (Ok token) after rest) = StandBetween text after (texts token) × SequenceStands texts after rest
 SequenceStands texts text (item (Err fault) after rest) = Ends text after × SequenceStands texts after rest
@@ -44,7 +46,6 @@ FollowsEnds text (combinator start) = Ends text start
 FollowsEnds text (stop start) = Ends text start
 FollowsEnds text (slash start) = Ends text start
 FollowsEnds text faulty_piece = Unit {0}
-FollowsEnds text faulty_gap = Unit {0}
 
 abbrev AnswerEnds : List ℕ → Answer → Type 0
 AnswerEnds text nothing = Unit {0}
@@ -60,7 +61,6 @@ between-ends text open_side spaced (combinator start) h = h
 between-ends text open_side spaced (stop start) h = h
 between-ends text open_side spaced (slash start) h = h
 between-ends text open_side spaced faulty_piece h = tt
-between-ends text open_side spaced faulty_gap h = tt
 between-ends text closed_side false subselector h = tt
 between-ends text closed_side false (universal start) h = h
 between-ends text closed_side false (type_name after) h = h
@@ -68,7 +68,6 @@ between-ends text closed_side false (combinator start) h = tt
 between-ends text closed_side false (stop start) h = tt
 between-ends text closed_side false (slash start) h = tt
 between-ends text closed_side false faulty_piece h = tt
-between-ends text closed_side false faulty_gap h = tt
 between-ends text closed_side true subselector h = tt
 between-ends text closed_side true (universal start) h = tt
 between-ends text closed_side true (type_name after) h = tt
@@ -76,7 +75,6 @@ between-ends text closed_side true (combinator start) h = tt
 between-ends text closed_side true (stop start) h = tt
 between-ends text closed_side true (slash start) h = ends-ends text start _ h (ends-past_one start)
 between-ends text closed_side true faulty_piece h = tt
-between-ends text closed_side true faulty_gap h = tt
 
 follows_as-ends : (text : List ℕ) (token : Token) (start after : List ℕ) → Ends text start → Ends text after → FollowsEnds text (follows_as token start after)
 follows_as-ends text universal_selector start after s a = s
@@ -117,7 +115,7 @@ before_ending-ends text side (at_stop spaced start) h = between-ends text side s
 before_ending-ends text side (at_slash spaced start) h = between-ends text side spaced (slash start) h
 before_ending-ends text side (without_head spaced start fault after) h = between-ends text side spaced faulty_piece tt
 before_ending-ends text side (within_piece spaced start fault after) h = between-ends text side spaced faulty_piece tt
-before_ending-ends text side (within_gap fault after) h = between-ends text side false faulty_gap tt
+before_ending-ends text side (within_gap fault after) h = tt
 
 ending_sequence-stands : (texts : Token → List (List ℕ)) (text : List ℕ) (side : Side) (end : Ending) → EndingEnds text end → SequenceStands texts (start_of end) (ending_sequence side end)
 ending_sequence-stands texts text open_side (at_stop spaced start) h = ends-same start
@@ -157,7 +155,8 @@ ending-ends edition text = gap_ending-ends edition text (gap text) (gap-stands t
 
 -- ---- pieces
 
--- A piece that is read: its start is an end of the text, and its token's texts stand from there to what it leaves.
+-- A piece that is read: its start is an end of the text, and its token's texts stand from there to
+-- what it leaves.
 abbrev pub PieceStands : (Token → List (List ℕ)) → List ℕ → Reading Piece → Type 0
 PieceStands texts text (got p rest) = Ends text p.start × StandBetween p.start p.after (texts p.token) × Ends p.after rest
 PieceStands texts text (fails fault rest) = Ends text rest

@@ -1,5 +1,6 @@
--- What each reader leaves is an end of the text, and what it gives stands before that end.
--- Serves `next` of `SelectorTokenizer` (slices in order), `consume_declaration`, `laws::cutting_law` and `laws::edition_law`.
+-- What each reader leaves is an end of the text, and what it gives stands before that end. Serves
+-- `next` of `SelectorTokenizer` (slices in order), `consume_declaration`, `laws::cutting_law` and
+-- `laws::edition_law`.
 use Rattle.std.proofs.Common.{◌≡◌, ℕ, ◌<◌, ◌+◌, List, [], ◌∷◌, ◌++◌, Bool, true, false, if◌then◌else◌, ◌||◌, ◌&&◌, ◌==◌, not, bytes_eq, length, take, drop, get_or, Option, Some, None, arith, refl, sym, ap, ◌∙◌, subst, encode_utf8_all, codes, append_assoc, append-nil, IsUtf8, length-append, length-drop, cond, ◌⊎◌, inl, inr}
 use Rattle.std.specs.Str.{chars, trim, trim_start, trim_end, skip_leading_whitespace, drop_trailing_whitespace, all_scalars, IsCharBoundary}
 use Rattle.std.specs.Char.{is_whitespace}
@@ -178,7 +179,8 @@ scalars-rest : (w x : List ℕ) → all_scalars (w ++ x) ≡ true → all_scalar
 scalars-rest [] x h = h
 scalars-rest (c ∷ w) x h = scalars-rest w x (second-true _ (all_scalars (w ++ x)) h)
 
--- a text is what its trim takes off its front, what is left of it, and what the trim takes off its end
+-- a text is what its trim takes off its front, what is left of it, and what the trim takes off its
+-- end
 pub trim-parts : (bs : List ℕ) → IsUtf8 bs → (a : List ℕ) × (c : List ℕ) × (bs ≡ a ++ (trim bs ++ c))
 unfolding trim_start trim_end
 trim-parts bs u =
@@ -211,8 +213,8 @@ language-stands text u =
 
 -- ---- pieces
 
--- Which texts of a token are to be seen, of texts that are good. Of one that need not be the UTF-8 of characters a
--- language may be trimmed to what does not stand in it, so there no texts are seen.
+-- Which texts of a token are to be seen, of texts that are good. Of one that need not be the UTF-8
+-- of characters a language may be trimmed to what does not stand in it, so there no texts are seen.
 pub record Sees (Good : List ℕ → Type 0) (texts : Token → List (List ℕ)) : Type 0 where
   pub behind : (text rest : List ℕ) (b : ℕ) → b < 128 → Good text → Ends text (b ∷ rest) → Good rest
   pub seen : (text : List ℕ) (r : Reading Token) → Stands text token_texts r → Stands text texts r

@@ -246,7 +246,8 @@ unfolding each comment blank gap past_name_chars name string_or_name attribute_o
 slashes first_edition = (refl, refl, refl)
 slashes second_edition = (refl, refl, refl)
 
--- what is left where a name is missing: a hyphen is passed, and behind an open left side a missing head is told twice
+-- what is left where a name is missing: a hyphen is passed, and behind an open left side a missing
+-- head is told twice
 pub places_of_missing_names : (edition : Edition) →
     (sequence_of edition (codes "<,b") ≡ item (Err (no_name (codes "<,b"))) (codes "<,b") (item (Err no_selector) (codes "<,b") (sequence_end (codes "<,b"))))
     × (sequence_of edition (codes "-,b") ≡ item (Err (no_name (codes "-,b"))) (codes ",b") (item (Err no_selector) (codes ",b") (sequence_end (codes ",b"))))

@@ -4,7 +4,8 @@ use Rattle.simplecss_selector.specs.Stretches.{IsStretch}
 use Rattle.simplecss_selector.specs.PlacementSearch.{CanPlace, first_of}
 use Rattle.simplecss_selector.proofs.matching.goes_on.Given as goal
 
--- the selector matches exactly if the components up to the end of the stretch can be placed at or above the candidate
+-- the selector matches exactly if the components up to the end of the stretch can be placed at or
+-- above the candidate
 abbrev pub invariant-loop-candidate : goal.invariant-loop-candidate
 invariant-loop-candidate g l =
     let tree = g.E.Element.tree in
