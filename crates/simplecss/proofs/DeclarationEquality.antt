@@ -1,4 +1,5 @@
--- Lists of declarations are equal in turn exactly if what they say is. Serves the laws of equality.
+-- Lists of declarations are equal in turn exactly if what they say is.
+-- Serves the laws of equality.
 use Rattle.std.specs.Prelude.{◌≡◌, List, Bool, ◌&&◌}
 use Rattle.std.proofs.Common.{subst}
 use Rattle.std.specs.Bool.{Decides, beq}

@@ -1,5 +1,6 @@
--- A blank is read alike in texts that differ only in a tail that it does not reach. Serves
--- `prints_back` of `StyleSheet::{parse, parse_all, parse_more}` (a sheet printed and read again).
+-- A blank is read alike in texts that differ only in a tail that it does not reach.
+-- Serves `prints_back` of `StyleSheet::{parse, parse_all, parse_more}` (a sheet printed and read
+-- again).
 use Rattle.std.proofs.Common.{◌≡◌, ℕ, zero, suc, ◌<◌, List, [], ◌∷◌, ◌++◌, Bool, true, false, if◌then◌else◌, ◌&&◌, ◌==◌, length, Option, Some, None, IfSome, arith, refl, sym, ap, ◌∙◌, subst, length-append, IsUtf8}
 use Rattle.std.specs.Option.{option_map}
 use Rattle.simplecss_text.specs.Bytes.{past_one, starts, starts_two}

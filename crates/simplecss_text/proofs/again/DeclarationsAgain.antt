@@ -1,5 +1,6 @@
--- A declaration that was read, printed and read again. Serves `prints_back` of `StyleSheet::{parse,
--- parse_all, parse_more}` (a sheet printed and read again).
+-- A declaration that was read, printed and read again.
+-- Serves `prints_back` of `StyleSheet::{parse, parse_all, parse_more}` (a sheet printed and read
+-- again).
 use Rattle.std.proofs.Common.{◌≡◌, ℕ, inl, inr, List, [], ◌∷◌, ◌++◌, Bool, true, false, if◌then◌else◌, ◌==◌, length, codes, refl, sym, ap, ◌∙◌, subst, append_assoc, arith, IsUtf8, Option, Some, None}
 use Rattle.std.specs.Option.{option_map}
 use Rattle.std.proofs.lemmas.Bool.Decides.{nat_tests}

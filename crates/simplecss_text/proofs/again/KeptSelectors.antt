@@ -1,5 +1,6 @@
--- The selectors of a sheet read back. Serves `selectors` of `StyleSheet::{parse, parse_all,
--- parse_more}` (the selectors of a sheet printed and read again).
+-- The selectors of a sheet read back.
+-- Serves `selectors` of `StyleSheet::{parse, parse_all, parse_more}` (the selectors of a sheet
+-- printed and read again).
 use Rattle.std.proofs.Common.{false, ℕ, ◌≡◌, List, [], ◌∷◌, ◌++◌, false, filter, IsUtf8}
 use Rattle.std.specs.List.{AllByRecursion, All}
 use Rattle.std.proofs.lemmas.List.Elements.{All-nil, All-push, All-append, All-weaker, All-filter, All-from_recursion, recursion_from_All}

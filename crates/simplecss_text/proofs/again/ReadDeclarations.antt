@@ -1,5 +1,6 @@
--- What terms, values and declarations leave of a text is a text. Serves `selectors` and
--- `prints_back` of `StyleSheet::{parse, parse_all, parse_more}` (a sheet printed and read again).
+-- What terms, values and declarations leave of a text is a text.
+-- Serves `selectors` and `prints_back` of `StyleSheet::{parse, parse_all, parse_more}` (a sheet
+-- printed and read again).
 use Rattle.std.proofs.Common.{◌≡◌, ℕ, ◌<◌, List, [], ◌∷◌, ◌++◌, Bool, true, false, if◌then◌else◌, ◌||◌, ◌==◌, length, take, drop, Option, Some, None, codes, eqb, arith, refl, sym, ap, ◌∙◌, subst, IsUtf8}
 use Rattle.std.specs.List.{starts_with}
 use lib.Utf8.{encode}

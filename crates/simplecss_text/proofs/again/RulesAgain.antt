@@ -1,5 +1,6 @@
--- A rule that was read, printed and read again. Serves `prints_back` of `StyleSheet::{parse,
--- parse_all, parse_more}` (a sheet printed and read again).
+-- A rule that was read, printed and read again.
+-- Serves `prints_back` of `StyleSheet::{parse, parse_all, parse_more}` (a sheet printed and read
+-- again).
 use Rattle.std.proofs.Common.{◌≡◌, ℕ, ◌<◌, ◌⊎◌, inl, inr, List, [], ◌∷◌, ◌++◌, Bool, true, false, if◌then◌else◌, not, ◌==◌, length, refl, sym, ap, ◌∙◌, subst, append_assoc, arith, Option, Some, None}
 use Rattle.std.specs.List.{flat_map, AllByRecursion}
 use Rattle.simplecss_text.specs.Reading.{found, followed_by, each}

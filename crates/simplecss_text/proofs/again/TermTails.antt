@@ -1,6 +1,6 @@
--- A term is read alike in texts that differ only in a tail that it does not reach. Serves
--- `selectors` and `prints_back` of `StyleSheet::{parse, parse_all, parse_more}` (a sheet printed
--- and read again).
+-- A term is read alike in texts that differ only in a tail that it does not reach.
+-- Serves `selectors` and `prints_back` of `StyleSheet::{parse, parse_all, parse_more}` (a sheet
+-- printed and read again).
 use Rattle.std.proofs.Common.{◌≡◌, ℕ, ◌<◌, ◌≤◌, List, [], ◌∷◌, ◌++◌, Bool, true, false, if◌then◌else◌, ◌||◌, ◌&&◌, not, ◌==◌, length, Option, Some, None, IfSome, arith, refl, sym, ap, ◌∙◌, subst, length-append, IsUtf8}
 use Rattle.std.specs.Str.{chars}
 use Rattle.std.proofs.lemmas.Bool.Decides.{nat_tests}

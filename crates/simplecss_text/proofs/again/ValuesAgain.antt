@@ -1,5 +1,6 @@
--- A value that was read is read again before another tail. Serves `prints_back` of
--- `StyleSheet::{parse, parse_all, parse_more}` (a sheet printed and read again).
+-- A value that was read is read again before another tail.
+-- Serves `prints_back` of `StyleSheet::{parse, parse_all, parse_more}` (a sheet printed and read
+-- again).
 use Rattle.std.proofs.Common.{◌≡◌, ℕ, zero, suc, ◌<◌, ◌≤◌, ◌⊎◌, inl, inr, List, [], ◌∷◌, ◌++◌, Bool, true, false, length, arith, refl, sym, ap, ◌∙◌, subst, length-append, append_assoc, IsUtf8}
 use Rattle.std.specs.Str.{chars, trim}
 use Rattle.std.specs.List.{list_any}

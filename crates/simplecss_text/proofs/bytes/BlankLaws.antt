@@ -1,5 +1,6 @@
 -- What the reader of a comment passes is a comment, and what that of a blank passes is the longest
--- front that is a blank. Serves `simplecss_text::laws` (what a comment and a blank are).
+-- front that is a blank.
+-- Serves `simplecss_text::laws` (what a comment and a blank are).
 use Rattle.std.proofs.Common.{◌≡◌, ℕ, zero, suc, ◌-◌, ◌<◌, ◌≤◌, ◌↔◌, List, [], ◌∷◌, ◌++◌, Bool, true, false, ◌==◌, if◌then◌else◌, length, drop, Option, Some, None, arith, refl, sym, ap, ◌∙◌, subst, append_assoc, length-append, length-take, eqb-true}
 use Rattle.std.specs.List.{list_any}
 use Rattle.std.specs.Option.{option_map}

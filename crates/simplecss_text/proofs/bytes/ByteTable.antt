@@ -1,5 +1,6 @@
--- A table of bytes agrees with a test, as each of the 256 bytes shows by computing. Serves
--- `scan::{is_ascii_name_start, is_ascii_name_char, is_gap_start}` (a byte tested by a table).
+-- A table of bytes agrees with a test, as each of the 256 bytes shows by computing.
+-- Serves `scan::{is_ascii_name_start, is_ascii_name_char, is_gap_start}` (a byte tested by a
+-- table).
 use Rattle.std.proofs.Common.{◌≡◌, ℕ, zero, suc, ◌<◌, Bool, true, false, ◌&&◌, not, nat_eq, bit_and, get_or, List, refl, arith, inl, inr}
 use Rattle.std.specs.Bool.{beq}
 use Rattle.std.proofs.lemmas.Bool.{cases_eq}

@@ -1,5 +1,6 @@
--- No blank follows a blank. Serves `readers::consume_gap`, `Stream::skip_spaces_and_comments` and
--- `SelectorTokenizer` (a blank is passed once).
+-- No blank follows a blank.
+-- Serves `readers::consume_gap`, `Stream::skip_spaces_and_comments` and `SelectorTokenizer` (a
+-- blank is passed once).
 use Rattle.std.proofs.Common.{◌≡◌, ℕ, List, [], Bool, true, false, if◌then◌else◌, refl, ap, subst}
 use Rattle.simplecss_text.specs.Reading.{Fault, got, fails, no_comment, follow, each}
 use Rattle.simplecss_text.specs.Comments.{opens_comment, blank_part, past_blank, blank, has_space, gap}

@@ -1,5 +1,6 @@
--- Names, a character at a time. Serves `scan::{begins_by_characters, wide_name_chars_len,
--- name_len}` (where a name begins and ends).
+-- Names, a character at a time.
+-- Serves `scan::{begins_by_characters, wide_name_chars_len, name_len}` (where a name begins and
+-- ends).
 use Rattle.std.proofs.Common.{◌≡◌, ℕ, suc, ◌+◌, ◌-◌, ◌≤◌, List, [], ◌∷◌, ◌++◌, Bool, true, false, length, drop, refl, ap, sym, ◌∙◌, arith, length-append, length-drop, encode_utf8, encode_utf8_all, drop-drop, ◌&&◌, subst, one-add, get_or, ◌<◌, inl, inr, drop-cons, lt-ltb}
 use Rattle.std.specs.Str.{chars, IsUtf8}
 use Rattle.std.specs.List.{take_while, prefix_len}

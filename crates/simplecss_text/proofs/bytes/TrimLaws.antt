@@ -1,5 +1,6 @@
--- A text without the white space at its ends. Serves `Selector::{parse, parse_front}` and
--- `StyleSheet::parse` (a selector printed and read again).
+-- A text without the white space at its ends.
+-- Serves `Selector::{parse, parse_front}` and `StyleSheet::parse` (a selector printed and read
+-- again).
 use Rattle.std.proofs.Common.{◌≡◌, ℕ, List, [], ◌∷◌, ◌++◌, Bool, true, false, cond, ◌&&◌, ◌==◌, length, refl, ap, ◌∙◌, subst, encode_utf8_all, IsUtf8}
 use Rattle.std.specs.Char.{is_whitespace}
 use Rattle.std.specs.Str.{all_scalars, trim_start, trim_end, trim, skip_leading_whitespace, drop_trailing_whitespace}

@@ -1,5 +1,6 @@
--- A text may be cut at its ASCII bytes. Serves `scan::long_gap`, `Selector::parse_front` and
--- `StyleSheet::parse` (texts printed and read again).
+-- A text may be cut at its ASCII bytes.
+-- Serves `scan::long_gap`, `Selector::parse_front` and `StyleSheet::parse` (texts printed and read
+-- again).
 use Rattle.std.proofs.Common.{[], Bool, true, false, if◌then◌else◌, ◌==◌, suc, refl, ◌≡◌, ℕ, ◌+◌, ◌<◌, List, ◌∷◌, ◌++◌, length, get_or, arith, sym, ap, ◌∙◌, subst, length-append, IsUtf8}
 use Rattle.std.specs.Str.{IsCharBoundary}
 use Rattle.std.proofs.lemmas.Str.{IsUtf8-take, IsCharBoundary-at_seam, IsCharBoundary-before_ascii}

@@ -1,5 +1,6 @@
 -- Searches, blanks and strings are guarded by a closing brace. The second text ends where the first
--- is cut. Serves `StyleSheet::parse_more` and `laws::cutting_law` (a text read in pieces).
+-- is cut.
+-- Serves `StyleSheet::parse_more` and `laws::cutting_law` (a text read in pieces).
 use Rattle.std.proofs.Common.{◌≡◌, ℕ, ◌≤◌, List, [], ◌∷◌, ◌++◌, Bool, true, false, if◌then◌else◌, ◌==◌, ◌&&◌, ◌||◌, not, length, Option, Some, None, arith, refl, ap, inl, inr, eqb-true}
 use Rattle.std.specs.Option.{option_map}
 use Rattle.simplecss_text.specs.Reading.{Fault, no_comment, got, fails, each, left_after, before}

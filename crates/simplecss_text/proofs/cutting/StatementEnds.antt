@@ -1,5 +1,6 @@
--- Where blocks, rule sets and at-rules end. Serves `StyleSheet::parse_more` and `laws::cutting_law`
--- (a text read in pieces), `StyleSheet::parse` and `laws::edition_law`.
+-- Where blocks, rule sets and at-rules end.
+-- Serves `StyleSheet::parse_more` and `laws::cutting_law` (a text read in pieces),
+-- `StyleSheet::parse` and `laws::edition_law`.
 use Rattle.std.proofs.Common.{Bool, List, None, Some, [], ap, eqb-true, false, if◌then◌else◌, inl, inr, not, one-add, refl, subst, sym, true, ℕ, ◌&&◌, ◌==◌, ◌∙◌, ◌∷◌, ◌≡◌, ◌⊎◌}
 use Rattle.std.specs.List.{prefix_len}
 use Rattle.simplecss_text.specs.Reading.{Ends, Fault, Reading, each, fails, found, got}

@@ -1,5 +1,6 @@
--- Of ASCII bytes without a slash, both editions read the same names. Serves `StyleSheet::parse` and
--- `laws::edition_law` (both editions on ASCII texts without a slash).
+-- Of ASCII bytes without a slash, both editions read the same names.
+-- Serves `StyleSheet::parse` and `laws::edition_law` (both editions on ASCII texts without a
+-- slash).
 use Rattle.std.proofs.Common.{Bool, List, None, Option, Some, [], ap, arith, drop, encode_utf8_all, false, if◌then◌else◌, length, nat_le, refl, subst, suc, sym, take, true, zero, ℕ, ◌++◌, ◌<◌, ◌==◌, ◌||◌, ◌∙◌, ◌∷◌, ◌≡◌, ◌≤◌}
 use Rattle.std.proofs.lemmas.Bool.Decides.{nat_tests}
 use Rattle.std.proofs.lemmas.Str.{chars-IsAscii}

@@ -1,5 +1,6 @@
--- Of ASCII bytes without a slash, both editions read the same selectors and rules. Serves
--- `StyleSheet::parse` and `laws::edition_law` (both editions on ASCII texts without a slash).
+-- Of ASCII bytes without a slash, both editions read the same selectors and rules.
+-- Serves `StyleSheet::parse` and `laws::edition_law` (both editions on ASCII texts without a
+-- slash).
 use Rattle.std.proofs.Common.{Bool, List, None, Option, Some, [], ap, filter, if◌then◌else◌, map, not, refl, sym, ℕ, ◌++◌, ◌==◌, ◌∙◌, ◌∷◌, ◌≡◌}
 use Rattle.std.specs.List.{filter_map, flat_map}
 use Rattle.simplecss_text.specs.Reading.{Ends, Reader, Reading, each, fails, follow, found, got}

@@ -1,5 +1,6 @@
--- Each element at its rank is what a stable sort gives. Serves `order::{sort_rules, merge,
--- drop_empty}` and `laws::{order_laws, place_law}` (the order of rules).
+-- Each element at its rank is what a stable sort gives.
+-- Serves `order::{sort_rules, merge, drop_empty}` and `laws::{order_laws, place_law}` (the order of
+-- rules).
 use Rattle.std.proofs.Common.{◌≡◌, ℕ, ◌+◌, ◌<◌, suc, zero, Bool, true, false, cond, not, ◌&&◌, List, [], ◌∷◌, ◌++◌, length, length-append, get_or, take, map, filter, count_by, Option, Some, eqb, eq-eqb, ap, ◌∙◌, sym, subst, refl, arith}
 use Rattle.std.proofs.lemmas.List.{length-map}
 use Rattle.std.specs.Option.{option_map}

@@ -1,5 +1,6 @@
--- What holds of what was read, reader by reader. Serves `Selector::{parse, parse_front}` and
--- `StyleSheet::parse` (a selector printed and read again).
+-- What holds of what was read, reader by reader.
+-- Serves `Selector::{parse, parse_front}` and `StyleSheet::parse` (a selector printed and read
+-- again).
 use Rattle.std.proofs.Common.{◌<◌, ◌≡◌, ℕ, zero, suc, List, [], ◌∷◌, ◌++◌, Bool, true, false, if◌then◌else◌, ◌==◌, length, Option, Some, None, refl, ap, subst, IsUtf8}
 use Rattle.std.specs.List.{AllByRecursion}
 use Rattle.simplecss_text.specs.Reading.{wrong_byte, Reading, got, fails, Reader, follow, and_then, up_to, each, Ends}

@@ -1,5 +1,6 @@
--- Printed heads read back, and the gaps of a printed selector. Serves `Selector::{parse,
--- parse_front}` and `StyleSheet::parse` (a selector printed and read again).
+-- Printed heads read back, and the gaps of a printed selector.
+-- Serves `Selector::{parse, parse_front}` and `StyleSheet::parse` (a selector printed and read
+-- again).
 use Rattle.std.proofs.Common.{◌≡◌, ℕ, ◌<◌, ◌≤◌, ◌⊎◌, inl, inr, List, [], ◌∷◌, ◌++◌, Bool, true, false, if◌then◌else◌, ◌&&◌, ◌==◌, nat_lt, length, arith, refl, sym, ap, ◌∙◌, subst, length-append, encode_utf8, encode_utf8_all, Option, Some, None}
 use Rattle.std.specs.Str.{chars}
 use Rattle.std.specs.List.{list_all, list_any}

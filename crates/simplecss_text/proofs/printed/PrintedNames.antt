@@ -1,5 +1,6 @@
--- Printed names read back. Serves `Selector::{parse, parse_front}` and `StyleSheet::parse` (a
--- selector printed and read again).
+-- Printed names read back.
+-- Serves `Selector::{parse, parse_front}` and `StyleSheet::parse` (a selector printed and read
+-- again).
 use Rattle.std.proofs.Common.{◌≡◌, ℕ, zero, suc, ◌<◌, List, [], ◌∷◌, ◌++◌, Bool, true, false, ◌||◌, ◌&&◌, ◌==◌, length, take, drop, arith, refl, sym, ap, ◌∙◌, encode_utf8_all, IsUtf8, IsAscii}
 use Rattle.std.specs.Str.{chars, all_scalars}
 use Rattle.std.specs.List.{list_all, prefix_len, take_while}

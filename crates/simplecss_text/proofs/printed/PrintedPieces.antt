@@ -1,5 +1,6 @@
--- Printed subselectors read back. Serves `Selector::{parse, parse_front}` and `StyleSheet::parse`
--- (a selector printed and read again).
+-- Printed subselectors read back.
+-- Serves `Selector::{parse, parse_front}` and `StyleSheet::parse` (a selector printed and read
+-- again).
 use Rattle.std.proofs.Common.{◌≡◌, ℕ, List, [], ◌∷◌, ◌++◌, Bool, true, false, ◌||◌, ◌&&◌, not, ◌==◌, length, drop, arith, refl, ap, ◌∙◌, append_assoc, encode_utf8_all, codes, bytes_eq, Some}
 use Rattle.std.specs.Str.{all_scalars, trim}
 use Rattle.std.specs.List.{list_all}

@@ -1,5 +1,6 @@
--- A printed selector reads back. Serves `Selector::{parse, parse_front}` and `StyleSheet::parse` (a
--- selector printed and read again).
+-- A printed selector reads back.
+-- Serves `Selector::{parse, parse_front}` and `StyleSheet::parse` (a selector printed and read
+-- again).
 use Rattle.std.proofs.Common.{◌≡◌, ℕ, ◌<◌, List, [], ◌∷◌, ◌++◌, Bool, true, false, map, refl, sym, ap, ◌∙◌, subst, append_assoc, append-nil, arith, Option, Some, None}
 use Rattle.std.specs.List.{list_all, flat_map}
 use Rattle.simplecss_text.specs.Reading.{got}

@@ -1,5 +1,6 @@
--- A selector's printed text reads back as it exactly if it is clean. Serves `Selector::{parse,
--- parse_front}` and `StyleSheet::parse` (a selector printed and read again).
+-- A selector's printed text reads back as it exactly if it is clean.
+-- Serves `Selector::{parse, parse_front}` and `StyleSheet::parse` (a selector printed and read
+-- again).
 use Rattle.std.proofs.Common.{◌≡◌, ℕ, ◌↔◌, List, [], ◌++◌, Bool, true, false, Some, refl, ap}
 use Rattle.simplecss_text.specs.Characters.{Edition}
 use Rattle.simplecss_text.specs.Components.{Component}

@@ -1,5 +1,6 @@
--- What a blank leaves of a text is a text. Serves `Selector::{parse, parse_front}` and
--- `StyleSheet::parse` (a selector printed and read again).
+-- What a blank leaves of a text is a text.
+-- Serves `Selector::{parse, parse_front}` and `StyleSheet::parse` (a selector printed and read
+-- again).
 use Rattle.std.proofs.Common.{◌≡◌, ℕ, List, [], ◌∷◌, Bool, true, false, if◌then◌else◌, ◌&&◌, ◌==◌, drop, Option, Some, None, arith, refl, sym, ap, subst, IsUtf8}
 use Rattle.std.specs.Option.{option_map}
 use Rattle.simplecss_text.specs.Reading.{no_comment, got, fails}

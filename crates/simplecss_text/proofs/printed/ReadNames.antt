@@ -1,5 +1,6 @@
--- What a name is that was read. Serves `Selector::{parse, parse_front}` and `StyleSheet::parse` (a
--- selector printed and read again).
+-- What a name is that was read.
+-- Serves `Selector::{parse, parse_front}` and `StyleSheet::parse` (a selector printed and read
+-- again).
 use Rattle.std.proofs.Common.{◌≡◌, ℕ, ◌⊎◌, inl, inr, List, [], ◌∷◌, ◌++◌, Bool, true, false, cond, if◌then◌else◌, suc, ◌+◌, arith, ◌||◌, ◌&&◌, ◌==◌, length, drop, refl, sym, ap, ◌∙◌, subst, encode_utf8_all, IsUtf8}
 use Rattle.std.specs.Str.{chars, all_scalars}
 use Rattle.std.specs.List.{list_all, prefix_len, take_while}

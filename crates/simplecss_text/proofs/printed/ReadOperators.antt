@@ -1,5 +1,6 @@
--- What is asked of an attribute, where it was read. Serves `Selector::{parse, parse_front}` and
--- `StyleSheet::parse` (a selector printed and read again).
+-- What is asked of an attribute, where it was read.
+-- Serves `Selector::{parse, parse_front}` and `StyleSheet::parse` (a selector printed and read
+-- again).
 use Rattle.std.proofs.Common.{◌≡◌, ℕ, List, [], ◌∷◌, ◌==◌, arith, subst, IsUtf8}
 use Rattle.simplecss_text.specs.Reading.{got, fails, no_attribute_form}
 use Rattle.simplecss_text.specs.Bytes.{byte}

@@ -1,5 +1,6 @@
--- What the solid pieces are that were read from a text. Serves `Selector::{parse, parse_front}` and
--- `StyleSheet::parse` (a selector printed and read again).
+-- What the solid pieces are that were read from a text.
+-- Serves `Selector::{parse, parse_front}` and `StyleSheet::parse` (a selector printed and read
+-- again).
 use Rattle.std.proofs.Common.{◌≡◌, ℕ, ◌⊎◌, inl, inr, List, [], ◌∷◌, ◌++◌, Bool, true, not, ◌||◌, ◌==◌, length, codes, bytes_eq, arith, refl, sym, ap, ◌∙◌, subst, IsUtf8}
 use Rattle.std.specs.Str.{trim}
 use Rattle.std.specs.List.{list_all, prefix_len, take_while}

@@ -1,5 +1,6 @@
--- A selector that was read, printed and read again. Serves `laws::printing_law`, `Selector::{parse,
--- parse_front}` and `StyleSheet::parse` (a selector printed and read again).
+-- A selector that was read, printed and read again.
+-- Serves `laws::printing_law`, `Selector::{parse, parse_front}` and `StyleSheet::parse` (a selector
+-- printed and read again).
 use Rattle.std.proofs.Common.{◌≡◌, ℕ, inl, inr, ◌↔◌, List, [], ◌∷◌, ◌++◌, Bool, true, false, ◌&&◌, ◌==◌, length, codes, bytes_eq, refl, sym, ap, ◌∙◌, subst, append-nil, Option, Some, None, IfSome, encode_utf8_all, IsUtf8}
 use Rattle.std.specs.List.{flat_map}
 use Rattle.std.proofs.lemmas.Str.{encodes_same}

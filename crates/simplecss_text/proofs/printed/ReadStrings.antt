@@ -1,5 +1,6 @@
--- What a value is that was read as a string. Serves `Selector::{parse, parse_front}` and
--- `StyleSheet::parse` (a selector printed and read again).
+-- What a value is that was read as a string.
+-- Serves `Selector::{parse, parse_front}` and `StyleSheet::parse` (a selector printed and read
+-- again).
 use Rattle.std.proofs.Common.{◌≡◌, ℕ, ◌<◌, List, [], ◌∷◌, ◌++◌, Bool, true, false, if◌then◌else◌, ◌&&◌, not, ◌==◌, refl, sym, ap, ◌∙◌, subst, Option, Some, None, IsUtf8}
 use Rattle.simplecss_text.proofs.reading.EndsLaws.{before-append}
 use Rattle.simplecss_text.specs.Reading.{before}

@@ -1,5 +1,6 @@
--- What a value of an attribute is that was read. Serves `Selector::{parse, parse_front}` and
--- `StyleSheet::parse` (a selector printed and read again).
+-- What a value of an attribute is that was read.
+-- Serves `Selector::{parse, parse_front}` and `StyleSheet::parse` (a selector printed and read
+-- again).
 use Rattle.std.proofs.Common.{◌≡◌, ℕ, ◌<◌, List, [], ◌∷◌, ◌++◌, Bool, true, false, ◌&&◌, ◌==◌, arith, refl, sym, ap, ◌∙◌, subst, IsUtf8, inl, inr}
 use Rattle.std.specs.Str.{chars}
 use Rattle.std.specs.List.{list_all}

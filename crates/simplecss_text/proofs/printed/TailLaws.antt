@@ -1,5 +1,6 @@
--- Texts that differ only in their tail: what is read alike in both. Serves `selectors` and
--- `prints_back` of `StyleSheet::{parse, parse_all, parse_more}` (a sheet printed and read again).
+-- Texts that differ only in their tail: what is read alike in both.
+-- Serves `selectors` and `prints_back` of `StyleSheet::{parse, parse_all, parse_more}` (a sheet
+-- printed and read again).
 use Rattle.std.proofs.Common.{◌≡◌, ℕ, ◌<◌, ◌≤◌, inl, inr, List, [], ◌∷◌, ◌++◌, Bool, true, false, if◌then◌else◌, ◌&&◌, ◌==◌, length, arith, refl, sym, ap, ◌∙◌, subst, length-append, append_assoc, append-nil, IsUtf8}
 use Rattle.std.specs.Str.{chars}
 use Rattle.std.proofs.lemmas.Str.{IsUtf8-nil, IsUtf8-append, chars-append}

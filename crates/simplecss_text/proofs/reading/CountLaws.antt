@@ -1,5 +1,6 @@
--- How many declarations and tokens a text has at most. Serves `SelectorTokenizer::from` and
--- `DeclarationTokenizer::from` (how many items are to come at most).
+-- How many declarations and tokens a text has at most.
+-- Serves `SelectorTokenizer::from` and `DeclarationTokenizer::from` (how many items are to come at
+-- most).
 use Rattle.std.proofs.Common.{◌≡◌, ◌≤◌, ◌<◌, ◌+◌, List, ℕ, [], ◌∷◌, Bool, true, false, if◌then◌else◌, suc, zero, length, Option, Some, None, refl, sym, subst, arith}
 use Rattle.std.specs.List.{list_any}
 use Rattle.simplecss_text.specs.Reading.{Fault, Reading, got, fails, up_to, each, and_then}

@@ -1,5 +1,6 @@
--- Declarations and blocks take bytes. Serves `DeclarationTokenizer` and `consume_declarations`
--- (their loops end), and `laws::cutting_law`.
+-- Declarations and blocks take bytes.
+-- Serves `DeclarationTokenizer` and `consume_declarations` (their loops end), and
+-- `laws::cutting_law`.
 use Rattle.std.proofs.Common.{ℕ, ◌≤◌, List, Bool, true, false, if◌then◌else◌, length, Option, None, arith, length-drop}
 use Rattle.simplecss_text.specs.Reading.{Reading, got, fails, each}
 use Rattle.simplecss_text.specs.Characters.{Edition}

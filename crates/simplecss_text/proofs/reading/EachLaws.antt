@@ -1,5 +1,6 @@
--- What `each` reads, step by step. Serves every loop that reads: `scan::closed_part`, the
--- tokenizers, `take_value`, `consume_parts` and `read_rules`.
+-- What `each` reads, step by step.
+-- Serves every loop that reads: `scan::closed_part`, the tokenizers, `take_value`, `consume_parts`
+-- and `read_rules`.
 use Rattle.std.proofs.Common.{◌≡◌, ℕ, zero, suc, ◌<◌, ◌≤◌, List, [], ◌∷◌, length, Option, Some, None, arith, refl, sym, ap, ◌∙◌, ◌⊎◌, inl, inr, subst, ◌++◌, append_assoc, append-nil}
 use Rattle.simplecss_text.specs.Reading.{followed_by, up_to, each}
 

@@ -1,5 +1,6 @@
--- Ends of a text, and texts that stand in what reading passes. Serves `next` of both tokenizers
--- (slices in order), `StyleSheet::parse_more`, `laws::cutting_law` and `laws::edition_law`.
+-- Ends of a text, and texts that stand in what reading passes.
+-- Serves `next` of both tokenizers (slices in order), `StyleSheet::parse_more`, `laws::cutting_law`
+-- and `laws::edition_law`.
 use Rattle.std.proofs.Common.{◌≡◌, ℕ, zero, suc, ◌≤◌, List, [], ◌∷◌, ◌++◌, Bool, true, false, if◌then◌else◌, length, take, drop, ◌-◌, ◌==◌, Option, Some, None, arith, refl, ap, ◌∙◌, subst, append_assoc, append-nil, length-append}
 use Rattle.std.proofs.Math.Seq.{take-append_seam}
 use Rattle.std.proofs.lemmas.List.{take-append-drop}

@@ -1,6 +1,7 @@
 -- A gap with a space byte behind a simple piece gives a descendant combinator, and then all is as
--- at the start of a text. Serves `SelectorTokenizer::{next_open, next_closed, next_joined}` and
--- `Selector::parse_front` (what follows a gap).
+-- at the start of a text.
+-- Serves `SelectorTokenizer::{next_open, next_closed, next_joined}` and `Selector::parse_front`
+-- (what follows a gap).
 use Rattle.std.proofs.Common.{◌≡◌, ℕ, List, [], Bool, true, false, if◌then◌else◌, refl, sym, ap, ◌∙◌}
 use Rattle.simplecss_text.specs.Reading.{Fault, no_selector, got, fails}
 use Rattle.simplecss_text.specs.Bytes.{starts, starts_by}

@@ -1,6 +1,7 @@
 -- What every reader owes, as one record, and what keeps it: choosing, passing a byte, reading one
--- thing after another. Serves the tokenizers, `take_value`, `StyleSheet::{parse, parse_more}` and
--- `laws::{cutting_law, edition_law}`.
+-- thing after another.
+-- Serves the tokenizers, `take_value`, `StyleSheet::{parse, parse_more}` and `laws::{cutting_law,
+-- edition_law}`.
 use Rattle.std.proofs.Common.{◌≡◌, ℕ, List, [], ◌∷◌, ◌++◌, Bool, true, false, if◌then◌else◌, arith, refl, ap, subst, sym, ◌∙◌, inl, inr}
 use Rattle.simplecss_text.specs.Reading.{Ends, Fault, Reader, Reading, fails, follow, got, left_after}
 use Rattle.simplecss_text.specs.Bytes.{byte, optional, past, past_one, starts}

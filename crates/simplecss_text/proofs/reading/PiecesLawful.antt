@@ -1,5 +1,6 @@
--- The pieces of a selector owe what every reader owes, and take bytes. Serves `SelectorTokenizer`,
--- `StyleSheet::{parse, parse_more}` and `laws::{cutting_law, edition_law}`.
+-- The pieces of a selector owe what every reader owes, and take bytes.
+-- Serves `SelectorTokenizer`, `StyleSheet::{parse, parse_more}` and `laws::{cutting_law,
+-- edition_law}`.
 use Rattle.std.proofs.Common.{◌≡◌, ◌≤◌, Bool, List, [], ap, arith, bytes_eq, codes, false, if◌then◌else◌, inl, inr, length, not, refl, true, ℕ, ◌++◌, ◌==◌, ◌||◌, ◌∷◌}
 use Rattle.std.specs.List.{list_any}
 use Rattle.std.specs.Str.{trim}

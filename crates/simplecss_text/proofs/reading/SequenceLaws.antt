@@ -1,5 +1,6 @@
--- The sequence of a text, piece by piece. Serves `SelectorTokenizer`, `Selector::parse_front` and
--- `laws::at_most_two_errors` (the sequence of a text).
+-- The sequence of a text, piece by piece.
+-- Serves `SelectorTokenizer`, `Selector::parse_front` and `laws::at_most_two_errors` (the sequence
+-- of a text).
 use Rattle.std.proofs.Common.{◌≡◌, ℕ, ◌≤◌, List, [], ◌∷◌, None, Some, arith, refl, ap}
 use Rattle.simplecss_text.specs.Reading.{Fault, got, fails, found, followed_by, each}
 use Rattle.simplecss_text.specs.Characters.{Edition}

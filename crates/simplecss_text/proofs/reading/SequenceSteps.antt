@@ -1,5 +1,6 @@
 -- What stands at the front of a text decides its sequence: a gap, and behind it a stop, a slash or
--- a piece. Serves `SelectorTokenizer::from` (what is to come) and `laws::cutting_law`.
+-- a piece.
+-- Serves `SelectorTokenizer::from` (what is to come) and `laws::cutting_law`.
 use Rattle.std.proofs.Common.{Bool, List, [], false, if◌then◌else◌, refl, true, ℕ, ◌∙◌, ◌≡◌}
 use Rattle.simplecss_text.specs.Reading.{Fault, Reading, fails, got, no_selector}
 use Rattle.simplecss_text.specs.Bytes.{starts, starts_by}

@@ -1,5 +1,6 @@
 -- What takes bytes, and leaves no more than there was: one thing after another, blanks, names,
--- strings. Serves every loop that reads: the tokenizers, `take_value`, `consume_declarations` and
+-- strings.
+-- Serves every loop that reads: the tokenizers, `take_value`, `consume_declarations` and
 -- `read_rules` (each turn takes a byte).
 use Rattle.std.proofs.Common.{◌≡◌, ℕ, zero, suc, ◌+◌, ◌<◌, ◌≤◌, List, [], ◌∷◌, Bool, true, false, if◌then◌else◌, ◌||◌, ◌&&◌, ◌==◌, not, length, take, drop, Option, Some, None, arith, refl, length-append, length-drop, encode_utf8, encode_utf8_all}
 use Rattle.std.specs.Str.{chars}

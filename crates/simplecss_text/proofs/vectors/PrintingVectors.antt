@@ -1,5 +1,5 @@
--- Printed sheets read again, computed: why the laws have their premises. Computes `sheet` of
--- `specs/Sheets` with `sheet_text` of `specs/Printing`, and `has_wide_space` of
+-- Printed sheets read again, computed: why the laws have their premises.
+-- Computes `sheet` of `specs/Sheets` with `sheet_text` of `specs/Printing`, and `has_wide_space` of
 -- `specs/PrintingLaws`.
 use Rattle.std.specs.Prelude.{◌≡◌, refl, [], ◌∷◌, ◌++◌, codes, true, false}
 use Rattle.std.specs.Str.{trim_start, trim_end, chars}

@@ -1,5 +1,6 @@
--- Worked readings of single things, computed. Computes `name`, `string_or_name`, `comment`,
--- `blank`, `gap`, `term`, `block_end`, `position` and `error_text`.
+-- Worked readings of single things, computed.
+-- Computes `name`, `string_or_name`, `comment`, `blank`, `gap`, `term`, `block_end`, `position` and
+-- `error_text`.
 use Rattle.std.specs.Prelude.{◌≡◌, refl, [], ◌∷◌, ◌++◌, codes, true, false, encode_utf8_all}
 use Rattle.std.specs.Str.{chars}
 use lib.Utf8.{encode}

@@ -1,6 +1,7 @@
 -- Worked selectors, computed: what the selector of a text prints, what is left, and how specific it
--- is. Computes `reads` of `specs/Selectors`, `specificity` of `specs/Specificity` and
--- `selector_text` of `specs/Printing`.
+-- is.
+-- Computes `reads` of `specs/Selectors`, `specificity` of `specs/Specificity` and `selector_text`
+-- of `specs/Printing`.
 use Rattle.std.specs.Prelude.{◌≡◌, refl, [], ◌∷◌, codes, Some, None, true, false, replicate, encode_utf8_all}
 use Rattle.std.specs.List.{flat_map}
 use Rattle.std.specs.Option.{option_map}

@@ -1,5 +1,6 @@
--- Worked blocks, parts and statements, computed. Computes `block`, `part`, `rule_set` and
--- `statement` of `specs/{Blocks, Statements}`, and `ordered_by` of `specs/Ranks`.
+-- Worked blocks, parts and statements, computed.
+-- Computes `block`, `part`, `rule_set` and `statement` of `specs/{Blocks, Statements}`, and
+-- `ordered_by` of `specs/Ranks`.
 use Rattle.std.specs.Prelude.{ℕ, ◌≡◌, refl, [], ◌∷◌, codes, true, false, nat_lt, map}
 use Rattle.std.specs.Str.{trim_start, trim_end, chars}
 use lib.Utf8.{encode}
