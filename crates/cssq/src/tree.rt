@@ -394,9 +394,7 @@ impl<'t> Page<'t> {
     {
         self.lines.len()
     }
-}
 
-impl<'t> Page<'t> {
     /// The element with a place among the lines.
     pub fn node(&self, place: usize) -> Option<Node<'_, 't>>
         ensures { MatchOption result (length self.now ≤ place)

@@ -3,12 +3,12 @@
 ghost use Rattle.std.specs.Prelude.{◌≡◌, ◌+◌, ◌*◌, ◌<◌, ◌≤◌, ◌↔◌, ◌++◌, ◌∷◌, [], length, is_some};
 ghost use Rattle.std.specs.Prelude.{slice_index_or, IsTrue};
 ghost use Rattle.std.specs.List.{slice_range};
-ghost use Rattle.simplecss_selector.specs.Placements.{Holds};
-ghost use Rattle.simplecss_selector.specs.SeenCombinators.{combinator_of};
+ghost use Rattle.std.specs.Option.{option_map};
 ghost use Rattle.simplecss_text.specs.Components.Combinator.{none as no_combinator};
 ghost use Rattle.simplecss_text.specs.Specificity.{is_id};
+ghost use Rattle.simplecss_selector.specs.Placements.{Holds};
+ghost use Rattle.simplecss_selector.specs.SeenCombinators.{combinator_of};
 ghost use Rattle.simplecss_selector.specs.SeenSelectors.{component_of_part, subselector_of};
-ghost use Rattle.std.specs.Option.{option_map};
 ghost use Rattle.simplecss_selector.specs.Keys.{asked_id, asked_class};
 
 use crate::key::{first_class, first_id};
