@@ -1,5 +1,5 @@
 -- Terms, values and declarations owe what every reader owes, and take bytes.
--- Serves `take_value`, `consume_declaration`, `StyleSheet::{parse, parse_more}` and
+-- Serves `DeclarationTokenizer`, `take_value`, `StyleSheet::{parse, parse_more}` and
 -- `laws::{cutting_law, edition_law}`.
 use Rattle.std.proofs.Common.{◌≡◌, ◌⊎◌, ◌≤◌, Bool, List, None, Option, Some, [], ap, arith, codes, drop, eqb, false, if◌then◌else◌, inl, inr, length, not, refl, true, ℕ, ◌&&◌, ◌++◌, ◌==◌, ◌||◌, ◌∙◌, ◌∷◌}
 use Rattle.std.specs.List.{starts_with}
