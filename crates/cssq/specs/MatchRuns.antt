@@ -1,6 +1,7 @@
 -- Which rules of a sheet take an element, and what a run over a sheet and a tree is to write.
 use Rattle.std.specs.Prelude.{◌≡◌, ℕ, ◌+◌, ◌↔◌, length, Bool, true, List, [], ◌∷◌, ◌++◌, decimal, Result, Ok, Err}
 use Rattle.std.specs.List.{AllZip, items_where_true, range_with_len, flat_map, concat}
+use Rattle.simplecss.specs.AsciiBytes.{newline, space, colon}
 use Rattle.simplecss.specs.ThisEdition.{this_edition}
 use Rattle.simplecss.specs.Statements.{StyleRule}
 use Rattle.simplecss.specs.Sheets.{sheet}
@@ -24,15 +25,15 @@ numbers_of answers = items_where_true answers (range_with_len 1 (length answers)
 
 -- the numbers, a space before each
 abbrev pub numbers_text : List ℕ → List ℕ
-numbers_text numbers = flat_map (λ n. 32 ∷ decimal n) numbers
+numbers_text numbers = flat_map (λ n. space ∷ decimal n) numbers
 
 -- an element's number, a colon, numbers of rules with a space before each, and a newline
 abbrev pub numbers_line : ℕ → List ℕ → List ℕ
-numbers_line number numbers = decimal number ++ (58 ∷ (numbers_text numbers ++ 10 ∷ []))
+numbers_line number numbers = decimal number ++ (colon ∷ (numbers_text numbers ++ newline ∷ []))
 
 -- an element's number, a colon, the numbers of the rules that take it, and a newline
 abbrev pub line_text : ℕ → List Bool → List ℕ
-line_text number answers = decimal number ++ (58 ∷ (numbers_text (numbers_of answers) ++ 10 ∷ []))
+line_text number answers = decimal number ++ (colon ∷ (numbers_text (numbers_of answers) ++ newline ∷ []))
 
 -- the line of the element at a place
 abbrev pub IsLineOf : List StyleRule → List Row → ℕ → List ℕ → Type 0

@@ -1,6 +1,7 @@
 -- What a run over the text of a selector is to write.
 use Rattle.std.specs.Prelude.{◌≡◌, ℕ, List, [], ◌∷◌, ◌++◌, Option, None, Some, Result, Ok, Err, decimal, map}
 use Rattle.std.specs.List.{join_with_byte}
+use Rattle.simplecss.specs.AsciiBytes.{tab, newline, comma}
 use Rattle.simplecss.specs.Components.{Component}
 use Rattle.simplecss.specs.Selectors.{reads}
 use Rattle.simplecss.specs.ThisEdition.{this_edition}
@@ -16,7 +17,7 @@ selector_in text = (reads this_edition text).0
 -- the printed selector, a TAB, its specificity as three numbers with commas between them, and a
 -- newline
 abbrev pub selector_line : List Component → List ℕ
-selector_line selector = selector_text selector ++ (9 ∷ join_with_byte 44 (map decimal (specificity selector)) ++ 10 ∷ [])
+selector_line selector = selector_text selector ++ (tab ∷ join_with_byte comma (map decimal (specificity selector)) ++ newline ∷ [])
 
 -- the line of a selector, or the fault where there is none
 abbrev pub line_or_refused : Option (List Component) → Result (List ℕ) RunFault

@@ -1,5 +1,6 @@
 -- What a run over the texts of a sheet is to write.
 use Rattle.std.specs.Prelude.{◌≡◌, ℕ, List, [], ◌∷◌, ◌++◌, Result, Ok}
+use Rattle.simplecss.specs.AsciiBytes.{newline}
 use Rattle.simplecss.specs.ThisEdition.{this_edition}
 use Rattle.simplecss.specs.Statements.{StyleRule}
 use Rattle.simplecss.specs.Sheets.{sheet}
@@ -9,7 +10,7 @@ use Rattle.cssq.specs.declared.runs.RunFault.{RunFault}
 -- the printed sheet, and a newline where it has a rule
 abbrev pub sheet_output : List StyleRule → List ℕ
 sheet_output [] = []
-sheet_output (rule ∷ rules) = sheet_text (rule ∷ rules) ++ 10 ∷ []
+sheet_output (rule ∷ rules) = sheet_text (rule ∷ rules) ++ newline ∷ []
 
 -- the sheet of all texts, read in turn
 abbrev pub IsSheetRun : List (List ℕ) → Result (List ℕ) RunFault → Type 0

@@ -1,5 +1,6 @@
 -- What a run over a sheet, a tree and a name is to write.
 use Rattle.std.specs.Prelude.{◌≡◌, ℕ, ◌+◌, length, Bool, true, false, List, [], ◌∷◌, ◌++◌, decimal, codes, Option, None, Some, Result, Ok, Err}
+use Rattle.simplecss.specs.AsciiBytes.{newline, space, colon}
 use Rattle.simplecss.specs.ThisEdition.{this_edition}
 use Rattle.simplecss.specs.Declarations.{StyleDeclaration}
 use Rattle.simplecss.specs.Statements.{StyleRule}
@@ -19,11 +20,11 @@ mark false = []
 -- a space, the value, and the mark of an important one; nothing where none wins
 abbrev pub winner_text : Option StyleDeclaration → List ℕ
 winner_text None = []
-winner_text (Some p) = 32 ∷ (p.value ++ mark p.important)
+winner_text (Some p) = space ∷ (p.value ++ mark p.important)
 
 -- an element's number, a colon, what wins there, and a newline
 abbrev pub style_line : ℕ → Option StyleDeclaration → List ℕ
-style_line number winner = decimal number ++ (58 ∷ (winner_text winner ++ 10 ∷ []))
+style_line number winner = decimal number ++ (colon ∷ (winner_text winner ++ newline ∷ []))
 
 -- the line of the element at a place
 abbrev pub IsStyleLineOf : List ℕ → List StyleRule → List Row → ℕ → List ℕ → Type 0

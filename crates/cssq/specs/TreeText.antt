@@ -4,20 +4,21 @@ use Rattle.std.specs.Borrow.{Bor}
 use Rattle.std.specs.List.{All, slice_split, slice_index_or, before_first, after_first, position_or_len, list_any, list_all, zip, flat_map, filter_map, cons_option, range_with_len, enumerate_from}
 use Rattle.std.specs.Char.{is_ascii_digit}
 use Rattle.std.specs.Str.Parse.{digits_value}
+use Rattle.simplecss.specs.AsciiBytes.{tab, newline, digit_zero, equals_sign}
 use Rattle.cssq.specs.declared.tree.TreeFault.{TreeFault}
 use Rattle.cssq.specs.declared.tree.TreeFault.TheVariants.{BadDepth, EmptyName, NoEquals, RepeatedKey, Memory}
 
 -- a newline, which ends a line
 abbrev pub is_newline : ℕ → Bool
-is_newline b = b == 10
+is_newline b = b == newline
 
 -- a TAB, which stands between fields
 abbrev pub is_tab : ℕ → Bool
-is_tab b = b == 9
+is_tab b = b == tab
 
 -- `=`, which stands between a key and its value
 abbrev pub is_equals : ℕ → Bool
-is_equals b = b == 61
+is_equals b = b == equals_sign
 
 -- no line stands after the last newline where nothing follows it
 abbrev pub without_empty_last : List (List ℕ) → List (List ℕ)
@@ -82,7 +83,7 @@ row_of fields = record { depth = depth_in fields; name = name_text fields; attri
 -- `0`, or digits with no zero in front
 abbrev pub is_depth : List ℕ → Bool
 is_depth [] = false
-is_depth (c ∷ cs) = if c == 48 then length cs == 0 else list_all is_ascii_digit (c ∷ cs)
+is_depth (c ∷ cs) = if c == digit_zero then length cs == 0 else list_all is_ascii_digit (c ∷ cs)
 
 -- the depth that a field spells, where that is at most the limit
 abbrev pub spelled_depth : ℕ → List ℕ → Option ℕ

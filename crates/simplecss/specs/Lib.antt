@@ -18,6 +18,7 @@ pub use Rattle.simplecss_selector.specs.Placements
 pub use Rattle.simplecss_selector.specs.Shapes
 pub use Rattle.simplecss_selector.specs.SelectorTokenizers
 pub use Rattle.simplecss_selector.specs.Trees
+pub use Rattle.simplecss_text.specs.AsciiBytes
 pub use Rattle.simplecss_text.specs.Blanks
 pub use Rattle.simplecss_text.specs.Blocks
 pub use Rattle.simplecss_text.specs.Bytes

@@ -1,5 +1,6 @@
 -- The kind of what stands behind a gap, by its first byte.
 use Rattle.std.specs.Prelude.{ℕ, ◌==◌, if◌then◌else◌, List, [], ◌∷◌}
+use Rattle.simplecss_text.specs.AsciiBytes.{number_sign, asterisk, plus_sign, comma, full_stop, slash, colon, greater_than_sign, open_bracket, open_brace}
 use Rattle.simplecss_selector.specs.declared.tokenizer.Stage.{Stage}
 use Rattle.simplecss_selector.specs.declared.tokenizer.Stage.TheVariants.{Missing, Ended}
 use Rattle.simplecss_selector.specs.declared.tokenizer.NextKind.{NextKind}
@@ -7,16 +8,16 @@ use Rattle.simplecss_selector.specs.declared.tokenizer.NextKind.TheVariants.{Sto
 
 abbrev pub next_kind_by : ℕ → NextKind
 next_kind_by b =
-    if b == 44 then Stop
-    else (if b == 123 then Stop
-    else (if b == 47 then Slash
-    else (if b == 62 then Child
-    else (if b == 43 then Adjacent
-    else (if b == 42 then Universal
-    else (if b == 35 then Id
-    else (if b == 46 then Class
-    else (if b == 91 then Attribute
-    else (if b == 58 then Colon
+    if b == comma then Stop
+    else (if b == open_brace then Stop
+    else (if b == slash then Slash
+    else (if b == greater_than_sign then Child
+    else (if b == plus_sign then Adjacent
+    else (if b == asterisk then Universal
+    else (if b == number_sign then Id
+    else (if b == full_stop then Class
+    else (if b == open_bracket then Attribute
+    else (if b == colon then Colon
     else Other)))))))))
 
 unfoldable pub next_kind : List ℕ → NextKind

@@ -1,12 +1,13 @@
 -- What an operator asks of an attribute's value: as a test, and what that test means.
 use Rattle.std.specs.Prelude.{◌≡◌, ◌≢◌, ℕ, Bool, true, List, [], ◌∷◌, ◌++◌, ◌⊎◌, ◌||◌, ◌==◌, All, bytes_eq, nat_eq}
 use Rattle.std.specs.List.{list_any, slice_split, starts_with}
+use Rattle.simplecss_text.specs.AsciiBytes.{space, hyphen}
 use Rattle.simplecss_text.specs.Components.{Operator}
 use Rattle.simplecss_text.specs.Components.Operator.{exists, equals, has_word, begins_with}
 
 -- whether the word is one of those that single spaces part the value into
 abbrev pub is_word_of : List ℕ → List ℕ → Bool
-is_word_of word value = list_any (λ part. bytes_eq part word) (slice_split (λ b. b == 32) value)
+is_word_of word value = list_any (λ part. bytes_eq part word) (slice_split (λ b. b == space) value)
 
 -- whether the value is as the operator asks: any value will do; it has the same bytes; the word is
 -- one of its words; it has the same bytes, or begins with them and a hyphen
@@ -14,15 +15,15 @@ abbrev pub is_as_asked : Operator → List ℕ → Bool
 is_as_asked exists value = true
 is_as_asked (equals text) value = bytes_eq value text
 is_as_asked (has_word word) value = is_word_of word value
-is_as_asked (begins_with start) value = bytes_eq value start || starts_with nat_eq value (start ++ 45 ∷ [])
+is_as_asked (begins_with start) value = bytes_eq value start || starts_with nat_eq value (start ++ hyphen ∷ [])
 
 -- nothing, or a text whose last byte is a space
 abbrev pub IsUpToSpace : List ℕ → Type 0
-IsUpToSpace x = (x ≡ []) ⊎ ((z : List ℕ) × (x ≡ z ++ 32 ∷ []))
+IsUpToSpace x = (x ≡ []) ⊎ ((z : List ℕ) × (x ≡ z ++ space ∷ []))
 
 -- nothing, or a text whose first byte is a space
 abbrev pub IsFromSpace : List ℕ → Type 0
-IsFromSpace y = (y ≡ []) ⊎ ((z : List ℕ) × (y ≡ 32 ∷ z))
+IsFromSpace y = (y ≡ []) ⊎ ((z : List ℕ) × (y ≡ space ∷ z))
 
 -- the word stands in the text between spaces or ends
 abbrev pub StandsIn : List ℕ → List ℕ → Type 0
@@ -34,6 +35,6 @@ StandsIn word text =
 abbrev pub IsAsAsked : Operator → List ℕ → Type 0
 IsAsAsked exists value = Unit {0}
 IsAsAsked (equals text) value = value ≡ text
-IsAsAsked (has_word word) value = All (λ b. b ≢ 32) word × StandsIn word value
+IsAsAsked (has_word word) value = All (λ b. b ≢ space) word × StandsIn word value
 IsAsAsked (begins_with start) value =
-    (value ≡ start) ⊎ ((rest : List ℕ) × (value ≡ start ++ 45 ∷ rest))
+    (value ≡ start) ⊎ ((rest : List ℕ) × (value ≡ start ++ hyphen ∷ rest))

@@ -102,7 +102,11 @@ vertical_bar = 124
 abbrev pub tilde : ℕ
 tilde = 126
 
--- ---- brackets
+-- ---- digits and brackets
+
+-- `0`
+abbrev pub digit_zero : ℕ
+digit_zero = 48
 
 -- `(`
 abbrev pub open_parenthesis : ℕ

@@ -1,4 +1,4 @@
--- Tests of a text's bytes, and the runs of bytes that pass them.
+-- Tests of a text's bytes, and how many bytes pass one.
 use Rattle.std.specs.Prelude.{◌≡◌, ℕ, ◌<◌, ◌≤◌, List, Bool, true, false, length, slice_index}
 
 -- The test, which may give the answers that `post` relates to a byte, may be called at each byte of
@@ -9,7 +9,7 @@ pub record IsByteTest (pre : ℕ → Type 0) (post : ℕ → Bool → Type 0) (t
   pub alike : (j k : ℕ) (x y : Bool) → j < length text → k < length text → 128 ≤ slice_index text j → 128 ≤ slice_index text k
       → post (slice_index text j) x → post (slice_index text k) y → x ≡ y
 
--- The longest run from the place p of bytes that pass the test ends at the place q.
+-- The bytes from the place p to before the place q pass the test, and the one at q, if the text goes on, does not.
 pub record PassesUpTo (post : ℕ → Bool → Type 0) (text : List ℕ) (p q : ℕ) : Type 0 where
   pub from : p ≤ q
   pub within : q ≤ length text

@@ -52,6 +52,11 @@ abbrev pub Gives : {X A : Type 0} → (X → A) → List ℕ → Reading A → R
 Gives view text reading (Ok x) left = reading ≡ got (view x) left
 Gives view text reading (Err error) left = FailsBy text reading error left
 
+-- The same of a call that tells no error: `None` where the reading fails by this fault.
+abbrev pub GivesOrNone : {X A : Type 0} → (X → A) → Fault → Reading A → Option X → List ℕ → Type 0
+GivesOrNone view fault reading (Some x) left = reading ≡ got (view x) left
+GivesOrNone view fault reading None left = reading ≡ fails fault left
+
 -- what the position prints: row, colon, column
 abbrev pub position_text : TextPos → List ℕ
 position_text pos = decimal pos.row ++ codes ":" ++ decimal pos.col
@@ -69,8 +74,3 @@ error_text UnexpectedSelector = codes "unexpected selector"
 error_text UnexpectedCombinator = codes "unexpected combinator"
 error_text InvalidAttributeSelector = codes "invalid or unsupported attribute selector"
 error_text InvalidLanguagePseudoClass = codes "invalid language pseudo-class"
-
--- The same of a call that tells no error: `None` where the reading fails by this fault.
-abbrev pub GivesOrNone : {X A : Type 0} → (X → A) → Fault → Reading A → Option X → List ℕ → Type 0
-GivesOrNone view fault reading (Some x) left = reading ≡ got (view x) left
-GivesOrNone view fault reading None left = reading ≡ fails fault left

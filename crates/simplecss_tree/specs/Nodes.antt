@@ -3,6 +3,7 @@ use Rattle.std.specs.Prelude.{ℕ, Bool, true, false, List, [], ◌∷◌, ◌&&
 use Rattle.std.specs.List.{slice_get}
 use Rattle.std.specs.Option.{option_map_or, option_and_then, option_or}
 use Rattle.std.specs.Str.{str_eq_ignore_ascii_case}
+use Rattle.simplecss.specs.AsciiBytes.{hyphen}
 use Rattle.simplecss.specs.Components.{KnownPseudoClass}
 use Rattle.simplecss.specs.Components.KnownPseudoClass.{first_child, link, visited, hover, active, focus, lang}
 use Rattle.simplecss.specs.ListTrees.{ListOf, ancestors, sibling_by, list_tree}
@@ -51,7 +52,7 @@ language_at rows i = first_value rows (codes "lang") (i ∷ ancestors (named_par
 -- nothing, or a hyphen first
 abbrev pub ends_subtag : List ℕ → Bool
 ends_subtag [] = true
-ends_subtag (b ∷ bs) = b == 45
+ends_subtag (b ∷ bs) = b == hyphen
 
 -- A language is the one that `:lang(tag)` asks, or one within it: it is the tag, or goes on after
 -- it with a hyphen, whatever the case of ASCII letters (CSS 2.1 section 5.11.4).
