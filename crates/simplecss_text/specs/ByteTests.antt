@@ -9,7 +9,8 @@ pub record IsByteTest (pre : ℕ → Type 0) (post : ℕ → Bool → Type 0) (t
   pub alike : (j k : ℕ) (x y : Bool) → j < length text → k < length text → 128 ≤ slice_index text j → 128 ≤ slice_index text k
       → post (slice_index text j) x → post (slice_index text k) y → x ≡ y
 
--- The bytes from the place p to before the place q pass the test, and the one at q, if the text goes on, does not.
+-- The bytes from the place p to before the place q pass the test, and the one at q, if the text
+-- goes on, does not.
 pub record PassesUpTo (post : ℕ → Bool → Type 0) (text : List ℕ) (p q : ℕ) : Type 0 where
   pub from : p ≤ q
   pub within : q ≤ length text

@@ -5,8 +5,8 @@ use Rattle.simplecss_text.specs.Reading.{no_name, got, fails, Reader, before}
 use Rattle.simplecss_text.specs.Bytes.{past_byte}
 use Rattle.simplecss_text.specs.Characters.{Edition, is_name_start, is_name_char}
 
--- These characters begin with a name: with a name start, or with a hyphen and a name start. A hyphen that ends the text is
--- a name too. (In CSS 2.1, section 4.1.1, it is no identifier.)
+-- These characters begin with a name: with a name start, or with a hyphen and a name start. A
+-- hyphen that ends the text is a name too. (In CSS 2.1, section 4.1.1, it is no identifier.)
 abbrev pub begins_name : Edition → List ℕ → Bool
 begins_name edition [] = false
 begins_name edition (c ∷ []) = is_name_start edition c || c == hyphen

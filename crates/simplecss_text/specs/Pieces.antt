@@ -1,7 +1,8 @@
--- A text as the pieces of a selector: a gap and a solid piece in turn, up to a stop, a slash or a fault. A gap is a blank,
--- which may be empty. A solid piece is `>` or `+`, or it is simple: a head, which is `*` or a type name, or a subselector, which
--- is an id, a class, an attribute or a pseudo-class. A head, if there is one, and the subselectors behind it make what CSS 2.1
--- (section 5.2) calls a simple selector. What a piece is depends on no piece before it.
+-- A text as the pieces of a selector: a gap and a solid piece in turn, up to a stop, a slash or a
+-- fault. A gap is a blank, which may be empty. A solid piece is `>` or `+`, or it is simple: a
+-- head, which is `*` or a type name, or a subselector, which is an id, a class, an attribute or a
+-- pseudo-class. A head, if there is one, and the subselectors behind it make what CSS 2.1 (section
+-- 5.2) calls a simple selector. What a piece is depends on no piece before it.
 use Rattle.std.specs.Prelude.{ℕ, Bool, ◌||◌, ◌==◌, if◌then◌else◌, List, [], ◌∷◌, length, bytes_eq, codes, Option}
 use Rattle.std.specs.Str.{trim}
 use Rattle.simplecss_text.specs.AsciiBytes.{number_sign, asterisk, plus_sign, comma, full_stop, slash, colon, equals_sign, greater_than_sign, vertical_bar, tilde, open_parenthesis, close_parenthesis, open_bracket, close_bracket, open_brace}

@@ -74,7 +74,8 @@ abbrev pub escaped_after : ℕ → List ℕ → Bool
 escaped_after previous [] = true
 escaped_after previous (b ∷ text) = (not (b == single_quote) || previous == backslash) && escaped_after b text
 
--- The value of an operator has no bare apostrophe. (It is printed behind an apostrophe, which is no backslash, as 0 is none.)
+-- The value of an operator has no bare apostrophe. (It is printed behind an apostrophe, which is no
+-- backslash, as 0 is none.)
 abbrev pub is_clean_operator : Operator → Bool
 is_clean_operator exists = true
 is_clean_operator (equals value) = escaped_after 0 value

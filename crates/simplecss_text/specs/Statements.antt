@@ -41,8 +41,9 @@ next_block edition text =
     let opened = past (λ b. not (b == open_brace)) text in
     if starts open_brace opened then block edition (past_one opened) else ([], [])
 
--- A rule set: an optional comma, the parts, and the block. Each part that gave a selector is a rule with all declarations.
--- (In CSS 2.1, section 4.1.7, one part that is refused drops the whole rule set.)
+-- A rule set: an optional comma, the parts, and the block. Each part that gave a selector is a rule
+-- with all declarations. (In CSS 2.1, section 4.1.7, one part that is refused drops the whole rule
+-- set.)
 unfoldable pub rule_set : Edition → List ℕ → List StyleRule × List ℕ
 rule_set edition text =
     let head = parts edition (past_byte comma text) in
