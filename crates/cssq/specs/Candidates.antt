@@ -33,7 +33,8 @@ IsOutdone rule name is_later_known =
 
 -- if the rule has a placement on the node, it is outdone
 abbrev pub IsPassedOver : {Node : Type 0} → Tree Node → Node → StyleRule → List ℕ → Bool → Type 0
-IsPassedOver tree n rule name is_later_known = HasPlacement tree rule.components n → IsOutdone rule name is_later_known
+IsPassedOver tree n rule name is_later_known =
+    HasPlacement tree rule.components n → IsOutdone rule name is_later_known
 
 -- the place that a map has for a name
 abbrev pub place_for : BTreeMap (Bor (List ℕ)) ℕ → List ℕ → Option ℕ
@@ -53,5 +54,9 @@ HasBestPlaces places declarations = (name : List ℕ) → IsBestPlace declaratio
 -- lighter
 abbrev pub TellsWhether : Bool → List StyleDeclaration → Option ℕ → StyleDeclaration → Type 0
 TellsWhether takes_over declarations None later = takes_over ≡ true
-TellsWhether true declarations (Some k) later = (p : StyleDeclaration) → slice_get declarations k ≡ Some p → weight p.important ≤ weight later.important
-TellsWhether false declarations (Some k) later = (p : StyleDeclaration) → slice_get declarations k ≡ Some p → weight later.important < weight p.important
+TellsWhether true declarations (Some k) later =
+    (p : StyleDeclaration) → slice_get declarations k ≡ Some p
+    → weight p.important ≤ weight later.important
+TellsWhether false declarations (Some k) later =
+    (p : StyleDeclaration) → slice_get declarations k ≡ Some p
+    → weight later.important < weight p.important

@@ -26,7 +26,8 @@ above_by steps depths (Some parent) = refl
 
 above_at : (steps : ℕ) (depths : List ℕ) (place : ℕ) (r : Option ℕ) → parent_place depths place ≡ r
     → ancestors_within (suc steps) depths place ≡ above steps depths r
-above_at steps depths place r is = above_by steps depths (parent_place depths place) ∙ ap (above steps depths) is
+above_at steps depths place r is =
+    above_by steps depths (parent_place depths place) ∙ ap (above steps depths) is
 
 above_same : (m n : ℕ) (depths : List ℕ) (place : ℕ) (r : Option ℕ) → IfSome r (λ j. j < place)
     → ((j : ℕ) → j < place → ancestors_within m depths j ≡ ancestors_within n depths j)
@@ -49,7 +50,8 @@ counted : (x : Spot) (r : Option ℕ) → parent_place (depths_of x.rows) x.plac
 counted x None is = above_at x.place (depths_of x.rows) x.place None is
 counted x (Some j) is =
     let before : j < x.place = subst (λ r. IfSome r (λ j. j < x.place)) is (parent_within (depths_of x.rows) x.place) in
-    above_at x.place (depths_of x.rows) x.place (Some j) is ∙ ap (λ k. k + 1) (enough x.place (suc j) (depths_of x.rows) j before (omega arith))
+    above_at x.place (depths_of x.rows) x.place (Some j) is
+    ∙ ap (λ k. k + 1) (enough x.place (suc j) (depths_of x.rows) j before (omega arith))
 
 pub depths_count_ancestors : DepthCountsAncestors page_tree
 depths_count_ancestors x = counted x (parent_place (depths_of x.rows) x.place) refl

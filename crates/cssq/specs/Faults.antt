@@ -16,7 +16,9 @@ status_of Output = 4
 -- the line, without its newline
 abbrev pub message_of : RunFault → List ℕ
 message_of Refused = codes "cssq: selector refused"
-message_of (Tree fault) = codes "cssq: tree fault " ++ decimal (fault_number fault) ++ codes " at line " ++ decimal (fault_line fault)
+message_of (Tree fault) =
+    codes "cssq: tree fault " ++ decimal (fault_number fault) ++ codes " at line "
+    ++ decimal (fault_line fault)
 message_of Memory = codes "cssq: want of memory"
 message_of Output = codes "cssq: cannot write"
 

@@ -22,7 +22,9 @@ depths lines = map (λ l. l.entry.depth) lines
 
 -- each line keeps the places of its parent and of its previous sibling
 abbrev pub AreLinked : List Line → Type 0
-AreLinked lines = (i : ℕ) (l : Line) → slice_get lines i ≡ Some l → (l.parent ≡ parent_place (depths lines) i) × (l.previous ≡ previous_place (depths lines) i)
+AreLinked lines =
+    (i : ℕ) (l : Line) → slice_get lines i ≡ Some l
+    → (l.parent ≡ parent_place (depths lines) i) × (l.previous ≡ previous_place (depths lines) i)
 
 -- ---- what the reader of a line tells
 
@@ -36,4 +38,5 @@ IsToldOf number faults (RepeatedKey line) = slice_get faults 0 ≡ Some (Repeate
 
 -- the line has no fault, and says this
 abbrev pub Says : ℕ → ℕ → List ℕ → Entry → Type 0
-Says number limit line e = (faults_of_line number limit (fields_of line) ≡ []) × (row_of (fields_of line) ≡ row e)
+Says number limit line e =
+    (faults_of_line number limit (fields_of line) ≡ []) × (row_of (fields_of line) ≡ row e)

@@ -37,15 +37,20 @@ line_text number answers = decimal number ++ (colon ∷ (numbers_text (numbers_o
 
 -- the line of the element at a place
 abbrev pub IsLineOf : List StyleRule → List Row → ℕ → List ℕ → Type 0
-IsLineOf rules rows place line = (answers : List Bool) × AreAnswers answers rules (spot rows place) × (line ≡ line_text (place + 1) answers)
+IsLineOf rules rows place line =
+    (answers : List Bool) × AreAnswers answers rules (spot rows place)
+    × (line ≡ line_text (place + 1) answers)
 
 -- the line of an element was added to a text
 abbrev pub IsLineAdded : List ℕ → List ℕ → ℕ → List StyleRule → Spot → Type 0
-IsLineAdded old new number rules element = (answers : List Bool) × AreAnswers answers rules element × (new ≡ old ++ line_text number answers)
+IsLineAdded old new number rules element =
+    (answers : List Bool) × AreAnswers answers rules element
+    × (new ≡ old ++ line_text number answers)
 
 -- the text is a line for each place below the count, in turn
 abbrev pub AreLines : (ℕ → List ℕ → Type 0) → ℕ → List ℕ → Type 0
-AreLines IsLine count text = (lines : List (List ℕ)) × AllZip IsLine (range_with_len 0 count) lines × (text ≡ concat lines)
+AreLines IsLine count text =
+    (lines : List (List ℕ)) × AllZip IsLine (range_with_len 0 count) lines × (text ≡ concat lines)
 
 -- the lines of all elements, in turn
 abbrev pub IsMatchText : List StyleRule → List Row → List ℕ → Type 0
@@ -53,7 +58,9 @@ IsMatchText rules rows = AreLines (IsLineOf rules rows) (length rows)
 
 -- the lines for the sheet and the tree, or the tree's fault
 abbrev pub IsMatchRun : List ℕ → List ℕ → Result (List ℕ) RunFault → Type 0
-IsMatchRun text tree (Ok lines) = (rows : List Row) × (tree_of tree ≡ Ok rows) × IsMatchText (sheet this_edition (text ∷ [])) rows lines
+IsMatchRun text tree (Ok lines) =
+    (rows : List Row) × (tree_of tree ≡ Ok rows)
+    × IsMatchText (sheet this_edition (text ∷ [])) rows lines
 IsMatchRun text tree (Err (Tree fault)) = tree_of tree ≡ Err fault
 IsMatchRun text tree (Err Refused) = ⊥
 IsMatchRun text tree (Err Memory) = ⊥

@@ -30,7 +30,8 @@ previous_of s = option_map (spot s.rows) (previous_place (depths_of s.rows) s.pl
 -- the number of the ancestors, none of which is farther than the number of steps
 abbrev pub ancestors_within : ℕ → List ℕ → ℕ → ℕ
 ancestors_within zero depths place = 0
-ancestors_within (suc steps) depths place = elim (parent_place depths place) [ None ↦ 0 | Some parent ↦ ancestors_within steps depths parent + 1 ]
+ancestors_within (suc steps) depths place =
+    elim (parent_place depths place) [ None ↦ 0 | Some parent ↦ ancestors_within steps depths parent + 1 ]
 
 -- the number of the ancestors
 abbrev pub ancestor_count : Spot → ℕ
@@ -43,7 +44,8 @@ name_at rows place = option_map_or (λ row. row.name) (slice_get rows place) []
 -- the value of the first attribute with the key
 abbrev pub value_in : List (List ℕ × List ℕ) → List ℕ → Option (List ℕ)
 value_in [] key = None
-value_in (attribute ∷ attributes) key = if bytes_eq attribute.0 key then Some attribute.1 else value_in attributes key
+value_in (attribute ∷ attributes) key =
+    if bytes_eq attribute.0 key then Some attribute.1 else value_in attributes key
 
 -- the value of an attribute of the element at a place, if it has the attribute
 abbrev pub attribute_at : List Row → ℕ → List ℕ → Option (List ℕ)

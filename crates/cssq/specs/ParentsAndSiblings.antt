@@ -9,7 +9,8 @@ depths_of rows = map (λ row. row.depth) rows
 -- the last place of a list at which the test passes
 abbrev pub last_place : (ℕ → Bool) → List ℕ → Option ℕ
 last_place test [] = None
-last_place test (x ∷ xs) = elim (last_place test xs) [ Some i ↦ Some (suc i) | None ↦ (if test x then Some 0 else None) ]
+last_place test (x ∷ xs) =
+    elim (last_place test xs) [ Some i ↦ Some (suc i) | None ↦ (if test x then Some 0 else None) ]
 
 -- the last earlier element of lesser depth
 abbrev pub parent_place : List ℕ → ℕ → Option ℕ

@@ -82,12 +82,14 @@ none_last depths depth deeper = last_place_of _ depths None (λ k lt. not_le _ _
 
 pub some_last : (depths : List ℕ) (depth i : ℕ) → IsCandidate depths depth (Some i)
     → get_or depths i 0 ≤ depth → Some i ≡ last_place (λ d. nat_le d depth) depths
-some_last depths depth i deeper le = last_place_of _ depths (Some i) (deeper.0, is_le _ _ le, λ k lt within. not_le _ _ (deeper.1 k lt within))
+some_last depths depth i deeper le =
+    last_place_of _ depths (Some i) (deeper.0, is_le _ _ le, λ k lt within. not_le _ _ (deeper.1 k lt within))
 
 -- of the elements before i, the one at k
 before_at : (depths : List ℕ) (i k : ℕ) → i < length depths → k < i
     → (k < length (take i depths)) × (get_or (take i depths) k 0 ≡ get_or depths k 0)
-before_at depths i k within before = (let le : i ≤ length depths = omega arith in rw (length-take-le i depths) before, get_or-take i depths k 0 before)
+before_at depths i k within before =
+    (let le : i ≤ length depths = omega arith in rw (length-take-le i depths) before, get_or-take i depths k 0 before)
 
 module _ (depths : List ℕ) (depth i : ℕ) (deeper : IsCandidate depths depth (Some i)) (above : depth < get_or depths i 0) where
   -- no deeper than i before it, so deeper than the depth
@@ -120,4 +122,5 @@ module _ (depths : List ℕ) (depth i : ℕ) (deeper : IsCandidate depths depth 
 
   pub parent_candidate : (r : Option ℕ) → r ≡ parent_place depths i
       → IsCandidate depths depth r × (steps_left r < i + 1)
-  parent_candidate r is = parent_deeper r (subst (λ r. IsLast (λ d. nat_lt d (get_or depths i 0)) (take i depths) r) (sym is) (last_place_is _ (take i depths)))
+  parent_candidate r is =
+      parent_deeper r (subst (λ r. IsLast (λ d. nat_lt d (get_or depths i 0)) (take i depths) r) (sym is) (last_place_is _ (take i depths)))

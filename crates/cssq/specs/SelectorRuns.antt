@@ -17,7 +17,9 @@ selector_in text = (reads this_edition text).0
 -- the printed selector, a TAB, its specificity as three numbers with commas between them, and a
 -- newline
 abbrev pub selector_line : List Component → List ℕ
-selector_line selector = selector_text selector ++ (tab ∷ join_with_byte comma (map decimal (specificity selector)) ++ newline ∷ [])
+selector_line selector =
+    selector_text selector
+    ++ (tab ∷ join_with_byte comma (map decimal (specificity selector)) ++ newline ∷ [])
 
 -- the line of a selector, or the fault where there is none
 abbrev pub line_or_refused : Option (List Component) → Result (List ℕ) RunFault

@@ -40,7 +40,8 @@ equal_at ds depth None = None
 equal_at ds depth (Some j) = cond (get_or ds j 0 == depth) (Some j) None
 
 previous_by : (ds : List ℕ) (i : ℕ) (r : Option ℕ)
-    → elim r [ None ↦ None | Some j ↦ cond (get_or ds j 0 == get_or ds i 0) (Some j) None ] ≡ equal_at ds (get_or ds i 0) r
+    → elim r [ None ↦ None | Some j ↦ cond (get_or ds j 0 == get_or ds i 0) (Some j) None ]
+    ≡ equal_at ds (get_or ds i 0) r
 previous_by ds i None = refl
 previous_by ds i (Some j) = refl
 
@@ -76,7 +77,8 @@ module _ (ds : List ℕ) (d : ℕ) where
       ∙ equal_old ds d (get_or ds i 0) (nearest_place ds i) few
       ∙ sym (previous_is ds i)
 
-  pub previous_new : previous_place (ds ++ d ∷ []) (length ds) ≡ equal_at ds d (last_place (λ x. nat_le x d) ds)
+  pub previous_new :
+      previous_place (ds ++ d ∷ []) (length ds) ≡ equal_at ds d (last_place (λ x. nat_le x d) ds)
   previous_new =
       previous_is (ds ++ d ∷ []) (length ds)
       ∙ (λ k. equal_at (ds ++ d ∷ []) (at_new ds d k) (nearest_new ds d k))
@@ -98,7 +100,8 @@ ne_test : (x d : ℕ) → (x ≡ d → ⊥) → (x == d) ≡ false
 ne_test x d e = grind (arith, nat_tests)
 
 moved : {x y a b : ℕ} {t : Bool} → x ≡ y → a ≡ b → nat_lt x a ≡ t → nat_lt y b ≡ t
-moved {x} {y} {a} {b} p q h = let back : y ≡ x = sym p in let under : b ≡ a = sym q in (λ k. nat_lt (back k) (under k)) ∙ h
+moved {x} {y} {a} {b} p q h =
+    let back : y ≡ x = sym p in let under : b ≡ a = sym q in (λ k. nat_lt (back k) (under k)) ∙ h
 
 inside_front : (ds : List ℕ) (i k : ℕ) → i < length ds → k < i → k < length (take i ds)
 inside_front ds i k within before = let le : i ≤ length ds = omega arith in rw (length-take-le i ds) before
@@ -153,10 +156,12 @@ module _ (ds : List ℕ) (d : ℕ) where
       (last_place_of _ ds r (parent_of_equal i r last e found), sym (ap (λ b. cond b (Some i) None) (eq_test _ d e)) ∙ ap (equal_at ds d) is)
 
 pub parent_within : (ds : List ℕ) (i : ℕ) → IfSome (parent_place ds i) (λ j. j < i)
-parent_within ds i = within_longer (parent_place ds i) (length (take i ds)) i (omega (arith, length-take i ds)) (nearest_within (λ x. nat_lt x (get_or ds i 0)) (take i ds))
+parent_within ds i =
+    within_longer (parent_place ds i) (length (take i ds)) i (omega (arith, length-take i ds)) (nearest_within (λ x. nat_lt x (get_or ds i 0)) (take i ds))
 
 pub nearest_before : (ds : List ℕ) (i : ℕ) → IfSome (nearest_place ds i) (λ j. j < i)
-nearest_before ds i = within_longer (nearest_place ds i) (length (take i ds)) i (omega (arith, length-take i ds)) (nearest_within (λ x. nat_le x (get_or ds i 0)) (take i ds))
+nearest_before ds i =
+    within_longer (nearest_place ds i) (length (take i ds)) i (omega (arith, length-take i ds)) (nearest_within (λ x. nat_le x (get_or ds i 0)) (take i ds))
 
 kept : (b : Bool) (i j : ℕ) → j < i → IfSome (cond b (Some j) None) (λ j. j < i)
 kept true i j lt = lt
@@ -168,4 +173,5 @@ equal_within ds depth i None within = tt
 equal_within ds depth i (Some j) within = kept (get_or ds j 0 == depth) i j within
 
 pub previous_within : (ds : List ℕ) (i : ℕ) → IfSome (previous_place ds i) (λ j. j < i)
-previous_within ds i = subst (λ r. IfSome r (λ j. j < i)) (sym (previous_is ds i)) (equal_within ds (get_or ds i 0) i (nearest_place ds i) (nearest_before ds i))
+previous_within ds i =
+    subst (λ r. IfSome r (λ j. j < i)) (sym (previous_is ds i)) (equal_within ds (get_or ds i 0) i (nearest_place ds i) (nearest_before ds i))

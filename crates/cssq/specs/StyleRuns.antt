@@ -37,7 +37,9 @@ IsStyleText name rules rows = AreLines (IsStyleLineOf name rules rows) (length r
 
 -- the lines for the sheet, the tree and the name, or the tree's fault
 abbrev pub IsStyleRun : List ℕ → List ℕ → List ℕ → Result (List ℕ) RunFault → Type 0
-IsStyleRun text tree name (Ok lines) = (rows : List Row) × (tree_of tree ≡ Ok rows) × IsStyleText name (sheet this_edition (text ∷ [])) rows lines
+IsStyleRun text tree name (Ok lines) =
+    (rows : List Row) × (tree_of tree ≡ Ok rows)
+    × IsStyleText name (sheet this_edition (text ∷ [])) rows lines
 IsStyleRun text tree name (Err (Tree fault)) = tree_of tree ≡ Err fault
 IsStyleRun text tree name (Err Refused) = ⊥
 IsStyleRun text tree name (Err Memory) = ⊥

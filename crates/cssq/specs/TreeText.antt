@@ -76,7 +76,8 @@ depth_in fields = digits_value 10 (depth_text fields)
 
 -- the row of a line, by its fields
 abbrev pub row_of : List (List ℕ) → Row
-row_of fields = record { depth = depth_in fields; name = name_text fields; attributes = map attribute_of (attribute_fields fields) }
+row_of fields =
+    record { depth = depth_in fields; name = name_text fields; attributes = map attribute_of (attribute_fields fields) }
 
 -- ---- what can be wrong with a line; a fault tells the line's number
 
@@ -87,11 +88,14 @@ is_depth (c ∷ cs) = if c == digit_zero then length cs == 0 else list_all is_as
 
 -- the depth that a field spells, where that is at most the limit
 abbrev pub spelled_depth : ℕ → List ℕ → Option ℕ
-spelled_depth limit field = if is_depth field && nat_le (digits_value 10 field) limit then Some (digits_value 10 field) else None
+spelled_depth limit field =
+    if is_depth field && nat_le (digits_value 10 field) limit then Some (digits_value 10 field)
+    else None
 
 -- the first field is no depth, or one above the limit
 abbrev pub depth_fault : ℕ → ℕ → List (List ℕ) → Option TreeFault
-depth_fault number limit fields = if is_none (spelled_depth limit (depth_text fields)) then Some (BadDepth number) else None
+depth_fault number limit fields =
+    if is_none (spelled_depth limit (depth_text fields)) then Some (BadDepth number) else None
 
 -- the name is missing or empty
 abbrev pub name_fault : ℕ → List (List ℕ) → Option TreeFault
@@ -139,7 +143,8 @@ limits_of first lines = first ∷ map (λ fields. depth_in fields + 1) lines
 
 -- the faults of each line, the first having a number and a limit
 abbrev pub line_faults : ℕ → ℕ → List (List (List ℕ)) → List (List TreeFault)
-line_faults number limit lines = map (λ p. faults_of_line p.0 p.1.0 p.1.1) (enumerate_from number (zip (limits_of limit lines) lines))
+line_faults number limit lines =
+    map (λ p. faults_of_line p.0 p.1.0 p.1.1) (enumerate_from number (zip (limits_of limit lines) lines))
 
 -- the faults of each line of a text: the first line has the number 1 and the depth 0
 abbrev pub faults_in : List ℕ → List (List TreeFault)
@@ -156,7 +161,9 @@ tree_of text = first_or_rows (flat_map (λ faults. faults) (faults_in text)) (ma
 
 -- the number is that of a line, and no line up to it is faulty
 abbrev pub IsSoundTo : ℕ → List ℕ → Type 0
-IsSoundTo number text = (0 < number) × (number ≤ length (lines_in text)) × All (λ faults. faults ≡ []) (take number (faults_in text))
+IsSoundTo number text =
+    (0 < number) × (number ≤ length (lines_in text))
+    × All (λ faults. faults ≡ []) (take number (faults_in text))
 
 -- the fault is the text's, or memory ran out at a line up to which none is faulty
 abbrev pub IsFaultOf : TreeFault → List ℕ → Type 0

@@ -83,4 +83,6 @@ pub record ListsInOrder (stands : Standing) (declarations : List StyleDeclaratio
 
 -- no two of the declarations have one name
 abbrev pub HaveOwnNames : List StyleDeclaration → Type 0
-HaveOwnNames declarations = (k l : ℕ) (p q : StyleDeclaration) → k < l → slice_get declarations k ≡ Some p → slice_get declarations l ≡ Some q → p.name ≡ q.name → ⊥
+HaveOwnNames declarations =
+    (k l : ℕ) (p q : StyleDeclaration) → k < l → slice_get declarations k ≡ Some p
+    → slice_get declarations l ≡ Some q → p.name ≡ q.name → ⊥

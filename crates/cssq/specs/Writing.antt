@@ -6,7 +6,9 @@ use Rattle.cssq.specs.declared.runs.RunFault.TheVariants.{Refused, Tree, Memory,
 
 -- a beginning of the bytes was written, but not all of them
 abbrev pub AppendsProperPart : Option (List ℕ) → Option (List ℕ) → List ℕ → Type 0
-AppendsProperPart old new bytes = (front : List ℕ) × (rest : List ℕ) × (bytes ≡ front ++ rest) × (0 < length rest) × Appends old new front
+AppendsProperPart old new bytes =
+    (front : List ℕ) × (rest : List ℕ) × (bytes ≡ front ++ rest) × (0 < length rest)
+    × Appends old new front
 
 -- A run is to write bytes, or to answer a fault. It did write them; or the writer failed after a
 -- beginning; or nothing was written, for want of memory or because the fault was due.

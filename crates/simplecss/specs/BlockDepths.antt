@@ -7,7 +7,8 @@ use Rattle.simplecss_text.specs.Blocks.{count_of}
 -- the `depth` blocks that are open before it.
 abbrev pub closes_at : ℕ → List ℕ → ℕ → Bool
 closes_at depth text place =
-    slice_index text place == close_brace && depth + count_of open_brace (take place text) == count_of close_brace (take place text)
+    slice_index text place == close_brace
+    && depth + count_of open_brace (take place text) == count_of close_brace (take place text)
 
 -- the first such brace stands at the place
 pub record ClosesFirst (depth : ℕ) (text : List ℕ) (place : ℕ) : Type 0 where

@@ -18,4 +18,5 @@ pub record IsFrom (source : List StyleRule) (i : ℕ) (a : StyleRule) : Type 0 w
 pub record ComesBefore (source : List StyleRule) (i j : ℕ) (a b : StyleRule) : Type 0 where
   pub first : IsFrom source i a
   pub second : IsFrom source j b
-  pub before : (is_smaller a b ≡ true) ⊎ ((specificity a.components ≡ specificity b.components) × (first.place < second.place))
+  pub before : (is_smaller a b ≡ true)
+      ⊎ ((specificity a.components ≡ specificity b.components) × (first.place < second.place))

@@ -11,7 +11,8 @@ use Rattle.simplecss.specs.SeenRules.{rules_of}
 -- there, gives the rules of the grammar, and what is left behind it is what the grammar leaves.
 pub record StandsNext (text : List ℕ) (place : ℕ) (statement : Statement) : Type 0 where
   pub start : drop statement.start text ≡ past_blank (drop place text)
-  pub reads : next_statement this_edition (drop place text) ≡ Some (rules_of statement.rules.items, drop statement.end text)
+  pub reads : next_statement this_edition (drop place text)
+      ≡ Some (rules_of statement.rules.items, drop statement.end text)
   pub rising : (place ≤ statement.start) × (statement.start < statement.end) × (statement.end ≤ length text)
   pub starts_at : IsCharBoundary text statement.start
   pub ends_at : IsCharBoundary text statement.end

@@ -23,7 +23,8 @@ last_for lasts by_nothing = lasts.any
 -- the place is now the last of the key, and every other key has the one that it had
 abbrev pub TakesPlace : Lasts → Lasts → Key → ℕ → Type 0
 TakesPlace old new key place = (other : Key)
-    → ((key ≡ other) × (last_for new other ≡ Some place)) ⊎ ((key ≡ other → ⊥) × (last_for new other ≡ last_for old other))
+    → ((key ≡ other) × (last_for new other ≡ Some place))
+    ⊎ ((key ≡ other → ⊥) × (last_for new other ≡ last_for old other))
 
 -- the id, if there is one, leads to the place
 abbrev pub IdLeads : Lasts → Option (List ℕ) → ℕ → Type 0

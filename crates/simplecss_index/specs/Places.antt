@@ -19,4 +19,5 @@ pub record AreThePlaces (IsWanted : ℕ → Type 0) (number : ℕ) (places : Lis
 
 -- some places were appended, in any order and number, and they are those that are as wanted
 abbrev pub Adds : List ℕ → List ℕ → (ℕ → Type 0) → Type 0
-Adds old new IsWanted = (more : List ℕ) × (new ≡ old ++ more) × ((place : ℕ) → Contains more place ↔ IsWanted place)
+Adds old new IsWanted =
+    (more : List ℕ) × (new ≡ old ++ more) × ((place : ℕ) → Contains more place ↔ IsWanted place)

@@ -45,7 +45,8 @@ abbrev pub combinator_eq : Combinator → Combinator → Bool
 combinator_eq a b = combinator_key a == combinator_key b
 
 abbrev pub subselector_eq : Subselector → Subselector → Bool
-subselector_eq (attribute name operator) (attribute other_name other_operator) = text_eq name other_name && operator_eq operator other_operator
+subselector_eq (attribute name operator) (attribute other_name other_operator) =
+    text_eq name other_name && operator_eq operator other_operator
 subselector_eq (pseudo_class class) (pseudo_class other_class) = pseudo_class_eq class other_class
 subselector_eq (attribute name operator) (pseudo_class class) = false
 subselector_eq (pseudo_class class) (attribute name operator) = false

@@ -123,7 +123,8 @@ subselector_decides (pseudo_class c) (attribute n o) = ((λ h. absurd (cc)), (λ
 
 pub name_decides : (a b : Option (List ℕ)) → Decides (option_eq text_eq a b) (a ≡ b)
 name_decides None None = ((λ h. refl), (λ e. refl))
-name_decides (Some a) (Some b) = ((λ h. λ i. Some ((bytes_decides a b).0 h i)), (λ e. let same : a ≡ b = cc in (bytes_decides a b).1 same))
+name_decides (Some a) (Some b) =
+    ((λ h. λ i. Some ((bytes_decides a b).0 h i)), (λ e. let same : a ≡ b = cc in (bytes_decides a b).1 same))
 name_decides None (Some b) = ((λ h. absurd (cc)), (λ e. absurd (cc)))
 name_decides (Some a) None = ((λ h. absurd (cc)), (λ e. absurd (cc)))
 

@@ -94,17 +94,20 @@ module _ (parent : ℕ → Option ℕ) (before : (i : ℕ) → IfSome (parent i)
   enough : (m n i : ℕ) → i < m → i < n → ancestors_within parent m i ≡ ancestors_within parent n i
   enough zero n i lt lt' = absurd (omega arith)
   enough (suc m) zero i lt lt' = absurd (omega arith)
-  enough (suc m) (suc n) i lt lt' = above_same m n i (parent i) (before i) (λ j j-lt. enough m n j (omega arith) (omega arith))
+  enough (suc m) (suc n) i lt lt' =
+      above_same m n i (parent i) (before i) (λ j j-lt. enough m n j (omega arith) (omega arith))
 
   climbed : (i : ℕ) (r : Option ℕ) → IfSome r (λ p. p < i)
-      → with_those_above (ancestors_within parent i) r ≡ with_those_above (λ p. ancestors_within parent (suc p) p) r
+      → with_those_above (ancestors_within parent i) r
+      ≡ with_those_above (λ p. ancestors_within parent (suc p) p) r
   climbed i None lt = refl
   climbed i (Some p) lt = ap (λ ps. p ∷ ps) (enough i (suc p) p lt (omega arith))
 
 -- The ancestors are the parent and its ancestors.
 pub ancestors_step : (named : ℕ → Option ℕ) (i : ℕ)
     → ancestors named i ≡ with_those_above (ancestors named) (parent_by named i)
-ancestors_step named i = climbed (parent_by named) (λ j. earlier_before j (named j)) i (parent_by named i) (earlier_before i (named i))
+ancestors_step named i =
+    climbed (parent_by named) (λ j. earlier_before j (named j)) i (parent_by named i) (earlier_before i (named i))
 
 module _ {Rows : Type 0} (list : ListOf Rows) where
   counted : (rows : Rows) (i : ℕ) (r : Option ℕ)
@@ -126,14 +129,17 @@ module _ {Rows : Type 0} (list : ListOf Rows) where
   kept_sharing : (rows : Rows) (parent : Option ℕ) (s : ℕ) (b : Bool)
       → option_eq nat_eq (parent_place list rows s) parent ≡ b
       → IfSome (option_map (spot rows) (cond b (Some s) None)) (λ n. option_map (spot n.0) (parent_place list n.0 n.1) ≡ option_map (spot rows) parent)
-  kept_sharing rows parent s true is = ap (option_map (spot rows)) (same_place (parent_place list rows s) parent is)
+  kept_sharing rows parent s true is =
+      ap (option_map (spot rows)) (same_place (parent_place list rows s) parent is)
   kept_sharing rows parent s false is = tt
 
   sharing : (rows : Rows) (parent r : Option ℕ)
       → IfSome (option_map (spot rows) (with_parent (list.parent rows) parent r)) (λ n. option_map (spot n.0) (parent_place list n.0 n.1) ≡ option_map (spot rows) parent)
   sharing rows parent None = tt
-  sharing rows parent (Some s) = kept_sharing rows parent s (option_eq nat_eq (parent_place list rows s) parent) refl
+  sharing rows parent (Some s) =
+      kept_sharing rows parent s (option_eq nat_eq (parent_place list rows s) parent) refl
 
   -- A previous sibling in a tree of lists has the same parent.
   pub list_shares_parents : SiblingsShareParent (list_tree list)
-  list_shares_parents n = sharing n.0 (parent_place list n.0 n.1) (earlier n.1 (list.previous_sibling n.0 n.1))
+  list_shares_parents n =
+      sharing n.0 (parent_place list n.0 n.1) (earlier n.1 (list.previous_sibling n.0 n.1))

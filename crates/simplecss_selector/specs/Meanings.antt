@@ -13,4 +13,5 @@ pub record KeepsMeanings {M N : Type 0} (tree : Tree M) (other : Tree N) (image 
   pub names : (n : M) (name : List ℕ) → other.is_named (image n) name ≡ tree.is_named n name
   pub attributes : (n : M) (name : List ℕ) (operator : Operator)
       → other.has_attribute (image n) name operator ≡ tree.has_attribute n name operator
-  pub pseudo_classes : (n : M) (class : KnownPseudoClass) → other.is_in_pseudo_class (image n) class ≡ tree.is_in_pseudo_class n class
+  pub pseudo_classes : (n : M) (class : KnownPseudoClass)
+      → other.is_in_pseudo_class (image n) class ≡ tree.is_in_pseudo_class n class

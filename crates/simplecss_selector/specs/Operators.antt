@@ -15,7 +15,8 @@ abbrev pub is_as_asked : Operator → List ℕ → Bool
 is_as_asked exists value = true
 is_as_asked (equals text) value = bytes_eq value text
 is_as_asked (has_word word) value = is_word_of word value
-is_as_asked (begins_with start) value = bytes_eq value start || starts_with nat_eq value (start ++ hyphen ∷ [])
+is_as_asked (begins_with start) value =
+    bytes_eq value start || starts_with nat_eq value (start ++ hyphen ∷ [])
 
 -- nothing, or a text whose last byte is a space
 abbrev pub IsUpToSpace : List ℕ → Type 0

@@ -21,7 +21,8 @@ abbrev pub component_of_part : Part → List SubSelector → Component
 component_of_part p subselectors =
     record {
       combinator = combinator_of p.combinator;
-      compound = record { name = option_map (λ n. n.now) p.name; subselectors = map subselector_of subselectors };
+      compound =
+          record { name = option_map (λ n. n.now) p.name; subselectors = map subselector_of subselectors };
     }
 
 -- the components, whose subselectors follow one another in the one list from `start` on

@@ -41,7 +41,8 @@ still_to_come t = sequence_in t.stage (left_of t)
 
 -- A call on a text gave the first item of a sequence, left `left` to read, and the sequence `after`
 -- to come; or nothing was to come.
-abbrev pub GivesFirst : List ℕ → TokenSequence → Option (Result SelectorToken Error) → (left : List ℕ) → (after : TokenSequence)
+abbrev pub GivesFirst : List ℕ → TokenSequence → Option (Result SelectorToken Error) → (left : List ℕ)
+    → (after : TokenSequence)
     → Type 0
 GivesFirst text before None left after = (before ≡ sequence_end left) × (after ≡ sequence_end left)
 GivesFirst text before (Some x) left after =
@@ -59,7 +60,8 @@ pub record GivesItem (before : SelectorTokenizer) (result : Option (Result Selec
   -- the text stays
   pub text : whole_text after ≡ whole_text before
   -- it is the first of the sequence, which tells what is left to read behind it
-  pub first : GivesFirst (whole_text before) (still_to_come before) result (left_of after) (still_to_come after)
+  pub first :
+      GivesFirst (whole_text before) (still_to_come before) result (left_of after) (still_to_come after)
   -- its names and values stand in order in what was passed
   pub slices : StandBetween (left_of before) (left_of after) (given_texts result)
   -- the place does not fall

@@ -11,7 +11,8 @@ use Rattle.simplecss_text.specs.Characters.{is_space}
 pub record IsComment (text : List ℕ) : Type 0 where
   pub inside : List ℕ
   pub is : text ≡ (slash ∷ asterisk ∷ []) ++ (inside ++ (asterisk ∷ slash ∷ []))
-  pub first : (k : ℕ) → k < length inside → starts_two asterisk slash (drop k (inside ++ (asterisk ∷ slash ∷ []))) ≡ false
+  pub first : (k : ℕ) → k < length inside
+      → starts_two asterisk slash (drop k (inside ++ (asterisk ∷ slash ∷ []))) ≡ false
 
 -- The text is a blank: it is cut into space bytes and comments, one after the other. It may be
 -- empty.

@@ -21,7 +21,8 @@ count_of byte text = count_by (λ b. b == byte) text
 -- a closing brace stands at the place, and before it as many opening as closing ones
 abbrev pub closes_block : List ℕ → ℕ → Bool
 closes_block text place =
-    slice_index text place == close_brace && count_of open_brace (take place text) == count_of close_brace (take place text)
+    slice_index text place == close_brace
+    && count_of open_brace (take place text) == count_of close_brace (take place text)
 
 -- Where the block ends that reading is in: the least place that closes it, else the end of the
 -- text. Quotes and comments are not looked at.

@@ -5,8 +5,10 @@ use Rattle.std.specs.Prelude.{◌≡◌, ℕ, ◌<◌, ◌≤◌, List, Bool, tr
 -- the text, gives one answer at each, and gives one and the same answer at all bytes past ASCII.
 pub record IsByteTest (pre : ℕ → Type 0) (post : ℕ → Bool → Type 0) (text : List ℕ) : Type 0 where
   pub callable : (k : ℕ) → k < length text → pre (slice_index text k)
-  pub steady : (k : ℕ) (x y : Bool) → k < length text → post (slice_index text k) x → post (slice_index text k) y → x ≡ y
-  pub alike : (j k : ℕ) (x y : Bool) → j < length text → k < length text → 128 ≤ slice_index text j → 128 ≤ slice_index text k
+  pub steady : (k : ℕ) (x y : Bool) → k < length text → post (slice_index text k) x
+      → post (slice_index text k) y → x ≡ y
+  pub alike : (j k : ℕ) (x y : Bool) → j < length text → k < length text → 128 ≤ slice_index text j
+      → 128 ≤ slice_index text k
       → post (slice_index text j) x → post (slice_index text k) y → x ≡ y
 
 -- The bytes from the place p to before the place q pass the test, and the one at q, if the text

@@ -61,7 +61,8 @@ after_byte byte (b ∷ text) = if b == byte then Some text else after_byte byte 
 -- the byte, which must stand there
 abbrev pub byte : ℕ → Reader (Unit {0})
 byte expected [] = fails ended []
-byte expected (b ∷ text) = if b == expected then got tt text else fails (wrong_byte expected (b ∷ text)) (b ∷ text)
+byte expected (b ∷ text) =
+    if b == expected then got tt text else fails (wrong_byte expected (b ∷ text)) (b ∷ text)
 
 -- the byte, if it stands there
 abbrev pub optional : ℕ → Reader (Unit {0})

@@ -14,7 +14,8 @@ opens_comment text = starts_two slash asterisk text
 -- what is left after the first `*/`
 abbrev pub after_close : List ℕ → Option (List ℕ)
 after_close [] = None
-after_close (b ∷ text) = if starts_two asterisk slash (b ∷ text) then Some (past_one text) else after_close text
+after_close (b ∷ text) =
+    if starts_two asterisk slash (b ∷ text) then Some (past_one text) else after_close text
 
 -- What is left after the comment that opens here: it closes by the first `*/` behind its `/*`. So
 -- `/*/` is not closed.
@@ -43,7 +44,8 @@ past_blank text = (each blank_part text).1
 -- A blank. A comment behind it that is not closed is a fault, and uses up the text.
 unfoldable pub blank : Reader (Unit {0})
 blank text =
-    if opens_comment (past_blank text) then fails (no_comment (past_blank text)) [] else got tt (past_blank text)
+    if opens_comment (past_blank text) then fails (no_comment (past_blank text)) []
+    else got tt (past_blank text)
 
 -- whether a space byte is a part of the blank at the front; those inside its comments are none
 abbrev pub has_space : List ℕ → Bool

@@ -9,7 +9,8 @@ use Rattle.simplecss_text.specs.Sheets.{sheet}
 
 -- what is left behind a blank and a statement, where the statements go on
 abbrev pub behind_statement : Edition → List ℕ → Option (List ℕ × List ℕ)
-behind_statement edition text = option_map (λ statement. (statement.1, statement.1)) (next_statement edition text)
+behind_statement edition text =
+    option_map (λ statement. (statement.1, statement.1)) (next_statement edition text)
 
 -- The text is cut into blanks and statements in turn. What is left behind each of its statements.
 unfoldable pub rests_behind : Edition → List ℕ → List (List ℕ)
@@ -26,7 +27,8 @@ StatementEndsAt edition text place = Contains (statement_ends edition text) plac
 -- The text has the rules of what stands before the place, and then those of what stands from there
 -- on.
 abbrev pub KeepsAcross : Edition → List ℕ → ℕ → Type 0
-KeepsAcross edition text place = kept edition text ≡ kept edition (take place text) ++ kept edition (drop place text)
+KeepsAcross edition text place =
+    kept edition text ≡ kept edition (take place text) ++ kept edition (drop place text)
 
 -- A sheet had the rules `old`, then read `text`, and now has the rules `new`. If `old` are the
 -- rules of some texts and of the front of a further one up to where one of its statements ends, and

@@ -47,7 +47,8 @@ value edition text =
 -- whether the text begins with the word `important`, which is passed then; more letters may follow
 -- it
 abbrev pub important_word : Reader Bool
-important_word text = if starts_with eqb text (codes "important") then got true (drop 9 text) else got false text
+important_word text =
+    if starts_with eqb text (codes "important") then got true (drop 9 text) else got false text
 
 -- an exclamation mark and a blank, and whether the word `important` stands behind them
 abbrev pub after_mark : Reader Bool

@@ -68,7 +68,8 @@ error_text (InvalidIdent pos) = codes "invalid ident at " ++ position_text pos
 error_text (InvalidComment pos) = codes "invalid comment at " ++ position_text pos
 error_text (InvalidValue pos) = codes "invalid value at " ++ position_text pos
 error_text (InvalidByte expected actual pos) =
-    codes "expected '" ++ encode_utf8 expected ++ codes "' not '" ++ encode_utf8 actual ++ codes "' at " ++ position_text pos
+    codes "expected '" ++ encode_utf8 expected ++ codes "' not '" ++ encode_utf8 actual
+    ++ codes "' at " ++ position_text pos
 error_text SelectorMissing = codes "selector missing"
 error_text UnexpectedSelector = codes "unexpected selector"
 error_text UnexpectedCombinator = codes "unexpected combinator"

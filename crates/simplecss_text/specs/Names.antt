@@ -14,7 +14,8 @@ begins_name edition (c ∷ d ∷ characters) = is_name_start edition c || (c == 
 
 -- what is left after the longest run of name characters at the front of a text
 unfoldable pub past_name_chars : Edition → List ℕ → List ℕ
-past_name_chars edition text = drop (length (encode_utf8_all (take_while (is_name_char edition) (chars text)))) text
+past_name_chars edition text =
+    drop (length (encode_utf8_all (take_while (is_name_char edition) (chars text)))) text
 
 -- A name is the longest run of name characters, where a name begins. Where none does, that is a
 -- fault, and a hyphen that stands there is passed, wherever a name is missing: so of `--x` the

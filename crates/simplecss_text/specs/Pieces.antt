@@ -57,7 +57,8 @@ lang_after = do
 
 -- what follows the name of a pseudo-class: a language behind `lang`, else nothing
 abbrev pub pseudo_class_named : List ℕ → Reader Token
-pseudo_class_named n text = if bytes_eq n (codes "lang") then lang_after text else got (named_pseudo_class n) text
+pseudo_class_named n text =
+    if bytes_eq n (codes "lang") then lang_after text else got (named_pseudo_class n) text
 
 -- a pseudo-class after its colon
 unfoldable pub pseudo_class_after : Edition → Reader Token

@@ -46,7 +46,9 @@ type_text (Some name) = name
 
 -- a component with the combinator before it
 abbrev pub component_text : Component → List ℕ
-component_text c = combinator_text c.combinator ++ type_text c.compound.name ++ flat_map subselector_text c.compound.subselectors
+component_text c =
+    combinator_text c.combinator ++ type_text c.compound.name
+    ++ flat_map subselector_text c.compound.subselectors
 
 -- the components one after another
 abbrev pub selector_text : List Component → List ℕ
@@ -62,7 +64,9 @@ declaration_text p = p.name ++ codes ":" ++ p.value ++ important_text p.importan
 
 -- the selector, and the declarations between braces
 abbrev pub rule_text : StyleRule → List ℕ
-rule_text rule = selector_text rule.components ++ codes " { " ++ flat_map declaration_text rule.declarations ++ codes " }"
+rule_text rule =
+    selector_text rule.components ++ codes " { " ++ flat_map declaration_text rule.declarations
+    ++ codes " }"
 
 -- the rules' texts, with a newline between each two
 abbrev pub sheet_text : List StyleRule → List ℕ

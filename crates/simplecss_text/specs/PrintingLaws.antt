@@ -21,7 +21,9 @@ ReadsBack edition s = (reads edition (selector_text s) ≡ (Some s, [])) ↔ (is
 -- Printed before a block, the selector reads as itself, with the opening brace and what follows it
 -- left, exactly if it is clean. This holds whatever follows the brace.
 abbrev pub ReadsBackBeforeBlock : Edition → List Component → Type 0
-ReadsBackBeforeBlock edition s = (text : List ℕ) → (reads edition (selector_text s ++ (codes " {" ++ text)) ≡ (Some s, codes "{" ++ text)) ↔ (is_clean s ≡ true)
+ReadsBackBeforeBlock edition s =
+    (text : List ℕ)
+    → (reads edition (selector_text s ++ (codes " {" ++ text)) ≡ (Some s, codes "{" ++ text)) ↔ (is_clean s ≡ true)
 
 -- a type name that is a hyphen alone
 abbrev pub is_hyphen_name : Option (List ℕ) → Bool
@@ -43,7 +45,9 @@ pub record SelectorReadsBack (edition : Edition) (s : List Component) : Type 0 w
 
 -- Of selectors that read back, two clean ones print alike exactly if they are equal.
 abbrev pub PrintAlikeIfEqual : Edition → List Component → List Component → Type 0
-PrintAlikeIfEqual edition s t = ReadsBack edition s → ReadsBack edition t → is_clean s ≡ true → is_clean t ≡ true → (selector_text s ≡ selector_text t) ↔ (s ≡ t)
+PrintAlikeIfEqual edition s t =
+    ReadsBack edition s → ReadsBack edition t → is_clean s ≡ true → is_clean t ≡ true
+    → (selector_text s ≡ selector_text t) ↔ (s ≡ t)
 
 -- The selector of each rule reads back, and none ends in a lone hyphen, since a block stood behind
 -- it.
@@ -92,5 +96,8 @@ pub record PrintsBack (edition : Edition) (rules : List StyleRule) : Type 0 wher
 -- A sheet had the rules `old`, then read `text`, and now has the rules `new`. If `old` are the
 -- rules of texts without white space past ASCII, and `text` is such a text too, then `new` prints
 -- back.
-abbrev pub PrintsBackAfter : Edition → (old : List StyleRule) → (text : List ℕ) → (new : List StyleRule) → Type 0
-PrintsBackAfter edition old text new = (texts : List (List ℕ)) → All IsNarrow texts → IsNarrow text → old ≡ sheet edition texts → PrintsBack edition new
+abbrev pub PrintsBackAfter :
+    Edition → (old : List StyleRule) → (text : List ℕ) → (new : List StyleRule) → Type 0
+PrintsBackAfter edition old text new =
+    (texts : List (List ℕ)) → All IsNarrow texts → IsNarrow text → old ≡ sheet edition texts
+    → PrintsBack edition new

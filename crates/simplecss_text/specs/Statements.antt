@@ -25,7 +25,8 @@ part edition text = ((reads edition text).0, past is_space (reads edition text).
 -- a part that a comma follows, and what is left after the comma
 abbrev pub part_and_comma : Edition → List ℕ → Option (Option (List Component) × List ℕ)
 part_and_comma edition text =
-    if starts comma (part edition text).1 then Some ((part edition text).0, past_one (part edition text).1) else None
+    if starts comma (part edition text).1 then Some ((part edition text).0, past_one (part edition text).1)
+    else None
 
 -- The selectors of the parts, a comma behind each but the last, and what is left after it.
 unfoldable pub parts : Edition → List ℕ → List (List Component) × List ℕ
@@ -52,7 +53,9 @@ rule_set edition text =
 
 -- what is left behind a semicolon, or a block and its closing brace
 abbrev pub past_semicolon_or_block : List ℕ → List ℕ
-past_semicolon_or_block text = if starts open_brace text then past_byte close_brace (from_block_end (past_one text)) else past_byte semicolon text
+past_semicolon_or_block text =
+    if starts open_brace text then past_byte close_brace (from_block_end (past_one text))
+    else past_byte semicolon text
 
 -- Behind the name of an at-rule all is passed up to a semicolon or a block. Without a name it ends
 -- where the fault leaves reading.
@@ -66,7 +69,9 @@ at_rule_rest edition text = at_rule_rest_by_name (name edition text)
 
 -- a statement: the rules that it gives, and what is left after it
 unfoldable pub statement : Edition → List ℕ → List StyleRule × List ℕ
-statement edition text = if starts at_sign text then ([], at_rule_rest edition (past_one text)) else rule_set edition text
+statement edition text =
+    if starts at_sign text then ([], at_rule_rest edition (past_one text))
+    else rule_set edition text
 
 -- the text has ended, or a comment is open there
 abbrev pub ends_statements : List ℕ → Bool

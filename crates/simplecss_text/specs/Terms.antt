@@ -34,7 +34,9 @@ past_number edition text = past_unit edition (past_decimals (past is_digit text)
 -- the arguments of a function, if they stand there: all up to the first closing parenthesis, and
 -- that parenthesis
 abbrev pub arguments : Reader (Unit {0})
-arguments text = if starts open_parenthesis text then closed_or ended (after_byte close_parenthesis text) else got tt text
+arguments text =
+    if starts open_parenthesis text then closed_or ended (after_byte close_parenthesis text)
+    else got tt text
 
 -- a name, and where a parenthesis follows directly, the arguments
 unfoldable pub word : Edition → Reader (Unit {0})

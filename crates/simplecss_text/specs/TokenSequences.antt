@@ -68,13 +68,15 @@ start_of (within_gap fault after) = after
 
 -- The sequence over pieces and what ends them, behind a left side.
 abbrev pub sequence : Side → List Piece → Ending → TokenSequence
-sequence side [] end = answered (before_ending side end) (start_of end) (ending_sequence (side_with (before_ending side end) side) end)
+sequence side [] end =
+    answered (before_ending side end) (start_of end) (ending_sequence (side_with (before_ending side end) side) end)
 sequence side (p ∷ ps) end =
     answered (before_piece side p) p.start (token_then p.token p.after (sequence (side_behind p.token) ps end))
 
 -- the sequence of what is left to read, behind a left side
 unfoldable pub sequence_from : Edition → Side → List ℕ → TokenSequence
-sequence_from edition side text = sequence side (pieces edition text).0 (ending edition (pieces edition text).1)
+sequence_from edition side text =
+    sequence side (pieces edition text).0 (ending edition (pieces edition text).1)
 
 -- the whole sequence of a text
 abbrev pub sequence_of : Edition → List ℕ → TokenSequence

@@ -29,7 +29,8 @@ name_at rows i = option_map_or (λ row. row.name) (slice_get rows i) []
 -- the value of the first attribute of the name
 abbrev pub value_in : List (List ℕ × List ℕ) → List ℕ → Option (List ℕ)
 value_in [] name = None
-value_in (attribute ∷ attributes) name = if bytes_eq attribute.0 name then Some attribute.1 else value_in attributes name
+value_in (attribute ∷ attributes) name =
+    if bytes_eq attribute.0 name then Some attribute.1 else value_in attributes name
 
 -- the value of an attribute of the element at a place, if it has the attribute
 abbrev pub attribute_at : List Row → ℕ → List ℕ → Option (List ℕ)
@@ -77,7 +78,8 @@ elements = record {
   parent = named_parent;
   previous_sibling = named_previous;
   is_named = λ rows i name. bytes_eq (name_at rows i) name;
-  has_attribute = λ rows i name operator. option_map_or (is_as_asked operator) (attribute_at rows i name) false;
+  has_attribute =
+      λ rows i name operator. option_map_or (is_as_asked operator) (attribute_at rows i name) false;
   is_in_pseudo_class = is_in;
 }
 

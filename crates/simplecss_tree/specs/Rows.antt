@@ -96,4 +96,5 @@ IsMissing (Some place) count = count ≤ place
 -- No place behind the entries has a child.
 pub record KnowsLast (entries : List Entry) (last_root : Option ℕ) : Type 0 where
   pub root : last_root ≡ last_child (map row_of entries) None
-  pub each : (i : ℕ) → slice_index_or (map (λ e. e.last_child) entries) i None ≡ last_child (map row_of entries) (Some i)
+  pub each : (i : ℕ)
+      → slice_index_or (map (λ e. e.last_child) entries) i None ≡ last_child (map row_of entries) (Some i)
