@@ -31,16 +31,6 @@ reads bs r parsed ok = parse_digits own 64 bs r parsed (digits bs ok).0
 pub depth_other : (limit : ℕ) (bs : List ℕ) → is_depth bs ≡ false → None ≡ spelled_depth limit bs
 depth_other limit bs other = grind arith
 
-pub depth_parsed : {E : Type 0} (limit : ℕ) (bs : List ℕ) (r : Result ℕ E) (n : ℕ) → ParsesUnsigned 64 10 bs r → is_depth bs ≡ true → r ≡ Ok n → n ≤ limit → Some n ≡ spelled_depth limit bs
-depth_parsed {E} limit bs r n parsed ok was small =
-    let value : n ≡ digits_value 10 bs = (subst (λ r. OkIff r ((0 < length bs) × (digits_value 10 bs < 2 ^ 64)) (digits_value 10 bs)) was (reads bs r parsed ok)).1 in
-    grind arith
-
-pub depth_past : {E : Type 0} (limit : ℕ) (bs : List ℕ) (r : Result ℕ E) (n : ℕ) → ParsesUnsigned 64 10 bs r → is_depth bs ≡ true → r ≡ Ok n → limit < n → None ≡ spelled_depth limit bs
-depth_past {E} limit bs r n parsed ok was large =
-    let value : n ≡ digits_value 10 bs = (subst (λ r. OkIff r ((0 < length bs) × (digits_value 10 bs < 2 ^ 64)) (digits_value 10 bs)) was (reads bs r parsed ok)).1 in
-    grind arith
-
 pub depth_unparsed : {E : Type 0} (limit : ℕ) (bs : List ℕ) (r : Result ℕ E) (e : E) → ParsesUnsigned 64 10 bs r → is_depth bs ≡ true → r ≡ Err e → limit < 2 ^ 64 → None ≡ spelled_depth limit bs
 depth_unparsed {E} limit bs r e parsed ok was fits =
     let refused = subst (λ r. OkIff r ((0 < length bs) × (digits_value 10 bs < 2 ^ 64)) (digits_value 10 bs)) was (reads bs r parsed ok) in

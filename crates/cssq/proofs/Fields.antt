@@ -21,12 +21,6 @@ key_apart key n m field others e apart = subst (λ n. has_key (take n (field ∷
 pub has_key_more : (key : List ℕ) (n m : ℕ) (fields : List (List ℕ)) (field : List ℕ) (others : List (List ℕ)) → fields ≡ field ∷ others → n ≡ suc m → bytes_eq (key_of field) key ≡ false → has_key (take n fields) key ≡ has_key (take m others) key
 has_key_more key n m fields field others is e apart = ap (λ l. has_key (take n l) key) is ∙ key_apart key n m field others e apart
 
-key_there : (key : List ℕ) (n m : ℕ) (field : List ℕ) (others : List (List ℕ)) → n ≡ suc m → bytes_eq (key_of field) key ≡ true → has_key (take n (field ∷ others)) key ≡ true
-key_there key n m field others e there = subst (λ n. has_key (take n (field ∷ others)) key ≡ true) (sym e) (ap (λ b. b || has_key (take m others) key) there)
-
-pub has_key_found : (key : List ℕ) (n m : ℕ) (fields : List (List ℕ)) (field : List ℕ) (others : List (List ℕ)) → fields ≡ field ∷ others → n ≡ suc m → bytes_eq (key_of field) key ≡ true → has_key (take n fields) key ≡ true
-has_key_found key n m fields field others is e there = ap (λ l. has_key (take n l) key) is ∙ key_there key n m field others e there
-
 -- the faults of fields that stand behind others
 abbrev pub faults_behind : ℕ → List (List ℕ) → List (List ℕ) → List TreeFault
 faults_behind number before [] = []
@@ -74,10 +68,6 @@ module _ {number : ℕ} {all rest before : List (List ℕ)} (passed : Passed num
         whole = passed.whole ∙ ap (λ l. before ++ l) is ∙ sym (append_assoc before (field ∷ []) others);
         same = passed.same ∙ ap (faults_behind number before) is ∙ ap (λ o. cons_option o (faults_behind number (before ++ field ∷ []) others)) none;
       }
-
--- no field is left
-pub faults_none : {number : ℕ} {all before : List (List ℕ)} → Passed number all [] before → field_faults number all ≡ []
-faults_none passed = passed.same
 
 -- ---- with a count of the fields that were passed
 

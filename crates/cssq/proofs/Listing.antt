@@ -14,15 +14,6 @@ use Rattle.cssq.proofs.FromLast.{before_or_from, stated_takes, stated_here}
 abbrev pub placed_at : ℕ → ℕ → StyleDeclaration → Placed
 placed_at i j p = record { rule = i; place = j; declaration = p }
 
-pub lists_none : (stands : Standing) → ((i j : ℕ) (p : StyleDeclaration) → stands i j p → ⊥) → ListsInOrder stands []
-lists_none stands none = record {
-  placed = [];
-  are = refl;
-  stand = λ k a at. absurd (cc);
-  rise = λ k l a b lt at_k at_l. absurd (cc);
-  all = λ i j p h. absurd (none i j p h);
-}
-
 -- where the same stands, the same list does
 pub lists_same : {before after : Standing} {ps : List StyleDeclaration} → ((i j : ℕ) (p : StyleDeclaration) → before i j p → after i j p) → ((i j : ℕ) (p : StyleDeclaration) → after i j p → before i j p) → ListsInOrder before ps → ListsInOrder after ps
 lists_same forth back lists = record {

@@ -79,9 +79,6 @@ pub record LinesSoFar (IsLine : ℕ → List ℕ → Type 0) (place : ℕ) (text
   pub are : AllZip IsLine (range_with_len 0 place) lines
   pub whole : text ≡ concat lines
 
-pub lines_none : (IsLine : ℕ → List ℕ → Type 0) → LinesSoFar IsLine 0 []
-lines_none IsLine = record { lines = []; are = tt; whole = refl }
-
 -- one more line
 pub lines_more : {IsLine : ℕ → List ℕ → Type 0} {place : ℕ} {before : List ℕ} → LinesSoFar IsLine place before → (line text : List ℕ) → IsLine place line → text ≡ before ++ line → LinesSoFar IsLine (place + 1) text
 lines_more {IsLine} {place} {before} so_far line text here added =
@@ -93,9 +90,6 @@ lines_more {IsLine} {place} {before} so_far line text here added =
           (all_zip_push IsLine (range_with_len 0 place) so_far.lines place line so_far.are here);
       whole = added ∙ ap (λ t. t ++ line) so_far.whole ∙ sym (concat_push so_far.lines line);
     }
-
-pub lines_all : {IsLine : ℕ → List ℕ → Type 0} {place : ℕ} {text : List ℕ} → LinesSoFar IsLine place text → (count : ℕ) → place ≡ count → AreLines IsLine count text
-lines_all {IsLine} {place} {text} so_far count all = (so_far.lines, subst (λ n. AllZip IsLine (range_with_len 0 n) so_far.lines) all so_far.are, so_far.whole)
 
 -- the line of one more element
 pub matched_more : {rules : List StyleRule} {rows : List Row} {place : ℕ} {before : List ℕ} → LinesSoFar (IsLineOf rules rows) place before → (text : List ℕ) (element : Spot) → element ≡ spot rows place → IsLineAdded before text (place + 1) rules element → LinesSoFar (IsLineOf rules rows) (place + 1) text

@@ -33,9 +33,6 @@ pub record ReadSoFar (text rest : List ℕ) (lines : List Line) (limit : ℕ) : 
   pub few : length lines + length rest ≤ length text
   pub low : limit ≤ length lines
 
-pub read_none : (text : List ℕ) → ReadSoFar text text [] 0
-read_none text = record { faults = refl; said = refl; linked = λ i l is. absurd (cc); few = omega arith; low = omega arith }
-
 module _ {text rest : List ℕ} {lines : List Line} {limit : ℕ} (so_far : ReadSoFar text rest lines limit) (line others : List ℕ) (first : lines_of rest ≡ line ∷ lines_of others) where
   abbrev here : List TreeFault
   here = faults_of_line (length lines + 1) limit (fields_of line)

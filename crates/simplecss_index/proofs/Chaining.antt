@@ -12,12 +12,6 @@ use Rattle.simplecss_index.specs.Places.{key_at}
 use Rattle.simplecss_index.specs.declared.index.Link.{Link}
 use Rattle.simplecss_index.specs.declared.lasts.Lasts.{Lasts}
 
-pub no_chains : (lasts : Lasts) → ((key : Key) → last_for lasts key ≡ None) → AreChained lasts []
-no_chains lasts none = record {
-  last = λ key. subst (IsLastBefore [] 0 key) (sym (none key)) (λ place lt. absurd (omega (arith, lt)));
-  earlier = λ place lt. absurd (omega (arith, lt));
-}
-
 module _ (selectors : List (List Component)) (s : List Component) where
   key_before : (place : ℕ) → place < length selectors → key_at (selectors ++ s ∷ []) place ≡ key_at selectors place
   key_before place lt = ap key_of (get_or_append_left selectors (s ∷ []) [] place lt)

@@ -1,7 +1,7 @@
 -- Filling a draft role by role gives the selector of the roles.
 use Rattle.std.proofs.Common.{◌≡◌, List, [], ◌∷◌, ◌++◌, Some, refl, sym, ap, ◌∙◌, append_assoc, append-nil, map}
 use Rattle.simplecss_text.specs.Components.{Component}
-use Rattle.simplecss_text.specs.Selectors.{Role, Outcome, cut, type_among, subselectors_among, component_of, components_of, selector_of, with_role}
+use Rattle.simplecss_text.specs.Selectors.{Role, Outcome, cut, type_among, subselectors_among, component_of, components_of, selector_of}
 use Rattle.simplecss_text.specs.Selectors.Role.{any_type, of_type, with, joint, unknown}
 use Rattle.simplecss_text.specs.Selectors.Outcome.{refused, accepted}
 use Rattle.simplecss_selector.specs.SelectorDrafts.{Drafted, empty_draft, drafted_after, continued, selector_after}
@@ -33,8 +33,3 @@ continued-by_byte roles = continued-cut roles empty_draft
 pub selector_after-empty_draft : (outcome : Outcome) → selector_after empty_draft outcome ≡ selector_of outcome
 selector_after-empty_draft (refused left) = refl
 selector_after-empty_draft (accepted roles left) = ap (λ cs. (Some cs, left)) (continued-by_byte roles)
-
--- one more role is read
-pub selector_after-with_role : (d : Drafted) (role : Role) (outcome : Outcome) → selector_after d (with_role role outcome) ≡ selector_after (drafted_after role d) outcome
-selector_after-with_role d role (refused left) = refl
-selector_after-with_role d role (accepted roles left) = refl

@@ -154,9 +154,6 @@ closed_stop-first text rest start spaced f g e is = (closed-stop this_edition re
 pub slash-starts : (start : List ℕ) (f : NextKind) → f ≡ next_kind start → f ≡ Slash → starts 47 start ≡ true
 slash-starts start f e is = (next_kind-as Slash start (sym is ∙ e)).1
 
-slash-error : (text start : List ℕ) → starts 47 start ≡ true → error_of text (no_comment start) ≡ InvalidComment (position_of text start)
-slash-error text start h = refl
-
 pub closed_slash-first : (text rest start after : List ℕ) (spaced : Bool) (f : NextKind) (e : Error) → gap rest ≡ got spaced start → spaced ≡ true → f ≡ next_kind start → f ≡ Slash → after ≡ past_one start → e ≡ InvalidComment (position_of text start) → GivesFirst text (sequence_in stages.Closed rest) (Some (Err e)) after (sequence_in stages.Ended after)
 closed_slash-first text rest start after spaced f e g with_space seen is left told =
     let gap_read : gap rest ≡ got true start = g ∙ ap (λ (s : Bool). got s start) with_space in

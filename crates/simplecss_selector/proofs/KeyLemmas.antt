@@ -1,8 +1,7 @@
 -- An element that a selector matches has the selector's key.
-use Rattle.std.proofs.Common.{◌≡◌, ℕ, suc, ◌+◌, ◌-◌, ◌<◌, List, [], ◌∷◌, Option, Some, None, Bool, true, false, IsTrue, length, map, drop, get_or, refl, ◌∙◌, ap, subst, arith, All}
+use Rattle.std.proofs.Common.{◌≡◌, ℕ, suc, ◌-◌, ◌<◌, List, [], ◌∷◌, Option, Some, None, Bool, true, false, IsTrue, length, refl, ◌∙◌, ap, subst, arith, All}
 use Rattle.std.specs.Prelude.{bytes_eq, codes, if◌then◌else◌}
 use Rattle.std.specs.Option.{option_or}
-use Rattle.std.proofs.lemmas.List.{drop_more}
 use Rattle.std.proofs.lemmas.Slice.Eq.{bytes_eq-Decides}
 use Rattle.std.proofs.lemmas.List.Elements.{All-head, All-tail}
 use Rattle.simplecss_text.specs.Components.{Operator, Subselector, Compound, Component}
@@ -72,7 +71,3 @@ key_needed tree (c ∷ cs) n h =
     let at = component_at (c ∷ cs) (length cs) in
     let reached : Reaches tree (at ∷ first_of (c ∷ cs) (length cs)) n = subst (λ xs. Reaches tree xs n) (first_of-suc (c ∷ cs) (length cs) within) ((placement_of tree (c ∷ cs) (suc (length cs)) n refl).0 h) in
     subst (λ k. IsTrue (has_key tree n (compound_key (component_at (c ∷ cs) k).compound))) last (met_has_key tree n at.compound reached.0)
-
--- one more that asks nothing
-pub first_asked-drop : {X : Type 0} (asked : Subselector → Option (List ℕ)) (f : X → Subselector) (xs : List X) (i : ℕ) (d : X) → i < length xs → first_asked asked (map f (drop i xs)) ≡ option_or (asked (f (get_or xs i d))) (first_asked asked (map f (drop (i + 1) xs)))
-first_asked-drop asked f xs i d h = ap (λ ys. first_asked asked (map f ys)) (drop_more xs i d h)
