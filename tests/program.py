@@ -172,6 +172,25 @@ before = checks.passed
 for words, stdin, *wanted in ANSWERS:
     answers(words, stdin, {}, *wanted)
 
+# ---- warnings: each tells the file, the row, the column, the text and why
+
+warned = put("warned.css", b"x { y:z; q }\n\nq, a < b { c:d }\n@import 'e';\n:foo {}\na > { f:g }")
+WARNINGS = [
+    f"{warned}:3:4: 'a < b': invalid ident",
+    f"{warned}:4:1: '@import 'e'': at-rule not supported",
+    f"{warned}:5:1: ':foo': unknown pseudo-class",
+    f"{warned}:6:1: 'a >': selector missing",
+]
+for words, out in (
+    (["sheet", warned, other], "x { y:z; }\nq { c:d; }\n*[id='x'] { c:d !important; }\n"),
+    (["match", warned, tree], None),
+    (["style", warned, tree, "y"], None),
+):
+    child = start(words, {})
+    got, err = child.communicate()
+    expect(child.returncode == 0 and out in (None, got.decode()), f"{words}: status {child.returncode}, {got}")
+    expect(err.decode().splitlines() == WARNINGS, f"{words} warns {err}")
+
 # ---- files that cannot be read: the first in the words' order is told, and nothing is written
 
 missing = os.path.join(folder, "missing.css")

@@ -64,8 +64,8 @@ enum Stage {
 /// The tokens of a selector's text, in order, up to the first error.
 ///
 /// They end where the text ends, or before `,` or `{`, or before a `/` that opens no comment and
-/// stands directly behind a part of a simple selector. Behind an error at most one more comes, that a
-/// selector is missing. No memory is taken.
+/// stands behind a part of a simple selector with no space byte between. Behind an error at most
+/// one more comes, that a selector is missing. No memory is taken.
 #[derive(Drop)]
 pub struct SelectorTokenizer<'a> {
     /// The text, and the place up to which it was read.

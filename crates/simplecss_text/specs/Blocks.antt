@@ -41,8 +41,8 @@ ends_list text = length text == 0 || starts close_brace text
 abbrev pub declaration_in_block : Edition → List ℕ → Option (StyleDeclaration × List ℕ)
 declaration_in_block edition text = if ends_list text then None else next_declaration edition text
 
--- Behind a broken declaration all is passed up to the end of the block that reading is in, and its
--- brace.
+-- What is left after a declaration. Behind a broken one all is passed up to the end of the block
+-- that reading is in, and its brace.
 abbrev pub past_broken : Reading StyleDeclaration → List ℕ
 past_broken (got declared rest) = rest
 past_broken (fails fault rest) = past_byte close_brace (from_block_end rest)

@@ -53,7 +53,7 @@ abbrev pub past_byte : ℕ → List ℕ → List ℕ
 past_byte byte [] = []
 past_byte byte (b ∷ text) = if b == byte then text else b ∷ text
 
--- what is left after the first such byte, and after it
+-- what is left after the first such byte, if there is one
 abbrev pub after_byte : ℕ → List ℕ → Option (List ℕ)
 after_byte byte [] = None
 after_byte byte (b ∷ text) = if b == byte then Some text else after_byte byte text

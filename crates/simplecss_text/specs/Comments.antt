@@ -51,7 +51,8 @@ blank text =
 abbrev pub has_space : List ℕ → Bool
 has_space text = list_any (λ is_space_byte. is_space_byte) (each blank_part text).0
 
--- a gap, which is a blank between two pieces: whether it has a space byte
+-- A gap, which is the blank that stands before a piece of a selector: whether it has a space byte.
+-- A comment that is not closed is a fault, as in every blank.
 unfoldable pub gap : Reader Bool
 gap = do
   text ← here

@@ -2,6 +2,7 @@
 use Rattle.std.specs.Prelude.{ℕ, List, drop}
 use Rattle.simplecss_text.specs.declared.stream.Stream.{Stream}
 
+-- the whole text
 abbrev pub text_of : Stream → List ℕ
 text_of s = s.text.now
 

@@ -39,7 +39,7 @@ terms edition text = each (term_in_value edition) text
 
 -- A value: from the first term to the end of the last one, without the white space of Unicode at
 -- either end. What is left is that after the term that could not be read: where no term begins it
--- is as before, but for a hyphen, which a missing name passes.
+-- is as before, and of a string or a function that is not closed nothing is left.
 unfoldable pub value : Edition → List ℕ → List ℕ × List ℕ
 value edition text =
     (trim (before text (last_or text (terms edition text).0)), left_after (term edition (terms edition text).1))
@@ -87,7 +87,7 @@ abbrev pub unless_empty : (start : List ℕ) → StyleDeclaration → Reader Sty
 unless_empty start declared text =
     if length declared.value == 0 then fails (no_value start) text else got declared text
 
--- the same, as a reader
+-- the value, as a reader
 abbrev pub value_reader : Edition → Reader (List ℕ)
 value_reader edition text = always (value edition text)
 

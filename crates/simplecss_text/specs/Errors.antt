@@ -1,4 +1,4 @@
--- The errors that tell faults, and how they print.
+-- The errors that tell faults, and how they print; what a call gives, by a value or an error.
 use Rattle.std.specs.Prelude.{◌≡◌, ℕ, List, [], ◌∷◌, ◌++◌, codes, decimal, encode_utf8, Option, Some, None, Result, Ok, Err}
 use Rattle.simplecss_text.specs.Reading.{Fault, ended, wrong_byte, no_name, no_comment, no_value, no_selector, unexpected_selector, unexpected_combinator, no_attribute_form, no_language, Reading, got, fails, rest_place}
 use Rattle.simplecss_text.specs.Positions.{position}
@@ -10,7 +10,7 @@ use Rattle.simplecss_text.specs.declared.Error.TheVariants.{UnexpectedEndOfStrea
 abbrev pub position_of : List ℕ → List ℕ → TextPos
 position_of text rest = position text (rest_place text rest)
 
--- the error that another byte than the expected one stands there, or none at all
+-- the error that another byte than the expected one stands there, or that the text has ended there
 abbrev pub byte_error : List ℕ → ℕ → List ℕ → Error
 byte_error text expected [] = UnexpectedEndOfStream
 byte_error text expected (b ∷ rest) = InvalidByte expected b (position_of text (b ∷ rest))

@@ -25,7 +25,8 @@ equated edition operator = do
   give (operator value)
 
 -- What is asked of an attribute: nothing before a closing bracket, else `=`, `~=` or `|=` and a
--- value.
+-- value. Other bytes are the fault that there is no such form, and the end of the text that it
+-- ended.
 unfoldable pub attribute_operator : Edition → Reader Operator
 attribute_operator edition [] = fails ended []
 attribute_operator edition (b ∷ text) =

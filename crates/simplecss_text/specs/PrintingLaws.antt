@@ -18,8 +18,8 @@ use Rattle.simplecss_text.specs.Printing.{selector_text, declaration_text, rule_
 abbrev pub ReadsBack : Edition → List Component → Type 0
 ReadsBack edition s = (reads edition (selector_text s) ≡ (Some s, [])) ↔ (is_clean s ≡ true)
 
--- Printed before a block, the selector reads as itself, with the opening brace and what follows it
--- left, exactly if it is clean. This holds whatever follows the brace.
+-- Printed before a space and a block, the selector reads as itself, with the opening brace and what
+-- follows it left, exactly if it is clean. This holds whatever follows the brace.
 abbrev pub ReadsBackBeforeBlock : Edition → List Component → Type 0
 ReadsBackBeforeBlock edition s =
     (text : List ℕ)
@@ -65,7 +65,7 @@ is_wide_space c = nat_le 128 c && is_whitespace c
 abbrev pub has_wide_space : List ℕ → Bool
 has_wide_space text = list_any is_wide_space (chars text)
 
--- a text without white space past ASCII
+-- a text in UTF-8 without white space past ASCII
 abbrev pub IsNarrow : List ℕ → Type 0
 IsNarrow text = IsUtf8 text × (has_wide_space text ≡ false)
 

@@ -112,7 +112,7 @@ component_of (combinator, roles) = record {
   compound = record { name = type_among None roles; subselectors = subselectors_among roles };
 }
 
--- one component a part, the first without a combinator
+-- one component for what stands before, between and behind the combinators, the first without one
 abbrev pub components_of : List Role → List Component
 components_of roles = component_of (none, (cut roles).0) ∷ map component_of (cut roles).1
 

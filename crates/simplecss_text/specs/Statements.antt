@@ -73,7 +73,7 @@ statement edition text =
     if starts at_sign text then ([], at_rule_rest edition (past_one text))
     else rule_set edition text
 
--- the text has ended, or a comment is open there
+-- behind a blank: the text has ended, or a comment is open there
 abbrev pub ends_statements : List ℕ → Bool
 ends_statements text = length text == 0 || opens_comment text
 

@@ -17,17 +17,18 @@ from_quote quote previous [] = None
 from_quote quote previous (b ∷ text) =
     if b == quote && not (previous == backslash) then Some (b ∷ text) else from_quote quote b text
 
--- the text up to the closing quote, which is passed; without one the text is used up
+-- The text up to the closing quote, which is passed. Without one the text is used up, and the fault
+-- is that it ended.
 abbrev pub string_up_to : List ℕ → Option (List ℕ) → Reading (List ℕ)
 string_up_to text None = fails ended []
 string_up_to text (Some closing) = got (before text closing) (past_one closing)
 
 -- The rest of a string whose opening quote was read: what stands before the closing quote. Without
--- one the text is used up.
+-- one the text is used up, and the fault is that it ended.
 abbrev pub string_after : ℕ → Reader (List ℕ)
 string_after quote text = string_up_to text (from_quote quote quote text)
 
--- a string where a quote stands, else a name
+-- A string where a quote stands, else a name. At the end of the text the fault is that it ended.
 unfoldable pub string_or_name : Edition → Reader (List ℕ)
 string_or_name edition [] = fails ended []
 string_or_name edition (b ∷ text) = if is_quote b then string_after b text else name edition (b ∷ text)

@@ -11,9 +11,9 @@ use Rattle.simplecss_text.specs.Strings.{is_quote, string_after}
 abbrev pub is_hex_digit : ℕ → Bool
 is_hex_digit b = is_digit b || is_within 97 102 b || is_within 65 70 b
 
--- What is left after a hash, behind its number sign: after the name, or where none stands after a
--- hyphen, if one stands there, and hexadecimal digits. The hyphen is passed by the name that is
--- missing: `rest` stands behind it.
+-- What is left after a hash, behind its number sign: after the name. Where no name stands it is
+-- what is left after hexadecimal digits, and after a hyphen before them, which the name that is
+-- missing passes: `rest` stands behind it.
 abbrev pub past_hash : Reading (List ℕ) → List ℕ
 past_hash (got n rest) = rest
 past_hash (fails fault rest) = past is_hex_digit rest
@@ -27,7 +27,8 @@ past_decimals text = if starts full_stop text then past is_digit (past_one text)
 abbrev pub past_unit : Edition → List ℕ → List ℕ
 past_unit edition text = if starts percent_sign text then past_one text else left_after (name edition text)
 
--- what is left after a number, behind its first byte
+-- What is left after a number, behind its first byte, which is a digit, a sign or a full stop:
+-- after digits, a full stop and digits, and a unit, of which each may be absent.
 unfoldable pub past_number : Edition → List ℕ → List ℕ
 past_number edition text = past_unit edition (past_decimals (past is_digit text))
 

@@ -30,7 +30,8 @@ fault_sequence fault after = item (Err fault) after (sequence_end after)
 abbrev pub two_faults_sequence : Fault → List ℕ → TokenSequence
 two_faults_sequence fault after = item (Err fault) after (fault_sequence no_selector after)
 
--- What stands between two neighbours, and then `next`, which is what follows. It begins at `start`.
+-- What the answer puts between two neighbours, at `start`: nothing or a descendant combinator, and
+-- behind it `next`, which is what follows; or the end or a fault, and then nothing more.
 abbrev pub answered : Answer → (start : List ℕ) → TokenSequence → TokenSequence
 answered nothing start next = next
 answered descends start next = token_then descendant_combinator start next

@@ -78,7 +78,8 @@ fn write_invalid_byte<W: fmt::Write>(
     write_position(f, pos)
 }
 
-/// Writes the front of it, up to the second byte. Each byte is the character with its number.
+/// Writes the front of that text, up to the second byte. Each byte is the character with its
+/// number.
 #[tactic(auto, using(crate::proofs::printed::StyledWrites::styled_four))]
 fn write_bytes<W: fmt::Write>(f: &mut fmt::Formatter<W>, expected: u8, actual: u8) -> fmt::Result
     ensures { WritesStyledOnOk W.write_str_gives f.old result

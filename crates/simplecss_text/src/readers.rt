@@ -108,8 +108,9 @@ pub fn pass_blank(s: &mut Stream<'_>) -> bool
     !gap.unclosed
 }
 
-/// Passes a gap between two pieces, and says whether it has a space byte. An open comment behind it
-/// is `InvalidComment` with the position of its start, and then the place is the end of the text.
+/// Passes a blank and says whether it has a space byte, as is asked of the gap before a piece of a
+/// selector. An open comment behind it is `InvalidComment` with the position of its start, and then
+/// the place is the end of the text.
 #[tactic(auto, using(crate::proofs::bytes::GapLaws::gap_is_closed, crate::proofs::bytes::GapLaws::gap_is_open))]
 #[inline(always)]
 pub fn consume_gap(s: &mut Stream<'_>) -> Result<bool, Error>

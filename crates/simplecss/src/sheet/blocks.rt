@@ -53,7 +53,8 @@ fn outer_brace(bytes: &[u8], depth: usize) -> Result<usize, usize>
     Err(open)
 }
 
-/// The same of a chunk. It is gone through byte by byte only if it has more closing braces than
+/// Where the brace stands in a chunk that closes the block, or how many blocks are open behind the
+/// chunk. It is gone through byte by byte only if it has more closing braces than
 /// blocks are open before it.
 #[inline(always)]
 fn outer_brace_of_chunk(chunk: &[u8; CHUNK], depth: usize) -> Result<usize, usize>

@@ -1,5 +1,5 @@
--- Runs, parts and statements leave no more than there was, and a statement takes a byte or more.
--- Serves `consume_parts` and `read_rules` (their loops end), and `laws::cutting_law`.
+-- Sequences of tokens, parts and statements leave no more than there was, and a statement takes a
+-- byte or more. Serves `consume_parts` and `read_rules` (their loops end), and `laws::cutting_law`.
 use Rattle.std.proofs.Common.{ℕ, ◌<◌, ◌≤◌, List, [], ◌∷◌, Bool, true, false, if◌then◌else◌, ◌==◌, not, length, Some, None, arith}
 use Rattle.simplecss_text.specs.Reading.{Reading, got, fails, each}
 use Rattle.simplecss_text.specs.Bytes.{past, past_one, past_byte, starts, is_neither}
