@@ -21,7 +21,8 @@ better_of None later = later
 better_of (Some earlier) later = if earlier.important && not later.important then earlier else later
 
 -- the rule has a placement on the node, and this is what wins in it, whatever the rule's place
-pub record IsCandidate {Node : Type 0} (tree : Tree Node) (n : Node) (rule : StyleRule) (name : List ℕ) (p : StyleDeclaration) : Type 0 where
+pub record IsCandidate {Node : Type 0} (tree : Tree Node) (n : Node) (rule : StyleRule)
+    (name : List ℕ) (p : StyleDeclaration) : Type 0 where
   pub takes : HasPlacement tree rule.components n
   pub best : (i : ℕ) → Wins (InRule i rule.declarations) name (Some p)
 
@@ -29,7 +30,8 @@ pub record IsCandidate {Node : Type 0} (tree : Tree Node) (n : Node) (rule : Sty
 -- important
 abbrev pub IsOutdone : StyleRule → List ℕ → Bool → Type 0
 IsOutdone rule name is_later_known =
-    (j : ℕ) (p : StyleDeclaration) → slice_get rule.declarations j ≡ Some p → p.name ≡ name → (is_later_known ≡ true) × (p.important ≡ false)
+    (j : ℕ) (p : StyleDeclaration) → slice_get rule.declarations j ≡ Some p → p.name ≡ name
+    → (is_later_known ≡ true) × (p.important ≡ false)
 
 -- if the rule has a placement on the node, it is outdone
 abbrev pub IsPassedOver : {Node : Type 0} → Tree Node → Node → StyleRule → List ℕ → Bool → Type 0

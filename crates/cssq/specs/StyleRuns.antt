@@ -29,7 +29,9 @@ style_line number winner = decimal number ++ (colon ∷ (winner_text winner ++ n
 -- the line of the element at a place
 abbrev pub IsStyleLineOf : List ℕ → List StyleRule → List Row → ℕ → List ℕ → Type 0
 IsStyleLineOf name rules rows place line =
-    (winner : Option StyleDeclaration) × Wins (IsStated page_tree (spot rows place) rules) name winner × (line ≡ style_line (place + 1) winner)
+    (winner : Option StyleDeclaration)
+    × Wins (IsStated page_tree (spot rows place) rules) name winner
+    × (line ≡ style_line (place + 1) winner)
 
 -- the lines of all elements, in turn
 abbrev pub IsStyleText : List ℕ → List StyleRule → List Row → List ℕ → Type 0

@@ -77,7 +77,11 @@ depth_in fields = digits_value 10 (depth_text fields)
 -- the row of a line, by its fields
 abbrev pub row_of : List (List ℕ) → Row
 row_of fields =
-    record { depth = depth_in fields; name = name_text fields; attributes = map attribute_of (attribute_fields fields) }
+    record {
+      depth = depth_in fields;
+      name = name_text fields;
+      attributes = map attribute_of (attribute_fields fields);
+    }
 
 -- ---- what can be wrong with a line; a fault tells the line's number
 
@@ -128,7 +132,8 @@ field_faults number fields = filter_map (fault_of_field number fields) (range_wi
 -- fields from the left
 abbrev pub faults_of_line : ℕ → ℕ → List (List ℕ) → List TreeFault
 faults_of_line number limit fields =
-    cons_option (depth_fault number limit fields) (cons_option (name_fault number fields) (field_faults number (attribute_fields fields)))
+    cons_option (depth_fault number limit fields)
+    (cons_option (name_fault number fields) (field_faults number (attribute_fields fields)))
 
 -- ---- the lines of a text
 

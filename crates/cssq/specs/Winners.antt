@@ -12,7 +12,8 @@ Standing = ℕ → ℕ → StyleDeclaration → Type 0
 
 -- The declaration stands at place j of the rule at place i, and this rule has a placement
 -- on the node.
-pub record IsStated {Node : Type 0} (tree : Tree Node) (n : Node) (rules : List StyleRule) (i j : ℕ) (p : StyleDeclaration) : Type 0 where
+pub record IsStated {Node : Type 0} (tree : Tree Node) (n : Node) (rules : List StyleRule)
+    (i j : ℕ) (p : StyleDeclaration) : Type 0 where
   pub rule : StyleRule
   pub rule_at : slice_get rules i ≡ Some rule
   pub takes : HasPlacement tree rule.components n

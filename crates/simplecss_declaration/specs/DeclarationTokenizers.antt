@@ -38,7 +38,8 @@ given_texts None = []
 given_texts (Some d) = d.name.now ∷ d.value.now ∷ []
 
 -- A call of `next` on the tokenizer `before` gave `result` and left the tokenizer `after`.
-pub record GivesDeclaration (before : DeclarationTokenizer) (result : Option Declaration) (after : DeclarationTokenizer) : Type 0 where
+pub record GivesDeclaration (before : DeclarationTokenizer) (result : Option Declaration)
+    (after : DeclarationTokenizer) : Type 0 where
   -- the first of the declarations that were to come, and the others still are; or none was to
   -- come, and none is
   pub items : YieldsFirstBy declaration_of still_to_come before result after

@@ -55,7 +55,8 @@ subselector_eq (pseudo_class class) (attribute name operator) = false
 abbrev pub component_eq : Component → Component → Bool
 component_eq a b =
     combinator_eq a.combinator b.combinator
-    && (option_eq text_eq a.compound.name b.compound.name && pointwise subselector_eq a.compound.subselectors b.compound.subselectors)
+    && (option_eq text_eq a.compound.name b.compound.name
+    && pointwise subselector_eq a.compound.subselectors b.compound.subselectors)
 
 abbrev pub selector_eq : List Component → List Component → Bool
 selector_eq = pointwise component_eq

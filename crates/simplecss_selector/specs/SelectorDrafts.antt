@@ -18,12 +18,19 @@ bare combinator = record { combinator = combinator; compound = record { name = N
 -- the component with a type name
 abbrev pub component_named : List ℕ → Component → Component
 component_named name c =
-    record { combinator = c.combinator; compound = record { name = Some name; subselectors = c.compound.subselectors } }
+    record {
+      combinator = c.combinator;
+      compound = record { name = Some name; subselectors = c.compound.subselectors };
+    }
 
 -- the component with one more subselector
 abbrev pub narrowed : Subselector → Component → Component
 narrowed subselector c =
-    record { combinator = c.combinator; compound = record { name = c.compound.name; subselectors = c.compound.subselectors ++ subselector ∷ [] } }
+    record {
+      combinator = c.combinator;
+      compound =
+          record { name = c.compound.name; subselectors = c.compound.subselectors ++ subselector ∷ [] };
+    }
 
 abbrev pub empty_draft : Drafted
 empty_draft = record { done = []; last = bare none }

@@ -53,7 +53,8 @@ unfoldable pub items_left : SelectorTokenizer → List (Result Token Error)
 items_left t = map (told_in (whole_text t)) (items (still_to_come t))
 
 -- A call of `next` on the tokenizer `before` gave `result` and left the tokenizer `after`.
-pub record GivesItem (before : SelectorTokenizer) (result : Option (Result SelectorToken Error)) (after : SelectorTokenizer) : Type 0 where
+pub record GivesItem (before : SelectorTokenizer) (result : Option (Result SelectorToken Error))
+    (after : SelectorTokenizer) : Type 0 where
   -- the first of the tokens and errors that were to come, and the others still are; or none was to
   -- come, and none is
   pub items : YieldsFirstBy item_seen items_left before result after

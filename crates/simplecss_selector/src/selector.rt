@@ -227,9 +227,9 @@ impl<'a> Selector<'a> {
     /// The selector that a text begins with, or `None` where it is refused (CSS 2.1 section 5).
     ///
     /// It ends where the text ends, before `,` or `{`, or before a `/` that opens no comment and
-    /// stands directly behind a part of a simple selector. It is refused at the first error of its tokens,
-    /// and at a pseudo-class of no known name; the logger is told so. The error is that a growth
-    /// was refused.
+    /// stands behind a part of a simple selector with no space byte between. It is refused at the
+    /// first error of its tokens, and at a pseudo-class of no known name; the logger is told so. The
+    /// error is that a growth was refused.
     pub fn parse<R: Log>(
         rt: &R,
         alloc: Global,

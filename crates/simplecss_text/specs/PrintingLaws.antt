@@ -23,7 +23,8 @@ ReadsBack edition s = (reads edition (selector_text s) ≡ (Some s, [])) ↔ (is
 abbrev pub ReadsBackBeforeBlock : Edition → List Component → Type 0
 ReadsBackBeforeBlock edition s =
     (text : List ℕ)
-    → (reads edition (selector_text s ++ (codes " {" ++ text)) ≡ (Some s, codes "{" ++ text)) ↔ (is_clean s ≡ true)
+    → (reads edition (selector_text s ++ (codes " {" ++ text)) ≡ (Some s, codes "{" ++ text))
+    ↔ (is_clean s ≡ true)
 
 -- a type name that is a hyphen alone
 abbrev pub is_hyphen_name : Option (List ℕ) → Bool
@@ -74,7 +75,9 @@ IsNarrow text = IsUtf8 text × (has_wide_space text ≡ false)
 -- is left begins at that name, and before ` }` at the brace.
 abbrev pub DeclarationReadsBack : Edition → StyleDeclaration → Type 0
 DeclarationReadsBack edition p =
-    (text : List ℕ) → opens_comment (past_blank text) ≡ false → starts semicolon (past_blank text) ≡ false → declaration edition (declaration_text p ++ text) ≡ got p (past_blank text)
+    (text : List ℕ) → opens_comment (past_blank text) ≡ false
+    → starts semicolon (past_blank text) ≡ false
+    → declaration edition (declaration_text p ++ text) ≡ got p (past_blank text)
 
 -- Printed before any text, the rule is one statement, which gives this rule alone and leaves that
 -- text.
