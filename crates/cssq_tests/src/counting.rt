@@ -115,8 +115,8 @@ fn asked_on_last(alloc: Global, selector: &str, tree: &str, is_counted: bool) ->
     })
 }
 
-/// A tree of elements that carry their names as their classes: each word is the child of the one before, or its sibling
-/// where a `+` stands between them.
+/// A tree of elements that carry their names as their classes: each word is the child of the one
+/// before, or its sibling where a `+` stands between them.
 fn tree_of(alloc: Global, words: &str) -> Result<String, Fail> {
     use std::fmt::Write;
     let mut text = String::new(alloc);
@@ -228,7 +228,8 @@ fn counts_in_a_deep_tree(rt: HostRuntime) -> Result<(), Fail> {
     Ok(())
 }
 
-/// How often the one element of a tree is asked its name while the winner for the name `c` is sought, and while all are.
+/// How often the one element of a tree is asked its name while the winner for the name `c` is
+/// sought, and while all are.
 fn asked_for_winners(alloc: Global, sheet: &str) -> Result<(u64, u64), Fail> {
     let sheet = StyleSheet::parse(&Discard, alloc, sheet)?;
     let page = Page::read(alloc, "0\ta")?;

@@ -1,5 +1,5 @@
-//! Runs into writers that have no room for all of the output: at each number of bytes, in pieces of each size, by an error or by
-//! taking nothing.
+//! Runs into writers that have no room for all of the output: at each number of bytes, in pieces of
+//! each size, by an error or by taking nothing.
 
 use cssq::runs::{RunFault, run_match, run_selector, run_sheet, run_style};
 use cssq::tree::TreeFault;
@@ -54,8 +54,8 @@ const WRITERS: [(usize, Ending); 12] = [
     (usize::MAX, Ending::TakesNone),
 ];
 
-/// A writer with room for some bytes, of which it takes at most so many a call. It counts the writes of which it took nothing,
-/// and its flushes.
+/// A writer with room for some bytes, of which it takes at most so many a call. It counts the
+/// writes of which it took nothing, and its flushes.
 #[derive(Drop)]
 struct Narrow {
     taken: Vec<u8>,

@@ -1,5 +1,5 @@
-//! Tests of `cssq`, over its public calls: trees, winners, what runs write and where they stop, and the words. The crate has no
-//! item of its own.
+//! Tests of `cssq`, over its public calls: trees, winners, what runs write and where they stop, and
+//! the words. The crate has no item of its own.
 #![tactic(auto)]
 
 #[cfg(test)]

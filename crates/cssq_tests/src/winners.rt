@@ -12,7 +12,8 @@ fn sheet_of(alloc: Global, text: &str) -> Result<StyleSheet<'_>, Fail> {
     Ok(StyleSheet::parse(&Discard, alloc, text)?)
 }
 
-/// Whether on the one element of the tree this value wins for the name `c`, important or not; or none.
+/// Whether on the one element of the tree this value wins for the name `c`, important or not; or
+/// none.
 fn wins(
     alloc: Global,
     sheet: &StyleSheet<'_>,
@@ -58,8 +59,8 @@ fn wins_by_place_in_an_edited_sheet(rt: HostRuntime) -> Result<(), Fail> {
     Ok(())
 }
 
-/// The texts of the declarations that win on the one element of the tree, with spaces between them. Fails where `winning` gives
-/// another for one of their names.
+/// The texts of the declarations that win on the one element of the tree, with spaces between them.
+/// Fails where `winning` gives another for one of their names.
 fn all_that_win(alloc: Global, sheet: &StyleSheet<'_>, tree: &str) -> Result<String, Fail> {
     use std::fmt::Write;
     let page = Page::read(alloc, tree)?;

@@ -1,5 +1,5 @@
-//! Tests of broken and huge texts, as strangers send them. Contracts promise that each call returns its answer; here the
-//! running code is shown to. The crate has no item of its own.
+//! Tests of broken and huge texts, as strangers send them. Contracts promise that each call returns
+//! its answer; here the running code is shown to. The crate has no item of its own.
 #![tactic(auto)]
 
 #[cfg(test)]

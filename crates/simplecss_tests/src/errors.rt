@@ -1,4 +1,5 @@
-//! Positions and errors: how they print under options of the formatter, and the positions that errors tell.
+//! Positions and errors: how they print under options of the formatter, and the positions that
+//! errors tell.
 
 use crate::printed::{five_times, under_options};
 use simplecss::{Error, TextPos};

@@ -31,7 +31,8 @@ const FOUND: &[(&str, &str)] = &[
     ),
     ("a { b:c } /* d */ /* e", "1:19 /* e: comment not closed\n"),
     (
-        // The comment belongs to what stands behind the declaration, and so the declaration is broken.
+        // The comment belongs to what stands behind the declaration, and so the declaration is
+        // broken.
         "a { b:c; /* d } e",
         "1:5 b:c: broken declaration\n",
     ),

@@ -204,7 +204,8 @@ fn repeated(alloc: Global, text: &str, count: usize) -> Result<String, AllocErro
     Ok(all)
 }
 
-/// How many rules an index finds for an element of this class, and the room of the places after one and after two questions.
+/// How many rules an index finds for an element of this class, and the room of the places after one
+/// and after two questions.
 fn rooms(alloc: Global, text: &str, class: &str) -> Result<(usize, usize, usize), Fail> {
     let sheet = StyleSheet::parse(&Discard, alloc, text)?;
     let index = RuleIndex::new(alloc, &sheet.rules)?;

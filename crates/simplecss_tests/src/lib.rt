@@ -1,5 +1,5 @@
-//! Tests of the libraries, over their public calls. The crate has no item of its own: a crate with tests is proved twice, with
-//! them and without, so they stand here and not beside the code.
+//! Tests of the libraries, over their public calls. The crate has no item of its own: a crate with
+//! tests is proved twice, with them and without, so they stand here and not beside the code.
 #![tactic(auto)]
 
 #[cfg(test)]

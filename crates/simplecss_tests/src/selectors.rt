@@ -185,7 +185,8 @@ fn reads_long_selectors(rt: HostRuntime) -> Result<(), Fail> {
     Ok(())
 }
 
-/// Whether the selectors of two texts are equal, or, of one text twice, whether the selector and its copy are.
+/// Whether the selectors of two texts are equal, or, of one text twice, whether the selector and
+/// its copy are.
 fn are_equal(alloc: Global, text: &str, other: &str) -> Result<bool, Fail> {
     let selector = parsed(alloc, text)?;
     if text == other {

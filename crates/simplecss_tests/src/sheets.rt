@@ -260,7 +260,8 @@ fn sheets_are_made_of_rules(rt: HostRuntime) -> Result<(), Fail> {
 
 #[test]
 fn reads_again_what_it_printed(rt: HostRuntime) -> Result<(), Fail> {
-    // The last two show what the law of printing leaves out: a bare apostrophe in a value, and white space past ASCII.
+    // The last two show what the law of printing leaves out: a bare apostrophe in a value, and
+    // white space past ASCII.
     let sheets = [
         (
             "a .b { c:d } .b:lang( en ) { c:d }",

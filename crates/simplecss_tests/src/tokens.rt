@@ -1,5 +1,5 @@
-//! What a tokenizer gives, as tables. An item is written as in a selector, a descendant combinator as `descendant`, and
-//! an error behind a `!`.
+//! What a tokenizer gives, as tables. An item is written as in a selector, a descendant combinator
+//! as `descendant`, and an error behind a `!`.
 use simplecss::{AttributeOperator, Error, SelectorToken, SelectorTokenizer};
 use std::alloc::{AllocError, Global};
 use std::process::Abort;
@@ -35,7 +35,8 @@ fn write_item(out: &mut String, item: Result<SelectorToken<'_>, Error>) -> Resul
     }
 }
 
-/// The items of a text, two a comma apart, and the place at the end. Behind them `None` stands twice.
+/// The items of a text, two a comma apart, and the place at the end. Behind them `None` stands
+/// twice.
 fn given(alloc: Global, text: &str) -> Result<(String, usize), AllocError> {
     let mut out = String::new(alloc);
     let mut tokenizer = SelectorTokenizer::from(text);
@@ -128,7 +129,8 @@ fn gives_what_else_a_piece_may_be(rt: HostRuntime) -> Result<(), AllocError> {
     )
 }
 
-/// Each row of the neighbour table, with the place at the end: the left side, what the gap has, and what follows.
+/// Each row of the neighbour table, with the place at the end: the left side, what the gap has, and
+/// what follows.
 #[test]
 fn keeps_the_table_of_neighbours(rt: HostRuntime) -> Result<(), AllocError> {
     assert_ends(

@@ -64,8 +64,8 @@ fn matched(alloc: Global, tree: &Tree<'_>, text: &str) -> Result<Vec<usize>, Fai
     Ok(places)
 }
 
-// By CSS 2.1: sections 5.2 to 5.9 for names, steps and attributes, 5.11.1 for `:first-child`, and 5.11.4 for `:lang`,
-// which passes to children and compares letters of ASCII without their case.
+// By CSS 2.1: sections 5.2 to 5.9 for names, steps and attributes, 5.11.1 for `:first-child`, and
+// 5.11.4 for `:lang`, which passes to children and compares letters of ASCII without their case.
 #[test]
 fn matches_as_the_standard_says(rt: HostRuntime) -> Result<(), Fail> {
     let tree = two_trees(rt.alloc())?;
