@@ -154,6 +154,7 @@ fn counts_tests(rt: HostRuntime) -> Result<(), Fail> {
             9,
             (28, 21),
         ),
+        ("y a > a b", ".y .a > .a .b", "a a b", false, 3, (12, 6)),
     ] {
         let tree = tree_of(rt.alloc(), tree)?;
         for is_counted in [true, false] {

@@ -53,6 +53,8 @@ fn gives_several(rt: HostRuntime) {
         ("a", "b", false),
     ];
     assert_gives(&rt, &[(text, &wanted)]);
+    // A broken one ends them.
+    assert_gives(&rt, &[("a:b;c", &[("a", "b", false)])]);
 }
 
 /// Each text, and the place behind each call of `next`, those that give `None` too.

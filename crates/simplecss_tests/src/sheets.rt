@@ -41,8 +41,17 @@ fn prints_rules_in_order(rt: HostRuntime) -> Result<(), Fail> {
 }
 
 #[test]
-fn reads_names_past_ascii(rt: HostRuntime) -> Result<(), Fail> {
+fn reads_what_may_stand(rt: HostRuntime) -> Result<(), Fail> {
     let sheets = [
+        (" /* x", ""),
+        ("a { color:red } /* open", "a { color:red; }"),
+        ("@x", ""),
+        ("@x{{}}a{b:c}", "a { b:c; }"),
+        ("a { b:c/d e / f; g:/ }", "a { b:c/d e / f;g:/; }"),
+        (
+            "#x { color:red } a { color:blue !important }",
+            "a { color:blue !important; }\n*[id='x'] { color:red; }",
+        ),
         ("x\u{ED}{a:b}", "x\u{ED} { a:b; }"),
         ("\u{E9} { a:b }", "\u{E9} { a:b; }"),
     ];
@@ -61,6 +70,11 @@ fn tells_the_logger_what_is_passed_over(rt: HostRuntime) -> Result<(), Fail> {
         ),
         (
             "@import 'subs.css';",
+            "The @import rule is not supported. Skipped.",
+        ),
+        // An at-sign with no name is told nothing of.
+        (
+            "@import 'subs.css'; @ a{}",
             "The @import rule is not supported. Skipped.",
         ),
         (":le {}", "':le' is not supported. Selector skipped."),
