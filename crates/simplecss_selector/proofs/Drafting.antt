@@ -1,9 +1,10 @@
 -- Filling a draft role by role gives the selector of the roles.
-use Rattle.std.proofs.Common.{◌≡◌, List, [], ◌∷◌, ◌++◌, Some, refl, sym, ap, ◌∙◌, append_assoc, append-nil, map}
+use Rattle.std.proofs.Common.{◌≡◌, ℕ, true, List, [], ◌∷◌, ◌++◌, Some, refl, sym, ap, ◌∙◌, append_assoc, append-nil, map}
 use Rattle.simplecss_text.specs.Components.{Component}
-use Rattle.simplecss_text.specs.Selectors.{Role, Outcome, cut, type_among, subselectors_among, component_of, components_of, selector_of}
+use Rattle.simplecss_text.specs.Selectors.{Role, Outcome, with_role, after_role, cut, type_among, subselectors_among, component_of, components_of, selector_of}
 use Rattle.simplecss_text.specs.Selectors.Role.{any_type, of_type, with, joint, unknown}
 use Rattle.simplecss_text.specs.Selectors.Outcome.{refused, accepted}
+use Rattle.simplecss_selector.specs.KnownPseudoClasses.{is_known}
 use Rattle.simplecss_selector.specs.SelectorDrafts.{Drafted, empty_draft, drafted_after, continued, selector_after}
 
 -- the component with what the roles ask besides
@@ -30,6 +31,18 @@ continued-cut (unknown ∷ roles) d = continued-cut roles d
 pub continued-by_byte : (roles : List Role) → continued empty_draft roles ≡ components_of roles
 continued-by_byte roles = continued-cut roles empty_draft
 
-pub selector_after-empty_draft : (outcome : Outcome) → selector_after empty_draft outcome ≡ selector_of outcome
-selector_after-empty_draft (refused left) = refl
-selector_after-empty_draft (accepted roles left) = ap (λ cs. (Some cs, left)) (continued-by_byte roles)
+pub selector_after_empty_draft : (outcome : Outcome) → selector_after empty_draft outcome ≡ selector_of outcome
+selector_after_empty_draft (refused left) = refl
+selector_after_empty_draft (accepted roles left) = ap (λ cs. (Some cs, left)) (continued-by_byte roles)
+
+selector_after-with_role : (role : Role) (d : Drafted) (rest : Outcome) → selector_after d (with_role role rest) ≡ selector_after (drafted_after role d) rest
+selector_after-with_role role d (refused left) = refl
+selector_after-with_role role d (accepted roles left) = refl
+
+-- a role that is known goes into the draft
+pub selector_after_known : (role : Role) (d : Drafted) (after : List ℕ) (rest : Outcome) → is_known role ≡ true → selector_after d (after_role role after rest) ≡ selector_after (drafted_after role d) rest
+selector_after_known any_type d after rest h = selector_after-with_role any_type d rest
+selector_after_known (of_type name) d after rest h = selector_after-with_role (of_type name) d rest
+selector_after_known (with s) d after rest h = selector_after-with_role (with s) d rest
+selector_after_known (joint combinator) d after rest h = selector_after-with_role (joint combinator) d rest
+selector_after_known unknown d after rest h = absurd (cc)

@@ -1,5 +1,5 @@
 -- A selector that is being made, one component after the other.
-use Rattle.std.specs.Prelude.{ℕ, List, [], ◌∷◌, ◌++◌, Option, None, Some}
+use Rattle.std.specs.Prelude.{ℕ, Bool, true, false, List, [], ◌∷◌, ◌++◌, Option, None, Some}
 use Rattle.simplecss_text.specs.Components.{Subselector, Combinator, Component}
 use Rattle.simplecss_text.specs.Components.Combinator.{none}
 use Rattle.simplecss_text.specs.Selectors.{Role, Outcome}
@@ -66,3 +66,8 @@ continued d (role ∷ roles) = continued (drafted_after role d) roles
 abbrev pub selector_after : Drafted → Outcome → Option (List Component) × List ℕ
 selector_after d (refused left) = (None, left)
 selector_after d (accepted roles left) = (Some (continued d roles), left)
+
+-- the selector that was put into the draft, if all of it was read, and what is left
+abbrev pub selector_read : Bool → Drafted → (left : List ℕ) → Option (List Component) × List ℕ
+selector_read true d left = (Some (finished d), left)
+selector_read false d left = (None, left)

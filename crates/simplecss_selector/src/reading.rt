@@ -2,9 +2,10 @@
 ghost use Rattle.std.specs.Prelude.{◌≡◌, drop, IfOk, IfSome};
 ghost use Rattle.std.specs.Str.{IsCharBoundary};
 ghost use Rattle.simplecss_text.specs.PrintingLaws.{SelectorReadsBack};
-ghost use Rattle.simplecss_text.specs.Selectors.{role_of, known_pseudo_class, reads};
+ghost use Rattle.simplecss_text.specs.Selectors.{role_of, known_pseudo_class, outcome, reads};
 ghost use Rattle.simplecss_text.specs.ThisEdition.{this_edition};
-ghost use Rattle.simplecss_selector.specs.SelectorDrafts.{drafted_after};
+ghost use Rattle.simplecss_selector.specs.SelectorDrafts.{drafted_after, selector_after, selector_read};
+ghost use Rattle.simplecss_selector.specs.SelectorTokenizers.{whole_text, left_of, still_to_come};
 ghost use Rattle.simplecss_selector.specs.SeenTokens.{token_of};
 ghost use Rattle.simplecss_selector.specs.KnownPseudoClasses.{pseudo_class_seen, is_known};
 
@@ -12,6 +13,7 @@ use crate::draft::Draft;
 use crate::selector::{Combinator, Selector, SubSelector};
 use crate::{AttributeOperator, PseudoClass, SelectorToken, SelectorTokenizer};
 use log::{Log, warn};
+use simplecss_text::Error;
 use std::alloc::{AllocError, Global};
 
 /// The pseudo-class of a name, if there is one.
@@ -67,16 +69,55 @@ fn fill<'a>(draft: &mut Draft<'a>, token: SelectorToken<'a>) -> Result<bool, All
     Ok(true)
 }
 
+/// Tells the logger why a selector was refused.
+#[cold]
+#[inline(never)]
+fn warn_fault<R: Log>(rt: &R, error: Error) {
+    warn!(rt; "Selector parsing failed cause {}.", error);
+}
+
 /// Tells the logger that a pseudo-class has no known name.
+#[cold]
+#[inline(never)]
 fn warn_unknown<R: Log>(rt: &R, token: SelectorToken<'_>) {
     if let SelectorToken::PseudoClass(name) = token {
         warn!(rt; "':{}' is not supported. Selector skipped.", name);
     }
 }
 
+/// Puts the tokens that are still to come into the selector that is being made, up to the first
+/// error or unknown pseudo-class, and says whether there was none.
+#[inline(always)]
+#[tactic(auto, using(crate::proofs::Drafting::selector_after_known))]
+fn fill_all<'a, R: Log>(
+    rt: &R,
+    tokenizer: &mut SelectorTokenizer<'a>,
+    draft: &mut Draft<'a>,
+) -> Result<bool, AllocError>
+    ensures text { whole_text tokenizer.new ≡ whole_text tokenizer.old }
+    ensures filled { IfOk result (λ is_read. selector_read is_read draft.new (left_of tokenizer.new)
+        ≡ selector_after draft.old (outcome (still_to_come tokenizer.old))) }
+{
+    while let Some(item) = tokenizer.next() {
+        let token = match item {
+            Ok(token) => token,
+            Err(error) => {
+                warn_fault(rt, error);
+                return Ok(false);
+            }
+        };
+        if !fill(draft, token)? {
+            warn_unknown(rt, token);
+            return Ok(false);
+        }
+    }
+    Ok(true)
+}
+
 /// The selector that a text begins with, or `None` where it is refused, and the place behind what
 /// was read.
 #[inline(always)]
+#[tactic(auto, unfolding(simplecss_text::specs::Selectors::reads), using(crate::proofs::Drafting::selector_after_empty_draft))]
 pub(crate) fn read_front<'a, R: Log>(
     rt: &R,
     alloc: Global,
@@ -89,18 +130,8 @@ pub(crate) fn read_front<'a, R: Log>(
 {
     let mut tokenizer = SelectorTokenizer::from(text);
     let mut draft = Draft::new(alloc);
-    while let Some(item) = tokenizer.next() {
-        let token = match item {
-            Ok(token) => token,
-            Err(error) => {
-                warn!(rt; "Selector parsing failed cause {}.", error);
-                return Ok((None, tokenizer.pos()));
-            }
-        };
-        if !fill(&mut draft, token)? {
-            warn_unknown(rt, token);
-            return Ok((None, tokenizer.pos()));
-        }
+    if !fill_all(rt, &mut tokenizer, &mut draft)? {
+        return Ok((None, tokenizer.pos()));
     }
     Ok((Some(draft.finish()), tokenizer.pos()))
 }
