@@ -3,7 +3,7 @@
 use Rattle.std.proofs.Common.{◌≡◌, ℕ, ◌<◌, List, [], ◌∷◌, Bool, true, false, if◌then◌else◌, ◌==◌, refl, sym, ap, subst, arith}
 use Rattle.std.proofs.lemmas.Bool.{eqb-true}
 use Rattle.simplecss_text.specs.Reading.{Fault}
-use Rattle.simplecss_text.specs.Bytes.{past_one}
+use Rattle.simplecss_text.specs.Bytes.{past_one, starts}
 use Rattle.simplecss_text.specs.Characters.{Edition}
 use Rattle.simplecss_text.specs.declared.next_kind.NextKind.{NextKind}
 use Rattle.simplecss_text.specs.declared.next_kind.NextKind.TheVariants.{Stop, Slash, Child, Adjacent, Universal, Id, Class, Attribute, Colon, Other}
@@ -71,6 +71,12 @@ pub sign-begins : (kind : NextKind) (text : List ℕ) → HasSign kind → next_
 unfolding next_kind
 sign-begins kind [] s e = absurd (subst HasSign (sym e) s)
 sign-begins kind (b ∷ text) s e = record { byte = b; ascii = sign-ascii kind b s (subst (λ k. Tells k b) e (kind_of_byte-tells b)); is = refl }
+
+-- a slash stands where it is announced
+pub slash-starts : (text : List ℕ) → next_kind text ≡ Slash → starts 47 text ≡ true
+unfolding next_kind
+slash-starts [] e = absurd (cc)
+slash-starts (b ∷ text) e = rw (subst (λ k. Tells k b) e (kind_of_byte-tells b)) refl
 
 -- a solid piece, where the kind is known
 pub solid-kind_known : (edition : Edition) (kind : NextKind) (text : List ℕ) → next_kind text ≡ kind → solid edition text ≡ solid_as edition kind text
