@@ -4,26 +4,24 @@ use Rattle.std.specs.Prelude.{⊤}
 use Rattle.std.specs.Iterator.{YieldsFirstBy, MakesProgress, item_count}
 use Rattle.std.proofs.lemmas.Str.{IsUtf8-drop, IsUtf8-had}
 use Rattle.simplecss_text.specs.Reading.{Fault, no_comment, no_selector, unexpected_selector, unexpected_combinator, got, fails}
-use Rattle.simplecss_text.specs.Bytes.{past_one, starts}
+use Rattle.simplecss_text.specs.Bytes.{past_one}
 use Rattle.simplecss_text.specs.Comments.{gap}
-use Rattle.simplecss_text.specs.Errors.{error_of, position_of, Gives, FailsBy}
+use Rattle.simplecss_text.specs.Errors.{error_of, position_of, FailsBy}
 use Rattle.simplecss_text.specs.ThisEdition.{this_edition}
 use Rattle.simplecss_text.specs.Slices.{StandBetween}
 use Rattle.simplecss_text.specs.declared.next_kind.NextKind.{NextKind}
 use Rattle.simplecss_text.specs.declared.next_kind.NextKind.TheVariants.{Stop, Slash, Child, Adjacent, Universal, Id, Class, Attribute, Colon, Other}
 use Rattle.simplecss_text.specs.Tokens.{Token, token_texts}
-use Rattle.simplecss_text.specs.Tokens.Token.{universal_selector, child_combinator, adjacent_combinator}
 use Rattle.simplecss_text.specs.Pieces.{IsSimplePiece, next_kind, solid_as}
 use Rattle.simplecss_text.specs.Neighbours.Side.{open_side, closed_side}
 use Rattle.simplecss_text.specs.TokenSequences.{TokenSequence, fault_sequence, items, told_in}
-use Rattle.simplecss_text.specs.TokenSequences.TokenSequence.{item, sequence_end}
+use Rattle.simplecss_text.specs.TokenSequences.TokenSequence.{item}
 use Rattle.simplecss_text.specs.declared.Error.{Error}
 use Rattle.simplecss_text.specs.declared.Error.TheVariants.{InvalidComment, SelectorMissing, UnexpectedSelector, UnexpectedCombinator}
 use Rattle.simplecss_text.proofs.reading.EndsLaws.{ends-same, stand-ends}
 use Rattle.simplecss_text.proofs.reading.PlaceLaws.{place-ends}
 use Rattle.simplecss_text.proofs.reading.SequenceStandLaws.{FirstStands, sequence_from-first}
 use Rattle.simplecss_text.proofs.reading.SequenceSteps.{solid_sequence, sequence_from-kind, sequence_from-open_gap, sequence_from-descends}
-use Rattle.simplecss_text.proofs.reading.KindLaws.{slash-starts}
 use Rattle.simplecss_text.proofs.reading.GivesLaws.{fails_by-fault}
 use Rattle.simplecss_selector.specs.declared.token.SelectorToken.{SelectorToken}
 use Rattle.simplecss_selector.specs.declared.token.SelectorToken.TheVariants.{DescendantCombinator}

@@ -1,6 +1,6 @@
 -- What a sequence comes to is guarded by a closing brace.
 -- Serves `StyleSheet::parse_more` and `laws::cutting_law` (a text read in pieces).
-use Rattle.std.proofs.Common.{Bool, List, [], false, inl, inr, length, refl, subst, true, ℕ, ◌∷◌, ◌≡◌, ◌≤◌, ◌⊎◌, Err, Ok, arith}
+use Rattle.std.proofs.Common.{Bool, List, false, inl, inr, length, refl, subst, true, ℕ, ◌∷◌, ◌≡◌, ◌≤◌, ◌⊎◌, Err, Ok, arith}
 use Rattle.simplecss_text.specs.Reading.{Fault}
 use Rattle.simplecss_text.specs.Bytes.{past_one}
 use Rattle.simplecss_text.specs.declared.next_kind.NextKind.{NextKind}

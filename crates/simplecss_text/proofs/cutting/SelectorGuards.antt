@@ -1,6 +1,6 @@
 -- Selectors are guarded by a closing brace.
 -- Serves `StyleSheet::parse_more` and `laws::cutting_law` (a text read in pieces).
-use Rattle.std.proofs.Common.{Bool, List, [], arith, bytes_eq, codes, false, if◌then◌else◌, inl, inr, length, refl, subst, sym, suc, ◌∙◌, true, ℕ, ◌++◌, ◌==◌, ◌∷◌, ◌≡◌, ◌≤◌, zero}
+use Rattle.std.proofs.Common.{Bool, List, [], arith, inl, inr, length, refl, subst, sym, suc, ◌∙◌, ℕ, ◌++◌, ◌≡◌, ◌≤◌, zero}
 use Rattle.simplecss_text.specs.Reading.{Reading, fails, got, left_after}
 use Rattle.simplecss_text.specs.Bytes.{past_one}
 use Rattle.simplecss_text.specs.Characters.{Edition}

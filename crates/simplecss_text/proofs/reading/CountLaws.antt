@@ -10,7 +10,7 @@ use Rattle.simplecss_text.specs.declared.next_kind.NextKind.TheVariants.{Stop, S
 use Rattle.simplecss_text.specs.Characters.{Edition}
 use Rattle.simplecss_text.specs.Comments.{opens_comment, blank_part, past_blank, has_space, gap}
 use Rattle.simplecss_text.specs.Tokens.{Token}
-use Rattle.simplecss_text.specs.Pieces.{next_kind, solid, Ending, fault_ending}
+use Rattle.simplecss_text.specs.Pieces.{next_kind, solid, fault_ending}
 use Rattle.simplecss_text.specs.Pieces.Ending.{without_head, within_piece, within_gap}
 use Rattle.simplecss_text.specs.Neighbours.{Side, between, side_behind}
 use Rattle.simplecss_text.specs.Neighbours.Side.{open_side, closed_side}

@@ -2,7 +2,7 @@
 -- leaves is an end of the text.
 -- Serves `next` of `SelectorTokenizer` (slices in order), `consume_parts`, `laws::cutting_law` and
 -- `laws::edition_law`.
-use Rattle.std.proofs.Common.{ℕ, zero, suc, List, [], ◌∷◌, Bool, true, false, if◌then◌else◌, length, Ok, Err, IsUtf8}
+use Rattle.std.proofs.Common.{ℕ, zero, suc, List, [], ◌∷◌, Bool, true, false, length, Ok, Err, IsUtf8}
 use Rattle.simplecss_text.specs.Reading.{Reading, got, fails, follow, found, and_then, up_to, each, Ends}
 use Rattle.simplecss_text.specs.Bytes.{past_one}
 use Rattle.simplecss_text.specs.declared.next_kind.NextKind.{NextKind}

@@ -1,7 +1,7 @@
 -- What each reader leaves is an end of the text, and what it gives stands before that end.
 -- Serves `next` of `SelectorTokenizer` (slices in order), `consume_declaration`,
 -- `laws::cutting_law` and `laws::edition_law`.
-use Rattle.std.proofs.Common.{◌≡◌, ℕ, ◌<◌, ◌+◌, List, [], ◌∷◌, ◌++◌, Bool, true, false, if◌then◌else◌, ◌||◌, ◌&&◌, ◌==◌, not, bytes_eq, length, take, drop, get_or, Option, Some, None, arith, refl, sym, ap, ◌∙◌, subst, encode_utf8_all, codes, append_assoc, append-nil, IsUtf8, length-append, length-drop, cond, ◌⊎◌, inl, inr}
+use Rattle.std.proofs.Common.{◌≡◌, ℕ, ◌<◌, ◌+◌, List, [], ◌∷◌, ◌++◌, Bool, true, false, if◌then◌else◌, ◌&&◌, ◌==◌, not, bytes_eq, length, take, drop, get_or, Option, Some, None, arith, refl, sym, ap, ◌∙◌, subst, encode_utf8_all, codes, append_assoc, append-nil, IsUtf8, length-append, length-drop, cond, ◌⊎◌, inl, inr}
 use Rattle.std.specs.Str.{chars, trim, trim_start, trim_end, skip_leading_whitespace, drop_trailing_whitespace, all_scalars, IsCharBoundary}
 use Rattle.std.specs.Char.{is_whitespace}
 use Rattle.std.specs.Option.{option_map}
