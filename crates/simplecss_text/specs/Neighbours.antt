@@ -3,7 +3,7 @@
 use Rattle.std.specs.Prelude.{ℕ, Bool, true, false, List}
 use Rattle.simplecss_text.specs.Reading.{Fault, no_comment, no_selector, unexpected_selector, unexpected_combinator}
 use Rattle.simplecss_text.specs.declared.next_kind.NextKind.{NextKind}
-use Rattle.simplecss_text.specs.declared.next_kind.NextKind.TheVariants.{Stop, Slash, Child, Adjacent, Universal, Id, Class, Attribute, Colon, Other}
+use Rattle.simplecss_text.specs.declared.next_kind.NextKind.TheVariants.{Stop, Slash, Child, Adjacent, Universal, Other}
 
 -- The left side of a gap: open at the start of the text and after a combinator, closed after a
 -- simple piece.
@@ -13,7 +13,7 @@ pub data Side : Type 0 where
 
 -- What stands between the left side and what follows the gap.
 pub data Answer : Type 0 where
-  -- nothing: what follows stands there without more, and at a stop and at a `/` the tokens end
+  -- nothing: what follows stands there without more; at a stop and at a `/` the tokens end
   nothing : Answer
   -- a descendant combinator
   descends : Answer
@@ -21,44 +21,27 @@ pub data Answer : Type 0 where
   refuses : Fault → (after : List ℕ) → Answer
 
 -- The table of neighbours, by the left side, whether the gap has a space byte, and the kind of what
--- follows it, with what is left where that begins and after it. (Of a fault in place of a simple
--- piece, and of a comment in the gap that is not closed, the sequence of tokens tells.)
+-- follows it, with what is left where that begins and what is left after it. (A fault in place of a
+-- simple piece, and a comment in the gap that is not closed, are told with the endings.)
 abbrev pub between : Side → Bool → NextKind → (start after : List ℕ) → Answer
--- at the start of the text, or behind a combinator
+-- at the start of the text, or behind a combinator: only a simple piece may follow
 between open_side spaced Stop start after = refuses no_selector start
 between open_side spaced Slash start after = refuses no_selector start
 between open_side spaced Child start after = refuses unexpected_combinator start
 between open_side spaced Adjacent start after = refuses unexpected_combinator start
-between open_side spaced Universal start after = nothing
-between open_side spaced Id start after = nothing
-between open_side spaced Class start after = nothing
-between open_side spaced Attribute start after = nothing
-between open_side spaced Colon start after = nothing
-between open_side spaced Other start after = nothing
--- behind a simple piece, without a space byte
-between closed_side false Stop start after = nothing
-between closed_side false Slash start after = nothing
-between closed_side false Child start after = nothing
-between closed_side false Adjacent start after = nothing
+between open_side spaced kind start after = nothing
+-- behind a simple piece, without a space byte: everything but a head may follow
 between closed_side false Universal start after = refuses unexpected_selector start
-between closed_side false Id start after = nothing
-between closed_side false Class start after = nothing
-between closed_side false Attribute start after = nothing
-between closed_side false Colon start after = nothing
 between closed_side false Other start after = refuses unexpected_selector after
--- behind a simple piece and a space byte
+between closed_side false kind start after = nothing
+-- behind a simple piece and a space byte: before a simple piece that is a descendant combinator
 between closed_side true Stop start after = nothing
 between closed_side true Slash start after = refuses (no_comment start) after
 between closed_side true Child start after = nothing
 between closed_side true Adjacent start after = nothing
-between closed_side true Universal start after = descends
-between closed_side true Id start after = descends
-between closed_side true Class start after = descends
-between closed_side true Attribute start after = descends
-between closed_side true Colon start after = descends
-between closed_side true Other start after = descends
+between closed_side true kind start after = descends
 
--- the left side of the gap behind a piece: open behind a combinator, closed behind every other
+-- the left side of the gap behind a piece: open behind a combinator, closed behind a simple piece
 abbrev pub side_behind : NextKind → Side
 side_behind Child = open_side
 side_behind Adjacent = open_side

@@ -75,22 +75,7 @@ named_token edition token = do
   n ← name edition
   give (token n)
 
--- A solid piece of a kind, where what stands next is of that kind. At a stop and at a `/` stands none.
--- That fault is never told: it only ends the pieces, and what they end by is looked at anew, by
--- `ending`.
-abbrev pub solid_as : Edition → NextKind → Reader Token
-solid_as edition Stop text = fails no_selector text
-solid_as edition Slash text = fails no_selector text
-solid_as edition Child text = got child_combinator (past_one text)
-solid_as edition Adjacent text = got adjacent_combinator (past_one text)
-solid_as edition Universal text = got universal_selector (past_one text)
-solid_as edition Id text = named_token edition id_selector (past_one text)
-solid_as edition Class text = named_token edition class_selector (past_one text)
-solid_as edition Attribute text = attribute_after edition (past_one text)
-solid_as edition Colon text = pseudo_class_after edition (past_one text)
-solid_as edition Other text = named_token edition type_selector text
-
--- the kind of what stands next, by its first byte: the end of the text, `,` and `{` are stops
+-- the kind of what a byte begins: `,` and `{` are stops
 abbrev pub kind_of_byte : ℕ → NextKind
 kind_of_byte b =
     if b == comma then Stop
@@ -105,18 +90,33 @@ kind_of_byte b =
     else (if b == colon then Colon
     else Other)))))))))
 
--- the same of a text, which is at a stop where it has ended
+-- The kind of what stands next behind a gap, by its first byte. The end of the text is a stop, too.
+-- A `/` opens no comment there, since a gap stands before it.
 unfoldable pub next_kind : List ℕ → NextKind
 next_kind [] = Stop
 next_kind (b ∷ text) = kind_of_byte b
 
--- The kinds of simple pieces: heads and subselectors.
+-- the kinds of simple pieces: of heads and subselectors
 abbrev pub IsSimplePiece : NextKind → Type 0
 IsSimplePiece Stop = ⊥
 IsSimplePiece Slash = ⊥
 IsSimplePiece Child = ⊥
 IsSimplePiece Adjacent = ⊥
 IsSimplePiece kind = Unit {0}
+
+-- A solid piece, where what stands next is of this kind. At a stop and at a `/` stands none; what
+-- that comes to, the table of neighbours says.
+abbrev pub solid_as : Edition → NextKind → Reader Token
+solid_as edition Stop text = fails no_selector text
+solid_as edition Slash text = fails no_selector text
+solid_as edition Child text = got child_combinator (past_one text)
+solid_as edition Adjacent text = got adjacent_combinator (past_one text)
+solid_as edition Universal text = got universal_selector (past_one text)
+solid_as edition Id text = named_token edition id_selector (past_one text)
+solid_as edition Class text = named_token edition class_selector (past_one text)
+solid_as edition Attribute text = attribute_after edition (past_one text)
+solid_as edition Colon text = pseudo_class_after edition (past_one text)
+solid_as edition Other text = named_token edition type_selector text
 
 -- a solid piece
 unfoldable pub solid : Edition → Reader Token
@@ -162,16 +162,16 @@ pub data Ending : Type 0 where
   -- a comment in the gap that is not closed
   within_gap : Fault → (after : List ℕ) → Ending
 
--- what ends the pieces behind a gap, by the kind of what stands there and the fault of the solid
--- piece
+-- what ends the pieces behind a gap, by the kind of what stands there, where reading it as a solid
+-- piece is this fault
 abbrev pub fault_ending : NextKind → Bool → (start : List ℕ) → Fault → (after : List ℕ) → Ending
 fault_ending Stop spaced start fault after = at_stop spaced start
 fault_ending Slash spaced start fault after = at_slash spaced start
 fault_ending Other spaced start fault after = without_head spaced start fault after
 fault_ending kind spaced start fault after = within_piece spaced start fault after
 
--- the same, from what is read as the solid piece (one that can be read is no ending, so that the
--- second clause is never asked)
+-- The same, from what is read there. (A solid piece that can be read is no ending, so that the
+-- second clause is never asked.)
 abbrev pub solid_ending : Bool → (start : List ℕ) → Reading Token → Ending
 solid_ending spaced start (fails fault after) = fault_ending (next_kind start) spaced start fault after
 solid_ending spaced start (got token after) = at_stop spaced start
