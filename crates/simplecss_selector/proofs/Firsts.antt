@@ -114,8 +114,7 @@ closed_gap-first text rest left e h =
     first-fault text left _ _ told.0 e told.2 (sequence_from-open_gap this_edition closed_side rest left told.0 told.1)
 
 pub closed_stop-first : (text rest start : List ℕ) (spaced : Bool) (f : NextKind) → gap rest ≡ got spaced start → f ≡ next_kind start → f ≡ Stop → GivesFirst text (sequence_in stages.Closed rest) None start (sequence_in stages.Ended start)
-closed_stop-first text rest start true f g k is = (sequence_from-kind this_edition closed_side rest start true Stop _ g (sym k ∙ is) refl, refl)
-closed_stop-first text rest start false f g k is = (sequence_from-kind this_edition closed_side rest start false Stop _ g (sym k ∙ is) refl, refl)
+closed_stop-first text rest start spaced f g k is = (sequence_from-kind this_edition closed_side rest start spaced Stop _ g (sym k ∙ is) refl, refl)
 
 pub closed_slash-first : (text rest start after : List ℕ) (spaced : Bool) (f : NextKind) (e : Error) → gap rest ≡ got spaced start → spaced ≡ true → f ≡ next_kind start → f ≡ Slash → after ≡ past_one start → e ≡ InvalidComment (position_of text start) → GivesFirst text (sequence_in stages.Closed rest) (Some (Err e)) after (sequence_in stages.Ended after)
 closed_slash-first text rest start after true f e g with_space k is left told =
@@ -127,10 +126,8 @@ closed_end-first text rest start true f g without k is = absurd (cc)
 closed_end-first text rest start false f g without k is = (sequence_from-kind this_edition closed_side rest start false Slash _ g (sym k ∙ is) refl, refl)
 
 closed-joint : (f : NextKind) (spaced : Bool) (start after : List ℕ) (token : Token) → (f ≡ Child) ⊎ (f ≡ Adjacent) → solid_sequence this_edition closed_side spaced f start (got token after) ≡ item (Ok token) after (sequence_in stages.Open after)
-closed-joint f true start after token (inl is) = rw is refl
-closed-joint f false start after token (inl is) = rw is refl
-closed-joint f true start after token (inr is) = rw is refl
-closed-joint f false start after token (inr is) = rw is refl
+closed-joint f spaced start after token (inl is) = rw is refl
+closed-joint f spaced start after token (inr is) = rw is refl
 
 -- a combinator that is announced
 pub closed_joint-first : (text rest start after : List ℕ) (spaced : Bool) (f : NextKind) (token : SelectorToken) → gap rest ≡ got spaced start → f ≡ next_kind start → (f ≡ Child) ⊎ (f ≡ Adjacent) → solid_as this_edition f start ≡ got (token_of token) after → GivesFirst text (sequence_in stages.Closed rest) (Some (Ok token)) after (sequence_in stages.Open after)

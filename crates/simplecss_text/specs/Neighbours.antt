@@ -30,15 +30,17 @@ between open_side spaced Slash start after = refuses no_selector start
 between open_side spaced Child start after = refuses unexpected_combinator start
 between open_side spaced Adjacent start after = refuses unexpected_combinator start
 between open_side spaced kind start after = nothing
--- behind a simple piece, without a space byte: everything but a head may follow
+-- behind a simple piece, whatever the gap: the end, or a combinator
+between closed_side spaced Stop start after = nothing
+between closed_side spaced Child start after = nothing
+between closed_side spaced Adjacent start after = nothing
+-- behind a simple piece, without a space byte: a subselector goes on, and another head may not
+between closed_side false Slash start after = nothing
 between closed_side false Universal start after = refuses unexpected_selector start
 between closed_side false Other start after = refuses unexpected_selector after
 between closed_side false kind start after = nothing
--- behind a simple piece and a space byte: before a simple piece that is a descendant combinator
-between closed_side true Stop start after = nothing
+-- behind a simple piece and a space byte: a simple piece has a descendant combinator before it
 between closed_side true Slash start after = refuses (no_comment start) after
-between closed_side true Child start after = nothing
-between closed_side true Adjacent start after = nothing
 between closed_side true kind start after = descends
 
 -- the left side of the gap behind a piece: open behind a combinator, closed behind a simple piece

@@ -138,7 +138,13 @@ piece edition = do
   start ← here
   token ← solid edition
   after ← here
-  give (record { spaced = spaced; start = start; kind = next_kind start; token = token; after = after })
+  give (record {
+    spaced = spaced;
+    start = start;
+    kind = next_kind start;
+    token = token;
+    after = after;
+  })
 
 -- the same, where a fault is not told
 abbrev pub next_piece : Edition → List ℕ → Option (Piece × List ℕ)
@@ -152,7 +158,7 @@ pieces edition text = each (next_piece edition) text
 pub data Ending : Type 0 where
   -- a stop
   at_stop : (spaced : Bool) → (start : List ℕ) → Ending
-  -- a `/`, which opens no comment, since it is behind a gap
+  -- a `/`
   at_slash : (spaced : Bool) → (start : List ℕ) → Ending
   -- a head that is missing, as at `<`, since no name begins there: the fault, and what is left
   -- after it
@@ -173,7 +179,8 @@ fault_ending kind spaced start fault after = within_piece spaced start fault aft
 -- The same, from what is read there. (A solid piece that can be read is no ending, so that the
 -- second clause is never asked.)
 abbrev pub solid_ending : Bool → (start : List ℕ) → Reading Token → Ending
-solid_ending spaced start (fails fault after) = fault_ending (next_kind start) spaced start fault after
+solid_ending spaced start (fails fault after) =
+    fault_ending (next_kind start) spaced start fault after
 solid_ending spaced start (got token after) = at_stop spaced start
 
 -- the same, or what stands in the gap

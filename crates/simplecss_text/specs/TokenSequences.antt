@@ -42,8 +42,8 @@ answered (refuses fault after) start next = fault_sequence fault after
 -- The sequence of an ending, behind a left side. At a stop and at a `/` that is what the table of
 -- neighbours answers, and the end. Before a fault in place of a simple piece stands what stands
 -- before a simple piece: behind a closed left side and a space byte a descendant combinator, else
--- nothing. Behind an open left side, or a descendant combinator, a second fault follows where a head
--- is missing or a comment is open: that no selector was found.
+-- nothing. Behind an open left side, or a descendant combinator, a second fault follows where a
+-- head is missing or a comment is open: that no selector was found.
 abbrev pub ending_sequence : Side → Ending → TokenSequence
 ending_sequence side (at_stop spaced start) =
     answered (between side spaced Stop start start) start (sequence_end start)

@@ -8,9 +8,9 @@ use Rattle.simplecss_text.specs.declared.next_kind.NextKind.TheVariants.{Stop}
 use Rattle.simplecss_text.specs.Characters.{Edition, first_edition, second_edition, is_name_char}
 use Rattle.simplecss_text.specs.Comments.{blank_part, gap}
 use Rattle.simplecss_text.specs.Components.{Subselector, Combinator, Compound, Component}
-use Rattle.simplecss_text.specs.Components.KnownPseudoClass.{first_child, link, visited, hover, active, focus, lang}
 use Rattle.simplecss_text.specs.Components.Subselector.{attribute, pseudo_class}
 use Rattle.simplecss_text.specs.Components.Combinator.{none, descendant, child, adjacent}
+use Rattle.simplecss_text.specs.Tokens.{Token}
 use Rattle.simplecss_text.specs.Tokens.Token.{child_combinator, adjacent_combinator}
 use Rattle.simplecss_text.specs.Pieces.{IsSimplePiece, next_kind, solid}
 use Rattle.simplecss_text.specs.Neighbours.{Side, between, side_behind}
@@ -21,7 +21,7 @@ use Rattle.simplecss_text.specs.Selectors.Role.{any_type, of_type, with, joint}
 use Rattle.simplecss_text.specs.Selectors.Outcome.{accepted}
 use Rattle.simplecss_text.specs.Printing.{subselector_text, type_text, component_text, selector_text, is_clean_subselector, is_clean}
 use Rattle.simplecss_text.proofs.reading.EachLaws.{each-none}
-use Rattle.simplecss_text.proofs.reading.SequenceSteps.{sequence_from-kind}
+use Rattle.simplecss_text.proofs.reading.SequenceSteps.{solid_sequence, sequence_from-solid, sequence_from-kind}
 use Rattle.simplecss_text.proofs.printed.TokenKinds.{kind_of, sequence_from-token, descends-token}
 use Rattle.simplecss_text.proofs.printed.PrintedNames.{both_true, ends_names, ends_names-byte, ends_names-nil}
 use Rattle.simplecss_text.proofs.printed.PrintedPieces.{IsSubselector, printed_token, printed_token-role, subselector-reads}
@@ -48,22 +48,17 @@ pub subselector-no_gap : (s : Subselector) (tail : List ℕ) → NoGap (subselec
 subselector-no_gap (attribute n o) tail = no_gap-byte 91 _ refl refl
 subselector-no_gap (pseudo_class class) tail = no_gap-byte 58 _ refl refl
 
-subselector-answer : (s : Subselector) (start after : List ℕ) (rest : Side → TokenSequence) → answered (between closed_side false (kind_of (printed_token s)) start after) start (token_then (printed_token s) after (rest (side_behind (kind_of (printed_token s))))) ≡ token_then (printed_token s) after (rest closed_side)
-subselector-answer (attribute n o) start after rest = refl
-subselector-answer (pseudo_class first_child) start after rest = refl
-subselector-answer (pseudo_class link) start after rest = refl
-subselector-answer (pseudo_class visited) start after rest = refl
-subselector-answer (pseudo_class hover) start after rest = refl
-subselector-answer (pseudo_class active) start after rest = refl
-subselector-answer (pseudo_class focus) start after rest = refl
-subselector-answer (pseudo_class (lang v)) start after rest = refl
+subselector-goes_on : (edition : Edition) (s : Subselector) (token : Token) (tail : List ℕ) → solid_sequence edition closed_side false (next_kind (subselector_text s ++ tail)) (subselector_text s ++ tail) (got token tail) ≡ token_then token tail (sequence_from edition closed_side tail)
+unfolding next_kind
+subselector-goes_on edition (attribute n o) token tail = refl
+subselector-goes_on edition (pseudo_class class) token tail = refl
 
 -- behind a simple piece a printed subselector is its token
 pub subselector-sequence : (edition : Edition) (s : Subselector) (tail : List ℕ) → IsSubselector edition s → is_clean_subselector s ≡ true → ends_names edition tail ≡ false → sequence_from edition closed_side (subselector_text s ++ tail) ≡ token_then (printed_token s) tail (sequence_from edition closed_side tail)
 subselector-sequence edition s tail w c e =
     let text = subselector_text s ++ tail in
-    sequence_from-token edition closed_side text text tail false (printed_token s) (gap-none text (subselector-no_gap s tail)) (subselector-reads edition s tail w c e)
-    ∙ subselector-answer s text tail (λ left. sequence_from edition left tail)
+    sequence_from-solid edition closed_side text text false (got (printed_token s) tail) (gap-none text (subselector-no_gap s tail)) (subselector-reads edition s tail w c e)
+    ∙ subselector-goes_on edition s (printed_token s) tail
 
 -- and goes on as what follows it
 subselector-goes : (edition : Edition) (s : Subselector) (tail left : List ℕ) (roles : List Role) → IsSubselector edition s → is_clean_subselector s ≡ true → Goes edition tail roles left → Goes edition (subselector_text s ++ tail) (with s ∷ roles) left
@@ -330,8 +325,7 @@ printed-reads edition (c ∷ cs) tail left w clean g =
 -- what does not go on with a selector: the end, and a space with a brace behind it
 
 stop-outcome : (edition : Edition) (text start : List ℕ) (spaced : Bool) → gap text ≡ got spaced start → next_kind start ≡ Stop → outcome (sequence_from edition closed_side text) ≡ accepted [] start
-stop-outcome edition text start false g e = ap outcome (sequence_from-kind edition closed_side text start false Stop (fails no_selector start) g e refl)
-stop-outcome edition text start true g e = ap outcome (sequence_from-kind edition closed_side text start true Stop (fails no_selector start) g e refl)
+stop-outcome edition text start spaced g e = ap outcome (sequence_from-kind edition closed_side text start spaced Stop (fails no_selector start) g e refl)
 
 nil-no_gap : NoGap []
 nil-no_gap = record { none = each-none blank_part [] refl; closed = refl }
