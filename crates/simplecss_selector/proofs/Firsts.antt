@@ -3,37 +3,34 @@ use Rattle.std.proofs.Common.{◌≡◌, ℕ, List, ◌∷◌, Bool, true, false
 use Rattle.std.specs.Prelude.{⊤}
 use Rattle.std.specs.Iterator.{YieldsFirstBy, MakesProgress, item_count}
 use Rattle.std.proofs.lemmas.Str.{IsUtf8-drop, IsUtf8-had}
-use Rattle.simplecss_text.specs.Reading.{Fault, no_comment, no_selector, unexpected_selector, unexpected_combinator, Reading, got, fails}
-use Rattle.simplecss_text.specs.Bytes.{past_one, starts}
+use Rattle.simplecss_text.specs.Reading.{Fault, no_comment, no_selector, unexpected_selector, unexpected_combinator, got, fails}
+use Rattle.simplecss_text.specs.Bytes.{past_one}
 use Rattle.simplecss_text.specs.Comments.{gap}
-use Rattle.simplecss_text.specs.Errors.{error_of, position_of, Gives, FailsBy}
+use Rattle.simplecss_text.specs.Errors.{error_of, position_of, FailsBy}
 use Rattle.simplecss_text.specs.ThisEdition.{this_edition}
 use Rattle.simplecss_text.specs.Slices.{StandBetween}
+use Rattle.simplecss_text.specs.declared.next_kind.NextKind.{NextKind}
+use Rattle.simplecss_text.specs.declared.next_kind.NextKind.TheVariants.{Stop, Slash, Child, Adjacent, Universal, Id, Class, Attribute, Colon, Other}
 use Rattle.simplecss_text.specs.Tokens.{Token, token_texts}
-use Rattle.simplecss_text.specs.Tokens.Token.{child_combinator, adjacent_combinator}
-use Rattle.simplecss_text.specs.Pieces.{solid_by_byte}
-use Rattle.simplecss_text.specs.Neighbours.{side_behind}
+use Rattle.simplecss_text.specs.Pieces.{IsSimplePiece, next_kind, solid_as}
 use Rattle.simplecss_text.specs.Neighbours.Side.{open_side, closed_side}
-use Rattle.simplecss_text.specs.TokenSequences.{TokenSequence, sequence_from, token_then, fault_sequence, items, told_in}
+use Rattle.simplecss_text.specs.TokenSequences.{TokenSequence, fault_sequence, items, told_in}
 use Rattle.simplecss_text.specs.TokenSequences.TokenSequence.{item}
 use Rattle.simplecss_text.specs.declared.Error.{Error}
 use Rattle.simplecss_text.specs.declared.Error.TheVariants.{InvalidComment, SelectorMissing, UnexpectedSelector, UnexpectedCombinator}
 use Rattle.simplecss_text.proofs.reading.EndsLaws.{ends-same, stand-ends}
 use Rattle.simplecss_text.proofs.reading.PlaceLaws.{place-ends}
 use Rattle.simplecss_text.proofs.reading.SequenceStandLaws.{FirstStands, sequence_from-first}
+use Rattle.simplecss_text.proofs.reading.SequenceSteps.{solid_sequence, sequence_from-kind, sequence_from-open_gap, sequence_from-descends}
 use Rattle.simplecss_text.proofs.reading.GivesLaws.{fails_by-fault}
 use Rattle.simplecss_selector.specs.declared.token.SelectorToken.{SelectorToken}
 use Rattle.simplecss_selector.specs.declared.token.SelectorToken.TheVariants.{DescendantCombinator}
 use Rattle.simplecss_selector.specs.declared.tokenizer.Stage.{Stage}
 use Rattle.simplecss_selector.specs.declared.tokenizer.Stage.TheVariants as stages
-use Rattle.simplecss_selector.specs.declared.tokenizer.NextKind.{NextKind}
-use Rattle.simplecss_selector.specs.declared.tokenizer.NextKind.TheVariants.{Stop, Slash, Child, Adjacent, Universal, Id, Class, Attribute, Colon, Other}
 use Rattle.simplecss_selector.specs.declared.tokenizer.SelectorTokenizer.{SelectorTokenizer}
-use Rattle.simplecss_selector.specs.NextKinds.{next_kind, IsSimplePiece, stage_after_fault}
+use Rattle.simplecss_selector.specs.NextKinds.{stage_after_fault}
 use Rattle.simplecss_selector.specs.SeenTokens.{token_of, item_seen, given_texts}
 use Rattle.simplecss_selector.specs.SelectorTokenizers.{whole_text, left_of, sequence_in, still_to_come, items_left, GivesFirst, GivesItem}
-use Rattle.simplecss_selector.proofs.NextKindLemmas.{EachToken, IsSolid, IsSub, IsType, Announces, announces}
-use Rattle.simplecss_selector.proofs.TokenSteps.{Closes, open-gap, open-stop, open-slash, open-joint, open-token, open-headless, open-broken, closed-gap, closed-stop, closed-slash, closed-slash_spaced, closed-joint, closed-spaced, closed-universal, closed-type, closed-sub, closed-broken}
 
 pub simple_unless : (f : NextKind) → (f ≡ Stop → ⊥) → (f ≡ Slash → ⊥) → (f ≡ Child → ⊥) → (f ≡ Adjacent → ⊥) → IsSimplePiece f
 simple_unless Stop a b c d = a refl
@@ -46,45 +43,6 @@ simple_unless Class a b c d = tt
 simple_unless Attribute a b c d = tt
 simple_unless Colon a b c d = tt
 simple_unless Other a b c d = tt
-
-next_kind-as : (f : NextKind) (start : List ℕ) → f ≡ next_kind start → Announces this_edition f start
-next_kind-as f start e = subst (λ (f : NextKind). Announces this_edition f start) (sym e) (announces this_edition start)
-
--- what stands there where the kind is that of a simple piece
-record Simple (start : List ℕ) : Type 0 where
-  is_solid : IsSolid start
-  closes : Closes (solid_by_byte this_edition start)
-
-sub-closes : (r : Reading Token) → EachToken IsSub r → Closes r
-sub-closes (got token rest) h = h.closes
-sub-closes (fails fault rest) h = tt
-
-type-closes : (r : Reading Token) → EachToken IsType r → Closes r
-type-closes (got token rest) h = h.closes
-type-closes (fails fault rest) h = tt
-
-simple-of : (f : NextKind) (start : List ℕ) → IsSimplePiece f → Announces this_edition f start → Simple start
-simple-of Stop start s h = absurd s
-simple-of Slash start s h = absurd s
-simple-of Child start s h = absurd s
-simple-of Adjacent start s h = absurd s
-simple-of Universal start s h = record { is_solid = h.is_solid; closes = subst Closes (sym h.reads) refl }
-simple-of Id start s h = record { is_solid = h.is_solid; closes = sub-closes (solid_by_byte this_edition start) h.tokens }
-simple-of Class start s h = record { is_solid = h.is_solid; closes = sub-closes (solid_by_byte this_edition start) h.tokens }
-simple-of Attribute start s h = record { is_solid = h.is_solid; closes = sub-closes (solid_by_byte this_edition start) h.tokens }
-simple-of Colon start s h = record { is_solid = h.is_solid; closes = sub-closes (solid_by_byte this_edition start) h.tokens }
-simple-of Other start s h = record { is_solid = h.is_solid; closes = type-closes (solid_by_byte this_edition start) h.tokens }
-
--- the combinator that is announced
-record Joint (start : List ℕ) : Type 0 where
-  token : Token
-  is_solid : IsSolid start
-  reads : solid_by_byte this_edition start ≡ got token (past_one start)
-  opens : side_behind token ≡ open_side
-
-joint-of : (f : NextKind) (start : List ℕ) → f ≡ next_kind start → (f ≡ Child) ⊎ (f ≡ Adjacent) → Joint start
-joint-of f start e (inl is) = let h = next_kind-as Child start (sym is ∙ e) in record { token = child_combinator; is_solid = h.is_solid; reads = h.reads; opens = refl }
-joint-of f start e (inr is) = let h = next_kind-as Adjacent start (sym is ∙ e) in record { token = adjacent_combinator; is_solid = h.is_solid; reads = h.reads; opens = refl }
 
 first-token : (text left : List ℕ) (before after : TokenSequence) (token : SelectorToken) → before ≡ item (Ok (token_of token)) left after → GivesFirst text before (Some (Ok token)) left after
 first-token text left before after token is = (Ok (token_of token), refl, is)
@@ -105,112 +63,121 @@ missing-first text left = first-fault text left _ _ no_selector SelectorMissing 
 pub open_gap-first : (text rest left : List ℕ) (e : Error) → FailsBy text (gap rest) e left → GivesFirst text (sequence_in stages.Open rest) (Some (Err e)) left (sequence_in stages.Missing left)
 open_gap-first text rest left e h =
     let told = fails_by-fault text (gap rest) e left h in
-    first-fault text left _ _ told.0 e told.2 (open-gap this_edition rest left told.0 told.1)
+    first-fault text left _ _ told.0 e told.2 (sequence_from-open_gap this_edition open_side rest left told.0 told.1)
 
 pub open_none-first : (text rest start : List ℕ) (spaced : Bool) (f : NextKind) → gap rest ≡ got spaced start → f ≡ next_kind start → (f ≡ Stop) ⊎ (f ≡ Slash) → GivesFirst text (sequence_in stages.Open rest) (Some (Err SelectorMissing)) start (sequence_in stages.Ended start)
-open_none-first text rest start spaced f g e (inl is) = first-fault text start _ _ no_selector SelectorMissing refl (open-stop this_edition rest start spaced g (next_kind-as Stop start (sym is ∙ e)))
-open_none-first text rest start spaced f g e (inr is) = first-fault text start _ _ no_selector SelectorMissing refl (open-slash this_edition rest start spaced g (next_kind-as Slash start (sym is ∙ e)))
+open_none-first text rest start spaced f g k (inl is) = first-fault text start _ _ no_selector SelectorMissing refl (sequence_from-kind this_edition open_side rest start spaced Stop _ g (sym k ∙ is) refl)
+open_none-first text rest start spaced f g k (inr is) = first-fault text start _ _ no_selector SelectorMissing refl (sequence_from-kind this_edition open_side rest start spaced Slash _ g (sym k ∙ is) refl)
 
 pub open_joint-first : (text rest start : List ℕ) (spaced : Bool) (f : NextKind) → gap rest ≡ got spaced start → f ≡ next_kind start → (f ≡ Child) ⊎ (f ≡ Adjacent) → GivesFirst text (sequence_in stages.Open rest) (Some (Err UnexpectedCombinator)) start (sequence_in stages.Ended start)
-open_joint-first text rest start spaced f g e is =
-    let joint = joint-of f start e is in
-    first-fault text start _ _ unexpected_combinator UnexpectedCombinator refl (open-joint this_edition rest start (past_one start) spaced joint.token g joint.is_solid joint.reads joint.opens)
+open_joint-first text rest start spaced f g k (inl is) = first-fault text start _ _ unexpected_combinator UnexpectedCombinator refl (sequence_from-kind this_edition open_side rest start spaced Child _ g (sym k ∙ is) refl)
+open_joint-first text rest start spaced f g k (inr is) = first-fault text start _ _ unexpected_combinator UnexpectedCombinator refl (sequence_from-kind this_edition open_side rest start spaced Adjacent _ g (sym k ∙ is) refl)
 
-closes-got : (start after : List ℕ) (token : Token) → Closes (solid_by_byte this_edition start) → solid_by_byte this_edition start ≡ got token after → side_behind token ≡ closed_side
-closes-got start after token h e = subst Closes e h
+open-token : (f : NextKind) (spaced : Bool) (start after : List ℕ) (token : Token) → IsSimplePiece f → solid_sequence this_edition open_side spaced f start (got token after) ≡ item (Ok token) after (sequence_in stages.Closed after)
+open-token Stop spaced start after token s = absurd s
+open-token Slash spaced start after token s = absurd s
+open-token Child spaced start after token s = absurd s
+open-token Adjacent spaced start after token s = absurd s
+open-token Universal spaced start after token s = refl
+open-token Id spaced start after token s = refl
+open-token Class spaced start after token s = refl
+open-token Attribute spaced start after token s = refl
+open-token Colon spaced start after token s = refl
+open-token Other spaced start after token s = refl
 
-pub open_token-first : (text rest start after : List ℕ) (spaced : Bool) (f : NextKind) (token : SelectorToken) → gap rest ≡ got spaced start → f ≡ next_kind start → IsSimplePiece f → solid_by_byte this_edition start ≡ got (token_of token) after → GivesFirst text (sequence_in stages.Open rest) (Some (Ok token)) after (sequence_in stages.Closed after)
-open_token-first text rest start after spaced f token g e s read =
-    let simple = simple-of f start s (next_kind-as f start e) in
-    first-token text after _ _ token (open-token this_edition rest start after spaced (token_of token) g simple.is_solid read (closes-got start after (token_of token) simple.closes read))
+pub open_token-first : (text rest start after : List ℕ) (spaced : Bool) (f : NextKind) (token : SelectorToken) → gap rest ≡ got spaced start → f ≡ next_kind start → IsSimplePiece f → solid_as this_edition f start ≡ got (token_of token) after → GivesFirst text (sequence_in stages.Open rest) (Some (Ok token)) after (sequence_in stages.Closed after)
+open_token-first text rest start after spaced f token g k s read =
+    first-token text after _ _ token (sequence_from-kind this_edition open_side rest start spaced f _ g (sym k) read ∙ open-token f spaced start after (token_of token) s)
 
-open-fault : (rest start after : List ℕ) (spaced : Bool) (f : NextKind) (fault : Fault) → gap rest ≡ got spaced start → Announces this_edition f start → IsSimplePiece f → solid_by_byte this_edition start ≡ fails fault after → sequence_in stages.Open rest ≡ item (Err fault) after (sequence_in (stage_after_fault f) after)
-open-fault rest start after spaced Stop fault g h s read = absurd s
-open-fault rest start after spaced Slash fault g h s read = absurd s
-open-fault rest start after spaced Child fault g h s read = absurd s
-open-fault rest start after spaced Adjacent fault g h s read = absurd s
-open-fault rest start after spaced Universal fault g h s read = let reads = h.reads in absurd (cc)
-open-fault rest start after spaced Id fault g h s read = open-broken this_edition rest start after spaced fault g h.is_solid read h.sub
-open-fault rest start after spaced Class fault g h s read = open-broken this_edition rest start after spaced fault g h.is_solid read h.sub
-open-fault rest start after spaced Attribute fault g h s read = open-broken this_edition rest start after spaced fault g h.is_solid read h.sub
-open-fault rest start after spaced Colon fault g h s read = open-broken this_edition rest start after spaced fault g h.is_solid read h.sub
-open-fault rest start after spaced Other fault g h s read = open-headless this_edition rest start after spaced fault g h.is_solid read h.sub
+open-fault : (f : NextKind) (spaced : Bool) (start after : List ℕ) (fault : Fault) → IsSimplePiece f → solid_sequence this_edition open_side spaced f start (fails fault after) ≡ item (Err fault) after (sequence_in (stage_after_fault f) after)
+open-fault Stop spaced start after fault s = absurd s
+open-fault Slash spaced start after fault s = absurd s
+open-fault Child spaced start after fault s = absurd s
+open-fault Adjacent spaced start after fault s = absurd s
+open-fault Universal spaced start after fault s = refl
+open-fault Id spaced start after fault s = refl
+open-fault Class spaced start after fault s = refl
+open-fault Attribute spaced start after fault s = refl
+open-fault Colon spaced start after fault s = refl
+open-fault Other spaced start after fault s = refl
 
-pub open_fault-first : (text rest start after : List ℕ) (spaced : Bool) (f : NextKind) (e : Error) → gap rest ≡ got spaced start → f ≡ next_kind start → IsSimplePiece f → FailsBy text (solid_by_byte this_edition start) e after → GivesFirst text (sequence_in stages.Open rest) (Some (Err e)) after (sequence_in (stage_after_fault f) after)
-open_fault-first text rest start after spaced f e g is s h =
-    let told = fails_by-fault text (solid_by_byte this_edition start) e after h in
-    first-fault text after _ _ told.0 e told.2 (open-fault rest start after spaced f told.0 g (next_kind-as f start is) s told.1)
+pub open_fault-first : (text rest start after : List ℕ) (spaced : Bool) (f : NextKind) (e : Error) → gap rest ≡ got spaced start → f ≡ next_kind start → IsSimplePiece f → FailsBy text (solid_as this_edition f start) e after → GivesFirst text (sequence_in stages.Open rest) (Some (Err e)) after (sequence_in (stage_after_fault f) after)
+open_fault-first text rest start after spaced f e g k s h =
+    let told = fails_by-fault text (solid_as this_edition f start) e after h in
+    first-fault text after _ _ told.0 e told.2 (sequence_from-kind this_edition open_side rest start spaced f _ g (sym k) told.1 ∙ open-fault f spaced start after told.0 s)
 
 -- ---- behind a closed left side
 
 pub closed_gap-first : (text rest left : List ℕ) (e : Error) → FailsBy text (gap rest) e left → GivesFirst text (sequence_in stages.Closed rest) (Some (Err e)) left (sequence_in stages.Ended left)
 closed_gap-first text rest left e h =
     let told = fails_by-fault text (gap rest) e left h in
-    first-fault text left _ _ told.0 e told.2 (closed-gap this_edition rest left told.0 told.1)
+    first-fault text left _ _ told.0 e told.2 (sequence_from-open_gap this_edition closed_side rest left told.0 told.1)
 
 pub closed_stop-first : (text rest start : List ℕ) (spaced : Bool) (f : NextKind) → gap rest ≡ got spaced start → f ≡ next_kind start → f ≡ Stop → GivesFirst text (sequence_in stages.Closed rest) None start (sequence_in stages.Ended start)
-closed_stop-first text rest start spaced f g e is = (closed-stop this_edition rest start spaced g (next_kind-as Stop start (sym is ∙ e)), refl)
-
-pub slash-starts : (start : List ℕ) (f : NextKind) → f ≡ next_kind start → f ≡ Slash → starts 47 start ≡ true
-slash-starts start f e is = (next_kind-as Slash start (sym is ∙ e)).1
+closed_stop-first text rest start spaced f g k is = (sequence_from-kind this_edition closed_side rest start spaced Stop _ g (sym k ∙ is) refl, refl)
 
 pub closed_slash-first : (text rest start after : List ℕ) (spaced : Bool) (f : NextKind) (e : Error) → gap rest ≡ got spaced start → spaced ≡ true → f ≡ next_kind start → f ≡ Slash → after ≡ past_one start → e ≡ InvalidComment (position_of text start) → GivesFirst text (sequence_in stages.Closed rest) (Some (Err e)) after (sequence_in stages.Ended after)
-closed_slash-first text rest start after spaced f e g with_space seen is left told =
-    let gap_read : gap rest ≡ got true start = g ∙ ap (λ (s : Bool). got s start) with_space in
-    let slash = closed-slash_spaced this_edition rest start gap_read (next_kind-as Slash start (sym is ∙ seen)) in
-    first-fault text after _ _ (no_comment start) e told (slash ∙ ap (fault_sequence (no_comment start)) (sym left))
+closed_slash-first text rest start after true f e g with_space k is left told =
+    first-fault text after _ _ (no_comment start) e told (sequence_from-kind this_edition closed_side rest start true Slash _ g (sym k ∙ is) refl ∙ ap (fault_sequence (no_comment start)) (sym left))
+closed_slash-first text rest start after false f e g with_space k is left told = absurd (cc)
 
 pub closed_end-first : (text rest start : List ℕ) (spaced : Bool) (f : NextKind) → gap rest ≡ got spaced start → spaced ≡ false → f ≡ next_kind start → f ≡ Slash → GivesFirst text (sequence_in stages.Closed rest) None start (sequence_in stages.Ended start)
-closed_end-first text rest start spaced f g without e is =
-    let gap_read : gap rest ≡ got false start = g ∙ ap (λ (s : Bool). got s start) without in
-    (closed-slash this_edition rest start gap_read (next_kind-as Slash start (sym is ∙ e)), refl)
+closed_end-first text rest start true f g without k is = absurd (cc)
+closed_end-first text rest start false f g without k is = (sequence_from-kind this_edition closed_side rest start false Slash _ g (sym k ∙ is) refl, refl)
 
--- a combinator that is announced is read without an error
-pub closed_joint-first : (text rest start after : List ℕ) (spaced : Bool) (f : NextKind) (r : Result SelectorToken Error) → gap rest ≡ got spaced start → f ≡ next_kind start → (f ≡ Child) ⊎ (f ≡ Adjacent) → Gives token_of text (solid_by_byte this_edition start) r after → GivesFirst text (sequence_in stages.Closed rest) (Some r) after (sequence_in stages.Open after)
-closed_joint-first text rest start after spaced f (Ok token) g e is read =
-    let joint = joint-of f start e is in
-    let opens : side_behind (token_of token) ≡ open_side = let reads = joint.reads in let same : joint.token ≡ token_of token = cc in subst (λ (t : Token). side_behind t ≡ open_side) same joint.opens in
-    first-token text after _ _ token (closed-joint this_edition rest start after spaced (token_of token) g joint.is_solid read opens)
-closed_joint-first text rest start after spaced f (Err error) g e is read =
-    let reads = (joint-of f start e is).reads in
-    let told = (fails_by-fault text (solid_by_byte this_edition start) error after read).1 in
-    absurd (cc)
+closed-joint : (f : NextKind) (spaced : Bool) (start after : List ℕ) (token : Token) → (f ≡ Child) ⊎ (f ≡ Adjacent) → solid_sequence this_edition closed_side spaced f start (got token after) ≡ item (Ok token) after (sequence_in stages.Open after)
+closed-joint f spaced start after token (inl is) = rw is refl
+closed-joint f spaced start after token (inr is) = rw is refl
+
+-- a combinator that is announced
+pub closed_joint-first : (text rest start after : List ℕ) (spaced : Bool) (f : NextKind) (token : SelectorToken) → gap rest ≡ got spaced start → f ≡ next_kind start → (f ≡ Child) ⊎ (f ≡ Adjacent) → solid_as this_edition f start ≡ got (token_of token) after → GivesFirst text (sequence_in stages.Closed rest) (Some (Ok token)) after (sequence_in stages.Open after)
+closed_joint-first text rest start after spaced f token g k is read =
+    first-token text after _ _ token (sequence_from-kind this_edition closed_side rest start spaced f _ g (sym k) read ∙ closed-joint f spaced start after (token_of token) is)
 
 pub closed_spaced-first : (text rest start : List ℕ) (spaced : Bool) (f : NextKind) → gap rest ≡ got spaced start → spaced ≡ true → f ≡ next_kind start → IsSimplePiece f → GivesFirst text (sequence_in stages.Closed rest) (Some (Ok DescendantCombinator)) start (sequence_in stages.Open start)
-closed_spaced-first text rest start spaced f g with_space e s =
-    let gap_read : gap rest ≡ got true start = g ∙ ap (λ (s : Bool). got s start) with_space in
-    let simple = simple-of f start s (next_kind-as f start e) in
-    first-token text start _ _ DescendantCombinator (closed-spaced this_edition rest start gap_read simple.is_solid simple.closes)
+closed_spaced-first text rest start true f g with_space k s = first-token text start _ _ DescendantCombinator (sequence_from-descends this_edition rest start f g (sym k) s)
+closed_spaced-first text rest start false f g with_space k s = absurd (cc)
+
+-- ---- directly behind a simple piece
 
 pub joined_universal-first : (text rest start : List ℕ) (f : NextKind) → gap rest ≡ got false start → next_kind start ≡ f → f ≡ Universal → GivesFirst text (sequence_in stages.Closed rest) (Some (Err UnexpectedSelector)) start (sequence_in stages.Ended start)
-joined_universal-first text rest start f g e is =
-    let h = next_kind-as Universal start (sym is ∙ sym e) in
-    first-fault text start _ _ unexpected_selector UnexpectedSelector refl (closed-universal this_edition rest start (past_one start) g h.is_solid h.reads)
+joined_universal-first text rest start f g k is = first-fault text start _ _ unexpected_selector UnexpectedSelector refl (sequence_from-kind this_edition closed_side rest start false Universal _ g (k ∙ is) refl)
 
-pub joined_type-first : (text rest start after : List ℕ) (f : NextKind) (token : SelectorToken) → gap rest ≡ got false start → next_kind start ≡ f → f ≡ Other → solid_by_byte this_edition start ≡ got (token_of token) after → GivesFirst text (sequence_in stages.Closed rest) (Some (Err UnexpectedSelector)) after (sequence_in stages.Ended after)
-joined_type-first text rest start after f token g e is read =
-    let h = next_kind-as Other start (sym is ∙ sym e) in
-    first-fault text after _ _ unexpected_selector UnexpectedSelector refl (closed-type this_edition rest start after (token_of token) g h.is_solid read (subst (EachToken IsType) read h.tokens))
+pub joined_type-first : (text rest start after : List ℕ) (f : NextKind) (token : SelectorToken) → gap rest ≡ got false start → next_kind start ≡ f → f ≡ Other → solid_as this_edition f start ≡ got (token_of token) after → GivesFirst text (sequence_in stages.Closed rest) (Some (Err UnexpectedSelector)) after (sequence_in stages.Ended after)
+joined_type-first text rest start after f token g k is read =
+    first-fault text after _ _ unexpected_selector UnexpectedSelector refl (sequence_from-kind this_edition closed_side rest start false f _ g k read ∙ ap (λ f. solid_sequence this_edition closed_side false f start (got (token_of token) after)) is)
 
-joined-sub : (text rest start after : List ℕ) (f : NextKind) (token : SelectorToken) → gap rest ≡ got false start → Announces this_edition f start → IsSimplePiece f → (f ≡ Universal → ⊥) → (f ≡ Other → ⊥) → solid_by_byte this_edition start ≡ got (token_of token) after → sequence_from this_edition closed_side rest ≡ token_then (token_of token) after (sequence_from this_edition closed_side after)
-joined-sub text rest start after Stop token g h s u o read = absurd s
-joined-sub text rest start after Slash token g h s u o read = absurd s
-joined-sub text rest start after Child token g h s u o read = absurd s
-joined-sub text rest start after Adjacent token g h s u o read = absurd s
-joined-sub text rest start after Universal token g h s u o read = absurd (u refl)
-joined-sub text rest start after Id token g h s u o read = closed-sub this_edition rest start after (token_of token) g h.is_solid read (subst (EachToken IsSub) read h.tokens)
-joined-sub text rest start after Class token g h s u o read = closed-sub this_edition rest start after (token_of token) g h.is_solid read (subst (EachToken IsSub) read h.tokens)
-joined-sub text rest start after Attribute token g h s u o read = closed-sub this_edition rest start after (token_of token) g h.is_solid read (subst (EachToken IsSub) read h.tokens)
-joined-sub text rest start after Colon token g h s u o read = closed-sub this_edition rest start after (token_of token) g h.is_solid read (subst (EachToken IsSub) read h.tokens)
-joined-sub text rest start after Other token g h s u o read = absurd (o refl)
+joined-sub : (f : NextKind) (start after : List ℕ) (token : Token) → IsSimplePiece f → (f ≡ Universal → ⊥) → (f ≡ Other → ⊥) → solid_sequence this_edition closed_side false f start (got token after) ≡ item (Ok token) after (sequence_in stages.Closed after)
+joined-sub Stop start after token s u o = absurd s
+joined-sub Slash start after token s u o = absurd s
+joined-sub Child start after token s u o = absurd s
+joined-sub Adjacent start after token s u o = absurd s
+joined-sub Universal start after token s u o = absurd (u refl)
+joined-sub Id start after token s u o = refl
+joined-sub Class start after token s u o = refl
+joined-sub Attribute start after token s u o = refl
+joined-sub Colon start after token s u o = refl
+joined-sub Other start after token s u o = absurd (o refl)
 
-pub joined_sub-first : (text rest start after : List ℕ) (f : NextKind) (token : SelectorToken) → gap rest ≡ got false start → next_kind start ≡ f → IsSimplePiece f → (f ≡ Universal → ⊥) → (f ≡ Other → ⊥) → solid_by_byte this_edition start ≡ got (token_of token) after → GivesFirst text (sequence_in stages.Closed rest) (Some (Ok token)) after (sequence_in stages.Closed after)
-joined_sub-first text rest start after f token g e s u o read = first-token text after _ _ token (joined-sub text rest start after f token g (next_kind-as f start (sym e)) s u o read)
+pub joined_sub-first : (text rest start after : List ℕ) (f : NextKind) (token : SelectorToken) → gap rest ≡ got false start → next_kind start ≡ f → IsSimplePiece f → (f ≡ Universal → ⊥) → (f ≡ Other → ⊥) → solid_as this_edition f start ≡ got (token_of token) after → GivesFirst text (sequence_in stages.Closed rest) (Some (Ok token)) after (sequence_in stages.Closed after)
+joined_sub-first text rest start after f token g k s u o read = first-token text after _ _ token (sequence_from-kind this_edition closed_side rest start false f _ g k read ∙ joined-sub f start after (token_of token) s u o)
 
-pub joined_fault-first : (text rest start after : List ℕ) (f : NextKind) (error : Error) → gap rest ≡ got false start → next_kind start ≡ f → IsSimplePiece f → FailsBy text (solid_by_byte this_edition start) error after → GivesFirst text (sequence_in stages.Closed rest) (Some (Err error)) after (sequence_in stages.Ended after)
-joined_fault-first text rest start after f error g e s h =
-    let told = fails_by-fault text (solid_by_byte this_edition start) error after h in
-    first-fault text after _ _ told.0 error told.2 (closed-broken this_edition rest start after told.0 g (simple-of f start s (next_kind-as f start (sym e))).is_solid told.1)
+joined-fault : (f : NextKind) (start after : List ℕ) (fault : Fault) → IsSimplePiece f → solid_sequence this_edition closed_side false f start (fails fault after) ≡ fault_sequence fault after
+joined-fault Stop start after fault s = absurd s
+joined-fault Slash start after fault s = absurd s
+joined-fault Child start after fault s = absurd s
+joined-fault Adjacent start after fault s = absurd s
+joined-fault Universal start after fault s = refl
+joined-fault Id start after fault s = refl
+joined-fault Class start after fault s = refl
+joined-fault Attribute start after fault s = refl
+joined-fault Colon start after fault s = refl
+joined-fault Other start after fault s = refl
+
+pub joined_fault-first : (text rest start after : List ℕ) (f : NextKind) (error : Error) → gap rest ≡ got false start → next_kind start ≡ f → IsSimplePiece f → FailsBy text (solid_as this_edition f start) error after → GivesFirst text (sequence_in stages.Closed rest) (Some (Err error)) after (sequence_in stages.Ended after)
+joined_fault-first text rest start after f error g k s h =
+    let told = fails_by-fault text (solid_as this_edition f start) error after h in
+    first-fault text after _ _ told.0 error told.2 (sequence_from-kind this_edition closed_side rest start false f _ g k told.1 ∙ joined-fault f start after told.0 s)
 
 -- ---- the whole call
 

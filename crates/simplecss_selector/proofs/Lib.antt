@@ -14,7 +14,5 @@ pub mod Drafting
 pub mod Filling
 pub mod Counts
 pub mod FlatEquality
-pub mod NextKindLemmas
-pub mod TokenSteps
 pub mod Firsts
 pub mod KeyLemmas

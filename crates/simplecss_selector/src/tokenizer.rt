@@ -9,44 +9,19 @@ ghost use Rattle.simplecss_text.specs.Pieces.{attribute_after as attribute_read}
 ghost use Rattle.simplecss_text.specs.Pieces.{attribute_operator as operator_read};
 ghost use Rattle.simplecss_text.specs.Pieces.{lang_after as language_read};
 ghost use Rattle.simplecss_text.specs.Pieces.{pseudo_class_after as pseudo_class_read};
-ghost use Rattle.simplecss_text.specs.Pieces.{solid_by_byte as solid_read};
+ghost use Rattle.simplecss_text.specs.Pieces.{next_kind, IsSimplePiece, solid_as};
 ghost use Rattle.simplecss_selector.specs.SeenOperators.{operator_of};
 ghost use Rattle.simplecss_selector.specs.SeenTokens.{token_of};
 ghost use Rattle.simplecss_selector.specs.declared.token.SelectorToken.TheVariants.{AttributeSelector};
 ghost use Rattle.simplecss_selector.specs.declared.token.SelectorToken.TheVariants.{LangPseudoClass};
 ghost use Rattle.simplecss_selector.specs.declared.token.SelectorToken.TheVariants.{PseudoClass};
-ghost use Rattle.simplecss_selector.specs.NextKinds.{next_kind, IsNamed, IsSimplePiece};
-ghost use Rattle.simplecss_selector.specs.NextKinds.{stage_after_fault};
+ghost use Rattle.simplecss_selector.specs.NextKinds.{IsNamed, stage_after_fault};
 
 use crate::{AttributeOperator, SelectorToken};
+use simplecss_text::next_kind::{NextKind, next_kind};
 use simplecss_text::stream::Stream;
 use simplecss_text::{Error, readers, scan};
 use std::iter::FusedIterator;
-
-/// The kind of what stands behind a gap, by its first byte.
-#[derive(Clone, Copy)]
-enum NextKind {
-    /// The end of the text, `,` or `{`.
-    Stop,
-    /// A `/`. It opens no comment, since a gap stands before it.
-    Slash,
-    /// The combinator `>`.
-    Child,
-    /// The combinator `+`.
-    Adjacent,
-    /// A `*`.
-    Universal,
-    /// The `#` of an id.
-    Id,
-    /// The `.` of a class.
-    Class,
-    /// The `[` of an attribute.
-    Attribute,
-    /// The `:` of a pseudo-class.
-    Colon,
-    /// Any other byte: where a piece stands, a type.
-    Other,
-}
 
 /// Where a tokenizer is.
 #[derive(Clone, Copy)]
@@ -72,26 +47,6 @@ pub struct SelectorTokenizer<'a> {
     stream: Stream<'a>,
     /// What may come there.
     stage: Stage,
-}
-
-/// What the byte announces that stands next.
-#[inline(always)]
-#[tactic(auto, unfolding(crate::specs::NextKinds::next_kind))]
-fn next_kind(stream: &Stream<'_>) -> NextKind
-    ensures { result ≡ next_kind (rest_of stream.now) }
-{
-    match readers::peek(stream) {
-        None | Some(b',' | b'{') => NextKind::Stop,
-        Some(b'/') => NextKind::Slash,
-        Some(b'>') => NextKind::Child,
-        Some(b'+') => NextKind::Adjacent,
-        Some(b'*') => NextKind::Universal,
-        Some(b'#') => NextKind::Id,
-        Some(b'.') => NextKind::Class,
-        Some(b'[') => NextKind::Attribute,
-        Some(b':') => NextKind::Colon,
-        Some(_) => NextKind::Other,
-    }
 }
 
 /// What is asked of an attribute, behind its name.
@@ -190,11 +145,11 @@ fn text_before<'a>(stream: &mut Stream<'a>, byte: u8) -> &'a str
 
 /// A child combinator, which the byte has announced.
 #[inline(always)]
-#[tactic(auto, unfolding(simplecss_text::specs::Pieces::solid_by_byte, crate::specs::NextKinds::next_kind))]
+#[tactic(auto, unfolding(simplecss_text::specs::Pieces::next_kind))]
 fn child<'a>(stream: &mut Stream<'a>) -> SelectorToken<'a>
     requires { next_kind (rest_of stream.old) ≡ NextKind.Child }
     ensures text { text_of stream.new ≡ text_of stream.old }
-    ensures reads { solid_read this_edition (rest_of stream.old)
+    ensures reads { solid_as this_edition NextKind.Child (rest_of stream.old)
         ≡ got (token_of result) (rest_of stream.new) }
 {
     stream.try_consume_byte(b'>');
@@ -203,11 +158,11 @@ fn child<'a>(stream: &mut Stream<'a>) -> SelectorToken<'a>
 
 /// An adjacent combinator, which the byte has announced.
 #[inline(always)]
-#[tactic(auto, unfolding(simplecss_text::specs::Pieces::solid_by_byte, crate::specs::NextKinds::next_kind))]
+#[tactic(auto, unfolding(simplecss_text::specs::Pieces::next_kind))]
 fn adjacent<'a>(stream: &mut Stream<'a>) -> SelectorToken<'a>
     requires { next_kind (rest_of stream.old) ≡ NextKind.Adjacent }
     ensures text { text_of stream.new ≡ text_of stream.old }
-    ensures reads { solid_read this_edition (rest_of stream.old)
+    ensures reads { solid_as this_edition NextKind.Adjacent (rest_of stream.old)
         ≡ got (token_of result) (rest_of stream.new) }
 {
     stream.try_consume_byte(b'+');
@@ -216,13 +171,13 @@ fn adjacent<'a>(stream: &mut Stream<'a>) -> SelectorToken<'a>
 
 /// The name of an id or a class behind its sign, or of a type.
 #[inline(always)]
-#[tactic(auto, unfolding(simplecss_text::specs::Pieces::solid_by_byte, simplecss_text::specs::Pieces::named_token, crate::specs::NextKinds::next_kind))]
+#[tactic(auto, unfolding(simplecss_text::specs::Pieces::next_kind, simplecss_text::specs::Pieces::named_token))]
 fn name<'a>(stream: &mut Stream<'a>, follows: NextKind) -> Result<SelectorToken<'a>, Error>
     requires here { next_kind (rest_of stream.old) ≡ follows }
     requires named { IsNamed follows }
     ensures text { text_of stream.new ≡ text_of stream.old }
     ensures reads { Gives token_of (text_of stream.old)
-        (solid_read this_edition (rest_of stream.old)) result (rest_of stream.new) }
+        (solid_as this_edition follows (rest_of stream.old)) result (rest_of stream.new) }
 {
     match follows {
         NextKind::Id => stream.try_consume_byte(b'#'),
@@ -237,19 +192,17 @@ fn name<'a>(stream: &mut Stream<'a>, follows: NextKind) -> Result<SelectorToken<
     })
 }
 
-/// A solid piece, which the byte has announced. At a stop and at a `/` it is read as a type, and
-/// fails.
+/// A simple piece, which the byte has announced.
 #[inline(always)]
-#[tactic(auto, unfolding(simplecss_text::specs::Pieces::solid_by_byte, simplecss_text::specs::Pieces::named_token, crate::specs::NextKinds::next_kind))]
-fn solid_piece<'a>(stream: &mut Stream<'a>, follows: NextKind) -> Result<SelectorToken<'a>, Error>
-    requires { next_kind (rest_of stream.old) ≡ follows }
+#[tactic(auto, unfolding(simplecss_text::specs::Pieces::next_kind))]
+fn simple_piece<'a>(stream: &mut Stream<'a>, follows: NextKind) -> Result<SelectorToken<'a>, Error>
+    requires here { next_kind (rest_of stream.old) ≡ follows }
+    requires simple { IsSimplePiece follows }
     ensures text { text_of stream.new ≡ text_of stream.old }
     ensures reads { Gives token_of (text_of stream.old)
-        (solid_read this_edition (rest_of stream.old)) result (rest_of stream.new) }
+        (solid_as this_edition follows (rest_of stream.old)) result (rest_of stream.new) }
 {
     match follows {
-        NextKind::Child => Ok(child(stream)),
-        NextKind::Adjacent => Ok(adjacent(stream)),
         NextKind::Universal => {
             stream.try_consume_byte(b'*');
             Ok(SelectorToken::UniversalSelector)
@@ -326,7 +279,7 @@ impl<'a> SelectorTokenizer<'a> {
                 self.stage = Stage::Ended;
                 Err(Error::UnexpectedCombinator)
             }
-            _ => match solid_piece(&mut self.stream, follows) {
+            _ => match simple_piece(&mut self.stream, follows) {
                 Ok(token) => {
                     self.stage = Stage::Closed;
                     Ok(token)
@@ -400,7 +353,7 @@ impl<'a> SelectorTokenizer<'a> {
             self.stage = Stage::Ended;
             return Err(Error::UnexpectedSelector);
         }
-        match solid_piece(&mut self.stream, follows) {
+        match simple_piece(&mut self.stream, follows) {
             Ok(token) => match follows {
                 NextKind::Other => {
                     self.stage = Stage::Ended;

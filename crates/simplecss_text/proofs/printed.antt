@@ -6,6 +6,7 @@ pub mod PrintedSelectors
 pub mod UncleanSelectors
 pub mod PrintingLaw
 pub mod GotLaws
+pub mod TokenKinds
 pub mod ReadNames
 pub mod ReadStrings
 pub mod ReadValues

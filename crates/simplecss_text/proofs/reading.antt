@@ -5,7 +5,6 @@ pub mod DeclarationLaws
 pub mod WithinLaws
 pub mod StatementLaws
 pub mod SequenceLaws
-pub mod JoiningLaws
 pub mod EndsLaws
 pub mod PlaceLaws
 pub mod CountLaws
@@ -18,3 +17,4 @@ pub mod DeclarationsLawful
 pub mod PiecesLawful
 pub mod LeastLaws
 pub mod SequenceSteps
+pub mod KindLaws

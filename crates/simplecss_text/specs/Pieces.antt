@@ -3,17 +3,19 @@
 -- head, which is `*` or a type name, or a subselector, which is an id, a class, an attribute or a
 -- pseudo-class. A head, if there is one, and the subselectors behind it make what CSS 2.1 (section
 -- 5.2) calls a simple selector. What a piece is depends on no piece before it.
-use Rattle.std.specs.Prelude.{ℕ, Bool, ◌||◌, ◌==◌, if◌then◌else◌, List, [], ◌∷◌, length, bytes_eq, codes, Option}
+use Rattle.std.specs.Prelude.{ℕ, Bool, ◌==◌, if◌then◌else◌, List, [], ◌∷◌, length, bytes_eq, codes, Option}
 use Rattle.std.specs.Str.{trim}
 use Rattle.simplecss_text.specs.AsciiBytes.{number_sign, asterisk, plus_sign, comma, full_stop, slash, colon, equals_sign, greater_than_sign, vertical_bar, tilde, open_parenthesis, close_parenthesis, open_bracket, close_bracket, open_brace}
 use Rattle.simplecss_text.specs.Reading.{Fault, ended, no_attribute_form, no_language, no_selector, Reading, got, fails, Reader, ◌>>=◌, ◌>>◌, give, here, found, each}
-use Rattle.simplecss_text.specs.Bytes.{starts, starts_by, byte, all_before}
+use Rattle.simplecss_text.specs.Bytes.{past_one, byte, all_before}
 use Rattle.simplecss_text.specs.Characters.{Edition}
 use Rattle.simplecss_text.specs.Comments.{gap}
 use Rattle.simplecss_text.specs.Names.{name}
 use Rattle.simplecss_text.specs.Strings.{string_or_name}
 use Rattle.simplecss_text.specs.Components.{Operator}
 use Rattle.simplecss_text.specs.Components.Operator.{exists, equals, has_word, begins_with}
+use Rattle.simplecss_text.specs.declared.next_kind.NextKind.{NextKind}
+use Rattle.simplecss_text.specs.declared.next_kind.NextKind.TheVariants.{Stop, Slash, Child, Adjacent, Universal, Id, Class, Attribute, Colon, Other}
 use Rattle.simplecss_text.specs.Tokens.{Token}
 use Rattle.simplecss_text.specs.Tokens.Token.{universal_selector, type_selector, id_selector, class_selector, attribute_selector, named_pseudo_class, lang_pseudo_class, child_combinator, adjacent_combinator}
 
@@ -73,35 +75,59 @@ named_token edition token = do
   n ← name edition
   give (token n)
 
--- The solid piece that a byte begins: `>`, `+`, `*`, an id, a class, an attribute, a pseudo-class,
--- or else a type.
-unfoldable pub solid_by_byte : Edition → Reader Token
-solid_by_byte edition [] = named_token edition type_selector []
-solid_by_byte edition (b ∷ text) =
-    if b == greater_than_sign then got child_combinator text
-    else (if b == plus_sign then got adjacent_combinator text
-    else (if b == asterisk then got universal_selector text
-    else (if b == number_sign then named_token edition id_selector text
-    else (if b == full_stop then named_token edition class_selector text
-    else (if b == open_bracket then attribute_after edition text
-    else (if b == colon then pseudo_class_after edition text
-    else named_token edition type_selector (b ∷ text)))))))
+-- the kind of what a byte begins: `,` and `{` are stops
+abbrev pub kind_of_byte : ℕ → NextKind
+kind_of_byte b =
+    if b == comma then Stop
+    else (if b == open_brace then Stop
+    else (if b == slash then Slash
+    else (if b == greater_than_sign then Child
+    else (if b == plus_sign then Adjacent
+    else (if b == asterisk then Universal
+    else (if b == number_sign then Id
+    else (if b == full_stop then Class
+    else (if b == open_bracket then Attribute
+    else (if b == colon then Colon
+    else Other)))))))))
 
--- a stop: the end of the text, `,` or `{`
-abbrev pub ends_selector : List ℕ → Bool
-ends_selector text = length text == 0 || starts comma text || starts open_brace text
+-- The kind of what stands next behind a gap, by its first byte. The end of the text is a stop, too.
+-- A `/` opens no comment there, since a gap stands before it.
+unfoldable pub next_kind : List ℕ → NextKind
+next_kind [] = Stop
+next_kind (b ∷ text) = kind_of_byte b
 
--- A solid piece. At a stop and at a `/` stands none. That fault is never told: it only ends the
--- pieces, and what they end by is looked at anew, by `ending`.
+-- the kinds of simple pieces: of heads and subselectors
+abbrev pub IsSimplePiece : NextKind → Type 0
+IsSimplePiece Stop = ⊥
+IsSimplePiece Slash = ⊥
+IsSimplePiece Child = ⊥
+IsSimplePiece Adjacent = ⊥
+IsSimplePiece kind = Unit {0}
+
+-- A solid piece, where what stands next is of this kind. At a stop and at a `/` stands none; what
+-- that comes to, the table of neighbours says.
+abbrev pub solid_as : Edition → NextKind → Reader Token
+solid_as edition Stop text = fails no_selector text
+solid_as edition Slash text = fails no_selector text
+solid_as edition Child text = got child_combinator (past_one text)
+solid_as edition Adjacent text = got adjacent_combinator (past_one text)
+solid_as edition Universal text = got universal_selector (past_one text)
+solid_as edition Id text = named_token edition id_selector (past_one text)
+solid_as edition Class text = named_token edition class_selector (past_one text)
+solid_as edition Attribute text = attribute_after edition (past_one text)
+solid_as edition Colon text = pseudo_class_after edition (past_one text)
+solid_as edition Other text = named_token edition type_selector text
+
+-- a solid piece
 unfoldable pub solid : Edition → Reader Token
-solid edition text =
-    if ends_selector text || starts slash text then fails no_selector text else solid_by_byte edition text
+solid edition text = solid_as edition (next_kind text) text
 
 -- A gap and a solid piece: whether the gap has a space byte, what is left where the solid piece
--- begins, its token, and what is left after it.
+-- begins, its kind, its token, and what is left after it.
 pub record Piece : Type 0 where
   pub spaced : Bool
   pub start : List ℕ
+  pub kind : NextKind
   pub token : Token
   pub after : List ℕ
 
@@ -112,7 +138,13 @@ piece edition = do
   start ← here
   token ← solid edition
   after ← here
-  give (record { spaced = spaced; start = start; token = token; after = after })
+  give (record {
+    spaced = spaced;
+    start = start;
+    kind = next_kind start;
+    token = token;
+    after = after;
+  })
 
 -- the same, where a fault is not told
 abbrev pub next_piece : Edition → List ℕ → Option (Piece × List ℕ)
@@ -126,7 +158,7 @@ pieces edition text = each (next_piece edition) text
 pub data Ending : Type 0 where
   -- a stop
   at_stop : (spaced : Bool) → (start : List ℕ) → Ending
-  -- a `/`, which opens no comment, since it is behind a gap
+  -- a `/`
   at_slash : (spaced : Bool) → (start : List ℕ) → Ending
   -- a head that is missing, as at `<`, since no name begins there: the fault, and what is left
   -- after it
@@ -136,25 +168,25 @@ pub data Ending : Type 0 where
   -- a comment in the gap that is not closed
   within_gap : Fault → (after : List ℕ) → Ending
 
--- a `#`, a `.`, a `[` or a `:`, which begin a subselector
-abbrev pub begins_subselector : ℕ → Bool
-begins_subselector b = b == number_sign || b == full_stop || b == open_bracket || b == colon
+-- what ends the pieces behind a gap, by the kind of what stands there, where reading it as a solid
+-- piece is this fault
+abbrev pub fault_ending : NextKind → Bool → (start : List ℕ) → Fault → (after : List ℕ) → Ending
+fault_ending Stop spaced start fault after = at_stop spaced start
+fault_ending Slash spaced start fault after = at_slash spaced start
+fault_ending Other spaced start fault after = without_head spaced start fault after
+fault_ending kind spaced start fault after = within_piece spaced start fault after
 
--- The fault of a solid piece: inside a subselector, or for want of a head. (A piece that can be
--- read is no ending, so that the first clause is never asked.)
-abbrev pub fault_ending : Bool → List ℕ → Reading Token → Ending
-fault_ending spaced start (got token after) = at_stop spaced start
-fault_ending spaced start (fails fault after) =
-    if starts_by begins_subselector start then within_piece spaced start fault after
-    else without_head spaced start fault after
+-- The same, from what is read there. (A solid piece that can be read is no ending, so that the
+-- second clause is never asked.)
+abbrev pub solid_ending : Bool → (start : List ℕ) → Reading Token → Ending
+solid_ending spaced start (fails fault after) =
+    fault_ending (next_kind start) spaced start fault after
+solid_ending spaced start (got token after) = at_stop spaced start
 
--- what stands behind a gap, or in it, where no piece can be read
+-- the same, or what stands in the gap
 abbrev pub gap_ending : Edition → Reading Bool → Ending
 gap_ending edition (fails fault after) = within_gap fault after
-gap_ending edition (got spaced start) =
-    if ends_selector start then at_stop spaced start
-    else (if starts slash start then at_slash spaced start
-    else fault_ending spaced start (solid edition start))
+gap_ending edition (got spaced start) = solid_ending spaced start (solid edition start)
 
 -- what the pieces of a text end by, from what is left where no further one stands
 unfoldable pub ending : Edition → List ℕ → Ending

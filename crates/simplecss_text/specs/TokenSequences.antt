@@ -1,17 +1,19 @@
 -- What a tokenizer gives on a text: the tokens of its pieces, with what stands between them, up to
 -- the end or a fault.
-use Rattle.std.specs.Prelude.{ℕ, ◌+◌, List, [], ◌∷◌, map, Result, Ok, Err}
+use Rattle.std.specs.Prelude.{ℕ, ◌+◌, true, false, List, [], ◌∷◌, map, Result, Ok, Err}
 use Rattle.simplecss_text.specs.declared.Error.{Error}
 use Rattle.simplecss_text.specs.Reading.{Fault, no_selector}
 use Rattle.simplecss_text.specs.Errors.{error_of}
+use Rattle.simplecss_text.specs.Bytes.{past_one}
+use Rattle.simplecss_text.specs.declared.next_kind.NextKind.TheVariants.{Stop, Slash}
 use Rattle.simplecss_text.specs.Characters.{Edition}
 use Rattle.simplecss_text.specs.Tokens.{Token, token_texts}
 use Rattle.simplecss_text.specs.Tokens.Token.{descendant_combinator}
 use Rattle.simplecss_text.specs.Pieces.{Piece, pieces, Ending, ending}
 use Rattle.simplecss_text.specs.Pieces.Ending.{at_stop, at_slash, without_head, within_piece, within_gap}
-use Rattle.simplecss_text.specs.Neighbours.{Side, Answer, before_piece, before_ending, side_behind}
+use Rattle.simplecss_text.specs.Neighbours.{Side, Answer, between, side_behind}
 use Rattle.simplecss_text.specs.Neighbours.Side.{open_side, closed_side}
-use Rattle.simplecss_text.specs.Neighbours.Answer.{nothing, descends, ends_tokens, refuses}
+use Rattle.simplecss_text.specs.Neighbours.Answer.{nothing, descends, refuses}
 
 -- Each token or fault with what is left to read after it, and at the end what is left there.
 pub data TokenSequence : Type 0 where
@@ -31,48 +33,39 @@ abbrev pub two_faults_sequence : Fault → List ℕ → TokenSequence
 two_faults_sequence fault after = item (Err fault) after (fault_sequence no_selector after)
 
 -- What the answer puts between two neighbours, at `start`: nothing or a descendant combinator, and
--- behind it `next`, which is what follows; or the end or a fault, and then nothing more.
+-- behind it `next`, which is what follows; or a fault, and then nothing more.
 abbrev pub answered : Answer → (start : List ℕ) → TokenSequence → TokenSequence
 answered nothing start next = next
 answered descends start next = token_then descendant_combinator start next
-answered ends_tokens start next = sequence_end start
 answered (refuses fault after) start next = fault_sequence fault after
 
--- the left side of what follows the answer: a descendant combinator opens it
-abbrev pub side_with : Answer → Side → Side
-side_with nothing side = side
-side_with descends side = open_side
-side_with ends_tokens side = side
-side_with (refuses fault after) side = side
-
--- The fault of an ending. Behind an open left side, or a descendant combinator, a second one
--- follows where a head is missing or a comment is open: that no selector was found. At a stop and
--- at a slash the table of neighbours ends the sequence, or refuses it, so that the first two
--- clauses are never asked.
+-- The sequence of an ending, behind a left side. At a stop and at a `/` that is what the table of
+-- neighbours answers, and the end. Before a fault in place of a simple piece stands what stands
+-- before a simple piece: behind a closed left side and a space byte a descendant combinator, else
+-- nothing. Behind an open left side, or a descendant combinator, a second fault follows where a
+-- head is missing or a comment is open: that no selector was found.
 abbrev pub ending_sequence : Side → Ending → TokenSequence
-ending_sequence side (at_stop spaced start) = sequence_end start
-ending_sequence side (at_slash spaced start) = sequence_end start
+ending_sequence side (at_stop spaced start) =
+    answered (between side spaced Stop start start) start (sequence_end start)
+ending_sequence side (at_slash spaced start) =
+    answered (between side spaced Slash start (past_one start)) start (sequence_end start)
 ending_sequence open_side (without_head spaced start fault after) = two_faults_sequence fault after
-ending_sequence closed_side (without_head spaced start fault after) = fault_sequence fault after
-ending_sequence side (within_piece spaced start fault after) = fault_sequence fault after
+ending_sequence open_side (within_piece spaced start fault after) = fault_sequence fault after
 ending_sequence open_side (within_gap fault after) = two_faults_sequence fault after
+ending_sequence closed_side (without_head false start fault after) = fault_sequence fault after
+ending_sequence closed_side (without_head true start fault after) =
+    token_then descendant_combinator start (two_faults_sequence fault after)
+ending_sequence closed_side (within_piece false start fault after) = fault_sequence fault after
+ending_sequence closed_side (within_piece true start fault after) =
+    token_then descendant_combinator start (fault_sequence fault after)
 ending_sequence closed_side (within_gap fault after) = fault_sequence fault after
-
--- What is left where a descendant combinator before an ending would be told: where the ending
--- begins. Where a comment is open none is told, and what is left is nothing, the end of the text.
-abbrev pub start_of : Ending → List ℕ
-start_of (at_stop spaced start) = start
-start_of (at_slash spaced start) = start
-start_of (without_head spaced start fault after) = start
-start_of (within_piece spaced start fault after) = start
-start_of (within_gap fault after) = after
 
 -- The sequence over pieces and what ends them, behind a left side.
 abbrev pub sequence : Side → List Piece → Ending → TokenSequence
-sequence side [] end =
-    answered (before_ending side end) (start_of end) (ending_sequence (side_with (before_ending side end) side) end)
+sequence side [] end = ending_sequence side end
 sequence side (p ∷ ps) end =
-    answered (before_piece side p) p.start (token_then p.token p.after (sequence (side_behind p.token) ps end))
+    answered (between side p.spaced p.kind p.start p.after) p.start
+    (token_then p.token p.after (sequence (side_behind p.kind) ps end))
 
 -- the sequence of what is left to read, behind a left side
 unfoldable pub sequence_from : Edition → Side → List ℕ → TokenSequence

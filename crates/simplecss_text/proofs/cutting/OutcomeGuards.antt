@@ -1,18 +1,17 @@
 -- What a sequence comes to is guarded by a closing brace.
 -- Serves `StyleSheet::parse_more` and `laws::cutting_law` (a text read in pieces).
-use Rattle.std.proofs.Common.{Bool, List, [], false, if◌then◌else◌, inl, inr, length, refl, true, ℕ, ◌∷◌, ◌≡◌, ◌≤◌, ◌⊎◌, Err, Ok, arith}
+use Rattle.std.proofs.Common.{Bool, List, false, inl, inr, length, refl, subst, true, ℕ, ◌∷◌, ◌≡◌, ◌≤◌, ◌⊎◌, Err, Ok, arith}
 use Rattle.simplecss_text.specs.Reading.{Fault}
-use Rattle.simplecss_text.specs.Bytes.{starts_by}
+use Rattle.simplecss_text.specs.Bytes.{past_one}
+use Rattle.simplecss_text.specs.declared.next_kind.NextKind.{NextKind}
+use Rattle.simplecss_text.specs.declared.next_kind.NextKind.TheVariants.{Stop, Slash}
 use Rattle.simplecss_text.specs.Characters.{Edition}
 use Rattle.simplecss_text.specs.Components.Combinator.{descendant}
-use Rattle.simplecss_text.specs.Tokens.{Token}
-use Rattle.simplecss_text.specs.Tokens.Token.{adjacent_combinator, attribute_selector, child_combinator, class_selector, descendant_combinator, id_selector, lang_pseudo_class, named_pseudo_class, type_selector, universal_selector}
-use Rattle.simplecss_text.specs.Pieces.{begins_subselector}
-use Rattle.simplecss_text.specs.Pieces.Ending.{within_piece, without_head}
-use Rattle.simplecss_text.specs.Neighbours.{Follows, Side, between, follows_as}
-use Rattle.simplecss_text.specs.Neighbours.Follows.{combinator, faulty_piece, slash, stop, subselector, type_name, universal}
+use Rattle.simplecss_text.specs.Pieces.{fault_ending}
+use Rattle.simplecss_text.specs.Pieces.Ending.{within_gap, within_piece, without_head}
+use Rattle.simplecss_text.specs.Neighbours.{Side, between}
 use Rattle.simplecss_text.specs.Neighbours.Side.{closed_side, open_side}
-use Rattle.simplecss_text.specs.TokenSequences.{TokenSequence, answered, sequence, sequence_from}
+use Rattle.simplecss_text.specs.TokenSequences.{TokenSequence, answered, ending_sequence, sequence_from}
 use Rattle.simplecss_text.specs.TokenSequences.TokenSequence.{item, sequence_end}
 use Rattle.simplecss_text.specs.Selectors.{Outcome, Role, after_role, outcome, with_role, role_of}
 use Rattle.simplecss_text.specs.Selectors.Outcome.{accepted, refused}
@@ -21,7 +20,8 @@ use Rattle.simplecss_text.proofs.reading.EndsLaws.{length-ends, no_texts}
 use Rattle.simplecss_text.proofs.reading.StandLaws.{sees_nothing}
 use Rattle.simplecss_text.proofs.reading.SequenceStandLaws.{SequenceStands, sequence_from-stands}
 use Rattle.simplecss_text.proofs.cutting.GuardLaws.{Along, To}
-use Rattle.simplecss_text.proofs.reading.SequenceSteps.{fault_end}
+use Rattle.simplecss_text.proofs.reading.TakesLaws.{length-past_one}
+use Rattle.simplecss_text.proofs.reading.KindLaws.{NamesStart, between-both, between-case, fault_ending-case}
 
 -- what an outcome leaves to read
 abbrev pub left_of : Outcome → List ℕ
@@ -57,69 +57,20 @@ after_role-guard g t u (with s) x y a b k h = with_role-guard g t u (with s) a b
 after_role-guard g t u (joint c) x y a b k h = with_role-guard g t u (joint c) a b h
 after_role-guard g t u unknown x y a b k h = inr (both_refused x y k)
 
--- the same follows in both texts
-pub data FollowsAlike (g : ℕ) (t u : List ℕ) : Follows → Follows → Type 0 where
-  subselectors : FollowsAlike g t u subselector subselector
-  universals : (a b : List ℕ) → Along g t u a b → FollowsAlike g t u (universal a) (universal b)
-  type_names : (a b : List ℕ) → Along g t u a b → FollowsAlike g t u (type_name a) (type_name b)
-  combinators : (a b : List ℕ) → Along g t u a b → FollowsAlike g t u (combinator a) (combinator b)
-
-pub follows_as-alike : (g : ℕ) (t u : List ℕ) (token : Token) (a b x y : List ℕ) → Along g t u a b → Along g t u x y → FollowsAlike g t u (follows_as token a x) (follows_as token b y)
-follows_as-alike g t u universal_selector a b x y h k = universals a b h
-follows_as-alike g t u (type_selector n) a b x y h k = type_names x y k
-follows_as-alike g t u (id_selector n) a b x y h k = subselectors
-follows_as-alike g t u (class_selector n) a b x y h k = subselectors
-follows_as-alike g t u (attribute_selector n o) a b x y h k = subselectors
-follows_as-alike g t u (named_pseudo_class n) a b x y h k = subselectors
-follows_as-alike g t u (lang_pseudo_class n) a b x y h k = subselectors
-follows_as-alike g t u descendant_combinator a b x y h k = combinators a b h
-follows_as-alike g t u child_combinator a b x y h k = combinators a b h
-follows_as-alike g t u adjacent_combinator a b x y h k = combinators a b h
-
 -- what stands before what follows, and then what comes
-pub answered-guard : (g : ℕ) (t u : List ℕ) (side : Side) (spaced : Bool) (e f : Follows) (a b : List ℕ) (p q : TokenSequence) → FollowsAlike g t u e f → OutcomeGuard g t u (outcome p) (outcome q) → OutcomeGuard g t u (outcome (answered (between side spaced e) a p)) (outcome (answered (between side spaced f) b q))
-answered-guard g t u open_side spaced e f a b p q subselectors h = h
-answered-guard g t u open_side spaced e f a b p q (universals x y k) h = h
-answered-guard g t u open_side spaced e f a b p q (type_names x y k) h = h
-answered-guard g t u open_side spaced e f a b p q (combinators x y k) h = inr (both_refused x y k)
-answered-guard g t u closed_side false e f a b p q subselectors h = h
-answered-guard g t u closed_side false e f a b p q (universals x y k) h = inr (both_refused x y k)
-answered-guard g t u closed_side false e f a b p q (type_names x y k) h = inr (both_refused x y k)
-answered-guard g t u closed_side false e f a b p q (combinators x y k) h = h
-answered-guard g t u closed_side true e f a b p q subselectors h = with_role-guard g t u (joint descendant) (outcome p) (outcome q) h
-answered-guard g t u closed_side true e f a b p q (universals x y k) h = with_role-guard g t u (joint descendant) (outcome p) (outcome q) h
-answered-guard g t u closed_side true e f a b p q (type_names x y k) h = with_role-guard g t u (joint descendant) (outcome p) (outcome q) h
-answered-guard g t u closed_side true e f a b p q (combinators x y k) h = h
-
--- a piece that leaves no more than n bytes, and where its place decides, begins with no more
-abbrev pub PassedBy : ℕ → Follows → Type 0
-PassedBy n subselector = Unit {0}
-PassedBy n (universal start) = length start ≤ n
-PassedBy n (type_name after) = length after ≤ n
-PassedBy n (combinator start) = length start ≤ n
-PassedBy n (stop start) = ⊥
-PassedBy n (slash start) = ⊥
-PassedBy n faulty_piece = ⊥
+pub answered-guard : (g : ℕ) (t u : List ℕ) (side : Side) (spaced : Bool) (kind : NextKind) (a x b y : List ℕ) (p q : TokenSequence) → Along g t u a b → To g t u x y → OutcomeGuard g t u (outcome p) (outcome q) → OutcomeGuard g t u (outcome (answered (between side spaced kind a x) a p)) (outcome (answered (between side spaced kind b y) b q))
+answered-guard g t u side spaced kind a x b y p q h k c =
+    between-both (λ one other. OutcomeGuard g t u (outcome (answered one a p)) (outcome (answered other b q))) side spaced kind a x b y
+    c (λ e. with_role-guard g t u (joint descendant) (outcome p) (outcome q) c) (λ f e n. inr (both_refused a b h)) (λ f e. refused-guard g t u x y k)
 
 with_role-passed : (n : ℕ) (role : Role) (o : Outcome) → length (left_of o) ≤ n → length (left_of (with_role role o)) ≤ n
 with_role-passed n role o l = rw (left_of-with_role role o) l
 
-pub answered-passed : (n : ℕ) (side : Side) (spaced : Bool) (f : Follows) (start : List ℕ) (next : TokenSequence) → PassedBy n f → length (left_of (outcome next)) ≤ n → length (left_of (outcome (answered (between side spaced f) start next))) ≤ n
-answered-passed n open_side spaced subselector start next p l = l
-answered-passed n open_side spaced (universal x) start next p l = l
-answered-passed n open_side spaced (type_name x) start next p l = l
-answered-passed n open_side spaced (combinator x) start next p l = p
-answered-passed n closed_side false subselector start next p l = l
-answered-passed n closed_side false (universal x) start next p l = p
-answered-passed n closed_side false (type_name x) start next p l = p
-answered-passed n closed_side false (combinator x) start next p l = l
-answered-passed n closed_side true subselector start next p l = with_role-passed n (joint descendant) (outcome next) l
-answered-passed n closed_side true (universal x) start next p l = with_role-passed n (joint descendant) (outcome next) l
-answered-passed n closed_side true (type_name x) start next p l = with_role-passed n (joint descendant) (outcome next) l
-answered-passed n closed_side true (combinator x) start next p l = l
-answered-passed n side spaced (stop x) start next p l = absurd p
-answered-passed n side spaced (slash x) start next p l = absurd p
-answered-passed n side spaced faulty_piece start next p l = absurd p
+-- where the places that the table names leave no more than n bytes
+pub answered-passed : (n : ℕ) (side : Side) (spaced : Bool) (kind : NextKind) (start after : List ℕ) (next : TokenSequence) → (NamesStart kind → length start ≤ n) → length after ≤ n → length (left_of (outcome next)) ≤ n → length (left_of (outcome (answered (between side spaced kind start after) start next))) ≤ n
+answered-passed n side spaced kind start after next s a l =
+    between-case (λ answer. length (left_of (outcome (answered answer start next))) ≤ n) side spaced kind start after
+    l (λ e. with_role-passed n (joint descendant) (outcome next) l) (λ f k. s k) (λ f. a)
 
 pub after_role-passed : (n : ℕ) (role : Role) (after : List ℕ) (o : Outcome) → length after ≤ n → length (left_of o) ≤ n → length (left_of (after_role role after o)) ≤ n
 after_role-passed n any_type after o a l = with_role-passed n any_type o l
@@ -139,27 +90,38 @@ length-left_of n text (item (Ok token) after rest) l h =
 pub left_of-sequence : (edition : Edition) (side : Side) (n : ℕ) (text : List ℕ) → length text ≤ n → length (left_of (outcome (sequence_from edition side text))) ≤ n
 left_of-sequence edition side n text l = length-left_of n text (sequence_from edition side text) l (sequence_from-stands sees_nothing edition side text tt)
 
--- a piece that begins and ends where no more than n bytes are left
-pub follows_as-passed : (n : ℕ) (token : Token) (start after : List ℕ) → length start ≤ n → length after ≤ n → PassedBy n (follows_as token start after)
-follows_as-passed n universal_selector start after s a = s
-follows_as-passed n (type_selector x) start after s a = a
-follows_as-passed n (id_selector x) start after s a = tt
-follows_as-passed n (class_selector x) start after s a = tt
-follows_as-passed n (attribute_selector x o) start after s a = tt
-follows_as-passed n (named_pseudo_class x) start after s a = tt
-follows_as-passed n (lang_pseudo_class x) start after s a = tt
-follows_as-passed n descendant_combinator start after s a = s
-follows_as-passed n child_combinator start after s a = s
-follows_as-passed n adjacent_combinator start after s a = s
+-- ---- endings
+
+headless-outcome : (side : Side) (spaced : Bool) (start : List ℕ) (fault : Fault) (after : List ℕ) → outcome (ending_sequence side (without_head spaced start fault after)) ≡ refused after
+headless-outcome open_side spaced start fault after = refl
+headless-outcome closed_side true start fault after = refl
+headless-outcome closed_side false start fault after = refl
+
+broken-outcome : (side : Side) (spaced : Bool) (start : List ℕ) (fault : Fault) (after : List ℕ) → outcome (ending_sequence side (within_piece spaced start fault after)) ≡ refused after
+broken-outcome open_side spaced start fault after = refl
+broken-outcome closed_side true start fault after = refl
+broken-outcome closed_side false start fault after = refl
+
+pub open_gap-outcome : (side : Side) (fault : Fault) (after : List ℕ) → outcome (ending_sequence side (within_gap fault after)) ≡ refused after
+open_gap-outcome open_side fault after = refl
+open_gap-outcome closed_side fault after = refl
+
+-- neither a stop nor a slash
+abbrev pub IsSolid : NextKind → Type 0
+IsSolid Stop = ⊥
+IsSolid Slash = ⊥
+IsSolid kind = Unit {0}
 
 -- the outcome at a fault of a solid piece
-pub fault_end-outcome : (side : Side) (spaced : Bool) (start : List ℕ) (fault : Fault) (after : List ℕ) → outcome (sequence side [] (fault_end spaced start fault after)) ≡ refused after
-fault_end-outcome side spaced start fault after = by side spaced (starts_by begins_subselector start)
-  where
-    by : (l : Side) (s k : Bool) → outcome (sequence l [] (if k then within_piece s start fault after else without_head s start fault after)) ≡ refused after
-    by open_side s true = refl
-    by open_side s false = refl
-    by closed_side true true = refl
-    by closed_side true false = refl
-    by closed_side false true = refl
-    by closed_side false false = refl
+pub fault_ending-outcome : (side : Side) (kind : NextKind) (spaced : Bool) (start : List ℕ) (fault : Fault) (after : List ℕ) → IsSolid kind → outcome (ending_sequence side (fault_ending kind spaced start fault after)) ≡ refused after
+fault_ending-outcome side kind spaced start fault after w =
+    fault_ending-case (λ end. outcome (ending_sequence side end) ≡ refused after) kind spaced start fault after
+    (λ k. absurd (subst IsSolid k w)) (λ k. absurd (subst IsSolid k w))
+    (headless-outcome side spaced start fault after) (broken-outcome side spaced start fault after)
+
+pub fault_ending-within : (n : ℕ) (side : Side) (kind : NextKind) (spaced : Bool) (start : List ℕ) (fault : Fault) (after : List ℕ) → length start ≤ n → length after ≤ n → length (left_of (outcome (ending_sequence side (fault_ending kind spaced start fault after)))) ≤ n
+fault_ending-within n side kind spaced start fault after s a =
+    fault_ending-case (λ end. length (left_of (outcome (ending_sequence side end))) ≤ n) kind spaced start fault after
+    (λ k. answered-passed n side spaced Stop start start (sequence_end start) (λ m. s) s s)
+    (λ k. answered-passed n side spaced Slash start (past_one start) (sequence_end start) (λ m. s) (omega (arith, s, length-past_one start)) s)
+    (rw (headless-outcome side spaced start fault after) a) (rw (broken-outcome side spaced start fault after) a)

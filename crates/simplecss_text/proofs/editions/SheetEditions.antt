@@ -19,7 +19,7 @@ use Rattle.simplecss_text.proofs.reading.DeclarationsLawful.{declaration-lawful,
 use Rattle.simplecss_text.proofs.cutting.StatementEnds.{part_and_comma-ends, parts-ends}
 use Rattle.simplecss_text.proofs.cutting.StatementCuts.{next_statement-well}
 use Rattle.simplecss_text.proofs.editions.EditionLaws.{Shared, each-editions, if-editions, name-editions, shared-ends, shared-from}
-use Rattle.simplecss_text.specs.Pieces.{solid, Piece, ending, fault_ending, gap_ending, ends_selector, next_piece, piece, pieces, solid}
+use Rattle.simplecss_text.specs.Pieces.{Piece, ending, solid_ending, gap_ending, next_kind, next_piece, piece, pieces, solid}
 use Rattle.simplecss_text.specs.Neighbours.{Side}
 use Rattle.simplecss_text.specs.Neighbours.Side.{open_side}
 use Rattle.simplecss_text.specs.TokenSequences.{TokenSequence, sequence, sequence_from}
@@ -34,10 +34,10 @@ unfolding piece
 piece-editions text h = by (gap text) (gap-stands text)
   where
     solid_then : Edition → Bool → Reader Piece
-    solid_then edition spaced start = follow (solid edition start) (λ token after. got (record { spaced = spaced; start = start; token = token; after = after }) after)
+    solid_then edition spaced start = follow (solid edition start) (λ token after. got (record { spaced = spaced; start = start; kind = next_kind start; token = token; after = after }) after)
 
     by : (r : Reading Bool) → Stands text no_texts r → follow r (solid_then first_edition) ≡ follow r (solid_then second_edition)
-    by (got spaced start) s = ap (λ r. follow r (λ token after. got (record { spaced = spaced; start = start; token = token; after = after }) after)) ((solid-lawful start start).same (shared-ends text start s.at h))
+    by (got spaced start) s = ap (λ r. follow r (λ token after. got (record { spaced = spaced; start = start; kind = next_kind start; token = token; after = after }) after)) ((solid-lawful start start).same (shared-ends text start s.at h))
     by (fails fault after) s = refl
 
 next_piece-ends : (edition : Edition) (text : List ℕ) → EndsFound text (next_piece edition text)
@@ -56,10 +56,7 @@ ending-editions text h = by (gap text) (gap-stands text)
   where
     by : (r : Reading Bool) → Stands text no_texts r → gap_ending first_edition r ≡ gap_ending second_edition r
     by (fails fault after) s = refl
-    by (got spaced start) s =
-        if-editions (ends_selector start) _ _ _ _ refl
-        (if-editions (starts 47 start) _ _ _ _ refl
-        (ap (fault_ending spaced start) ((solid-lawful start start).same (shared-ends text start s.at h))))
+    by (got spaced start) s = ap (solid_ending spaced start) ((solid-lawful start start).same (shared-ends text start s.at h))
 
 sequence_from-editions : (side : Side) (text : List ℕ) → Shared text → sequence_from first_edition side text ≡ sequence_from second_edition side text
 unfolding sequence_from

@@ -12,14 +12,13 @@ use Rattle.simplecss_text.specs.Comments.{opens_comment, blank_part, past_blank,
 use Rattle.simplecss_text.specs.Names.{past_name_chars, name}
 use Rattle.simplecss_text.specs.Tokens.{Token}
 use Rattle.simplecss_text.specs.Tokens.Token.{universal_selector, type_selector}
-use Rattle.simplecss_text.specs.Pieces.{named_token, solid_by_byte, solid}
+use Rattle.simplecss_text.specs.Pieces.{named_token, next_kind, solid}
 use Rattle.simplecss_text.specs.Selectors.{Role}
 use Rattle.simplecss_text.specs.Selectors.Role.{any_type, of_type}
 use Rattle.simplecss_text.specs.Printing.{type_text}
 use Rattle.simplecss_text.proofs.reading.EachLaws.{each-none, each-some}
 use Rattle.simplecss_text.proofs.reading.TakesLaws.{blank_part-takes}
 use Rattle.simplecss_text.proofs.printed.PrintedNames.{IsName, name-reads, ends_names, begins_any_name}
-use Rattle.simplecss_text.proofs.printed.PrintedPieces.{solid-by_byte}
 
 -- a byte that may begin a name: a name character, or one past ASCII
 abbrev pub IsNameByte : Edition → ℕ → Type 0
@@ -119,18 +118,15 @@ no_gap-name edition b text w = no_gap-byte b text (rw (no 32 (omega arith) (low 
     no : (k : ℕ) → k < 128 → is_name_char edition k ≡ false → (b == k) ≡ false
     no k less e = other_byte edition k b less e w
 
-solid_by_byte-type : (edition : Edition) (b : ℕ) (text : List ℕ) → (b == 62) ≡ false → (b == 43) ≡ false → (b == 42) ≡ false → (b == 35) ≡ false → (b == 46) ≡ false → (b == 91) ≡ false → (b == 58) ≡ false → solid_by_byte edition (b ∷ text) ≡ named_token edition type_selector (b ∷ text)
-unfolding solid_by_byte
-solid_by_byte-type edition b text p q r s t u v = rw (p, q, r, s, t, u, v) refl
-
 named_token-type : (edition : Edition) (n tail : List ℕ) → IsName edition n → ends_names edition tail ≡ false → named_token edition type_selector (n ++ tail) ≡ got (type_selector n) tail
 unfolding named_token
 named_token-type edition n tail w e = let read = name-reads edition n tail w e in rw read refl
 
+-- what begins like a name is a type
 solid-name_byte : (edition : Edition) (b : ℕ) (text : List ℕ) → IsNameByte edition b → solid edition (b ∷ text) ≡ named_token edition type_selector (b ∷ text)
+unfolding solid next_kind
 solid-name_byte edition b text w =
-    solid-by_byte edition b text (no 44 (omega arith) (low edition).0) (no 123 (omega arith) (low edition).1) (no 47 (omega arith) (low edition).2)
-    ∙ solid_by_byte-type edition b text (no 62 (omega arith) (low edition).3) (no 43 (omega arith) (low edition).4) (no 42 (omega arith) (low edition).5) (no 35 (omega arith) (low edition).6) (no 46 (omega arith) (low edition).7) (no 91 (omega arith) (low edition).8) (no 58 (omega arith) (low edition).9)
+    rw (no 44 (omega arith) (low edition).0, no 123 (omega arith) (low edition).1, no 47 (omega arith) (low edition).2, no 62 (omega arith) (low edition).3, no 43 (omega arith) (low edition).4, no 42 (omega arith) (low edition).5, no 35 (omega arith) (low edition).6, no 46 (omega arith) (low edition).7, no 91 (omega arith) (low edition).8, no 58 (omega arith) (low edition).9) refl
   where
     low : (edition : Edition) → (is_name_char edition 44 ≡ false) × (is_name_char edition 123 ≡ false) × (is_name_char edition 47 ≡ false) × (is_name_char edition 62 ≡ false) × (is_name_char edition 43 ≡ false) × (is_name_char edition 42 ≡ false) × (is_name_char edition 35 ≡ false) × (is_name_char edition 46 ≡ false) × (is_name_char edition 91 ≡ false) × (is_name_char edition 58 ≡ false)
     low first_edition = (refl, refl, refl, refl, refl, refl, refl, refl, refl, refl)
@@ -146,7 +142,7 @@ IsTypeName edition None behind = Unit {0}
 IsTypeName edition (Some n) behind = IsName edition n ⊎ ((n ≡ 45 ∷ []) × (behind ≡ []))
 
 hyphen-reads : (edition : Edition) → solid edition (45 ∷ []) ≡ got (type_selector (45 ∷ [])) []
-unfolding solid solid_by_byte named_token name past_name_chars chars encode
+unfolding solid next_kind named_token name past_name_chars chars encode
 hyphen-reads first_edition = refl
 hyphen-reads second_edition = refl
 
@@ -160,13 +156,13 @@ abbrev pub head_role : Option (List ℕ) → Role
 head_role None = any_type
 head_role (Some n) = of_type n
 
-solid_by_byte-star : (edition : Edition) (text : List ℕ) → solid_by_byte edition (42 ∷ text) ≡ got universal_selector text
-unfolding solid_by_byte
-solid_by_byte-star edition text = refl
+solid-star : (edition : Edition) (text : List ℕ) → solid edition (42 ∷ text) ≡ got universal_selector text
+unfolding solid next_kind
+solid-star edition text = refl
 
 -- a printed head is one solid piece, and behind no gap
 pub head-reads : (edition : Edition) (o : Option (List ℕ)) (tail : List ℕ) → IsTypeName edition o tail → ends_names edition tail ≡ false → solid edition (type_text o ++ tail) ≡ got (head_token o) tail
-head-reads edition None tail w e = solid-by_byte edition 42 tail refl refl refl ∙ solid_by_byte-star edition tail
+head-reads edition None tail w e = solid-star edition tail
 head-reads edition (Some n) tail (inr h) e = ap (solid edition) (ap (λ l. l ++ tail) h.0 ∙ ap (λ l. 45 ∷ l) h.1) ∙ hyphen-reads edition ∙ ap (λ m. got (type_selector m) []) (sym h.0) ∙ ap (got (type_selector n)) (sym h.1)
 head-reads edition (Some n) tail (inl w) e =
     let f = name-first edition n w in

@@ -17,7 +17,7 @@ use Rattle.simplecss_text.specs.Components.KnownPseudoClass.{first_child, link, 
 use Rattle.simplecss_text.specs.Components.Subselector.{attribute, pseudo_class}
 use Rattle.simplecss_text.specs.Tokens.{Token}
 use Rattle.simplecss_text.specs.Tokens.Token.{attribute_selector, named_pseudo_class, lang_pseudo_class}
-use Rattle.simplecss_text.specs.Pieces.{attribute_operator, equated, attribute_after, lang_of, lang_after, pseudo_class_named, pseudo_class_after, solid_by_byte, solid}
+use Rattle.simplecss_text.specs.Pieces.{attribute_operator, equated, attribute_after, lang_of, lang_after, pseudo_class_named, pseudo_class_after, next_kind, solid}
 use Rattle.simplecss_text.specs.Selectors.{role_of}
 use Rattle.simplecss_text.specs.Selectors.Role.{with}
 use Rattle.simplecss_text.specs.Printing.{pseudo_class_text, operator_text, subselector_text, escaped_after, is_clean_operator, is_clean_subselector}
@@ -274,24 +274,18 @@ bracketed n o tail = append_assoc (n ++ o) (93 ∷ []) tail ∙ append_assoc n o
 pub some-length : (b : ℕ) (text : List ℕ) → (length (b ∷ text) == 0) ≡ false
 some-length b text = grind arith
 
--- where no stop and no slash stands, a solid piece is what the byte begins
-pub solid-by_byte : (edition : Edition) (b : ℕ) (text : List ℕ) → (b == 44) ≡ false → (b == 123) ≡ false → (b == 47) ≡ false → solid edition (b ∷ text) ≡ solid_by_byte edition (b ∷ text)
-unfolding solid
-solid-by_byte edition b text comma brace slash = let some = some-length b text in rw (some, comma, brace, slash) refl
+-- a bracket begins an attribute, and a colon a pseudo-class
+pub solid-attribute : (edition : Edition) (text : List ℕ) → solid edition (91 ∷ text) ≡ attribute_after edition text
+unfolding solid next_kind
+solid-attribute edition text = refl
 
--- a bracket begins an attribute
-pub solid_by_byte-attribute : (edition : Edition) (text : List ℕ) → solid_by_byte edition (91 ∷ text) ≡ attribute_after edition text
-unfolding solid_by_byte
-solid_by_byte-attribute edition text = refl
-
-solid_by_byte-class : (edition : Edition) (text : List ℕ) → solid_by_byte edition (58 ∷ text) ≡ pseudo_class_after edition text
-unfolding solid_by_byte
-solid_by_byte-class edition text = refl
+solid-pseudo_class : (edition : Edition) (text : List ℕ) → solid edition (58 ∷ text) ≡ pseudo_class_after edition text
+unfolding solid next_kind
+solid-pseudo_class edition text = refl
 
 -- a printed subselector is one solid piece
 pub subselector-reads : (edition : Edition) (s : Subselector) (tail : List ℕ) → IsSubselector edition s → is_clean_subselector s ≡ true → ends_names edition tail ≡ false → solid edition (subselector_text s ++ tail) ≡ got (printed_token s) tail
 subselector-reads edition (attribute n o) tail w c e =
-    solid-by_byte edition 91 (((n ++ operator_text o) ++ (93 ∷ [])) ++ tail) refl refl refl ∙ solid_by_byte-attribute edition (((n ++ operator_text o) ++ (93 ∷ [])) ++ tail)
+    solid-attribute edition (((n ++ operator_text o) ++ (93 ∷ [])) ++ tail)
     ∙ ap (attribute_after edition) (bracketed n (operator_text o) tail) ∙ attribute-reads edition n o tail w.0 w.1 c
-subselector-reads edition (pseudo_class class) tail w c e =
-    solid-by_byte edition 58 (pseudo_class_text class ++ tail) refl refl refl ∙ solid_by_byte-class edition (pseudo_class_text class ++ tail) ∙ class-reads edition class tail w e
+subselector-reads edition (pseudo_class class) tail w c e = solid-pseudo_class edition (pseudo_class_text class ++ tail) ∙ class-reads edition class tail w e

@@ -3,16 +3,17 @@
 -- again).
 use Rattle.std.proofs.Common.{◌≡◌, ℕ, ◌<◌, List, [], ◌∷◌, ◌++◌, Bool, true, false, map, refl, sym, ap, ◌∙◌, subst, append_assoc, append-nil, arith, Option, Some, None}
 use Rattle.std.specs.List.{list_all, flat_map}
-use Rattle.simplecss_text.specs.Reading.{got}
+use Rattle.simplecss_text.specs.Reading.{no_selector, got, fails}
+use Rattle.simplecss_text.specs.declared.next_kind.NextKind.TheVariants.{Stop}
 use Rattle.simplecss_text.specs.Characters.{Edition, first_edition, second_edition, is_name_char}
 use Rattle.simplecss_text.specs.Comments.{blank_part, gap}
 use Rattle.simplecss_text.specs.Components.{Subselector, Combinator, Compound, Component}
-use Rattle.simplecss_text.specs.Components.KnownPseudoClass.{first_child, link, visited, hover, active, focus, lang}
 use Rattle.simplecss_text.specs.Components.Subselector.{attribute, pseudo_class}
 use Rattle.simplecss_text.specs.Components.Combinator.{none, descendant, child, adjacent}
+use Rattle.simplecss_text.specs.Tokens.{Token}
 use Rattle.simplecss_text.specs.Tokens.Token.{child_combinator, adjacent_combinator}
-use Rattle.simplecss_text.specs.Pieces.{solid_by_byte, solid, ends_selector}
-use Rattle.simplecss_text.specs.Neighbours.{Side, before_piece, side_behind}
+use Rattle.simplecss_text.specs.Pieces.{IsSimplePiece, next_kind, solid}
+use Rattle.simplecss_text.specs.Neighbours.{Side, between, side_behind}
 use Rattle.simplecss_text.specs.Neighbours.Side.{open_side, closed_side}
 use Rattle.simplecss_text.specs.TokenSequences.{TokenSequence, sequence_from, sequence_of, answered, token_then}
 use Rattle.simplecss_text.specs.Selectors.{Role, with_role, after_role, outcome, cut, type_among, subselectors_among, component_of, components_of, selector_of, reads}
@@ -20,10 +21,10 @@ use Rattle.simplecss_text.specs.Selectors.Role.{any_type, of_type, with, joint}
 use Rattle.simplecss_text.specs.Selectors.Outcome.{accepted}
 use Rattle.simplecss_text.specs.Printing.{subselector_text, type_text, component_text, selector_text, is_clean_subselector, is_clean}
 use Rattle.simplecss_text.proofs.reading.EachLaws.{each-none}
-use Rattle.simplecss_text.proofs.reading.SequenceLaws.{sequence_from-piece}
-use Rattle.simplecss_text.proofs.reading.JoiningLaws.{piece_of, piece-read, descends-token, sequence_from-stop}
+use Rattle.simplecss_text.proofs.reading.SequenceSteps.{solid_sequence, sequence_from-solid, sequence_from-kind}
+use Rattle.simplecss_text.proofs.printed.TokenKinds.{kind_of, sequence_from-token, descends-token}
 use Rattle.simplecss_text.proofs.printed.PrintedNames.{both_true, ends_names, ends_names-byte, ends_names-nil}
-use Rattle.simplecss_text.proofs.printed.PrintedPieces.{IsSubselector, printed_token, printed_token-role, subselector-reads, solid-by_byte, some-length}
+use Rattle.simplecss_text.proofs.printed.PrintedPieces.{IsSubselector, printed_token, printed_token-role, subselector-reads}
 use Rattle.simplecss_text.proofs.printed.PrintedHeads.{NoGap, no_gap-byte, gap-none, gap-space, IsTypeName, head_token, head_role, head-reads, head-no_gap}
 
 -- Behind a simple piece the text goes on with these roles, and then this is left. No name goes on
@@ -47,22 +48,17 @@ pub subselector-no_gap : (s : Subselector) (tail : List ℕ) → NoGap (subselec
 subselector-no_gap (attribute n o) tail = no_gap-byte 91 _ refl refl
 subselector-no_gap (pseudo_class class) tail = no_gap-byte 58 _ refl refl
 
-subselector-answer : (s : Subselector) (start after : List ℕ) (rest : Side → TokenSequence) → answered (before_piece closed_side (piece_of false start (printed_token s) after)) start (token_then (printed_token s) after (rest (side_behind (printed_token s)))) ≡ token_then (printed_token s) after (rest closed_side)
-subselector-answer (attribute n o) start after rest = refl
-subselector-answer (pseudo_class first_child) start after rest = refl
-subselector-answer (pseudo_class link) start after rest = refl
-subselector-answer (pseudo_class visited) start after rest = refl
-subselector-answer (pseudo_class hover) start after rest = refl
-subselector-answer (pseudo_class active) start after rest = refl
-subselector-answer (pseudo_class focus) start after rest = refl
-subselector-answer (pseudo_class (lang v)) start after rest = refl
+subselector-goes_on : (edition : Edition) (s : Subselector) (token : Token) (tail : List ℕ) → solid_sequence edition closed_side false (next_kind (subselector_text s ++ tail)) (subselector_text s ++ tail) (got token tail) ≡ token_then token tail (sequence_from edition closed_side tail)
+unfolding next_kind
+subselector-goes_on edition (attribute n o) token tail = refl
+subselector-goes_on edition (pseudo_class class) token tail = refl
 
 -- behind a simple piece a printed subselector is its token
 pub subselector-sequence : (edition : Edition) (s : Subselector) (tail : List ℕ) → IsSubselector edition s → is_clean_subselector s ≡ true → ends_names edition tail ≡ false → sequence_from edition closed_side (subselector_text s ++ tail) ≡ token_then (printed_token s) tail (sequence_from edition closed_side tail)
 subselector-sequence edition s tail w c e =
     let text = subselector_text s ++ tail in
-    sequence_from-piece edition closed_side text tail (piece_of false text (printed_token s) tail) (piece-read edition text text tail false (printed_token s) (gap-none text (subselector-no_gap s tail)) (subselector-reads edition s tail w c e))
-    ∙ subselector-answer s text tail (λ left. sequence_from edition left tail)
+    sequence_from-solid edition closed_side text text false (got (printed_token s) tail) (gap-none text (subselector-no_gap s tail)) (subselector-reads edition s tail w c e)
+    ∙ subselector-goes_on edition s (printed_token s) tail
 
 -- and goes on as what follows it
 subselector-goes : (edition : Edition) (s : Subselector) (tail left : List ℕ) (roles : List Role) → IsSubselector edition s → is_clean_subselector s ≡ true → Goes edition tail roles left → Goes edition (subselector_text s ++ tail) (with s ∷ roles) left
@@ -88,7 +84,7 @@ subselectors-go edition (s ∷ ss) tail left roles w c g =
     (subselector-goes edition s (flat_map subselector_text ss ++ tail) left (map with ss ++ roles) w.0 h.0 more)
 
 -- behind an open left side nothing stands before a head
-pub head-answer : (o : Option (List ℕ)) (spaced : Bool) (start after : List ℕ) (rest : Side → TokenSequence) → answered (before_piece open_side (piece_of spaced start (head_token o) after)) start (token_then (head_token o) after (rest (side_behind (head_token o)))) ≡ token_then (head_token o) after (rest closed_side)
+pub head-answer : (o : Option (List ℕ)) (spaced : Bool) (start after : List ℕ) (rest : Side → TokenSequence) → answered (between open_side spaced (kind_of (head_token o)) start after) start (token_then (head_token o) after (rest (side_behind (kind_of (head_token o))))) ≡ token_then (head_token o) after (rest closed_side)
 head-answer None spaced start after rest = refl
 head-answer (Some n) spaced start after rest = refl
 
@@ -96,16 +92,16 @@ head-outcome : (o : Option (List ℕ)) (after left : List ℕ) (roles : List Rol
 head-outcome None after left roles rest e = ap (with_role any_type) e
 head-outcome (Some n) after left roles rest e = ap (with_role (of_type n)) e
 
--- a head closes the left side
-pub head-closes : (o : Option (List ℕ)) → side_behind (head_token o) ≡ closed_side
-head-closes None = refl
-head-closes (Some n) = refl
+-- a head is a simple piece
+pub head-simple : (o : Option (List ℕ)) → IsSimplePiece (kind_of (head_token o))
+head-simple None = tt
+head-simple (Some n) = tt
 
 -- behind an open left side stands a head, after a gap
 head-opens : (edition : Edition) (o : Option (List ℕ)) (text tail left : List ℕ) (spaced : Bool) (roles : List Role) → IsTypeName edition o tail → gap text ≡ got spaced (type_text o ++ tail) → Goes edition tail roles left → outcome (sequence_from edition open_side text) ≡ accepted (head_role o ∷ roles) left
 head-opens edition o text tail left spaced roles w gapped g =
     let start = type_text o ++ tail in
-    ap outcome (sequence_from-piece edition open_side text tail (piece_of spaced start (head_token o) tail) (piece-read edition text start tail spaced (head_token o) gapped (head-reads edition o tail w g.ends)))
+    ap outcome (sequence_from-token edition open_side text start tail spaced (head_token o) gapped (head-reads edition o tail w g.ends))
     ∙ ap outcome (head-answer o spaced start tail (λ l. sequence_from edition l tail))
     ∙ head-outcome o tail left roles (sequence_from edition closed_side tail) g.runs
 
@@ -162,20 +158,20 @@ compound-solid edition c tail left roles w clean g =
     ∙ head-reads edition c.name (flat_map subselector_text c.subselectors ++ tail) w.head (subselectors-go edition c.subselectors tail left roles w.others clean g).ends
 
 solid-child : (edition : Edition) (text : List ℕ) → solid edition (62 ∷ text) ≡ got child_combinator text
-unfolding solid_by_byte
-solid-child edition text = solid-by_byte edition 62 text refl refl refl
+unfolding solid next_kind
+solid-child edition text = refl
 
 solid-adjacent : (edition : Edition) (text : List ℕ) → solid edition (43 ∷ text) ≡ got adjacent_combinator text
-unfolding solid_by_byte
-solid-adjacent edition text = solid-by_byte edition 43 text refl refl refl
+unfolding solid next_kind
+solid-adjacent edition text = refl
 
 -- a child combinator between spaces
 pub child-sequence : (edition : Edition) (text : List ℕ) → sequence_from edition closed_side (32 ∷ 62 ∷ text) ≡ token_then child_combinator text (sequence_from edition open_side text)
-child-sequence edition text = sequence_from-piece edition closed_side (32 ∷ 62 ∷ text) text (piece_of true (62 ∷ text) child_combinator text) (piece-read edition (32 ∷ 62 ∷ text) (62 ∷ text) text true child_combinator (gap-space (62 ∷ text) (no_gap-byte 62 text refl refl)) (solid-child edition text))
+child-sequence edition text = sequence_from-token edition closed_side (32 ∷ 62 ∷ text) (62 ∷ text) text true child_combinator (gap-space (62 ∷ text) (no_gap-byte 62 text refl refl)) (solid-child edition text)
 
 -- an adjacent combinator between spaces
 pub adjacent-sequence : (edition : Edition) (text : List ℕ) → sequence_from edition closed_side (32 ∷ 43 ∷ text) ≡ token_then adjacent_combinator text (sequence_from edition open_side text)
-adjacent-sequence edition text = sequence_from-piece edition closed_side (32 ∷ 43 ∷ text) text (piece_of true (43 ∷ text) adjacent_combinator text) (piece-read edition (32 ∷ 43 ∷ text) (43 ∷ text) text true adjacent_combinator (gap-space (43 ∷ text) (no_gap-byte 43 text refl refl)) (solid-adjacent edition text))
+adjacent-sequence edition text = sequence_from-token edition closed_side (32 ∷ 43 ∷ text) (43 ∷ text) text true adjacent_combinator (gap-space (43 ∷ text) (no_gap-byte 43 text refl refl)) (solid-adjacent edition text)
 
 -- the text of a component, by its combinator and its compound
 abbrev pub joined_text : Combinator → List ℕ → List ℕ
@@ -202,7 +198,7 @@ joined-goes edition descendant c tail left roles n w clean g =
     let calm = compound-no_gap edition c tail w in
     record {
       ends = ends_low edition 32 text (omega arith) refl refl;
-      runs = ap outcome (descends-token edition (32 ∷ text) text behind (head_token c.name) (gap-space text calm) (compound-solid edition c tail left roles w clean g) (head-closes c.name))
+      runs = ap outcome (descends-token edition (32 ∷ text) text behind (head_token c.name) (gap-space text calm) (compound-solid edition c tail left roles w clean g) (head-simple c.name))
           ∙ ap (with_role (joint descendant)) (compound-opens edition c text tail left false roles w clean (gap-none text calm) g);
     }
 joined-goes edition child c tail left roles n w clean g =
@@ -328,20 +324,21 @@ printed-reads edition (c ∷ cs) tail left w clean g =
 
 -- what does not go on with a selector: the end, and a space with a brace behind it
 
-stop-outcome : (edition : Edition) (text start : List ℕ) (spaced : Bool) → gap text ≡ got spaced start → ends_selector start ≡ true → outcome (sequence_from edition closed_side text) ≡ accepted [] start
-stop-outcome edition text start false g e = ap outcome (sequence_from-stop edition closed_side text start false g e)
-stop-outcome edition text start true g e = ap outcome (sequence_from-stop edition closed_side text start true g e)
+stop-outcome : (edition : Edition) (text start : List ℕ) (spaced : Bool) → gap text ≡ got spaced start → next_kind start ≡ Stop → outcome (sequence_from edition closed_side text) ≡ accepted [] start
+stop-outcome edition text start spaced g e = ap outcome (sequence_from-kind edition closed_side text start spaced Stop (fails no_selector start) g e refl)
 
 nil-no_gap : NoGap []
 nil-no_gap = record { none = each-none blank_part [] refl; closed = refl }
 
 -- the end of the text
 pub goes-end : (edition : Edition) → Goes edition [] [] []
+unfolding next_kind
 goes-end edition = record { ends = ends_names-nil edition; runs = stop-outcome edition [] [] false (gap-none [] nil-no_gap) refl }
 
 -- a space and an opening brace
 pub goes-space_brace : (edition : Edition) (text : List ℕ) → Goes edition (32 ∷ 123 ∷ text) [] (123 ∷ text)
+unfolding next_kind
 goes-space_brace edition text = record {
   ends = ends_low edition 32 (123 ∷ text) (omega arith) refl refl;
-  runs = stop-outcome edition (32 ∷ 123 ∷ text) (123 ∷ text) true (gap-space (123 ∷ text) (no_gap-byte 123 text refl refl)) (rw (some-length 123 text) refl);
+  runs = stop-outcome edition (32 ∷ 123 ∷ text) (123 ∷ text) true (gap-space (123 ∷ text) (no_gap-byte 123 text refl refl)) refl;
 }

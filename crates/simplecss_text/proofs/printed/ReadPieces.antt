@@ -1,24 +1,27 @@
 -- What the solid pieces are that were read from a text.
 -- Serves `Selector::{parse, parse_front}` and `StyleSheet::parse` (a selector printed and read
 -- again).
-use Rattle.std.proofs.Common.{◌≡◌, ℕ, ◌⊎◌, inl, inr, List, [], ◌∷◌, ◌++◌, Bool, true, not, ◌||◌, ◌==◌, length, codes, bytes_eq, arith, refl, sym, ap, ◌∙◌, subst, IsUtf8}
+use Rattle.std.proofs.Common.{◌≡◌, ℕ, ◌⊎◌, inl, inr, List, [], ◌∷◌, ◌++◌, Bool, true, not, ◌==◌, length, codes, bytes_eq, arith, refl, sym, ap, ◌∙◌, subst, IsUtf8}
 use Rattle.std.specs.Str.{trim}
 use Rattle.std.specs.List.{list_all, prefix_len, take_while}
 use Rattle.std.proofs.lemmas.List.{take-append-drop}
 use Rattle.simplecss_text.proofs.reading.EndsLaws.{before-append}
-use Rattle.simplecss_text.specs.Reading.{Reading, ended, no_language, no_selector, got, fails, before}
-use Rattle.simplecss_text.specs.Bytes.{starts, past, byte, all_before}
+use Rattle.simplecss_text.specs.Reading.{Reading, ended, no_language, got, fails, before}
+use Rattle.simplecss_text.specs.Bytes.{past_one, past, byte, all_before}
+use Rattle.simplecss_text.specs.declared.next_kind.NextKind.{NextKind}
+use Rattle.simplecss_text.specs.declared.next_kind.NextKind.TheVariants.{Stop, Slash, Child, Adjacent, Universal, Id, Class, Attribute, Colon, Other}
 use Rattle.simplecss_text.specs.Characters.{Edition}
 use Rattle.simplecss_text.specs.Names.{name}
 use Rattle.simplecss_text.specs.Components.{Operator}
 use Rattle.simplecss_text.specs.Tokens.{Token}
 use Rattle.simplecss_text.specs.Tokens.Token.{universal_selector, type_selector, id_selector, class_selector, attribute_selector, named_pseudo_class, lang_pseudo_class, descendant_combinator, child_combinator, adjacent_combinator}
-use Rattle.simplecss_text.specs.Pieces.{attribute_operator, attribute_after, lang_of, lang_after, pseudo_class_named, pseudo_class_after, named_token, solid_by_byte, ends_selector, solid}
+use Rattle.simplecss_text.specs.Pieces.{attribute_operator, attribute_after, lang_of, lang_after, pseudo_class_named, pseudo_class_after, named_token, next_kind, solid_as, solid}
+use Rattle.simplecss_text.proofs.reading.KindLaws.{HasSign, sign-begins}
 use Rattle.simplecss_text.proofs.printed.PrintedNames.{IsName, both_true}
 use Rattle.simplecss_text.proofs.printed.PrintedPieces.{IsValue, IsOperator, IsLanguage}
 use Rattle.simplecss_text.proofs.bytes.Utf8Laws.{utf8-past_byte, utf8-before_byte, utf8-behind_byte}
 use Rattle.simplecss_text.proofs.bytes.TrimLaws.{Trimmed, trim-is}
-use Rattle.simplecss_text.proofs.printed.GotLaws.{IfGot, if_got, if_got-follow, if_got-if, byte-is, same_begins}
+use Rattle.simplecss_text.proofs.printed.GotLaws.{IfGot, if_got, if_got-follow, if_got-if, byte-is}
 use Rattle.simplecss_text.proofs.printed.ReadNames.{ReadName, name-is, taken_pass}
 use Rattle.simplecss_text.proofs.printed.ReadValues.{name-value_is}
 use Rattle.simplecss_text.proofs.printed.ReadOperators.{GoodOperator, attribute_operator-gives}
@@ -127,21 +130,23 @@ pseudo_class_after-gives edition text u =
     if_got-follow (λ n rest. ReadName edition text n rest) (ReadToken edition) (name edition text) pseudo_class_named (name-gives edition text u) (λ n rest w.
     if_got-if (ReadToken edition) (bytes_eq n (codes "lang")) (lang_after rest) (got (named_pseudo_class n) rest) (λ e. lang_after-gives edition rest w.rest_is) (λ e. (tt, w.rest_is)))
 
-solid_by_byte-gives : (edition : Edition) (text : List ℕ) → IsUtf8 text → IfGot (ReadToken edition) (solid_by_byte edition text)
-unfolding solid_by_byte
-solid_by_byte-gives edition [] u = named_token-gives edition type_selector [] (λ n rest w. w.is) u
-solid_by_byte-gives edition (b ∷ text) u =
-    let P = ReadToken edition in
-    if_got-if P (b == 62) (got child_combinator text) _ (λ e. (tt, utf8-past_byte 62 text (omega arith) (same_begins b 62 text e u))) (λ e0.
-    if_got-if P (b == 43) (got adjacent_combinator text) _ (λ e. (tt, utf8-past_byte 43 text (omega arith) (same_begins b 43 text e u))) (λ e1.
-    if_got-if P (b == 42) (got universal_selector text) _ (λ e. (tt, utf8-past_byte 42 text (omega arith) (same_begins b 42 text e u))) (λ e2.
-    if_got-if P (b == 35) (named_token edition id_selector text) _ (λ e. named_token-gives edition id_selector text (λ n rest w. read_name-value edition text n rest w) (utf8-past_byte 35 text (omega arith) (same_begins b 35 text e u))) (λ e3.
-    if_got-if P (b == 46) (named_token edition class_selector text) _ (λ e. named_token-gives edition class_selector text (λ n rest w. read_name-value edition text n rest w) (utf8-past_byte 46 text (omega arith) (same_begins b 46 text e u))) (λ e4.
-    if_got-if P (b == 91) (attribute_after edition text) _ (λ e. attribute_after-gives edition text (utf8-past_byte 91 text (omega arith) (same_begins b 91 text e u))) (λ e5.
-    if_got-if P (b == 58) (pseudo_class_after edition text) (named_token edition type_selector (b ∷ text)) (λ e. pseudo_class_after-gives edition text (utf8-past_byte 58 text (omega arith) (same_begins b 58 text e u))) (λ e6.
-    named_token-gives edition type_selector (b ∷ text) (λ n rest w. w.is) u)))))))
+-- what is left behind an ASCII byte
+utf8-past : (kind : NextKind) (text : List ℕ) → HasSign kind → next_kind text ≡ kind → IsUtf8 text → IsUtf8 (past_one text)
+utf8-past kind text h k u = let sign = sign-begins kind text h k in utf8-past_byte sign.byte (past_one text) sign.ascii (subst IsUtf8 sign.is u)
+
+solid_as-gives : (edition : Edition) (text : List ℕ) (kind : NextKind) → next_kind text ≡ kind → IsUtf8 text → IfGot (ReadToken edition) (solid_as edition kind text)
+solid_as-gives edition text Stop k u = tt
+solid_as-gives edition text Slash k u = tt
+solid_as-gives edition text Child k u = (tt, utf8-past Child text tt k u)
+solid_as-gives edition text Adjacent k u = (tt, utf8-past Adjacent text tt k u)
+solid_as-gives edition text Universal k u = (tt, utf8-past Universal text tt k u)
+solid_as-gives edition text Id k u = named_token-gives edition id_selector (past_one text) (λ n rest w. read_name-value edition (past_one text) n rest w) (utf8-past Id text tt k u)
+solid_as-gives edition text Class k u = named_token-gives edition class_selector (past_one text) (λ n rest w. read_name-value edition (past_one text) n rest w) (utf8-past Class text tt k u)
+solid_as-gives edition text Attribute k u = attribute_after-gives edition (past_one text) (utf8-past Attribute text tt k u)
+solid_as-gives edition text Colon k u = pseudo_class_after-gives edition (past_one text) (utf8-past Colon text tt k u)
+solid_as-gives edition text Other k u = named_token-gives edition type_selector text (λ n rest w. w.is) u
 
 -- a solid piece that was read from a text
 pub solid-gives : (edition : Edition) (text : List ℕ) → IsUtf8 text → IfGot (ReadToken edition) (solid edition text)
 unfolding solid
-solid-gives edition text u = if_got-if (ReadToken edition) (ends_selector text || starts 47 text) (fails no_selector text) (solid_by_byte edition text) (λ e. tt) (λ e. solid_by_byte-gives edition text u)
+solid-gives edition text u = solid_as-gives edition text (next_kind text) refl u

@@ -4,7 +4,7 @@
 use Rattle.std.proofs.Common.{◌≡◌, ℕ, zero, suc, ◌<◌, inl, inr, List, [], ◌∷◌, ◌++◌, Bool, true, false, if◌then◌else◌, map, length, codes, bytes_eq, arith, refl, sym, ap, ◌∙◌, subst, Option, Some, None, IsUtf8}
 use Rattle.std.specs.List.{flat_map}
 use lib.Utf8.{encode}
-use Rattle.simplecss_text.specs.Reading.{Fault, Reading, got, fails}
+use Rattle.simplecss_text.specs.Reading.{Reading, got, fails}
 use Rattle.simplecss_text.specs.Characters.{Edition, first_edition, second_edition}
 use Rattle.simplecss_text.specs.Comments.{gap}
 use Rattle.simplecss_text.specs.Components.{KnownPseudoClass, Subselector, Combinator, Component}
@@ -14,19 +14,19 @@ use Rattle.simplecss_text.specs.Components.Subselector.{attribute, pseudo_class}
 use Rattle.simplecss_text.specs.Components.Combinator.{none, descendant, child, adjacent}
 use Rattle.simplecss_text.specs.Tokens.{Token}
 use Rattle.simplecss_text.specs.Tokens.Token.{universal_selector, type_selector, id_selector, class_selector, attribute_selector, named_pseudo_class, lang_pseudo_class, descendant_combinator, child_combinator, adjacent_combinator}
-use Rattle.simplecss_text.specs.Pieces.{Ending, solid, piece, ending}
+use Rattle.simplecss_text.specs.Pieces.{IsSimplePiece, next_kind, solid, Ending, fault_ending}
 use Rattle.simplecss_text.specs.Pieces.Ending.{at_stop, at_slash, without_head, within_piece, within_gap}
-use Rattle.simplecss_text.specs.Neighbours.{Side, before_piece, side_behind}
+use Rattle.simplecss_text.specs.Neighbours.{Side, between, side_behind}
 use Rattle.simplecss_text.specs.Neighbours.Side.{open_side, closed_side}
-use Rattle.simplecss_text.specs.TokenSequences.{TokenSequence, sequence, sequence_from, answered, token_then}
+use Rattle.simplecss_text.specs.TokenSequences.{TokenSequence, ending_sequence, sequence_from, answered, token_then}
 use Rattle.simplecss_text.specs.Selectors.{Role, Outcome, known_pseudo_class, pseudo_class_role, role_of, with_role, after_role, outcome, cut, type_among, subselectors_among, component_of}
 use Rattle.simplecss_text.specs.Selectors.Role.{any_type, of_type, with, joint}
 use Rattle.simplecss_text.specs.Selectors.Outcome.{refused, accepted}
 use Rattle.simplecss_text.specs.Printing.{selector_text, subselector_text}
 use Rattle.simplecss_text.proofs.reading.PiecesLawful.{solid-cuts}
 use Rattle.simplecss_text.proofs.reading.TakesLaws.{Keeps, Cuts, gap-keeps}
-use Rattle.simplecss_text.proofs.reading.SequenceLaws.{sequence_from-piece, sequence_from-ending}
-use Rattle.simplecss_text.proofs.reading.JoiningLaws.{piece_of, piece-read, piece-fault, piece-open_gap}
+use Rattle.simplecss_text.proofs.reading.SequenceSteps.{sequence_from-solid, sequence_from-open_gap}
+use Rattle.simplecss_text.proofs.printed.TokenKinds.{kind_of, sequence_from-token}
 use Rattle.simplecss_text.proofs.printed.PrintedNames.{IsName}
 use Rattle.simplecss_text.proofs.printed.PrintedPieces.{IsClass, IsSubselector, word_name}
 use Rattle.simplecss_text.proofs.printed.PrintedHeads.{IsTypeName}
@@ -140,7 +140,7 @@ goes_on-class edition None after o w h = tt
 goes_on-class edition (Some class) after o w h = goes_on-with edition (pseudo_class class) o w h
 
 -- a simple token that begins a compound
-begins-token : (edition : Edition) (token : Token) (after : List ℕ) (o : Outcome) → side_behind token ≡ closed_side → GoodToken edition token after → (after ≡ [] → o ≡ accepted [] []) → IfGoesOn edition o → IfBegins edition (after_role (role_of token) after o)
+begins-token : (edition : Edition) (token : Token) (after : List ℕ) (o : Outcome) → IsSimplePiece (kind_of token) → GoodToken edition token after → (after ≡ [] → o ≡ accepted [] []) → IfGoesOn edition o → IfBegins edition (after_role (role_of token) after o)
 begins-token edition universal_selector after o simple w last h = begins-any edition o h
 begins-token edition (type_selector n) after o simple (inl w) last h = begins-type edition n o w h
 begins-token edition (type_selector n) after o simple (inr w) last h = begins-hyphen edition n o w.0 (last w.1)
@@ -149,9 +149,9 @@ begins-token edition (class_selector n) after o simple w last h = begins-with ed
 begins-token edition (attribute_selector n p) after o simple w last h = begins-with edition (attribute n p) o w h
 begins-token edition (named_pseudo_class n) after o simple w last h = begins-class edition (known_pseudo_class n) after o (known_pseudo_class-is n) h
 begins-token edition (lang_pseudo_class v) after o simple w last h = begins-with edition (pseudo_class (lang v)) o w h
-begins-token edition descendant_combinator after o simple w last h = absurd (cc)
-begins-token edition child_combinator after o simple w last h = absurd (cc)
-begins-token edition adjacent_combinator after o simple w last h = absurd (cc)
+begins-token edition descendant_combinator after o simple w last h = absurd simple
+begins-token edition child_combinator after o simple w last h = absurd simple
+begins-token edition adjacent_combinator after o simple w last h = absurd simple
 
 -- what the sequence is behind a token, by the left side
 abbrev Behind : Edition → List ℕ → (Side → TokenSequence) → Type 0
@@ -159,16 +159,16 @@ Behind edition after rest = IfGoesOn edition (outcome (rest closed_side)) × IfB
 
 -- the outcome of a piece, and of the sequence behind it
 abbrev piece_outcome : Side → (spaced : Bool) → (start : List ℕ) → Token → (after : List ℕ) → (Side → TokenSequence) → Outcome
-piece_outcome side spaced start token after rest = outcome (answered (before_piece side (piece_of spaced start token after)) start (token_then token after (rest (side_behind token))))
+piece_outcome side spaced start token after rest = outcome (answered (between side spaced (kind_of token) start after) start (token_then token after (rest (side_behind (kind_of token)))))
 
 open_piece : (edition : Edition) (spaced : Bool) (start : List ℕ) (token : Token) (after : List ℕ) (rest : Side → TokenSequence) → GoodToken edition token after → Behind edition after rest → IfBegins edition (piece_outcome open_side spaced start token after rest)
-open_piece edition spaced start universal_selector after rest w h = begins-token edition universal_selector after (outcome (rest closed_side)) refl w h.2 h.0
-open_piece edition spaced start (type_selector n) after rest w h = begins-token edition (type_selector n) after (outcome (rest closed_side)) refl w h.2 h.0
-open_piece edition spaced start (id_selector n) after rest w h = begins-token edition (id_selector n) after (outcome (rest closed_side)) refl w h.2 h.0
-open_piece edition spaced start (class_selector n) after rest w h = begins-token edition (class_selector n) after (outcome (rest closed_side)) refl w h.2 h.0
-open_piece edition spaced start (attribute_selector n p) after rest w h = begins-token edition (attribute_selector n p) after (outcome (rest closed_side)) refl w h.2 h.0
-open_piece edition spaced start (named_pseudo_class n) after rest w h = begins-token edition (named_pseudo_class n) after (outcome (rest closed_side)) refl w h.2 h.0
-open_piece edition spaced start (lang_pseudo_class v) after rest w h = begins-token edition (lang_pseudo_class v) after (outcome (rest closed_side)) refl w h.2 h.0
+open_piece edition spaced start universal_selector after rest w h = begins-token edition universal_selector after (outcome (rest closed_side)) tt w h.2 h.0
+open_piece edition spaced start (type_selector n) after rest w h = begins-token edition (type_selector n) after (outcome (rest closed_side)) tt w h.2 h.0
+open_piece edition spaced start (id_selector n) after rest w h = begins-token edition (id_selector n) after (outcome (rest closed_side)) tt w h.2 h.0
+open_piece edition spaced start (class_selector n) after rest w h = begins-token edition (class_selector n) after (outcome (rest closed_side)) tt w h.2 h.0
+open_piece edition spaced start (attribute_selector n p) after rest w h = begins-token edition (attribute_selector n p) after (outcome (rest closed_side)) tt w h.2 h.0
+open_piece edition spaced start (named_pseudo_class n) after rest w h = begins-token edition (named_pseudo_class n) after (outcome (rest closed_side)) tt w h.2 h.0
+open_piece edition spaced start (lang_pseudo_class v) after rest w h = begins-token edition (lang_pseudo_class v) after (outcome (rest closed_side)) tt w h.2 h.0
 open_piece edition spaced start descendant_combinator after rest w h = tt
 open_piece edition spaced start child_combinator after rest w h = tt
 open_piece edition spaced start adjacent_combinator after rest w h = tt
@@ -208,7 +208,7 @@ no_more : (edition : Edition) (left : List ℕ) → GoesOn edition [] left
 no_more edition left = record { subselectors = tt; no_type = λ known. refl; others = tt }
 
 -- where no further piece stands
-closed_ending : (edition : Edition) (end : Ending) → IfGoesOn edition (outcome (sequence closed_side [] end))
+closed_ending : (edition : Edition) (end : Ending) → IfGoesOn edition (outcome (ending_sequence closed_side end))
 closed_ending edition (at_stop true start) = no_more edition start
 closed_ending edition (at_stop false start) = no_more edition start
 closed_ending edition (at_slash true start) = tt
@@ -219,7 +219,7 @@ closed_ending edition (within_piece true start fault after) = tt
 closed_ending edition (within_piece false start fault after) = tt
 closed_ending edition (within_gap fault after) = tt
 
-open_ending : (edition : Edition) (end : Ending) → IfBegins edition (outcome (sequence open_side [] end))
+open_ending : (edition : Edition) (end : Ending) → IfBegins edition (outcome (ending_sequence open_side end))
 open_ending edition (at_stop spaced start) = tt
 open_ending edition (at_slash spaced start) = tt
 open_ending edition (without_head spaced start fault after) = tt
@@ -230,10 +230,10 @@ open_ending edition (within_gap fault after) = tt
 abbrev pub SequenceIs : Edition → List ℕ → Type 0
 SequenceIs edition text = IfGoesOn edition (outcome (sequence_from edition closed_side text)) × IfBegins edition (outcome (sequence_from edition open_side text))
 
-sequence-ending : (edition : Edition) (text rest : List ℕ) (fault : Fault) → piece edition text ≡ fails fault rest → SequenceIs edition text
-sequence-ending edition text rest fault e = (
-  subst (λ (r : TokenSequence). IfGoesOn edition (outcome r)) (sym (sequence_from-ending edition closed_side text rest fault e)) (closed_ending edition (ending edition text)),
-  subst (λ (r : TokenSequence). IfBegins edition (outcome r)) (sym (sequence_from-ending edition open_side text rest fault e)) (open_ending edition (ending edition text)),
+sequence-ending : (edition : Edition) (text : List ℕ) (end : Ending) → ((side : Side) → sequence_from edition side text ≡ ending_sequence side end) → SequenceIs edition text
+sequence-ending edition text end e = (
+  subst (λ (r : TokenSequence). IfGoesOn edition (outcome r)) (sym (e closed_side)) (closed_ending edition end),
+  subst (λ (r : TokenSequence). IfBegins edition (outcome r)) (sym (e open_side)) (open_ending edition end),
 )
 
 sequence-end : (edition : Edition) (after : List ℕ) → after ≡ [] → outcome (sequence_from edition closed_side after) ≡ accepted [] []
@@ -241,10 +241,9 @@ sequence-end edition after e = ap (λ t. outcome (sequence_from edition closed_s
 
 sequence-piece : (edition : Edition) (text start after : List ℕ) (spaced : Bool) (token : Token) → gap text ≡ got spaced start → solid edition start ≡ got token after → GoodToken edition token after → SequenceIs edition after → SequenceIs edition text
 sequence-piece edition text start after spaced token g s w more =
-    let read = piece-read edition text start after spaced token g s in
     let behind : Behind edition after (λ l. sequence_from edition l after) = (more.0, more.1, sequence-end edition after) in (
-      subst (λ (r : TokenSequence). IfGoesOn edition (outcome r)) (sym (sequence_from-piece edition closed_side text after (piece_of spaced start token after) read)) (closed_piece edition spaced start token after (λ l. sequence_from edition l after) w behind),
-      subst (λ (r : TokenSequence). IfBegins edition (outcome r)) (sym (sequence_from-piece edition open_side text after (piece_of spaced start token after) read)) (open_piece edition spaced start token after (λ l. sequence_from edition l after) w behind),
+      subst (λ (r : TokenSequence). IfGoesOn edition (outcome r)) (sym (sequence_from-token edition closed_side text start after spaced token g s)) (closed_piece edition spaced start token after (λ l. sequence_from edition l after) w behind),
+      subst (λ (r : TokenSequence). IfBegins edition (outcome r)) (sym (sequence_from-token edition open_side text start after spaced token g s)) (open_piece edition spaced start token after (λ l. sequence_from edition l after) w behind),
     )
 
 shorter : (edition : Edition) (text start after : List ℕ) (spaced : Bool) (token : Token) → gap text ≡ got spaced start → solid edition start ≡ got token after → length after < length text
@@ -262,11 +261,11 @@ sequence-within edition (suc n) text less u = by (gap text) refl (λ after k v. 
         let w = got-holds (ReadToken edition) (solid edition start) token after (solid-gives edition start v) s in
         let cuts : length after < length text = shorter edition text start after spaced token g s in
         sequence-piece edition text start after spaced token g s w.0 (more after (omega arith) w.1)
-    inside spaced start g v (fails fault after) s more = sequence-ending edition text after fault (piece-fault edition text start after spaced fault g s)
+    inside spaced start g v (fails fault after) s more = sequence-ending edition text (fault_ending (next_kind start) spaced start fault after) (λ side. sequence_from-solid edition side text start spaced (fails fault after) g s)
 
     by : (r : Reading Bool) → gap text ≡ r → ((after : List ℕ) → length after < n → IsUtf8 after → SequenceIs edition after) → SequenceIs edition text
     by (got spaced start) g more = inside spaced start g (got-holds (λ spaced rest. IsUtf8 rest) (gap text) spaced start (gap-utf8 text u) g) (solid edition start) refl more
-    by (fails fault after) g more = sequence-ending edition text after fault (piece-open_gap edition text after fault g)
+    by (fails fault after) g more = sequence-ending edition text (within_gap fault after) (λ side. sequence_from-open_gap edition side text after fault g)
 
 -- the outcome of a text, behind either left side
 pub sequence-is : (edition : Edition) (text : List ℕ) → IsUtf8 text → SequenceIs edition text

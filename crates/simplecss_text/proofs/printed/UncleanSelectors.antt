@@ -1,10 +1,11 @@
 -- A selector that is not clean does not read back.
 -- Serves `Selector::{parse, parse_front}` and `StyleSheet::parse` (a selector printed and read
 -- again).
-use Rattle.std.proofs.Common.{◌≡◌, ℕ, ◌⊎◌, inl, inr, List, [], ◌∷◌, ◌++◌, Bool, true, false, ◌&&◌, if◌then◌else◌, map, length, length-append, refl, sym, ap, ◌∙◌, subst, append_assoc, arith, Option, Some, None}
+use Rattle.std.proofs.Common.{◌≡◌, ℕ, ◌⊎◌, inl, inr, List, [], ◌∷◌, ◌++◌, Bool, true, false, ◌&&◌, map, length, length-append, refl, sym, ap, ◌∙◌, subst, append_assoc, arith, Option, Some, None}
 use Rattle.std.specs.List.{list_all, flat_map}
 use Rattle.simplecss_text.specs.Reading.{Reading, got, fails, follow}
-use Rattle.simplecss_text.specs.Bytes.{byte, starts, starts_by}
+use Rattle.simplecss_text.specs.Bytes.{byte}
+use Rattle.simplecss_text.specs.declared.next_kind.NextKind.TheVariants.{Attribute}
 use Rattle.simplecss_text.specs.Characters.{Edition}
 use Rattle.simplecss_text.specs.Comments.{gap}
 use Rattle.simplecss_text.specs.Strings.{string_or_name}
@@ -12,21 +13,21 @@ use Rattle.simplecss_text.specs.Components.{Operator, Subselector, Combinator, C
 use Rattle.simplecss_text.specs.Components.Operator.{exists, equals, has_word, begins_with}
 use Rattle.simplecss_text.specs.Components.Subselector.{attribute, pseudo_class}
 use Rattle.simplecss_text.specs.Components.Combinator.{none, descendant, child, adjacent}
+use Rattle.simplecss_text.specs.Tokens.{Token}
 use Rattle.simplecss_text.specs.Tokens.Token.{attribute_selector}
-use Rattle.simplecss_text.specs.Pieces.{attribute_operator, equated, attribute_after, solid, ends_selector, begins_subselector}
-use Rattle.simplecss_text.specs.Pieces.Ending.{within_piece, without_head}
+use Rattle.simplecss_text.specs.Pieces.{attribute_operator, equated, attribute_after, next_kind, solid}
 use Rattle.simplecss_text.specs.Neighbours.Side.{open_side, closed_side}
-use Rattle.simplecss_text.specs.TokenSequences.{sequence, sequence_from, sequence_of, token_then}
+use Rattle.simplecss_text.specs.TokenSequences.{sequence_from, sequence_of, token_then}
 use Rattle.simplecss_text.specs.Selectors.{Outcome, with_role, after_role, outcome, cut, subselectors_among, component_of, selector_of, reads}
 use Rattle.simplecss_text.specs.Selectors.Role.{with, joint}
 use Rattle.simplecss_text.specs.Selectors.Outcome.{refused, accepted}
 use Rattle.simplecss_text.specs.Printing.{operator_text, subselector_text, type_text, component_text, selector_text, is_clean_operator, is_clean_subselector, is_clean}
-use Rattle.simplecss_text.proofs.reading.SequenceLaws.{sequence_from-piece, sequence_from-ending}
-use Rattle.simplecss_text.proofs.reading.JoiningLaws.{piece_of, piece-read, piece-fault, ending-fault, descends-token}
+use Rattle.simplecss_text.proofs.reading.SequenceSteps.{solid_sequence, sequence_from-solid}
+use Rattle.simplecss_text.proofs.printed.TokenKinds.{sequence_from-token, descends-token}
 use Rattle.simplecss_text.proofs.printed.PrintedNames.{IsName, name-reads, ends_names}
-use Rattle.simplecss_text.proofs.printed.PrintedPieces.{string-cut, quoted, operator-ends, bracketed, solid_by_byte-attribute, IsSubselector, printed_token-role, solid-by_byte, some-length}
+use Rattle.simplecss_text.proofs.printed.PrintedPieces.{string-cut, quoted, operator-ends, bracketed, solid-attribute, IsSubselector, printed_token-role}
 use Rattle.simplecss_text.proofs.printed.PrintedHeads.{gap-none, gap-space, IsTypeName, head_token, head_role, head-reads}
-use Rattle.simplecss_text.proofs.printed.PrintedSelectors.{ends_low, subselector-ends, subselector-no_gap, subselector-sequence, EachIs, head-answer, head-closes, compound-assoc, compound-no_gap, child-sequence, adjacent-sequence, IsCompound, compound_text, is_clean_compound, Joins, joined_text, component-assoc, EachJoined, IsSelector}
+use Rattle.simplecss_text.proofs.printed.PrintedSelectors.{ends_low, subselector-ends, subselector-no_gap, subselector-sequence, EachIs, head-answer, head-simple, compound-assoc, compound-no_gap, child-sequence, adjacent-sequence, IsCompound, compound_text, is_clean_compound, Joins, joined_text, component-assoc, EachJoined, IsSelector}
 
 longer : (v front more : List ℕ) → v ≡ front ++ (39 ∷ more) → front ≡ v → ⊥
 longer v front more e same = omega (arith, ap length e, ap length same, length-append front (39 ∷ more))
@@ -103,8 +104,9 @@ differs-joint (refused left) j (Some n) ss c cs h = tt
 differs-joint (accepted roles left) j None ss c cs h = λ e f. h (ap (first_subselectors []) f) (ap tail_of f)
 differs-joint (accepted roles left) j (Some n) ss c cs h = λ e f. h (ap (first_subselectors []) f) (ap tail_of f)
 
-no_stop : (more : List ℕ) → ends_selector (91 ∷ more) ≡ false
-no_stop more = rw (some-length 91 more) refl
+attribute-kind : (text more : List ℕ) → text ≡ 91 ∷ more → next_kind text ≡ Attribute
+unfolding next_kind
+attribute-kind text more is = ap next_kind is
 
 -- an attribute that is not clean
 other-sequence : (edition : Edition) (n : List ℕ) (p o : Operator) (rest text more : List ℕ) (ss : List Subselector) (cs : List Component) → (p ≡ o → ⊥) → text ≡ 91 ∷ more → gap text ≡ got false text → solid edition text ≡ follow (byte 93 rest) (λ u. got (attribute_selector n p)) → Differs (outcome (sequence_from edition closed_side text)) (attribute n o ∷ ss) cs
@@ -114,23 +116,21 @@ other-sequence edition n p o rest text more ss cs differs is g s = by (byte 93 r
     operator_in (attribute m q) = q
     operator_in (pseudo_class class) = o
 
+    runs : (r : Reading Token) → solid edition text ≡ r → outcome (sequence_from edition closed_side text) ≡ outcome (solid_sequence edition closed_side false Attribute text r)
+    runs r e = ap outcome (sequence_from-solid edition closed_side text text false r g e ∙ ap (λ k. solid_sequence edition closed_side false k text r) (attribute-kind text more is))
+
     by : (r : Reading (Unit {0})) → solid edition text ≡ follow r (λ u. got (attribute_selector n p)) → Differs (outcome (sequence_from edition closed_side text)) (attribute n o ∷ ss) cs
     by (got u after) e =
-        subst (λ (k : Outcome). Differs k (attribute n o ∷ ss) cs)
-        (sym (ap outcome (sequence_from-piece edition closed_side text after (piece_of false text (attribute_selector n p) after) (piece-read edition text text after false (attribute_selector n p) g e))))
+        subst (λ (k : Outcome). Differs k (attribute n o ∷ ss) cs) (sym (runs (got (attribute_selector n p) after) e))
         (differs-other (outcome (sequence_from edition closed_side after)) (attribute n p) (attribute n o) ss cs (λ same. differs (ap operator_in same)))
-    by (fails fault after) e =
-        subst (λ (k : Outcome). Differs k (attribute n o ∷ ss) cs)
-        (sym (ap outcome (sequence_from-ending edition closed_side text after fault (piece-fault edition text text after false fault g e)
-        ∙ ap (sequence closed_side []) (ending-fault edition text text after false fault g e (ap ends_selector is ∙ no_stop more) (ap (starts 47) is)))))
-        (subst (λ (l : List ℕ). Differs (outcome (sequence closed_side [] (if starts_by begins_subselector l then within_piece false text fault after else without_head false text fault after))) (attribute n o ∷ ss) cs) (sym is) tt)
+    by (fails fault after) e = subst (λ (k : Outcome). Differs k (attribute n o ∷ ss) cs) (sym (runs (fails fault after) e)) tt
 
 unclean-differs : (edition : Edition) (s : Subselector) (ss : List Subselector) (tail : List ℕ) (cs : List Component) → IsSubselector edition s → is_clean_subselector s ≡ false → Differs (outcome (sequence_from edition closed_side (subselector_text s ++ tail))) (s ∷ ss) cs
 unclean-differs edition (attribute n o) ss tail cs w c =
     let x = operator-cut edition o tail c in
     let more = ((n ++ operator_text o) ++ (93 ∷ [])) ++ tail in
     other-sequence edition n x.other o x.rest (subselector_text (attribute n o) ++ tail) more ss cs x.differs refl (gap-none (subselector_text (attribute n o) ++ tail) (subselector-no_gap (attribute n o) tail))
-    (solid-by_byte edition 91 more refl refl refl ∙ solid_by_byte-attribute edition more ∙ ap (attribute_after edition) (bracketed n (operator_text o) tail) ∙ attribute-cut edition n o tail w.0 x)
+    (solid-attribute edition more ∙ ap (attribute_after edition) (bracketed n (operator_text o) tail) ∙ attribute-cut edition n o tail w.0 x)
 unclean-differs edition (pseudo_class class) ss tail cs w c = absurd (cc)
 
 clean-differs : (edition : Edition) (s : Subselector) (ss : List Subselector) (tail : List ℕ) (cs : List Component) → IsSubselector edition s → is_clean_subselector s ≡ true → ends_names edition tail ≡ false → Differs (outcome (sequence_from edition closed_side tail)) ss cs → Differs (outcome (sequence_from edition closed_side (subselector_text s ++ tail))) (s ∷ ss) cs
@@ -163,7 +163,7 @@ head_text o tail = type_text o ++ tail
 head-outcome : (edition : Edition) (o : Option (List ℕ)) (text tail : List ℕ) (spaced : Bool) → IsTypeName edition o tail → gap text ≡ got spaced (head_text o tail) → ends_names edition tail ≡ false → outcome (sequence_from edition open_side text) ≡ with_role (head_role o) (outcome (sequence_from edition closed_side tail))
 head-outcome edition o text tail spaced w g e =
     let start = head_text o tail in
-    ap outcome (sequence_from-piece edition open_side text tail (piece_of spaced start (head_token o) tail) (piece-read edition text start tail spaced (head_token o) g (head-reads edition o tail w e)))
+    ap outcome (sequence_from-token edition open_side text start tail spaced (head_token o) g (head-reads edition o tail w e))
     ∙ ap outcome (head-answer o spaced start tail (λ l. sequence_from edition l tail))
     ∙ by o
   where
@@ -178,7 +178,7 @@ joined-outcome edition descendant c tail n w e =
     let behind = flat_map subselector_text c.subselectors ++ tail in
     let calm = compound-no_gap edition c tail w in
     let ends = subselectors-end edition c.subselectors tail e in
-    ap outcome (descends-token edition (32 ∷ text) text behind (head_token c.name) (gap-space text calm) (ap (solid edition) (compound-assoc c tail) ∙ head-reads edition c.name behind w.head ends) (head-closes c.name))
+    ap outcome (descends-token edition (32 ∷ text) text behind (head_token c.name) (gap-space text calm) (ap (solid edition) (compound-assoc c tail) ∙ head-reads edition c.name behind w.head ends) (head-simple c.name))
     ∙ ap (with_role (joint descendant)) (head-outcome edition c.name text behind false w.head (gap-none text calm ∙ ap (got false) (compound-assoc c tail)) ends)
 joined-outcome edition child c tail n w e =
     let text = compound_text c ++ tail in

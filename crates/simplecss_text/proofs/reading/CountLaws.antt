@@ -1,25 +1,28 @@
 -- How many declarations and tokens a text has at most.
 -- Serves `SelectorTokenizer::from` and `DeclarationTokenizer::from` (how many items are to come at
 -- most).
-use Rattle.std.proofs.Common.{◌≡◌, ◌≤◌, ◌<◌, ◌+◌, List, ℕ, [], ◌∷◌, Bool, true, false, if◌then◌else◌, suc, zero, length, Option, Some, None, refl, sym, subst, arith}
+use Rattle.std.proofs.Common.{◌≡◌, ◌≤◌, ◌<◌, ◌+◌, List, ℕ, [], ◌∷◌, Bool, true, false, suc, zero, length, Option, Some, None, refl, sym, subst, arith}
 use Rattle.std.specs.List.{list_any}
 use Rattle.simplecss_text.specs.Reading.{Fault, Reading, got, fails, up_to, each, and_then}
-use Rattle.simplecss_text.specs.Bytes.{starts, starts_by}
+use Rattle.simplecss_text.specs.Bytes.{past_one}
+use Rattle.simplecss_text.specs.declared.next_kind.NextKind.{NextKind}
+use Rattle.simplecss_text.specs.declared.next_kind.NextKind.TheVariants.{Stop, Slash}
 use Rattle.simplecss_text.specs.Characters.{Edition}
 use Rattle.simplecss_text.specs.Comments.{opens_comment, blank_part, past_blank, has_space, gap}
 use Rattle.simplecss_text.specs.Tokens.{Token}
-use Rattle.simplecss_text.specs.Pieces.{Ending, solid_by_byte, ends_selector, begins_subselector}
-use Rattle.simplecss_text.specs.Pieces.Ending.{at_stop, at_slash, without_head, within_piece, within_gap}
-use Rattle.simplecss_text.specs.Neighbours.{Side, Follows, between, follows_as, before_ending, side_behind}
+use Rattle.simplecss_text.specs.Pieces.{next_kind, solid, fault_ending}
+use Rattle.simplecss_text.specs.Pieces.Ending.{without_head, within_piece, within_gap}
+use Rattle.simplecss_text.specs.Neighbours.{Side, between, side_behind}
 use Rattle.simplecss_text.specs.Neighbours.Side.{open_side, closed_side}
-use Rattle.simplecss_text.specs.Neighbours.Follows.{subselector, universal, type_name, combinator, stop, slash, faulty_piece}
-use Rattle.simplecss_text.specs.TokenSequences.{TokenSequence, sequence, sequence_from, items, answered, side_with, token_then, ending_sequence}
+use Rattle.simplecss_text.specs.TokenSequences.{TokenSequence, sequence_from, items, answered, token_then, ending_sequence}
+use Rattle.simplecss_text.specs.TokenSequences.TokenSequence.{sequence_end}
 use Rattle.simplecss_text.specs.Declarations.{next_declaration, declarations}
-use Rattle.simplecss_text.proofs.reading.PiecesLawful.{solid_by_byte-cuts}
+use Rattle.simplecss_text.proofs.reading.PiecesLawful.{solid-cuts}
+use Rattle.simplecss_text.proofs.reading.KindLaws.{between-case, fault_ending-case}
 use Rattle.simplecss_text.proofs.reading.EachLaws.{Shrinks, Takes}
 use Rattle.simplecss_text.proofs.reading.TakesLaws.{Cuts, blank_part-takes}
 use Rattle.simplecss_text.proofs.bytes.GapLaws.{gap_is_closed, gap_is_open}
-use Rattle.simplecss_text.proofs.reading.SequenceSteps.{fault_end, piece_sequence, solid_sequence, gap_sequence, sequence_from-by}
+use Rattle.simplecss_text.proofs.reading.SequenceSteps.{solid_sequence, gap_sequence, sequence_from-by}
 
 -- what is read at most n times gives at most n values
 length-up_to : {A : Type 0} (read : List ℕ → Option (A × List ℕ)) (n : ℕ) (text : List ℕ) → length (up_to n read text).0 ≤ n
@@ -78,81 +81,42 @@ gap-takes text start spaced e = by (opens_comment (past_blank text)) refl
 -- ---- the items of a sequence
 
 -- an answer adds an item only where a gap has a space byte, or stands alone
-length-between : (side : Side) (spaced : Bool) (f : Follows) (start : List ℕ) (next : TokenSequence) (n : ℕ) → 1 ≤ n → length (items next) ≤ n → length (items (answered (between side spaced f) start next)) ≤ space_of spaced + n
-length-between open_side spaced subselector start next n one h = omega arith
-length-between open_side spaced (universal at) start next n one h = omega arith
-length-between open_side spaced (type_name after) start next n one h = omega arith
-length-between open_side spaced (combinator at) start next n one h = omega arith
-length-between open_side spaced (stop at) start next n one h = omega arith
-length-between open_side spaced (slash at) start next n one h = omega arith
-length-between open_side spaced faulty_piece start next n one h = omega arith
-length-between closed_side false subselector start next n one h = omega arith
-length-between closed_side false (universal at) start next n one h = omega arith
-length-between closed_side false (type_name after) start next n one h = omega arith
-length-between closed_side false (combinator at) start next n one h = omega arith
-length-between closed_side false (stop at) start next n one h = omega arith
-length-between closed_side false (slash at) start next n one h = omega arith
-length-between closed_side false faulty_piece start next n one h = omega arith
-length-between closed_side true subselector start next n one h = omega arith
-length-between closed_side true (universal at) start next n one h = omega arith
-length-between closed_side true (type_name after) start next n one h = omega arith
-length-between closed_side true (combinator at) start next n one h = omega arith
-length-between closed_side true (stop at) start next n one h = omega arith
-length-between closed_side true (slash at) start next n one h = omega arith
-length-between closed_side true faulty_piece start next n one h = omega arith
+length-between : (side : Side) (spaced : Bool) (kind : NextKind) (start after : List ℕ) (next : TokenSequence) (n : ℕ) → 1 ≤ n → length (items next) ≤ n → length (items (answered (between side spaced kind start after) start next)) ≤ space_of spaced + n
+length-between side spaced kind start after next n one h =
+    between-case (λ answer. length (items (answered answer start next)) ≤ space_of spaced + n) side spaced kind start after
+    (omega arith) (λ e. rw e (omega arith)) (λ f k. omega arith) (λ f. omega arith)
 
-length-ending_sequence : (side : Side) (end : Ending) → length (items (ending_sequence side end)) ≤ 2
-length-ending_sequence open_side (at_stop spaced start) = omega arith
-length-ending_sequence closed_side (at_stop spaced start) = omega arith
-length-ending_sequence open_side (at_slash spaced start) = omega arith
-length-ending_sequence closed_side (at_slash spaced start) = omega arith
-length-ending_sequence open_side (without_head spaced start fault after) = omega arith
-length-ending_sequence closed_side (without_head spaced start fault after) = omega arith
-length-ending_sequence open_side (within_piece spaced start fault after) = omega arith
-length-ending_sequence closed_side (within_piece spaced start fault after) = omega arith
-length-ending_sequence open_side (within_gap fault after) = omega arith
-length-ending_sequence closed_side (within_gap fault after) = omega arith
-
--- the byte of the gap before an ending that has a space byte
-abbrev space_before : Ending → ℕ
-space_before (at_stop spaced start) = space_of spaced
-space_before (at_slash spaced start) = space_of spaced
-space_before (without_head spaced start fault after) = space_of spaced
-space_before (within_piece spaced start fault after) = space_of spaced
-space_before (within_gap fault after) = 0
-
-length-sequence_end : (side : Side) (end : Ending) → length (items (sequence side [] end)) ≤ space_before end + 2
-length-sequence_end side (at_stop spaced start) = length-between side spaced (stop start) _ _ 2 (omega arith) (length-ending_sequence (side_with (before_ending side (at_stop spaced start)) side) (at_stop spaced start))
-length-sequence_end side (at_slash spaced start) = length-between side spaced (slash start) _ _ 2 (omega arith) (length-ending_sequence (side_with (before_ending side (at_slash spaced start)) side) (at_slash spaced start))
-length-sequence_end side (without_head spaced start fault after) = length-between side spaced faulty_piece _ _ 2 (omega arith) (length-ending_sequence (side_with (before_ending side (without_head spaced start fault after)) side) (without_head spaced start fault after))
-length-sequence_end side (within_piece spaced start fault after) = length-between side spaced faulty_piece _ _ 2 (omega arith) (length-ending_sequence (side_with (before_ending side (within_piece spaced start fault after)) side) (within_piece spaced start fault after))
-length-sequence_end side (within_gap fault after) = length-ending_sequence side (within_gap fault after)
-
-length-fault_end : (side : Side) (spaced : Bool) (start : List ℕ) (fault : Fault) (after : List ℕ) → length (items (sequence side [] (fault_end spaced start fault after))) ≤ space_of spaced + 2
-length-fault_end side spaced start fault after = by (starts_by begins_subselector start)
+length-ending_sequence : (side : Side) (spaced : Bool) (start : List ℕ) (kind : NextKind) (fault : Fault) (after : List ℕ) → length (items (ending_sequence side (fault_ending kind spaced start fault after))) ≤ space_of spaced + 2
+length-ending_sequence side spaced start kind fault after =
+    fault_ending-case (λ end. length (items (ending_sequence side end)) ≤ space_of spaced + 2) kind spaced start fault after
+    (λ k. length-between side spaced Stop start start (sequence_end start) 2 (omega arith) (omega arith))
+    (λ k. length-between side spaced Slash start (past_one start) (sequence_end start) 2 (omega arith) (omega arith))
+    (headless side spaced) (broken side spaced)
   where
-    by : (sub : Bool) → length (items (sequence side [] (if sub then within_piece spaced start fault after else without_head spaced start fault after))) ≤ space_of spaced + 2
-    by true = length-sequence_end side (within_piece spaced start fault after)
-    by false = length-sequence_end side (without_head spaced start fault after)
+    headless : (side : Side) (spaced : Bool) → length (items (ending_sequence side (without_head spaced start fault after))) ≤ space_of spaced + 2
+    headless open_side spaced = omega arith
+    headless closed_side true = omega arith
+    headless closed_side false = omega arith
+
+    broken : (side : Side) (spaced : Bool) → length (items (ending_sequence side (within_piece spaced start fault after))) ≤ space_of spaced + 2
+    broken open_side spaced = omega arith
+    broken closed_side true = omega arith
+    broken closed_side false = omega arith
+
+length-within_gap : (side : Side) (fault : Fault) (after : List ℕ) → length (items (ending_sequence side (within_gap fault after))) ≤ 2
+length-within_gap open_side fault after = omega arith
+length-within_gap closed_side fault after = omega arith
 
 -- The bound, for texts shorter than n.
 abbrev Bounded : Edition → ℕ → Type 0
 Bounded edition n = (side : Side) (text : List ℕ) → length text < n → length (items (sequence_from edition side text)) ≤ length text + 2
 
-length-piece_sequence : (edition : Edition) (n : ℕ) → Bounded edition n → (side : Side) (spaced : Bool) (start : List ℕ) (r : Reading Token) → length start ≤ n → Cuts start r → length (items (piece_sequence edition side spaced start r)) ≤ space_of spaced + length start + 2
-length-piece_sequence edition n more side spaced start (got token after) l cuts =
-    let behind = more (side_behind token) after (omega arith) in
-    let all = length-between side spaced (follows_as token start after) start (token_then token after (sequence_from edition (side_behind token) after)) (1 + length (items (sequence_from edition (side_behind token) after))) (omega arith) (omega arith) in
+length-solid_sequence : (edition : Edition) (n : ℕ) → Bounded edition n → (side : Side) (spaced : Bool) (kind : NextKind) (start : List ℕ) (r : Reading Token) → length start ≤ n → Cuts start r → length (items (solid_sequence edition side spaced kind start r)) ≤ space_of spaced + length start + 2
+length-solid_sequence edition n more side spaced kind start (got token after) l cuts =
+    let behind = more (side_behind kind) after (omega arith) in
+    let all = length-between side spaced kind start after (token_then token after (sequence_from edition (side_behind kind) after)) (1 + length (items (sequence_from edition (side_behind kind) after))) (omega arith) (omega arith) in
     omega (arith, behind, all)
-length-piece_sequence edition n more side spaced start (fails fault after) l cuts = omega (arith, length-fault_end side spaced start fault after)
-
-length-solid_sequence : (edition : Edition) (n : ℕ) → Bounded edition n → (side : Side) (spaced : Bool) (start : List ℕ) → length start ≤ n → length (items (solid_sequence edition side spaced start)) ≤ space_of spaced + length start + 2
-length-solid_sequence edition n more side spaced start l = stop (ends_selector start) (starts 47 start)
-  where
-    stop : (stops slashes : Bool) → length (items (if stops then sequence side [] (at_stop spaced start) else (if slashes then sequence side [] (at_slash spaced start) else piece_sequence edition side spaced start (solid_by_byte edition start)))) ≤ space_of spaced + length start + 2
-    stop true slashes = omega (arith, length-sequence_end side (at_stop spaced start))
-    stop false true = omega (arith, length-sequence_end side (at_slash spaced start))
-    stop false false = length-piece_sequence edition n more side spaced start (solid_by_byte edition start) l (solid_by_byte-cuts edition start)
+length-solid_sequence edition n more side spaced kind start (fails fault after) l cuts = omega (arith, length-ending_sequence side spaced start kind fault after)
 
 length-sequence_below : (edition : Edition) (n : ℕ) → Bounded edition n
 length-sequence_below edition zero left text l = absurd (omega arith)
@@ -160,8 +124,10 @@ length-sequence_below edition (suc n) left text l =
     subst (λ (r : TokenSequence). length (items r) ≤ length text + 2) (sym (sequence_from-by edition left text)) (by (length-sequence_below edition n) (gap text) refl)
   where
     by : Bounded edition n → (r : Reading Bool) → gap text ≡ r → length (items (gap_sequence edition left r)) ≤ length text + 2
-    by more (got spaced start) e = let takes = gap-takes text start spaced e in omega (arith, takes, length-solid_sequence edition n more left spaced start (omega (arith, takes)))
-    by more (fails fault after) e = omega (arith, length-sequence_end left (within_gap fault after))
+    by more (got spaced start) e =
+        let takes = gap-takes text start spaced e in
+        omega (arith, takes, length-solid_sequence edition n more left spaced (next_kind start) start (solid edition start) (omega (arith, takes)) (solid-cuts edition start))
+    by more (fails fault after) e = omega (arith, length-within_gap left fault after)
 
 -- a sequence has at most as many items as its text has bytes, and two more
 pub length-sequence_from : (edition : Edition) (side : Side) (text : List ℕ) → length (items (sequence_from edition side text)) ≤ length text + 2

@@ -9,7 +9,7 @@ use Rattle.simplecss_text.specs.Characters.{Edition, first_edition, second_editi
 use Rattle.simplecss_text.specs.Comments.{blank}
 use Rattle.simplecss_text.specs.Names.{name}
 use Rattle.simplecss_text.specs.Strings.{from_quote, is_quote, string_after}
-use Rattle.simplecss_text.proofs.reading.EndsLaws.{Stands, itself, stands-ends, ends-cons, ends-ends, ends-past, ends-past_byte, ends-past_one, ends-same, length-ends, no_texts}
+use Rattle.simplecss_text.proofs.reading.EndsLaws.{Stands, itself, stands-ends, ends-ends, ends-past, ends-past_byte, ends-past_one, ends-same, length-ends, no_texts}
 use Rattle.simplecss_text.proofs.reading.TakesLaws.{Cuts, Keeps, keeps-cuts}
 use Rattle.simplecss_text.proofs.reading.StandLaws.{blank-stands, byte-stands, from_quote-ends, name-stands, string_up_to-stands}
 use Rattle.simplecss_text.proofs.cutting.GuardLaws.{Along, Equal, Guard, To, at, byte-guarded, guard-follow, guard-got, guard-if, left-to, on, past-to, past_byte-along, past_one-along, starts-along}
@@ -69,17 +69,20 @@ owes-if k p q = owes-so k _ _ (λ e. p) q
 pub owes-starts : {A : Type 0} {r s : List ℕ} {a b x y : Edition → Reading A} (c : ℕ) → Owes r s a b → Owes r s x y → Owes r s (λ edition. if starts c r then a edition else x edition) (λ edition. if starts c s then b edition else y edition)
 owes-starts {r = r} {s = s} c p q = owes-choice r s (λ edition. starts c r) (λ edition. starts c s) _ _ _ _ (λ h. refl) (λ edition u v h. starts-along 125 (u ++ v) u c r s h) p q
 
--- a byte that was passed
-pub owes-past : {A : Type 0} {r s : List ℕ} {a b : Edition → Reading A} (c : ℕ) → Owes r s a b → Owes (c ∷ r) (c ∷ s) a b
-owes-past {r = r} {s = s} {a = a} {b = b} c p = record {
-  ends = λ edition. ends-cons c r _ (p.ends edition);
-  same = λ h. p.same h.1;
-  guard = λ edition u v h. by edition u v (past_one-along 125 (u ++ v) u (c ∷ r) (c ∷ s) h);
+-- a byte that was passed, whichever it is
+pub owes-past_one : {A : Type 0} {a b : Edition → Reading A} (r s : List ℕ) → Owes (past_one r) (past_one s) a b → Owes r s a b
+owes-past_one {a = a} {b = b} r s p = record {
+  ends = λ edition. ends-ends r (past_one r) (left_after (a edition)) (ends-past_one r) (p.ends edition);
+  same = λ h. p.same (shared-ends r (past_one r) (ends-past_one r) h);
+  guard = λ edition u v h. by edition u v (past_one-along 125 (u ++ v) u r s h);
 }
   where
-    by : (edition : Edition) (u v : List ℕ) → To 125 (u ++ v) u r s → Guard Equal 125 (u ++ v) u (a edition) (b edition)
-    by edition u v (inl l) = inl (omega (arith, length-ends r (left_after (a edition)) (p.ends edition)))
+    by : (edition : Edition) (u v : List ℕ) → To 125 (u ++ v) u (past_one r) (past_one s) → Guard Equal 125 (u ++ v) u (a edition) (b edition)
+    by edition u v (inl l) = inl (omega (arith, length-ends (past_one r) (left_after (a edition)) (p.ends edition)))
     by edition u v (inr h) = p.guard edition u v h
+
+pub owes-past : {A : Type 0} {r s : List ℕ} {a b : Edition → Reading A} (c : ℕ) → Owes r s a b → Owes (c ∷ r) (c ∷ s) a b
+owes-past {r = r} {s = s} c p = owes-past_one (c ∷ r) (c ∷ s) p
 
 keeps-ends : {A : Type 0} (text : List ℕ) (r : Reading A) → Ends text (left_after r) → Keeps text r
 keeps-ends text (got x rest) h = length-ends text rest h

@@ -1,11 +1,13 @@
 -- The pieces of a selector owe what every reader owes, and take bytes.
 -- Serves `SelectorTokenizer`, `StyleSheet::{parse, parse_more}` and `laws::{cutting_law,
 -- edition_law}`.
-use Rattle.std.proofs.Common.{◌≡◌, ◌≤◌, Bool, List, [], ap, arith, bytes_eq, codes, false, if◌then◌else◌, inl, inr, length, not, refl, true, ℕ, ◌++◌, ◌==◌, ◌||◌, ◌∷◌}
+use Rattle.std.proofs.Common.{◌≡◌, ◌≤◌, Bool, List, [], ap, arith, bytes_eq, codes, false, if◌then◌else◌, inl, inr, length, not, refl, subst, true, ℕ, ◌++◌, ◌==◌, ◌∷◌}
 use Rattle.std.specs.List.{list_any}
 use Rattle.std.specs.Str.{trim}
 use Rattle.simplecss_text.specs.Reading.{Reading, before, each, ended, fails, follow, got, left_after, no_attribute_form, no_comment, no_language, no_selector}
-use Rattle.simplecss_text.specs.Bytes.{all_before, past, starts}
+use Rattle.simplecss_text.specs.Bytes.{all_before, past, past_one}
+use Rattle.simplecss_text.specs.declared.next_kind.NextKind.{NextKind}
+use Rattle.simplecss_text.specs.declared.next_kind.NextKind.TheVariants.{Stop, Slash, Child, Adjacent, Universal, Id, Class, Attribute, Colon, Other}
 use Rattle.simplecss_text.specs.Characters.{Edition}
 use Rattle.simplecss_text.specs.Comments.{blank, blank_part, gap, opens_comment}
 use Rattle.simplecss_text.specs.Names.{name}
@@ -14,12 +16,12 @@ use Rattle.simplecss_text.specs.Components.{Operator}
 use Rattle.simplecss_text.specs.Components.Operator.{begins_with, equals, exists, has_word}
 use Rattle.simplecss_text.specs.Tokens.{Token}
 use Rattle.simplecss_text.specs.Tokens.Token.{adjacent_combinator, attribute_selector, child_combinator, class_selector, id_selector, lang_pseudo_class, named_pseudo_class, type_selector, universal_selector}
-use Rattle.simplecss_text.specs.Pieces.{attribute_after, attribute_operator, solid_by_byte, equated, ends_selector, lang_after, lang_of, named_token, next_piece, piece, pseudo_class_after, pseudo_class_named, solid}
+use Rattle.simplecss_text.specs.Pieces.{attribute_after, attribute_operator, next_kind, solid_as, equated, lang_after, lang_of, named_token, next_piece, piece, pseudo_class_after, pseudo_class_named, solid}
 use Rattle.simplecss_text.proofs.reading.EachLaws.{Takes}
-use Rattle.simplecss_text.proofs.reading.TakesLaws.{Cuts, cuts-follow, cuts-if, follow-cuts, found-shrinks, gap-keeps, name-cuts}
+use Rattle.simplecss_text.proofs.reading.TakesLaws.{Cuts, cuts-follow, follow-cuts, found-shrinks, gap-keeps, name-cuts}
 use Rattle.simplecss_text.proofs.reading.EndsLaws.{ends-past}
-use Rattle.simplecss_text.proofs.reading.Lawful.{Lawful, byte-lawful, lawful-cases, name-lawful, owes-choice, owes-cuts, owes-fails, owes-follow, owes-give, owes-if, owes-past, owes-so, string_after-lawful}
-use Rattle.simplecss_text.proofs.cutting.GuardLaws.{Along, Equal, Guard, Guarded, Never, Repeats, To, at, before-along, not_empty, on, pairs-equal, past-to, starts-along}
+use Rattle.simplecss_text.proofs.reading.Lawful.{Lawful, byte-lawful, lawful-cases, name-lawful, owes-cuts, owes-fails, owes-follow, owes-give, owes-if, owes-past, owes-past_one, owes-so, string_after-lawful}
+use Rattle.simplecss_text.proofs.cutting.GuardLaws.{Along, Equal, Guard, Guarded, Never, Repeats, To, at, before-along, on, pairs-equal, past-to}
 use Rattle.simplecss_text.proofs.cutting.SearchLaws.{blank-repeats, brace_plain, opens_comment-along}
 
 string_or_name-lawful : Lawful string_or_name string_or_name
@@ -83,31 +85,35 @@ pseudo_class_after-lawful r s = owes-follow (λ n edition. pseudo_class_named n)
 
 -- ---- solid pieces
 
-solid_by_byte-lawful : Lawful solid_by_byte solid_by_byte
-unfolding solid_by_byte
-solid_by_byte-lawful = lawful-cases solid_by_byte solid_by_byte (named_token-lawful type_selector [] []) (λ b r s.
-    owes-if (b == 62) (owes-past b (owes-give child_combinator r s))
-    (owes-if (b == 43) (owes-past b (owes-give adjacent_combinator r s))
-    (owes-if (b == 42) (owes-past b (owes-give universal_selector r s))
-    (owes-if (b == 35) (owes-past b (named_token-lawful id_selector r s))
-    (owes-if (b == 46) (owes-past b (named_token-lawful class_selector r s))
-    (owes-if (b == 91) (owes-past b (attribute_after-lawful r s))
-    (owes-if (b == 58) (owes-past b (pseudo_class_after-lawful r s))
-    (named_token-lawful type_selector (b ∷ r) (b ∷ s)))))))))
+solid_as-lawful : (kind : NextKind) → Lawful (λ edition. solid_as edition kind) (λ edition. solid_as edition kind)
+solid_as-lawful Stop r s = owes-fails no_selector no_selector r s
+solid_as-lawful Slash r s = owes-fails no_selector no_selector r s
+solid_as-lawful Child r s = owes-past_one r s (owes-give child_combinator (past_one r) (past_one s))
+solid_as-lawful Adjacent r s = owes-past_one r s (owes-give adjacent_combinator (past_one r) (past_one s))
+solid_as-lawful Universal r s = owes-past_one r s (owes-give universal_selector (past_one r) (past_one s))
+solid_as-lawful Id r s = owes-past_one r s (named_token-lawful id_selector (past_one r) (past_one s))
+solid_as-lawful Class r s = owes-past_one r s (named_token-lawful class_selector (past_one r) (past_one s))
+solid_as-lawful Attribute r s = owes-past_one r s (attribute_after-lawful (past_one r) (past_one s))
+solid_as-lawful Colon r s = owes-past_one r s (pseudo_class_after-lawful (past_one r) (past_one s))
+solid_as-lawful Other r s = named_token-lawful type_selector r s
 
-pub solid_by_byte-guarded : (edition : Edition) (u v : List ℕ) → Guarded Equal 125 (u ++ v) u (solid_by_byte edition) (solid_by_byte edition)
-solid_by_byte-guarded edition u v r s h = (solid_by_byte-lawful r s).guard edition u v h
-
-pub ends_selector-along : (g : ℕ) (t u r s : List ℕ) → Along g t u r s → ends_selector r ≡ ends_selector s
-ends_selector-along g t u r s at = rw (not_empty g t, not_empty g u) refl
-ends_selector-along g t u r s (on b r1 s1 room h) = rw (not_empty b r1, not_empty b s1) refl
+pub next_kind-along : (g : ℕ) (t u r s : List ℕ) → Along g t u r s → next_kind r ≡ next_kind s
+unfolding next_kind
+next_kind-along g t u r s at = refl
+next_kind-along g t u r s (on b r1 s1 room h) = refl
 
 pub solid-lawful : Lawful solid solid
 unfolding solid
 solid-lawful r s =
-    owes-choice r s (λ edition. ends_selector r || starts 47 r) (λ edition. ends_selector s || starts 47 s) _ _ _ _ (λ h. refl)
-    (λ edition u v h. let e = ends_selector-along 125 (u ++ v) u r s h in let f = starts-along 125 (u ++ v) u 47 r s h in rw (e, f) refl)
-    (owes-fails no_selector no_selector r s) (solid_by_byte-lawful r s)
+    let p = solid_as-lawful (next_kind r) r s in
+    record {
+      ends = p.ends;
+      same = p.same;
+      guard = λ edition u v h. subst (λ k. Guard Equal 125 (u ++ v) u (solid_as edition (next_kind r) r) (solid_as edition k s)) (next_kind-along 125 (u ++ v) u r s h) (p.guard edition u v h);
+    }
+
+pub solid-guarded : (edition : Edition) (u v : List ℕ) → Guarded Equal 125 (u ++ v) u (solid edition) (solid edition)
+solid-guarded edition u v r s h = (solid-lawful r s).guard edition u v h
 
 -- ---- gaps
 
@@ -142,23 +148,23 @@ named_token-cuts : (edition : Edition) (token : List ℕ → Token) (text : List
 unfolding named_token
 named_token-cuts edition token text = cuts-follow text (name edition text) (λ n. got (token n)) (name-cuts edition text) (λ n rest. omega arith)
 
-pub solid_by_byte-cuts : (edition : Edition) (text : List ℕ) → Cuts text (solid_by_byte edition text)
-unfolding solid_by_byte
-solid_by_byte-cuts edition [] = named_token-cuts edition type_selector []
-solid_by_byte-cuts edition (b ∷ text) =
-    cuts-if (b ∷ text) (b == 62) _ _ (omega arith)
-    (cuts-if (b ∷ text) (b == 43) _ _ (omega arith)
-    (cuts-if (b ∷ text) (b == 42) _ _ (omega arith)
-    (cuts-if (b ∷ text) (b == 35) _ _ (owes-cuts b (named_token-lawful id_selector text text) edition)
-    (cuts-if (b ∷ text) (b == 46) _ _ (owes-cuts b (named_token-lawful class_selector text text) edition)
-    (cuts-if (b ∷ text) (b == 91) _ _ (owes-cuts b (attribute_after-lawful text text) edition)
-    (cuts-if (b ∷ text) (b == 58) _ _ (owes-cuts b (pseudo_class_after-lawful text text) edition)
-    (named_token-cuts edition type_selector (b ∷ text))))))))
+solid_as-cuts : (edition : Edition) (kind : NextKind) (b : ℕ) (text : List ℕ) → Cuts (b ∷ text) (solid_as edition kind (b ∷ text))
+solid_as-cuts edition Stop b text = omega arith
+solid_as-cuts edition Slash b text = omega arith
+solid_as-cuts edition Child b text = omega arith
+solid_as-cuts edition Adjacent b text = omega arith
+solid_as-cuts edition Universal b text = omega arith
+solid_as-cuts edition Id b text = owes-cuts b (named_token-lawful id_selector text text) edition
+solid_as-cuts edition Class b text = owes-cuts b (named_token-lawful class_selector text text) edition
+solid_as-cuts edition Attribute b text = owes-cuts b (attribute_after-lawful text text) edition
+solid_as-cuts edition Colon b text = owes-cuts b (pseudo_class_after-lawful text text) edition
+solid_as-cuts edition Other b text = named_token-cuts edition type_selector (b ∷ text)
 
 -- a solid piece takes a byte or more
 pub solid-cuts : (edition : Edition) (text : List ℕ) → Cuts text (solid edition text)
-unfolding solid
-solid-cuts edition text = cuts-if text (ends_selector text || starts 47 text) (fails no_selector text) (solid_by_byte edition text) (omega arith) (solid_by_byte-cuts edition text)
+unfolding solid next_kind
+solid-cuts edition [] = omega arith
+solid-cuts edition (b ∷ text) = solid_as-cuts edition (next_kind (b ∷ text)) b text
 
 piece-cuts : (edition : Edition) (text : List ℕ) → Cuts text (piece edition text)
 unfolding piece

@@ -1,81 +1,86 @@
--- What stands at the front of a text decides its sequence: a gap, and behind it a stop, a slash or
--- a piece.
--- Serves `SelectorTokenizer::from` (what is to come) and `laws::cutting_law`.
-use Rattle.std.proofs.Common.{Bool, List, [], false, if◌then◌else◌, refl, true, ℕ, ◌∙◌, ◌≡◌}
-use Rattle.simplecss_text.specs.Reading.{Fault, Reading, fails, got, no_selector}
-use Rattle.simplecss_text.specs.Bytes.{starts, starts_by}
+-- What stands at the front of a text decides its sequence: a gap, the kind of what stands behind
+-- it, and what is read there.
+-- Serves `SelectorTokenizer` (what is to come), `Selector::parse_front` and `laws::cutting_law`.
+use Rattle.std.proofs.Common.{Bool, List, true, false, refl, sym, ap, ℕ, ◌∙◌, ◌≡◌}
+use Rattle.simplecss_text.specs.Reading.{Fault, Reading, fails, got}
 use Rattle.simplecss_text.specs.Characters.{Edition}
 use Rattle.simplecss_text.specs.Comments.{gap}
+use Rattle.simplecss_text.specs.declared.next_kind.NextKind.{NextKind}
+use Rattle.simplecss_text.specs.declared.next_kind.NextKind.TheVariants.{Stop, Slash, Child, Adjacent, Universal, Id, Class, Attribute, Colon, Other}
 use Rattle.simplecss_text.specs.Tokens.{Token}
-use Rattle.simplecss_text.specs.Pieces.{Ending, begins_subselector, solid_by_byte, ending, ends_selector, piece, solid}
-use Rattle.simplecss_text.specs.Pieces.Ending.{at_slash, at_stop, within_gap, within_piece, without_head}
-use Rattle.simplecss_text.specs.Neighbours.{Side, between, follows_as, side_behind}
-use Rattle.simplecss_text.specs.TokenSequences.{TokenSequence, answered, sequence, sequence_from, token_then}
+use Rattle.simplecss_text.specs.Tokens.Token.{descendant_combinator}
+use Rattle.simplecss_text.specs.Pieces.{IsSimplePiece, next_kind, solid_as, solid, piece, ending, fault_ending}
+use Rattle.simplecss_text.specs.Pieces.Ending.{within_gap}
+use Rattle.simplecss_text.specs.Neighbours.{Side, between, side_behind}
+use Rattle.simplecss_text.specs.Neighbours.Side.{open_side, closed_side}
+use Rattle.simplecss_text.specs.TokenSequences.{TokenSequence, answered, ending_sequence, sequence_from, token_then}
 use Rattle.simplecss_text.proofs.reading.SequenceLaws.{sequence_from-ending, sequence_from-piece}
+use Rattle.simplecss_text.proofs.reading.KindLaws.{solid-kind_known}
+use Rattle.simplecss_text.proofs.bytes.GapLaws.{gap-again}
 
--- the ending at a fault of a solid piece
-abbrev pub fault_end : Bool → List ℕ → Fault → List ℕ → Ending
-fault_end spaced start fault after =
-    if starts_by begins_subselector start then within_piece spaced start fault after else without_head spaced start fault after
-
--- the sequence where a solid piece begins, from what is read there
-abbrev pub piece_sequence : Edition → Side → Bool → List ℕ → Reading Token → TokenSequence
-piece_sequence edition side spaced start (got token after) = answered (between side spaced (follows_as token start after)) start (token_then token after (sequence_from edition (side_behind token) after))
-piece_sequence edition side spaced start (fails fault after) = sequence side [] (fault_end spaced start fault after)
-
--- the sequence behind a gap
-abbrev pub solid_sequence : Edition → Side → Bool → List ℕ → TokenSequence
-solid_sequence edition side spaced start =
-    if ends_selector start then sequence side [] (at_stop spaced start)
-    else (if starts 47 start then sequence side [] (at_slash spaced start)
-    else piece_sequence edition side spaced start (solid_by_byte edition start))
+-- the sequence behind a gap, from the kind of what stands there and what is read as a solid piece
+abbrev pub solid_sequence : Edition → Side → Bool → NextKind → List ℕ → Reading Token → TokenSequence
+solid_sequence edition side spaced kind start (got token after) = answered (between side spaced kind start after) start (token_then token after (sequence_from edition (side_behind kind) after))
+solid_sequence edition side spaced kind start (fails fault after) = ending_sequence side (fault_ending kind spaced start fault after)
 
 -- the sequence, from what is read as its gap
 abbrev pub gap_sequence : Edition → Side → Reading Bool → TokenSequence
-gap_sequence edition side (got spaced start) = solid_sequence edition side spaced start
-gap_sequence edition side (fails fault after) = sequence side [] (within_gap fault after)
+gap_sequence edition side (got spaced start) = solid_sequence edition side spaced (next_kind start) start (solid edition start)
+gap_sequence edition side (fails fault after) = ending_sequence side (within_gap fault after)
 
-sequence_from-gap : (edition : Edition) (side : Side) (text after : List ℕ) (fault : Fault) → gap text ≡ fails fault after → sequence_from edition side text ≡ sequence side [] (within_gap fault after)
+-- a comment in the gap is open
+pub sequence_from-open_gap : (edition : Edition) (side : Side) (text after : List ℕ) (fault : Fault) → gap text ≡ fails fault after → sequence_from edition side text ≡ ending_sequence side (within_gap fault after)
 unfolding piece ending
-sequence_from-gap edition side text after fault e =
-    let failed : piece edition text ≡ fails fault after = rw e refl in
-    sequence_from-ending edition side text after fault failed ∙ rw e refl
+sequence_from-open_gap edition side text after fault g =
+    let failed : piece edition text ≡ fails fault after = rw g refl in
+    sequence_from-ending edition side text after fault failed ∙ rw g refl
 
-sequence_from-stop : (edition : Edition) (side : Side) (text start : List ℕ) (spaced : Bool) → gap text ≡ got spaced start → ends_selector start ≡ true → sequence_from edition side text ≡ sequence side [] (at_stop spaced start)
-unfolding piece ending solid
-sequence_from-stop edition side text start spaced e f =
-    let failed : piece edition text ≡ fails no_selector start = rw (e, f) refl in
-    sequence_from-ending edition side text start no_selector failed ∙ rw (e, f) refl
+-- a solid piece stands there, or its fault
+pub sequence_from-solid : (edition : Edition) (side : Side) (text start : List ℕ) (spaced : Bool) (r : Reading Token) → gap text ≡ got spaced start → solid edition start ≡ r → sequence_from edition side text ≡ solid_sequence edition side spaced (next_kind start) start r
+unfolding piece ending
+sequence_from-solid edition side text start spaced (got token after) g s =
+    let read : piece edition text ≡ got (record { spaced = spaced; start = start; kind = next_kind start; token = token; after = after }) after = rw (g, s) refl in
+    sequence_from-piece edition side text after (record { spaced = spaced; start = start; kind = next_kind start; token = token; after = after }) read
+sequence_from-solid edition side text start spaced (fails fault after) g s =
+    let failed : piece edition text ≡ fails fault after = rw (g, s) refl in
+    sequence_from-ending edition side text after fault failed ∙ rw (g, s) refl
 
-sequence_from-slash : (edition : Edition) (side : Side) (text start : List ℕ) (spaced : Bool) → gap text ≡ got spaced start → ends_selector start ≡ false → starts 47 start ≡ true → sequence_from edition side text ≡ sequence side [] (at_slash spaced start)
-unfolding piece ending solid
-sequence_from-slash edition side text start spaced e f k =
-    let failed : piece edition text ≡ fails no_selector start = rw (e, f, k) refl in
-    sequence_from-ending edition side text start no_selector failed ∙ rw (e, f, k) refl
-
-sequence_from-by_byte : (edition : Edition) (side : Side) (text start : List ℕ) (spaced : Bool) → gap text ≡ got spaced start → ends_selector start ≡ false → starts 47 start ≡ false → sequence_from edition side text ≡ piece_sequence edition side spaced start (solid_by_byte edition start)
-unfolding piece ending solid
-sequence_from-by_byte edition side text start spaced e f k = by (solid_by_byte edition start) refl
-  where
-    by : (r : Reading Token) → solid_by_byte edition start ≡ r → sequence_from edition side text ≡ piece_sequence edition side spaced start r
-    by (got token after) g =
-        let read : piece edition text ≡ got (record { spaced = spaced; start = start; token = token; after = after }) after = rw (e, f, k, g) refl in
-        sequence_from-piece edition side text after (record { spaced = spaced; start = start; token = token; after = after }) read
-    by (fails fault after) g =
-        let failed : piece edition text ≡ fails fault after = rw (e, f, k, g) refl in
-        sequence_from-ending edition side text after fault failed ∙ rw (e, f, k, g) refl
+-- the same, where the kind is known
+pub sequence_from-kind : (edition : Edition) (side : Side) (text start : List ℕ) (spaced : Bool) (kind : NextKind) (r : Reading Token) → gap text ≡ got spaced start → next_kind start ≡ kind → solid_as edition kind start ≡ r → sequence_from edition side text ≡ solid_sequence edition side spaced kind start r
+sequence_from-kind edition side text start spaced kind r g k s =
+    sequence_from-solid edition side text start spaced r g (solid-kind_known edition kind start k ∙ s)
+    ∙ ap (λ k. solid_sequence edition side spaced k start r) k
 
 pub sequence_from-by : (edition : Edition) (side : Side) (text : List ℕ) → sequence_from edition side text ≡ gap_sequence edition side (gap text)
 sequence_from-by edition side text = by (gap text) refl
   where
     by : (r : Reading Bool) → gap text ≡ r → sequence_from edition side text ≡ gap_sequence edition side r
-    by (fails fault after) e = sequence_from-gap edition side text after fault e
-    by (got spaced start) e = stop (ends_selector start) refl
-      where
-        slash : (j : Bool) → ends_selector start ≡ false → starts 47 start ≡ j → sequence_from edition side text ≡ (if j then sequence side [] (at_slash spaced start) else piece_sequence edition side spaced start (solid_by_byte edition start))
-        slash true f k = sequence_from-slash edition side text start spaced e f k
-        slash false f k = sequence_from-by_byte edition side text start spaced e f k
+    by (fails fault after) g = sequence_from-open_gap edition side text after fault g
+    by (got spaced start) g = sequence_from-solid edition side text start spaced (solid edition start) g refl
 
-        stop : (i : Bool) → ends_selector start ≡ i → sequence_from edition side text ≡ (if i then sequence side [] (at_stop spaced start) else (if starts 47 start then sequence side [] (at_slash spaced start) else piece_sequence edition side spaced start (solid_by_byte edition start)))
-        stop true f = sequence_from-stop edition side text start spaced e f
-        stop false f = slash (starts 47 start) f refl
+-- behind a simple piece and a space byte: a descendant combinator, and then all is as at the start
+-- of a text
+descends : (edition : Edition) (kind : NextKind) (start : List ℕ) (r : Reading Token) → IsSimplePiece kind → solid_sequence edition closed_side true kind start r ≡ token_then descendant_combinator start (solid_sequence edition open_side false kind start r)
+descends edition Stop start r simple = absurd simple
+descends edition Slash start r simple = absurd simple
+descends edition Child start r simple = absurd simple
+descends edition Adjacent start r simple = absurd simple
+descends edition Universal start (got token after) simple = refl
+descends edition Universal start (fails fault after) simple = refl
+descends edition Id start (got token after) simple = refl
+descends edition Id start (fails fault after) simple = refl
+descends edition Class start (got token after) simple = refl
+descends edition Class start (fails fault after) simple = refl
+descends edition Attribute start (got token after) simple = refl
+descends edition Attribute start (fails fault after) simple = refl
+descends edition Colon start (got token after) simple = refl
+descends edition Colon start (fails fault after) simple = refl
+descends edition Other start (got token after) simple = refl
+descends edition Other start (fails fault after) simple = refl
+
+pub sequence_from-descends : (edition : Edition) (text start : List ℕ) (kind : NextKind) → gap text ≡ got true start → next_kind start ≡ kind → IsSimplePiece kind → sequence_from edition closed_side text ≡ token_then descendant_combinator start (sequence_from edition open_side start)
+sequence_from-descends edition text start kind g k simple =
+    let r = solid_as edition kind start in
+    sequence_from-kind edition closed_side text start true kind r g k refl
+    ∙ descends edition kind start r simple
+    ∙ ap (token_then descendant_combinator start) (sym (sequence_from-kind edition open_side start start false kind r (gap-again text start true g) k refl))

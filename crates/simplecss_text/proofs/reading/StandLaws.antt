@@ -1,7 +1,7 @@
 -- What each reader leaves is an end of the text, and what it gives stands before that end.
 -- Serves `next` of `SelectorTokenizer` (slices in order), `consume_declaration`,
 -- `laws::cutting_law` and `laws::edition_law`.
-use Rattle.std.proofs.Common.{◌≡◌, ℕ, ◌<◌, ◌+◌, List, [], ◌∷◌, ◌++◌, Bool, true, false, if◌then◌else◌, ◌||◌, ◌&&◌, ◌==◌, not, bytes_eq, length, take, drop, get_or, Option, Some, None, arith, refl, sym, ap, ◌∙◌, subst, encode_utf8_all, codes, append_assoc, append-nil, IsUtf8, length-append, length-drop, cond, ◌⊎◌, inl, inr}
+use Rattle.std.proofs.Common.{◌≡◌, ℕ, ◌<◌, ◌+◌, List, [], ◌∷◌, ◌++◌, Bool, true, false, if◌then◌else◌, ◌&&◌, ◌==◌, not, bytes_eq, length, take, drop, get_or, Option, Some, None, arith, refl, sym, ap, ◌∙◌, subst, encode_utf8_all, codes, append_assoc, append-nil, IsUtf8, length-append, length-drop, cond, ◌⊎◌, inl, inr}
 use Rattle.std.specs.Str.{chars, trim, trim_start, trim_end, skip_leading_whitespace, drop_trailing_whitespace, all_scalars, IsCharBoundary}
 use Rattle.std.specs.Char.{is_whitespace}
 use Rattle.std.specs.Option.{option_map}
@@ -12,8 +12,10 @@ use Rattle.std.proofs.Math.Seq.{get_or-append_seam, drop-append-add}
 use Rattle.std.proofs.lemmas.Bool.{eqb-true, not-false}
 use Rattle.std.proofs.Math.Nat.{eq-or-lt_of_le}
 use Rattle.std.proofs.lemmas.Slice.Eq.{bytes_eq-Decides}
-use Rattle.simplecss_text.specs.Reading.{no_name, no_comment, no_selector, no_language, wrong_byte, Reading, got, fails, before, Ends}
-use Rattle.simplecss_text.specs.Bytes.{past, past_one, past_byte, byte, starts_two, starts}
+use Rattle.simplecss_text.specs.Reading.{no_name, no_comment, no_language, wrong_byte, Reading, got, fails, before, Ends}
+use Rattle.simplecss_text.specs.Bytes.{past, past_one, past_byte, byte, starts_two}
+use Rattle.simplecss_text.specs.declared.next_kind.NextKind.{NextKind}
+use Rattle.simplecss_text.specs.declared.next_kind.NextKind.TheVariants.{Stop, Slash, Child, Adjacent, Universal, Id, Class, Attribute, Colon, Other}
 use Rattle.simplecss_text.specs.Characters.{Edition, is_name_char, is_space}
 use Rattle.simplecss_text.specs.Comments.{opens_comment, after_close, after_comment, blank_part, past_blank, blank, has_space, gap}
 use Rattle.simplecss_text.specs.Names.{begins_name, past_name_chars, name}
@@ -23,7 +25,8 @@ use Rattle.simplecss_text.specs.Components.{Operator}
 use Rattle.simplecss_text.specs.Components.Operator.{equals, has_word, begins_with}
 use Rattle.simplecss_text.specs.Tokens.{Token, token_texts, operator_texts}
 use Rattle.simplecss_text.specs.Tokens.Token.{universal_selector, type_selector, id_selector, class_selector, attribute_selector, named_pseudo_class, lang_pseudo_class, child_combinator, adjacent_combinator}
-use Rattle.simplecss_text.specs.Pieces.{attribute_operator, equated, attribute_after, lang_of, lang_after, pseudo_class_named, pseudo_class_after, named_token, solid_by_byte, ends_selector, solid}
+use Rattle.simplecss_text.specs.Pieces.{attribute_operator, equated, attribute_after, lang_of, lang_after, pseudo_class_named, pseudo_class_after, named_token, next_kind, solid_as, solid}
+use Rattle.simplecss_text.proofs.reading.KindLaws.{sign-begins}
 use Rattle.simplecss_text.proofs.reading.EndsLaws.{before-append, ends-append, ends-by, ends-same, ends-nil, ends-drop, ends-cons, ends-tail, ends-past_one, ends-past_byte, ends-past, EndsSome, ends_some-if, ends_some-ends, EndsFound, each-ends, stand-from, stand-to, stand-ends, stand-before, Stands, no_texts, itself, stands-unseen, stands-from, stands-if, stands-then, stands-follow}
 
 -- ---- bytes, comments and blanks
@@ -289,28 +292,26 @@ named_token-stands edition token is text =
     stands-follow text itself token_texts (name edition text) (λ n. got (token n)) (name-stands edition text) (λ n rest e h.
     record { at = subst (StandBetween text rest) (sym (is n)) h })
 
-solid_by_byte-stands : {Good : List ℕ → Type 0} {texts : Token → List (List ℕ)} → Sees Good texts → (edition : Edition) (whole text : List ℕ) → Good whole → Ends whole text → Stands text texts (solid_by_byte edition text)
-unfolding solid_by_byte
-solid_by_byte-stands sees edition whole [] good e = sees.seen [] (named_token edition type_selector []) (named_token-stands edition type_selector (λ n. refl) [])
-solid_by_byte-stands {Good = Good} {texts = texts} sees edition whole (b ∷ text) good e =
-    stands-if (b ∷ text) texts (b == 62) _ _ (sees.seen (b ∷ text) (got child_combinator text) (record { at = ends-tail b text }))
-    (stands-if (b ∷ text) texts (b == 43) _ _ (sees.seen (b ∷ text) (got adjacent_combinator text) (record { at = ends-tail b text }))
-    (stands-if (b ∷ text) texts (b == 42) _ _ (sees.seen (b ∷ text) (got universal_selector text) (record { at = ends-tail b text }))
-    (stands-if (b ∷ text) texts (b == 35) _ _ (more (named_token edition id_selector text) (named_token-stands edition id_selector (λ n. refl) text))
-    (stands-if (b ∷ text) texts (b == 46) _ _ (more (named_token edition class_selector text) (named_token-stands edition class_selector (λ n. refl) text))
-    (stands-if (b ∷ text) texts (b == 91) _ _ (more (attribute_after edition text) (attribute_after-stands edition text))
-    (by (b == 58) refl))))))
+solid_as-stands : {Good : List ℕ → Type 0} {texts : Token → List (List ℕ)} → Sees Good texts → (edition : Edition) (whole text : List ℕ) → Good whole → Ends whole text → (kind : NextKind) → next_kind text ≡ kind → Stands text texts (solid_as edition kind text)
+solid_as-stands {Good = Good} {texts = texts} sees edition whole text good e = by
   where
-    more : (r : Reading Token) → Stands text token_texts r → Stands (b ∷ text) texts r
-    more r h = sees.seen (b ∷ text) r (stands-from (b ∷ text) text token_texts r (ends-tail b text) h)
+    more : (r : Reading Token) → Stands (past_one text) token_texts r → Stands text texts r
+    more r h = sees.seen text r (stands-from text (past_one text) token_texts r (ends-past_one text) h)
 
-    by : (t : Bool) → (b == 58) ≡ t → Stands (b ∷ text) texts (if t then pseudo_class_after edition text else named_token edition type_selector (b ∷ text))
-    by true t =
-        let ascii : b < 128 = omega (arith, eqb-true b 58 t) in
-        stands-from (b ∷ text) text texts (pseudo_class_after edition text) (ends-tail b text) (pseudo_class_after-stands sees edition text (sees.behind whole text b ascii good e))
-    by false t = sees.seen (b ∷ text) (named_token edition type_selector (b ∷ text)) (named_token-stands edition type_selector (λ n. refl) (b ∷ text))
+    by : (kind : NextKind) → next_kind text ≡ kind → Stands text texts (solid_as edition kind text)
+    by Stop k = record { at = ends-same text }
+    by Slash k = record { at = ends-same text }
+    by Child k = sees.seen text (got child_combinator (past_one text)) (record { at = ends-past_one text })
+    by Adjacent k = sees.seen text (got adjacent_combinator (past_one text)) (record { at = ends-past_one text })
+    by Universal k = sees.seen text (got universal_selector (past_one text)) (record { at = ends-past_one text })
+    by Id k = more _ (named_token-stands edition id_selector (λ n. refl) (past_one text))
+    by Class k = more _ (named_token-stands edition class_selector (λ n. refl) (past_one text))
+    by Attribute k = more _ (attribute_after-stands edition (past_one text))
+    by Colon k =
+        let sign = sign-begins Colon text tt k in
+        stands-from text (past_one text) texts _ (ends-past_one text) (pseudo_class_after-stands sees edition (past_one text) (sees.behind whole (past_one text) sign.byte sign.ascii good (subst (Ends whole) sign.is e)))
+    by Other k = sees.seen text _ (named_token-stands edition type_selector (λ n. refl) text)
 
 pub solid-stands : {Good : List ℕ → Type 0} {texts : Token → List (List ℕ)} → Sees Good texts → (edition : Edition) (whole text : List ℕ) → Good whole → Ends whole text → Stands text texts (solid edition text)
 unfolding solid
-solid-stands {texts = texts} sees edition whole text good e =
-    stands-if text texts (ends_selector text || starts 47 text) (fails no_selector text) (solid_by_byte edition text) (record { at = ends-same text }) (solid_by_byte-stands sees edition whole text good e)
+solid-stands sees edition whole text good e = solid_as-stands sees edition whole text good e (next_kind text) refl

@@ -16,7 +16,7 @@ use Rattle.simplecss_text.specs.Components.Operator.{has_word}
 use Rattle.simplecss_text.specs.Components.KnownPseudoClass.{first_child}
 use Rattle.simplecss_text.specs.Components.Subselector.{attribute, pseudo_class}
 use Rattle.simplecss_text.specs.Components.Combinator.{none, child}
-use Rattle.simplecss_text.specs.Pieces.{attribute_operator, attribute_after, lang_after, pseudo_class_after, named_token, solid_by_byte, solid, piece, ending}
+use Rattle.simplecss_text.specs.Pieces.{attribute_operator, attribute_after, lang_after, pseudo_class_after, named_token, next_kind, solid, piece, ending}
 use Rattle.simplecss_text.specs.TokenSequences.{sequence_from}
 use Rattle.simplecss_text.specs.Selectors.{reads}
 use Rattle.simplecss_text.specs.Specificity.{specificity}
@@ -25,7 +25,7 @@ use Rattle.simplecss_text.specs.Printing.{selector_text, is_clean}
 -- the components of a text
 pub components : (edition : Edition) →
     reads edition (codes "a > .b:first-child, c") ≡ (Some (record { combinator = none; compound = record { name = Some (codes "a"); subselectors = [] } } ∷ record { combinator = child; compound = record { name = None; subselectors = attribute (codes "class") (has_word (codes "b")) ∷ pseudo_class first_child ∷ [] } } ∷ []), codes ", c")
-unfolding each comment blank gap past_name_chars name string_or_name attribute_operator attribute_after lang_after pseudo_class_after named_token solid_by_byte solid piece ending sequence_from chars encode trim_start trim_end reads
+unfolding each comment blank gap past_name_chars name string_or_name attribute_operator attribute_after lang_after pseudo_class_after named_token next_kind solid piece ending sequence_from chars encode trim_start trim_end reads
 components first_edition = refl
 components second_edition = refl
 
@@ -65,7 +65,7 @@ pub printed : (edition : Edition) →
     × ((reads edition (codes "[x='a'b']")).1 ≡ (codes "b']"))
     × (option_map selector_text (reads edition (codes "[x=\"a\\'b\"]")).0 ≡ Some (codes "*[x='a\\'b']"))
     × ((reads edition (codes "[x=\"a\\'b\"]")).1 ≡ [])
-unfolding each comment blank gap past_name_chars name string_or_name attribute_operator attribute_after lang_after pseudo_class_after named_token solid_by_byte solid piece ending sequence_from chars encode trim_start trim_end reads
+unfolding each comment blank gap past_name_chars name string_or_name attribute_operator attribute_after lang_after pseudo_class_after named_token next_kind solid piece ending sequence_from chars encode trim_start trim_end reads
 printed first_edition = (refl, refl, refl, refl, refl, refl, refl, refl, refl, refl, refl, refl, refl, refl, refl, refl, refl, refl, refl, refl, refl, refl, refl, refl, refl, refl, refl, refl, refl, refl, refl, refl, refl, refl)
 printed second_edition = (refl, refl, refl, refl, refl, refl, refl, refl, refl, refl, refl, refl, refl, refl, refl, refl, refl, refl, refl, refl, refl, refl, refl, refl, refl, refl, refl, refl, refl, refl, refl, refl, refl, refl)
 
@@ -75,7 +75,7 @@ pub printed-editions :
     × ((reads second_edition (encode_utf8_all (codes "é"))).1 ≡ [])
     × (option_map selector_text (reads first_edition (encode_utf8_all (codes "é"))).0 ≡ None)
     × ((reads first_edition (encode_utf8_all (codes "é"))).1 ≡ (encode_utf8_all (codes "é")))
-unfolding each comment blank gap past_name_chars name string_or_name attribute_operator attribute_after lang_after pseudo_class_after named_token solid_by_byte solid piece ending sequence_from chars encode trim_start trim_end reads
+unfolding each comment blank gap past_name_chars name string_or_name attribute_operator attribute_after lang_after pseudo_class_after named_token next_kind solid piece ending sequence_from chars encode trim_start trim_end reads
 printed-editions = (refl, refl, refl, refl)
 
 -- ids, other subselectors and type names are counted, up to 255
@@ -86,7 +86,7 @@ pub specificities : (edition : Edition) →
     × (option_map specificity (reads edition (codes "*")).0 ≡ Some (0 ∷ 0 ∷ 0 ∷ []))
     × (option_map specificity (reads edition (codes "a, b")).0 ≡ Some (0 ∷ 0 ∷ 1 ∷ []))
     × (option_map specificity (reads edition (codes "a > .b")).0 ≡ Some (0 ∷ 1 ∷ 1 ∷ []))
-unfolding each comment blank gap past_name_chars name string_or_name attribute_operator attribute_after lang_after pseudo_class_after named_token solid_by_byte solid piece ending sequence_from chars encode trim_start trim_end reads
+unfolding each comment blank gap past_name_chars name string_or_name attribute_operator attribute_after lang_after pseudo_class_after named_token next_kind solid piece ending sequence_from chars encode trim_start trim_end reads
 specificities first_edition = (refl, refl, refl, refl, refl, refl)
 specificities second_edition = (refl, refl, refl, refl, refl, refl)
 
@@ -96,7 +96,7 @@ pub clean : (edition : Edition) →
     × (option_map is_clean (reads edition (codes "[x=\"a\\'b\"]")).0 ≡ Some true)
     × (option_map is_clean (reads edition (codes "[x=\"a'b\"]")).0 ≡ Some false)
     × (option_map is_clean (reads edition (codes "a")).0 ≡ Some true)
-unfolding each comment blank gap past_name_chars name string_or_name attribute_operator attribute_after lang_after pseudo_class_after named_token solid_by_byte solid piece ending sequence_from chars encode trim_start trim_end reads
+unfolding each comment blank gap past_name_chars name string_or_name attribute_operator attribute_after lang_after pseudo_class_after named_token next_kind solid piece ending sequence_from chars encode trim_start trim_end reads
 clean first_edition = (refl, refl, refl, refl)
 clean second_edition = (refl, refl, refl, refl)
 
@@ -116,7 +116,7 @@ pub other_spellings : (edition : Edition) →
     × ((reads edition (codes ".b:lang( en )")).1 ≡ [])
     × (option_map selector_text (reads edition (codes ".-")).0 ≡ Some (codes "*[class~='-']"))
     × ((reads edition (codes ".-")).1 ≡ [])
-unfolding each comment blank gap past_name_chars name string_or_name attribute_operator attribute_after lang_after pseudo_class_after named_token solid_by_byte solid piece ending sequence_from chars encode trim_start trim_end reads
+unfolding each comment blank gap past_name_chars name string_or_name attribute_operator attribute_after lang_after pseudo_class_after named_token next_kind solid piece ending sequence_from chars encode trim_start trim_end reads
 other_spellings first_edition = (refl, refl, refl, refl, refl, refl, refl, refl, refl, refl, refl, refl, refl, refl)
 other_spellings second_edition = (refl, refl, refl, refl, refl, refl, refl, refl, refl, refl, refl, refl, refl, refl)
 
@@ -134,7 +134,7 @@ pub printed_again : (edition : Edition) →
     × ((reads edition (codes "*[x='a'][y='b']")).1 ≡ [])
     × (option_map selector_text (reads edition (codes "*[x='a\\'b']")).0 ≡ Some (codes "*[x='a\\'b']"))
     × ((reads edition (codes "*[x='a\\'b']")).1 ≡ [])
-unfolding each comment blank gap past_name_chars name string_or_name attribute_operator attribute_after lang_after pseudo_class_after named_token solid_by_byte solid piece ending sequence_from chars encode trim_start trim_end reads
+unfolding each comment blank gap past_name_chars name string_or_name attribute_operator attribute_after lang_after pseudo_class_after named_token next_kind solid piece ending sequence_from chars encode trim_start trim_end reads
 printed_again first_edition = (refl, refl, refl, refl, refl, refl, refl, refl, refl, refl, refl, refl)
 printed_again second_edition = (refl, refl, refl, refl, refl, refl, refl, refl, refl, refl, refl, refl)
 
@@ -144,7 +144,7 @@ pub bare_apostrophes : (edition : Edition) →
     × ((reads edition (codes "[x=\"a'b\"]")).1 ≡ [])
     × (option_map selector_text (reads edition (codes "*[x='a'b']")).0 ≡ None)
     × ((reads edition (codes "*[x='a'b']")).1 ≡ (codes "b']"))
-unfolding each comment blank gap past_name_chars name string_or_name attribute_operator attribute_after lang_after pseudo_class_after named_token solid_by_byte solid piece ending sequence_from chars encode trim_start trim_end reads
+unfolding each comment blank gap past_name_chars name string_or_name attribute_operator attribute_after lang_after pseudo_class_after named_token next_kind solid piece ending sequence_from chars encode trim_start trim_end reads
 bare_apostrophes first_edition = (refl, refl, refl, refl)
 bare_apostrophes second_edition = (refl, refl, refl, refl)
 
@@ -156,7 +156,7 @@ pub all_subselectors : (edition : Edition) →
     × ((reads edition (codes "a:first-child:link:visited:hover:active:focus")).1 ≡ [])
     × (option_map selector_text (reads edition (codes "*:lang(en) + b>c")).0 ≡ Some (codes "*:lang(en) + b > c"))
     × ((reads edition (codes "*:lang(en) + b>c")).1 ≡ [])
-unfolding each comment blank gap past_name_chars name string_or_name attribute_operator attribute_after lang_after pseudo_class_after named_token solid_by_byte solid piece ending sequence_from chars encode trim_start trim_end reads
+unfolding each comment blank gap past_name_chars name string_or_name attribute_operator attribute_after lang_after pseudo_class_after named_token next_kind solid piece ending sequence_from chars encode trim_start trim_end reads
 all_subselectors first_edition = (refl, refl, refl, refl, refl, refl)
 all_subselectors second_edition = (refl, refl, refl, refl, refl, refl)
 
@@ -186,7 +186,7 @@ pub refusals : (edition : Edition) →
     × ((reads edition (codes "b:-")).1 ≡ [])
     × (option_map selector_text (reads edition (codes "a,:b")).0 ≡ Some (codes "a"))
     × ((reads edition (codes "a,:b")).1 ≡ (codes ",:b"))
-unfolding each comment blank gap past_name_chars name string_or_name attribute_operator attribute_after lang_after pseudo_class_after named_token solid_by_byte solid piece ending sequence_from chars encode trim_start trim_end reads
+unfolding each comment blank gap past_name_chars name string_or_name attribute_operator attribute_after lang_after pseudo_class_after named_token next_kind solid piece ending sequence_from chars encode trim_start trim_end reads
 refusals first_edition = (refl, refl, refl, refl, refl, refl, refl, refl, refl, refl, refl, refl, refl, refl, refl, refl, refl, refl, refl, refl, refl, refl, refl, refl)
 refusals second_edition = (refl, refl, refl, refl, refl, refl, refl, refl, refl, refl, refl, refl, refl, refl, refl, refl, refl, refl, refl, refl, refl, refl, refl, refl)
 
@@ -196,7 +196,7 @@ pub wide_type_names : (edition : Edition) →
     × ((reads edition (encode_utf8_all (codes "î"))).1 ≡ [])
     × (option_map selector_text (reads edition (194 ∷ 159 ∷ [])).0 ≡ None)
     × ((reads edition (194 ∷ 159 ∷ [])).1 ≡ (194 ∷ 159 ∷ []))
-unfolding each comment blank gap past_name_chars name string_or_name attribute_operator attribute_after lang_after pseudo_class_after named_token solid_by_byte solid piece ending sequence_from chars encode trim_start trim_end reads
+unfolding each comment blank gap past_name_chars name string_or_name attribute_operator attribute_after lang_after pseudo_class_after named_token next_kind solid piece ending sequence_from chars encode trim_start trim_end reads
 wide_type_names first_edition = (refl, refl, refl, refl)
 wide_type_names second_edition = (refl, refl, refl, refl)
 
@@ -204,7 +204,7 @@ wide_type_names second_edition = (refl, refl, refl, refl)
 pub wide_type_names-editions :
     (option_map selector_text (reads second_edition (194 ∷ 160 ∷ [])).0 ≡ Some (194 ∷ 160 ∷ []))
     × ((reads second_edition (194 ∷ 160 ∷ [])).1 ≡ [])
-unfolding each comment blank gap past_name_chars name string_or_name attribute_operator attribute_after lang_after pseudo_class_after named_token solid_by_byte solid piece ending sequence_from chars encode trim_start trim_end reads
+unfolding each comment blank gap past_name_chars name string_or_name attribute_operator attribute_after lang_after pseudo_class_after named_token next_kind solid piece ending sequence_from chars encode trim_start trim_end reads
 wide_type_names-editions = (refl, refl)
 
 -- comments between the pieces, and a slash behind them
@@ -221,7 +221,7 @@ pub gaps_of_comments : (edition : Edition) →
     × ((reads edition (97 ∷ 12 ∷ [])).1 ≡ [])
     × (option_map selector_text (reads edition (codes "a/ b")).0 ≡ Some (codes "a"))
     × ((reads edition (codes "a/ b")).1 ≡ (codes "/ b"))
-unfolding each comment blank gap past_name_chars name string_or_name attribute_operator attribute_after lang_after pseudo_class_after named_token solid_by_byte solid piece ending sequence_from chars encode trim_start trim_end reads
+unfolding each comment blank gap past_name_chars name string_or_name attribute_operator attribute_after lang_after pseudo_class_after named_token next_kind solid piece ending sequence_from chars encode trim_start trim_end reads
 gaps_of_comments first_edition = (refl, refl, refl, refl, refl, refl, refl, refl, refl, refl, refl, refl)
 gaps_of_comments second_edition = (refl, refl, refl, refl, refl, refl, refl, refl, refl, refl, refl, refl)
 
@@ -235,6 +235,6 @@ pub counts : (edition : Edition) →
     × (option_map specificity (reads edition (codes "ul ol li.red")).0 ≡ Some (0 ∷ 1 ∷ 3 ∷ []))
     × (option_map specificity (reads edition (codes "[id~=a][class=id]:link")).0 ≡ Some (1 ∷ 2 ∷ 0 ∷ []))
     × (option_map specificity (reads edition (codes "*:lang(en) > *")).0 ≡ Some (0 ∷ 1 ∷ 0 ∷ []))
-unfolding each comment blank gap past_name_chars name string_or_name attribute_operator attribute_after lang_after pseudo_class_after named_token solid_by_byte solid piece ending sequence_from chars encode trim_start trim_end reads
+unfolding each comment blank gap past_name_chars name string_or_name attribute_operator attribute_after lang_after pseudo_class_after named_token next_kind solid piece ending sequence_from chars encode trim_start trim_end reads
 counts first_edition = (refl, refl, refl, refl, refl, refl, refl, refl)
 counts second_edition = (refl, refl, refl, refl, refl, refl, refl, refl)

@@ -1,16 +1,17 @@
-use Rattle.std.proofs.Common.{ℕ, List, ap, ◌∙◌, Ok, inl, inr}
+use Rattle.std.proofs.Common.{ℕ, List, ap, sym, ◌∙◌, inl, inr}
 use Rattle.simplecss_text.specs.Errors.{position_of}
 use Rattle.simplecss_text.specs.declared.Error.TheVariants.{InvalidComment}
 use Rattle.simplecss_text.specs.Cursor.{rest_of}
+use Rattle.simplecss_text.proofs.reading.KindLaws.{slash-starts}
 use Rattle.simplecss_selector.specs.SelectorTokenizers.{whole_text, left_of}
-use Rattle.simplecss_selector.proofs.Firsts.{simple_unless, closed_gap-first, closed_stop-first, slash-starts, closed_slash-first, closed_end-first, closed_joint-first, closed_spaced-first}
+use Rattle.simplecss_selector.proofs.Firsts.{simple_unless, closed_gap-first, closed_stop-first, closed_slash-first, closed_end-first, closed_joint-first, closed_spaced-first}
 use Rattle.simplecss_selector.proofs.tokenizer.SelectorTokenizer.next_closed.Goals as goal
 
 pub returns-in-Err-clause-first : goal.returns-in-Err-clause-first
 returns-in-Err-clause-first c = closed_gap-first (whole_text c.args.self.now) (left_of c.args.self.now) (rest_of c.consume_gap.new.s) c.in-Err.error c.in-Err.ensures.reads
 
 pub slash_error-requires : goal.slash_error-requires
-slash_error-requires c = slash-starts (rest_of c.consume_gap.new.s) c.next_kind-follows.result c.next_kind-follows.ensures c.in-Slash.is
+slash_error-requires c = slash-starts (rest_of c.consume_gap.new.s) (sym c.next_kind-follows.ensures ∙ c.in-Slash.is)
 
 pub returns-in-Stop-clause-first : goal.returns-in-Stop-clause-first
 returns-in-Stop-clause-first c = closed_stop-first (whole_text c.args.self.now) (left_of c.args.self.now) (rest_of c.consume_gap.new.s) c.in-Ok.spaced c.next_kind-follows.result c.in-Ok.ensures.reads c.next_kind-follows.ensures c.in-Stop.is
@@ -25,10 +26,10 @@ pub returns-in-Slash-2-clause-first : goal.returns-in-Slash-2-clause-first
 returns-in-Slash-2-clause-first c = closed_end-first (whole_text c.args.self.now) (left_of c.args.self.now) (rest_of c.consume_gap.new.s) c.in-Ok.spaced c.next_kind-follows.result c.in-Ok.ensures.reads c.if-spaced.false c.next_kind-follows.ensures c.in-Slash-2.is
 
 pub returns-in-Child-clause-first : goal.returns-in-Child-clause-first
-returns-in-Child-clause-first c = closed_joint-first (whole_text c.args.self.now) (left_of c.args.self.now) (rest_of c.consume_gap.new.s) (rest_of c.child.new.stream) c.in-Ok.spaced c.next_kind-follows.result (Ok c.child.result) c.in-Ok.ensures.reads c.next_kind-follows.ensures (inl c.in-Child.is) c.child.ensures.reads
+returns-in-Child-clause-first c = closed_joint-first (whole_text c.args.self.now) (left_of c.args.self.now) (rest_of c.consume_gap.new.s) (rest_of c.child.new.stream) c.in-Ok.spaced c.next_kind-follows.result c.child.result c.in-Ok.ensures.reads c.next_kind-follows.ensures (inl c.in-Child.is) (rw c.in-Child.is c.child.ensures.reads)
 
 pub returns-in-Adjacent-clause-first : goal.returns-in-Adjacent-clause-first
-returns-in-Adjacent-clause-first c = closed_joint-first (whole_text c.args.self.now) (left_of c.args.self.now) (rest_of c.consume_gap.new.s) (rest_of c.adjacent.new.stream) c.in-Ok.spaced c.next_kind-follows.result (Ok c.adjacent.result) c.in-Ok.ensures.reads c.next_kind-follows.ensures (inr c.in-Adjacent.is) c.adjacent.ensures.reads
+returns-in-Adjacent-clause-first c = closed_joint-first (whole_text c.args.self.now) (left_of c.args.self.now) (rest_of c.consume_gap.new.s) (rest_of c.adjacent.new.stream) c.in-Ok.spaced c.next_kind-follows.result c.adjacent.result c.in-Ok.ensures.reads c.next_kind-follows.ensures (inr c.in-Adjacent.is) (rw c.in-Adjacent.is c.adjacent.ensures.reads)
 
 pub returns-in_default : goal.returns-in_default
 returns-in_default c =

@@ -1,0 +1,91 @@
+-- The token of a solid piece tells its kind.
+-- Serves `Selector::{parse, parse_front}` and `StyleSheet::parse` (a selector printed and read
+-- again).
+use Rattle.std.proofs.Common.{◌≡◌, ℕ, List, Bool, true, codes, bytes_eq, ◌==◌, length, ap, ◌∙◌, refl}
+use Rattle.std.specs.Str.{trim}
+use Rattle.simplecss_text.specs.Reading.{Reading, Reader, got, fails, follow, no_language}
+use Rattle.simplecss_text.specs.Bytes.{byte, all_before, past_one}
+use Rattle.simplecss_text.specs.Characters.{Edition}
+use Rattle.simplecss_text.specs.Comments.{gap}
+use Rattle.simplecss_text.specs.Names.{name}
+use Rattle.simplecss_text.specs.declared.next_kind.NextKind.{NextKind}
+use Rattle.simplecss_text.specs.declared.next_kind.NextKind.TheVariants.{Stop, Slash, Child, Adjacent, Universal, Id, Class, Attribute, Colon, Other}
+use Rattle.simplecss_text.specs.Tokens.{Token}
+use Rattle.simplecss_text.specs.Tokens.Token.{universal_selector, type_selector, id_selector, class_selector, attribute_selector, named_pseudo_class, lang_pseudo_class, descendant_combinator, child_combinator, adjacent_combinator}
+use Rattle.simplecss_text.specs.Pieces.{attribute_operator, attribute_after, lang_of, lang_after, pseudo_class_named, pseudo_class_after, named_token, IsSimplePiece, next_kind, solid_as, solid}
+use Rattle.simplecss_text.specs.Neighbours.{Side, between, side_behind}
+use Rattle.simplecss_text.specs.Neighbours.Side.{open_side, closed_side}
+use Rattle.simplecss_text.specs.TokenSequences.{sequence_from, answered, token_then}
+use Rattle.simplecss_text.proofs.reading.SequenceSteps.{solid_sequence, sequence_from-solid, sequence_from-descends}
+use Rattle.simplecss_text.proofs.printed.GotLaws.{IfGot, if_got, if_got-follow, if_got-if, got-holds}
+
+-- the kind of a solid piece with this token (a descendant combinator is none)
+abbrev pub kind_of : Token → NextKind
+kind_of universal_selector = Universal
+kind_of (type_selector n) = Other
+kind_of (id_selector n) = Id
+kind_of (class_selector n) = Class
+kind_of (attribute_selector n operator) = Attribute
+kind_of (named_pseudo_class n) = Colon
+kind_of (lang_pseudo_class value) = Colon
+kind_of descendant_combinator = Stop
+kind_of child_combinator = Child
+kind_of adjacent_combinator = Adjacent
+
+abbrev OfKind : NextKind → Token → List ℕ → Type 0
+OfKind kind token rest = kind ≡ kind_of token
+
+behind : {A : Type 0} (kind : NextKind) (r : Reading A) (next : A → Reader Token) → ((x : A) (rest : List ℕ) → IfGot (OfKind kind) (next x rest)) → IfGot (OfKind kind) (follow r next)
+behind kind r next h = if_got-follow (λ x rest. Unit {0}) (OfKind kind) r next (if_got (λ x rest. Unit {0}) r (λ x rest e. tt)) (λ x rest u. h x rest)
+
+named_token-kind : (edition : Edition) (kind : NextKind) (token : List ℕ → Token) → ((n : List ℕ) → kind ≡ kind_of (token n)) → (text : List ℕ) → IfGot (OfKind kind) (named_token edition token text)
+unfolding named_token
+named_token-kind edition kind token is text = behind kind (name edition text) (λ n. got (token n)) (λ n rest. is n)
+
+attribute_after-kind : (edition : Edition) (text : List ℕ) → IfGot (OfKind Attribute) (attribute_after edition text)
+unfolding attribute_after
+attribute_after-kind edition text =
+    behind Attribute (name edition text) _ (λ n rest.
+    behind Attribute (attribute_operator edition rest) _ (λ operator next.
+    behind Attribute (byte 93 next) (λ u. got (attribute_selector n operator)) (λ u last. refl)))
+
+lang_after-kind : (text : List ℕ) → IfGot (OfKind Colon) (lang_after text)
+unfolding lang_after
+lang_after-kind text =
+    behind Colon (byte 40 text) _ (λ u rest.
+    behind Colon (all_before 41 rest) _ (λ value next.
+    behind Colon (byte 41 next) (λ u. lang_of (trim value)) (λ u last.
+    if_got-if (OfKind Colon) (length (trim value) == 0) (fails no_language last) (got (lang_pseudo_class (trim value)) last) (λ e. tt) (λ e. refl))))
+
+pseudo_class_after-kind : (edition : Edition) (text : List ℕ) → IfGot (OfKind Colon) (pseudo_class_after edition text)
+unfolding pseudo_class_after
+pseudo_class_after-kind edition text =
+    behind Colon (name edition text) pseudo_class_named (λ n rest.
+    if_got-if (OfKind Colon) (bytes_eq n (codes "lang")) (lang_after rest) (got (named_pseudo_class n) rest) (λ e. lang_after-kind rest) (λ e. refl))
+
+solid_as-kind : (edition : Edition) (kind : NextKind) (text : List ℕ) → IfGot (OfKind kind) (solid_as edition kind text)
+solid_as-kind edition Stop text = tt
+solid_as-kind edition Slash text = tt
+solid_as-kind edition Child text = refl
+solid_as-kind edition Adjacent text = refl
+solid_as-kind edition Universal text = refl
+solid_as-kind edition Id text = named_token-kind edition Id id_selector (λ n. refl) (past_one text)
+solid_as-kind edition Class text = named_token-kind edition Class class_selector (λ n. refl) (past_one text)
+solid_as-kind edition Attribute text = attribute_after-kind edition (past_one text)
+solid_as-kind edition Colon text = pseudo_class_after-kind edition (past_one text)
+solid_as-kind edition Other text = named_token-kind edition Other type_selector (λ n. refl) text
+
+-- where a token was read, its kind is next
+pub solid-kind : (edition : Edition) (text after : List ℕ) (token : Token) → solid edition text ≡ got token after → next_kind text ≡ kind_of token
+unfolding solid
+solid-kind edition text after token s = got-holds (OfKind (next_kind text)) (solid edition text) token after (solid_as-kind edition (next_kind text) text) s
+
+-- a solid piece behind a gap: what stands before it, its token, and the sequence behind it
+pub sequence_from-token : (edition : Edition) (side : Side) (text start after : List ℕ) (spaced : Bool) (token : Token) → gap text ≡ got spaced start → solid edition start ≡ got token after → sequence_from edition side text ≡ answered (between side spaced (kind_of token) start after) start (token_then token after (sequence_from edition (side_behind (kind_of token)) after))
+sequence_from-token edition side text start after spaced token g s =
+    sequence_from-solid edition side text start spaced (got token after) g s
+    ∙ ap (λ k. solid_sequence edition side spaced k start (got token after)) (solid-kind edition start after token s)
+
+-- behind a simple piece and a space byte: a descendant combinator
+pub descends-token : (edition : Edition) (text start after : List ℕ) (token : Token) → gap text ≡ got true start → solid edition start ≡ got token after → IsSimplePiece (kind_of token) → sequence_from edition closed_side text ≡ token_then descendant_combinator start (sequence_from edition open_side start)
+descends-token edition text start after token g s simple = sequence_from-descends edition text start (kind_of token) g (solid-kind edition start after token s) simple
