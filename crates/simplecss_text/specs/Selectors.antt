@@ -1,5 +1,6 @@
 -- The selector of a text.
 use Rattle.std.specs.Prelude.{ℕ, if◌then◌else◌, List, [], ◌∷◌, map, bytes_eq, codes, Option, None, Some, Ok, Err}
+use Rattle.std.specs.Option.{option_map}
 use Rattle.simplecss_text.specs.Characters.{Edition}
 use Rattle.simplecss_text.specs.Components.{KnownPseudoClass, Subselector, Combinator, Component}
 use Rattle.simplecss_text.specs.Components.Operator.{equals, has_word}
@@ -11,14 +12,16 @@ use Rattle.simplecss_text.specs.Tokens.Token.{universal_selector, type_selector,
 use Rattle.simplecss_text.specs.TokenSequences.{TokenSequence, sequence_of}
 use Rattle.simplecss_text.specs.TokenSequences.TokenSequence.{item, sequence_end}
 
--- What a token is in a selector.
+-- What a simple piece says of the component in which it stands.
+pub data Part : Type 0 where
+  any_type : Part
+  of_type : List ℕ → Part
+  with : Subselector → Part
+
+-- What a token is in a selector: a part of a component, or what joins two of them.
 pub data Role : Type 0 where
-  any_type : Role
-  of_type : List ℕ → Role
-  with : Subselector → Role
+  part : Part → Role
   joint : Combinator → Role
-  -- a pseudo-class whose name is not known
-  unknown : Role
 
 -- the pseudo-class of a name
 abbrev pub known_pseudo_class : List ℕ → Option KnownPseudoClass
@@ -31,24 +34,20 @@ known_pseudo_class n =
     else (if bytes_eq n (codes "focus") then Some focus
     else None)))))
 
--- what a pseudo-class is in a selector, if its name is known
-abbrev pub pseudo_class_role : Option KnownPseudoClass → Role
-pseudo_class_role None = unknown
-pseudo_class_role (Some class) = with (pseudo_class class)
-
--- What a token is in a selector. A class is an attribute `class` with a word, and an id is an
--- attribute `id` that equals a text.
-abbrev pub role_of : Token → Role
-role_of universal_selector = any_type
-role_of (type_selector n) = of_type n
-role_of (id_selector n) = with (attribute (codes "id") (equals n))
-role_of (class_selector n) = with (attribute (codes "class") (has_word n))
-role_of (attribute_selector n operator) = with (attribute n operator)
-role_of (named_pseudo_class n) = pseudo_class_role (known_pseudo_class n)
-role_of (lang_pseudo_class value) = with (pseudo_class (lang value))
-role_of descendant_combinator = joint descendant
-role_of child_combinator = joint child
-role_of adjacent_combinator = joint adjacent
+-- What a token is in a selector: nothing, if it is a pseudo-class whose name is not known. A class
+-- is an attribute `class` with a word, and an id is an attribute `id` that equals a text.
+abbrev pub role_of : Token → Option Role
+role_of universal_selector = Some (part any_type)
+role_of (type_selector n) = Some (part (of_type n))
+role_of (id_selector n) = Some (part (with (attribute (codes "id") (equals n))))
+role_of (class_selector n) = Some (part (with (attribute (codes "class") (has_word n))))
+role_of (attribute_selector n operator) = Some (part (with (attribute n operator)))
+role_of (named_pseudo_class n) =
+    option_map (λ class. part (with (pseudo_class class))) (known_pseudo_class n)
+role_of (lang_pseudo_class value) = Some (part (with (pseudo_class (lang value))))
+role_of descendant_combinator = Some (joint descendant)
+role_of child_combinator = Some (joint child)
+role_of adjacent_combinator = Some (joint adjacent)
 
 -- A sequence is refused at its first fault or unknown pseudo-class, and else gives its tokens'
 -- roles. With it what is left there.
@@ -62,12 +61,9 @@ with_role role (refused left) = refused left
 with_role role (accepted roles left) = accepted (role ∷ roles) left
 
 -- the role and what follows it; a pseudo-class that is not known refuses, right after its name
-abbrev pub after_role : Role → (after : List ℕ) → Outcome → Outcome
-after_role any_type after rest = with_role any_type rest
-after_role (of_type n) after rest = with_role (of_type n) rest
-after_role (with subselector) after rest = with_role (with subselector) rest
-after_role (joint combinator) after rest = with_role (joint combinator) rest
-after_role unknown after rest = refused after
+abbrev pub after_role : Option Role → (after : List ℕ) → Outcome → Outcome
+after_role (Some role) after rest = with_role role rest
+after_role None after rest = refused after
 
 -- what a sequence comes to
 abbrev pub outcome : TokenSequence → Outcome
@@ -75,41 +71,31 @@ outcome (sequence_end left) = accepted [] left
 outcome (item (Err fault) after rest) = refused after
 outcome (item (Ok token) after rest) = after_role (role_of token) after (outcome rest)
 
--- The roles up to the first combinator, and each combinator with the roles up to the next one.
--- (Accepted roles are all known, so that the last clause is never asked.)
-abbrev pub cut : List Role → List Role × List (Combinator × List Role)
+-- the parts up to the first combinator, and each combinator with the parts up to the next one
+abbrev pub cut : List Role → List Part × List (Combinator × List Part)
 cut [] = ([], [])
 cut (joint combinator ∷ roles) = ([], (combinator, (cut roles).0) ∷ (cut roles).1)
-cut (any_type ∷ roles) = (any_type ∷ (cut roles).0, (cut roles).1)
-cut (of_type n ∷ roles) = (of_type n ∷ (cut roles).0, (cut roles).1)
-cut (with subselector ∷ roles) = (with subselector ∷ (cut roles).0, (cut roles).1)
-cut (unknown ∷ roles) = (unknown ∷ (cut roles).0, (cut roles).1)
+cut (part x ∷ roles) = (x ∷ (cut roles).0, (cut roles).1)
 
--- The type name among the roles of a component, if there is one, else the one known before. (The
--- roles of one component have no combinator among them, and accepted ones are known, so that the
--- last two clauses are never asked; the same of the subselectors.)
-abbrev pub type_among : Option (List ℕ) → List Role → Option (List ℕ)
+-- the type name among the parts of a component, if there is one, else the one known before
+abbrev pub type_among : Option (List ℕ) → List Part → Option (List ℕ)
 type_among known [] = known
-type_among known (of_type n ∷ roles) = type_among (Some n) roles
-type_among known (any_type ∷ roles) = type_among known roles
-type_among known (with subselector ∷ roles) = type_among known roles
-type_among known (joint combinator ∷ roles) = type_among known roles
-type_among known (unknown ∷ roles) = type_among known roles
+type_among known (of_type n ∷ parts) = type_among (Some n) parts
+type_among known (any_type ∷ parts) = type_among known parts
+type_among known (with subselector ∷ parts) = type_among known parts
 
--- the subselectors among the roles of a component, in their order
-abbrev pub subselectors_among : List Role → List Subselector
+-- the subselectors among the parts of a component, in their order
+abbrev pub subselectors_among : List Part → List Subselector
 subselectors_among [] = []
-subselectors_among (with subselector ∷ roles) = subselector ∷ subselectors_among roles
-subselectors_among (any_type ∷ roles) = subselectors_among roles
-subselectors_among (of_type n ∷ roles) = subselectors_among roles
-subselectors_among (joint combinator ∷ roles) = subselectors_among roles
-subselectors_among (unknown ∷ roles) = subselectors_among roles
+subselectors_among (with subselector ∷ parts) = subselector ∷ subselectors_among parts
+subselectors_among (any_type ∷ parts) = subselectors_among parts
+subselectors_among (of_type n ∷ parts) = subselectors_among parts
 
--- the component of a combinator and the roles behind it
-abbrev pub component_of : Combinator × List Role → Component
-component_of (combinator, roles) = record {
+-- the component of a combinator and the parts behind it
+abbrev pub component_of : Combinator × List Part → Component
+component_of (combinator, parts) = record {
   combinator = combinator;
-  compound = record { name = type_among None roles; subselectors = subselectors_among roles };
+  compound = record { name = type_among None parts; subselectors = subselectors_among parts };
 }
 
 -- one component for what stands before, between and behind the combinators, the first without one

@@ -1,6 +1,6 @@
 -- What a sequence comes to is guarded by a closing brace.
 -- Serves `StyleSheet::parse_more` and `laws::cutting_law` (a text read in pieces).
-use Rattle.std.proofs.Common.{Bool, List, false, inl, inr, length, refl, subst, true, ℕ, ◌∷◌, ◌≡◌, ◌≤◌, ◌⊎◌, Err, Ok, arith}
+use Rattle.std.proofs.Common.{Bool, List, false, inl, inr, length, refl, subst, true, ℕ, ◌∷◌, ◌≡◌, ◌≤◌, ◌⊎◌, Err, Ok, Option, Some, None, arith}
 use Rattle.simplecss_text.specs.Reading.{Fault}
 use Rattle.simplecss_text.specs.Bytes.{past_one}
 use Rattle.simplecss_text.specs.declared.next_kind.NextKind.{NextKind}
@@ -15,7 +15,7 @@ use Rattle.simplecss_text.specs.TokenSequences.{TokenSequence, answered, ending_
 use Rattle.simplecss_text.specs.TokenSequences.TokenSequence.{item, sequence_end}
 use Rattle.simplecss_text.specs.Selectors.{Outcome, Role, after_role, outcome, with_role, role_of}
 use Rattle.simplecss_text.specs.Selectors.Outcome.{accepted, refused}
-use Rattle.simplecss_text.specs.Selectors.Role.{with, any_type, joint, of_type, unknown}
+use Rattle.simplecss_text.specs.Selectors.Role.{joint}
 use Rattle.simplecss_text.proofs.reading.EndsLaws.{length-ends, no_texts}
 use Rattle.simplecss_text.proofs.reading.StandLaws.{sees_nothing}
 use Rattle.simplecss_text.proofs.reading.SequenceStandLaws.{SequenceStands, sequence_from-stands}
@@ -50,12 +50,9 @@ with_role-guard g t u role a b (inl l) = inl (rw (left_of-with_role role a) l)
 with_role-guard g t u role a b (inr (both_refused x y k)) = inr (both_refused x y k)
 with_role-guard g t u role a b (inr (both_accepted roles x y k)) = inr (both_accepted (role ∷ roles) x y k)
 
-pub after_role-guard : (g : ℕ) (t u : List ℕ) (role : Role) (x y : List ℕ) (a b : Outcome) → Along g t u x y → OutcomeGuard g t u a b → OutcomeGuard g t u (after_role role x a) (after_role role y b)
-after_role-guard g t u any_type x y a b k h = with_role-guard g t u any_type a b h
-after_role-guard g t u (of_type n) x y a b k h = with_role-guard g t u (of_type n) a b h
-after_role-guard g t u (with s) x y a b k h = with_role-guard g t u (with s) a b h
-after_role-guard g t u (joint c) x y a b k h = with_role-guard g t u (joint c) a b h
-after_role-guard g t u unknown x y a b k h = inr (both_refused x y k)
+pub after_role-guard : (g : ℕ) (t u : List ℕ) (role : Option Role) (x y : List ℕ) (a b : Outcome) → Along g t u x y → OutcomeGuard g t u a b → OutcomeGuard g t u (after_role role x a) (after_role role y b)
+after_role-guard g t u (Some role) x y a b k h = with_role-guard g t u role a b h
+after_role-guard g t u None x y a b k h = inr (both_refused x y k)
 
 -- what stands before what follows, and then what comes
 pub answered-guard : (g : ℕ) (t u : List ℕ) (side : Side) (spaced : Bool) (kind : NextKind) (a x b y : List ℕ) (p q : TokenSequence) → Along g t u a b → To g t u x y → OutcomeGuard g t u (outcome p) (outcome q) → OutcomeGuard g t u (outcome (answered (between side spaced kind a x) a p)) (outcome (answered (between side spaced kind b y) b q))
@@ -72,12 +69,9 @@ answered-passed n side spaced kind start after next s a l =
     between-case (λ answer. length (left_of (outcome (answered answer start next))) ≤ n) side spaced kind start after
     l (λ e. with_role-passed n (joint descendant) (outcome next) l) (λ f k. s k) (λ f. a)
 
-pub after_role-passed : (n : ℕ) (role : Role) (after : List ℕ) (o : Outcome) → length after ≤ n → length (left_of o) ≤ n → length (left_of (after_role role after o)) ≤ n
-after_role-passed n any_type after o a l = with_role-passed n any_type o l
-after_role-passed n (of_type x) after o a l = with_role-passed n (of_type x) o l
-after_role-passed n (with s) after o a l = with_role-passed n (with s) o l
-after_role-passed n (joint c) after o a l = with_role-passed n (joint c) o l
-after_role-passed n unknown after o a l = a
+pub after_role-passed : (n : ℕ) (role : Option Role) (after : List ℕ) (o : Outcome) → length after ≤ n → length (left_of o) ≤ n → length (left_of (after_role role after o)) ≤ n
+after_role-passed n (Some role) after o a l = with_role-passed n role o l
+after_role-passed n None after o a l = a
 
 -- what a sequence leaves is no more than its text
 length-left_of : (n : ℕ) (text : List ℕ) (r : TokenSequence) → length text ≤ n → SequenceStands no_texts text r → length (left_of (outcome r)) ≤ n

@@ -13,8 +13,8 @@ use Rattle.simplecss_text.specs.Names.{past_name_chars, name}
 use Rattle.simplecss_text.specs.Tokens.{Token}
 use Rattle.simplecss_text.specs.Tokens.Token.{universal_selector, type_selector}
 use Rattle.simplecss_text.specs.Pieces.{named_token, next_kind, solid}
-use Rattle.simplecss_text.specs.Selectors.{Role}
-use Rattle.simplecss_text.specs.Selectors.Role.{any_type, of_type}
+use Rattle.simplecss_text.specs.Selectors.{Part}
+use Rattle.simplecss_text.specs.Selectors.Part.{any_type, of_type}
 use Rattle.simplecss_text.specs.Printing.{type_text}
 use Rattle.simplecss_text.proofs.reading.EachLaws.{each-none, each-some}
 use Rattle.simplecss_text.proofs.reading.TakesLaws.{blank_part-takes}
@@ -151,10 +151,10 @@ abbrev pub head_token : Option (List ℕ) → Token
 head_token None = universal_selector
 head_token (Some n) = type_selector n
 
--- the role of a head
-abbrev pub head_role : Option (List ℕ) → Role
-head_role None = any_type
-head_role (Some n) = of_type n
+-- what a head says of its component
+abbrev pub head_part : Option (List ℕ) → Part
+head_part None = any_type
+head_part (Some n) = of_type n
 
 solid-star : (edition : Edition) (text : List ℕ) → solid edition (42 ∷ text) ≡ got universal_selector text
 unfolding solid next_kind

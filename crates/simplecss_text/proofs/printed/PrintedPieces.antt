@@ -19,7 +19,8 @@ use Rattle.simplecss_text.specs.Tokens.{Token}
 use Rattle.simplecss_text.specs.Tokens.Token.{attribute_selector, named_pseudo_class, lang_pseudo_class}
 use Rattle.simplecss_text.specs.Pieces.{attribute_operator, equated, attribute_after, lang_of, lang_after, pseudo_class_named, pseudo_class_after, next_kind, solid}
 use Rattle.simplecss_text.specs.Selectors.{role_of}
-use Rattle.simplecss_text.specs.Selectors.Role.{with}
+use Rattle.simplecss_text.specs.Selectors.Part.{with}
+use Rattle.simplecss_text.specs.Selectors.Role.{part}
 use Rattle.simplecss_text.specs.Printing.{pseudo_class_text, operator_text, subselector_text, escaped_after, is_clean_operator, is_clean_subselector}
 use Rattle.simplecss_text.proofs.printed.PrintedNames.{IsName, name-reads, ends_names, ends_names-byte, prefix_len-whole, begins_any_name}
 
@@ -252,7 +253,7 @@ abbrev pub printed_token : Subselector → Token
 printed_token (attribute n o) = attribute_selector n o
 printed_token (pseudo_class class) = class_token class
 
-class-role : (class : KnownPseudoClass) → role_of (class_token class) ≡ with (pseudo_class class)
+class-role : (class : KnownPseudoClass) → role_of (class_token class) ≡ Some (part (with (pseudo_class class)))
 class-role first_child = refl
 class-role link = refl
 class-role visited = refl
@@ -262,7 +263,7 @@ class-role focus = refl
 class-role (lang v) = refl
 
 -- its role is the subselector
-pub printed_token-role : (s : Subselector) → role_of (printed_token s) ≡ with s
+pub printed_token-role : (s : Subselector) → role_of (printed_token s) ≡ Some (part (with s))
 printed_token-role (attribute n o) = refl
 printed_token-role (pseudo_class class) = class-role class
 

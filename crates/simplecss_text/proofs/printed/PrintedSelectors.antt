@@ -16,8 +16,9 @@ use Rattle.simplecss_text.specs.Pieces.{IsSimplePiece, next_kind, solid}
 use Rattle.simplecss_text.specs.Neighbours.{Side, between, side_behind}
 use Rattle.simplecss_text.specs.Neighbours.Side.{open_side, closed_side}
 use Rattle.simplecss_text.specs.TokenSequences.{TokenSequence, sequence_from, sequence_of, answered, token_then}
-use Rattle.simplecss_text.specs.Selectors.{Role, with_role, after_role, outcome, cut, type_among, subselectors_among, component_of, components_of, selector_of, reads}
-use Rattle.simplecss_text.specs.Selectors.Role.{any_type, of_type, with, joint}
+use Rattle.simplecss_text.specs.Selectors.{Part, Role, with_role, after_role, outcome, cut, type_among, subselectors_among, component_of, components_of, selector_of, reads}
+use Rattle.simplecss_text.specs.Selectors.Part.{any_type, of_type, with}
+use Rattle.simplecss_text.specs.Selectors.Role.{part, joint}
 use Rattle.simplecss_text.specs.Selectors.Outcome.{accepted}
 use Rattle.simplecss_text.specs.Printing.{subselector_text, type_text, component_text, selector_text, is_clean_subselector, is_clean}
 use Rattle.simplecss_text.proofs.reading.EachLaws.{each-none}
@@ -25,7 +26,7 @@ use Rattle.simplecss_text.proofs.reading.SequenceSteps.{solid_sequence, sequence
 use Rattle.simplecss_text.proofs.printed.TokenKinds.{kind_of, sequence_from-token, descends-token}
 use Rattle.simplecss_text.proofs.printed.PrintedNames.{both_true, ends_names, ends_names-byte, ends_names-nil}
 use Rattle.simplecss_text.proofs.printed.PrintedPieces.{IsSubselector, printed_token, printed_token-role, subselector-reads}
-use Rattle.simplecss_text.proofs.printed.PrintedHeads.{NoGap, no_gap-byte, gap-none, gap-space, IsTypeName, head_token, head_role, head-reads, head-no_gap}
+use Rattle.simplecss_text.proofs.printed.PrintedHeads.{NoGap, no_gap-byte, gap-none, gap-space, IsTypeName, head_token, head_part, head-reads, head-no_gap}
 
 -- Behind a simple piece the text goes on with these roles, and then this is left. No name goes on
 -- there.
@@ -61,12 +62,12 @@ subselector-sequence edition s tail w c e =
     ∙ subselector-goes_on edition s (printed_token s) tail
 
 -- and goes on as what follows it
-subselector-goes : (edition : Edition) (s : Subselector) (tail left : List ℕ) (roles : List Role) → IsSubselector edition s → is_clean_subselector s ≡ true → Goes edition tail roles left → Goes edition (subselector_text s ++ tail) (with s ∷ roles) left
+subselector-goes : (edition : Edition) (s : Subselector) (tail left : List ℕ) (roles : List Role) → IsSubselector edition s → is_clean_subselector s ≡ true → Goes edition tail roles left → Goes edition (subselector_text s ++ tail) (part (with s) ∷ roles) left
 subselector-goes edition s tail left roles w c g = record {
   ends = subselector-ends edition s tail;
   runs = ap outcome (subselector-sequence edition s tail w c g.ends)
       ∙ ap (λ r. after_role r tail (outcome (sequence_from edition closed_side tail))) (printed_token-role s)
-      ∙ ap (with_role (with s)) g.runs;
+      ∙ ap (with_role (part (with s))) g.runs;
 }
 
 -- subselectors that were read
@@ -75,22 +76,22 @@ EachIs edition [] = Unit {0}
 EachIs edition (s ∷ ss) = IsSubselector edition s × EachIs edition ss
 
 -- printed subselectors, one after another
-subselectors-go : (edition : Edition) (ss : List Subselector) (tail left : List ℕ) (roles : List Role) → EachIs edition ss → list_all is_clean_subselector ss ≡ true → Goes edition tail roles left → Goes edition (flat_map subselector_text ss ++ tail) (map with ss ++ roles) left
+subselectors-go : (edition : Edition) (ss : List Subselector) (tail left : List ℕ) (roles : List Role) → EachIs edition ss → list_all is_clean_subselector ss ≡ true → Goes edition tail roles left → Goes edition (flat_map subselector_text ss ++ tail) (map part (map with ss) ++ roles) left
 subselectors-go edition [] tail left roles w c g = g
 subselectors-go edition (s ∷ ss) tail left roles w c g =
     let h = both_true (is_clean_subselector s) (list_all is_clean_subselector ss) c in
     let more = subselectors-go edition ss tail left roles w.1 h.1 g in
-    subst (λ (t : List ℕ). Goes edition t (with s ∷ (map with ss ++ roles)) left) (sym (append_assoc (subselector_text s) (flat_map subselector_text ss) tail))
-    (subselector-goes edition s (flat_map subselector_text ss ++ tail) left (map with ss ++ roles) w.0 h.0 more)
+    subst (λ (t : List ℕ). Goes edition t (part (with s) ∷ (map part (map with ss) ++ roles)) left) (sym (append_assoc (subselector_text s) (flat_map subselector_text ss) tail))
+    (subselector-goes edition s (flat_map subselector_text ss ++ tail) left (map part (map with ss) ++ roles) w.0 h.0 more)
 
 -- behind an open left side nothing stands before a head
 pub head-answer : (o : Option (List ℕ)) (spaced : Bool) (start after : List ℕ) (rest : Side → TokenSequence) → answered (between open_side spaced (kind_of (head_token o)) start after) start (token_then (head_token o) after (rest (side_behind (kind_of (head_token o))))) ≡ token_then (head_token o) after (rest closed_side)
 head-answer None spaced start after rest = refl
 head-answer (Some n) spaced start after rest = refl
 
-head-outcome : (o : Option (List ℕ)) (after left : List ℕ) (roles : List Role) (rest : TokenSequence) → outcome rest ≡ accepted roles left → outcome (token_then (head_token o) after rest) ≡ accepted (head_role o ∷ roles) left
-head-outcome None after left roles rest e = ap (with_role any_type) e
-head-outcome (Some n) after left roles rest e = ap (with_role (of_type n)) e
+head-outcome : (o : Option (List ℕ)) (after left : List ℕ) (roles : List Role) (rest : TokenSequence) → outcome rest ≡ accepted roles left → outcome (token_then (head_token o) after rest) ≡ accepted (part (head_part o) ∷ roles) left
+head-outcome None after left roles rest e = ap (with_role (part any_type)) e
+head-outcome (Some n) after left roles rest e = ap (with_role (part (of_type n))) e
 
 -- a head is a simple piece
 pub head-simple : (o : Option (List ℕ)) → IsSimplePiece (kind_of (head_token o))
@@ -98,7 +99,7 @@ head-simple None = tt
 head-simple (Some n) = tt
 
 -- behind an open left side stands a head, after a gap
-head-opens : (edition : Edition) (o : Option (List ℕ)) (text tail left : List ℕ) (spaced : Bool) (roles : List Role) → IsTypeName edition o tail → gap text ≡ got spaced (type_text o ++ tail) → Goes edition tail roles left → outcome (sequence_from edition open_side text) ≡ accepted (head_role o ∷ roles) left
+head-opens : (edition : Edition) (o : Option (List ℕ)) (text tail left : List ℕ) (spaced : Bool) (roles : List Role) → IsTypeName edition o tail → gap text ≡ got spaced (type_text o ++ tail) → Goes edition tail roles left → outcome (sequence_from edition open_side text) ≡ accepted (part (head_part o) ∷ roles) left
 head-opens edition o text tail left spaced roles w gapped g =
     let start = type_text o ++ tail in
     ap outcome (sequence_from-token edition open_side text start tail spaced (head_token o) gapped (head-reads edition o tail w g.ends))
@@ -110,9 +111,12 @@ pub record IsCompound (edition : Edition) (c : Compound) (behind : List ℕ) : T
   pub head : IsTypeName edition c.name (flat_map subselector_text c.subselectors ++ behind)
   pub others : EachIs edition c.subselectors
 
--- the roles of a compound
+-- what a compound says, and the roles of that
+abbrev compound_parts : Compound → List Part
+compound_parts c = head_part c.name ∷ map with c.subselectors
+
 abbrev compound_roles : Compound → List Role
-compound_roles c = head_role c.name ∷ map with c.subselectors
+compound_roles c = map part (compound_parts c)
 
 -- the roles of a component
 abbrev component_roles : Component → List Role
@@ -149,7 +153,7 @@ compound-no_gap edition c tail w = subst NoGap (sym (compound-assoc c tail)) (he
 -- behind an open left side stands a compound, after a gap
 compound-opens : (edition : Edition) (c : Compound) (text tail left : List ℕ) (spaced : Bool) (roles : List Role) → IsCompound edition c tail → is_clean_compound c ≡ true → gap text ≡ got spaced (compound_text c ++ tail) → Goes edition tail roles left → outcome (sequence_from edition open_side text) ≡ accepted (compound_roles c ++ roles) left
 compound-opens edition c text tail left spaced roles w clean gapped g =
-    head-opens edition c.name text (flat_map subselector_text c.subselectors ++ tail) left spaced (map with c.subselectors ++ roles) w.head (gapped ∙ ap (got spaced) (compound-assoc c tail))
+    head-opens edition c.name text (flat_map subselector_text c.subselectors ++ tail) left spaced (map part (map with c.subselectors) ++ roles) w.head (gapped ∙ ap (got spaced) (compound-assoc c tail))
     (subselectors-go edition c.subselectors tail left roles w.others clean g)
 
 compound-solid : (edition : Edition) (c : Compound) (tail left : List ℕ) (roles : List Role) → IsCompound edition c tail → is_clean_compound c ≡ true → Goes edition tail roles left → solid edition (compound_text c ++ tail) ≡ got (head_token c.name) (flat_map subselector_text c.subselectors ++ tail)
@@ -241,30 +245,23 @@ components-go edition (c ∷ cs) tail left roles w clean g =
 
 -- the components of the roles
 
-cut-subselectors : (ss : List Subselector) (roles : List Role) → cut (map with ss ++ roles) ≡ (map with ss ++ (cut roles).0, (cut roles).1)
-cut-subselectors [] roles = refl
-cut-subselectors (s ∷ ss) roles = ap (λ (r : List Role × List (Combinator × List Role)). (with s ∷ r.0, r.1)) (cut-subselectors ss roles)
-
-cut-compound : (c : Compound) (roles : List Role) → cut (compound_roles c ++ roles) ≡ (compound_roles c ++ (cut roles).0, (cut roles).1)
-cut-compound c roles = by c.name
-  where
-    by : (o : Option (List ℕ)) → cut (head_role o ∷ (map with c.subselectors ++ roles)) ≡ (head_role o ∷ (map with c.subselectors ++ (cut roles).0), (cut roles).1)
-    by None = ap (λ (r : List Role × List (Combinator × List Role)). (any_type ∷ r.0, r.1)) (cut-subselectors c.subselectors roles)
-    by (Some n) = ap (λ (r : List Role × List (Combinator × List Role)). (of_type n ∷ r.0, r.1)) (cut-subselectors c.subselectors roles)
+cut-parts : (parts : List Part) (roles : List Role) → cut (map part parts ++ roles) ≡ (parts ++ (cut roles).0, (cut roles).1)
+cut-parts [] roles = refl
+cut-parts (x ∷ parts) roles = ap (λ (r : List Part × List (Combinator × List Part)). (x ∷ r.0, r.1)) (cut-parts parts roles)
 
 -- a component as it is cut out of the roles
-abbrev cut_component : Component → Combinator × List Role
-cut_component c = (c.combinator, compound_roles c.compound)
+abbrev cut_component : Component → Combinator × List Part
+cut_component c = (c.combinator, compound_parts c.compound)
 
 cut-components : (cs : List Component) → cut (flat_map component_roles cs) ≡ ([], map cut_component cs)
 cut-components [] = refl
 cut-components (c ∷ cs) =
     let more = cut-components cs in
-    let here : cut (compound_roles c.compound ++ flat_map component_roles cs) ≡ (compound_roles c.compound, map cut_component cs) =
-    cut-compound c.compound (flat_map component_roles cs)
-    ∙ ap (λ (r : List Role × List (Combinator × List Role)). (compound_roles c.compound ++ r.0, r.1)) more
-    ∙ ap (λ (l : List Role). (l, map cut_component cs)) (append-nil (compound_roles c.compound)) in
-    ap (λ (r : List Role × List (Combinator × List Role)). ([], (c.combinator, r.0) ∷ r.1)) here
+    let here : cut (compound_roles c.compound ++ flat_map component_roles cs) ≡ (compound_parts c.compound, map cut_component cs) =
+    cut-parts (compound_parts c.compound) (flat_map component_roles cs)
+    ∙ ap (λ (r : List Part × List (Combinator × List Part)). (compound_parts c.compound ++ r.0, r.1)) more
+    ∙ ap (λ (l : List Part). (l, map cut_component cs)) (append-nil (compound_parts c.compound)) in
+    ap (λ (r : List Part × List (Combinator × List Part)). ([], (c.combinator, r.0) ∷ r.1)) here
 
 type-subselectors : (known : Option (List ℕ)) (ss : List Subselector) → type_among known (map with ss) ≡ known
 type-subselectors known [] = refl
@@ -274,10 +271,10 @@ among-subselectors : (ss : List Subselector) → subselectors_among (map with ss
 among-subselectors [] = refl
 among-subselectors (s ∷ ss) = ap (λ l. s ∷ l) (among-subselectors ss)
 
-component_of-cut : (j : Combinator) (c : Compound) → component_of (j, compound_roles c) ≡ record { combinator = j; compound = c }
+component_of-cut : (j : Combinator) (c : Compound) → component_of (j, compound_parts c) ≡ record { combinator = j; compound = c }
 component_of-cut j c = by c.name c.subselectors
   where
-    by : (o : Option (List ℕ)) (ss : List Subselector) → component_of (j, head_role o ∷ map with ss) ≡ record { combinator = j; compound = record { name = o; subselectors = ss } }
+    by : (o : Option (List ℕ)) (ss : List Subselector) → component_of (j, head_part o ∷ map with ss) ≡ record { combinator = j; compound = record { name = o; subselectors = ss } }
     by None ss = let t = type-subselectors None ss in let s = among-subselectors ss in rw (t, s) refl
     by (Some n) ss = let t = type-subselectors (Some n) ss in let s = among-subselectors ss in rw (t, s) refl
 
@@ -288,11 +285,11 @@ components_of-cut (c ∷ cs) = ap (λ k. k ∷ map component_of (map cut_compone
 -- the components of a selector's roles are the selector
 components_of-roles : (c : Compound) (cs : List Component) → components_of (compound_roles c ++ flat_map component_roles cs) ≡ record { combinator = none; compound = c } ∷ cs
 components_of-roles c cs =
-    let parts : cut (compound_roles c ++ flat_map component_roles cs) ≡ (compound_roles c, map cut_component cs) =
-    cut-compound c (flat_map component_roles cs)
-    ∙ ap (λ (r : List Role × List (Combinator × List Role)). (compound_roles c ++ r.0, r.1)) (cut-components cs)
-    ∙ ap (λ (l : List Role). (l, map cut_component cs)) (append-nil (compound_roles c)) in
-    ap (λ (r : List Role × List (Combinator × List Role)). component_of (none, r.0) ∷ map component_of r.1) parts
+    let parts : cut (compound_roles c ++ flat_map component_roles cs) ≡ (compound_parts c, map cut_component cs) =
+    cut-parts (compound_parts c) (flat_map component_roles cs)
+    ∙ ap (λ (r : List Part × List (Combinator × List Part)). (compound_parts c ++ r.0, r.1)) (cut-components cs)
+    ∙ ap (λ (l : List Part). (l, map cut_component cs)) (append-nil (compound_parts c)) in
+    ap (λ (r : List Part × List (Combinator × List Part)). component_of (none, r.0) ∷ map component_of r.1) parts
     ∙ ap (λ k. k ∷ map component_of (map cut_component cs)) (component_of-cut none c)
     ∙ ap (λ l. record { combinator = none; compound = c } ∷ l) (components_of-cut cs)
 

@@ -2,6 +2,7 @@
 -- Serves `Selector::{parse, parse_front}` and `StyleSheet::parse` (a selector printed and read
 -- again).
 use Rattle.std.proofs.Common.{◌≡◌, ℕ, zero, suc, ◌<◌, inl, inr, List, [], ◌∷◌, ◌++◌, Bool, true, false, if◌then◌else◌, map, length, codes, bytes_eq, arith, refl, sym, ap, ◌∙◌, subst, Option, Some, None, IsUtf8}
+use Rattle.std.specs.Option.{option_map}
 use Rattle.std.specs.List.{flat_map}
 use lib.Utf8.{encode}
 use Rattle.simplecss_text.specs.Reading.{Reading, got, fails}
@@ -19,8 +20,9 @@ use Rattle.simplecss_text.specs.Pieces.Ending.{at_stop, at_slash, without_head, 
 use Rattle.simplecss_text.specs.Neighbours.{Side, between, side_behind}
 use Rattle.simplecss_text.specs.Neighbours.Side.{open_side, closed_side}
 use Rattle.simplecss_text.specs.TokenSequences.{TokenSequence, ending_sequence, sequence_from, answered, token_then}
-use Rattle.simplecss_text.specs.Selectors.{Role, Outcome, known_pseudo_class, pseudo_class_role, role_of, with_role, after_role, outcome, cut, type_among, subselectors_among, component_of}
-use Rattle.simplecss_text.specs.Selectors.Role.{any_type, of_type, with, joint}
+use Rattle.simplecss_text.specs.Selectors.{Role, Outcome, known_pseudo_class, role_of, with_role, after_role, outcome, cut, type_among, subselectors_among, component_of}
+use Rattle.simplecss_text.specs.Selectors.Part.{any_type, of_type, with}
+use Rattle.simplecss_text.specs.Selectors.Role.{part, joint}
 use Rattle.simplecss_text.specs.Selectors.Outcome.{refused, accepted}
 use Rattle.simplecss_text.specs.Printing.{selector_text, subselector_text}
 use Rattle.simplecss_text.proofs.reading.PiecesLawful.{solid-cuts}
@@ -62,7 +64,7 @@ IfBegins edition (refused left) = Unit {0}
 IfBegins edition (accepted roles left) = Begins edition roles left
 
 -- a subselector more
-goes_on-with : (edition : Edition) (s : Subselector) (o : Outcome) → IsSubselector edition s → IfGoesOn edition o → IfGoesOn edition (with_role (with s) o)
+goes_on-with : (edition : Edition) (s : Subselector) (o : Outcome) → IsSubselector edition s → IfGoesOn edition o → IfGoesOn edition (with_role (part (with s)) o)
 goes_on-with edition s (refused left) w h = tt
 goes_on-with edition s (accepted roles left) w h = record { subselectors = (w, h.subselectors); no_type = h.no_type; others = h.others }
 
@@ -72,7 +74,7 @@ goes_on-joint edition j (refused left) n h = tt
 goes_on-joint edition j (accepted roles left) n h = record { subselectors = tt; no_type = λ known. refl; others = (record { joins = n; compound = h.compound }, h.others) }
 
 -- a compound that begins with a subselector
-begins-with : (edition : Edition) (s : Subselector) (o : Outcome) → IsSubselector edition s → IfGoesOn edition o → IfBegins edition (with_role (with s) o)
+begins-with : (edition : Edition) (s : Subselector) (o : Outcome) → IsSubselector edition s → IfGoesOn edition o → IfBegins edition (with_role (part (with s)) o)
 begins-with edition s (refused left) w h = tt
 begins-with edition s (accepted roles left) w h =
     let ss = subselectors_among (cut roles).0 in
@@ -81,7 +83,7 @@ begins-with edition s (accepted roles left) w h =
     record { compound = record { head = head; others = (w, h.subselectors) }; others = h.others }
 
 -- a compound that begins with a head
-begins-any : (edition : Edition) (o : Outcome) → IfGoesOn edition o → IfBegins edition (with_role any_type o)
+begins-any : (edition : Edition) (o : Outcome) → IfGoesOn edition o → IfBegins edition (with_role (part any_type) o)
 begins-any edition (refused left) h = tt
 begins-any edition (accepted roles left) h =
     let ss = subselectors_among (cut roles).0 in
@@ -89,7 +91,7 @@ begins-any edition (accepted roles left) h =
     let head = subst (λ (o : Option (List ℕ)). IsTypeName edition o (flat_map subselector_text ss ++ behind)) (sym (h.no_type None)) tt in
     record { compound = record { head = head; others = h.subselectors }; others = h.others }
 
-begins-type : (edition : Edition) (n : List ℕ) (o : Outcome) → IsName edition n → IfGoesOn edition o → IfBegins edition (with_role (of_type n) o)
+begins-type : (edition : Edition) (n : List ℕ) (o : Outcome) → IsName edition n → IfGoesOn edition o → IfBegins edition (with_role (part (of_type n)) o)
 begins-type edition n (refused left) w h = tt
 begins-type edition n (accepted roles left) w h =
     let ss = subselectors_among (cut roles).0 in
@@ -98,9 +100,9 @@ begins-type edition n (accepted roles left) w h =
     record { compound = record { head = head; others = h.subselectors }; others = h.others }
 
 -- a hyphen alone, and the end of the text
-begins-hyphen : (edition : Edition) (n : List ℕ) (o : Outcome) → n ≡ 45 ∷ [] → o ≡ accepted [] [] → IfBegins edition (with_role (of_type n) o)
+begins-hyphen : (edition : Edition) (n : List ℕ) (o : Outcome) → n ≡ 45 ∷ [] → o ≡ accepted [] [] → IfBegins edition (with_role (part (of_type n)) o)
 begins-hyphen edition n o h e =
-    let P : Outcome → Type 0 = λ o. IfBegins edition (with_role (of_type n) o) in
+    let P : Outcome → Type 0 = λ o. IfBegins edition (with_role (part (of_type n)) o) in
     subst P (sym e) (record { compound = record { head = inr (h, refl); others = tt }; others = tt })
 
 -- a pseudo-class of a known name
@@ -131,11 +133,15 @@ unfolding encode
 class_name first_edition = word_name first_edition (codes "class") refl refl refl refl
 class_name second_edition = word_name second_edition (codes "class") refl refl refl refl
 
-begins-class : (edition : Edition) (known : Option KnownPseudoClass) (after : List ℕ) (o : Outcome) → IfClass known → IfGoesOn edition o → IfBegins edition (after_role (pseudo_class_role known) after o)
+-- the role of a pseudo-class whose name may be known
+abbrev class_role : Option KnownPseudoClass → Option Role
+class_role known = option_map (λ class. part (with (pseudo_class class))) known
+
+begins-class : (edition : Edition) (known : Option KnownPseudoClass) (after : List ℕ) (o : Outcome) → IfClass known → IfGoesOn edition o → IfBegins edition (after_role (class_role known) after o)
 begins-class edition None after o w h = tt
 begins-class edition (Some class) after o w h = begins-with edition (pseudo_class class) o w h
 
-goes_on-class : (edition : Edition) (known : Option KnownPseudoClass) (after : List ℕ) (o : Outcome) → IfClass known → IfGoesOn edition o → IfGoesOn edition (after_role (pseudo_class_role known) after o)
+goes_on-class : (edition : Edition) (known : Option KnownPseudoClass) (after : List ℕ) (o : Outcome) → IfClass known → IfGoesOn edition o → IfGoesOn edition (after_role (class_role known) after o)
 goes_on-class edition None after o w h = tt
 goes_on-class edition (Some class) after o w h = goes_on-with edition (pseudo_class class) o w h
 

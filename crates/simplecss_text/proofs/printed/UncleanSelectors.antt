@@ -19,14 +19,15 @@ use Rattle.simplecss_text.specs.Pieces.{attribute_operator, equated, attribute_a
 use Rattle.simplecss_text.specs.Neighbours.Side.{open_side, closed_side}
 use Rattle.simplecss_text.specs.TokenSequences.{sequence_from, sequence_of, token_then}
 use Rattle.simplecss_text.specs.Selectors.{Outcome, with_role, after_role, outcome, cut, subselectors_among, component_of, selector_of, reads}
-use Rattle.simplecss_text.specs.Selectors.Role.{with, joint}
+use Rattle.simplecss_text.specs.Selectors.Part.{with}
+use Rattle.simplecss_text.specs.Selectors.Role.{part, joint}
 use Rattle.simplecss_text.specs.Selectors.Outcome.{refused, accepted}
 use Rattle.simplecss_text.specs.Printing.{operator_text, subselector_text, type_text, component_text, selector_text, is_clean_operator, is_clean_subselector, is_clean}
 use Rattle.simplecss_text.proofs.reading.SequenceSteps.{solid_sequence, sequence_from-solid}
 use Rattle.simplecss_text.proofs.printed.TokenKinds.{sequence_from-token, descends-token}
 use Rattle.simplecss_text.proofs.printed.PrintedNames.{IsName, name-reads, ends_names}
 use Rattle.simplecss_text.proofs.printed.PrintedPieces.{string-cut, quoted, operator-ends, bracketed, solid-attribute, IsSubselector, printed_token-role}
-use Rattle.simplecss_text.proofs.printed.PrintedHeads.{gap-none, gap-space, IsTypeName, head_token, head_role, head-reads}
+use Rattle.simplecss_text.proofs.printed.PrintedHeads.{gap-none, gap-space, IsTypeName, head_token, head_part, head-reads}
 use Rattle.simplecss_text.proofs.printed.PrintedSelectors.{ends_low, subselector-ends, subselector-no_gap, subselector-sequence, EachIs, head-answer, head-simple, compound-assoc, compound-no_gap, child-sequence, adjacent-sequence, IsCompound, compound_text, is_clean_compound, Joins, joined_text, component-assoc, EachJoined, IsSelector}
 
 longer : (v front more : List ℕ) → v ≡ front ++ (39 ∷ more) → front ≡ v → ⊥
@@ -83,12 +84,12 @@ tail_of : {A : Type 0} → List A → List A
 tail_of [] = []
 tail_of (t ∷ ts) = ts
 
-differs-other : (o : Outcome) (s t : Subselector) (ss : List Subselector) (cs : List Component) → (s ≡ t → ⊥) → Differs (with_role (with s) o) (t ∷ ss) cs
+differs-other : (o : Outcome) (s t : Subselector) (ss : List Subselector) (cs : List Component) → (s ≡ t → ⊥) → Differs (with_role (part (with s)) o) (t ∷ ss) cs
 unfolding head_of
 differs-other (refused left) s t ss cs h = tt
 differs-other (accepted roles left) s t ss cs h = λ e f. h (ap (head_of s) e)
 
-differs-with : (o : Outcome) (s : Subselector) (ss : List Subselector) (cs : List Component) → Differs o ss cs → Differs (with_role (with s) o) (s ∷ ss) cs
+differs-with : (o : Outcome) (s : Subselector) (ss : List Subselector) (cs : List Component) → Differs o ss cs → Differs (with_role (part (with s)) o) (s ∷ ss) cs
 unfolding tail_of
 differs-with (refused left) s ss cs h = tt
 differs-with (accepted roles left) s ss cs h = λ e f. h (ap tail_of e) f
@@ -97,7 +98,7 @@ first_subselectors : List Subselector → List Component → List Subselector
 first_subselectors none_there [] = none_there
 first_subselectors none_there (c ∷ cs) = c.compound.subselectors
 
-differs-joint : (o : Outcome) (j : Combinator) (name : Option (List ℕ)) (ss : List Subselector) (c : Component) (cs : List Component) → Differs o c.compound.subselectors cs → Differs (with_role (joint j) (with_role (head_role name) o)) ss (c ∷ cs)
+differs-joint : (o : Outcome) (j : Combinator) (name : Option (List ℕ)) (ss : List Subselector) (c : Component) (cs : List Component) → Differs o c.compound.subselectors cs → Differs (with_role (joint j) (with_role (part (head_part name)) o)) ss (c ∷ cs)
 unfolding tail_of first_subselectors
 differs-joint (refused left) j None ss c cs h = tt
 differs-joint (refused left) j (Some n) ss c cs h = tt
@@ -160,18 +161,18 @@ subselectors-differ edition (s ∷ ss) tail cs w e h =
 abbrev head_text : Option (List ℕ) → List ℕ → List ℕ
 head_text o tail = type_text o ++ tail
 
-head-outcome : (edition : Edition) (o : Option (List ℕ)) (text tail : List ℕ) (spaced : Bool) → IsTypeName edition o tail → gap text ≡ got spaced (head_text o tail) → ends_names edition tail ≡ false → outcome (sequence_from edition open_side text) ≡ with_role (head_role o) (outcome (sequence_from edition closed_side tail))
+head-outcome : (edition : Edition) (o : Option (List ℕ)) (text tail : List ℕ) (spaced : Bool) → IsTypeName edition o tail → gap text ≡ got spaced (head_text o tail) → ends_names edition tail ≡ false → outcome (sequence_from edition open_side text) ≡ with_role (part (head_part o)) (outcome (sequence_from edition closed_side tail))
 head-outcome edition o text tail spaced w g e =
     let start = head_text o tail in
     ap outcome (sequence_from-token edition open_side text start tail spaced (head_token o) g (head-reads edition o tail w e))
     ∙ ap outcome (head-answer o spaced start tail (λ l. sequence_from edition l tail))
     ∙ by o
   where
-    by : (o : Option (List ℕ)) → outcome (token_then (head_token o) tail (sequence_from edition closed_side tail)) ≡ with_role (head_role o) (outcome (sequence_from edition closed_side tail))
+    by : (o : Option (List ℕ)) → outcome (token_then (head_token o) tail (sequence_from edition closed_side tail)) ≡ with_role (part (head_part o)) (outcome (sequence_from edition closed_side tail))
     by None = refl
     by (Some n) = refl
 
-joined-outcome : (edition : Edition) (j : Combinator) (c : Compound) (tail : List ℕ) → Joins j → IsCompound edition c tail → ends_names edition tail ≡ false → outcome (sequence_from edition closed_side (joined_text j (compound_text c ++ tail))) ≡ with_role (joint j) (with_role (head_role c.name) (outcome (sequence_from edition closed_side (flat_map subselector_text c.subselectors ++ tail))))
+joined-outcome : (edition : Edition) (j : Combinator) (c : Compound) (tail : List ℕ) → Joins j → IsCompound edition c tail → ends_names edition tail ≡ false → outcome (sequence_from edition closed_side (joined_text j (compound_text c ++ tail))) ≡ with_role (joint j) (with_role (part (head_part c.name)) (outcome (sequence_from edition closed_side (flat_map subselector_text c.subselectors ++ tail))))
 joined-outcome edition none c tail n w e = absurd n
 joined-outcome edition descendant c tail n w e =
     let text = compound_text c ++ tail in
@@ -227,7 +228,7 @@ found_list : Option (List Component) → List Component
 found_list None = []
 found_list (Some cs) = cs
 
-differs-selector : (o : Outcome) (name : Option (List ℕ)) (c : Component) (cs : List Component) → Differs o c.compound.subselectors cs → (selector_of (with_role (head_role name) o)).0 ≡ Some (c ∷ cs) → ⊥
+differs-selector : (o : Outcome) (name : Option (List ℕ)) (c : Component) (cs : List Component) → Differs o c.compound.subselectors cs → (selector_of (with_role (part (head_part name)) o)).0 ≡ Some (c ∷ cs) → ⊥
 unfolding found_list first_subselectors tail_of
 differs-selector (refused left) None c cs d e = absurd (cc)
 differs-selector (refused left) (Some n) c cs d e = absurd (cc)
@@ -245,7 +246,7 @@ printed-differs edition (c ∷ cs) tail w h e =
     let inner = subselectors-differ edition c.compound.subselectors behind cs w.1.others ends (or_later (components-differ edition cs tail w.2 e) (either_unclean (is_clean_compound c.compound) (is_clean cs) h)) in
     let first : selector_text (c ∷ cs) ++ tail ≡ compound_text c.compound ++ behind = components-assoc c cs tail ∙ ap (λ j. joined_text j (compound_text c.compound ++ behind)) w.0 in
     let text = compound_text c.compound ++ behind in
-    let is : outcome (sequence_of edition (selector_text (c ∷ cs) ++ tail)) ≡ with_role (head_role c.compound.name) o =
+    let is : outcome (sequence_of edition (selector_text (c ∷ cs) ++ tail)) ≡ with_role (part (head_part c.compound.name)) o =
     ap (λ t. outcome (sequence_of edition t)) first
     ∙ head-outcome edition c.compound.name text (flat_map subselector_text c.compound.subselectors ++ behind) false w.1.head (gap-none text (compound-no_gap edition c.compound behind w.1) ∙ ap (got false) (compound-assoc c.compound behind)) (subselectors-end edition c.compound.subselectors behind ends) in
     λ found. differs-selector o c.compound.name c cs inner (ap (λ k. (selector_of k).0) (sym is) ∙ found)

@@ -2,7 +2,7 @@
 -- leaves is an end of the text.
 -- Serves `next` of `SelectorTokenizer` (slices in order), `consume_parts`, `laws::cutting_law` and
 -- `laws::edition_law`.
-use Rattle.std.proofs.Common.{ℕ, zero, suc, List, [], ◌∷◌, Bool, true, false, length, Ok, Err, IsUtf8}
+use Rattle.std.proofs.Common.{ℕ, zero, suc, List, [], ◌∷◌, Bool, true, false, length, Ok, Err, Option, Some, None, IsUtf8}
 use Rattle.simplecss_text.specs.Reading.{Reading, got, fails, follow, found, and_then, up_to, each, Ends}
 use Rattle.simplecss_text.specs.Bytes.{past_one}
 use Rattle.simplecss_text.specs.declared.next_kind.NextKind.{NextKind}
@@ -20,7 +20,6 @@ use Rattle.simplecss_text.specs.Neighbours.Answer.{nothing, descends, refuses}
 use Rattle.simplecss_text.specs.TokenSequences.{TokenSequence, sequence, sequence_from, sequence_of, answered, token_then, ending_sequence, item_texts}
 use Rattle.simplecss_text.specs.TokenSequences.TokenSequence.{item, sequence_end}
 use Rattle.simplecss_text.specs.Selectors.{Role, role_of, Outcome, with_role, after_role, outcome, selector_of, reads}
-use Rattle.simplecss_text.specs.Selectors.Role.{any_type, of_type, with, joint, unknown}
 use Rattle.simplecss_text.specs.Selectors.Outcome.{refused, accepted}
 use Rattle.simplecss_text.proofs.reading.KindLaws.{between-case, fault_ending-case}
 use Rattle.simplecss_text.proofs.reading.EndsLaws.{ends-same, ends-ends, ends-past_one, stand-from, stand-ends, Stands, no_texts}
@@ -182,12 +181,9 @@ outcome-ends-from : (from text : List ℕ) (o : Outcome) → Ends from text → 
 outcome-ends-from from text (refused left) e h = ends-ends from text left e h
 outcome-ends-from from text (accepted roles left) e h = ends-ends from text left e h
 
-after_role-ends : (text : List ℕ) (role : Role) (after : List ℕ) (o : Outcome) → Ends text after → OutcomeEnds text o → OutcomeEnds text (after_role role after o)
-after_role-ends text any_type after o a h = with_role-ends text any_type o h
-after_role-ends text (of_type n) after o a h = with_role-ends text (of_type n) o h
-after_role-ends text (with s) after o a h = with_role-ends text (with s) o h
-after_role-ends text (joint c) after o a h = with_role-ends text (joint c) o h
-after_role-ends text unknown after o a h = a
+after_role-ends : (text : List ℕ) (role : Option Role) (after : List ℕ) (o : Outcome) → Ends text after → OutcomeEnds text o → OutcomeEnds text (after_role role after o)
+after_role-ends text (Some role) after o a h = with_role-ends text role o h
+after_role-ends text None after o a h = a
 
 outcome-ends : (text : List ℕ) (r : TokenSequence) → SequenceStands no_texts text r → OutcomeEnds text (outcome r)
 outcome-ends text (sequence_end left) h = h
