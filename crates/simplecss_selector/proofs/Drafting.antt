@@ -1,32 +1,31 @@
 -- Filling a draft role by role gives the selector of the roles.
-use Rattle.std.proofs.Common.{◌≡◌, ℕ, true, List, [], ◌∷◌, ◌++◌, Some, refl, sym, ap, ◌∙◌, append_assoc, append-nil, map}
+use Rattle.std.proofs.Common.{◌≡◌, ℕ, true, Option, Some, None, is_some, List, [], ◌∷◌, ◌++◌, refl, sym, ap, ◌∙◌, append_assoc, append-nil, map}
 use Rattle.simplecss_text.specs.Components.{Component}
-use Rattle.simplecss_text.specs.Selectors.{Role, Outcome, with_role, after_role, cut, type_among, subselectors_among, component_of, components_of, selector_of}
-use Rattle.simplecss_text.specs.Selectors.Role.{any_type, of_type, with, joint, unknown}
+use Rattle.simplecss_text.specs.Selectors.{Part, Role, Outcome, with_role, after_role, cut, type_among, subselectors_among, component_of, components_of, selector_of}
+use Rattle.simplecss_text.specs.Selectors.Part.{any_type, of_type, with}
+use Rattle.simplecss_text.specs.Selectors.Role.{part, joint}
 use Rattle.simplecss_text.specs.Selectors.Outcome.{refused, accepted}
-use Rattle.simplecss_selector.specs.KnownPseudoClasses.{is_known}
-use Rattle.simplecss_selector.specs.SelectorDrafts.{Drafted, empty_draft, drafted_after, continued, selector_after}
+use Rattle.simplecss_selector.specs.SelectorDrafts.{Drafted, empty_draft, drafted_after, drafted_if, continued, selector_after}
 
--- the component with what the roles ask besides
-abbrev pub extended : Component → List Role → Component
-extended c roles = record { combinator = c.combinator; compound = record { name = type_among c.compound.name roles; subselectors = c.compound.subselectors ++ subselectors_among roles } }
+-- the component with what the parts ask besides
+abbrev pub extended : Component → List Part → Component
+extended c parts = record { combinator = c.combinator; compound = record { name = type_among c.compound.name parts; subselectors = c.compound.subselectors ++ subselectors_among parts } }
 
 extended-none : (c : Component) → extended c [] ≡ c
 extended-none c = ap (λ l. record { combinator = c.combinator; compound = record { name = c.compound.name; subselectors = l } }) (append-nil c.compound.subselectors)
 
 pub continued-cut : (roles : List Role) (d : Drafted) → continued d roles ≡ d.done ++ extended d.last (cut roles).0 ∷ map component_of (cut roles).1
 continued-cut [] d = ap (λ c. d.done ++ c ∷ []) (sym (extended-none d.last))
-continued-cut (any_type ∷ roles) d = continued-cut roles d
-continued-cut (of_type name ∷ roles) d = continued-cut roles (drafted_after (of_type name) d)
-continued-cut (with s ∷ roles) d =
-    continued-cut roles (drafted_after (with s) d)
+continued-cut (part any_type ∷ roles) d = continued-cut roles d
+continued-cut (part (of_type name) ∷ roles) d = continued-cut roles (drafted_after (part (of_type name)) d)
+continued-cut (part (with s) ∷ roles) d =
+    continued-cut roles (drafted_after (part (with s)) d)
     ∙ ap (λ l. d.done ++ (record { combinator = d.last.combinator; compound = record { name = type_among d.last.compound.name (cut roles).0; subselectors = l } }) ∷ map component_of (cut roles).1)
     (append_assoc d.last.compound.subselectors (s ∷ []) (subselectors_among (cut roles).0))
 continued-cut (joint combinator ∷ roles) d =
     continued-cut roles (drafted_after (joint combinator) d)
     ∙ append_assoc d.done (d.last ∷ []) _
     ∙ ap (λ c. d.done ++ c ∷ component_of (combinator, (cut roles).0) ∷ map component_of (cut roles).1) (sym (extended-none d.last))
-continued-cut (unknown ∷ roles) d = continued-cut roles d
 
 pub continued-by_byte : (roles : List Role) → continued empty_draft roles ≡ components_of roles
 continued-by_byte roles = continued-cut roles empty_draft
@@ -39,10 +38,7 @@ selector_after-with_role : (role : Role) (d : Drafted) (rest : Outcome) → sele
 selector_after-with_role role d (refused left) = refl
 selector_after-with_role role d (accepted roles left) = refl
 
--- a role that is known goes into the draft
-pub selector_after_known : (role : Role) (d : Drafted) (after : List ℕ) (rest : Outcome) → is_known role ≡ true → selector_after d (after_role role after rest) ≡ selector_after (drafted_after role d) rest
-selector_after_known any_type d after rest h = selector_after-with_role any_type d rest
-selector_after_known (of_type name) d after rest h = selector_after-with_role (of_type name) d rest
-selector_after_known (with s) d after rest h = selector_after-with_role (with s) d rest
-selector_after_known (joint combinator) d after rest h = selector_after-with_role (joint combinator) d rest
-selector_after_known unknown d after rest h = absurd (cc)
+-- a token that has a role goes into the draft
+pub selector_after_role : (role : Option Role) (d : Drafted) (after : List ℕ) (rest : Outcome) → is_some role ≡ true → selector_after d (after_role role after rest) ≡ selector_after (drafted_if role d) rest
+selector_after_role (Some role) d after rest h = selector_after-with_role role d rest
+selector_after_role None d after rest h = absurd (cc)

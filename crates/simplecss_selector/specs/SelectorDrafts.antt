@@ -2,8 +2,9 @@
 use Rattle.std.specs.Prelude.{ℕ, Bool, true, false, List, [], ◌∷◌, ◌++◌, Option, None, Some}
 use Rattle.simplecss_text.specs.Components.{Subselector, Combinator, Component}
 use Rattle.simplecss_text.specs.Components.Combinator.{none}
-use Rattle.simplecss_text.specs.Selectors.{Role, Outcome}
-use Rattle.simplecss_text.specs.Selectors.Role.{any_type, of_type, with, joint, unknown}
+use Rattle.simplecss_text.specs.Selectors.{Part, Role, Outcome}
+use Rattle.simplecss_text.specs.Selectors.Part.{any_type, of_type, with}
+use Rattle.simplecss_text.specs.Selectors.Role.{part, joint}
 use Rattle.simplecss_text.specs.Selectors.Outcome.{refused, accepted}
 
 -- the components that are done, and the one that is being filled
@@ -48,13 +49,21 @@ joined combinator d = record { done = d.done ++ d.last ∷ []; last = bare combi
 abbrev pub finished : Drafted → List Component
 finished d = d.done ++ d.last ∷ []
 
+-- what a part does to the last component
+abbrev pub with_part : Part → Drafted → Drafted
+with_part any_type d = d
+with_part (of_type name) d = with_name name d
+with_part (with subselector) d = with_subselector subselector d
+
 -- what a role does to the draft
 abbrev pub drafted_after : Role → Drafted → Drafted
-drafted_after any_type d = d
-drafted_after (of_type name) d = with_name name d
-drafted_after (with subselector) d = with_subselector subselector d
+drafted_after (part x) d = with_part x d
 drafted_after (joint combinator) d = joined combinator d
-drafted_after unknown d = d
+
+-- the same of a token, which may have no role, and then does nothing
+abbrev pub drafted_if : Option Role → Drafted → Drafted
+drafted_if (Some role) d = drafted_after role d
+drafted_if None d = d
 
 -- the components of the draft and of the roles that follow
 abbrev pub continued : Drafted → List Role → List Component

@@ -1,13 +1,13 @@
 //! Reading a selector from the front of a text.
-ghost use Rattle.std.specs.Prelude.{◌≡◌, drop, IfOk, IfSome};
+ghost use Rattle.std.specs.Prelude.{◌≡◌, drop, is_some, IfOk, IfSome};
 ghost use Rattle.std.specs.Str.{IsCharBoundary};
 ghost use Rattle.simplecss_text.specs.PrintingLaws.{SelectorReadsBack};
 ghost use Rattle.simplecss_text.specs.Selectors.{role_of, known_pseudo_class, outcome, reads};
 ghost use Rattle.simplecss_text.specs.ThisEdition.{this_edition};
-ghost use Rattle.simplecss_selector.specs.SelectorDrafts.{drafted_after, selector_after, selector_read};
+ghost use Rattle.simplecss_selector.specs.SelectorDrafts.{drafted_if, selector_after, selector_read};
 ghost use Rattle.simplecss_selector.specs.SelectorTokenizers.{whole_text, left_of, still_to_come};
 ghost use Rattle.simplecss_selector.specs.SeenTokens.{token_of};
-ghost use Rattle.simplecss_selector.specs.KnownPseudoClasses.{pseudo_class_seen, is_known};
+ghost use Rattle.simplecss_selector.specs.KnownPseudoClasses.{pseudo_class_seen};
 
 use crate::draft::Draft;
 use crate::selector::{Combinator, Selector, SubSelector};
@@ -37,9 +37,9 @@ fn pseudo_class<'a>(name: &str) -> Option<PseudoClass<'a>>
 /// and an id an attribute `id` that equals a text.
 #[inline(always)]
 fn fill<'a>(draft: &mut Draft<'a>, token: SelectorToken<'a>) -> Result<bool, AllocError>
-    ensures known { IfOk result (λ known. known ≡ is_known (role_of (token_of token.entry))) }
+    ensures known { IfOk result (λ known. known ≡ is_some (role_of (token_of token.entry))) }
     ensures filled { IfOk result
-        (λ _. draft.new ≡ drafted_after (role_of (token_of token.entry)) draft.old) }
+        (λ _. draft.new ≡ drafted_if (role_of (token_of token.entry)) draft.old) }
 {
     match token {
         SelectorToken::UniversalSelector => {}
@@ -88,7 +88,7 @@ fn warn_unknown<R: Log>(rt: &R, token: SelectorToken<'_>) {
 /// Puts the tokens that are still to come into the selector that is being made, up to the first
 /// error or unknown pseudo-class, and says whether there was none.
 #[inline(always)]
-#[tactic(auto, using(crate::proofs::Drafting::selector_after_known))]
+#[tactic(auto, using(crate::proofs::Drafting::selector_after_role))]
 fn fill_all<'a, R: Log>(
     rt: &R,
     tokenizer: &mut SelectorTokenizer<'a>,
