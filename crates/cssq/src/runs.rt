@@ -183,7 +183,6 @@ fn sheet_text(alloc: Global, sheet: &StyleSheet<'_>) -> Result<String, AllocErro
 ///
 /// The whole output is built first: after `Memory` nothing was written. After `Output` a beginning
 /// of it was, and never all of it. There is no other fault.
-#[tactic(auto, using(crate::proofs::Written::runs_written))]
 pub fn run_sheet<R: Log, W: Write>(
     rt: &R,
     alloc: Global,
