@@ -10,7 +10,7 @@ use Rattle.cssq.specs.declared.tree.Line.{Line}
 use Rattle.cssq.specs.declared.tree.TreeFault.{TreeFault}
 use Rattle.cssq.specs.declared.tree.TreeFault.TheVariants.{BadDepth, EmptyName, NoEquals, RepeatedKey, Memory}
 use Rattle.cssq.specs.TreeText.{Row, fields_of, lines_of, lines_in, row_of, depth_in, faults_of_line, line_faults, faults_in, first_or_rows, tree_of, IsSoundTo, IsFaultOf}
-use Rattle.cssq.specs.Lines.{row, rows, AreLinked, IsToldOf}
+use Rattle.cssq.specs.Lines.{row, rows, AreLinked, IsToldOf, Says, IsAdded}
 
 -- the faults of all lines in one list
 abbrev all_of : List (List TreeFault) → List TreeFault
@@ -100,19 +100,18 @@ module _ {text rest : List ℕ} {lines : List Line} {limit : ℕ} (so_far : Read
         }
 
   -- what the line's reader tells is the text's fault
-  at_line : (fault : TreeFault) → IsToldOf (length lines + 1) here fault → IsFaultOf fault text
-  at_line (Memory n) is = subst (λ n. IsSoundTo n text) (sym is.0) (sound is.1)
-  at_line (BadDepth n) is = told (BadDepth n) is
-  at_line (EmptyName n) is = told (EmptyName n) is
-  at_line (NoEquals n) is = told (NoEquals n) is
-  at_line (RepeatedKey n) is = told (RepeatedKey n) is
+  pub fault_found : (fault : TreeFault) → IsToldOf (length lines + 1) here fault → IsFaultOf fault text
+  fault_found (Memory n) is = subst (λ n. IsSoundTo n text) (sym is.0) (sound is.1)
+  fault_found (BadDepth n) is = told (BadDepth n) is
+  fault_found (EmptyName n) is = told (EmptyName n) is
+  fault_found (NoEquals n) is = told (NoEquals n) is
+  fault_found (RepeatedKey n) is = told (RepeatedKey n) is
 
-  pub fault_found : (number : ℕ) (fault : TreeFault) → number ≡ length lines + 1 → IsToldOf number (faults_of_line number limit (fields_of line)) fault → IsFaultOf fault text
-  fault_found number fault at is = at_line fault (subst (λ n. IsToldOf n (faults_of_line n limit (fields_of line)) fault) at is)
-
-  -- a growth was refused behind the check of the line
-  pub refused : (number : ℕ) → number ≡ length lines + 1 → faults_of_line number limit (fields_of line) ≡ [] → IsFaultOf (Memory number) text
-  refused number at none = fault_found number (Memory number) at (refl, none)
+  -- the line was added to the others
+  pub read_added : {new : List Line} {next : ℕ} → IsAdded lines limit line new next → length others < length rest → ReadSoFar text others new next
+  read_added {new} {next} added shorter =
+      let more = read_more added.says.0 added.line.entry added.says.1 added.line refl (subst AreLinked added.added added.linked) shorter added.within in
+      subst (ReadSoFar text others new) (sym added.next_limit) (subst (λ ls. ReadSoFar text others ls (added.line.entry.depth + 1)) (sym added.added) more)
 
 length_zero : (xs : List ℕ) → length xs ≡ 0 → xs ≡ []
 length_zero [] none = refl
@@ -125,6 +124,17 @@ read_all {text} {rest} {lines} {limit} so_far none =
     let no_fault : all_of (faults_in text) ≡ [] = ap all_of (so_far.faults ∙ ap (λ r. replicate (length lines) [] ++ line_faults (length lines + 1) limit (lines_in r)) nothing) ∙ all_of-sound (length lines) [] in
     let all : map row_of (lines_in text) ≡ rows lines = so_far.said ∙ ap (λ r. rows lines ++ map row_of (lines_in r)) nothing ∙ append-nil (rows lines) in
     (λ k. first_or_rows (no_fault k) (all k))
+
+-- an entry's line behind the others
+pub line_added : (old : List Line) (limit number : ℕ) (text : List ℕ) (e : Entry) (l : Line) (new : List Line) → number ≡ length old + 1 → Says number limit text e → e.depth ≤ limit → l.entry ≡ e → AreLinked (old ++ l ∷ []) → new ≡ old ++ l ∷ [] → IsAdded old limit text new (e.depth + 1)
+line_added old limit number text e l new at says within keeps linked added = record {
+  line = l;
+  added = added;
+  says = subst (Says (length old + 1) limit text) (sym keeps) (subst (λ n. Says n limit text e) at says);
+  within = subst (λ e. e.depth ≤ limit) (sym keeps) within;
+  next_limit = ap (λ e. e.depth + 1) (sym keeps);
+  linked = subst AreLinked (sym added) linked;
+}
 
 -- a fault that `?` hands on
 pub passed_on : {A : Type 0} (r : Result A TreeFault) (fault : TreeFault) (P : TreeFault → Type 0) → IsErrAnd r (λ told. told ≡ fault) → P fault → IfErr r P

@@ -1,11 +1,16 @@
 -- A write takes the front of what is left.
-use Rattle.std.proofs.Common.{◌≡◌, ℕ, ◌-◌, List, ◌++◌, length, take, drop, Option, sym, ap, ◌∙◌, append_assoc, take-append-drop, arith}
+use Rattle.std.proofs.Common.{◌≡◌, ℕ, ◌-◌, List, ◌++◌, length, take, drop, Option, Some, None, refl, sym, ap, subst, ◌∙◌, append_assoc, take-append-drop, arith}
 use Rattle.std.proofs.lemmas.Grind.{common_steps}
 use Rattle.std.specs.Prelude.{Result, Ok, Err, OnOk, OnErr, IfErr}
 use Rattle.cssq.specs.declared.runs.RunFault.{RunFault}
 use Rattle.cssq.specs.declared.runs.RunFault.TheVariants.{Refused, Tree, Memory, Output}
-use Rattle.cssq.specs.Writing.{AppendsProperPart, Writes}
-use Rattle.std.specs.Io.KnownBytes.{Appends}
+use Rattle.cssq.specs.declared.tree.TreeFault.{TreeFault}
+use Rattle.cssq.specs.declared.tree.TreeFault.TheVariants as told
+use Rattle.cssq.specs.TreeText.{tree_of, IsFaultOf}
+use Rattle.cssq.specs.Faults.{run_fault}
+use Rattle.cssq.specs.Writing.{AppendsProperPart, Writes, FailsBeforeWriting}
+use Rattle.std.specs.Result.{IsErrAnd}
+use Rattle.std.specs.Io.KnownBytes.{Keeps, Appends}
 use Rattle.std.proofs.KnownBytes.{Appends-trans}
 
 rest_whole : (rest : List ℕ) (n : ℕ) → take (length rest - n) (drop n rest) ≡ drop n rest
@@ -27,3 +32,27 @@ runs_written IsDue bytes (Err Output) old new due ok err fault = (bytes, due, er
 runs_written IsDue bytes (Err Memory) old new due ok err fault = absurd (cc)
 runs_written IsDue bytes (Err Refused) old new due ok err fault = absurd (cc)
 runs_written IsDue bytes (Err (Tree told)) old new due ok err fault = absurd (cc)
+
+keeps_itself : (known : Option (List ℕ)) → Keeps known known
+keeps_itself None = tt
+keeps_itself (Some bytes) = refl
+
+-- a fault before the first write
+fails_unwritten : (IsDue : Result (List ℕ) RunFault → Type 0) (fault : RunFault) (known : Option (List ℕ)) → FailsBeforeWriting IsDue fault → Writes IsDue (Err fault) known known
+fails_unwritten IsDue Memory known due = keeps_itself known
+fails_unwritten IsDue Output known due = absurd due
+fails_unwritten IsDue Refused known due = (due, keeps_itself known)
+fails_unwritten IsDue (Tree told) known due = (due, keeps_itself known)
+
+-- what `?` leaves where the bytes were not built
+pub runs_failed : (IsDue : Result (List ℕ) RunFault → Type 0) (r : Result (Unit {0}) RunFault) (fault : RunFault) (known : Option (List ℕ)) → IsErrAnd r (λ told. told ≡ fault) → FailsBeforeWriting IsDue fault → Writes IsDue r known known
+runs_failed IsDue (Ok x) fault known is due = absurd is
+runs_failed IsDue (Err told) fault known is due = fails_unwritten IsDue told known (subst (FailsBeforeWriting IsDue) (sym is) due)
+
+-- a tree's fault, handed on, is due
+pub tree_due : (IsDue : Result (List ℕ) RunFault → Type 0) (tree : List ℕ) (fault : TreeFault) → ((fault : TreeFault) → tree_of tree ≡ Err fault → IsDue (Err (Tree fault))) → IsFaultOf fault tree → FailsBeforeWriting IsDue (run_fault fault)
+tree_due IsDue tree (told.Memory n) due is = tt
+tree_due IsDue tree (told.BadDepth n) due is = due (told.BadDepth n) is
+tree_due IsDue tree (told.EmptyName n) due is = due (told.EmptyName n) is
+tree_due IsDue tree (told.NoEquals n) due is = due (told.NoEquals n) is
+tree_due IsDue tree (told.RepeatedKey n) due is = due (told.RepeatedKey n) is

@@ -1,5 +1,5 @@
 -- The lines that a page keeps, and how each is tied to others.
-use Rattle.std.specs.Prelude.{◌≡◌, ℕ, List, [], map, Some}
+use Rattle.std.specs.Prelude.{◌≡◌, ℕ, ◌+◌, ◌≤◌, List, [], ◌∷◌, ◌++◌, length, map, Some}
 use Rattle.std.specs.List.{slice_get}
 use Rattle.cssq.specs.declared.tree.entry.Entry.{Entry}
 use Rattle.cssq.specs.declared.tree.Line.{Line}
@@ -40,3 +40,13 @@ IsToldOf number faults (RepeatedKey line) = slice_get faults 0 ≡ Some (Repeate
 abbrev pub Says : ℕ → ℕ → List ℕ → Entry → Type 0
 Says number limit line e =
     (faults_of_line number limit (fields_of line) ≡ []) × (row_of (fields_of line) ≡ row e)
+
+-- A line was added behind others: it keeps what the text says, at a depth that may stand there. The
+-- next line's depth is at most one more.
+pub record IsAdded (old : List Line) (limit : ℕ) (text : List ℕ) (new : List Line) (next : ℕ) : Type 0 where
+  pub line : Line
+  pub added : new ≡ old ++ line ∷ []
+  pub says : Says (length old + 1) limit text line.entry
+  pub within : line.entry.depth ≤ limit
+  pub next_limit : next ≡ line.entry.depth + 1
+  pub linked : AreLinked new

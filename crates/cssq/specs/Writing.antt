@@ -19,3 +19,10 @@ Writes IsDue (Err Output) old new = (bytes : List ℕ) × IsDue (Ok bytes) × Ap
 Writes IsDue (Err Memory) old new = Keeps old new
 Writes IsDue (Err Refused) old new = IsDue (Err Refused) × Keeps old new
 Writes IsDue (Err (Tree fault)) old new = IsDue (Err (Tree fault)) × Keeps old new
+
+-- A run fails before it writes: memory is wanting, or the fault is due.
+abbrev pub FailsBeforeWriting : (Result (List ℕ) RunFault → Type 0) → RunFault → Type 0
+FailsBeforeWriting IsDue Memory = Unit {0}
+FailsBeforeWriting IsDue Output = ⊥
+FailsBeforeWriting IsDue Refused = IsDue (Err Refused)
+FailsBeforeWriting IsDue (Tree fault) = IsDue (Err (Tree fault))

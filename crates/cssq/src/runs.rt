@@ -1,11 +1,11 @@
 //! What the program's commands do, over any writer.
 
-ghost use Rattle.std.specs.Prelude.{◌≡◌, ◌+◌, ◌^◌, ◌<◌, ◌++◌, Some, All, OnOk, OnErr, IfErr, IfOk};
+ghost use Rattle.std.specs.Prelude.{◌≡◌, ◌+◌, ◌^◌, ◌<◌, ◌++◌, Some, All, OnOk, OnErr, IfErr, IfOk, Ok};
 ghost use Rattle.std.specs.Prelude.{string_bytes, map, decimal};
 ghost use Rattle.std.specs.Option.{option_map};
 ghost use Rattle.std.specs.Fmt.{WritesStyledOnOk};
 ghost use Rattle.std.specs.Io.KnownBytes.{Appends};
-ghost use Rattle.cssq.specs.Writing.{AppendsProperPart, Writes};
+ghost use Rattle.cssq.specs.Writing.{AppendsProperPart, Writes, FailsBeforeWriting};
 ghost use Rattle.cssq.specs.Faults.{status_of, message_of, run_fault};
 ghost use Rattle.cssq.specs.SelectorRuns.{selector_line, IsSelectorRun};
 ghost use Rattle.cssq.specs.SheetRuns.{sheet_output, IsSheetRun};
@@ -183,7 +183,6 @@ fn sheet_text(alloc: Global, sheet: &StyleSheet<'_>) -> Result<String, AllocErro
 ///
 /// The whole output is built first: after `Memory` nothing was written. After `Output` a beginning
 /// of it was, and never all of it. There is no other fault.
-#[tactic(auto, using(crate::proofs::Written::runs_written))]
 pub fn run_sheet<R: Log, W: Write>(
     rt: &R,
     alloc: Global,
@@ -213,11 +212,16 @@ fn push_line(out: &mut String, number: usize, places: &[usize]) -> Result<(), Al
     Ok(())
 }
 
-/// The lines of the elements of a page.
-fn match_text(alloc: Global, rules: &[Rule<'_>], page: &Page<'_>) -> Result<String, AllocError>
+/// The lines of the elements of a page, by an index of the rules.
+fn match_lines<'a>(
+    alloc: Global,
+    index: &RuleIndex<'a>,
+    rules: &[Rule<'a>],
+    page: &Page<'_>,
+) -> Result<String, AllocError>
+    requires { index.now ≡ map (λ rule. rule.selector) rules.now }
     ensures { IfOk result (λ text. IsMatchText (rules_of rules.now) page.now (string_bytes text)) }
 {
-    let index = RuleIndex::new(alloc, rules)?;
     let mut places = Vec::new(alloc);
     let mut text = String::new(alloc);
     for place in 0..page.len() {
@@ -228,13 +232,30 @@ fn match_text(alloc: Global, rules: &[Rule<'_>], page: &Page<'_>) -> Result<Stri
     Ok(text)
 }
 
+/// The lines of the elements of a page.
+fn match_text(alloc: Global, rules: &[Rule<'_>], page: &Page<'_>) -> Result<String, AllocError>
+    ensures { IfOk result (λ text. IsMatchText (rules_of rules.now) page.now (string_bytes text)) }
+{
+    let index = RuleIndex::new(alloc, rules)?;
+    match_lines(alloc, &index, rules, page)
+}
+
+/// What `run_match` writes. The sheet is read first, then the tree.
+fn match_output<R: Log>(rt: &R, alloc: Global, sheet: &str, tree: &str) -> Result<String, RunFault>
+    ensures ok { IfOk result (λ text. IsMatchRun sheet.now tree.now (Ok (string_bytes text))) }
+    ensures fault { IfErr result (FailsBeforeWriting (IsMatchRun sheet.now tree.now)) }
+{
+    let sheet = StyleSheet::parse(rt, alloc, sheet)?;
+    let page = Page::read(alloc, tree)?;
+    Ok(match_text(alloc, sheet.rules.as_slice(), &page)?)
+}
+
 /// Writes for each element of a tree its number from 1, a colon, a space and the number of each
 /// rule of the sheet that takes it, and a newline.
 ///
 /// The sheet is read first, then the tree, and then the whole output is built: after `Tree` and
 /// `Memory` nothing was written. After `Output` a beginning of it was, and never all of it.
 /// `Refused` does not come.
-#[tactic(auto, using(crate::proofs::Written::runs_written))]
 pub fn run_match<R: Log, W: Write>(
     rt: &R,
     alloc: Global,
@@ -245,9 +266,7 @@ pub fn run_match<R: Log, W: Write>(
     ensures { Writes (IsMatchRun sheet.now tree.now) result (W.contents out.old)
         (W.contents out.new) }
 {
-    let sheet = StyleSheet::parse(rt, alloc, sheet)?;
-    let page = Page::read(alloc, tree)?;
-    let text = match_text(alloc, sheet.rules.as_slice(), &page)?;
+    let text = match_output(rt, alloc, sheet, tree)?;
     write_out(out, text.as_bytes())
 }
 
@@ -273,26 +292,58 @@ fn push_winner(
     Ok(())
 }
 
-/// The lines of the elements of a page, with what wins for the name on each.
-fn style_text(
+/// The lines of the elements of a page, with what wins for the name on each, by an index of the
+/// rules.
+fn style_lines<'a>(
     alloc: Global,
-    sheet: &StyleSheet<'_>,
+    index: &RuleIndex<'a>,
+    rules: &[Rule<'a>],
     page: &Page<'_>,
     name: &str,
 ) -> Result<String, AllocError>
+    requires { index.now ≡ map (λ rule. rule.selector) rules.now }
     ensures { IfOk result
-        (λ text. IsStyleText name.now (rules_in sheet.now) page.now (string_bytes text)) }
+        (λ text. IsStyleText name.now (rules_of rules.now) page.now (string_bytes text)) }
 {
-    let rules = sheet.rules.as_slice();
-    let index = RuleIndex::new(alloc, rules)?;
     let mut places = Vec::new(alloc);
     let mut text = String::new(alloc);
     for place in 0..page.len() {
         let node = page.node(place).unwrap();
-        let winner = winning_by(&index, rules, &node, name, &mut places)?;
+        let winner = winning_by(index, rules, &node, name, &mut places)?;
         push_winner(&mut text, place + 1, winner)?;
     }
     Ok(text)
+}
+
+/// The lines of the elements of a page, with what wins for the name on each.
+fn style_text(
+    alloc: Global,
+    rules: &[Rule<'_>],
+    page: &Page<'_>,
+    name: &str,
+) -> Result<String, AllocError>
+    ensures { IfOk result
+        (λ text. IsStyleText name.now (rules_of rules.now) page.now (string_bytes text)) }
+{
+    let index = RuleIndex::new(alloc, rules)?;
+    style_lines(alloc, &index, rules, page, name)
+}
+
+/// What `run_style` writes. The sheet is read first, then the tree.
+fn style_output<R: Log>(
+    rt: &R,
+    alloc: Global,
+    sheet: &str,
+    tree: &str,
+    name: &str,
+) -> Result<String, RunFault>
+    ensures ok { IfOk result
+        (λ text. IsStyleRun sheet.now tree.now name.now (Ok (string_bytes text))) }
+    ensures fault { IfErr result (FailsBeforeWriting (IsStyleRun sheet.now tree.now name.now)) }
+{
+    let sheet = StyleSheet::parse(rt, alloc, sheet)?;
+    let page = Page::read(alloc, tree)?;
+    Ok(style_text(alloc, sheet.rules.as_slice(), &page, name)?)
 }
 
 /// Writes for each element of a tree its number from 1, a colon, and where a declaration of the
@@ -301,7 +352,6 @@ fn style_text(
 /// The sheet is read first, then the tree, and then the whole output is built: after `Tree` and
 /// `Memory` nothing was written. After `Output` a beginning of it was, and never all of it.
 /// `Refused` does not come.
-#[tactic(auto, using(crate::proofs::Written::runs_written))]
 pub fn run_style<R: Log, W: Write>(
     rt: &R,
     alloc: Global,
@@ -313,8 +363,6 @@ pub fn run_style<R: Log, W: Write>(
     ensures { Writes (IsStyleRun sheet.now tree.now name.now) result (W.contents out.old)
         (W.contents out.new) }
 {
-    let sheet = StyleSheet::parse(rt, alloc, sheet)?;
-    let page = Page::read(alloc, tree)?;
-    let text = style_text(alloc, &sheet, &page, name)?;
+    let text = style_output(rt, alloc, sheet, tree, name)?;
     write_out(out, text.as_bytes())
 }

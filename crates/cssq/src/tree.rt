@@ -1,6 +1,6 @@
 //! A tree of elements from its text.
 
-ghost use Rattle.std.specs.Prelude.{◌≡◌, ◌∷◌, ◌++◌, ◌<◌, ◌≤◌, [], length, take, nat_le, map};
+ghost use Rattle.std.specs.Prelude.{◌≡◌, ◌∷◌, ◌++◌, ◌+◌, ◌<◌, ◌≤◌, [], length, take, nat_le, map};
 ghost use Rattle.std.specs.Prelude.{IfSome, IfOk, IfErr, Ok, MatchOption, MatchResult, is_some};
 ghost use Rattle.std.specs.Prelude.{option_map};
 ghost use Rattle.std.specs.List.{list_all, slice_get};
@@ -11,7 +11,7 @@ ghost use Rattle.cssq.specs.TreeText.{field_faults, fault_number, fault_line, fa
 ghost use Rattle.cssq.specs.TreeText.{tree_of, IsFaultOf};
 ghost use Rattle.cssq.specs.ParentsAndSiblings.{depths_of, last_place, parent_place, previous_place};
 ghost use Rattle.cssq.specs.Nodes.{spot, name_at, attribute_at, value_in};
-ghost use Rattle.cssq.specs.Lines.{depths, AreLinked, IsToldOf, Says};
+ghost use Rattle.cssq.specs.Lines.{depths, AreLinked, IsToldOf, Says, IsAdded};
 
 mod entry;
 
@@ -345,6 +345,29 @@ fn link<'t>(lines: &[Line<'t>], entry: Entry<'t>) -> Line<'t>
     }
 }
 
+/// Adds what the text of a line says behind the other lines, or tells what is wrong with it. The
+/// result is the greatest depth that the next line may have.
+fn add_line<'t>(
+    alloc: Global,
+    lines: &mut Vec<Line<'t>>,
+    limit: usize,
+    text: &'t str,
+) -> Result<usize, TreeFault>
+    requires linked { AreLinked lines.old.items }
+    requires low { limit ≤ length lines.old.items }
+    ensures ok { IfOk result (IsAdded lines.old.items limit text.now lines.new.items) }
+    ensures fault { IfErr result (IsToldOf (length lines.old.items + 1)
+        (faults_of_line (length lines.old.items + 1) limit (fields_of text.now))) }
+{
+    let number = lines.len() + 1;
+    let entry = read_line(alloc, number, limit, text)?;
+    let line = link(lines.as_slice(), entry);
+    if lines.push(line).is_err() {
+        return Err(TreeFault::Memory(number));
+    }
+    Ok(entry.depth + 1)
+}
+
 /// The elements of a tree, in the order of their lines.
 #[derive(Debug, Drop)]
 pub struct Page<'t> {
@@ -376,13 +399,7 @@ impl<'t> Page<'t> {
         let mut limit = 0;
         while !rest.is_empty() {
             let (line, others) = cut_line(rest);
-            let number = lines.len() + 1;
-            let entry = read_line(alloc, number, limit, line)?;
-            let linked = link(lines.as_slice(), entry);
-            if lines.push(linked).is_err() {
-                return Err(TreeFault::Memory(number));
-            }
-            limit = entry.depth + 1;
+            limit = add_line(alloc, &mut lines, limit, line)?;
             rest = others;
         }
         Ok(Page { lines })

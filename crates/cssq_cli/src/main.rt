@@ -9,7 +9,7 @@ use cssq::runs::{RunFault, run_match, run_selector, run_sheet, run_style};
 use log::Log;
 use log::sink::Writer;
 use notice::Notice;
-use simplecss_faults::{Reason, find_faults};
+use simplecss_faults::{Fault, Reason, find_faults};
 use std::io::{BufWriter, Read, Stderr, Write};
 use std::process::ExitCode;
 use std::{env, fs, io};
@@ -84,25 +84,42 @@ fn read_files(rt: &HostRuntime, names: &[String]) -> Result<Vec<String>, ExitCod
     Ok(texts)
 }
 
-/// Tells on standard error what of a sheet's text was passed over with a warning: the file, the row
-/// and the column in it, the text that stands there, and why. Where memory or standard error is
-/// wanting, less is told.
+/// Writes the line of a fault, if it is one that a warning is given of: the file, the row and the
+/// column in it, the text that stands there, and why.
+fn write_fault(out: &mut BufWriter<Stderr>, name: &str, fault: &Fault<'_>) -> io::Result<()> {
+    match fault.reason {
+        Reason::Selector(_) | Reason::PseudoClass | Reason::AtRule => {
+            writeln!(
+                out,
+                "{name}:{}: '{}': {}",
+                fault.pos, fault.text, fault.reason
+            )
+        }
+        Reason::Declaration | Reason::Comment => Ok(()),
+    }
+}
+
+/// Tells on standard error what of a sheet's text was passed over with a warning. Where memory or
+/// standard error is wanting, less is told.
 fn tell_faults(rt: &HostRuntime, name: &str, text: &str) -> io::Result<()> {
     let mut out = BufWriter::new(rt.alloc(), rt.stderr())?;
     let faults = find_faults(rt.alloc(), text)?;
     for fault in &faults {
-        match fault.reason {
-            Reason::Selector(_) | Reason::PseudoClass | Reason::AtRule => {
-                writeln!(
-                    out,
-                    "{name}:{}: '{}': {}",
-                    fault.pos, fault.text, fault.reason
-                )?;
-            }
-            Reason::Declaration | Reason::Comment => {}
-        }
+        write_fault(&mut out, name, fault)?;
     }
     out.flush()
+}
+
+/// Shows the sheet of the texts in turn, which are those of the files.
+fn show_texts(rt: &HostRuntime, names: &[String], texts: &[&str]) -> ExitCode {
+    let notice = Notice::new();
+    let outcome = run_sheet(&notice, rt.alloc(), texts, &mut rt.stdout());
+    if notice.is_given() {
+        for (name, text) in names.iter().zip(texts.iter()) {
+            let _ = tell_faults(rt, name.as_str(), text);
+        }
+    }
+    ended(rt, outcome)
 }
 
 /// Shows the sheet of the files' texts in turn.
@@ -115,14 +132,7 @@ fn show_sheet(rt: &HostRuntime, names: &[String]) -> ExitCode {
         return ended(rt, Err(RunFault::Memory));
     };
     let texts: Vec<&str> = texts;
-    let notice = Notice::new();
-    let outcome = run_sheet(&notice, rt.alloc(), texts.as_slice(), &mut rt.stdout());
-    if notice.is_given() {
-        for (name, text) in names.iter().zip(texts.iter()) {
-            let _ = tell_faults(rt, name.as_str(), text);
-        }
-    }
-    ended(rt, outcome)
+    show_texts(rt, names, texts.as_slice())
 }
 
 /// Shows which rules of the file's sheet take each element of the tree.

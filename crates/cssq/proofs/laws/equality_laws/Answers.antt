@@ -1,12 +1,36 @@
-use Rattle.std.proofs.Common.{◌≡◌, map, ap, refl, subst}
+use Rattle.std.proofs.Common.{◌≡◌, Bool, true, false, map, ap, refl, subst}
 use Rattle.std.specs.Prelude.{string_bytes, bytes_eq, ◌&&◌}
 use Rattle.std.specs.Bool.{Decides}
 use Rattle.std.specs.Cmp.Derive.Mapped.{pointwise-map}
 use Rattle.std.specs.Cmp.Lexicographic.{pointwise, pointwise_decides, bytes_decides}
+use Rattle.std.proofs.lemmas.Bool.{both_ways}
 use Rattle.std.proofs.lemmas.Bool.Decides.{Decides-and}
-use Rattle.cssq.specs.Command.Request.{selector, sheet, match, style}
+use Rattle.cssq.specs.Command.{Request}
+use Rattle.cssq.specs.Command.Request.{input, selector, sheet, match, style}
 use Rattle.cssq.specs.declared.command.Command.TheVariants.{Input, Selector, Sheet, Match, Style}
 use Rattle.cssq.proofs.laws.equality_laws.Goals as goal
+
+-- ---- a request's kind
+
+abbrev is_input : Request → Bool
+is_input input = true
+is_input _ = false
+
+abbrev is_selector : Request → Bool
+is_selector (selector text) = true
+is_selector _ = false
+
+abbrev is_sheet : Request → Bool
+is_sheet (sheet files) = true
+is_sheet _ = false
+
+abbrev is_match : Request → Bool
+is_match (match file tree) = true
+is_match _ = false
+
+abbrev is_style : Request → Bool
+is_style (style file tree name) = true
+is_style _ = false
 
 pub returns-clause-commands : goal.returns-clause-commands
 returns-clause-commands c Input Input = (λ h. refl, λ e. refl)
@@ -35,4 +59,9 @@ returns-clause-commands c (Style a s x) (Style b t y) =
           let name : x.now ≡ y.now = cc in
           same.1 (file, (tree, name))),
     )
-returns-clause-commands c _ _ = (λ h. absurd (cc), λ e. absurd (cc))
+-- of two kinds
+returns-clause-commands c Input _ = (λ h. absurd (both_ways false refl h), λ e. absurd (both_ways true (ap is_input e) refl))
+returns-clause-commands c (Selector a) _ = (λ h. absurd (both_ways false refl h), λ e. absurd (both_ways true (ap is_selector e) refl))
+returns-clause-commands c (Sheet a) _ = (λ h. absurd (both_ways false refl h), λ e. absurd (both_ways true (ap is_sheet e) refl))
+returns-clause-commands c (Match a s) _ = (λ h. absurd (both_ways false refl h), λ e. absurd (both_ways true (ap is_match e) refl))
+returns-clause-commands c (Style a s x) _ = (λ h. absurd (both_ways false refl h), λ e. absurd (both_ways true (ap is_style e) refl))

@@ -5,14 +5,14 @@ use Rattle.simplecss_index.specs.Matching.{AreMatches}
 use Rattle.cssq.specs.Nodes.{spot, page_tree}
 use Rattle.cssq.proofs.Indexed.{line_added, same_selectors, wanted_at}
 use Rattle.cssq.proofs.MatchLines.{matched_more}
-use Rattle.cssq.proofs.runs.match_text.Goals.{After-as_slice}
-use Rattle.cssq.proofs.runs.match_text.Goals as goal
+use Rattle.cssq.proofs.runs.match_lines.Goals.{After-as_slice}
+use Rattle.cssq.proofs.runs.match_lines.Goals as goal
 
 -- the places are those of the rules that take the element
 found : (c : After-as_slice) → AreMatches page_tree c.unwrap-node.result (map (λ rule. rule.components) (rules_of c.args.rules.now)) c.as_slice.result.now
 found c =
-    subst (λ selectors. AreMatches page_tree c.unwrap-node.result selectors c.as_slice.result.now) (c.in_ok-index.ensures ∙ same_selectors rule_of c.args.rules.now)
-    (subst (AreMatches page_tree c.unwrap-node.result c.in_ok-index.index) (sym c.as_slice.ensures.value) c.in_ok-matching.ensures.matches)
+    subst (λ selectors. AreMatches page_tree c.unwrap-node.result selectors c.as_slice.result.now) (c.requires ∙ same_selectors rule_of c.args.rules.now)
+    (subst (AreMatches page_tree c.unwrap-node.result c.args.index.now) (sym c.as_slice.ensures.value) c.in_ok-matching.ensures.matches)
 
 -- the line of one more element
 pub loop-place-preserved : goal.loop-place-preserved
