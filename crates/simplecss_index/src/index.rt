@@ -1,6 +1,9 @@
 //! The index.
-ghost use Rattle.std.specs.Prelude.{◌≡◌, ◌+◌, ◌≤◌, [], IfOk, OnOk, OnErr, map};
+ghost use Rattle.std.specs.Prelude.{◌≡◌, ◌+◌, ◌≤◌, ◌∷◌, ◌++◌, [], None, IfOk, OnOk, OnErr, map};
 ghost use Rattle.std.specs.List.{sum_by};
+ghost use Rattle.simplecss.specs.Keys.{Key};
+ghost use Rattle.simplecss_index.specs.Chains.{selectors_of, AreChained};
+ghost use Rattle.simplecss_index.specs.Lasts.{last_for};
 ghost use Rattle.simplecss_index.specs.Matching.{AreMatches, most_tests, keyed_for};
 
 use crate::find::candidates;
@@ -32,6 +35,59 @@ impl<'a> Link<'a> {
             selector: Snapshot::of(selector),
         }
     }
+}
+
+/// Puts the place behind the links under the selector's key, and there a link to the last earlier
+/// place with that key.
+#[inline(always)]
+fn push_link<'a>(
+    lasts: &mut Lasts<'a>,
+    links: &mut Vec<Link<'a>>,
+    selector: &Selector<'a>,
+) -> Result<(), AllocError>
+    requires { AreChained lasts.old links.old.items }
+    ensures chained { OnOk result (AreChained lasts.new links.new.items) }
+    ensures selectors { OnOk result
+        (selectors_of links.new.items ≡ selectors_of links.old.items ++ selector.now ∷ []) }
+{
+    let earlier = lasts.replace(selector.key(), links.len())?;
+    links.push(Link::new(earlier, selector))?;
+    Ok(())
+}
+
+/// Puts the links of the rules behind the others, in order.
+#[inline(always)]
+fn push_links<'a>(
+    lasts: &mut Lasts<'a>,
+    links: &mut Vec<Link<'a>>,
+    rules: &[Rule<'a>],
+) -> Result<(), AllocError>
+    requires { AreChained lasts.old links.old.items }
+    ensures chained { OnOk result (AreChained lasts.new links.new.items) }
+    ensures selectors { OnOk result (selectors_of links.new.items
+        ≡ selectors_of links.old.items ++ map (λ rule. rule.selector) rules.now) }
+{
+    for rule in rules {
+        push_link(lasts, links, &rule.selector)?;
+    }
+    Ok(())
+}
+
+/// The links of the rules, in order, where no key has a place before.
+#[inline(always)]
+fn links_of<'a>(
+    alloc: Global,
+    lasts: &mut Lasts<'a>,
+    rules: &[Rule<'a>],
+) -> Result<Vec<Link<'a>>, AllocError>
+    requires { (key : Key) → last_for lasts.old key ≡ None }
+    ensures chained { IfOk result (λ links. AreChained lasts.new links.items) }
+    ensures selectors { IfOk result
+        (λ links. selectors_of links.items ≡ map (λ rule. rule.selector) rules.now) }
+{
+    let mut links = Vec::with_capacity(alloc, rules.len())?;
+    push_links(lasts, &mut links, rules)?;
+    Ok(links)
 }
 
 /// An index of rules by the keys of their selectors: it finds the rules that match an element, and
@@ -67,11 +123,7 @@ impl<'a> RuleIndex<'a> {
         ensures { IfOk result (λ index. index ≡ map (λ rule. rule.selector) rules.now) }
     {
         let mut lasts = Lasts::new(alloc);
-        let mut links = Vec::with_capacity(alloc, rules.len())?;
-        for (place, rule) in rules.iter().enumerate() {
-            let earlier = lasts.replace(rule.selector.key(), place)?;
-            links.push(Link::new(earlier, &rule.selector))?;
-        }
+        let links = links_of(alloc, &mut lasts, rules)?;
         Ok(RuleIndex { lasts, links })
     }
 
