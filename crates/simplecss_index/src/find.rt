@@ -98,10 +98,10 @@ fn push_earlier(
     ensures { OnOk result (Adds places.old.items places.new.items
         (λ other. (other < place) × (key_at rule_index.now other ≡ key_at rule_index.now place))) }
 {
-    let mut known = rule_index.links[place].earlier;
+    let mut known = rule_index.earlier(place);
     'back: while let Some(other) = known {
         places.push(other)?;
-        known = rule_index.links[other].earlier;
+        known = rule_index.earlier(other);
     }
     Ok(())
 }

@@ -1,9 +1,11 @@
 //! The index.
-ghost use Rattle.std.specs.Prelude.{◌≡◌, ◌+◌, ◌≤◌, ◌∷◌, ◌++◌, [], None, IfOk, OnOk, OnErr, map};
+ghost use Rattle.std.specs.Prelude.{◌≡◌, ◌+◌, ◌<◌, ◌≤◌, ◌∷◌, ◌++◌, [], None, IfOk, OnOk};
+ghost use Rattle.std.specs.Prelude.{OnErr, length, map};
 ghost use Rattle.std.specs.List.{sum_by};
 ghost use Rattle.simplecss.specs.Keys.{Key};
-ghost use Rattle.simplecss_index.specs.Chains.{selectors_of, AreChained};
+ghost use Rattle.simplecss_index.specs.Chains.{selectors_of, IsLastBefore, AreChained};
 ghost use Rattle.simplecss_index.specs.Lasts.{last_for};
+ghost use Rattle.simplecss_index.specs.Places.{key_at};
 ghost use Rattle.simplecss_index.specs.Matching.{AreMatches, most_tests, keyed_for};
 
 use crate::find::candidates;
@@ -16,9 +18,9 @@ use std::snapshot::Snapshot;
 
 /// What an index keeps of a rule.
 #[derive(Drop)]
-pub(crate) struct Link<'a> {
+struct Link<'a> {
     /// The place of the last earlier rule with the same key.
-    pub(crate) earlier: Option<usize>,
+    earlier: Option<usize>,
     /// The selector, which contracts alone see. It takes no bytes.
     selector: Snapshot<Selector<'a>>,
 }
@@ -101,7 +103,7 @@ pub struct RuleIndex<'a> {
     /// The last place of each key.
     pub(crate) lasts: Lasts<'a>,
     /// For each rule, in order, how it is chained to the earlier ones.
-    pub(crate) links: Vec<Link<'a>>,
+    links: Vec<Link<'a>>,
 }
 
 impl<'a> Model for RuleIndex<'a> {
@@ -125,6 +127,15 @@ impl<'a> RuleIndex<'a> {
         let mut lasts = Lasts::new(alloc);
         let links = links_of(alloc, &mut lasts, rules)?;
         Ok(RuleIndex { lasts, links })
+    }
+
+    /// The last earlier place with the key of this one, if there is one.
+    #[inline(always)]
+    pub(crate) fn earlier(&self, place: usize) -> Option<usize>
+        requires { place < length self.now }
+        ensures { IsLastBefore self.now place (key_at self.now place) result }
+    {
+        self.links[place].earlier
     }
 
     /// The places of the rules that match the element, in order: what asking each rule would give.
