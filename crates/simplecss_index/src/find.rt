@@ -84,8 +84,7 @@ fn push_keys_of<E: Keyed>(
     push_last(lasts, Key::Any, places)?;
     push_last(lasts, Key::Name(element.local_name()), places)?;
     push_id(lasts, element.id_value(), places)?;
-    push_classes(lasts, element.class_value(), places)?;
-    Ok(())
+    push_classes(lasts, element.class_value(), places)
 }
 
 /// Adds the earlier places with the key of this one.
