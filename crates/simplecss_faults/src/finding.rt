@@ -2,7 +2,9 @@
 use crate::{Fault, Reason};
 use log::sink::Discard;
 use simplecss::stream::Stream;
-use simplecss::{DeclarationTokenizer, Selector, SelectorTokenizer, StatementReader, TextPos};
+use simplecss::{
+    DeclarationTokenizer, Selector, SelectorTokenizer, Statement, StatementReader, TextPos,
+};
 use std::alloc::{AllocError, Global};
 
 /// The faults of a text that were found so far.
@@ -52,6 +54,24 @@ fn blank(text: &str) -> (usize, bool) {
     (passed, tail(text, passed).starts_with("/*"))
 }
 
+/// How many space bytes stand at the front.
+fn spaces_len(text: &str) -> usize {
+    let mut stream = Stream::new(text);
+    stream.skip_spaces();
+    stream.pos()
+}
+
+/// How many bytes the comma at the front takes, if there is one.
+fn comma_len(text: &str) -> usize {
+    if text.starts_with(',') { 1 } else { 0 }
+}
+
+/// Whether the selector at the front of the text is read, and how many bytes it takes.
+fn read_front(alloc: Global, text: &str) -> Result<(bool, usize), AllocError> {
+    let (selector, len) = Selector::parse_front(&Discard, alloc, text)?;
+    Ok((selector.is_some(), len))
+}
+
 /// The reason for which the selector at the front of the text is refused.
 fn reason(text: &str) -> Reason {
     for token in SelectorTokenizer::from(text) {
@@ -75,15 +95,18 @@ fn declarations_len(text: &str) -> usize {
     passed
 }
 
+/// Where the statement begins and ends, if there is one.
+fn places_of(statement: Option<Statement<'_>>) -> Option<(usize, usize)> {
+    let statement = statement?;
+    Some((statement.start, statement.end))
+}
+
 /// Where the next statement begins and ends.
 fn next_places(
     reader: &mut StatementReader<'_>,
     alloc: Global,
 ) -> Result<Option<(usize, usize)>, AllocError> {
-    match reader.read_next(&Discard, alloc)? {
-        Some(statement) => Ok(Some((statement.start, statement.end))),
-        None => Ok(None),
-    }
+    reader.read_next(&Discard, alloc).map(places_of)
 }
 
 impl<'a> Finder<'a> {
@@ -102,42 +125,43 @@ impl<'a> Finder<'a> {
         Ok(())
     }
 
+    /// Tells that the selector behind the blank at a place is passed over.
+    fn tell_selector(&mut self, start: usize) -> Result<(), AllocError> {
+        let (passed, _) = blank(tail(self.text, start));
+        let place = start.saturating_add(passed);
+        let text = tail(self.text, place);
+        self.tell(place, before(text, ',', '{'), reason(text))
+    }
+
+    /// Looks at the selector that begins at a place, and gives the place behind it and the space
+    /// bytes that follow.
+    fn look_at_selector(&mut self, alloc: Global, start: usize) -> Result<usize, AllocError> {
+        let (is_read, len) = read_front(alloc, tail(self.text, start))?;
+        if !is_read {
+            self.tell_selector(start)?;
+        }
+        let behind = start.saturating_add(len);
+        Ok(behind.saturating_add(spaces_len(tail(self.text, behind))))
+    }
+
     /// Looks at the selectors of a rule set that begins at a place, and gives the place behind
     /// them.
     fn look_at_selectors(&mut self, alloc: Global, start: usize) -> Result<usize, AllocError> {
-        let mut place = start;
-        if tail(self.text, place).starts_with(',') {
-            place = place.saturating_add(1);
-        }
+        let mut place = start.saturating_add(comma_len(tail(self.text, start)));
         for _ in start..=self.text.len() {
-            let (passed, _) = blank(tail(self.text, place));
-            let text = tail(self.text, place.saturating_add(passed));
-            let (selector, len) = Selector::parse_front(&Discard, alloc, tail(self.text, place))?;
-            if selector.is_none() {
-                let quoted = before(text, ',', '{');
-                self.tell(place.saturating_add(passed), quoted, reason(text))?;
-            }
-            place = place.saturating_add(len);
-            let mut stream = Stream::new(tail(self.text, place));
-            stream.skip_spaces();
-            place = place.saturating_add(stream.pos());
-            if !tail(self.text, place).starts_with(',') {
+            place = self.look_at_selector(alloc, place)?;
+            let comma = comma_len(tail(self.text, place));
+            if comma == 0 {
                 break;
             }
-            place = place.saturating_add(1);
+            place = place.saturating_add(comma);
         }
         Ok(place)
     }
 
-    /// Looks at the block of a rule set whose selectors end at a place.
-    fn look_at_block(&mut self, start: usize) -> Result<(), AllocError> {
-        let Some(open) = tail(self.text, start).find('{') else {
-            return Ok(());
-        };
-        let first = start.saturating_add(open).saturating_add(1);
-        let place = first.saturating_add(declarations_len(tail(self.text, first)));
-        let (passed, is_open) = blank(tail(self.text, place));
-        let place = place.saturating_add(passed);
+    /// Looks at what stands behind the declarations of a block and the blank that follows them: a
+    /// comment may be open there.
+    fn look_behind(&mut self, place: usize, is_open: bool) -> Result<(), AllocError> {
         let left = tail(self.text, place);
         if is_open {
             return self.tell(place, before(left, '\n', '}'), Reason::Comment);
@@ -146,6 +170,21 @@ impl<'a> Finder<'a> {
             return Ok(());
         }
         self.tell(place, before(left, ';', '}'), Reason::Declaration)
+    }
+
+    /// Looks at the declarations of a block that begin at a place.
+    fn look_at_declarations(&mut self, start: usize) -> Result<(), AllocError> {
+        let behind = start.saturating_add(declarations_len(tail(self.text, start)));
+        let (passed, is_open) = blank(tail(self.text, behind));
+        self.look_behind(behind.saturating_add(passed), is_open)
+    }
+
+    /// Looks at the block of a rule set whose selectors end at a place.
+    fn look_at_block(&mut self, start: usize) -> Result<(), AllocError> {
+        match tail(self.text, start).find('{') {
+            Some(open) => self.look_at_declarations(start.saturating_add(open).saturating_add(1)),
+            None => Ok(()),
+        }
     }
 
     /// Looks at the statement that stands between two places. Of an at-rule no more is quoted than

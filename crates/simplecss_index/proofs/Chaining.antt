@@ -1,8 +1,8 @@
 -- One more link at the end of the chains.
-use Rattle.std.proofs.Common.{◌≡◌, ℕ, ◌+◌, ◌<◌, ◌≤◌, ◌⊎◌, inl, inr, List, [], ◌∷◌, ◌++◌, Option, None, Some, length, map, take, get_or, sym, ap, ◌∙◌, subst, arith, length-append}
+use Rattle.std.proofs.Common.{◌≡◌, ℕ, ◌+◌, ◌<◌, ◌≤◌, ◌⊎◌, inl, inr, List, [], ◌∷◌, ◌++◌, Option, None, Some, length, sym, ap, ◌∙◌, subst, arith, length-append}
 use Rattle.std.specs.Option.{option_map_or}
 use Rattle.std.proofs.Math.Seq.{get_or-append_seam}
-use Rattle.std.proofs.lemmas.List.{length-map, length-take, map-append, take_more, get_or-map, get_or_append_left}
+use Rattle.std.proofs.lemmas.List.{length-map, map-append, get_or_append_left}
 use Rattle.std.proofs.lemmas.Option.{slice_get-get_or}
 use Rattle.simplecss.specs.Components.{Component}
 use Rattle.simplecss.specs.Keys.{Key, key_of}
@@ -98,15 +98,11 @@ chain_push old new links link chained leads takes = record {
         (subst (IsLastBefore (ss ++ s ∷ []) (length ss) (key_of s)) (sym (ap (earlier_at (links ++ link ∷ [])) same ∙ earlier_last links link ∙ leads))
         (last_same ss s (length ss) (key_of s) (last_for old (key_of s)) (omega arith) (last_of (key_of s)))))
 
--- the first rules are in chains, and the next is put behind them
-pub rule_more : {V : Type 0} (f : V → List Component) (vs : List V) (old new : Lasts) (links more : List Link) (link : Link) (place : ℕ) (known : Option ℕ) (v : V) (key : Key) → AreChained old links → selectors_of links ≡ take place (map f vs) → place < length vs
-    → key ≡ key_of (f (get_or vs place v)) → known ≡ last_for old key → TakesPlace old new key place → link.earlier ≡ known → link.selector.value ≡ f (get_or vs place v) → more ≡ links ++ link ∷ []
-    → AreChained new more × (selectors_of more ≡ take (place + 1) (map f vs))
-rule_more f vs old new links more link place known v key chained same lt key_is is takes leads value e =
-    let within : place < length (map f vs) = omega (arith, lt, length-map vs f) in
-    let number : length links ≡ place = omega (arith, ap length same, length-map links (λ l. l.selector.value), length-take place (map f vs), within) in
+-- a link that leads to the last selector with its key is put behind the others
+pub link_more : (old new : Lasts) (links more : List Link) (link : Link) (place : ℕ) (known : Option ℕ) (s : List Component) (key : Key) → AreChained old links → place ≡ length links → key ≡ key_of s → known ≡ last_for old key → TakesPlace old new key place → link.earlier ≡ known → link.selector.value ≡ s → more ≡ links ++ link ∷ []
+    → AreChained new more × (selectors_of more ≡ selectors_of links ++ s ∷ [])
+link_more old new links more link place known s key chained place_is key_is is takes leads value e =
     let own : key ≡ key_of link.selector.value = key_is ∙ ap key_of (sym value) in (
-      subst (AreChained new) (sym e) (chain_push old new links link chained (leads ∙ is ∙ ap (last_for old) own) (subst (TakesPlace old new (key_of link.selector.value)) (sym number) (subst (λ k. TakesPlace old new k place) own takes))),
-      subst (λ ls. selectors_of ls ≡ take (place + 1) (map f vs)) (sym e)
-          (map-append (λ l. l.selector.value) links (link ∷ []) ∙ ap (λ xs. xs ++ link.selector.value ∷ []) same ∙ ap (λ s. take place (map f vs) ++ s ∷ []) (value ∙ sym (get_or-map f vs place v [] lt)) ∙ sym (take_more (map f vs) place [] within)),
+      subst (AreChained new) (sym e) (chain_push old new links link chained (leads ∙ is ∙ ap (last_for old) own) (subst (TakesPlace old new (key_of link.selector.value)) place_is (subst (λ k. TakesPlace old new k place) own takes))),
+      ap selectors_of e ∙ map-append (λ l. l.selector.value) links (link ∷ []) ∙ ap (λ v. selectors_of links ++ v ∷ []) value,
     )

@@ -78,6 +78,10 @@ module _ (selectors : List (List Component)) where
           at (inr (inl e)) = inr e
           at (inr (inr l)) = absurd (none_after place (key_at selectors place) left h p (b.0, l, b.2 ∙ sym same))
 
+  -- a chain goes on at a place that is known
+  pub chain_at : (start : ℕ) (old new : List ℕ) (left : Option ℕ) (place : ℕ) → left ≡ Some place → Follows start old new left → Follows start old new (Some place)
+  chain_at start old new left place is f = subst (Follows start old new) is f
+
   pub chain_end : (start : ℕ) (old new : List ℕ) → Follows start old new None → Adds old new (λ other. (other < start) × (key_at selectors other ≡ key_at selectors start))
   chain_end start old new f = adds_as old new (λ p. (λ b. (b.1, b.2), λ h. (omega arith, h.0, h.1))) f.adds
 
@@ -102,10 +106,14 @@ module _ (selectors : List (List Component)) where
       back : (other : ℕ) → Behind (starts ++ place ∷ []) other → Behind starts other ⊎ ((other < place) × (key_at selectors other ≡ key_at selectors place))
       back other h = at other h.0 (h.2, h.3) (Contains-push_cases starts place h.0 h.1)
 
+-- a selector has a link
+pub link_there : (links : List Link) (selectors : List (List Component)) (place : ℕ) → selectors_of links ≡ selectors → place < length selectors → place < length links
+link_there links selectors place is lt = omega (arith, lt, ap length is, length-map links (λ l. l.selector.value))
+
 -- where a link that was read leads
 pub leads : (lasts : Lasts) (links : List Link) (selectors : List (List Component)) (place : ℕ) (link : Link) → AreChained lasts links → selectors_of links ≡ selectors → place < length selectors → link ≡ get_or links place link → IsLastBefore selectors place (key_at selectors place) link.earlier
 leads lasts links selectors place link chained is lt read =
-    let within : place < length links = omega (arith, lt, ap length is, length-map links (λ l. l.selector.value)) in
+    let within = link_there links selectors place is lt in
     let leads_to : link.earlier ≡ earlier_at links place = ap (λ l. l.earlier) read ∙ sym (ap (λ r. option_map_or (λ l. l.earlier) r None) (slice_get-get_or links place link within)) in
     subst (λ ss. IsLastBefore ss place (key_at ss place) link.earlier) is
     (subst (IsLastBefore (selectors_of links) place (key_at (selectors_of links) place)) (sym leads_to) (chained.earlier place within))
@@ -113,13 +121,6 @@ leads lasts links selectors place link chained is lt read =
 pub leads_back : (selectors : List (List Component)) (end : ℕ) (key : Key) (left : Option ℕ) → IsLastBefore selectors end key left → end_of left < end + 1
 leads_back selectors end key None h = omega arith
 leads_back selectors end key (Some place) h = omega (arith, h.0)
-
--- where the next link of a chain that is followed leads
-pub leads_on : (lasts : Lasts) (links : List Link) (selectors : List (List Component)) (start : ℕ) (old new : List ℕ) (left : Option ℕ) (other : ℕ) (link : Link) → AreChained lasts links → selectors_of links ≡ selectors → start < length selectors → Follows selectors start old new left → left ≡ Some other → link ≡ get_or links other link
-    → Follows selectors start old new (Some other) × IsLastBefore selectors other (key_at selectors other) link.earlier
-leads_on lasts links selectors start old new left other link chained is lt follows here read =
-    let f : Follows selectors start old new (Some other) = subst (Follows selectors start old new) here follows in
-    (f, leads lasts links selectors other link chained is (omega (arith, f.stands.0, lt)) read)
 
 -- a start that is read where places were added behind the starts
 pub start_read : {P : ℕ → Type 0} (starts places : List ℕ) (i place : ℕ) → Adds starts places P → i < length starts → place ≡ get_or places i place → place ≡ get_or starts i place

@@ -84,8 +84,7 @@ fn push_keys_of<E: Keyed>(
     push_last(lasts, Key::Any, places)?;
     push_last(lasts, Key::Name(element.local_name()), places)?;
     push_id(lasts, element.id_value(), places)?;
-    push_classes(lasts, element.class_value(), places)?;
-    Ok(())
+    push_classes(lasts, element.class_value(), places)
 }
 
 /// Adds the earlier places with the key of this one.
@@ -98,10 +97,10 @@ fn push_earlier(
     ensures { OnOk result (Adds places.old.items places.new.items
         (λ other. (other < place) × (key_at rule_index.now other ≡ key_at rule_index.now place))) }
 {
-    let mut known = rule_index.links[place].earlier;
+    let mut known = rule_index.earlier(place);
     'back: while let Some(other) = known {
         places.push(other)?;
-        known = rule_index.links[other].earlier;
+        known = rule_index.earlier(other);
     }
     Ok(())
 }

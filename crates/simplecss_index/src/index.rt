@@ -1,6 +1,11 @@
 //! The index.
-ghost use Rattle.std.specs.Prelude.{◌≡◌, ◌+◌, ◌≤◌, [], IfOk, OnOk, OnErr, map};
+ghost use Rattle.std.specs.Prelude.{◌≡◌, ◌+◌, ◌<◌, ◌≤◌, ◌∷◌, ◌++◌, [], None, IfOk, OnOk};
+ghost use Rattle.std.specs.Prelude.{OnErr, length, map};
 ghost use Rattle.std.specs.List.{sum_by};
+ghost use Rattle.simplecss.specs.Keys.{Key};
+ghost use Rattle.simplecss_index.specs.Chains.{selectors_of, IsLastBefore, AreChained};
+ghost use Rattle.simplecss_index.specs.Lasts.{last_for};
+ghost use Rattle.simplecss_index.specs.Places.{key_at};
 ghost use Rattle.simplecss_index.specs.Matching.{AreMatches, most_tests, keyed_for};
 
 use crate::find::candidates;
@@ -13,9 +18,9 @@ use std::snapshot::Snapshot;
 
 /// What an index keeps of a rule.
 #[derive(Drop)]
-pub(crate) struct Link<'a> {
+struct Link<'a> {
     /// The place of the last earlier rule with the same key.
-    pub(crate) earlier: Option<usize>,
+    earlier: Option<usize>,
     /// The selector, which contracts alone see. It takes no bytes.
     selector: Snapshot<Selector<'a>>,
 }
@@ -34,6 +39,59 @@ impl<'a> Link<'a> {
     }
 }
 
+/// Puts the place behind the links under the selector's key, and there a link to the last earlier
+/// place with that key.
+#[inline(always)]
+fn push_link<'a>(
+    lasts: &mut Lasts<'a>,
+    links: &mut Vec<Link<'a>>,
+    selector: &Selector<'a>,
+) -> Result<(), AllocError>
+    requires { AreChained lasts.old links.old.items }
+    ensures chained { OnOk result (AreChained lasts.new links.new.items) }
+    ensures selectors { OnOk result
+        (selectors_of links.new.items ≡ selectors_of links.old.items ++ selector.now ∷ []) }
+{
+    let earlier = lasts.replace(selector.key(), links.len())?;
+    links.push(Link::new(earlier, selector))?;
+    Ok(())
+}
+
+/// Puts the links of the rules behind the others, in order.
+#[inline(always)]
+fn push_links<'a>(
+    lasts: &mut Lasts<'a>,
+    links: &mut Vec<Link<'a>>,
+    rules: &[Rule<'a>],
+) -> Result<(), AllocError>
+    requires { AreChained lasts.old links.old.items }
+    ensures chained { OnOk result (AreChained lasts.new links.new.items) }
+    ensures selectors { OnOk result (selectors_of links.new.items
+        ≡ selectors_of links.old.items ++ map (λ rule. rule.selector) rules.now) }
+{
+    for rule in rules {
+        push_link(lasts, links, &rule.selector)?;
+    }
+    Ok(())
+}
+
+/// The links of the rules, in order, where no key has a place before.
+#[inline(always)]
+fn links_of<'a>(
+    alloc: Global,
+    lasts: &mut Lasts<'a>,
+    rules: &[Rule<'a>],
+) -> Result<Vec<Link<'a>>, AllocError>
+    requires { (key : Key) → last_for lasts.old key ≡ None }
+    ensures chained { IfOk result (λ links. AreChained lasts.new links.items) }
+    ensures selectors { IfOk result
+        (λ links. selectors_of links.items ≡ map (λ rule. rule.selector) rules.now) }
+{
+    let mut links = Vec::with_capacity(alloc, rules.len())?;
+    push_links(lasts, &mut links, rules)?;
+    Ok(links)
+}
+
 /// An index of rules by the keys of their selectors: it finds the rules that match an element, and
 /// asks only those whose key the element tells.
 ///
@@ -45,7 +103,7 @@ pub struct RuleIndex<'a> {
     /// The last place of each key.
     pub(crate) lasts: Lasts<'a>,
     /// For each rule, in order, how it is chained to the earlier ones.
-    pub(crate) links: Vec<Link<'a>>,
+    links: Vec<Link<'a>>,
 }
 
 impl<'a> Model for RuleIndex<'a> {
@@ -67,12 +125,17 @@ impl<'a> RuleIndex<'a> {
         ensures { IfOk result (λ index. index ≡ map (λ rule. rule.selector) rules.now) }
     {
         let mut lasts = Lasts::new(alloc);
-        let mut links = Vec::with_capacity(alloc, rules.len())?;
-        for (place, rule) in rules.iter().enumerate() {
-            let earlier = lasts.replace(rule.selector.key(), place)?;
-            links.push(Link::new(earlier, &rule.selector))?;
-        }
+        let links = links_of(alloc, &mut lasts, rules)?;
         Ok(RuleIndex { lasts, links })
+    }
+
+    /// The last earlier place with the key of this one, if there is one.
+    #[inline(always)]
+    pub(crate) fn earlier(&self, place: usize) -> Option<usize>
+        requires { place < length self.now }
+        ensures { IsLastBefore self.now place (key_at self.now place) result }
+    {
+        self.links[place].earlier
     }
 
     /// The places of the rules that match the element, in order: what asking each rule would give.

@@ -19,23 +19,6 @@ use simplecss_text::stream::Stream;
 use simplecss_text::{readers, scan};
 use std::alloc::{AllocError, Global};
 
-/// Reads a part of a rule set's head, and passes the space bytes behind it.
-#[tactic(auto, unfolding(simplecss_text::specs::Statements::part))]
-fn consume_part<'a, R: Log>(
-    rt: &R,
-    alloc: Global,
-    s: &mut Stream<'a>,
-) -> Result<Option<Selector<'a>>, AllocError>
-    ensures text { text_of s.new ≡ text_of s.old }
-    ensures reads { IfOk result
-        (λ selector. part this_edition (rest_of s.old) ≡ (selector, rest_of s.new)) }
-{
-    let (selector, len) = Selector::parse_front(rt, alloc, s.slice_tail())?;
-    s.advance(len);
-    s.skip_spaces();
-    Ok(selector)
-}
-
 /// Adds the selector, if there is one.
 fn push_some<'a>(
     selectors: &mut Vec<Selector<'a>>,
@@ -48,6 +31,26 @@ fn push_some<'a>(
         selectors.push(selector)?;
     }
     Ok(())
+}
+
+/// Reads a part of a rule set's head, passes the space bytes behind it, and adds its selector, if it
+/// gives one.
+#[tactic(auto, unfolding(simplecss_text::specs::Statements::part))]
+fn consume_part<'a, R: Log>(
+    rt: &R,
+    alloc: Global,
+    s: &mut Stream<'a>,
+    selectors: &mut Vec<Selector<'a>>,
+) -> Result<(), AllocError>
+    ensures text { text_of s.new ≡ text_of s.old }
+    ensures selectors { OnOk result (selectors.new.items
+        ≡ selectors.old.items ++ option_to_list (part this_edition (rest_of s.old)).0) }
+    ensures rest { OnOk result (rest_of s.new ≡ (part this_edition (rest_of s.old)).1) }
+{
+    let (selector, len) = Selector::parse_front(rt, alloc, s.slice_tail())?;
+    s.advance(len);
+    s.skip_spaces();
+    push_some(selectors, selector)
 }
 
 /// Reads the parts of a rule set's head, with a comma behind each but the last, and puts their
@@ -64,8 +67,7 @@ fn consume_parts<'a, R: Log>(
 {
     selectors.clear();
     'parts: loop {
-        let selector = consume_part(rt, alloc, s)?;
-        push_some(selectors, selector)?;
+        consume_part(rt, alloc, s, selectors)?;
         if !readers::pass_byte(s, b',') {
             return Ok(());
         }

@@ -65,8 +65,8 @@ impl<'a> StyleSheet<'a> {
         ensures prints_back { All (λ text. has_wide_space text.now ≡ false) texts.now
             → IfOk result (λ s. PrintsBack this_edition (rules_in s)) }
     {
-        let mut sheet = StyleSheet::new(alloc);
         let all = reading::read_all(rt, alloc, texts)?;
+        let mut sheet = StyleSheet::new(alloc);
         order::merge(&mut sheet.rules, all)?;
         Ok(sheet)
     }

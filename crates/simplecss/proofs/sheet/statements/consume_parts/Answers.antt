@@ -1,7 +1,7 @@
-use Rattle.std.proofs.Common.{◌≡◌, ◌++◌, ◌<◌, List, ℕ, length, option_to_list, sym, ◌∙◌, ap, subst, append_assoc}
+use Rattle.std.proofs.Common.{◌≡◌, ◌++◌, ◌<◌, List, ℕ, Option, length, option_to_list, refl, sym, ◌∙◌, ap, subst, append_assoc}
 use Rattle.simplecss_text.specs.Bytes.{past_one}
 use Rattle.simplecss_text.specs.Components.{Component}
-use Rattle.simplecss_text.specs.Statements.{parts}
+use Rattle.simplecss_text.specs.Statements.{part, parts}
 use Rattle.simplecss_text.specs.ThisEdition.{this_edition}
 use Rattle.simplecss_text.specs.Cursor.{rest_of}
 use Rattle.simplecss_declaration.proofs.ByteLemmas.{past_byte_there, past_byte_not}
@@ -11,26 +11,32 @@ use Rattle.simplecss.proofs.sheet.statements.consume_parts.Goals as goal
 pub parts-smaller : goal.parts-smaller
 parts-smaller g c =
     let comma = sym c.pass_byte.ensures.stands ∙ c.if-not-pass_byte.false in
+    let read : Option (List Component) × List ℕ = part this_edition (rest_of c.parts.s) in
+    let is : read ≡ (read.0, rest_of c.consume_part.new.s) = pair-of {r = read} refl c.in_ok-consume_part.ensures.rest in
     let behind : rest_of c.pass_byte.new.s ≡ past_one (rest_of c.consume_part.new.s) = c.pass_byte.ensures.rest ∙ past_byte_there 44 (rest_of c.consume_part.new.s) comma in
-    subst (λ (t : List ℕ). length t < length (rest_of c.parts.s)) (sym behind) (parts-less this_edition (rest_of c.parts.s) (rest_of c.consume_part.new.s) c.in_ok-selector.selector c.in_ok-selector.ensures.reads comma)
+    subst (λ (t : List ℕ). length t < length (rest_of c.parts.s)) (sym behind) (parts-less this_edition (rest_of c.parts.s) (rest_of c.consume_part.new.s) read.0 is comma)
 
 pub parts-preserved : goal.parts-preserved
 parts-preserved g c =
     let comma = sym c.pass_byte.ensures.stands ∙ c.if-not-pass_byte.false in
+    let read : Option (List Component) × List ℕ = part this_edition (rest_of c.parts.s) in
+    let is : read ≡ (read.0, rest_of c.consume_part.new.s) = pair-of {r = read} refl c.in_ok-consume_part.ensures.rest in
     let behind : rest_of c.pass_byte.new.s ≡ past_one (rest_of c.consume_part.new.s) = c.pass_byte.ensures.rest ∙ past_byte_there 44 (rest_of c.consume_part.new.s) comma in
-    let step = parts-some this_edition (rest_of c.parts.s) (rest_of c.consume_part.new.s) c.in_ok-selector.selector c.in_ok-selector.ensures.reads comma in
+    let step = parts-some this_edition (rest_of c.parts.s) (rest_of c.consume_part.new.s) read.0 is comma in
     let more = parts this_edition (past_one (rest_of c.consume_part.new.s)) in
     record {
-      same = c.pass_byte.ensures.text ∙ c.in_ok-selector.ensures.text ∙ c.parts.invariant.same;
-      read = rw (behind, c.in_ok-push_some.ensures) (append_assoc c.parts.selectors.items (option_to_list c.in_ok-selector.selector) more.0 ∙ ap (λ r. c.parts.selectors.items ++ r.0) (sym step) ∙ c.parts.invariant.read);
+      same = c.pass_byte.ensures.text ∙ c.in_ok-consume_part.ensures.text ∙ c.parts.invariant.same;
+      read = rw (behind, c.in_ok-consume_part.ensures.selectors) (append_assoc c.parts.selectors.items (option_to_list read.0) more.0 ∙ ap (λ r. c.parts.selectors.items ++ r.0) (sym step) ∙ c.parts.invariant.read);
       rest = rw behind (ap (λ r. r.1) (sym step) ∙ c.parts.invariant.rest);
     }
 
 pub returns-then-not-pass_byte-clause-reads : goal.returns-then-not-pass_byte-clause-reads
 returns-then-not-pass_byte-clause-reads g c =
     let none = sym c.pass_byte.ensures.stands ∙ c.if-not-pass_byte.true in
-    let last = parts-last this_edition (rest_of c.parts.s) (rest_of c.consume_part.new.s) c.in_ok-selector.selector c.in_ok-selector.ensures.reads none in
+    let read : Option (List Component) × List ℕ = part this_edition (rest_of c.parts.s) in
+    let is : read ≡ (read.0, rest_of c.consume_part.new.s) = pair-of {r = read} refl c.in_ok-consume_part.ensures.rest in
+    let last = parts-last this_edition (rest_of c.parts.s) (rest_of c.consume_part.new.s) read.0 is none in
     let all : List (List Component) × List ℕ = parts this_edition (rest_of c.args.s.now) in
-    let selectors : c.push_some.new.selectors.items ≡ all.0 = c.in_ok-push_some.ensures ∙ ap (λ r. c.parts.selectors.items ++ r.0) (sym last) ∙ c.parts.invariant.read in
+    let selectors : c.consume_part.new.selectors.items ≡ all.0 = c.in_ok-consume_part.ensures.selectors ∙ ap (λ r. c.parts.selectors.items ++ r.0) (sym last) ∙ c.parts.invariant.read in
     let rest : rest_of c.pass_byte.new.s ≡ all.1 = c.pass_byte.ensures.rest ∙ past_byte_not 44 (rest_of c.consume_part.new.s) none ∙ ap (λ r. r.1) (sym last) ∙ c.parts.invariant.rest in
     pair-of {A = List (List Component)} {B = List ℕ} selectors rest
