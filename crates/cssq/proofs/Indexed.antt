@@ -8,7 +8,7 @@ use Rattle.simplecss.specs.Placements.{HasPlacement}
 use Rattle.simplecss.specs.Statements.{StyleRule}
 use Rattle.simplecss_index.specs.Places.{selector_at, AreThePlaces}
 use Rattle.simplecss_index.specs.Matching.{AreMatches}
-use Rattle.cssq.specs.Nodes.{Spot, page_tree}
+use Rattle.cssq_tree.specs.Nodes.{Spot, page_tree}
 use Rattle.cssq.specs.MatchRuns.{Takes, AreAnswers, numbers_line, IsLineAdded}
 use Rattle.cssq.proofs.FromLast.{before_or_from, here_or_later}
 use Rattle.cssq.proofs.MatchLines.{AnsweredSoFar, answered_none, answered_yes, answered_no}

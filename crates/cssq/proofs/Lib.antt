@@ -1,11 +1,3 @@
-pub mod Cuts
-pub mod Depths
-pub mod Fields
-pub mod KeySets
-pub mod Linked
-pub mod Joins
-pub mod Attributes
-pub mod Reading
 pub mod StyledWrites
 pub mod Written
 pub mod MatchLines

@@ -3,8 +3,8 @@ use Rattle.std.proofs.Common.{◌≡◌, ℕ, zero, suc, ◌+◌, ◌<◌, ◌�
 use Rattle.std.specs.List.{AllZip, items_where_true, range_with_len, concat}
 use Rattle.std.proofs.lemmas.List.{take_more, length-append, map-append}
 use Rattle.simplecss.specs.Statements.{StyleRule}
-use Rattle.cssq.specs.TreeText.{Row}
-use Rattle.cssq.specs.Nodes.{Spot, spot}
+use Rattle.cssq_tree.specs.TreeText.{Row}
+use Rattle.cssq_tree.specs.Nodes.{Spot, spot}
 use Rattle.cssq.specs.MatchRuns.{Takes, AreAnswers, numbers_of, line_text, IsLineOf, IsLineAdded}
 
 all_zip_push : {A B : Type 0} (R : A → B → Type 0) (xs : List A) (ys : List B) (x : A) (y : B) → AllZip R xs ys → R x y → AllZip R (xs ++ x ∷ []) (ys ++ y ∷ [])

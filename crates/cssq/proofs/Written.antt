@@ -4,9 +4,9 @@ use Rattle.std.proofs.lemmas.Grind.{common_steps}
 use Rattle.std.specs.Prelude.{Result, Ok, Err, OnOk, OnErr, IfErr}
 use Rattle.cssq.specs.declared.runs.RunFault.{RunFault}
 use Rattle.cssq.specs.declared.runs.RunFault.TheVariants.{Refused, Tree, Memory, Output}
-use Rattle.cssq.specs.declared.tree.TreeFault.{TreeFault}
-use Rattle.cssq.specs.declared.tree.TreeFault.TheVariants as told
-use Rattle.cssq.specs.TreeText.{tree_of, IsFaultOf}
+use Rattle.cssq_tree.specs.declared.tree.TreeFault.{TreeFault}
+use Rattle.cssq_tree.specs.declared.tree.TreeFault.TheVariants as told
+use Rattle.cssq_tree.specs.TreeText.{tree_of, IsFaultOf}
 use Rattle.cssq.specs.Faults.{run_fault}
 use Rattle.cssq.specs.Writing.{AppendsProperPart, Writes, FailsBeforeWriting}
 use Rattle.std.specs.Result.{IsErrAnd}

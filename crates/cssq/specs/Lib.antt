@@ -1,10 +1,3 @@
-pub mod TreeText
-pub mod ParentsAndSiblings
-pub mod Nodes
-pub mod Lines
-pub mod Places
-pub mod Siblings
-pub mod ElementLaws
 pub mod Command
 pub mod Faults
 pub mod Writing

@@ -4,7 +4,7 @@ ghost use Rattle.cssq.specs.Command.{request};
 
 use crate::command::Command;
 use crate::runs::RunFault;
-use crate::tree::TreeFault;
+use cssq_tree::tree::TreeFault;
 
 /// Two faults are equal exactly if they are of one kind at one line, and two commands if they ask
 /// for the same with words of the same bytes.

@@ -6,4 +6,5 @@ pub mod cascade;
 pub mod command;
 pub mod laws;
 pub mod runs;
-pub mod tree;
+
+pub use cssq_tree::tree;

@@ -17,7 +17,7 @@ ghost use Rattle.simplecss.specs.Sheets.{sheet};
 ghost use Rattle.simplecss.specs.SeenRules.{rules_of, rules_in};
 
 use crate::cascade::winning_by;
-use crate::tree::{Page, TreeFault};
+use cssq_tree::tree::{Page, TreeFault};
 use log::Log;
 use simplecss::{Declaration, Rule, Selector, StyleSheet};
 use simplecss_index::RuleIndex;

@@ -2,7 +2,7 @@ use Rattle.std.proofs.Common.{string_bytes, refl, subst, length, ◌+◌, ◌≤
 use Rattle.std.specs.Option.{option_map}
 use Rattle.simplecss.specs.SeenDeclarations.{declaration_of}
 use Rattle.simplecss.specs.SeenRules.{rules_of}
-use Rattle.cssq.specs.Nodes.{spot, page_tree}
+use Rattle.cssq_tree.specs.Nodes.{spot, page_tree}
 use Rattle.cssq.specs.Winners.{Wins, IsStated}
 use Rattle.cssq.specs.StyleRuns.{style_line}
 use Rattle.cssq.proofs.MatchLines.{lines_more}

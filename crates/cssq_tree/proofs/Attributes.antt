@@ -1,0 +1,50 @@
+-- The attribute with a key.
+use Rattle.std.proofs.Common.{◌≡◌, ℕ, ◌+◌, ◌<◌, List, [], ◌∷◌, length, get_or, refl, sym, ap, ◌∙◌, subst, arith, None, Some, map, IfSome}
+use Rattle.std.specs.List.{position_or_len, slice_get}
+use Rattle.std.proofs.lemmas.List.{drop_all, length-map}
+use Rattle.std.proofs.lemmas.Option.{slice_get-map, slice_get-get_or}
+use Rattle.cssq_tree.specs.declared.tree.Line.{Line}
+use Rattle.std.specs.Option.{option_map_or}
+use Rattle.cssq_tree.specs.TreeText.{fields_in, Row, is_equals, value_of, attribute_of}
+use Rattle.cssq_tree.specs.ParentsAndSiblings.{depths_of, parent_place, previous_place}
+use Rattle.cssq_tree.specs.Lines.{row, rows, depths, AreLinked}
+use Rattle.cssq_tree.specs.Nodes.{value_in, attribute_at, name_at}
+use Rattle.cssq_tree.specs.Siblings.{parent_within, previous_within, within_longer}
+
+pub value_none : (field : List ℕ) → position_or_len is_equals field ≡ length field → value_of field ≡ []
+value_none field none = drop_all (position_or_len is_equals field + 1) field (omega (arith, none))
+
+depths_rows : (lines : List Line) → depths_of (rows lines) ≡ depths lines
+depths_rows [] = refl
+depths_rows (l ∷ lines) = ap (λ ds. l.entry.depth ∷ ds) (depths_rows lines)
+
+module _ (lines : List Line) (page : List Row) (place : ℕ) (l : Line) (view : rows lines ≡ page) (within : place < length page) (is : l ≡ get_or lines place l) where
+  inside : place < length lines
+  inside = let lt : place < length (rows lines) = subst (λ p. place < length p) (sym view) within in rw (length-map lines (λ l. row l.entry)) at lt
+
+  got : slice_get lines place ≡ Some l
+  got = slice_get-get_or lines place l inside ∙ ap Some (sym is)
+
+  same_depths : depths lines ≡ depths_of page
+  same_depths = sym (depths_rows lines) ∙ ap depths_of view
+
+  pub parent_kept : AreLinked lines → l.parent ≡ parent_place (depths_of page) place
+  parent_kept linked = (linked place l got).0 ∙ ap (λ ds. parent_place ds place) same_depths
+
+  pub previous_kept : AreLinked lines → l.previous ≡ previous_place (depths_of page) place
+  previous_kept linked = (linked place l got).1 ∙ ap (λ ds. previous_place ds place) same_depths
+
+  pub parent_in : AreLinked lines → IfSome l.parent (λ j. j < length page)
+  parent_in linked = subst (λ r. IfSome r (λ j. j < length page)) (sym (parent_kept linked)) (within_longer (parent_place (depths_of page) place) place (length page) (omega arith) (parent_within (depths_of page) place))
+
+  pub previous_in : AreLinked lines → IfSome l.previous (λ j. j < length page)
+  previous_in linked = subst (λ r. IfSome r (λ j. j < length page)) (sym (previous_kept linked)) (within_longer (previous_place (depths_of page) place) place (length page) (omega arith) (previous_within (depths_of page) place))
+
+  at_place : slice_get page place ≡ Some (row l.entry)
+  at_place = ap (λ p. slice_get p place) (sym view) ∙ slice_get-map (λ l. row l.entry) lines place ∙ ap (λ o. elim o [ None ↦ None | Some x ↦ Some (row x.entry) ]) got
+
+  pub attribute_first : (key : List ℕ) → attribute_at page place key ≡ value_in (map attribute_of (fields_in l.entry.attributes)) key
+  attribute_first key = ap (λ o. option_map_or (λ row. value_in row.attributes key) o None) at_place
+
+  pub name_kept : l.entry.name.now ≡ name_at page place
+  name_kept = sym (ap (λ o. option_map_or (λ row. row.name) o []) at_place)

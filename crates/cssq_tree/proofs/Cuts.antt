@@ -1,0 +1,33 @@
+-- A text cut at its first newline or TAB.
+use Rattle.std.proofs.Common.{◌≡◌, ℕ, ◌<◌, Bool, false, List, [], ◌∷◌, length, refl, ap, ◌∙◌, arith}
+use Rattle.std.specs.List.{slice_split, before_first, after_first, position_or_len}
+use Rattle.std.proofs.lemmas.List.Splits.{slice_split_first, slice_split_none, length-slice_split}
+use Rattle.std.proofs.lemmas.List.Sums.{fails_before_first}
+use Rattle.std.proofs.lemmas.List.Elements.{All-from_get_or}
+use Rattle.cssq_tree.specs.TreeText.{is_newline, is_tab, without_empty_last, lines_of, fields_of}
+
+first_kept : (line : List ℕ) (lines : List (List ℕ)) → 0 < length lines → without_empty_last (line ∷ lines) ≡ line ∷ without_empty_last lines
+first_kept line [] some = absurd (omega arith)
+first_kept [] (next ∷ lines) some = refl
+first_kept (b ∷ line) (next ∷ lines) some = refl
+
+pub split_whole : (p : ℕ → Bool) (text : List ℕ) → position_or_len p text ≡ length text → slice_split p text ≡ text ∷ []
+split_whole p text none = slice_split_none p text (All-from_get_or (λ b. p b ≡ false) text 0 (λ i lt. fails_before_first p text i 0 (omega arith)))
+
+pub lines_cut : (text : List ℕ) → position_or_len is_newline text < length text → lines_of text ≡ before_first is_newline text ∷ lines_of (after_first is_newline text)
+lines_cut text some =
+    ap without_empty_last (slice_split_first is_newline text 0 some)
+    ∙ first_kept (before_first is_newline text) (slice_split is_newline (after_first is_newline text)) (omega (arith, length-slice_split is_newline (after_first is_newline text)))
+
+whole_kept : (line : List ℕ) → 0 < length line → without_empty_last (line ∷ []) ≡ line ∷ []
+whole_kept [] some = absurd (omega arith)
+whole_kept (b ∷ line) some = refl
+
+pub lines_whole : (text : List ℕ) → 0 < length text → position_or_len is_newline text ≡ length text → lines_of text ≡ text ∷ []
+lines_whole text some none = ap without_empty_last (split_whole is_newline text none) ∙ whole_kept text some
+
+pub fields_cut : (text : List ℕ) → position_or_len is_tab text < length text → fields_of text ≡ before_first is_tab text ∷ fields_of (after_first is_tab text)
+fields_cut text some = slice_split_first is_tab text 0 some
+
+pub fields_whole : (text : List ℕ) → position_or_len is_tab text ≡ length text → fields_of text ≡ text ∷ []
+fields_whole text none = split_whole is_tab text none

@@ -1,0 +1,93 @@
+-- The laws of an element: how its depth goes with its parent, and its parent with its sibling's,
+-- and that it tells what it answers by. They are proofs, and stand in this folder since the traits
+-- `Element` and `Keyed` ask for them: an impl names them, so they are part of what is stated.
+use Rattle.std.proofs.Common.{◌≡◌, ℕ, zero, suc, ◌+◌, ◌<◌, ◌≤◌, Bool, true, false, cond, List, take, get_or, refl, sym, ap, ◌∙◌, subst, arith, Option, None, Some, IfSome, MatchOption}
+use Rattle.std.specs.Prelude.{nat_lt, ◌==◌}
+use Rattle.std.specs.Option.{option_map}
+use Rattle.std.proofs.lemmas.Bool.Decides.{nat_tests}
+use Rattle.std.proofs.lemmas.List.{get_or-take}
+use Rattle.std.proofs.lemmas.Grind.{common_steps}
+use Rattle.simplecss_selector.specs.Keys.{TellsKeys}
+use Rattle.simplecss_selector.specs.Keys.Key.{by_id, by_class, by_name, by_nothing}
+use Rattle.simplecss_selector.specs.Trees.{DepthCountsAncestors, SiblingsShareParent}
+use Rattle.cssq_tree.specs.ParentsAndSiblings.{depths_of, last_place, parent_place, nearest_place, previous_place}
+use Rattle.cssq_tree.specs.Nodes.{Spot, spot, parent_of, ancestors_within, ancestor_count, page_tree, told_of}
+use Rattle.cssq_tree.specs.Siblings.{equal_near, equal_at, previous_is, parent_within, nearest_before}
+
+-- the ancestors from the parent on
+abbrev above : ℕ → List ℕ → Option ℕ → ℕ
+above steps depths None = 0
+above steps depths (Some parent) = ancestors_within steps depths parent + 1
+
+above_by : (steps : ℕ) (depths : List ℕ) (r : Option ℕ)
+    → elim r [ None ↦ 0 | Some parent ↦ ancestors_within steps depths parent + 1 ] ≡ above steps depths r
+above_by steps depths None = refl
+above_by steps depths (Some parent) = refl
+
+above_at : (steps : ℕ) (depths : List ℕ) (place : ℕ) (r : Option ℕ) → parent_place depths place ≡ r
+    → ancestors_within (suc steps) depths place ≡ above steps depths r
+above_at steps depths place r is =
+    above_by steps depths (parent_place depths place) ∙ ap (above steps depths) is
+
+above_same : (m n : ℕ) (depths : List ℕ) (place : ℕ) (r : Option ℕ) → IfSome r (λ j. j < place)
+    → ((j : ℕ) → j < place → ancestors_within m depths j ≡ ancestors_within n depths j)
+    → above m depths r ≡ above n depths r
+above_same m n depths place None before same = refl
+above_same m n depths place (Some j) before same = ap (λ k. k + 1) (same j before)
+
+-- more steps than the place find the same ancestors
+enough : (m n : ℕ) (depths : List ℕ) (place : ℕ) → place < m → place < n
+    → ancestors_within m depths place ≡ ancestors_within n depths place
+enough zero n depths place lt lt' = absurd (omega arith)
+enough (suc m) zero depths place lt lt' = absurd (omega arith)
+enough (suc m) (suc n) depths place lt lt' =
+    above_at m depths place (parent_place depths place) refl
+    ∙ above_same m n depths place (parent_place depths place) (parent_within depths place) (λ j before. enough m n depths j (omega arith) (omega arith))
+    ∙ sym (above_at n depths place (parent_place depths place) refl)
+
+counted : (x : Spot) (r : Option ℕ) → parent_place (depths_of x.rows) x.place ≡ r
+    → MatchOption (option_map (spot x.rows) r) (ancestor_count x ≡ 0) (λ p. ancestor_count x ≡ ancestor_count p + 1)
+counted x None is = above_at x.place (depths_of x.rows) x.place None is
+counted x (Some j) is =
+    let before : j < x.place = subst (λ r. IfSome r (λ j. j < x.place)) is (parent_within (depths_of x.rows) x.place) in
+    above_at x.place (depths_of x.rows) x.place (Some j) is
+    ∙ ap (λ k. k + 1) (enough x.place (suc j) (depths_of x.rows) j before (omega arith))
+
+pub depths_count_ancestors : DepthCountsAncestors page_tree
+depths_count_ancestors x = counted x (parent_place (depths_of x.rows) x.place) refl
+
+found_at : (depths : List ℕ) (depth i j : ℕ) (b : Bool) → (get_or depths i 0 == depth) ≡ b
+    → cond b (Some i) None ≡ Some j → (Some i ≡ Some j) × (get_or depths j 0 ≡ depth)
+found_at depths depth i j false e is = absurd (cc)
+found_at depths depth i j true e is =
+    let same : i ≡ j = cc in
+    (is, ap (λ k. get_or depths k 0) (sym same) ∙ grind (arith, nat_tests, e))
+
+found_equal : (depths : List ℕ) (depth : ℕ) (r : Option ℕ) (j : ℕ) → equal_at depths depth r ≡ Some j
+    → (r ≡ Some j) × (get_or depths j 0 ≡ depth)
+found_equal depths depth None j is = absurd (cc)
+found_equal depths depth (Some i) j is = found_at depths depth i j (get_or depths i 0 == depth) refl is
+
+same_parent : (depths : List ℕ) (i j : ℕ) → previous_place depths i ≡ Some j
+    → parent_place depths j ≡ parent_place depths i
+same_parent depths i j is =
+    let found = found_equal depths (get_or depths i 0) (nearest_place depths i) j (sym (previous_is depths i) ∙ is) in
+    let before : j < i = subst (λ r. IfSome r (λ j. j < i)) found.0 (nearest_before depths i) in
+    let at : get_or (take i depths) j 0 ≡ get_or depths j 0 = get_or-take i depths j 0 before in
+    let front : take j (take i depths) ≡ take j depths = let le : j ≤ i = omega arith in grind (arith, common_steps) in
+    let parent : parent_place depths j ≡ parent_place (take i depths) j = let under = sym at in let list = sym front in (λ k. last_place (λ d. nat_lt d (under k)) (list k)) in
+    (equal_near (take i depths) (get_or depths i 0) j (parent_place depths j) (sym found.0) (at ∙ found.1) parent).0
+
+shared : (x : Spot) (r : Option ℕ) → previous_place (depths_of x.rows) x.place ≡ r
+    → IfSome (option_map (spot x.rows) r) (λ s. parent_of s ≡ parent_of x)
+shared x None is = tt
+shared x (Some j) is = ap (option_map (spot x.rows)) (same_parent (depths_of x.rows) x.place j is)
+
+pub siblings_share_parents : SiblingsShareParent page_tree
+siblings_share_parents x = shared x (previous_place (depths_of x.rows) x.place) refl
+
+pub keys_told : (s : Spot) → TellsKeys page_tree s (told_of s)
+keys_told s (by_id text) h = h
+keys_told s (by_class word) h = h
+keys_told s (by_name name) h = h
+keys_told s by_nothing h = h

@@ -1,0 +1,7 @@
+pub mod TreeText
+pub mod ParentsAndSiblings
+pub mod Nodes
+pub mod Lines
+pub mod Places
+pub mod Siblings
+pub mod ElementLaws

@@ -1,0 +1,52 @@
+-- The lines that a page keeps, and how each is tied to others.
+use Rattle.std.specs.Prelude.{◌≡◌, ℕ, ◌+◌, ◌≤◌, List, [], ◌∷◌, ◌++◌, length, map, Some}
+use Rattle.std.specs.List.{slice_get}
+use Rattle.cssq_tree.specs.declared.tree.entry.Entry.{Entry}
+use Rattle.cssq_tree.specs.declared.tree.Line.{Line}
+use Rattle.cssq_tree.specs.declared.tree.TreeFault.{TreeFault}
+use Rattle.cssq_tree.specs.declared.tree.TreeFault.TheVariants.{BadDepth, EmptyName, NoEquals, RepeatedKey, Memory}
+use Rattle.cssq_tree.specs.TreeText.{Row, fields_of, fields_in, attribute_of, row_of, faults_of_line}
+use Rattle.cssq_tree.specs.ParentsAndSiblings.{parent_place, previous_place}
+
+-- what a line says
+abbrev pub row : Entry → Row
+row e = record { depth = e.depth; name = e.name.now; attributes = map attribute_of (fields_in e.attributes) }
+
+-- what all lines say
+abbrev pub rows : List Line → List Row
+rows lines = map (λ l. row l.entry) lines
+
+-- the depths of all lines
+abbrev pub depths : List Line → List ℕ
+depths lines = map (λ l. l.entry.depth) lines
+
+-- each line keeps the places of its parent and of its previous sibling
+abbrev pub AreLinked : List Line → Type 0
+AreLinked lines =
+    (i : ℕ) (l : Line) → slice_get lines i ≡ Some l
+    → (l.parent ≡ parent_place (depths lines) i) × (l.previous ≡ previous_place (depths lines) i)
+
+-- ---- what the reader of a line tells
+
+-- the first of a line's faults, or want of memory at the line where it has none
+abbrev pub IsToldOf : ℕ → List TreeFault → TreeFault → Type 0
+IsToldOf number faults (Memory line) = (line ≡ number) × (faults ≡ [])
+IsToldOf number faults (BadDepth line) = slice_get faults 0 ≡ Some (BadDepth line)
+IsToldOf number faults (EmptyName line) = slice_get faults 0 ≡ Some (EmptyName line)
+IsToldOf number faults (NoEquals line) = slice_get faults 0 ≡ Some (NoEquals line)
+IsToldOf number faults (RepeatedKey line) = slice_get faults 0 ≡ Some (RepeatedKey line)
+
+-- the line has no fault, and says this
+abbrev pub Says : ℕ → ℕ → List ℕ → Entry → Type 0
+Says number limit line e =
+    (faults_of_line number limit (fields_of line) ≡ []) × (row_of (fields_of line) ≡ row e)
+
+-- A line was added behind others: it keeps what the text says, at a depth that may stand there. The
+-- next line's depth is at most one more.
+pub record IsAdded (old : List Line) (limit : ℕ) (text : List ℕ) (new : List Line) (next : ℕ) : Type 0 where
+  pub line : Line
+  pub added : new ≡ old ++ line ∷ []
+  pub says : Says (length old + 1) limit text line.entry
+  pub within : line.entry.depth ≤ limit
+  pub next_limit : next ≡ line.entry.depth + 1
+  pub linked : AreLinked new

@@ -1,0 +1,28 @@
+-- Where an element stands among the others, by the depths of all in their order.
+use Rattle.std.specs.Prelude.{ℕ, suc, Bool, List, [], ◌∷◌, map, take, Option, None, Some, ◌==◌, if◌then◌else◌, nat_lt, nat_le, slice_index}
+use Rattle.cssq_tree.specs.TreeText.{Row}
+
+-- the depths of all rows, in their order
+abbrev pub depths_of : List Row → List ℕ
+depths_of rows = map (λ row. row.depth) rows
+
+-- the last place of a list at which the test passes
+abbrev pub last_place : (ℕ → Bool) → List ℕ → Option ℕ
+last_place test [] = None
+last_place test (x ∷ xs) =
+    elim (last_place test xs) [ Some i ↦ Some (suc i) | None ↦ (if test x then Some 0 else None) ]
+
+-- the last earlier element of lesser depth
+abbrev pub parent_place : List ℕ → ℕ → Option ℕ
+parent_place depths i = last_place (λ d. nat_lt d (slice_index depths i)) (take i depths)
+
+-- the last earlier element of equal or lesser depth
+abbrev pub nearest_place : List ℕ → ℕ → Option ℕ
+nearest_place depths i = last_place (λ d. nat_le d (slice_index depths i)) (take i depths)
+
+-- that element, where its depth is equal
+abbrev pub previous_place : List ℕ → ℕ → Option ℕ
+previous_place depths i = elim (nearest_place depths i) [
+  | None ↦ None
+  | Some j ↦ (if slice_index depths j == slice_index depths i then Some j else None)
+]

@@ -1,0 +1,564 @@
+//! A tree of elements from its text.
+
+ghost use Rattle.std.specs.Prelude.{◌≡◌, ◌∷◌, ◌++◌, ◌+◌, ◌<◌, ◌≤◌, [], length, take, nat_le, map};
+ghost use Rattle.std.specs.Prelude.{IfSome, IfOk, IfErr, Ok, MatchOption, MatchResult, is_some};
+ghost use Rattle.std.specs.Prelude.{option_map};
+ghost use Rattle.std.specs.List.{list_all, slice_get};
+ghost use Rattle.std.specs.Char.{is_ascii_digit};
+ghost use Rattle.cssq_tree.specs.TreeText.{attribute_of, fields_in, fields_of, has_equals, key_of};
+ghost use Rattle.cssq_tree.specs.TreeText.{value_of, lines_of, is_depth, spelled_depth, has_key};
+ghost use Rattle.cssq_tree.specs.TreeText.{field_faults, fault_number, fault_line, faults_of_line};
+ghost use Rattle.cssq_tree.specs.TreeText.{tree_of, IsFaultOf};
+ghost use Rattle.cssq_tree.specs.ParentsAndSiblings.{depths_of, last_place, parent_place, previous_place};
+ghost use Rattle.cssq_tree.specs.Nodes.{spot, name_at, attribute_at, value_in};
+ghost use Rattle.cssq_tree.specs.Lines.{depths, AreLinked, IsToldOf, Says, IsAdded};
+
+mod entry;
+
+use entry::Entry;
+use simplecss_selector::{AttributeOperator, Element, Keyed, PseudoClass};
+use std::alloc::{AllocError, Global};
+use std::collections::BTreeSet;
+use std::marker::Model;
+
+/// What is wrong with a tree's text, with the number of the line at which it is, the first being 1.
+#[derive(Clone, Copy, PartialEq, Debug)]
+pub enum TreeFault {
+    /// The first field is no depth: `0`, or digits without a leading zero. Or it is one that may
+    /// not stand there: on the first line a depth is 0, and on another at most that of the line
+    /// before and one more. So it is at an empty line.
+    BadDepth(usize),
+    /// There is no second field, the name, or it is empty.
+    EmptyName(usize),
+    /// A further field, an attribute, has no `=`.
+    NoEquals(usize),
+    /// An attribute has the key of an earlier one of its line.
+    RepeatedKey(usize),
+    /// A growth was refused at this line, and no line up to it has another fault.
+    Memory(usize),
+}
+
+impl TreeFault {
+    /// The number of the kind of fault.
+    pub fn number(&self) -> u8
+        ensures { result ≡ fault_number self.now }
+    {
+        match self {
+            TreeFault::BadDepth(_) => 1,
+            TreeFault::EmptyName(_) => 2,
+            TreeFault::NoEquals(_) => 3,
+            TreeFault::RepeatedKey(_) => 4,
+            TreeFault::Memory(_) => 5,
+        }
+    }
+
+    /// The number of the line.
+    pub fn line(&self) -> usize
+        ensures { result ≡ fault_line self.now }
+    {
+        match self {
+            TreeFault::BadDepth(line)
+            | TreeFault::EmptyName(line)
+            | TreeFault::NoEquals(line)
+            | TreeFault::RepeatedKey(line)
+            | TreeFault::Memory(line) => *line,
+        }
+    }
+}
+
+/// A line among the others.
+#[derive(Clone, Copy, Debug)]
+struct Line<'t> {
+    /// What the line says.
+    entry: Entry<'t>,
+    /// The place of the parent, if there is one.
+    parent: Option<usize>,
+    /// The place of the previous sibling, if there is one.
+    previous: Option<usize>,
+}
+
+/// How many attribute fields are compared in pairs.
+const FEW: usize = 16;
+
+/// The first line of a text that is not empty, and the text behind it.
+#[tactic(auto, using(crate::proofs::Cuts::lines_cut, crate::proofs::Cuts::lines_whole))]
+fn cut_line(text: &str) -> (&str, &str)
+    requires { 0 < length text.now }
+    ensures lines { lines_of text.now ≡ result.0.now ∷ lines_of result.1.now }
+    ensures shorter { length result.1.now < length text.now }
+{
+    match text.split_once('\n') {
+        Some((line, others)) => (line, others),
+        None => (text, ""),
+    }
+}
+
+/// The first field of a text, and the text of the others.
+#[tactic(auto, using(crate::proofs::Cuts::fields_cut, crate::proofs::Cuts::fields_whole))]
+fn cut_field(text: &str) -> (&str, Option<&str>)
+    ensures fields { fields_of text.now ≡ result.0.now ∷ fields_in result.1 }
+    ensures within { length result.0.now ≤ length text.now }
+    ensures shorter { IfSome result.1 (λ others. length others.now < length text.now) }
+{
+    match text.split_once('\t') {
+        Some((field, others)) => (field, Some(others)),
+        None => (text, None),
+    }
+}
+
+/// Whether the field is `0`, or digits with no zero in front.
+#[tactic(auto, using(crate::proofs::Depths::depth_digits))]
+fn is_depth(field: &str) -> bool
+    ensures { result ≡ is_depth field.now }
+{
+    match field.as_bytes() {
+        [] => false,
+        [b'0', others @ ..] => others.is_empty(),
+        digits => are_digits(digits),
+    }
+}
+
+/// Whether all the bytes are decimal digits.
+fn are_digits(bytes: &[u8]) -> bool
+    ensures { result ≡ list_all is_ascii_digit bytes.now }
+{
+    bytes.iter().all(|b| b.is_ascii_digit())
+}
+
+/// The depth that the field spells, where that is at most the limit.
+#[tactic(auto, using(crate::proofs::Depths::depth_other))]
+fn spelled_depth(field: &str, limit: usize) -> Option<usize>
+    ensures value { result ≡ spelled_depth limit field.now }
+    ensures within { IfSome result (λ depth. depth ≤ limit) }
+{
+    if !is_depth(field) {
+        return None;
+    }
+    let Ok(depth) = field.parse::<usize>() else {
+        return None;
+    };
+    if depth <= limit { Some(depth) } else { None }
+}
+
+/// Whether one of the first fields has the key.
+fn has_key(fields: Option<&str>, count: usize, key: &str) -> bool
+    ensures { result ≡ has_key (take count (fields_in fields.entry)) key.now }
+{
+    let mut rest = fields;
+    for i in 0..count {
+        let Some(text) = rest else {
+            return false;
+        };
+        let (field, others) = cut_field(text);
+        let (name, _) = attribute_of(field);
+        if name == key {
+            return true;
+        }
+        rest = others;
+    }
+    false
+}
+
+/// The key and the value of a field, where it has a `=`.
+fn cut_attribute(field: &str) -> Option<(&str, &str)>
+    ensures found { is_some result ≡ has_equals field.now }
+    ensures key { IfSome result (λ a. a.0.now ≡ key_of field.now) }
+    ensures value { IfSome result (λ a. a.1.now ≡ value_of field.now) }
+{
+    field.split_once('=')
+}
+
+/// What stands before the first `=`, and what stands behind it.
+#[tactic(auto, using(crate::proofs::Attributes::value_none))]
+fn attribute_of(field: &str) -> (&str, &str)
+    ensures key { result.0.now ≡ key_of field.now }
+    ensures value { result.1.now ≡ value_of field.now }
+{
+    match field.split_once('=') {
+        Some((key, value)) => (key, value),
+        None => (field, ""),
+    }
+}
+
+/// The first fault of the attribute fields of a line, where each key is compared with those before
+/// it.
+fn first_fault(number: usize, fields: Option<&str>) -> Option<TreeFault>
+    ensures { result ≡ slice_get (field_faults number (fields_in fields.entry)) 0 }
+{
+    let mut rest = fields;
+    let mut count = 0;
+    while let Some(text) = rest {
+        let (field, others) = cut_field(text);
+        let Some((key, _)) = cut_attribute(field) else {
+            return Some(TreeFault::NoEquals(number));
+        };
+        if has_key(fields, count, key) {
+            return Some(TreeFault::RepeatedKey(number));
+        }
+        count += 1;
+        rest = others;
+    }
+    None
+}
+
+/// The same with the keys in a set, whose time grows with the length of the line and little more.
+fn first_fault_by_set(
+    alloc: Global,
+    number: usize,
+    fields: Option<&str>,
+) -> Result<Option<TreeFault>, AllocError>
+    ensures { IfOk result
+        (λ fault. fault ≡ slice_get (field_faults number (fields_in fields.entry)) 0) }
+{
+    let mut keys = BTreeSet::new(alloc);
+    let mut rest = fields;
+    while let Some(text) = rest {
+        let (field, others) = cut_field(text);
+        let Some((key, _)) = cut_attribute(field) else {
+            return Ok(Some(TreeFault::NoEquals(number)));
+        };
+        if !keys.insert(key)? {
+            return Ok(Some(TreeFault::RepeatedKey(number)));
+        }
+        rest = others;
+    }
+    Ok(None)
+}
+
+/// Whether there are too many fields for comparing their keys in pairs.
+fn are_many(fields: Option<&str>) -> bool {
+    match fields {
+        Some(text) => text.bytes().filter(|b| *b == b'\t').take(FEW).count() == FEW,
+        None => false,
+    }
+}
+
+/// Checks the attribute fields of a line. Where memory for a set of many keys is refused, the
+/// fields are compared in pairs, so that want of memory is told of a sound line alone.
+fn check_fields(alloc: Global, number: usize, fields: Option<&str>) -> Result<(), TreeFault>
+    ensures { MatchResult result (λ _. field_faults number (fields_in fields.entry) ≡ [])
+        (λ fault. IsToldOf number (field_faults number (fields_in fields.entry)) fault) }
+{
+    if are_many(fields) {
+        match first_fault_by_set(alloc, number, fields) {
+            Ok(None) => return Ok(()),
+            Ok(Some(fault)) => return Err(fault),
+            Err(_) => {}
+        }
+        return Err(first_fault(number, fields).unwrap_or(TreeFault::Memory(number)));
+    }
+    match first_fault(number, fields) {
+        Some(fault) => Err(fault),
+        None => Ok(()),
+    }
+}
+
+/// The value of the first field with the key.
+fn value_at<'t>(fields: Option<&'t str>, key: &str) -> Option<&'t str>
+    ensures { option_map (λ value. value.now) result
+        ≡ value_in (map attribute_of (fields_in fields.entry)) key.now }
+{
+    let mut rest = fields;
+    while let Some(text) = rest {
+        let (field, others) = cut_field(text);
+        let (name, value) = attribute_of(field);
+        if name == key {
+            return Some(value);
+        }
+        rest = others;
+    }
+    None
+}
+
+/// What a line says, or what is wrong with it.
+fn read_line(alloc: Global, number: usize, limit: usize, line: &str) -> Result<Entry<'_>, TreeFault>
+    ensures value { MatchResult result (λ e. Says number limit line.now e)
+        (λ fault. IsToldOf number (faults_of_line number limit (fields_of line.now)) fault) }
+    ensures within { IfOk result (λ e. e.depth ≤ limit) }
+{
+    let (depth, rest) = cut_field(line);
+    let Some(depth) = spelled_depth(depth, limit) else {
+        return Err(TreeFault::BadDepth(number));
+    };
+    let Some(rest) = rest else {
+        return Err(TreeFault::EmptyName(number));
+    };
+    let (name, attributes) = cut_field(rest);
+    if name.is_empty() {
+        return Err(TreeFault::EmptyName(number));
+    }
+    check_fields(alloc, number, attributes)?;
+    Ok(Entry {
+        depth,
+        name,
+        attributes,
+        class: value_at(attributes, "class"),
+        id: value_at(attributes, "id"),
+    })
+}
+
+/// The last line whose depth is at most the one that is given.
+fn nearest(lines: &[Line<'_>], depth: usize) -> Option<usize>
+    requires { AreLinked lines.now }
+    ensures value { result ≡ last_place (λ d. nat_le d depth) (depths lines.now) }
+    ensures within { IfSome result (λ i. i < length lines.now) }
+{
+    let mut candidate = lines.len().checked_sub(1);
+    while let Some(i) = candidate {
+        let line = lines[i];
+        if line.entry.depth <= depth {
+            break;
+        }
+        candidate = line.parent;
+    }
+    candidate
+}
+
+/// The line of an entry that stands behind others.
+fn link<'t>(lines: &[Line<'t>], entry: Entry<'t>) -> Line<'t>
+    requires { AreLinked lines.now }
+    ensures entry { result.entry ≡ entry.entry }
+    ensures linked { AreLinked (lines.now ++ result ∷ []) }
+{
+    match nearest(lines, entry.depth) {
+        None => Line {
+            entry,
+            parent: None,
+            previous: None,
+        },
+        Some(i) => {
+            let near = lines[i];
+            if near.entry.depth == entry.depth {
+                Line {
+                    entry,
+                    parent: near.parent,
+                    previous: Some(i),
+                }
+            } else {
+                Line {
+                    entry,
+                    parent: Some(i),
+                    previous: None,
+                }
+            }
+        }
+    }
+}
+
+/// Adds what the text of a line says behind the other lines, or tells what is wrong with it. The
+/// result is the greatest depth that the next line may have.
+fn add_line<'t>(
+    alloc: Global,
+    lines: &mut Vec<Line<'t>>,
+    limit: usize,
+    text: &'t str,
+) -> Result<usize, TreeFault>
+    requires linked { AreLinked lines.old.items }
+    requires low { limit ≤ length lines.old.items }
+    ensures ok { IfOk result (IsAdded lines.old.items limit text.now lines.new.items) }
+    ensures fault { IfErr result (IsToldOf (length lines.old.items + 1)
+        (faults_of_line (length lines.old.items + 1) limit (fields_of text.now))) }
+{
+    let number = lines.len() + 1;
+    let entry = read_line(alloc, number, limit, text)?;
+    let line = link(lines.as_slice(), entry);
+    if lines.push(line).is_err() {
+        return Err(TreeFault::Memory(number));
+    }
+    Ok(entry.depth + 1)
+}
+
+/// The elements of a tree, in the order of their lines.
+#[derive(Debug, Drop)]
+pub struct Page<'t> {
+    /// A line for each element.
+    lines: Vec<Line<'t>>,
+}
+
+impl<'t> Model for Page<'t> {
+    ghost use Rattle.std.specs.Prelude.{List};
+    ghost use Rattle.cssq_tree.specs.TreeText.{Row};
+
+    ghost Value = { List Row };
+
+    ghost use Rattle.cssq_tree.specs.Lines.{rows, AreLinked};
+
+    ghost view = { λ p. rows p.lines.items };
+
+    ghost invariant = { λ p. AreLinked p.lines.items };
+}
+
+impl<'t> Page<'t> {
+    /// The page of the text, or the fault of its first faulty line.
+    pub fn read(alloc: Global, text: &'t str) -> Result<Page<'t>, TreeFault>
+        ensures ok { IfOk result (λ page. tree_of text.now ≡ Ok page) }
+        ensures fault { IfErr result (λ fault. IsFaultOf fault text.now) }
+    {
+        let mut lines = Vec::new(alloc);
+        let mut rest = text;
+        let mut limit = 0;
+        while !rest.is_empty() {
+            let (line, others) = cut_line(rest);
+            limit = add_line(alloc, &mut lines, limit, line)?;
+            rest = others;
+        }
+        Ok(Page { lines })
+    }
+
+    /// How many elements there are.
+    pub fn len(&self) -> usize
+        ensures { result ≡ length self.now }
+    {
+        self.lines.len()
+    }
+
+    /// The element with a place among the lines.
+    pub fn node(&self, place: usize) -> Option<Node<'_, 't>>
+        ensures { MatchOption result (length self.now ≤ place)
+            (λ node. (place < length self.now) × (node ≡ spot self.now place)) }
+    {
+        if place < self.len() {
+            Some(Node { page: self, place })
+        } else {
+            None
+        }
+    }
+
+    /// The place of the parent of the element at a place.
+    #[inline(always)]
+    fn parent(&self, place: usize) -> Option<usize>
+        requires { place < length self.now }
+        ensures value { result ≡ parent_place (depths_of self.now) place }
+        ensures within { IfSome result (λ parent. parent < length self.now) }
+    {
+        self.lines[place].parent
+    }
+
+    /// The place of the previous sibling of the element at a place.
+    #[inline(always)]
+    fn previous(&self, place: usize) -> Option<usize>
+        requires { place < length self.now }
+        ensures value { result ≡ previous_place (depths_of self.now) place }
+        ensures within { IfSome result (λ previous. previous < length self.now) }
+    {
+        self.lines[place].previous
+    }
+
+    /// The name of the element at a place.
+    #[inline(always)]
+    fn name(&self, place: usize) -> &'t str
+        requires { place < length self.now }
+        ensures { result.now ≡ name_at self.now place }
+    {
+        self.lines[place].entry.name
+    }
+
+    /// The value of the first attribute with the key, of the element at a place.
+    fn attribute(&self, place: usize, key: &str) -> Option<&'t str>
+        requires { place < length self.now }
+        ensures { option_map (λ value. value.now) result ≡ attribute_at self.now place key.now }
+    {
+        let entry = self.lines[place].entry;
+        match key {
+            "class" => entry.class,
+            "id" => entry.id,
+            _ => value_at(entry.attributes, key),
+        }
+    }
+}
+
+/// An element of a page.
+#[derive(Drop)]
+pub struct Node<'p, 't> {
+    /// The page that the element is of.
+    page: &'p Page<'t>,
+    /// Its place among the lines.
+    place: usize,
+}
+
+impl<'p, 't> Model for Node<'p, 't> {
+    ghost use Rattle.std.specs.Prelude.{◌<◌, length};
+    ghost use Rattle.cssq_tree.specs.Nodes.{Spot, spot};
+
+    ghost Value = { Spot };
+
+    ghost view = { λ node. spot node.page.now node.place };
+
+    ghost invariant = { λ node. node.place < length node.page.now };
+}
+
+/// Names and values compare byte by byte. A first child is an element without a previous sibling.
+/// An element is in none of the other pseudo-classes.
+impl<'p, 't> Element for Node<'p, 't> {
+    ghost use Rattle.cssq_tree.specs.Nodes.{Spot, page_tree};
+    ghost use Rattle.cssq_tree.specs.ElementLaws.{depths_count_ancestors, siblings_share_parents};
+
+    ghost Node = { Spot };
+
+    ghost tree = { page_tree };
+
+    ghost node = { λ node. node };
+
+    ghost depth_law = { depths_count_ancestors };
+
+    ghost sibling_law = { siblings_share_parents };
+
+    #[inline(always)]
+    fn parent_element(&self) -> Option<Self> {
+        let page = self.page;
+        let place = page.parent(self.place)?;
+        Some(Node { page, place })
+    }
+
+    #[inline(always)]
+    fn prev_sibling_element(&self) -> Option<Self> {
+        let page = self.page;
+        let place = page.previous(self.place)?;
+        Some(Node { page, place })
+    }
+
+    #[inline(always)]
+    fn has_local_name(&self, name: &str) -> bool {
+        self.page.name(self.place) == name
+    }
+
+    fn attribute_matches(&self, local_name: &str, operator: AttributeOperator<'_>) -> bool {
+        match self.page.attribute(self.place, local_name) {
+            Some(value) => operator.matches(value),
+            None => false,
+        }
+    }
+
+    #[inline(always)]
+    fn pseudo_class_matches(&self, class: PseudoClass<'_>) -> bool {
+        match class {
+            PseudoClass::FirstChild => self.page.previous(self.place).is_none(),
+            _ => false,
+        }
+    }
+}
+
+/// By its name and its attributes `id` and `class`.
+impl<'p, 't> Keyed for Node<'p, 't> {
+    ghost use Rattle.cssq_tree.specs.Nodes.{told_of};
+    ghost use Rattle.cssq_tree.specs.ElementLaws.{keys_told};
+
+    ghost told = { told_of };
+
+    ghost told_law = { keys_told };
+
+    #[inline(always)]
+    fn local_name(&self) -> &str {
+        self.page.name(self.place)
+    }
+
+    #[inline(always)]
+    fn id_value(&self) -> Option<&str> {
+        self.page.attribute(self.place, "id")
+    }
+
+    #[inline(always)]
+    fn class_value(&self) -> Option<&str> {
+        self.page.attribute(self.place, "class")
+    }
+}

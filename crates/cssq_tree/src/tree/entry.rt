@@ -1,0 +1,24 @@
+//! What a line says.
+ghost use Rattle.std.specs.Prelude.{◌≡◌, map, codes};
+ghost use Rattle.std.specs.Option.{option_map};
+ghost use Rattle.cssq_tree.specs.TreeText.{attribute_of, fields_in};
+ghost use Rattle.cssq_tree.specs.Nodes.{value_in};
+
+/// What a line says.
+#[derive(Clone, Copy, Debug)]
+pub(crate) struct Entry<'t> {
+    /// How many ancestors the element has.
+    pub(crate) depth: usize,
+    /// The element's name.
+    pub(crate) name: &'t str,
+    /// The text of the fields behind the name, if there is one.
+    pub(crate) attributes: Option<&'t str>,
+    /// The value of the attribute `class`, which is asked most, with that of `id`.
+    pub(crate) class: Option<&'t str>,
+    /// The value of the attribute `id`.
+    pub(crate) id: Option<&'t str>,
+    ghost class_kept: { option_map (λ value. value.now) class
+        ≡ value_in (map attribute_of (fields_in attributes)) (codes "class") },
+    ghost id_kept: { option_map (λ value. value.now) id
+        ≡ value_in (map attribute_of (fields_in attributes)) (codes "id") },
+}
