@@ -43,7 +43,8 @@ Says number limit line e =
 
 -- A line was added behind others: it keeps what the text says, at a depth that may stand there. The
 -- next line's depth is at most one more.
-pub record IsAdded (old : List Line) (limit : ℕ) (text : List ℕ) (new : List Line) (next : ℕ) : Type 0 where
+pub record IsAdded (old : List Line) (limit : ℕ) (text : List ℕ) (new : List Line) (next : ℕ)
+    : Type 0 where
   pub line : Line
   pub added : new ≡ old ++ line ∷ []
   pub says : Says (length old + 1) limit text line.entry

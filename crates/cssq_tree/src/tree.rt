@@ -347,6 +347,7 @@ fn link<'t>(lines: &[Line<'t>], entry: Entry<'t>) -> Line<'t>
 
 /// Adds what the text of a line says behind the other lines, or tells what is wrong with it. The
 /// result is the greatest depth that the next line may have.
+#[inline(always)]
 fn add_line<'t>(
     alloc: Global,
     lines: &mut Vec<Line<'t>>,
