@@ -2,9 +2,7 @@
 use crate::{Fault, Reason};
 use log::sink::Discard;
 use simplecss::stream::Stream;
-use simplecss::{
-    DeclarationTokenizer, Selector, SelectorTokenizer, Statement, StatementReader, TextPos,
-};
+use simplecss::{DeclarationTokenizer, Selector, SelectorTokenizer, StatementReader, TextPos};
 use std::alloc::{AllocError, Global};
 
 /// The faults of a text that were found so far.
@@ -95,18 +93,15 @@ fn declarations_len(text: &str) -> usize {
     passed
 }
 
-/// Where the statement begins and ends, if there is one.
-fn places_of(statement: Option<Statement<'_>>) -> Option<(usize, usize)> {
-    let statement = statement?;
-    Some((statement.start, statement.end))
-}
-
 /// Where the next statement begins and ends.
 fn next_places(
     reader: &mut StatementReader<'_>,
     alloc: Global,
 ) -> Result<Option<(usize, usize)>, AllocError> {
-    reader.read_next(&Discard, alloc).map(places_of)
+    match reader.read_next(&Discard, alloc)? {
+        Some(statement) => Ok(Some((statement.start, statement.end))),
+        None => Ok(None),
+    }
 }
 
 impl<'a> Finder<'a> {

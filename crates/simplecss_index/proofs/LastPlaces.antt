@@ -13,21 +13,22 @@ use Rattle.std.proofs.lemmas.Slice.Eq.{bytes_eq-Decides}
 use Rattle.simplecss.specs.Components.Operator.{equals, has_word}
 use Rattle.simplecss.specs.Keys.{Key, Told, tells_key, is_value_as_asked}
 use Rattle.simplecss.specs.Keys.Key.{by_id, by_class, by_name, by_nothing}
-use Rattle.simplecss_index.specs.Lasts.{place_for, last_for, TakesText, TakesPlace, IdLeads, ClassLeads, KeyLeads}
+use Rattle.simplecss_index.specs.Lasts.{place_for, last_for, TakesPlace, IdLeads, ClassLeads, KeyLeads}
 use Rattle.simplecss_index.specs.Places.{Adds}
 use Rattle.simplecss_index.specs.declared.lasts.Lasts.{Lasts}
 use Rattle.simplecss_index.proofs.Adding.{contains_none, contains_one, adds_none, adds_then, adds_as}
 
 -- a change at one text is seen at that text, and leaves the others
-pub takes_text : (old new : BTreeMap (Bor (List ℕ)) ℕ) (text : List ℕ) (place : ℕ) → UpdatesBy (λ x y. slice_cmp nat_cmp x.now y.now) (λ k. slice_cmp nat_cmp text k.now) old new (Some place) → TakesText old new text place
-takes_text old new text place updates other = at (bytes_eq text other) refl
+changed_text : (m n : BTreeMap (Bor (List ℕ)) ℕ) (place : ℕ) (text other : List ℕ) → UpdatesBy (λ x y. slice_cmp nat_cmp x.now y.now) (λ k. slice_cmp nat_cmp text k.now) m n (Some place)
+    → ((text ≡ other) × (place_for n other ≡ Some place)) ⊎ ((text ≡ other → ⊥) × (place_for n other ≡ place_for m other))
+changed_text m n place text other updates = at (bytes_eq text other) refl
   where
-    after : place_for new other ≡ cond (bytes_eq text other) (Some place) (place_for old other)
-    after = btree_map_updates_str text old new (Some place) updates other
+    after : place_for n other ≡ cond (bytes_eq text other) (Some place) (place_for m other)
+    after = btree_map_updates_str text m n (Some place) updates other
 
-    at : (b : Bool) → bytes_eq text other ≡ b → ((text ≡ other) × (place_for new other ≡ Some place)) ⊎ ((text ≡ other → ⊥) × (place_for new other ≡ place_for old other))
-    at true e = inl ((bytes_eq-Decides text other).0 e, after ∙ ap (λ b. cond b (Some place) (place_for old other)) e)
-    at false e = inr (λ same. false≢true (sym e ∙ (bytes_eq-Decides text other).1 same), after ∙ ap (λ b. cond b (Some place) (place_for old other)) e)
+    at : (b : Bool) → bytes_eq text other ≡ b → ((text ≡ other) × (place_for n other ≡ Some place)) ⊎ ((text ≡ other → ⊥) × (place_for n other ≡ place_for m other))
+    at true e = inl ((bytes_eq-Decides text other).0 e, after ∙ ap (λ b. cond b (Some place) (place_for m other)) e)
+    at false e = inr (λ same. false≢true (sym e ∙ (bytes_eq-Decides text other).1 same), after ∙ ap (λ b. cond b (Some place) (place_for m other)) e)
 
 -- the same, of a kind of keys
 kind_of : {A B : Type 0} {text other : List ℕ} (kind : List ℕ → Key) → (kind text ≡ kind other → text ≡ other) → ((text ≡ other) × A) ⊎ ((text ≡ other → ⊥) × B) → ((kind text ≡ kind other) × A) ⊎ ((kind text ≡ kind other → ⊥) × B)
@@ -36,23 +37,23 @@ kind_of kind back (inr h) = inr (λ e. h.0 (back e), h.1)
 
 -- a place is put under an id, a class, a name or none of them
 module _ (old : Lasts) (place : ℕ) where
-  pub takes_id : (m : BTreeMap (Bor (List ℕ)) ℕ) (text : List ℕ) → TakesText old.ids m text place → TakesPlace old (record { ids = m; classes = old.classes; names = old.names; any = old.any }) (by_id text) place
-  takes_id m text taken (by_id t) = kind_of by_id (λ e. cc) (taken t)
-  takes_id m text taken (by_class t) = inr (λ e. cc, refl)
-  takes_id m text taken (by_name t) = inr (λ e. cc, refl)
-  takes_id m text taken by_nothing = inr (λ e. cc, refl)
+  pub takes_id : (m : BTreeMap (Bor (List ℕ)) ℕ) (text : List ℕ) → UpdatesBy (λ x y. slice_cmp nat_cmp x.now y.now) (λ k. slice_cmp nat_cmp text k.now) old.ids m (Some place) → TakesPlace old (record { ids = m; classes = old.classes; names = old.names; any = old.any }) (by_id text) place
+  takes_id m text updates (by_id t) = kind_of by_id (λ e. cc) (changed_text old.ids m place text t updates)
+  takes_id m text updates (by_class t) = inr (λ e. cc, refl)
+  takes_id m text updates (by_name t) = inr (λ e. cc, refl)
+  takes_id m text updates by_nothing = inr (λ e. cc, refl)
 
-  pub takes_class : (m : BTreeMap (Bor (List ℕ)) ℕ) (text : List ℕ) → TakesText old.classes m text place → TakesPlace old (record { ids = old.ids; classes = m; names = old.names; any = old.any }) (by_class text) place
-  takes_class m text taken (by_id t) = inr (λ e. cc, refl)
-  takes_class m text taken (by_class t) = kind_of by_class (λ e. cc) (taken t)
-  takes_class m text taken (by_name t) = inr (λ e. cc, refl)
-  takes_class m text taken by_nothing = inr (λ e. cc, refl)
+  pub takes_class : (m : BTreeMap (Bor (List ℕ)) ℕ) (text : List ℕ) → UpdatesBy (λ x y. slice_cmp nat_cmp x.now y.now) (λ k. slice_cmp nat_cmp text k.now) old.classes m (Some place) → TakesPlace old (record { ids = old.ids; classes = m; names = old.names; any = old.any }) (by_class text) place
+  takes_class m text updates (by_id t) = inr (λ e. cc, refl)
+  takes_class m text updates (by_class t) = kind_of by_class (λ e. cc) (changed_text old.classes m place text t updates)
+  takes_class m text updates (by_name t) = inr (λ e. cc, refl)
+  takes_class m text updates by_nothing = inr (λ e. cc, refl)
 
-  pub takes_name : (m : BTreeMap (Bor (List ℕ)) ℕ) (text : List ℕ) → TakesText old.names m text place → TakesPlace old (record { ids = old.ids; classes = old.classes; names = m; any = old.any }) (by_name text) place
-  takes_name m text taken (by_id t) = inr (λ e. cc, refl)
-  takes_name m text taken (by_class t) = inr (λ e. cc, refl)
-  takes_name m text taken (by_name t) = kind_of by_name (λ e. cc) (taken t)
-  takes_name m text taken by_nothing = inr (λ e. cc, refl)
+  pub takes_name : (m : BTreeMap (Bor (List ℕ)) ℕ) (text : List ℕ) → UpdatesBy (λ x y. slice_cmp nat_cmp x.now y.now) (λ k. slice_cmp nat_cmp text k.now) old.names m (Some place) → TakesPlace old (record { ids = old.ids; classes = old.classes; names = m; any = old.any }) (by_name text) place
+  takes_name m text updates (by_id t) = inr (λ e. cc, refl)
+  takes_name m text updates (by_class t) = inr (λ e. cc, refl)
+  takes_name m text updates (by_name t) = kind_of by_name (λ e. cc) (changed_text old.names m place text t updates)
+  takes_name m text updates by_nothing = inr (λ e. cc, refl)
 
   pub takes_any : TakesPlace old (record { ids = old.ids; classes = old.classes; names = old.names; any = Some place }) by_nothing place
   takes_any (by_id t) = inr (λ e. cc, refl)

@@ -20,12 +20,6 @@ last_for lasts (by_class word) = place_for lasts.classes word
 last_for lasts (by_name name) = place_for lasts.names name
 last_for lasts by_nothing = lasts.any
 
--- the place is now that of the text in a map, and every other text has the one that it had
-abbrev pub TakesText : BTreeMap (Bor (List ℕ)) ℕ → BTreeMap (Bor (List ℕ)) ℕ → List ℕ → ℕ → Type 0
-TakesText old new text place = (other : List ℕ)
-    → ((text ≡ other) × (place_for new other ≡ Some place))
-    ⊎ ((text ≡ other → ⊥) × (place_for new other ≡ place_for old other))
-
 -- the place is now the last of the key, and every other key has the one that it had
 abbrev pub TakesPlace : Lasts → Lasts → Key → ℕ → Type 0
 TakesPlace old new key place = (other : Key)

@@ -2,7 +2,7 @@
 ghost use Rattle.std.specs.Prelude.{◌≡◌, IfOk, OnOk, None};
 ghost use Rattle.simplecss.specs.Keys.{Key as KeyValue};
 ghost use Rattle.simplecss.specs.SeenKeys.{key_value};
-ghost use Rattle.simplecss_index.specs.Lasts.{place_for, last_for, TakesText, TakesPlace};
+ghost use Rattle.simplecss_index.specs.Lasts.{last_for, TakesPlace};
 
 use simplecss::Key;
 use std::alloc::{AllocError, Global};
@@ -20,18 +20,6 @@ pub(crate) struct Lasts<'a> {
     names: BTreeMap<&'a str, usize>,
     /// The place under the key that every element has.
     any: Option<usize>,
-}
-
-/// Puts the place under the text, and gives the one that was there.
-fn put<'a>(
-    places: &mut BTreeMap<&'a str, usize>,
-    text: &'a str,
-    place: usize,
-) -> Result<Option<usize>, AllocError>
-    ensures known { IfOk result (λ known. known ≡ place_for places.old text.now) }
-    ensures taken { OnOk result (TakesText places.old places.new text.now place) }
-{
-    Ok(places.insert(text, place)?)
 }
 
 impl<'a> Lasts<'a> {
@@ -68,11 +56,11 @@ impl<'a> Lasts<'a> {
         ensures known { IfOk result (λ known. known ≡ last_for self.old (key_value key.entry)) }
         ensures taken { OnOk result (TakesPlace self.old self.new (key_value key.entry) place) }
     {
-        match key {
-            Key::Id(text) => put(&mut self.ids, text, place),
-            Key::Class(word) => put(&mut self.classes, word, place),
-            Key::Name(name) => put(&mut self.names, name, place),
-            Key::Any => Ok(self.any.replace(place)),
-        }
+        Ok(match key {
+            Key::Id(text) => self.ids.insert(text, place)?,
+            Key::Class(word) => self.classes.insert(word, place)?,
+            Key::Name(name) => self.names.insert(name, place)?,
+            Key::Any => self.any.replace(place),
+        })
     }
 }
