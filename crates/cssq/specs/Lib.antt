@@ -7,3 +7,8 @@ pub mod MatchRuns
 pub mod Winners
 pub mod Candidates
 pub mod StyleRuns
+-- What contracts of trees speak of, under the names of this crate.
+pub use Rattle.cssq_tree.specs.TreeText
+pub use Rattle.cssq_tree.specs.ParentsAndSiblings
+pub use Rattle.cssq_tree.specs.Nodes
+pub use Rattle.cssq_tree.specs.ElementLaws
