@@ -1,21 +1,20 @@
 -- The place of what wins for each name of a list, and the winners of a list that is in the order of
 -- the places.
-use Rattle.std.proofs.Common.{◌≡◌, ℕ, zero, suc, ◌+◌, ◌<◌, ◌≤◌, ◌⊎◌, inl, inr, ◌↔◌, Bool, true, false, cond, List, [], ◌∷◌, ◌++◌, length, map, get_or, take, Option, None, Some, IfSome, refl, sym, ap, ◌∙◌, subst, arith, length-take}
+use Rattle.std.proofs.Common.{◌≡◌, ℕ, zero, suc, ◌+◌, ◌<◌, ◌≤◌, ◌⊎◌, inl, inr, ◌↔◌, Bool, true, false, cond, List, [], ◌∷◌, ◌++◌, length, get_or, take, Option, None, Some, IfSome, refl, sym, ap, ◌∙◌, subst, arith, length-take}
 use Rattle.std.specs.Option.{option_map, option_eq}
 use Rattle.std.specs.List.{slice_get, Contains}
-use Rattle.std.specs.Prelude.{bytes_eq, nat_eq, Result, Ok, Err, IfOk}
+use Rattle.std.specs.Prelude.{bytes_eq, nat_eq}
 use Rattle.std.specs.Cmp.{unsigned_Decides}
 use Rattle.std.specs.Cmp.Lexicographic.{bytes_decides}
 use Rattle.std.proofs.lemmas.Bool.{both_ways}
 use Rattle.std.proofs.lemmas.Option.{slice_get_within, slice_get-map, slice_get-get_or, get_or_from_slice_get, same_Some}
 use Rattle.std.proofs.lemmas.List.{take_more, length-map}
-use Rattle.std.proofs.lemmas.Simd.{map-map}
 use Rattle.simplecss.specs.Declarations.{StyleDeclaration}
 use Rattle.simplecss.specs.SeenDeclarations.{declaration_of, declarations_of}
 use Rattle.simplecss.specs.declared.Declaration.{Declaration}
 use Rattle.cssq.specs.Winners.{Standing, weight, Beats, WinsAt, NoneStands, Placed, IsEarlier, ListsInOrder, HaveOwnNames}
 use Rattle.cssq.specs.Winners.Beats.{by_importance, by_rule, by_place}
-use Rattle.cssq.specs.Candidates.{InRule, IsBestPlace, BestForItsName, TellsWhether}
+use Rattle.cssq.specs.Candidates.{InRule, IsBestPlace, TellsWhether}
 use Rattle.cssq.proofs.Cascading.{OneMore, beats_as_later, not_two, in_rule_more, others_stay, first, takes_over, stays}
 use Rattle.cssq.proofs.FromLast.{here_or_later, before_or_from}
 use Rattle.cssq.proofs.Listing.{placed_at, slice_get_some, lists_more, lists_same}
@@ -219,73 +218,10 @@ module _ (stands : Standing) (ps : List StyleDeclaration) (lists : ListsInOrder 
           lists_same (λ i j q h. (h.0, (h.1.0, (let lt = h.1.1 in omega (arith, lt)), h.1.2)))
           (λ i j q h. kept_not_at i j q (λ won. not_best (best_here (place a.declaration.name) (best a.declaration.name) won)) h.0 (kept_either_at i j q h.0 h.1.0 h.1.1 h.1.2 (before_or_from m h.1.0))) so_far
 
-  -- none at first
-  pub winners_none : ListsInOrder (Kept 0) []
-  winners_none = record {
-    placed = [];
-    are = refl;
-    stand = λ k a at. absurd (cc);
-    rise = λ k l a b lt at_k at_l. absurd (cc);
-    all = λ i j p h. (let lt = h.1.1 in absurd (omega (arith, lt)));
-  }
-
   pub winners_all : (m : ℕ) {qs : List StyleDeclaration} → length ps ≤ m → ListsInOrder (Kept m) qs → ListsInOrder (λ i j p. WinsAt stands p.name i j p) qs
   winners_all m all so_far =
       lists_same (λ i j q h. h.0)
       (λ i j q won. let found = lists.all i j q won.stated in let within = slice_get_within lists.placed found.0 (placed_at i j q) found.1 in (won, (found.0, omega (arith, within, long, all), found.1))) so_far
-
--- ---- the winners of a list are those of what it lists
-
-mapped_from : {X Y : Type 0} (f : X → Y) (xs : List X) (k : ℕ) (y : Y) → slice_get (map f xs) k ≡ Some y → (x : X) × (slice_get xs k ≡ Some x) × (f x ≡ y)
-mapped_from f [] k y at = absurd (cc)
-mapped_from f (x ∷ xs) zero y at = (x, refl, same_Some (f x) y at)
-mapped_from f (x ∷ xs) (suc k) y at = mapped_from f xs k y at
-
-in_one_rule : {i k j l : ℕ} → IsEarlier i k j l → i ≡ 0 → j ≡ 0 → k < l
-in_one_rule (inl lt) e f = absurd (omega (arith, lt, e, f))
-in_one_rule (inr h) e f = h.1
-
-module _ (stands : Standing) (ps : List StyleDeclaration) (lists : ListsInOrder stands ps) {qs : List StyleDeclaration} (best : ListsInOrder (BestForItsName ps) qs) where
-  -- where the declaration stands that the list has at a place
-  abbrev moved_to : Placed → Placed
-  moved_to a = record { rule = (get_or lists.placed a.place a).rule; place = (get_or lists.placed a.place a).place; declaration = a.declaration }
-
-  listed_at : (a : Placed) → slice_get ps a.place ≡ Some a.declaration → (b : Placed) × (slice_get lists.placed a.place ≡ Some b) × (moved_to a ≡ b)
-  listed_at a at =
-      let found = placed_of stands ps lists a.place a.declaration at in
-      let is : get_or lists.placed a.place a ≡ found.0 = get_or_from_slice_get lists.placed a.place found.0 a found.1 in
-      (found.0, found.1, (λ t. record { rule = (is t).rule; place = (is t).place; declaration = (sym found.2) t }))
-
-  wins_moved : (a b : Placed) → BestForItsName ps a.rule a.place a.declaration → slice_get lists.placed a.place ≡ Some b → moved_to a ≡ b → WinsAt stands b.declaration.name b.rule b.place b.declaration
-  wins_moved a b won at is =
-      wins_place stands ps lists b.declaration.name a.place b at
-      (moved a.rule a.place a.declaration 0 a.place b.declaration won.stated.0 refl (ap (λ x. x.declaration) is) won)
-
-  pub lists_winners : ListsInOrder (λ i j p. WinsAt stands p.name i j p) qs
-  lists_winners = record {
-    placed = map moved_to best.placed;
-    are = map-map (λ (a : Placed). a.declaration) moved_to best.placed ∙ best.are;
-    stand = λ k b at.
-        let from = mapped_from moved_to best.placed k b at in
-        let won = best.stand k from.0 from.1 in
-        let there = listed_at from.0 won.stated.1 in
-        subst (λ x. WinsAt stands x.declaration.name x.rule x.place x.declaration) (sym there.2 ∙ from.2) (wins_moved from.0 there.0 won there.1 there.2);
-    rise = λ k l a b lt at_k at_l.
-        let first = mapped_from moved_to best.placed k a at_k in
-        let second = mapped_from moved_to best.placed l b at_l in
-        let won = best.stand k first.0 first.1 in
-        let later = best.stand l second.0 second.1 in
-        let there = listed_at first.0 won.stated.1 in
-        let beyond = listed_at second.0 later.stated.1 in
-        subst (λ x. IsEarlier a.rule a.place x.rule x.place) (sym beyond.2 ∙ second.2)
-        (subst (λ x. IsEarlier x.rule x.place beyond.0.rule beyond.0.place) (sym there.2 ∙ first.2)
-        (lists.rise first.0.place second.0.place there.0 beyond.0 (in_one_rule (best.rise k l first.0 second.0 lt first.1 second.1) won.stated.0 later.stated.0) there.1 beyond.1));
-    all = λ i j p won.
-        let found = lists.all i j p won.stated in
-        let listed = best.all 0 found.0 p (wins_index stands ps lists p.name found.0 (placed_at i j p) found.1 won) in
-        let is = get_or_from_slice_get lists.placed found.0 (placed_at i j p) (placed_at 0 found.0 p) found.1 in
-        (listed.0, slice_get-map moved_to best.placed listed.0 ∙ ap (option_map moved_to) listed.1 ∙ (λ t. Some (record { rule = (is t).rule; place = (is t).place; declaration = p })));
-  }
 
 -- ---- what a list of winners has
 
@@ -313,16 +249,6 @@ module _ (stands : Standing) (ps : List StyleDeclaration) (lists : ListsInOrder 
     (λ has. wins_for_name p has.0 (slice_get-get_or ps has.0 p has.1 ∙ ap Some has.2)),
     (λ won. let found = stands_in p won.0 won.1 won.2 in (found.0, slice_get_within ps found.0 p found.1, get_or_from_slice_get ps found.0 p p found.1)),
   )
-
--- what a call tells of the winners that it gives, where it can
-pub winners_in : {V F : Type 0} (r : Result V F) (declared : V → List StyleDeclaration) (stands : Standing) (ps : List StyleDeclaration) → ListsInOrder stands ps → IfOk r (λ all. ListsInOrder (BestForItsName ps) (declared all))
-    → IfOk r (λ all. ListsInOrder (λ i j p. WinsAt stands p.name i j p) (declared all))
-    × IfOk r (λ all. (p : StyleDeclaration) → Contains (declared all) p ↔ ((i : ℕ) × (j : ℕ) × WinsAt stands p.name i j p))
-    × IfOk r (λ all. HaveOwnNames (declared all))
-winners_in (Ok all) declared stands ps lists best =
-    let won = lists_winners stands ps lists best in
-    (won, has_winners stands (declared all) won, own_names stands (declared all) won)
-winners_in (Err fault) declared stands ps lists best = (tt, tt, tt)
 
 -- ---- a test of a place
 

@@ -8,7 +8,6 @@ use Rattle.simplecss.specs.Statements.{StyleRule}
 use Rattle.simplecss.specs.Trees.{Tree}
 use Rattle.simplecss.specs.Placements.{HasPlacement}
 use Rattle.cssq.specs.Winners.{Standing, IsStated, Placed, IsEarlier, ListsInOrder}
-use Rattle.cssq.specs.Candidates.{InRule}
 use Rattle.cssq.proofs.Cascading.{OneMore, slice_get_push, slice_get_kept, slice_get_last}
 use Rattle.cssq.proofs.FromLast.{before_or_from, stated_takes, stated_here}
 
@@ -117,29 +116,6 @@ listed_part : (stands : Standing) (m : ℕ) (declared ps : List StyleDeclaration
 listed_part stands m declared ps lists zero le =
     subst (ListsInOrder (Partly stands m declared 0)) (sym (append-nil ps)) (lists_same (λ i j p h. inl h) (none_of_part stands m declared) lists)
 listed_part stands m declared ps lists (suc c) le = listed_next stands m declared ps c (omega arith) (listed_part stands m declared ps lists c (omega arith))
-
--- where nothing stands
-abbrev Nowhere : Standing
-Nowhere i j p = ⊥
-
-lists_nothing : ListsInOrder (Before Nowhere 0) []
-lists_nothing = record {
-  placed = [];
-  are = refl;
-  stand = λ k a at. absurd (cc);
-  rise = λ k l a b lt at_k at_l. absurd (cc);
-  all = λ i j p h. absurd h.1;
-}
-
-part_of_list : (ps : List StyleDeclaration) (i j : ℕ) (p : StyleDeclaration) → Partly Nowhere 0 ps (length ps) i j p → InRule 0 ps i j p
-part_of_list ps i j p (inl h) = absurd h.1
-part_of_list ps i j p (inr h) = (h.0, h.2)
-
--- a list lists what stands in it
-pub lists_itself : (ps : List StyleDeclaration) → ListsInOrder (InRule 0 ps) ps
-lists_itself ps =
-    subst (ListsInOrder (InRule 0 ps)) (take_all (length ps) ps (omega arith))
-    (lists_same (part_of_list ps) (λ i j p h. inr (h.0, slice_get_within ps j p h.1, h.1)) (listed_part Nowhere 0 ps [] lists_nothing (length ps) (omega arith)))
 
 module _ {Node : Type 0} (tree : Tree Node) (n : Node) (rules : List StyleRule) (m : ℕ) (rule : StyleRule) (at : slice_get rules m ≡ Some rule) where
   whole_forth : HasPlacement tree rule.components n → (i j : ℕ) (p : StyleDeclaration) → Partly (IsStated tree n rules) m rule.declarations (length rule.declarations) i j p → Before (IsStated tree n rules) (m + 1) i j p

@@ -52,10 +52,6 @@ IsBestPlace declarations name (Some k) = (p : StyleDeclaration) × WinsAt (InRul
 abbrev pub HasBestPlaces : BTreeMap (Bor (List ℕ)) ℕ → List StyleDeclaration → Type 0
 HasBestPlaces places declarations = (name : List ℕ) → IsBestPlace declarations name (place_for places name)
 
--- what wins for its own name among the declarations of a list
-abbrev pub BestForItsName : List StyleDeclaration → Standing
-BestForItsName declarations i j p = WinsAt (InRule 0 declarations) p.name i j p
-
 -- whether the later takes over from what stands at the known place, if one is known: it is no
 -- lighter
 abbrev pub TellsWhether : Bool → List StyleDeclaration → Option ℕ → StyleDeclaration → Type 0

@@ -9,7 +9,7 @@ ghost use Rattle.simplecss.specs.SeenRules.{rule_of, rules_of, rules_in};
 ghost use Rattle.cssq.specs.Winners.{Wins, IsStated, IsWinner, HasNoWinner, WinsForItsName};
 ghost use Rattle.cssq.specs.Winners.{ListsInOrder, HaveOwnNames};
 ghost use Rattle.cssq.specs.Candidates.{better_of, InRule, IsCandidate, IsOutdone, IsPassedOver};
-ghost use Rattle.cssq.specs.Candidates.{TellsWhether, HasBestPlaces, BestForItsName};
+ghost use Rattle.cssq.specs.Candidates.{TellsWhether, HasBestPlaces};
 
 use simplecss::{Declaration, Element, Keyed, Rule, StyleSheet};
 use simplecss_index::RuleIndex;
@@ -195,24 +195,6 @@ fn best_places<'a>(
     Ok(places)
 }
 
-/// The declarations of a list that win in it for their names, in the order of the list.
-fn best_of_names<'a>(
-    alloc: Global,
-    declarations: &[Declaration<'a>],
-) -> Result<Vec<Declaration<'a>>, AllocError>
-    ensures { IfOk result (λ all. ListsInOrder (BestForItsName (declarations_of declarations.now))
-        (declarations_of all.items)) }
-{
-    let places = best_places(alloc, declarations)?;
-    let mut all = Vec::new(alloc);
-    for (place, declaration) in declarations.iter().enumerate() {
-        if places.get(declaration.name).copied() == Some(place) {
-            all.push(*declaration)?;
-        }
-    }
-    Ok(all)
-}
-
 /// The declarations that win on the element: for each name the one that `winning` gives, in the
 /// order of their places. The error is that a growth was refused. Each rule is asked once whether
 /// it takes the element, and the time that the rest takes grows as that of sorting the declarations
@@ -232,5 +214,12 @@ pub fn winners<'a, E: Element>(
     ensures names { IfOk result (λ all. HaveOwnNames (declarations_of all.items)) }
 {
     let stated = stated_on(alloc, &sheet.rules, element)?;
-    best_of_names(alloc, &stated)
+    let places = best_places(alloc, &stated)?;
+    let mut all = Vec::new(alloc);
+    for (place, declaration) in stated.iter().enumerate() {
+        if places.get(declaration.name).copied() == Some(place) {
+            all.push(*declaration)?;
+        }
+    }
+    Ok(all)
 }
