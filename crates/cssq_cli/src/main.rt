@@ -2,14 +2,11 @@
 //! declarations win there.
 #![tactic(auto)]
 
-mod notice;
-
 use cssq::command::{Command, USAGE};
 use cssq::runs::{RunFault, run_match, run_selector, run_sheet, run_style};
 use log::Log;
 use log::sink::Writer;
-use notice::Notice;
-use simplecss_faults::{Fault, Reason, find_faults};
+use simplecss_faults::{Notice, tell_faults};
 use std::io::{BufWriter, Read, Stderr, Write};
 use std::process::ExitCode;
 use std::{env, fs, io};
@@ -84,29 +81,11 @@ fn read_files(rt: &HostRuntime, names: &[String]) -> Result<Vec<String>, ExitCod
     Ok(texts)
 }
 
-/// Writes the line of a fault, if it is one that a warning is given of: the file, the row and the
-/// column in it, the text that stands there, and why.
-fn write_fault(out: &mut BufWriter<Stderr>, name: &str, fault: &Fault<'_>) -> io::Result<()> {
-    match fault.reason {
-        Reason::Selector(_) | Reason::PseudoClass | Reason::AtRule => {
-            writeln!(
-                out,
-                "{name}:{}: '{}': {}",
-                fault.pos, fault.text, fault.reason
-            )
-        }
-        Reason::Declaration | Reason::Comment => Ok(()),
-    }
-}
-
 /// Tells on standard error what of a sheet's text was passed over with a warning. Where memory or
 /// standard error is wanting, less is told.
-fn tell_faults(rt: &HostRuntime, name: &str, text: &str) -> io::Result<()> {
+fn tell(rt: &HostRuntime, name: &str, text: &str) -> io::Result<()> {
     let mut out = BufWriter::new(rt.alloc(), rt.stderr())?;
-    let faults = find_faults(rt.alloc(), text)?;
-    for fault in &faults {
-        write_fault(&mut out, name, fault)?;
-    }
+    tell_faults(&mut out, rt.alloc(), name, text)?;
     out.flush()
 }
 
@@ -116,7 +95,7 @@ fn show_texts(rt: &HostRuntime, names: &[String], texts: &[&str]) -> ExitCode {
     let outcome = run_sheet(&notice, rt.alloc(), texts, &mut rt.stdout());
     if notice.is_given() {
         for (name, text) in names.iter().zip(texts.iter()) {
-            let _ = tell_faults(rt, name.as_str(), text);
+            let _ = tell(rt, name.as_str(), text);
         }
     }
     ended(rt, outcome)
@@ -152,7 +131,7 @@ fn show_match(rt: &HostRuntime, file: &str, tree: &str) -> ExitCode {
         &mut rt.stdout(),
     );
     if notice.is_given() {
-        let _ = tell_faults(rt, file, sheet_text.as_str());
+        let _ = tell(rt, file, sheet_text.as_str());
     }
     ended(rt, outcome)
 }
@@ -175,7 +154,7 @@ fn show_style(rt: &HostRuntime, file: &str, tree: &str, name: &str) -> ExitCode 
         &mut rt.stdout(),
     );
     if notice.is_given() {
-        let _ = tell_faults(rt, file, sheet_text.as_str());
+        let _ = tell(rt, file, sheet_text.as_str());
     }
     ended(rt, outcome)
 }

@@ -1,9 +1,10 @@
 //! What of a sheet's text is found to be passed over.
 
-use simplecss::Error;
-use simplecss_faults::{Reason, find_faults};
+use simplecss::{Error, StyleSheet};
+use simplecss_faults::{Notice, Reason, find_faults, tell_faults};
 use std::alloc::{AllocError, Global};
 use std::fmt::Write as _;
+use std::io::Cursor;
 use std::test::Fail;
 
 /// What is found in each text: row and column, the part that is passed over, and why, a line each.
@@ -84,5 +85,49 @@ fn quotes_no_more_than_a_statement(rt: HostRuntime) -> Result<(), Fail> {
         text.push('@')?;
     }
     assert_eq!(rt; quoted(rt.alloc(), text.as_str())?, (20_000, 20_000));
+    Ok(())
+}
+
+/// What is told of each text under the name `x.css`.
+const TOLD: &[(&str, &str)] = &[
+    ("a { }", ""),
+    ("a < b { c:d }", "x.css:1:1: 'a < b': invalid ident\n"),
+    (
+        // The crate gives no warning of a broken declaration, and none of an open comment.
+        "a { b:c; d } e:f { g:h }\n@i; /* j",
+        "x.css:1:14: 'e:f': unknown pseudo-class\nx.css:2:1: '@i': at-rule not supported\n",
+    ),
+];
+
+#[test]
+fn tells_where_warnings_come_from(rt: HostRuntime) -> Result<(), Fail> {
+    for (text, wanted) in TOLD {
+        let mut out = Vec::new(rt.alloc());
+        tell_faults(&mut out, rt.alloc(), "x.css", text)?;
+        assert_eq!(rt; out.as_slice(), wanted.as_bytes(), "at {text:?}");
+    }
+    Ok(())
+}
+
+#[test]
+fn stops_telling_where_the_writer_is_full(rt: HostRuntime) -> Result<(), Fail> {
+    for room in 0..12 {
+        let mut taken = [b'.'; 12];
+        let mut out = Cursor::new(&mut taken[..room]);
+        let told = tell_faults(&mut out, rt.alloc(), "x.css", "a < { b:c }");
+        assert!(rt; told.is_err(), "with {room} bytes of room");
+        assert_eq!(rt; &taken[..room], &b"x.css:1:1: '"[..room]);
+    }
+    Ok(())
+}
+
+#[test]
+fn notices_whether_a_warning_was_given(rt: HostRuntime) -> Result<(), Fail> {
+    for (text, wanted) in [("a { b:c; d }", false), ("a < { b:c }", true)] {
+        let notice = Notice::new();
+        assert_eq!(rt; notice.is_given(), false);
+        StyleSheet::parse(&notice, rt.alloc(), text)?;
+        assert_eq!(rt; notice.is_given(), wanted, "at {text:?}");
+    }
     Ok(())
 }

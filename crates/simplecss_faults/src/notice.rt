@@ -1,4 +1,4 @@
-//! A logger that keeps nothing but whether a warning was given.
+//! Whether a sheet's reading gave a warning: only then are there faults to tell of.
 ghost use Rattle.std.specs.Prelude.{[], Some, true};
 
 use log::kv::Source;
@@ -7,7 +7,7 @@ use log::{Log, Metadata, Record};
 use std::cell::Cell;
 use std::fmt::Display;
 
-/// Whether a warning was given.
+/// A logger that keeps nothing but whether a warning was given.
 #[derive(Drop)]
 pub struct Notice {
     /// A cell, since a logger is told of warnings by a shared reference.
