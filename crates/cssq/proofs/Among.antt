@@ -12,8 +12,8 @@ use Rattle.simplecss.specs.Statements.{StyleRule}
 use Rattle.simplecss.specs.SeenRules.{rule_of, rules_of}
 use Rattle.simplecss.specs.declared.sheet.rules.Rule.{Rule}
 use Rattle.simplecss.specs.Trees.{Tree}
-use Rattle.simplecss_index.specs.Places.{selector_at}
-use Rattle.simplecss_index.specs.Matching.{AreMatches}
+use Rattle.simplecss.specs.SelectorPlaces.{selector_at}
+use Rattle.simplecss.specs.Matching.{AreMatches}
 use Rattle.cssq.specs.Winners.{Wins, IsStated}
 use Rattle.cssq.specs.Candidates.{InRule, IsOutdone}
 use Rattle.cssq.proofs.FromLast.{From, KnownFrom, known_none, known_all, known_skipped, known_passed, known_here, rule_read}

@@ -6,8 +6,8 @@ use Rattle.std.proofs.lemmas.List.Kept.{AllPairs-from_increasing}
 use Rattle.std.proofs.lemmas.List.Elements.{Contains-get_or}
 use Rattle.simplecss.specs.Placements.{HasPlacement}
 use Rattle.simplecss.specs.Statements.{StyleRule}
-use Rattle.simplecss_index.specs.Places.{selector_at, AreThePlaces}
-use Rattle.simplecss_index.specs.Matching.{AreMatches}
+use Rattle.simplecss.specs.SelectorPlaces.{selector_at, AreThePlaces}
+use Rattle.simplecss.specs.Matching.{AreMatches}
 use Rattle.cssq_tree.specs.Nodes.{Spot, page_tree}
 use Rattle.cssq.specs.MatchRuns.{Takes, AreAnswers, numbers_line, IsLineAdded}
 use Rattle.cssq.proofs.FromLast.{before_or_from, here_or_later}

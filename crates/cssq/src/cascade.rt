@@ -11,8 +11,7 @@ ghost use Rattle.cssq.specs.Winners.{ListsInOrder, HaveOwnNames};
 ghost use Rattle.cssq.specs.Candidates.{better_of, InRule, IsCandidate, IsOutdone, IsPassedOver};
 ghost use Rattle.cssq.specs.Candidates.{TellsWhether, HasBestPlaces};
 
-use simplecss::{Declaration, Element, Keyed, Rule, StyleSheet};
-use simplecss_index::RuleIndex;
+use simplecss::{Declaration, Element, Keyed, Rule, RuleIndex, StyleSheet};
 use std::alloc::{AllocError, Global};
 use std::collections::BTreeMap;
 

@@ -7,8 +7,7 @@
 #![tactic(auto)]
 
 use log::sink::Discard;
-use simplecss::{Declaration, DeclarationTokenizer, Rule, StyleSheet};
-use simplecss_index::RuleIndex;
+use simplecss::{Declaration, DeclarationTokenizer, Rule, RuleIndex, StyleSheet};
 use simplecss_tree::{Tree, TreeError};
 use std::alloc::{AllocError, Global};
 use std::process::ExitCode;

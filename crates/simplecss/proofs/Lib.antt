@@ -8,3 +8,11 @@ pub mod BlockLemmas
 pub mod StatementLemmas
 pub mod StatementPlaces
 pub mod RulePlaces
+pub mod Adding
+pub mod Ascending
+pub mod LastPlaces
+pub mod Following
+pub mod Chaining
+pub mod AskedInTurn
+pub mod Candidates
+pub mod Keeping

@@ -3,6 +3,10 @@ pub mod RulePlaces
 pub mod SharedBlocks
 pub mod BlockDepths
 pub mod SheetPlaces
+pub mod SelectorPlaces
+pub mod Matching
+pub mod Chains
+pub mod Lasts
 -- What contracts of the crates below speak of, under the names of this crate.
 pub use Rattle.simplecss_declaration.specs.UntoldFaults
 pub use Rattle.simplecss_declaration.specs.DeclarationTokenizers

@@ -4,8 +4,10 @@
 //! Of texts: what comments and blanks are, and equality of positions, errors and cursors. Of
 //! selectors: their tokens, their components, their keys, printing, equality, and that elements
 //! which mean the same get the same answers. Of sheets: the order of rules, what a rule's place
-//! means, reading a text in pieces, and equality of rules and declarations.
+//! means, reading a text in pieces, and equality of rules and declarations. Of an index: that it
+//! finds what asking each rule finds.
 
+pub use crate::index::laws::answers_law;
 pub use crate::sheet::laws::{
     cutting_law, edition_law, equality_laws, order_laws, place_law, sheet_law,
 };

@@ -13,9 +13,11 @@
 //! ```
 #![tactic(auto)]
 
+mod index;
 pub mod laws;
 mod sheet;
 
+pub use index::RuleIndex;
 pub use sheet::{Rule, Statement, StatementReader, StyleSheet};
 pub use simplecss_declaration::{Declaration, DeclarationTokenizer};
 pub use simplecss_selector::{

@@ -10,11 +10,10 @@ use log::Log;
 use log::sink::{Discard, Memory};
 use simplecss::stream::{is_name_char, is_name_start};
 use simplecss::{
-    AttributeOperator, DeclarationTokenizer, Element, Selector, SelectorTokenizer, StatementReader,
-    StyleSheet, Tests, TextPos,
+    AttributeOperator, DeclarationTokenizer, Element, RuleIndex, Selector, SelectorTokenizer,
+    StatementReader, StyleSheet, Tests, TextPos,
 };
 use simplecss_faults::find_faults;
-use simplecss_index::RuleIndex;
 use simplecss_tree::{Tree, TreeError};
 use std::alloc::{AllocError, Global};
 use std::process::ExitCode;

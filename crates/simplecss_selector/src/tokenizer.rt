@@ -57,24 +57,22 @@ fn attribute_operator<'a>(stream: &mut Stream<'a>) -> Result<AttributeOperator<'
     ensures reads { Gives operator_of (text_of stream.old)
         (operator_read this_edition (rest_of stream.old)) result (rest_of stream.new) }
 {
-    match stream.curr_byte()? {
-        b']' => Ok(AttributeOperator::Exists),
-        b'=' => {
-            stream.consume_byte(b'=')?;
-            Ok(AttributeOperator::Matches(stream.consume_string()?))
+    let first = stream.curr_byte()?;
+    match first {
+        b']' => return Ok(AttributeOperator::Exists),
+        b'=' => {}
+        b'~' | b'|' => {
+            stream.try_consume_byte(first);
         }
-        b'~' => {
-            stream.try_consume_byte(b'~');
-            stream.consume_byte(b'=')?;
-            Ok(AttributeOperator::Contains(stream.consume_string()?))
-        }
-        b'|' => {
-            stream.try_consume_byte(b'|');
-            stream.consume_byte(b'=')?;
-            Ok(AttributeOperator::StartsWith(stream.consume_string()?))
-        }
-        _ => Err(Error::InvalidAttributeSelector),
+        _ => return Err(Error::InvalidAttributeSelector),
     }
+    stream.consume_byte(b'=')?;
+    let value = stream.consume_string()?;
+    Ok(match first {
+        b'~' => AttributeOperator::Contains(value),
+        b'|' => AttributeOperator::StartsWith(value),
+        _ => AttributeOperator::Matches(value),
+    })
 }
 
 /// An attribute's name and what is asked of its value, behind the `[`.

@@ -1,9 +1,8 @@
 //! What an index finds.
 
 use log::sink::Discard;
-use simplecss::{Rule, StyleSheet, Tests};
-use simplecss_index::RuleIndex;
-use simplecss_index::laws::answers_law;
+use simplecss::laws::answers_law;
+use simplecss::{Rule, RuleIndex, StyleSheet, Tests};
 use simplecss_tree::{Node, Tree, TreeError};
 use std::alloc::{AllocError, Global};
 use std::test::Fail;

@@ -1,7 +1,7 @@
 use Rattle.std.proofs.Common.{◌-◌, Some, length, get_or, map, refl, sym, subst, rules, arith}
 use Rattle.simplecss.specs.SeenDeclarations.{declaration_of}
 use Rattle.simplecss.specs.SeenRules.{rules_of}
-use Rattle.simplecss_index.specs.Matching.{AreMatches}
+use Rattle.simplecss.specs.Matching.{AreMatches}
 use Rattle.cssq.specs.Winners.{IsStated, Wins}
 use Rattle.cssq.proofs.FromLast.{From, known_on, important_wins}
 use Rattle.cssq.proofs.Among.{place_within, among_none, among_all, among_passed, among_here}

@@ -1,7 +1,7 @@
 use Rattle.std.proofs.Common.{string_bytes, subst, sym, length, map, ◌^◌, ◌+◌, ◌≤◌, ◌<◌, ◌≡◌, ◌∙◌, MatchOption, rules, arith}
 use Rattle.std.proofs.lemmas.List.{get_or_default, length-map}
 use Rattle.simplecss.specs.SeenRules.{rule_of, rules_of}
-use Rattle.simplecss_index.specs.Matching.{AreMatches}
+use Rattle.simplecss.specs.Matching.{AreMatches}
 use Rattle.cssq_tree.specs.Nodes.{spot, page_tree}
 use Rattle.cssq.proofs.Indexed.{line_added, same_selectors, wanted_at}
 use Rattle.cssq.proofs.MatchLines.{matched_more}

@@ -1,0 +1,147 @@
+-- The last places of keys, and of those that an element tells.
+use Rattle.std.proofs.Common.{◌≡◌, ℕ, ◌↔◌, ◌⊎◌, inl, inr, List, [], ◌∷◌, ◌++◌, Bool, true, false, cond, IsTrue, Option, None, Some, eqb, refl, sym, ap, ◌∙◌, subst, Bor}
+use Rattle.std.specs.Prelude.{bytes_eq, ◌||◌}
+use Rattle.std.specs.BTreeMap.{BTreeMap, UpdatesBy}
+use Rattle.std.specs.Cmp.Lexicographic.{slice_cmp}
+use Rattle.std.specs.List.{Contains, list_any, slice_split}
+use Rattle.std.specs.Ordering.{nat_cmp}
+use Rattle.std.proofs.Math.Bool.{or-true}
+use Rattle.std.proofs.lemmas.Bool.{false≢true}
+use Rattle.std.proofs.lemmas.List.Elements.{Contains-append_left, Contains-append_right, Contains-append_cases, Contains-push, Contains-push_cases}
+use Rattle.std.proofs.lemmas.Map.Text.{btree_map_updates_str}
+use Rattle.std.proofs.lemmas.Slice.Eq.{bytes_eq-Decides}
+use Rattle.simplecss_text.specs.Components.Operator.{equals, has_word}
+use Rattle.simplecss_selector.specs.Keys.{Key, Told, tells_key, is_value_as_asked}
+use Rattle.simplecss_selector.specs.Keys.Key.{by_id, by_class, by_name, by_nothing}
+use Rattle.simplecss.specs.Lasts.{place_for, last_for, TakesPlace, IdLeads, ClassLeads, KeyLeads}
+use Rattle.simplecss.specs.SelectorPlaces.{Adds}
+use Rattle.simplecss.specs.declared.index.lasts.Lasts.{Lasts}
+use Rattle.simplecss.proofs.Adding.{contains_none, contains_one, adds_none, adds_then, adds_as}
+
+-- a change at one text is seen at that text, and leaves the others
+changed_text : (m n : BTreeMap (Bor (List ℕ)) ℕ) (place : ℕ) (text other : List ℕ) → UpdatesBy (λ x y. slice_cmp nat_cmp x.now y.now) (λ k. slice_cmp nat_cmp text k.now) m n (Some place)
+    → ((text ≡ other) × (place_for n other ≡ Some place)) ⊎ ((text ≡ other → ⊥) × (place_for n other ≡ place_for m other))
+changed_text m n place text other updates = at (bytes_eq text other) refl
+  where
+    after : place_for n other ≡ cond (bytes_eq text other) (Some place) (place_for m other)
+    after = btree_map_updates_str text m n (Some place) updates other
+
+    at : (b : Bool) → bytes_eq text other ≡ b → ((text ≡ other) × (place_for n other ≡ Some place)) ⊎ ((text ≡ other → ⊥) × (place_for n other ≡ place_for m other))
+    at true e = inl ((bytes_eq-Decides text other).0 e, after ∙ ap (λ b. cond b (Some place) (place_for m other)) e)
+    at false e = inr (λ same. false≢true (sym e ∙ (bytes_eq-Decides text other).1 same), after ∙ ap (λ b. cond b (Some place) (place_for m other)) e)
+
+-- the same, of a kind of keys
+kind_of : {A B : Type 0} {text other : List ℕ} (kind : List ℕ → Key) → (kind text ≡ kind other → text ≡ other) → ((text ≡ other) × A) ⊎ ((text ≡ other → ⊥) × B) → ((kind text ≡ kind other) × A) ⊎ ((kind text ≡ kind other → ⊥) × B)
+kind_of kind back (inl h) = inl (ap kind h.0, h.1)
+kind_of kind back (inr h) = inr (λ e. h.0 (back e), h.1)
+
+-- a place is put under an id, a class, a name or none of them
+module _ (old : Lasts) (place : ℕ) where
+  pub takes_id : (m : BTreeMap (Bor (List ℕ)) ℕ) (text : List ℕ) → UpdatesBy (λ x y. slice_cmp nat_cmp x.now y.now) (λ k. slice_cmp nat_cmp text k.now) old.ids m (Some place) → TakesPlace old (record { ids = m; classes = old.classes; names = old.names; any = old.any }) (by_id text) place
+  takes_id m text updates (by_id t) = kind_of by_id (λ e. cc) (changed_text old.ids m place text t updates)
+  takes_id m text updates (by_class t) = inr (λ e. cc, refl)
+  takes_id m text updates (by_name t) = inr (λ e. cc, refl)
+  takes_id m text updates by_nothing = inr (λ e. cc, refl)
+
+  pub takes_class : (m : BTreeMap (Bor (List ℕ)) ℕ) (text : List ℕ) → UpdatesBy (λ x y. slice_cmp nat_cmp x.now y.now) (λ k. slice_cmp nat_cmp text k.now) old.classes m (Some place) → TakesPlace old (record { ids = old.ids; classes = m; names = old.names; any = old.any }) (by_class text) place
+  takes_class m text updates (by_id t) = inr (λ e. cc, refl)
+  takes_class m text updates (by_class t) = kind_of by_class (λ e. cc) (changed_text old.classes m place text t updates)
+  takes_class m text updates (by_name t) = inr (λ e. cc, refl)
+  takes_class m text updates by_nothing = inr (λ e. cc, refl)
+
+  pub takes_name : (m : BTreeMap (Bor (List ℕ)) ℕ) (text : List ℕ) → UpdatesBy (λ x y. slice_cmp nat_cmp x.now y.now) (λ k. slice_cmp nat_cmp text k.now) old.names m (Some place) → TakesPlace old (record { ids = old.ids; classes = old.classes; names = m; any = old.any }) (by_name text) place
+  takes_name m text updates (by_id t) = inr (λ e. cc, refl)
+  takes_name m text updates (by_class t) = inr (λ e. cc, refl)
+  takes_name m text updates (by_name t) = kind_of by_name (λ e. cc) (changed_text old.names m place text t updates)
+  takes_name m text updates by_nothing = inr (λ e. cc, refl)
+
+  pub takes_any : TakesPlace old (record { ids = old.ids; classes = old.classes; names = old.names; any = Some place }) by_nothing place
+  takes_any (by_id t) = inr (λ e. cc, refl)
+  takes_any (by_class t) = inr (λ e. cc, refl)
+  takes_any (by_name t) = inr (λ e. cc, refl)
+  takes_any by_nothing = inl (refl, refl)
+
+-- ---- the words of a class
+
+word_test : (ws : List (List ℕ)) (word : List ℕ) → Contains ws word ↔ (list_any (λ part. bytes_eq part word) ws ≡ true)
+word_test [] word = (λ c. absurd (contains_none word c), λ e. absurd (false≢true e))
+word_test (w ∷ ws) word = (there (word_test ws word).0, back (word_test ws word).1 (bytes_eq w word) refl)
+  where
+    there : (Contains ws word → list_any (λ part. bytes_eq part word) ws ≡ true) → Contains (w ∷ ws) word → (bytes_eq w word || list_any (λ part. bytes_eq part word) ws) ≡ true
+    there later h =
+        elim (Contains-append_cases (w ∷ []) ws word h) [
+          | inl x ↦ ap (λ b. b || list_any (λ part. bytes_eq part word) ws) ((bytes_eq-Decides w word).1 ((contains_one w word).0 x))
+          | inr y ↦ ap (λ b. bytes_eq w word || b) (later y) ∙ or-true (bytes_eq w word)
+        ]
+
+    back : (list_any (λ part. bytes_eq part word) ws ≡ true → Contains ws word) → (b : Bool) → bytes_eq w word ≡ b → (b || list_any (λ part. bytes_eq part word) ws) ≡ true → Contains (w ∷ ws) word
+    back later true e h = Contains-append_left (w ∷ []) ws word ((contains_one w word).1 ((bytes_eq-Decides w word).0 e))
+    back later false e h = Contains-append_right (w ∷ []) ws word (later h)
+
+-- the places to which the classes among these lead
+abbrev pub OfClasses : Lasts → List (List ℕ) → ℕ → Type 0
+OfClasses lasts words place = (word : List ℕ) × Contains words word × (last_for lasts (by_class word) ≡ Some place)
+
+pub no_classes : (lasts : Lasts) (places : List ℕ) → Adds places places (OfClasses lasts [])
+no_classes lasts places = adds_none places (OfClasses lasts []) (λ place h. contains_none h.0 h.1)
+
+pub class_more : (lasts : Lasts) (words : List (List ℕ)) (word : List ℕ) (a b c : List ℕ) → Adds a b (OfClasses lasts words) → Adds b c (λ place. last_for lasts (by_class word) ≡ Some place) → Adds a c (OfClasses lasts (words ++ word ∷ []))
+class_more lasts words word a b c before more = adds_as a c (λ place. (there place, back place)) (adds_then a b c before more)
+  where
+    there : (place : ℕ) → OfClasses lasts words place ⊎ (last_for lasts (by_class word) ≡ Some place) → OfClasses lasts (words ++ word ∷ []) place
+    there place (inl h) = (h.0, Contains-append_left words (word ∷ []) h.0 h.1, h.2)
+    there place (inr h) = (word, Contains-push words word, h)
+
+    at : (place : ℕ) (w : List ℕ) → last_for lasts (by_class w) ≡ Some place → Contains words w ⊎ (word ≡ w) → OfClasses lasts words place ⊎ (last_for lasts (by_class word) ≡ Some place)
+    at place w is (inl h) = inl (w, h, is)
+    at place w is (inr e) = inr (ap (λ x. last_for lasts (by_class x)) e ∙ is)
+
+    back : (place : ℕ) → OfClasses lasts (words ++ word ∷ []) place → OfClasses lasts words place ⊎ (last_for lasts (by_class word) ≡ Some place)
+    back place h = at place h.0 h.2 (Contains-push_cases words word h.0 h.1)
+
+pub all_classes : (lasts : Lasts) (words : List (List ℕ)) (value : List ℕ) (a b : List ℕ) → words ≡ slice_split (λ byte. eqb byte 32) value → Adds a b (OfClasses lasts words) → Adds a b (ClassLeads lasts (Some value))
+all_classes lasts words value a b e = adds_as a b (λ place. (
+  λ h. (h.0, subst (λ ws. list_any (λ part. bytes_eq part h.0) ws ≡ true) e ((word_test words h.0).0 h.1), h.2),
+  λ h. (h.0, (word_test words h.0).1 (subst (λ ws. list_any (λ part. bytes_eq part h.0) ws ≡ true) (sym e) h.1), h.2),
+))
+
+-- ---- all keys that are told
+
+module _ (told : Told) (lasts : Lasts) where
+  module _ (place : ℕ) where
+    id_key : (id : Option (List ℕ)) → told.id ≡ id → IdLeads lasts id place → KeyLeads told lasts place
+    id_key None e h = absurd h
+    id_key (Some text) e h = (by_id text, ap (is_value_as_asked (equals text)) e ∙ (bytes_eq-Decides text text).1 refl, h)
+
+    pseudo_class_key : (class : Option (List ℕ)) → told.class ≡ class → ClassLeads lasts class place → KeyLeads told lasts place
+    pseudo_class_key None e h = absurd h
+    pseudo_class_key (Some value) e h = (by_class h.0, ap (is_value_as_asked (has_word h.0)) e ∙ h.1, h.2)
+
+    key_id : (id : Option (List ℕ)) (text : List ℕ) → is_value_as_asked (equals text) id ≡ true → last_for lasts (by_id text) ≡ Some place → IdLeads lasts id place
+    key_id None text has is = absurd (false≢true has)
+    key_id (Some own) text has is = ap (λ x. last_for lasts (by_id x)) ((bytes_eq-Decides own text).0 has) ∙ is
+
+    key_class : (class : Option (List ℕ)) (word : List ℕ) → is_value_as_asked (has_word word) class ≡ true → last_for lasts (by_class word) ≡ Some place → ClassLeads lasts class place
+    key_class None word has is = absurd (false≢true has)
+    key_class (Some value) word has is = (word, has, is)
+
+    keys_told : ((((last_for lasts by_nothing ≡ Some place) ⊎ (last_for lasts (by_name told.name) ≡ Some place)) ⊎ IdLeads lasts told.id place) ⊎ ClassLeads lasts told.class place) ↔ KeyLeads told lasts place
+    keys_told = (there, λ h. back h.0 h.1 h.2)
+      where
+        there : (((last_for lasts by_nothing ≡ Some place) ⊎ (last_for lasts (by_name told.name) ≡ Some place)) ⊎ IdLeads lasts told.id place) ⊎ ClassLeads lasts told.class place → KeyLeads told lasts place
+        there (inl (inl (inl h))) = (by_nothing, refl, h)
+        there (inl (inl (inr h))) = (by_name told.name, (bytes_eq-Decides told.name told.name).1 refl, h)
+        there (inl (inr h)) = id_key told.id refl h
+        there (inr h) = pseudo_class_key told.class refl h
+
+        back : (key : Key) → IsTrue (tells_key told key) → last_for lasts key ≡ Some place → (((last_for lasts by_nothing ≡ Some place) ⊎ (last_for lasts (by_name told.name) ≡ Some place)) ⊎ IdLeads lasts told.id place) ⊎ ClassLeads lasts told.class place
+        back (by_id text) has is = inl (inr (key_id told.id text has is))
+        back (by_class word) has is = inr (key_class told.class word has is)
+        back (by_name other) has is = inl (inl (inr (ap (λ x. last_for lasts (by_name x)) ((bytes_eq-Decides told.name other).0 has) ∙ is)))
+        back by_nothing has is = inl (inl (inl is))
+
+  -- the places of the four kinds of keys were added
+  pub keys_added : (a b c d e : List ℕ) → Adds a b (λ place. last_for lasts by_nothing ≡ Some place) → Adds b c (λ place. last_for lasts (by_name told.name) ≡ Some place)
+      → Adds c d (IdLeads lasts told.id) → Adds d e (ClassLeads lasts told.class) → Adds a e (KeyLeads told lasts)
+  keys_added a b c d e any named by_ids by_classes =
+      adds_as a e keys_told (adds_then a d e (adds_then a c d (adds_then a b c any named) by_ids) by_classes)

@@ -1,0 +1,9 @@
+use Rattle.simplecss.proofs.Following.{Follows, end_of}
+use Rattle.simplecss.proofs.index.find.push_earlier.Given as goal
+
+-- what the chain passed was added
+abbrev pub invariant-back : goal.invariant-back
+invariant-back l = Follows l.rule_index l.place l.initial.places.items l.places.items l.known
+
+abbrev pub decreases-back : goal.decreases-back
+decreases-back l = end_of l.known

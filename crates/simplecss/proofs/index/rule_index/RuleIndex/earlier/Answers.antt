@@ -1,0 +1,6 @@
+use Rattle.simplecss.proofs.Following.{leads}
+use Rattle.simplecss.proofs.index.rule_index.RuleIndex.earlier.Goals as goal
+
+pub returns : goal.returns
+returns c =
+    leads c.self.inside.lasts c.self.inside.links.items c.args.self.now c.args.place c.index.result.now c.self.invariant c.self.view_is c.requires c.index.ensures

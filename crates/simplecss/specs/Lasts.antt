@@ -1,0 +1,42 @@
+-- The last place that each key has.
+use Rattle.std.specs.Prelude.{◌≡◌, ◌⊎◌, ℕ, List, Option, None, Some, IsTrue}
+use Rattle.std.specs.Borrow.{Bor}
+use Rattle.std.specs.BTreeMap.{BTreeMap, get_by}
+use Rattle.std.specs.Ordering.{nat_cmp}
+use Rattle.std.specs.Cmp.Lexicographic.{slice_cmp}
+use Rattle.simplecss_selector.specs.Keys.{Key, Told, tells_key}
+use Rattle.simplecss_selector.specs.Keys.Key.{by_id, by_class, by_name, by_nothing}
+use Rattle.simplecss_selector.specs.Operators.{is_word_of}
+use Rattle.simplecss.specs.declared.index.lasts.Lasts.{Lasts}
+
+-- the place that a map has for a text
+abbrev pub place_for : BTreeMap (Bor (List ℕ)) ℕ → List ℕ → Option ℕ
+place_for places text = get_by (λ key. slice_cmp nat_cmp text key.now) places
+
+-- the last place of a key, if it has one
+abbrev pub last_for : Lasts → Key → Option ℕ
+last_for lasts (by_id text) = place_for lasts.ids text
+last_for lasts (by_class word) = place_for lasts.classes word
+last_for lasts (by_name name) = place_for lasts.names name
+last_for lasts by_nothing = lasts.any
+
+-- the place is now the last of the key, and every other key has the one that it had
+abbrev pub TakesPlace : Lasts → Lasts → Key → ℕ → Type 0
+TakesPlace old new key place = (other : Key)
+    → ((key ≡ other) × (last_for new other ≡ Some place))
+    ⊎ ((key ≡ other → ⊥) × (last_for new other ≡ last_for old other))
+
+-- the id, if there is one, leads to the place
+abbrev pub IdLeads : Lasts → Option (List ℕ) → ℕ → Type 0
+IdLeads lasts None place = ⊥
+IdLeads lasts (Some text) place = last_for lasts (by_id text) ≡ Some place
+
+-- a word of the class, if there is one, leads to the place
+abbrev pub ClassLeads : Lasts → Option (List ℕ) → ℕ → Type 0
+ClassLeads lasts None place = ⊥
+ClassLeads lasts (Some value) place =
+    (word : List ℕ) × IsTrue (is_word_of word value) × (last_for lasts (by_class word) ≡ Some place)
+
+-- a key that is told leads to the place
+abbrev pub KeyLeads : Told → Lasts → ℕ → Type 0
+KeyLeads told lasts place = (key : Key) × IsTrue (tells_key told key) × (last_for lasts key ≡ Some place)

@@ -1,0 +1,37 @@
+-- Which selectors match an element.
+use Rattle.std.specs.Prelude.{◌≡◌, ◌↔◌, ℕ, ◌+◌, ◌*◌, Bool, true, List, length, filter, IsTrue}
+use Rattle.std.specs.List.{AllZip, items_where_true, range_with_len}
+use Rattle.simplecss_text.specs.Components.{Component}
+use Rattle.simplecss_selector.specs.Keys.{Told, tells_key, key_of}
+use Rattle.simplecss_selector.specs.Placements.{HasPlacement, longest_stretch}
+use Rattle.simplecss_selector.specs.Trees.{Tree}
+use Rattle.simplecss.specs.SelectorPlaces.{selector_at, key_at, AreThePlaces}
+
+-- the places are in order, and are exactly those of the selectors that have a placement on the
+-- element
+abbrev pub AreMatches : {Node : Type 0} → Tree Node → Node → List (List Component) → List ℕ → Type 0
+AreMatches tree element selectors =
+    AreThePlaces (λ place. HasPlacement tree (selector_at selectors place) element) (length selectors)
+
+-- the places are in order, and are exactly those of the selectors whose key is told
+abbrev pub AreCandidates : Told → List (List Component) → List ℕ → Type 0
+AreCandidates told selectors =
+    AreThePlaces (λ place. IsTrue (tells_key told (key_at selectors place))) (length selectors)
+
+-- the most tests that asking whether a selector matches takes: for the element and each of its
+-- ancestors one for each component of the longest stretch that child and adjacent steps join
+abbrev pub most_tests : {Node : Type 0} → Tree Node → Node → List Component → ℕ
+most_tests tree element selector = longest_stretch selector * (tree.depth element + 1)
+
+-- the selectors whose key is told
+abbrev pub keyed_for : Told → List (List Component) → List (List Component)
+keyed_for told selectors = filter (λ selector. tells_key told (key_of selector)) selectors
+
+-- the answers tell of each selector whether it has a placement on the element
+abbrev pub AreAnswers : {Node : Type 0} → Tree Node → Node → List (List Component) → List Bool → Type 0
+AreAnswers tree element selectors answers =
+    AllZip (λ answer selector. (answer ≡ true) ↔ HasPlacement tree selector element) answers selectors
+
+-- the places with a yes
+abbrev pub places_with_yes : List Bool → List ℕ
+places_with_yes answers = items_where_true answers (range_with_len 0 (length answers))

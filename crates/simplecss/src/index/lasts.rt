@@ -1,0 +1,66 @@
+//! The last place that each key has.
+ghost use Rattle.std.specs.Prelude.{◌≡◌, IfOk, OnOk, None};
+ghost use Rattle.simplecss_selector.specs.Keys.{Key as KeyValue};
+ghost use Rattle.simplecss_selector.specs.SeenKeys.{key_value};
+ghost use Rattle.simplecss.specs.Lasts.{last_for, TakesPlace};
+
+use simplecss_selector::Key;
+use std::alloc::{AllocError, Global};
+use std::collections::BTreeMap;
+
+/// For each key the place that was the last to be put under it. Each kind of key has a map from its
+/// texts.
+#[derive(Drop)]
+pub(crate) struct Lasts<'a> {
+    /// By the id.
+    ids: BTreeMap<&'a str, usize>,
+    /// By the class.
+    classes: BTreeMap<&'a str, usize>,
+    /// By the type name.
+    names: BTreeMap<&'a str, usize>,
+    /// The place under the key that every element has.
+    any: Option<usize>,
+}
+
+impl<'a> Lasts<'a> {
+    /// No key has a place.
+    pub(crate) fn new(alloc: Global) -> Lasts<'a>
+        ensures { (key : KeyValue) → last_for result key ≡ None }
+    {
+        Lasts {
+            ids: BTreeMap::new(alloc),
+            classes: BTreeMap::new(alloc),
+            names: BTreeMap::new(alloc),
+            any: None,
+        }
+    }
+
+    /// The last place of the key, if it has one.
+    pub(crate) fn get(&self, key: Key<'_>) -> Option<usize>
+        ensures { result ≡ last_for self.now (key_value key.entry) }
+    {
+        match key {
+            Key::Id(text) => self.ids.get(text).copied(),
+            Key::Class(word) => self.classes.get(word).copied(),
+            Key::Name(name) => self.names.get(name).copied(),
+            Key::Any => self.any,
+        }
+    }
+
+    /// Puts the place under the key, and gives the one that was the last there.
+    pub(crate) fn replace(
+        &mut self,
+        key: Key<'a>,
+        place: usize,
+    ) -> Result<Option<usize>, AllocError>
+        ensures known { IfOk result (λ known. known ≡ last_for self.old (key_value key.entry)) }
+        ensures taken { OnOk result (TakesPlace self.old self.new (key_value key.entry) place) }
+    {
+        Ok(match key {
+            Key::Id(text) => self.ids.insert(text, place)?,
+            Key::Class(word) => self.classes.insert(word, place)?,
+            Key::Name(name) => self.names.insert(name, place)?,
+            Key::Any => self.any.replace(place),
+        })
+    }
+}

@@ -1,0 +1,15 @@
+//! Laws of what an index finds, each the contract of a function that does nothing.
+ghost use Rattle.std.specs.Prelude.{◌≡◌, ℕ, List, Bool};
+ghost use Rattle.simplecss_text.specs.Components.{Component};
+ghost use Rattle.simplecss.specs.Matching.{AreMatches, AreAnswers, places_with_yes};
+
+use simplecss_selector::Element;
+
+/// The places that an index finds are those of the selectors that answer yes, where each is asked
+/// in turn. So an index can stand for a loop that asks each.
+pub fn answers_law<E: Element>()
+    ensures { (selectors : List (List Component)) (element : E.Node) (places : List ℕ)
+        → AreMatches E.tree element selectors places
+        → (answers : List Bool) × AreAnswers E.tree element selectors answers
+        × (places ≡ places_with_yes answers) }
+{}

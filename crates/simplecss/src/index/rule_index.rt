@@ -1,0 +1,188 @@
+//! An index of rules by the keys of their selectors.
+ghost use Rattle.std.specs.Prelude.{◌≡◌, ◌+◌, ◌<◌, ◌≤◌, ◌∷◌, ◌++◌, [], None, IfOk, OnOk};
+ghost use Rattle.std.specs.Prelude.{OnErr, length, map};
+ghost use Rattle.std.specs.List.{sum_by};
+ghost use Rattle.simplecss_selector.specs.Keys.{Key};
+ghost use Rattle.simplecss.specs.Chains.{selectors_of, IsLastBefore, AreChained};
+ghost use Rattle.simplecss.specs.Lasts.{last_for};
+ghost use Rattle.simplecss.specs.SelectorPlaces.{key_at};
+ghost use Rattle.simplecss.specs.Matching.{AreMatches, most_tests, keyed_for};
+
+use super::find::candidates;
+use super::keep::keep_matching;
+use super::lasts::Lasts;
+use crate::sheet::Rule;
+use simplecss_selector::{Keyed, Selector, Tests};
+use std::alloc::{AllocError, Global};
+use std::marker::Model;
+use std::snapshot::Snapshot;
+
+/// What an index keeps of a rule.
+#[derive(Drop)]
+struct Link<'a> {
+    /// The place of the last earlier rule with the same key.
+    earlier: Option<usize>,
+    /// The selector, which contracts alone see. It takes no bytes.
+    selector: Snapshot<Selector<'a>>,
+}
+
+impl<'a> Link<'a> {
+    /// The link of a selector.
+    #[inline(always)]
+    fn new(earlier: Option<usize>, selector: &Selector<'a>) -> Link<'a>
+        ensures earlier { result.earlier ≡ earlier }
+        ensures selector { result.selector.value ≡ selector.now }
+    {
+        Link {
+            earlier,
+            selector: Snapshot::of(selector),
+        }
+    }
+}
+
+/// Puts the place behind the links under the selector's key, and there a link to the last earlier
+/// place with that key.
+#[inline(always)]
+fn push_link<'a>(
+    lasts: &mut Lasts<'a>,
+    links: &mut Vec<Link<'a>>,
+    selector: &Selector<'a>,
+) -> Result<(), AllocError>
+    requires { AreChained lasts.old links.old.items }
+    ensures chained { OnOk result (AreChained lasts.new links.new.items) }
+    ensures selectors { OnOk result
+        (selectors_of links.new.items ≡ selectors_of links.old.items ++ selector.now ∷ []) }
+{
+    let earlier = lasts.replace(selector.key(), links.len())?;
+    links.push(Link::new(earlier, selector))?;
+    Ok(())
+}
+
+/// Puts the links of the rules behind the others, in order.
+#[inline(always)]
+fn push_links<'a>(
+    lasts: &mut Lasts<'a>,
+    links: &mut Vec<Link<'a>>,
+    rules: &[Rule<'a>],
+) -> Result<(), AllocError>
+    requires { AreChained lasts.old links.old.items }
+    ensures chained { OnOk result (AreChained lasts.new links.new.items) }
+    ensures selectors { OnOk result (selectors_of links.new.items
+        ≡ selectors_of links.old.items ++ map (λ rule. rule.selector) rules.now) }
+{
+    for rule in rules {
+        push_link(lasts, links, &rule.selector)?;
+    }
+    Ok(())
+}
+
+/// The links of the rules, in order, where no key has a place before.
+#[inline(always)]
+fn links_of<'a>(
+    alloc: Global,
+    lasts: &mut Lasts<'a>,
+    rules: &[Rule<'a>],
+) -> Result<Vec<Link<'a>>, AllocError>
+    requires { (key : Key) → last_for lasts.old key ≡ None }
+    ensures chained { IfOk result (λ links. AreChained lasts.new links.items) }
+    ensures selectors { IfOk result
+        (λ links. selectors_of links.items ≡ map (λ rule. rule.selector) rules.now) }
+{
+    let mut links = Vec::with_capacity(alloc, rules.len())?;
+    push_links(lasts, &mut links, rules)?;
+    Ok(links)
+}
+
+/// An index of rules by the keys of their selectors: it finds the rules that match an element, and
+/// asks only those whose key the element tells.
+///
+/// It keeps places and not the rules, so it may stand beside its sheet in one value. It is of the
+/// rules as they stood when it was made: after an edit of their selectors, or of their number or
+/// order, make another.
+#[derive(Drop)]
+pub struct RuleIndex<'a> {
+    /// The last place of each key.
+    pub(crate) lasts: Lasts<'a>,
+    /// For each rule, in order, how it is chained to the earlier ones.
+    links: Vec<Link<'a>>,
+}
+
+impl<'a> Model for RuleIndex<'a> {
+    ghost use Rattle.std.specs.Prelude.{List, map};
+    ghost use Rattle.simplecss_text.specs.Components.{Component};
+
+    ghost Value = { List (List Component) };
+
+    ghost use Rattle.simplecss.specs.Chains.{selectors_of, AreChained};
+
+    ghost view = { λ index. selectors_of index.links.items };
+
+    ghost invariant = { λ index. AreChained index.lasts index.links.items };
+}
+
+impl<'a> RuleIndex<'a> {
+    /// The index of these rules. The error is that a growth was refused.
+    pub fn new(alloc: Global, rules: &[Rule<'a>]) -> Result<Self, AllocError>
+        ensures { IfOk result (λ index. index ≡ map (λ rule. rule.selector) rules.now) }
+    {
+        let mut lasts = Lasts::new(alloc);
+        let links = links_of(alloc, &mut lasts, rules)?;
+        Ok(RuleIndex { lasts, links })
+    }
+
+    /// The last earlier place with the key of this one, if there is one.
+    #[inline(always)]
+    pub(crate) fn earlier(&self, place: usize) -> Option<usize>
+        requires { place < length self.now }
+        ensures { IsLastBefore self.now place (key_at self.now place) result }
+    {
+        self.links[place].earlier
+    }
+
+    /// The places of the rules that match the element, in order: what asking each rule would give.
+    /// The rules are those that the index was made of.
+    ///
+    /// What stood in `places` is dropped, and what it grows by is all the memory that the call
+    /// takes: it never holds more places than there are rules, or than words in the element's class
+    /// and three. Once it has grown, further calls take none. The error is that a growth was
+    /// refused.
+    pub fn matching<E: Keyed>(
+        &self,
+        rules: &[Rule<'a>],
+        element: &E,
+        places: &mut Vec<usize>,
+    ) -> Result<(), AllocError>
+        requires { self.now ≡ map (λ rule. rule.selector) rules.now }
+        ensures matches { OnOk result
+            (AreMatches E.tree (E.node element.now) self.now places.new.items) }
+        ensures err { OnErr result (places.new.items ≡ []) }
+    {
+        self.matching_counted(rules, element, places, &mut Tests::new())
+    }
+
+    /// `matching`, with a count of the tests that were made. No rule is asked whose key the element
+    /// does not tell.
+    pub fn matching_counted<E: Keyed>(
+        &self,
+        rules: &[Rule<'a>],
+        element: &E,
+        places: &mut Vec<usize>,
+        tests: &mut Tests,
+    ) -> Result<(), AllocError>
+        requires { self.now ≡ map (λ rule. rule.selector) rules.now }
+        ensures matches { OnOk result
+            (AreMatches E.tree (E.node element.now) self.now places.new.items) }
+        ensures at_most { tests.new ≤ tests.old + sum_by (most_tests E.tree (E.node element.now))
+            (keyed_for (E.told element.now) self.now) }
+        ensures err { OnErr result (places.new.items ≡ []) }
+        ensures untested { OnErr result (tests.new ≡ tests.old) }
+    {
+        if let Err(error) = candidates(self, element, places) {
+            places.clear();
+            return Err(error);
+        }
+        let kept = keep_matching(rules, element, places, tests);
+        places.truncate(kept);
+        Ok(())
+    }
+}

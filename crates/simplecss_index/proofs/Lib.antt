@@ -1,8 +1,0 @@
-pub mod Adding
-pub mod Ascending
-pub mod LastPlaces
-pub mod Following
-pub mod Chaining
-pub mod AskedInTurn
-pub mod Candidates
-pub mod Keeping

@@ -1,4 +1,0 @@
-use Rattle.simplecss_index.proofs.find.push_classes.Goals as goal
-
-pub returns-in-Some : goal.returns-in-Some
-returns-in-Some c = rw c.in-Some.is c.push_words.ensures

@@ -1,9 +1,0 @@
-use Rattle.simplecss_index.proofs.Following.{Follows, end_of}
-use Rattle.simplecss_index.proofs.find.push_earlier.Given as goal
-
--- what the chain passed was added
-abbrev pub invariant-back : goal.invariant-back
-invariant-back l = Follows l.rule_index l.place l.initial.places.items l.places.items l.known
-
-abbrev pub decreases-back : goal.decreases-back
-decreases-back l = end_of l.known

@@ -1,8 +1,0 @@
-use Rattle.std.proofs.Common.{map}
-use Rattle.simplecss_index.specs.Places.{Adds}
-use Rattle.simplecss_index.proofs.LastPlaces.{OfClasses}
-use Rattle.simplecss_index.proofs.find.push_words.Given as goal
-
--- the places of the words so far were added
-abbrev pub invariant-loop-word : goal.invariant-loop-word
-invariant-loop-word l = Adds l.initial.places.items l.places.items (OfClasses l.lasts (map (λ word. word.now) l.yielded))

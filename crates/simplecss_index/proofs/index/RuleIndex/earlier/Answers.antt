@@ -1,6 +1,0 @@
-use Rattle.simplecss_index.proofs.Following.{leads}
-use Rattle.simplecss_index.proofs.index.RuleIndex.earlier.Goals as goal
-
-pub returns : goal.returns
-returns c =
-    leads c.self.inside.lasts c.self.inside.links.items c.args.self.now c.args.place c.index.result.now c.self.invariant c.self.view_is c.requires c.index.ensures

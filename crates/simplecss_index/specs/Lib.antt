@@ -1,4 +1,0 @@
-pub mod Places
-pub mod Matching
-pub mod Chains
-pub mod Lasts
