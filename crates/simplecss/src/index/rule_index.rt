@@ -99,6 +99,18 @@ fn links_of<'a>(
 /// It keeps places and not the rules, so it may stand beside its sheet in one value. It is of the
 /// rules as they stood when it was made: after an edit of their selectors, or of their number or
 /// order, make another.
+///
+/// ```rust
+/// let index = RuleIndex::new(alloc, &sheet.rules)?;
+/// let mut places = Vec::new(alloc);
+/// index.matching(&sheet.rules, &element, &mut places)?;
+/// for place in &places {
+///     // sheet.rules[*place]
+/// }
+/// ```
+///
+/// The element is of a type that implements `Keyed`. The places are those that asking each rule
+/// gives (`laws::answers_law`).
 #[derive(Drop)]
 pub struct RuleIndex<'a> {
     /// The last place of each key.
