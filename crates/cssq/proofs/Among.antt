@@ -1,5 +1,6 @@
 -- What wins as the rules that take an element are looked at by their places, from the last to the
 -- first.
+-- Serves `run_style` (the winner among the rules that an index finds).
 use Rattle.std.proofs.Common.{◌≡◌, ℕ, suc, ◌+◌, ◌<◌, ◌≤◌, Bool, true, List, [], length, map, get_or, Option, Some, None, sym, ap, ◌∙◌, subst, arith}
 use Rattle.std.specs.Option.{option_map, is_some}
 use Rattle.std.specs.List.{slice_get}

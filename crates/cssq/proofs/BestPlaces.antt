@@ -1,5 +1,6 @@
 -- The place of what wins for each name of a list, and the winners of a list that is in the order of
 -- the places.
+-- Serves `cascade::winners` (the place of what wins for each name).
 use Rattle.std.proofs.Common.{◌≡◌, ℕ, zero, suc, ◌+◌, ◌<◌, ◌≤◌, ◌⊎◌, inl, inr, ◌↔◌, Bool, true, false, cond, List, [], ◌∷◌, ◌++◌, length, get_or, take, Option, None, Some, IfSome, refl, sym, ap, ◌∙◌, subst, arith, length-take}
 use Rattle.std.specs.Option.{option_map, option_eq}
 use Rattle.std.specs.List.{slice_get, Contains}

@@ -1,4 +1,5 @@
 -- What wins as the rules are looked at from the last to the first.
+-- Serves `cascade::winning` (later rules are looked at first).
 use Rattle.std.proofs.Common.{◌≡◌, ℕ, zero, suc, ◌+◌, ◌<◌, ◌≤◌, ◌⊎◌, inl, inr, ◌↔◌, Bool, true, false, List, length, get_or, Option, None, Some, IfSome, IsNone, refl, sym, ap, ◌∙◌, subst, arith}
 use Rattle.std.specs.Option.{option_map, is_some}
 use Rattle.std.specs.List.{slice_get}

@@ -1,4 +1,5 @@
 -- Words that are no operands of a command.
+-- Serves `Command::of` (which words are a command).
 use Rattle.std.proofs.Common.{◌≡◌, ℕ, ◌<◌, List, [], ◌∷◌, length, None, refl, arith}
 use Rattle.cssq.specs.Command.{match_of, style_of}
 

@@ -1,4 +1,5 @@
 -- The attribute with a key.
+-- Serves `Page::{parent, previous}` and the answers of `Node` (the value of a key).
 use Rattle.std.proofs.Common.{◌≡◌, ℕ, ◌+◌, ◌<◌, List, [], ◌∷◌, length, get_or, refl, sym, ap, ◌∙◌, subst, arith, None, Some, map, IfSome}
 use Rattle.std.specs.List.{position_or_len, slice_get}
 use Rattle.std.proofs.lemmas.List.{drop_all, length-map}

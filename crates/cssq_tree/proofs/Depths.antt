@@ -1,4 +1,5 @@
 -- A depth's digits and what `parse` reads.
+-- Serves `tree::{is_depth, spelled_depth}` (which field is a depth, and of what value).
 use Rattle.std.proofs.Common.{◌≡◌, ℕ, ◌<◌, ◌^◌, Bool, true, false, cond, List, [], ◌∷◌, length, refl, sym, ap, ◌∙◌, subst, arith, get_or, Result, Err, None}
 use Rattle.std.specs.Prelude.{◌&&◌, ◌==◌}
 use Rattle.std.specs.List.{list_all}

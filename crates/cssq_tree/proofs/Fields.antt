@@ -1,4 +1,5 @@
 -- The attribute fields of a line, one after the other.
+-- Serves `Page::read` (the first fault of a line) and the answers of `Node` (the value of a key).
 use Rattle.std.proofs.Common.{◌≡◌, ℕ, suc, ◌+◌, Bool, true, false, cond, List, [], ◌∷◌, ◌++◌, length, take, get_or, refl, sym, ap, ◌∙◌, subst, arith, Option, None, Some, Bor, append_assoc}
 use Rattle.std.specs.Prelude.{bytes_eq, ◌||◌, not}
 use Rattle.std.specs.Option.{unwrap_or}

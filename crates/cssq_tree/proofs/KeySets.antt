@@ -1,4 +1,5 @@
 -- The keys of fields in a set.
+-- Serves `tree::first_fault_by_set` (a key that stands twice).
 use Rattle.std.proofs.Common.{◌≡◌, ℕ, Bool, true, false, cond, List, [], ◌∷◌, ◌++◌, refl, sym, ap, ◌∙◌, Bor, Ordering}
 use Rattle.std.specs.Prelude.{bytes_eq, not, ◌||◌}
 use Rattle.std.specs.List.{list_any}

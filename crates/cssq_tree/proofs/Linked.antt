@@ -1,4 +1,5 @@
 -- The lines that are linked to their parents.
+-- Serves `tree::{link, nearest}` (a line finds its parent and its previous sibling).
 use Rattle.std.proofs.Common.{◌≡◌, ℕ, ◌<◌, ◌≤◌, List, length, get_or, sym, ◌∙◌, subst, arith, Option, None, Some}
 use Rattle.std.specs.Prelude.{nat_le}
 use Rattle.std.proofs.lemmas.List.{length-map, get_or-map}

@@ -1,4 +1,5 @@
 -- The lines of a text that are read one after the other.
+-- Serves `Page::read` (the tree of a text, or its first fault).
 use Rattle.std.proofs.Common.{◌≡◌, ℕ, zero, suc, ◌+◌, ◌<◌, ◌≤◌, List, [], ◌∷◌, ◌++◌, length, take, refl, sym, ap, ◌∙◌, subst, arith, Some, Result, Ok, Err, IfErr, map, append_assoc, append-nil}
 use Rattle.std.specs.List.{All, flat_map, slice_get}
 use Rattle.std.specs.Result.{IsErrAnd}

@@ -42,7 +42,8 @@ enough zero n depths place lt lt' = absurd (omega arith)
 enough (suc m) zero depths place lt lt' = absurd (omega arith)
 enough (suc m) (suc n) depths place lt lt' =
     above_at m depths place (parent_place depths place) refl
-    ∙ above_same m n depths place (parent_place depths place) (parent_within depths place) (λ j before. enough m n depths j (omega arith) (omega arith))
+    ∙ above_same m n depths place (parent_place depths place) (parent_within depths place)
+        (λ j before. enough m n depths j (omega arith) (omega arith))
     ∙ sym (above_at n depths place (parent_place depths place) refl)
 
 counted : (x : Spot) (r : Option ℕ) → parent_place (depths_of x.rows) x.place ≡ r
@@ -75,7 +76,10 @@ same_parent depths i j is =
     let before : j < i = subst (λ r. IfSome r (λ j. j < i)) found.0 (nearest_before depths i) in
     let at : get_or (take i depths) j 0 ≡ get_or depths j 0 = get_or-take i depths j 0 before in
     let front : take j (take i depths) ≡ take j depths = let le : j ≤ i = omega arith in grind (arith, common_steps) in
-    let parent : parent_place depths j ≡ parent_place (take i depths) j = let under = sym at in let list = sym front in (λ k. last_place (λ d. nat_lt d (under k)) (list k)) in
+    let under = sym at in
+    let list = sym front in
+    let parent : parent_place depths j ≡ parent_place (take i depths) j =
+        (λ k. last_place (λ d. nat_lt d (under k)) (list k)) in
     (equal_near (take i depths) (get_or depths i 0) j (parent_place depths j) (sym found.0) (at ∙ found.1) parent).0
 
 shared : (x : Spot) (r : Option ℕ) → previous_place (depths_of x.rows) x.place ≡ r

@@ -11,7 +11,8 @@ use Rattle.cssq_tree.specs.ParentsAndSiblings.{last_place, parent_place}
 abbrev pub IsLast : (ℕ → Bool) → List ℕ → Option ℕ → Type 0
 IsLast test xs r = MatchOption r
     ((k : ℕ) → k < length xs → test (get_or xs k 0) ≡ false)
-    (λ i. (i < length xs) × (test (get_or xs i 0) ≡ true) × ((k : ℕ) → i < k → k < length xs → test (get_or xs k 0) ≡ false))
+    (λ i. (i < length xs) × (test (get_or xs i 0) ≡ true)
+        × ((k : ℕ) → i < k → k < length xs → test (get_or xs k 0) ≡ false))
 
 none_front : (test : ℕ → Bool) (x : ℕ) (xs : List ℕ) → test x ≡ false
     → ((k : ℕ) → k < length xs → test (get_or xs k 0) ≡ false) → (k : ℕ) → k < length (x ∷ xs)
@@ -51,7 +52,8 @@ same_last test xs None (Some j) p q = absurd (both_ways (test (get_or xs j 0)) (
 same_last test xs (Some i) None p q = absurd (both_ways (test (get_or xs i 0)) (q i p.0) p.1)
 same_last test xs (Some i) (Some j) p q =
     ⊎_elim (λ e. ap Some e)
-    (⊎_elim (λ lt. absurd (both_ways (test (get_or xs j 0)) (p.2 j lt q.0) q.1)) (λ lt. absurd (both_ways (test (get_or xs i 0)) (q.2 i lt p.0) p.1)))
+    (⊎_elim (λ lt. absurd (both_ways (test (get_or xs j 0)) (p.2 j lt q.0) q.1))
+        (λ lt. absurd (both_ways (test (get_or xs i 0)) (q.2 i lt p.0) p.1)))
     (cases_order i j)
 
 pub last_place_of : (test : ℕ → Bool) (xs : List ℕ) (r : Option ℕ) → IsLast test xs r → r ≡ last_place test xs
@@ -102,7 +104,8 @@ module _ (depths : List ℕ) (depth i : ℕ) (deeper : IsCandidate depths depth 
 
   onwards : (k : ℕ) → k < length depths → (k < i → depth < get_or depths k 0) → depth < get_or depths k 0
   onwards k within before =
-      ⊎_elim (λ e. subst (λ k. depth < get_or depths k 0) (sym e) above) (⊎_elim before (λ after. deeper.1 k after within)) (cases_order k i)
+      ⊎_elim (λ e. subst (λ k. depth < get_or depths k 0) (sym e) above)
+          (⊎_elim before (λ after. deeper.1 k after within)) (cases_order k i)
 
   parent_deeper : (r : Option ℕ) → IsLast (λ d. nat_lt d (get_or depths i 0)) (take i depths) r
       → IsCandidate depths depth r × (steps_left r < i + 1)
@@ -115,7 +118,8 @@ module _ (depths : List ℕ) (depth i : ℕ) (deeper : IsCandidate depths depth 
       let inside : j < i = (let lt = last.0 in rw (length-take-le i depths) at lt) in (
         (
           omega (arith, inside, le),
-          λ k after within. onwards k within (λ before. between k before (last.2 k after (before_at depths i k deeper.0 before).0)),
+          λ k after within. onwards k within
+              (λ before. between k before (last.2 k after (before_at depths i k deeper.0 before).0)),
         ),
         omega (arith, inside),
       )
@@ -123,4 +127,5 @@ module _ (depths : List ℕ) (depth i : ℕ) (deeper : IsCandidate depths depth 
   pub parent_candidate : (r : Option ℕ) → r ≡ parent_place depths i
       → IsCandidate depths depth r × (steps_left r < i + 1)
   parent_candidate r is =
-      parent_deeper r (subst (λ r. IsLast (λ d. nat_lt d (get_or depths i 0)) (take i depths) r) (sym is) (last_place_is _ (take i depths)))
+      parent_deeper r (subst (λ r. IsLast (λ d. nat_lt d (get_or depths i 0)) (take i depths) r) (sym is)
+          (last_place_is _ (take i depths)))

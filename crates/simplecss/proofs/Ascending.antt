@@ -1,4 +1,5 @@
 -- Numbers in order, by a test that tells them.
+-- Serves `RuleIndex::matching_counted` and `laws::answers_law` (places in order, each once).
 use Rattle.std.proofs.Common.{◌≡◌, ℕ, zero, suc, ◌+◌, ◌<◌, ◌≤◌, ◌↔◌, ◌⊎◌, inl, inr, List, [], ◌∷◌, Bool, true, false, cond, IsTrue, length, map, get_or, refl, sym, ap, ◌∙◌, subst, arith}
 use Rattle.std.specs.List.{Contains, filter, sum_by, range_with_len, items_where_true}
 use Rattle.std.specs.List.Sorted.{IsStrictlyIncreasing}

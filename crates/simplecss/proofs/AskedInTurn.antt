@@ -1,4 +1,5 @@
 -- The answers of selectors that are asked in turn, by the places of those that match.
+-- Serves `laws::answers_law`.
 use Rattle.std.proofs.Common.{◌≡◌, ℕ, suc, ◌+◌, ◌<◌, ◌↔◌, List, [], ◌∷◌, Bool, true, length, map, get_or, nat_eq, sym, ap, ◌∙◌, subst, arith}
 use Rattle.std.specs.List.{AllZip, items_where_true, list_any, range_with_len}
 use Rattle.std.proofs.lemmas.Cmp.{nat_eq_equiv}

@@ -1,4 +1,5 @@
 -- The places of the selectors whose key an element tells.
+-- Serves `RuleIndex::matching_counted` (only rules are asked whose key the element tells).
 use Rattle.std.proofs.Common.{◌≡◌, ℕ, ◌<◌, ◌↔◌, ◌⊎◌, inl, inr, List, [], Option, None, Some, IsTrue, length, get_or, refl, sym, ap, ◌∙◌, subst, arith}
 use Rattle.std.specs.List.{All, Contains, sum_by, range_with_len}
 use Rattle.std.specs.List.Sorted.{IsStrictlyIncreasing}

@@ -1,4 +1,5 @@
 -- Lists that are seen through a function.
+-- Serves `StyleSheet::clone` (each rule is copied).
 use Rattle.std.proofs.Common.{◌≡◌, ℕ, ◌+◌, ◌<◌, List, [], ◌∷◌, ◌++◌, length, get_or, take, map, ap, ◌∙◌, sym}
 use Rattle.std.proofs.lemmas.List.{take_more, map-append}
 

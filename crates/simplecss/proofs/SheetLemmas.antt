@@ -1,4 +1,5 @@
 -- Sheets of several texts.
+-- Serves `StyleSheet::{parse_more, parse_all}` and `laws::sheet_law` (the sheet of the texts).
 use Rattle.std.proofs.Common.{◌≡◌, ℕ, zero, suc, Bool, true, false, cond, ◌&&◌, ◌||◌, ◌==◌, if◌then◌else◌, List, [], ◌∷◌, ◌++◌, length, None, Some, ap, ◌∙◌, sym, subst, refl, append-nil, flat_map, arith}
 use Rattle.std.specs.List.{filter, AllPass}
 use Rattle.std.proofs.lemmas.List.Elements.{filter-append, filter_agree}

@@ -1,4 +1,6 @@
 -- The parts of a rule set's head, its block, and the statements of a text, one at a time.
+-- Serves `StyleSheet::{parse, parse_more}` and `StatementReader::read_next` (a text statement by
+-- statement).
 use Rattle.std.proofs.Common.{◌≡◌, ◌==◌, ◌||◌, not, ℕ, ◌+◌, suc, ◌<◌, List, [], ◌∷◌, ◌++◌, Bool, true, false, if◌then◌else◌, length, Option, Some, None, option_to_list, refl, sym, ap, ◌∙◌, arith, inl, inr, subst, MatchBool, IsTrue, ◌↔◌}
 use Rattle.std.proofs.lemmas.Bool.Decides.{nat_tests}
 use Rattle.std.specs.List.{filter_map, flat_map, prefix_len}

@@ -1,4 +1,5 @@
 -- Where a statement stands, from what is left before it and behind it.
+-- Serves `StatementReader::read_next` (where its statement begins and ends).
 use Rattle.std.proofs.Common.{◌≡◌, ℕ, ◌<◌, ◌≤◌, List, length, drop, Some, None, sym, ap, ◌∙◌, subst, arith, if◌then◌else◌}
 use Rattle.std.specs.Str.{IsCharBoundary}
 use Rattle.std.proofs.lemmas.List.{length-drop}

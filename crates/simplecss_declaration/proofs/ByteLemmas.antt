@@ -1,4 +1,6 @@
 -- Bytes that stand in front, and runs of them.
+-- Serves `digits::{digits_len, hex_digits_len}` and `terms::pass_number` (numbers), and
+-- `reader::{pass_semicolons, take_importance}`.
 use Rattle.std.proofs.Common.{◌≡◌, ◌<◌, ℕ, List, [], ◌∷◌, true, false, refl, arith}
 use Rattle.std.proofs.lemmas.Bool.Decides.{nat_tests}
 use Rattle.simplecss_text.specs.Bytes.{starts, past_one, past_byte, is_digit, is_neither}

@@ -1,4 +1,5 @@
 -- The declarations of a text, one at a time.
+-- Serves `next` of `DeclarationTokenizer` (the first declaration and the others).
 use Rattle.std.proofs.Common.{◌≡◌, ℕ, List, [], ◌∷◌, None, refl, ap}
 use Rattle.simplecss_text.specs.Reading.{Reading, got, fails, found, each}
 use Rattle.simplecss_text.specs.Characters.{Edition}

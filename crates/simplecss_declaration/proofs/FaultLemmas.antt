@@ -1,4 +1,5 @@
 -- Readings that fail.
+-- Serves `reader::take_value` (a term that fails, fails the value).
 use Rattle.std.proofs.Common.{◌≡◌, ℕ, List, Bool, true, false, sym, ap}
 use Rattle.simplecss_text.specs.Reading.{Fault, Reading, got, fails}
 use Rattle.simplecss_declaration.specs.UntoldFaults.{FailsAt, Passes}

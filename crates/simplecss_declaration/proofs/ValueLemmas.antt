@@ -1,4 +1,5 @@
 -- A value, a term at a time, and semicolons.
+-- Serves `reader::{take_value, consume_declaration, pass_semicolons}` (a value term by term).
 use Rattle.std.proofs.Common.{◌≡◌, ℕ, ◌<◌, ◌-◌, List, [], ◌∷◌, Bool, true, false, length, take, refl, sym, ap, ◌∙◌, subst, arith, length-take-le, slice_range}
 use Rattle.std.specs.Str.{trim, IsUtf8, IsCharBoundary}
 use Rattle.std.proofs.lemmas.Str.{IsCharBoundary-at_seam}

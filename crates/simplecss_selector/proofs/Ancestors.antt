@@ -1,4 +1,5 @@
 -- Ancestors, and what a step up keeps of them.
+-- Serves `Selector::{matches, matches_counted}`, `laws::same_meanings_law` and `laws::key_law`.
 use Rattle.std.proofs.Common.{◌≡◌, Option, Some, None, sym, ◌∙◌, ◌⊎◌, inl, inr, subst, IsTrue}
 use Rattle.std.proofs.lemmas.Bool.{false≢true}
 use Rattle.simplecss_text.specs.Components.{Combinator}

@@ -1,4 +1,5 @@
 -- Counts over flat lists.
+-- Serves `Selector::specificity` (ids, classes and names are counted in flat lists).
 use Rattle.std.proofs.Common.{◌≡◌, ℕ, ◌+◌, List, [], ◌∷◌, ◌++◌, Bool, true, false, Option, Some, None, length, drop, map, refl, sym, ap, ◌∙◌, arith, cond, not, is_some, sum_by, count_by}
 use mir.Val.{bool_byte}
 use Rattle.std.proofs.lemmas.List.{drop_all}

@@ -1,4 +1,5 @@
 -- Filling a draft role by role gives the selector of the roles.
+-- Serves `Selector::{parse, parse_front}` (the tokens of a text give its selector).
 use Rattle.std.proofs.Common.{◌≡◌, ℕ, true, Option, Some, None, is_some, List, [], ◌∷◌, ◌++◌, refl, sym, ap, ◌∙◌, append_assoc, append-nil, map}
 use Rattle.simplecss_text.specs.Components.{Component}
 use Rattle.simplecss_text.specs.Selectors.{Part, Role, Outcome, with_role, after_role, cut, type_among, subselectors_among, component_of, components_of, selector_of}

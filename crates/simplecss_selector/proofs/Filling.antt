@@ -1,4 +1,5 @@
 -- The flat lists of a selector as it is filled.
+-- Serves `draft::Draft` (a token more in each of its lists).
 use Rattle.std.proofs.Common.{◌≡◌, ◌≢◌, ℕ, zero, suc, ◌+◌, ◌-◌, ◌<◌, ◌≤◌, List, [], ◌∷◌, ◌++◌, None, length, get_or, drop, map, refl, sym, ap, ◌∙◌, arith}
 use Rattle.std.proofs.Math.Decide.{dec_lt}
 use Rattle.std.proofs.lemmas.List.{take-append-le, drop-append-le, map-append, length-append, get_or_append_left, get_or_at}

@@ -1,4 +1,5 @@
 -- What a call of a tokenizer gives is the first item of its sequence.
+-- Serves `next` of `SelectorTokenizer` (what is given, and what is still to come).
 use Rattle.std.proofs.Common.{◌≡◌, ℕ, List, ◌∷◌, Bool, true, false, Option, Some, None, Result, Ok, Err, ◌⊎◌, inl, inr, refl, sym, ap, ◌∙◌, subst, map, IsUtf8, length, arith}
 use Rattle.std.specs.Prelude.{⊤}
 use Rattle.std.specs.Iterator.{YieldsFirstBy, MakesProgress, item_count}

@@ -1,4 +1,6 @@
 -- The components that the lists of a selector stand for.
+-- Serves `draft::Draft`, `==` of selectors, and `Selector::{combinator, component, last_place,
+-- len}` (lists seen as components).
 use Rattle.std.proofs.Common.{◌≡◌, ℕ, zero, suc, ◌+◌, ◌-◌, sub-one, ◌<◌, ◌≤◌, List, [], ◌∷◌, ◌++◌, length, get_or, refl, ap, sym, ◌∙◌, subst, arith}
 use Rattle.std.specs.List.{slice_range}
 use Rattle.std.proofs.lemmas.List.{length-append}

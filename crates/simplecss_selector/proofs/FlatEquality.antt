@@ -1,4 +1,5 @@
 -- Selectors kept in flat lists are equal exactly if their components are.
+-- Serves `==` of selectors and `laws::operator_equality_laws`.
 use Rattle.std.proofs.Common.{◌≡◌, ℕ, zero, suc, ◌+◌, ◌-◌, ◌≤◌, List, [], ◌∷◌, ◌++◌, Bool, ◌&&◌, Option, Some, None, length, drop, take, map, refl, sym, ap, ◌∙◌, arith, eqb, flat_map, Bor}
 use Rattle.std.specs.Bool.{Decides}
 use Rattle.std.specs.Cmp.Derive.Mapped.{pointwise-map}

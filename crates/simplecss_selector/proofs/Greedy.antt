@@ -1,4 +1,5 @@
 -- Placing a stretch at the nearest node that fits loses nothing.
+-- Serves `Selector::{matches, matches_counted}` (no placement is missed).
 use Rattle.std.proofs.Common.{refl, ◌≡◌, ℕ, zero, suc, ◌+◌, ◌<◌, ◌≤◌, ◌↔◌, List, [], ◌∷◌, length, IsTrue, arith, Some, None, sym, ◌∙◌, add-one, subst}
 use Rattle.std.proofs.Math.Seq.{take-length}
 use Rattle.std.proofs.lemmas.Bool.{false≢true}

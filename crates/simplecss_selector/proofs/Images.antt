@@ -1,5 +1,6 @@
 -- Where a map of nodes keeps what they mean, a selector has a placement on a node exactly if it has
 -- one on its image.
+-- Serves `laws::same_meanings_law`.
 use Rattle.std.proofs.Common.{◌≡◌, ℕ, ◌↔◌, List, [], ◌∷◌, Option, Some, None, refl, sym, ap, ◌∙◌, get_or}
 use Rattle.std.specs.Option.{option_map}
 use Rattle.simplecss_text.specs.Components.{Component, Compound, Subselector, Combinator}

@@ -1,4 +1,5 @@
 -- An element that a selector matches has the selector's key.
+-- Serves `laws::key_law`.
 use Rattle.std.proofs.Common.{◌≡◌, ℕ, suc, ◌-◌, ◌<◌, List, [], ◌∷◌, Option, Some, None, Bool, true, false, IsTrue, length, refl, ◌∙◌, ap, subst, arith, All}
 use Rattle.std.specs.Prelude.{bytes_eq, codes, if◌then◌else◌}
 use Rattle.std.specs.Option.{option_or}

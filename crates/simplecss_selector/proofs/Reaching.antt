@@ -1,4 +1,5 @@
 -- A placement exists exactly if the components can be placed from the last one on.
+-- Serves `Selector::{matches, matches_counted}`, `laws::same_meanings_law` and `laws::key_law`.
 use Rattle.std.proofs.Common.{◌≡◌, ℕ, suc, ◌<◌, List, [], ◌∷◌, ◌++◌, length, take, refl, ◌∙◌, ap, subst}
 use Rattle.std.proofs.Math.Seq.{take-suc}
 use Rattle.simplecss_text.specs.Components.{Component}

@@ -1,4 +1,5 @@
 -- Single steps of the search for a placement.
+-- Serves `matching::{climb, place_stretch}` (a step more of a search).
 use Rattle.simplecss_selector.specs.declared.matching.Fit.{Fit}
 use Rattle.simplecss_selector.specs.declared.matching.Fit.TheVariants.{Misfit, Alone, Whole, Rest}
 use Rattle.std.proofs.Common.{◌≡◌, ℕ, ◌+◌, arith, Option, Some, None, ap, sym, ◌∙◌, Bor}

@@ -1,4 +1,6 @@
 -- The ends of stretches, as a selector is filled and as it is searched.
+-- Serves `draft::Draft` (the ends are kept) and `matching::{climb, goes_on}` (they are gone
+-- through).
 use Rattle.std.proofs.Common.{◌≡◌, ◌≢◌, ℕ, zero, suc, ◌+◌, ◌-◌, ◌<◌, ◌≤◌, ◌↔◌, List, [], ◌∷◌, ◌++◌, ◌⊎◌, inl, inr, Option, Some, None, length, get_or, refl, add-one, sub-one, sym, ap, ◌∙◌, arith, IsTrue}
 use Rattle.std.proofs.Math.Decide.{dec_lt}
 use Rattle.std.proofs.lemmas.List.{length-append, get_or_append_left, get_or_at, get_or_default}

@@ -1,4 +1,5 @@
 -- The words of a text: what stands between its spaces, and the test for one of them.
+-- Serves `AttributeOperator::matches` (the test for a word).
 use Rattle.std.proofs.Common.{◌≡◌, ◌≢◌, ℕ, zero, suc, ◌+◌, ◌<◌, ◌≤◌, ◌==◌, ◌↔◌, List, [], ◌∷◌, ◌++◌, take, drop, add-one, eqb-true, eq-eqb, ◌⊎◌, inl, inr, length, get_or, refl, sym, ap, ◌∙◌, subst, arith, append_assoc, append-nil, Bool, true, false}
 use Rattle.std.proofs.Math.Seq.{drop-cons}
 use Rattle.std.specs.Prelude.{bytes_eq, ◌||◌}

@@ -141,7 +141,8 @@ component_decides a b =
           let q : a.compound.name ≡ b.compound.name = n.0 (and_left y z (and_right x (y && z) h)) in
           let r : a.compound.subselectors ≡ b.compound.subselectors = s.0 (and_right y z (and_right x (y && z) h)) in
           λ i. record { combinator = p i; compound = record { name = q i; subselectors = r i } }),
-      (λ e. and_both x (y && z) (c.1 (λ i. (e i).combinator)) (and_both y z (n.1 (λ i. (e i).compound.name)) (s.1 (λ i. (e i).compound.subselectors)))),
+      (λ e. and_both x (y && z) (c.1 (λ i. (e i).combinator))
+          (and_both y z (n.1 (λ i. (e i).compound.name)) (s.1 (λ i. (e i).compound.subselectors)))),
     )
 
 pub selector_decides : (a b : List Component) → Decides (selector_eq a b) (a ≡ b)

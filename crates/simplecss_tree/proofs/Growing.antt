@@ -1,4 +1,5 @@
 -- What entries say of last children, where one more stands behind them.
+-- Serves `Tree::{push, set_attribute, set_states}` (what an entry more makes of the tree).
 use Rattle.std.proofs.Common.{◌≡◌, ◌≢◌, ℕ, zero, suc, ◌<◌, Bool, true, false, List, [], ◌∷◌, ◌++◌, length, map, get_or, set, Option, None, Some, refl, sym, ap, ◌∙◌, arith}
 use Rattle.std.specs.Prelude.{nat_eq, if◌then◌else◌}
 use Rattle.std.specs.Option.{option_eq}

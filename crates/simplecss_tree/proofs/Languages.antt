@@ -1,4 +1,5 @@
 -- The language of an element that names none is its parent's.
+-- Serves `Tree::language`.
 use Rattle.std.proofs.Common.{◌≡◌, ℕ, List, None, Some, ap, ◌∙◌}
 use Rattle.std.specs.Prelude.{codes}
 use Rattle.std.specs.Option.{option_or}
