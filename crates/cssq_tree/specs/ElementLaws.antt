@@ -43,7 +43,7 @@ enough (suc m) zero depths place lt lt' = absurd (omega arith)
 enough (suc m) (suc n) depths place lt lt' =
     above_at m depths place (parent_place depths place) refl
     ∙ above_same m n depths place (parent_place depths place) (parent_within depths place)
-        (λ j before. enough m n depths j (omega arith) (omega arith))
+    (λ j before. enough m n depths j (omega arith) (omega arith))
     ∙ sym (above_at n depths place (parent_place depths place) refl)
 
 counted : (x : Spot) (r : Option ℕ) → parent_place (depths_of x.rows) x.place ≡ r
@@ -79,7 +79,7 @@ same_parent depths i j is =
     let under = sym at in
     let list = sym front in
     let parent : parent_place depths j ≡ parent_place (take i depths) j =
-        (λ k. last_place (λ d. nat_lt d (under k)) (list k)) in
+    (λ k. last_place (λ d. nat_lt d (under k)) (list k)) in
     (equal_near (take i depths) (get_or depths i 0) j (parent_place depths j) (sym found.0) (at ∙ found.1) parent).0
 
 shared : (x : Spot) (r : Option ℕ) → previous_place (depths_of x.rows) x.place ≡ r

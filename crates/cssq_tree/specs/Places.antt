@@ -12,7 +12,7 @@ abbrev pub IsLast : (ℕ → Bool) → List ℕ → Option ℕ → Type 0
 IsLast test xs r = MatchOption r
     ((k : ℕ) → k < length xs → test (get_or xs k 0) ≡ false)
     (λ i. (i < length xs) × (test (get_or xs i 0) ≡ true)
-        × ((k : ℕ) → i < k → k < length xs → test (get_or xs k 0) ≡ false))
+    × ((k : ℕ) → i < k → k < length xs → test (get_or xs k 0) ≡ false))
 
 none_front : (test : ℕ → Bool) (x : ℕ) (xs : List ℕ) → test x ≡ false
     → ((k : ℕ) → k < length xs → test (get_or xs k 0) ≡ false) → (k : ℕ) → k < length (x ∷ xs)
@@ -53,7 +53,7 @@ same_last test xs (Some i) None p q = absurd (both_ways (test (get_or xs i 0)) (
 same_last test xs (Some i) (Some j) p q =
     ⊎_elim (λ e. ap Some e)
     (⊎_elim (λ lt. absurd (both_ways (test (get_or xs j 0)) (p.2 j lt q.0) q.1))
-        (λ lt. absurd (both_ways (test (get_or xs i 0)) (q.2 i lt p.0) p.1)))
+    (λ lt. absurd (both_ways (test (get_or xs i 0)) (q.2 i lt p.0) p.1)))
     (cases_order i j)
 
 pub last_place_of : (test : ℕ → Bool) (xs : List ℕ) (r : Option ℕ) → IsLast test xs r → r ≡ last_place test xs
@@ -105,7 +105,7 @@ module _ (depths : List ℕ) (depth i : ℕ) (deeper : IsCandidate depths depth 
   onwards : (k : ℕ) → k < length depths → (k < i → depth < get_or depths k 0) → depth < get_or depths k 0
   onwards k within before =
       ⊎_elim (λ e. subst (λ k. depth < get_or depths k 0) (sym e) above)
-          (⊎_elim before (λ after. deeper.1 k after within)) (cases_order k i)
+      (⊎_elim before (λ after. deeper.1 k after within)) (cases_order k i)
 
   parent_deeper : (r : Option ℕ) → IsLast (λ d. nat_lt d (get_or depths i 0)) (take i depths) r
       → IsCandidate depths depth r × (steps_left r < i + 1)
@@ -128,4 +128,4 @@ module _ (depths : List ℕ) (depth i : ℕ) (deeper : IsCandidate depths depth 
       → IsCandidate depths depth r × (steps_left r < i + 1)
   parent_candidate r is =
       parent_deeper r (subst (λ r. IsLast (λ d. nat_lt d (get_or depths i 0)) (take i depths) r) (sym is)
-          (last_place_is _ (take i depths)))
+      (last_place_is _ (take i depths)))

@@ -72,7 +72,7 @@ module _ (ds : List ℕ) (d : ℕ) where
       let le : i ≤ length ds = omega arith in
       let few : IfSome (nearest_place ds i) (λ j. j < length ds) =
       within_longer (nearest_place ds i) (length (take i ds)) (length ds) (rw (length-take-le i ds) le)
-          (nearest_within (λ x. nat_le x (get_or ds i 0)) (take i ds)) in
+      (nearest_within (λ x. nat_le x (get_or ds i 0)) (take i ds)) in
       previous_is (ds ++ d ∷ []) i
       ∙ (λ k. equal_at (ds ++ d ∷ []) (at_old ds d i within k) (nearest_old ds d i within k))
       ∙ equal_old ds d (get_or ds i 0) (nearest_place ds i) few
@@ -155,20 +155,21 @@ module _ (ds : List ℕ) (d : ℕ) where
   equal_near i r is e parent =
       let last : IsLast (λ x. nat_le x d) ds (Some i) = subst (IsLast (λ x. nat_le x d) ds) (sym is) (last_place_is _ ds) in
       let found : IsLast (λ x. nat_lt x (get_or ds i 0)) (take i ds) r =
-          subst (IsLast (λ x. nat_lt x (get_or ds i 0)) (take i ds)) (sym parent)
-              (last_place_is _ (take i ds)) in
-      (last_place_of _ ds r (parent_of_equal i r last e found),
-          sym (ap (λ b. cond b (Some i) None) (eq_test _ d e)) ∙ ap (equal_at ds d) is)
+      subst (IsLast (λ x. nat_lt x (get_or ds i 0)) (take i ds)) (sym parent)
+      (last_place_is _ (take i ds)) in (
+        last_place_of _ ds r (parent_of_equal i r last e found),
+        sym (ap (λ b. cond b (Some i) None) (eq_test _ d e)) ∙ ap (equal_at ds d) is,
+      )
 
 pub parent_within : (ds : List ℕ) (i : ℕ) → IfSome (parent_place ds i) (λ j. j < i)
 parent_within ds i =
     within_longer (parent_place ds i) (length (take i ds)) i (omega (arith, length-take i ds))
-        (nearest_within (λ x. nat_lt x (get_or ds i 0)) (take i ds))
+    (nearest_within (λ x. nat_lt x (get_or ds i 0)) (take i ds))
 
 pub nearest_before : (ds : List ℕ) (i : ℕ) → IfSome (nearest_place ds i) (λ j. j < i)
 nearest_before ds i =
     within_longer (nearest_place ds i) (length (take i ds)) i (omega (arith, length-take i ds))
-        (nearest_within (λ x. nat_le x (get_or ds i 0)) (take i ds))
+    (nearest_within (λ x. nat_le x (get_or ds i 0)) (take i ds))
 
 kept : (b : Bool) (i j : ℕ) → j < i → IfSome (cond b (Some j) None) (λ j. j < i)
 kept true i j lt = lt
@@ -182,4 +183,4 @@ equal_within ds depth i (Some j) within = kept (get_or ds j 0 == depth) i j with
 pub previous_within : (ds : List ℕ) (i : ℕ) → IfSome (previous_place ds i) (λ j. j < i)
 previous_within ds i =
     subst (λ r. IfSome r (λ j. j < i)) (sym (previous_is ds i))
-        (equal_within ds (get_or ds i 0) i (nearest_place ds i) (nearest_before ds i))
+    (equal_within ds (get_or ds i 0) i (nearest_place ds i) (nearest_before ds i))

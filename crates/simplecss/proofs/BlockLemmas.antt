@@ -1,5 +1,5 @@
 -- Blocks, a declaration at a time.
--- Serves `blocks::{closing_place, block_end, consume_declarations}` (where a block ends).
+-- Serves `sheet::blocks::{closing_place, block_end, consume_declarations}` (where a block ends).
 use Rattle.std.proofs.Common.{◌≡◌, ℕ, ◌+◌, ◌-◌, ◌<◌, ◌≤◌, ◌==◌, ◌&&◌, List, [], Bool, true, false, cond, length, take, drop, get_or, slice_index, None, Some, refl, sym, ap, ◌∙◌, arith, eq-eqb, eqb-true, if◌then◌else◌, length-drop, nat_lt, ltb-true, ltb-false}
 use Rattle.std.proofs.lemmas.List.{get_or-drop, get_or-take, take-take, drop-take, length-take, length-take-le, take_rest}
 use Rattle.std.proofs.lemmas.List.Sums.{sum_by-take-drop}

@@ -1,6 +1,6 @@
 -- The last places of keys, and of those that an element tells.
--- Serves `lasts::Lasts` (a key takes a place) and `RuleIndex::matching_counted` (the keys that an
--- element tells).
+-- Serves `index::lasts::Lasts` (a key takes a place) and `RuleIndex::matching_counted` (the keys that
+-- an element tells).
 use Rattle.std.proofs.Common.{◌≡◌, ℕ, ◌↔◌, ◌⊎◌, inl, inr, List, [], ◌∷◌, ◌++◌, Bool, true, false, cond, IsTrue, Option, None, Some, eqb, refl, sym, ap, ◌∙◌, subst, Bor}
 use Rattle.std.specs.Prelude.{bytes_eq, ◌||◌}
 use Rattle.std.specs.BTreeMap.{BTreeMap, UpdatesBy}

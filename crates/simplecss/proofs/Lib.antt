@@ -1,4 +1,3 @@
-pub use Rattle.simplecss_selector.proofs.KeyLemmas
 pub use Rattle.simplecss_text.proofs.printed.StyledWrites
 pub mod Joins
 pub mod ListLemmas

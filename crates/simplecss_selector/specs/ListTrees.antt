@@ -113,7 +113,7 @@ module _ {Rows : Type 0} (list : ListOf Rows) where
   counted : (rows : Rows) (i : ℕ) (r : Option ℕ)
       → ancestors (list.parent rows) i ≡ with_those_above (ancestors (list.parent rows)) r
       → MatchOption (option_map (spot rows) r) ((list_tree list).depth (rows, i) ≡ 0)
-          (λ s. (list_tree list).depth (rows, i) ≡ (list_tree list).depth s + 1)
+      (λ s. (list_tree list).depth (rows, i) ≡ (list_tree list).depth s + 1)
   counted rows i None is = ap length is
   counted rows i (Some p) is = ap length is ∙ omega arith
 
@@ -130,14 +130,14 @@ module _ {Rows : Type 0} (list : ListOf Rows) where
   kept_sharing : (rows : Rows) (parent : Option ℕ) (s : ℕ) (b : Bool)
       → option_eq nat_eq (parent_place list rows s) parent ≡ b
       → IfSome (option_map (spot rows) (cond b (Some s) None))
-          (λ n. option_map (spot n.0) (parent_place list n.0 n.1) ≡ option_map (spot rows) parent)
+      (λ n. option_map (spot n.0) (parent_place list n.0 n.1) ≡ option_map (spot rows) parent)
   kept_sharing rows parent s true is =
       ap (option_map (spot rows)) (same_place (parent_place list rows s) parent is)
   kept_sharing rows parent s false is = tt
 
   sharing : (rows : Rows) (parent r : Option ℕ)
       → IfSome (option_map (spot rows) (with_parent (list.parent rows) parent r))
-          (λ n. option_map (spot n.0) (parent_place list n.0 n.1) ≡ option_map (spot rows) parent)
+      (λ n. option_map (spot n.0) (parent_place list n.0 n.1) ≡ option_map (spot rows) parent)
   sharing rows parent None = tt
   sharing rows parent (Some s) =
       kept_sharing rows parent s (option_eq nat_eq (parent_place list rows s) parent) refl

@@ -43,7 +43,7 @@ pub fn spaces_len(text: &str) -> usize
     space_count(text.as_bytes())
 }
 
-/// Whether `/*` stands at the front.
+/// Whether `/*` stands at the front of the bytes.
 #[inline(always)]
 fn starts_comment(bytes: &[u8]) -> bool
     ensures { result ≡ opens_comment_of bytes.now }

@@ -119,8 +119,8 @@ fn push_all_earlier(rule_index: &RuleIndex<'_>, places: &mut Vec<usize>) -> Resu
 }
 
 /// Leaves the places of the rules whose key the element tells, in order. A word that the
-/// element's class repeats costs no more than its own last place, which is dropped before the
-/// chains are followed.
+/// element's class repeats costs one look-up and one place more, and that place is dropped before
+/// the chains are followed.
 pub(crate) fn candidates<E: Keyed>(
     rule_index: &RuleIndex<'_>,
     element: &E,

@@ -155,9 +155,9 @@ impl<'a> RuleIndex<'a> {
     /// The rules are those that the index was made of.
     ///
     /// What stood in `places` is dropped, and what it grows by is all the memory that the call
-    /// takes: it never holds more places than there are rules, or than words in the element's class
-    /// and three. Once it has grown, further calls take none. The error is that a growth was
-    /// refused.
+    /// takes: it never holds more places than the greater of the number of rules and the number of
+    /// words in the element's class and three. Once it has grown, further calls take none. The error
+    /// is that a growth was refused.
     pub fn matching<E: Keyed>(
         &self,
         rules: &[Rule<'a>],
