@@ -132,48 +132,56 @@ fn tree_of(alloc: Global, words: &str) -> Result<String, Fail> {
     Ok(text)
 }
 
+/// A selector by names and one by classes, the words of a tree, the answer, how many tests are
+/// made, and two bounds of them.
+const COUNTS: &[(&str, &str, &str, bool, u64, (u64, u64))] = &[
+    ("a > b c", ".a > .b .c", "a b x b c", true, 6, (15, 10)),
+    ("a b + c", ".a .b + .c", "a x b + c", true, 4, (9, 6)),
+    ("b + c", ".b + .c", "b + x + c", false, 2, (2, 2)),
+    (
+        "y a a c",
+        ".y .a .a .c",
+        "a a a a a a a a a a c",
+        false,
+        11,
+        (44, 11),
+    ),
+    (
+        "a > b > c d",
+        ".a > .b > .c .d",
+        "a b c x b c d",
+        true,
+        9,
+        (28, 21),
+    ),
+    ("y a > a b", ".y .a > .a .b", "a a b", false, 3, (12, 6)),
+];
+
+/// What a run tells that has made these tests, of names or of classes.
+fn run_with(answer: bool, names: u64, attributes: u64) -> Run {
+    Run {
+        answer,
+        names,
+        attributes,
+        classes: 0,
+    }
+}
+
 #[test]
 fn counts_tests(rt: HostRuntime) -> Result<(), Fail> {
-    for (by_names, by_classes, tree, answer, tests, bounds) in [
-        ("a > b c", ".a > .b .c", "a b x b c", true, 6, (15, 10)),
-        ("a b + c", ".a .b + .c", "a x b + c", true, 4, (9, 6)),
-        ("b + c", ".b + .c", "b + x + c", false, 2, (2, 2)),
-        (
-            "y a a c",
-            ".y .a .a .c",
-            "a a a a a a a a a a c",
-            false,
-            11,
-            (44, 11),
-        ),
-        (
-            "a > b > c d",
-            ".a > .b > .c .d",
-            "a b c x b c d",
-            true,
-            9,
-            (28, 21),
-        ),
-        ("y a > a b", ".y .a > .a .b", "a a b", false, 3, (12, 6)),
-    ] {
+    for &(by_names, by_classes, tree, answer, tests, bounds) in COUNTS {
         let tree = tree_of(rt.alloc(), tree)?;
         for is_counted in [true, false] {
             let named = asked_on_last(rt.alloc(), by_names, tree.as_str(), is_counted)?;
-            let wanted = Run {
-                answer,
-                names: tests,
-                attributes: 0,
-                classes: 0,
-            };
-            assert_eq!(rt; named, wanted, "at {by_names:?}");
+            assert!(rt;
+                named == run_with(answer, tests, 0),
+                "{by_names:?}: {named:?}"
+            );
             let classed = asked_on_last(rt.alloc(), by_classes, tree.as_str(), is_counted)?;
-            let wanted = Run {
-                answer,
-                names: 0,
-                attributes: tests,
-                classes: 0,
-            };
-            assert_eq!(rt; classed, wanted, "at {by_classes:?}");
+            assert!(rt;
+                classed == run_with(answer, 0, tests),
+                "{by_classes:?}: {classed:?}"
+            );
         }
         assert!(rt; tests <= bounds.0 && tests <= bounds.1, "at {by_names:?}");
     }
@@ -246,18 +254,21 @@ fn asked_for_winners(alloc: Global, sheet: &str) -> Result<(u64, u64), Fail> {
     Ok((for_one, for_both.saturating_sub(for_one)))
 }
 
+/// A sheet, and how often an element is asked for one name and for all.
+const ASKED_RULES: &[(&str, (u64, u64))] = &[
+    ("a{d:x} a{e:x}", (0, 2)),
+    ("a{c:x} a{c:y}", (1, 2)),
+    ("a{c:x} a{c:y} a{d:z}", (1, 3)),
+    ("a{c:x;c:y;c:z}", (1, 1)),
+    ("b{c:x} b{c:y} b{c:z}", (3, 3)),
+    ("a{c:x !important} a{c:y} a{c:z}", (2, 3)),
+    ("a{c:x !important} a{c:y !important} a{c:z}", (2, 3)),
+    ("a{c:x !important} b{c:y} b{c:z}", (3, 3)),
+];
+
 #[test]
 fn asks_few_rules_for_winners(rt: HostRuntime) -> Result<(), Fail> {
-    for (sheet, times) in [
-        ("a{d:x} a{e:x}", (0, 2)),
-        ("a{c:x} a{c:y}", (1, 2)),
-        ("a{c:x} a{c:y} a{d:z}", (1, 3)),
-        ("a{c:x;c:y;c:z}", (1, 1)),
-        ("b{c:x} b{c:y} b{c:z}", (3, 3)),
-        ("a{c:x !important} a{c:y} a{c:z}", (2, 3)),
-        ("a{c:x !important} a{c:y !important} a{c:z}", (2, 3)),
-        ("a{c:x !important} b{c:y} b{c:z}", (3, 3)),
-    ] {
+    for &(sheet, times) in ASKED_RULES {
         let asked = asked_for_winners(rt.alloc(), sheet)?;
         assert_eq!(rt; asked, times, "at {sheet:?}");
     }

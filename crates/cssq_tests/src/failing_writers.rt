@@ -106,92 +106,104 @@ const TREE: &str = "0\ta\n1\tb\n1\tc\n2\tb\n";
 
 const STYLED: &str = "a { c:red !important; c:blue } a { c:green }";
 
-#[test]
-fn stops_where_the_writer_is_full(rt: HostRuntime) -> Result<(), Fail> {
-    let mut failed = 0usize;
-    for (run, output) in [
-        (Run::Selector("a > .b"), "a > *[class~='b']\t0,1,1\n"),
-        (
-            Run::Sheet(&["#x { a:b }", "p { c:d }"]),
-            "p { c:d; }\n*[id='x'] { a:b; }\n",
-        ),
-        (Run::Sheet(&[]), ""),
-        (Run::Match(SHEET, TREE), "1:\n2: 1 2\n3:\n4: 1\n"),
-        (Run::Match(SHEET, ""), ""),
-        (Run::Style(STYLED, "0\ta", "c"), "1: red !important\n"),
-        (
-            Run::Style("a { c:\u{E9} }", "0\ta\n0\ta", "c"),
-            "1: \u{E9}\n2: \u{E9}\n",
-        ),
-    ] {
-        let output = output.as_bytes();
-        for (most, ending) in WRITERS {
-            for room in 0..=output.len() {
-                let mut out = Narrow::new(rt.alloc(), room, most, ending);
-                let outcome = run.write_to(rt.alloc(), &mut out);
-                let is_short = room < output.len();
-                let (wanted, refusals) = if is_short {
-                    (Err(RunFault::Output), 1)
-                } else {
-                    (Ok(()), 0)
-                };
-                assert_eq!(rt;
-                    outcome,
-                    wanted,
-                    "{run:?}, {room} bytes by {most}, {ending:?}"
-                );
-                assert_eq!(rt;
-                    out.taken.as_slice(),
-                    &output[..room],
-                    "{run:?}, {room} bytes by {most}"
-                );
-                assert_eq!(rt;
-                    out.refusals,
-                    refusals,
-                    "{run:?}, {room} bytes by {most}, {ending:?}"
-                );
-                assert_eq!(rt; out.flushes, 0, "{run:?}");
-                failed = failed.saturating_add(usize::from(is_short));
+/// Runs, and what each writes where there is room.
+const WHOLE: &[(Run<'static>, &str)] = &[
+    (Run::Selector("a > .b"), "a > *[class~='b']\t0,1,1\n"),
+    (
+        Run::Sheet(&["#x { a:b }", "p { c:d }"]),
+        "p { c:d; }\n*[id='x'] { a:b; }\n",
+    ),
+    (Run::Sheet(&[]), ""),
+    (Run::Match(SHEET, TREE), "1:\n2: 1 2\n3:\n4: 1\n"),
+    (Run::Match(SHEET, ""), ""),
+    (Run::Style(STYLED, "0\ta", "c"), "1: red !important\n"),
+    (
+        Run::Style("a { c:\u{E9} }", "0\ta\n0\ta", "c"),
+        "1: \u{E9}\n2: \u{E9}\n",
+    ),
+];
+
+/// Runs that end with a fault before they write.
+const FAULTY: &[(Run<'static>, RunFault)] = &[
+    (Run::Selector(""), RunFault::Refused),
+    (Run::Selector("a <"), RunFault::Refused),
+    (
+        Run::Match(SHEET, "1\ta"),
+        RunFault::Tree(TreeFault::BadDepth(1)),
+    ),
+    (
+        Run::Match(SHEET, "0\ta\n1\tb\tk"),
+        RunFault::Tree(TreeFault::NoEquals(2)),
+    ),
+    (
+        Run::Style(STYLED, "0\ta\n0\t\n", "c"),
+        RunFault::Tree(TreeFault::EmptyName(2)),
+    ),
+    (
+        Run::Style(STYLED, "0\ta\tk=\tk=", "c"),
+        RunFault::Tree(TreeFault::RepeatedKey(1)),
+    ),
+];
+
+/// Whether the run ends so, writes this and no more, is refused that often and flushes nothing, in
+/// a writer with this room.
+fn goes_as(
+    alloc: Global,
+    run: Run<'_>,
+    (room, most, ending): (usize, usize, Ending),
+    wanted: (Result<(), RunFault>, &[u8], usize),
+) -> bool {
+    let mut out = Narrow::new(alloc, room, most, ending);
+    let outcome = run.write_to(alloc, &mut out);
+    (outcome, out.taken.as_slice(), out.refusals) == wanted && out.flushes == 0
+}
+
+/// The first writer, by its room, its most bytes a call and its ending, into which the run does not
+/// go as it must: it stops at the first write that is refused, and says so; where there is room it
+/// ends well.
+fn astray(alloc: Global, run: Run<'_>, output: &[u8]) -> Option<(usize, usize, Ending)> {
+    for (most, ending) in WRITERS {
+        for room in 0..=output.len() {
+            let is_short = room < output.len();
+            let outcome = if is_short {
+                Err(RunFault::Output)
+            } else {
+                Ok(())
+            };
+            let wanted = (outcome, &output[..room], usize::from(is_short));
+            if !goes_as(alloc, run, (room, most, ending), wanted) {
+                return Some((room, most, ending));
             }
         }
     }
-    // The outputs have 102 bytes, at each of which each of the 12 writers stops once.
-    assert_eq!(rt; failed, 1224);
-    Ok(())
+    None
+}
+
+#[test]
+fn stops_where_the_writer_is_full(rt: HostRuntime) {
+    for (run, output) in WHOLE {
+        let found = astray(rt.alloc(), *run, output.as_bytes());
+        assert!(rt; found.is_none(), "{run:?} into {found:?}");
+    }
+}
+
+/// The first writer into which the run does not end with the fault before it writes. Without room
+/// each write would be refused, of no byte too.
+fn astray_before(alloc: Global, run: Run<'_>, fault: RunFault) -> Option<(usize, usize, Ending)> {
+    for (most, ending) in WRITERS {
+        for room in [0, 100] {
+            if !goes_as(alloc, run, (room, most, ending), (Err(fault), b"", 0)) {
+                return Some((room, most, ending));
+            }
+        }
+    }
+    None
 }
 
 #[test]
 fn writes_nothing_after_another_fault(rt: HostRuntime) {
-    for (run, fault) in [
-        (Run::Selector(""), RunFault::Refused),
-        (Run::Selector("a <"), RunFault::Refused),
-        (
-            Run::Match(SHEET, "1\ta"),
-            RunFault::Tree(TreeFault::BadDepth(1)),
-        ),
-        (
-            Run::Match(SHEET, "0\ta\n1\tb\tk"),
-            RunFault::Tree(TreeFault::NoEquals(2)),
-        ),
-        (
-            Run::Style(STYLED, "0\ta\n0\t\n", "c"),
-            RunFault::Tree(TreeFault::EmptyName(2)),
-        ),
-        (
-            Run::Style(STYLED, "0\ta\tk=\tk=", "c"),
-            RunFault::Tree(TreeFault::RepeatedKey(1)),
-        ),
-    ] {
-        for (most, ending) in WRITERS {
-            for room in [0, 100] {
-                let mut out = Narrow::new(rt.alloc(), room, most, ending);
-                let outcome = run.write_to(rt.alloc(), &mut out);
-                assert_eq!(rt; outcome, Err(fault), "{run:?}");
-                assert!(rt; out.taken.is_empty(), "{run:?}");
-                // Without room each write would be counted, of no byte too.
-                assert_eq!(rt; out.refusals, 0, "{run:?}");
-                assert_eq!(rt; out.flushes, 0, "{run:?}");
-            }
-        }
+    for (run, fault) in FAULTY {
+        let found = astray_before(rt.alloc(), *run, *fault);
+        assert!(rt; found.is_none(), "{run:?} into {found:?}");
     }
 }

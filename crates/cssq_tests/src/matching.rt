@@ -41,106 +41,100 @@ fn taken(alloc: Global, selector: &str, tree: &str) -> Result<String, Fail> {
     Ok(numbers)
 }
 
-#[test]
-fn takes_by_combinators(rt: HostRuntime) -> Result<(), Fail> {
-    let tree = "0,a;1,b;0,a;1,c;";
-    for (selector, elements) in [
-        ("b + c", ""),
-        ("a + a > c", "4"),
-        (":first-child", "1 2 4"),
-        ("a b", "2"),
-        ("a + a", "3"),
-    ] {
-        let numbers = taken(rt.alloc(), selector, tree)?;
-        assert_eq!(rt; numbers.as_str(), elements, "at {selector:?}");
-    }
-    Ok(())
-}
+/// A tree, a selector, and the numbers of the elements that it takes.
+const TAKEN: &[(&str, &str, &str)] = &[
+    // Combinators.
+    ("0,a;1,b;0,a;1,c;", "b + c", ""),
+    ("0,a;1,b;0,a;1,c;", "a + a > c", "4"),
+    ("0,a;1,b;0,a;1,c;", ":first-child", "1 2 4"),
+    ("0,a;1,b;0,a;1,c;", "a b", "2"),
+    ("0,a;1,b;0,a;1,c;", "a + a", "3"),
+    // Steps to children.
+    ("0,a,class=w;1,b,class=x;2,c,class=w", "a > .x", "2"),
+    ("0,a,class=w;1,b,class=x;2,c,class=w", "a > b > c", "3"),
+    ("0,a,class=w;1,b,class=x;2,c,class=w", "b > a", ""),
+    ("0,a,class=w;1,b,class=x;2,c,class=w", "*", "1 2 3"),
+    ("0,a,class=w;1,b,class=x;2,c,class=w", "* > * > * > *", ""),
+    // A drawing.
+    (
+        "0,svg;1,g;2,rect,class=round blue;2,rect,color=red",
+        "rect:first-child",
+        "3",
+    ),
+    (
+        "0,svg;1,g;2,rect,class=round blue;2,rect,color=red",
+        "[color=red]",
+        "4",
+    ),
+    (
+        "0,svg;1,g;2,rect,class=round blue;2,rect,color=red",
+        "svg rect",
+        "3 4",
+    ),
+    (
+        "0,svg;1,g;2,rect,class=round blue;2,rect,color=red",
+        "svg > g > rect",
+        "3 4",
+    ),
+    (
+        "0,svg;1,g;2,rect,class=round blue;2,rect,color=red",
+        ".blue",
+        "3",
+    ),
+    // Small trees.
+    (
+        "0,div,id=div1;1,p;2,ol;3,li;4,g;5,p,id=p1;",
+        "div ol>li p",
+        "6",
+    ),
+    ("0,div,id=div1", "*", "1"),
+    ("0,div,id=div1", "div", "1"),
+    ("0,div,id=div1", "p", ""),
+    ("0,div,id=div1", "#div1", "1"),
+    ("0,div,id=div1", "#d1", ""),
+    ("0,div,id=div1", "p#div1", ""),
+    ("0,div;1,p,id=p1", "div p", "2"),
+    ("0,div;1,p,id=p1", "div > p", "2"),
+    ("0,div;1,p,id=p1", "div + p", ""),
+    ("0,div;1,p,id=p1", "[id=p1]", "2"),
+    ("0,div;1,p,id=p1", "p:first-child", "2"),
+    ("0,div;1,g;2,p", "div p", "3"),
+    ("0,div;1,g;2,p", "div g p", "3"),
+    ("0,div;1,g;2,p", "div * p", "3"),
+    ("0,div;1,g;2,p", "div > p", ""),
+    ("0,div;1,div;2,g;3,p", "div p", "4"),
+    ("0,div;1,g;2,p;3,div", "div p", "3"),
+    ("0,div;1,q;2,p", "div g p", ""),
+    ("0,p", "div > p", ""),
+    ("0,div;1,p;2,rect;2,rect,color=green", "div p *[color]", "4"),
+    ("0,div;1,p;2,rect;2,rect,color=green", "div p [color]", "4"),
+    ("0,div;1,p;2,ol;3,g;4,li;5,g;6,p", "div ol>li p", ""),
+    ("0,div;1,g;1,p", "g + p", "3"),
+    ("0,div;1,g;1,p", "p:first-child", ""),
+    ("0,div;1,test;1,g;1,p", "g + p", "4"),
+    ("0,div;1,p;1,g", "g + p", ""),
+    ("0,div;1,p,class=test warn", "[class~=warn]", "2"),
+    ("0,div;1,p,class=test warn", "[class~='test warn']", ""),
+    ("0,div;1,p,lang=en", "[lang=en]", "2"),
+    ("0,div;1,p,lang=en", "[lang|=en]", "2"),
+    ("0,div;1,p,lang=en-US", "[lang='en-US']", "2"),
+    ("0,div;1,p,lang=en-US", "[lang|=en]", "2"),
+    ("0,p,a=-y", "[a|='']", "1"),
+    ("0,p,a=y", "[a|='']", ""),
+    (
+        "0,div;1,p,class=pastoral blue aqua marine",
+        ".marine.pastoral",
+        "2",
+    ),
+    ("0,div;1,p;1,p", ":first-child", "1 2"),
+    ("0,b;0,x;0,c", "b + c", ""),
+];
 
 #[test]
-fn takes_child_steps(rt: HostRuntime) -> Result<(), Fail> {
-    let tree = "0,a,class=w;1,b,class=x;2,c,class=w";
-    for (selector, elements) in [
-        ("a > .x", "2"),
-        ("a > b > c", "3"),
-        ("b > a", ""),
-        ("*", "1 2 3"),
-        ("* > * > * > *", ""),
-    ] {
+fn takes_elements_of_small_trees(rt: HostRuntime) -> Result<(), Fail> {
+    for (tree, selector, elements) in TAKEN {
         let numbers = taken(rt.alloc(), selector, tree)?;
-        assert_eq!(rt; numbers.as_str(), elements, "at {selector:?}");
-    }
-    Ok(())
-}
-
-#[test]
-fn takes_in_small_trees(rt: HostRuntime) -> Result<(), Fail> {
-    for (tree, selector, elements) in [
-        (
-            "0,div,id=div1;1,p;2,ol;3,li;4,g;5,p,id=p1;",
-            "div ol>li p",
-            "6",
-        ),
-        ("0,div,id=div1", "*", "1"),
-        ("0,div,id=div1", "div", "1"),
-        ("0,div,id=div1", "p", ""),
-        ("0,div,id=div1", "#div1", "1"),
-        ("0,div,id=div1", "#d1", ""),
-        ("0,div,id=div1", "p#div1", ""),
-        ("0,div;1,p,id=p1", "div p", "2"),
-        ("0,div;1,p,id=p1", "div > p", "2"),
-        ("0,div;1,p,id=p1", "div + p", ""),
-        ("0,div;1,p,id=p1", "[id=p1]", "2"),
-        ("0,div;1,p,id=p1", "p:first-child", "2"),
-        ("0,div;1,g;2,p", "div p", "3"),
-        ("0,div;1,g;2,p", "div g p", "3"),
-        ("0,div;1,g;2,p", "div * p", "3"),
-        ("0,div;1,g;2,p", "div > p", ""),
-        ("0,div;1,div;2,g;3,p", "div p", "4"),
-        ("0,div;1,g;2,p;3,div", "div p", "3"),
-        ("0,div;1,q;2,p", "div g p", ""),
-        ("0,p", "div > p", ""),
-        ("0,div;1,p;2,rect;2,rect,color=green", "div p *[color]", "4"),
-        ("0,div;1,p;2,rect;2,rect,color=green", "div p [color]", "4"),
-        ("0,div;1,p;2,ol;3,g;4,li;5,g;6,p", "div ol>li p", ""),
-        ("0,div;1,g;1,p", "g + p", "3"),
-        ("0,div;1,g;1,p", "p:first-child", ""),
-        ("0,div;1,test;1,g;1,p", "g + p", "4"),
-        ("0,div;1,p;1,g", "g + p", ""),
-        ("0,div;1,p,class=test warn", "[class~=warn]", "2"),
-        ("0,div;1,p,class=test warn", "[class~='test warn']", ""),
-        ("0,div;1,p,lang=en", "[lang=en]", "2"),
-        ("0,div;1,p,lang=en", "[lang|=en]", "2"),
-        ("0,div;1,p,lang=en-US", "[lang='en-US']", "2"),
-        ("0,div;1,p,lang=en-US", "[lang|=en]", "2"),
-        ("0,p,a=-y", "[a|='']", "1"),
-        ("0,p,a=y", "[a|='']", ""),
-        (
-            "0,div;1,p,class=pastoral blue aqua marine",
-            ".marine.pastoral",
-            "2",
-        ),
-        ("0,div;1,p;1,p", ":first-child", "1 2"),
-        ("0,b;0,x;0,c", "b + c", ""),
-    ] {
-        let numbers = taken(rt.alloc(), selector, tree)?;
-        assert_eq!(rt; numbers.as_str(), elements, "at {tree:?} and {selector:?}");
-    }
-    Ok(())
-}
-
-#[test]
-fn takes_in_a_drawing(rt: HostRuntime) -> Result<(), Fail> {
-    let tree = "0,svg;1,g;2,rect,class=round blue;2,rect,color=red";
-    for (selector, elements) in [
-        ("rect:first-child", "3"),
-        ("[color=red]", "4"),
-        ("svg rect", "3 4"),
-        ("svg > g > rect", "3 4"),
-        (".blue", "3"),
-    ] {
-        let numbers = taken(rt.alloc(), selector, tree)?;
-        assert_eq!(rt; numbers.as_str(), elements, "at {selector:?}");
+        assert_eq!(rt; numbers.as_str(), *elements, "at {tree:?} and {selector:?}");
     }
     Ok(())
 }

@@ -11,48 +11,54 @@ fn read(alloc: Global, text: &str) -> Result<usize, TreeFault> {
     Ok(page.len())
 }
 
+/// Texts, and the fault of the first faulty line.
+const FAULTY: &[(&str, TreeFault)] = &[
+    ("1\ta", TreeFault::BadDepth(1)),
+    ("0\ta\n2\tb", TreeFault::BadDepth(2)),
+    ("0\ta\n\n", TreeFault::BadDepth(2)),
+    ("\n", TreeFault::BadDepth(1)),
+    ("\ta", TreeFault::BadDepth(1)),
+    ("00\ta", TreeFault::BadDepth(1)),
+    ("0\ta\n01\tb", TreeFault::BadDepth(2)),
+    ("0\ta\n+1\tb", TreeFault::BadDepth(2)),
+    ("0\ta\n1 \tb", TreeFault::BadDepth(2)),
+    ("0\ta\n-1\tb", TreeFault::BadDepth(2)),
+    ("0\ta\n99999999999999999999\tb", TreeFault::BadDepth(2)),
+    ("0\ta\n18446744073709551617\tb", TreeFault::BadDepth(2)),
+    ("0\r\n", TreeFault::BadDepth(1)),
+    ("0", TreeFault::EmptyName(1)),
+    ("0\t", TreeFault::EmptyName(1)),
+    ("0\t\tk", TreeFault::EmptyName(1)),
+    ("0\ta\tk", TreeFault::NoEquals(1)),
+    ("0\ta\t", TreeFault::NoEquals(1)),
+    ("0\ta\tk=1\t\tk=2", TreeFault::NoEquals(1)),
+    ("0\ta\tk=1\tk=2", TreeFault::RepeatedKey(1)),
+    ("0\ta\tk=1\tk=2\tl", TreeFault::RepeatedKey(1)),
+    ("0\ta\t=x\t=y", TreeFault::RepeatedKey(1)),
+    ("0\ta\n1\tb\n2\tc\tk\n9\td", TreeFault::NoEquals(3)),
+];
+
 #[test]
 fn tells_the_first_faulty_line(rt: HostRuntime) {
-    for (text, fault) in [
-        ("1\ta", TreeFault::BadDepth(1)),
-        ("0\ta\n2\tb", TreeFault::BadDepth(2)),
-        ("0\ta\n\n", TreeFault::BadDepth(2)),
-        ("\n", TreeFault::BadDepth(1)),
-        ("\ta", TreeFault::BadDepth(1)),
-        ("00\ta", TreeFault::BadDepth(1)),
-        ("0\ta\n01\tb", TreeFault::BadDepth(2)),
-        ("0\ta\n+1\tb", TreeFault::BadDepth(2)),
-        ("0\ta\n1 \tb", TreeFault::BadDepth(2)),
-        ("0\ta\n-1\tb", TreeFault::BadDepth(2)),
-        ("0\ta\n99999999999999999999\tb", TreeFault::BadDepth(2)),
-        ("0\ta\n18446744073709551617\tb", TreeFault::BadDepth(2)),
-        ("0\r\n", TreeFault::BadDepth(1)),
-        ("0", TreeFault::EmptyName(1)),
-        ("0\t", TreeFault::EmptyName(1)),
-        ("0\t\tk", TreeFault::EmptyName(1)),
-        ("0\ta\tk", TreeFault::NoEquals(1)),
-        ("0\ta\t", TreeFault::NoEquals(1)),
-        ("0\ta\tk=1\t\tk=2", TreeFault::NoEquals(1)),
-        ("0\ta\tk=1\tk=2", TreeFault::RepeatedKey(1)),
-        ("0\ta\tk=1\tk=2\tl", TreeFault::RepeatedKey(1)),
-        ("0\ta\t=x\t=y", TreeFault::RepeatedKey(1)),
-        ("0\ta\n1\tb\n2\tc\tk\n9\td", TreeFault::NoEquals(3)),
-    ] {
+    for &(text, fault) in FAULTY {
         assert_eq!(rt; read(rt.alloc(), text), Err(fault), "at {text:?}");
     }
 }
 
+/// Texts, and how many elements they have.
+const SOUND: &[(&str, usize)] = &[
+    ("", 0),
+    ("0\ta", 1),
+    ("0\ta\n", 1),
+    ("0\ta\r\n", 1),
+    ("0\ta\t=\tk=", 1),
+    ("0\ta\tk=1=2\tK=1", 1),
+    ("0\ta\n1\tb\n0\tc\n1\td\n2\te\n1\tf", 6),
+];
+
 #[test]
 fn reads_sound_texts(rt: HostRuntime) {
-    for (text, count) in [
-        ("", 0),
-        ("0\ta", 1),
-        ("0\ta\n", 1),
-        ("0\ta\r\n", 1),
-        ("0\ta\t=\tk=", 1),
-        ("0\ta\tk=1=2\tK=1", 1),
-        ("0\ta\n1\tb\n0\tc\n1\td\n2\te\n1\tf", 6),
-    ] {
+    for &(text, count) in SOUND {
         assert_eq!(rt; read(rt.alloc(), text), Ok(count), "at {text:?}");
     }
 }
@@ -104,23 +110,25 @@ fn place_of(element: &Node<'_, '_>) -> Option<usize> {
     None
 }
 
+/// Of each element of `ties_elements` in turn, the places of its parent and its previous sibling.
+const TIES: &[(Option<usize>, Option<usize>)] = &[
+    (None, None),
+    (Some(0), None),
+    (Some(1), None),
+    (Some(0), Some(1)),
+    (None, Some(0)),
+    (Some(4), None),
+    (Some(5), None),
+    (Some(5), Some(6)),
+    (None, Some(4)),
+];
+
 #[test]
 fn ties_elements(rt: HostRuntime) -> Result<(), Fail> {
     let text = "0\ta\n1\tb\n2\tc\n1\td\n0\te\n1\tf\n2\tg\n2\th\n0\ti\n";
     let page = Page::read(rt.alloc(), text)?;
     assert_eq!(rt; page.len(), 9);
-    let ties = [
-        (None, None),
-        (Some(0), None),
-        (Some(1), None),
-        (Some(0), Some(1)),
-        (None, Some(0)),
-        (Some(4), None),
-        (Some(5), None),
-        (Some(5), Some(6)),
-        (None, Some(4)),
-    ];
-    for (place, (parent, previous)) in ties.into_iter().enumerate() {
+    for (place, (parent, previous)) in TIES.iter().enumerate() {
         let node = page.node(place).ok_or("no node")?;
         assert_eq!(rt; place_of(&node), Some(place));
         let parent_place = node.parent_element().map(|n| place_of(&n));
@@ -132,6 +140,19 @@ fn ties_elements(rt: HostRuntime) -> Result<(), Fail> {
     Ok(())
 }
 
+/// An attribute, an operator, and what the first element of `answers_questions` answers.
+const ASKED: &[(&str, AttributeOperator<'static>, bool)] = &[
+    ("id", AttributeOperator::Exists, true),
+    ("id", AttributeOperator::Matches("x"), true),
+    ("id", AttributeOperator::Matches(""), false),
+    ("class", AttributeOperator::Contains("v"), true),
+    ("class", AttributeOperator::Contains("u v"), false),
+    ("class", AttributeOperator::StartsWith("u"), false),
+    ("", AttributeOperator::Matches("e"), true),
+    ("name", AttributeOperator::Exists, false),
+    ("name", AttributeOperator::Matches(""), false),
+];
+
 #[test]
 fn answers_questions(rt: HostRuntime) -> Result<(), Fail> {
     let page = Page::read(rt.alloc(), "0\ta\tid=x\tclass=u v\t=e\n1\tb\r\n1\tc\n")?;
@@ -142,17 +163,7 @@ fn answers_questions(rt: HostRuntime) -> Result<(), Fail> {
     assert!(rt; !a.has_local_name("A"));
     assert!(rt; !b.has_local_name("b"));
     assert!(rt; b.has_local_name("b\r"));
-    for (key, operator, answer) in [
-        ("id", AttributeOperator::Exists, true),
-        ("id", AttributeOperator::Matches("x"), true),
-        ("id", AttributeOperator::Matches(""), false),
-        ("class", AttributeOperator::Contains("v"), true),
-        ("class", AttributeOperator::Contains("u v"), false),
-        ("class", AttributeOperator::StartsWith("u"), false),
-        ("", AttributeOperator::Matches("e"), true),
-        ("name", AttributeOperator::Exists, false),
-        ("name", AttributeOperator::Matches(""), false),
-    ] {
+    for &(key, operator, answer) in ASKED {
         assert_eq!(rt;
             a.attribute_matches(key, operator),
             answer,
@@ -175,15 +186,18 @@ fn answers_questions(rt: HostRuntime) -> Result<(), Fail> {
     Ok(())
 }
 
+/// Faults, and their numbers.
+const NUMBERS: &[(TreeFault, u8)] = &[
+    (TreeFault::BadDepth(7), 1),
+    (TreeFault::EmptyName(7), 2),
+    (TreeFault::NoEquals(7), 3),
+    (TreeFault::RepeatedKey(7), 4),
+    (TreeFault::Memory(7), 5),
+];
+
 #[test]
 fn numbers_faults(rt: HostRuntime) {
-    for (fault, number) in [
-        (TreeFault::BadDepth(7), 1),
-        (TreeFault::EmptyName(7), 2),
-        (TreeFault::NoEquals(7), 3),
-        (TreeFault::RepeatedKey(7), 4),
-        (TreeFault::Memory(7), 5),
-    ] {
+    for &(fault, number) in NUMBERS {
         assert_eq!(rt; fault.number(), number);
         assert_eq!(rt; fault.line(), 7);
     }

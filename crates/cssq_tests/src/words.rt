@@ -13,37 +13,49 @@ fn words(alloc: Global, line: &str) -> Result<Vec<String>, Fail> {
     Ok(words)
 }
 
+/// Lines that ask for nothing.
+const NOTHING: &[&str] = &[
+    "selector",
+    "selector a b",
+    "",
+    "a",
+    "Selector a",
+    "selectors a",
+    " selector a",
+    "select a",
+    "sheet",
+    "match",
+    "match a",
+    "match a b c",
+    "style",
+    "style a b",
+    "style a b c d",
+    "styles a b c",
+    "Style a b c",
+];
+
+#[test]
+fn refuses_words(rt: HostRuntime) -> Result<(), Fail> {
+    for line in NOTHING {
+        let words = words(rt.alloc(), line)?;
+        assert_eq!(rt; Command::of(words.as_slice()), None, "at {line:?}");
+    }
+    Ok(())
+}
+
 #[test]
 fn reads_words(rt: HostRuntime) -> Result<(), Fail> {
-    let none: Vec<String> = Vec::new(rt.alloc());
-    assert_eq!(rt; Command::of(none.as_slice()), Some(Command::Input));
+    assert_eq!(rt; Command::of(&[]), Some(Command::Input));
     for (line, command) in [
-        ("selector a", Some(Command::Selector("a"))),
-        ("selector ", Some(Command::Selector(""))),
-        ("selector selector", Some(Command::Selector("selector"))),
-        ("selector", None),
-        ("selector a b", None),
-        ("", None),
-        ("a", None),
-        ("Selector a", None),
-        ("selectors a", None),
-        (" selector a", None),
-        ("select a", None),
-        ("sheet", None),
-        ("match", None),
-        ("match a", None),
-        ("match a b", Some(Command::Match("a", "b"))),
-        ("match a b c", None),
-        ("style", None),
-        ("style a b", None),
-        ("style a b c", Some(Command::Style("a", "b", "c"))),
-        ("style a b ", Some(Command::Style("a", "b", ""))),
-        ("style a b c d", None),
-        ("styles a b c", None),
-        ("Style a b c", None),
+        ("selector a", Command::Selector("a")),
+        ("selector ", Command::Selector("")),
+        ("selector selector", Command::Selector("selector")),
+        ("match a b", Command::Match("a", "b")),
+        ("style a b c", Command::Style("a", "b", "c")),
+        ("style a b ", Command::Style("a", "b", "")),
     ] {
         let words = words(rt.alloc(), line)?;
-        assert_eq!(rt; Command::of(words.as_slice()), command, "at {line:?}");
+        assert_eq!(rt; Command::of(words.as_slice()), Some(command), "at {line:?}");
     }
     Ok(())
 }

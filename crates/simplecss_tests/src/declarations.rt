@@ -20,54 +20,59 @@ fn assert_gives(rt: &impl Abort, rows: &[(&str, &[(&str, &str, bool)])]) {
     }
 }
 
+/// Texts that give no declaration.
+const NONE: &[&str] = &[
+    "",
+    "a:\u{3000}",
+    "a:\u{A0}",
+    "a:;/* x",
+    "- a:b",
+    "--a:b",
+    "a/* x",
+    "a b:c",
+];
+
 #[test]
 fn gives_none(rt: HostRuntime) {
-    for text in [
-        "",
-        "a:\u{3000}",
-        "a:\u{A0}",
-        "a:;/* x",
-        "- a:b",
-        "--a:b",
-        "a/* x",
-        "a b:c",
-    ] {
+    for text in NONE {
         assert_gives(&rt, &[(text, &[])]);
     }
 }
 
-/// The value is what stands behind the colon.
-#[test]
-fn gives_values_as_they_stand(rt: HostRuntime) {
-    for (text, name, value) in [("a:b 'x", "a", "b"), ("a:f('x)y') z", "a", "f('x)y")] {
-        assert_gives(&rt, &[(text, &[(name, value, false)])]);
-    }
-}
+/// Texts, and the declarations that they give.
+const GIVEN: &[(&str, &[(&str, &str, bool)])] = &[
+    // The value is what stands behind the colon.
+    ("a:b 'x", &[("a", "b", false)]),
+    ("a:f('x)y') z", &[("a", "f('x)y", false)]),
+    (
+        " color : red ; /**/ background: url(\"x;y\") ! important; a:b;",
+        &[
+            ("color", "red", false),
+            ("background", "url(\"x;y\")", true),
+            ("a", "b", false),
+        ],
+    ),
+    // A broken one ends them.
+    ("a:b;c", &[("a", "b", false)]),
+];
 
 #[test]
-fn gives_several(rt: HostRuntime) {
-    let text = " color : red ; /**/ background: url(\"x;y\") ! important; a:b;";
-    let wanted = [
-        ("color", "red", false),
-        ("background", "url(\"x;y\")", true),
-        ("a", "b", false),
-    ];
-    assert_gives(&rt, &[(text, &wanted)]);
-    // A broken one ends them.
-    assert_gives(&rt, &[("a:b;c", &[("a", "b", false)])]);
+fn gives_declarations_as_they_stand(rt: HostRuntime) {
+    assert_gives(&rt, GIVEN);
 }
 
 /// Each text, and the place behind each call of `next`, those that give `None` too.
+const PLACES: &[(&str, &[usize])] = &[
+    ("color: red; a:b", &[12, 15, 15]),
+    ("a:b !importantly:x", &[14, 18, 18]),
+    ("a:b } c", &[4, 7, 7]),
+    (" /**/ ", &[6, 6]),
+    ("", &[0, 0]),
+];
+
 #[test]
 fn tells_the_place_behind_each_declaration(rt: HostRuntime) {
-    let rows: &[(&str, &[usize])] = &[
-        ("color: red; a:b", &[12, 15, 15]),
-        ("a:b !importantly:x", &[14, 18, 18]),
-        ("a:b } c", &[4, 7, 7]),
-        (" /**/ ", &[6, 6]),
-        ("", &[0, 0]),
-    ];
-    for (text, places) in rows {
+    for (text, places) in PLACES {
         let mut declarations = DeclarationTokenizer::from(*text);
         assert_eq!(rt; declarations.pos(), 0, "at {text}");
         for place in *places {

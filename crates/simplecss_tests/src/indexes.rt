@@ -91,25 +91,19 @@ const FOUND: &[(&str, &[Entry<'static>], &str)] = &[
     ("", &[("a", Some("x"), Some("b"))], ""),
 ];
 
+/// The value of the first declaration of the rule at this place.
+fn value_at<'a>(rules: &[Rule<'a>], place: usize) -> Option<&'a str> {
+    Some(rules.get(place)?.declarations.first()?.value)
+}
+
 /// The values of the first declarations of the rules at these places, with a space between.
-fn values_at<'a>(
-    alloc: Global,
-    rules: &[Rule<'a>],
-    places: &[usize],
-) -> Result<String, AllocError> {
+fn values_at(alloc: Global, rules: &[Rule<'_>], places: &[usize]) -> Result<String, AllocError> {
     let mut text = String::new(alloc);
     for place in places {
-        let value = match rules.get(*place) {
-            Some(rule) => match rule.declarations.first() {
-                Some(declaration) => declaration.value,
-                None => "none",
-            },
-            None => "outside",
-        };
         if !text.is_empty() {
             text.push(' ')?;
         }
-        text.push_str(value)?;
+        text.push_str(value_at(rules, *place).unwrap_or("none"))?;
     }
     Ok(text)
 }

@@ -89,48 +89,57 @@ fn parsed<'a>(alloc: Global, text: &'a str) -> Result<Selector<'a>, Fail> {
     Ok(Selector::parse(&Discard, alloc, text)?.ok_or("refused")?)
 }
 
+/// Selectors, and their specificity.
+const WEIGHTS: &[(&str, [u8; 3])] = &[
+    ("*", [0, 0, 0]),
+    ("ul ol li.red", [0, 1, 3]),
+    ("#x[id]", [2, 0, 0]),
+];
+
 #[test]
 fn weighs(rt: HostRuntime) -> Result<(), Fail> {
-    for (text, want) in [
-        ("*", [0, 0, 0]),
-        ("ul ol li.red", [0, 1, 3]),
-        ("#x[id]", [2, 0, 0]),
-    ] {
+    for &(text, want) in WEIGHTS {
         assert_eq!(rt; parsed(rt.alloc(), text)?.specificity(), want, "at {text}");
     }
     Ok(())
 }
 
-#[test]
-fn tells_the_logger_why_it_refuses(rt: HostRuntime) -> Result<(), Fail> {
-    for (text, want) in [
-        (
-            "> {}",
-            "[WARN  simplecss_selector::reading] Selector parsing failed cause unexpected combinator.",
-        ),
-        (
-            "a\nb <",
-            "[WARN  simplecss_selector::reading] Selector parsing failed cause invalid ident at 2:3.",
-        ),
-        (
-            ":le {}",
-            "[WARN  simplecss_selector::reading] ':le' is not supported. Selector skipped.",
-        ),
-    ] {
-        let sink = Memory::new(rt.alloc());
-        let selector = Selector::parse(&sink, rt.alloc(), text)?;
-        assert!(rt; selector.is_none(), "at {text}");
-        let lines = sink.into_lines();
-        let [line] = lines.as_slice() else {
-            assert!(rt; false, "at {text}");
-            return Ok(());
-        };
-        assert_eq!(rt; line.as_str(), want, "at {text}");
+/// Texts, and the lines that the logger gets: one where the selector is refused, and else none.
+const TOLD: &[(&str, &str)] = &[
+    (
+        "> {}",
+        "[WARN  simplecss_selector::reading] Selector parsing failed cause unexpected combinator.\n",
+    ),
+    (
+        "a\nb <",
+        "[WARN  simplecss_selector::reading] Selector parsing failed cause invalid ident at 2:3.\n",
+    ),
+    (
+        ":le {}",
+        "[WARN  simplecss_selector::reading] ':le' is not supported. Selector skipped.\n",
+    ),
+    ("a > .b:link", ""),
+];
+
+/// The lines that the logger gets, and whether the selector is refused.
+fn told(alloc: Global, text: &str) -> Result<(String, bool), AllocError> {
+    let sink = Memory::new(alloc);
+    let selector = Selector::parse(&sink, alloc, text)?;
+    let mut lines = String::new(alloc);
+    for line in sink.into_lines().as_slice() {
+        lines.push_str(line.as_str())?;
+        lines.push('\n')?;
     }
-    let sink = Memory::new(rt.alloc());
-    let selector = Selector::parse(&sink, rt.alloc(), "a > .b:link")?;
-    assert!(rt; selector.is_some());
-    assert!(rt; sink.into_lines().is_empty());
+    Ok((lines, selector.is_none()))
+}
+
+#[test]
+fn tells_the_logger_why_it_refuses(rt: HostRuntime) -> Result<(), AllocError> {
+    for &(text, want) in TOLD {
+        let (lines, is_refused) = told(rt.alloc(), text)?;
+        assert_eq!(rt; lines.as_str(), want, "at {text}");
+        assert_eq!(rt; is_refused, !want.is_empty(), "at {text}");
+    }
     Ok(())
 }
 
@@ -151,18 +160,22 @@ fn repeated(
     Ok(text)
 }
 
+/// The front of a text, what stands a hundred thousand times behind it, the end, how the selector
+/// prints, and the place behind it.
+const LONG_GAPS: &[(&str, &str, &str, &str, usize)] = &[
+    ("", "/**/", "a", "a", 400_001),
+    ("a", "/**/", ".b", "a[class~='b']", 400_003),
+    ("a ", "/**/", "b", "a b", 400_003),
+    ("", " ", "a", "a", 100_001),
+    ("a", "\n", "b", "a b", 100_002),
+    ("a/* ", "x", "*/ > b", "a > b", 100_010),
+    ("a[b='", "\\'", "]", "refused", 200_006),
+    ("a", "/", "b", "a", 1),
+];
+
 #[test]
 fn reads_long_gaps(rt: HostRuntime) -> Result<(), Fail> {
-    for (first, part, last, want, place) in [
-        ("", "/**/", "a", "a", 400_001),
-        ("a", "/**/", ".b", "a[class~='b']", 400_003),
-        ("a ", "/**/", "b", "a b", 400_003),
-        ("", " ", "a", "a", 100_001),
-        ("a", "\n", "b", "a b", 100_002),
-        ("a/* ", "x", "*/ > b", "a > b", 100_010),
-        ("a[b='", "\\'", "]", "refused", 200_006),
-        ("a", "/", "b", "a", 1),
-    ] {
+    for &(first, part, last, want, place) in LONG_GAPS {
         let text = repeated(rt.alloc(), first, part, 100_000, last)?;
         let (printed, end) = read(rt.alloc(), text.as_str())?;
         assert_eq!(rt; printed.as_str(), want, "at {first}");
@@ -195,19 +208,22 @@ fn are_equal(alloc: Global, text: &str, other: &str) -> Result<bool, Fail> {
     Ok(selector == parsed(alloc, other)?)
 }
 
+/// Two texts, and whether their selectors are equal; of one text twice, whether the copy is.
+const PAIRS: &[(&str, &str, bool)] = &[
+    ("a.b > #c + [d] e:hover", "a.b > #c + [d] e:hover", true),
+    ("#b", "[id=b]", true),
+    ("a b", "a > b", false),
+    ("a b", "a", false),
+    ("a.b c", "a c.b", false),
+    ("a.b", "a.c", false),
+    ("a.b.c", "a.c.b", false),
+    ("*", "a", false),
+    ("#b", ".b", false),
+];
+
 #[test]
 fn copies_are_equal(rt: HostRuntime) -> Result<(), Fail> {
-    for (text, other, is_equal) in [
-        ("a.b > #c + [d] e:hover", "a.b > #c + [d] e:hover", true),
-        ("#b", "[id=b]", true),
-        ("a b", "a > b", false),
-        ("a b", "a", false),
-        ("a.b c", "a c.b", false),
-        ("a.b", "a.c", false),
-        ("a.b.c", "a.c.b", false),
-        ("*", "a", false),
-        ("#b", ".b", false),
-    ] {
+    for &(text, other, is_equal) in PAIRS {
         assert_eq!(rt; are_equal(rt.alloc(), text, other)?, is_equal, "at {text}");
     }
     Ok(())

@@ -16,70 +16,76 @@ fn prints(rt: &HostRuntime, sheet: &StyleSheet, want: &str) -> Result<bool, Allo
     Ok(text.as_str() == want)
 }
 
+/// Sheets, and how they print.
+const IN_ORDER: &[(&str, &str)] = &[
+    ("", ""),
+    (
+        ".b{x:y}.a{x:y}a{x:y}#c{x:y}b{x:y}*{x:y}",
+        "* { x:y; }\na { x:y; }\nb { x:y; }\n*[class~='b'] { x:y; }\n*[class~='a'] { x:y; }\n*[id='c'] { x:y; }",
+    ),
+    (
+        "a { b:c !important; d:e f ; }",
+        "a { b:c !important;d:e f; }",
+    ),
+    (
+        "a > b + c:first-child d { e:f }",
+        "a > b + c:first-child d { e:f; }",
+    ),
+];
+
 #[test]
 fn prints_rules_in_order(rt: HostRuntime) -> Result<(), Fail> {
-    let sheets = [
-        ("", ""),
-        (
-            ".b{x:y}.a{x:y}a{x:y}#c{x:y}b{x:y}*{x:y}",
-            "* { x:y; }\na { x:y; }\nb { x:y; }\n*[class~='b'] { x:y; }\n*[class~='a'] { x:y; }\n*[id='c'] { x:y; }",
-        ),
-        (
-            "a { b:c !important; d:e f ; }",
-            "a { b:c !important;d:e f; }",
-        ),
-        (
-            "a > b + c:first-child d { e:f }",
-            "a > b + c:first-child d { e:f; }",
-        ),
-    ];
-    for (text, want) in sheets {
+    for &(text, want) in IN_ORDER {
         let sheet = read(&rt, text)?;
         assert!(rt; prints(&rt, &sheet, want)?, "of {text}");
     }
     Ok(())
 }
 
+/// Texts with what a reader passes over, and the sheets that they are read as.
+const MAY_STAND: &[(&str, &str)] = &[
+    (" /* x", ""),
+    ("a { color:red } /* open", "a { color:red; }"),
+    ("@x", ""),
+    ("@x{{}}a{b:c}", "a { b:c; }"),
+    ("a { b:c/d e / f; g:/ }", "a { b:c/d e / f;g:/; }"),
+    (
+        "#x { color:red } a { color:blue !important }",
+        "a { color:blue !important; }\n*[id='x'] { color:red; }",
+    ),
+    ("x\u{ED}{a:b}", "x\u{ED} { a:b; }"),
+    ("\u{E9} { a:b }", "\u{E9} { a:b; }"),
+];
+
 #[test]
 fn reads_what_may_stand(rt: HostRuntime) -> Result<(), Fail> {
-    let sheets = [
-        (" /* x", ""),
-        ("a { color:red } /* open", "a { color:red; }"),
-        ("@x", ""),
-        ("@x{{}}a{b:c}", "a { b:c; }"),
-        ("a { b:c/d e / f; g:/ }", "a { b:c/d e / f;g:/; }"),
-        (
-            "#x { color:red } a { color:blue !important }",
-            "a { color:blue !important; }\n*[id='x'] { color:red; }",
-        ),
-        ("x\u{ED}{a:b}", "x\u{ED} { a:b; }"),
-        ("\u{E9} { a:b }", "\u{E9} { a:b; }"),
-    ];
-    for (text, want) in sheets {
+    for &(text, want) in MAY_STAND {
         assert!(rt; prints(&rt, &read(&rt, text)?, want)?, "of {text}");
     }
     Ok(())
 }
 
+/// Texts, and how the one warning of each ends.
+const PASSED_OVER: &[(&str, &str)] = &[
+    (
+        "> {}",
+        "Selector parsing failed cause unexpected combinator.",
+    ),
+    (
+        "@import 'subs.css';",
+        "The @import rule is not supported. Skipped.",
+    ),
+    // An at-sign with no name is told nothing of.
+    (
+        "@import 'subs.css'; @ a{}",
+        "The @import rule is not supported. Skipped.",
+    ),
+    (":le {}", "':le' is not supported. Selector skipped."),
+];
+
 #[test]
 fn tells_the_logger_what_is_passed_over(rt: HostRuntime) -> Result<(), Fail> {
-    let texts = [
-        (
-            "> {}",
-            "Selector parsing failed cause unexpected combinator.",
-        ),
-        (
-            "@import 'subs.css';",
-            "The @import rule is not supported. Skipped.",
-        ),
-        // An at-sign with no name is told nothing of.
-        (
-            "@import 'subs.css'; @ a{}",
-            "The @import rule is not supported. Skipped.",
-        ),
-        (":le {}", "':le' is not supported. Selector skipped."),
-    ];
-    for (text, message) in texts {
+    for &(text, message) in PASSED_OVER {
         let sink = Memory::new(rt.alloc());
         let sheet = StyleSheet::parse(&sink, rt.alloc(), text)?;
         assert!(rt; sheet.rules.is_empty());
@@ -179,18 +185,20 @@ fn copies_are_equal(sheet: &StyleSheet) -> Result<bool, AllocError> {
     Ok(true)
 }
 
+/// Sheets that are copied.
+const COPIED: &[&str] = &[
+    "",
+    "a .b { c:d }",
+    "a *[class~=\"b\"] { c:d }",
+    "#x { c:d } [id=x] { c:d }",
+    ".b:lang( en ) { c:d } .- { c:d }",
+    "[x=\"a'b\"] { c:d } e { f:g }",
+    "a { b:\u{3000}(x) }",
+];
+
 #[test]
 fn copies_are_equal_to_what_they_copy(rt: HostRuntime) -> Result<(), Fail> {
-    let sheets = [
-        "",
-        "a .b { c:d }",
-        "a *[class~=\"b\"] { c:d }",
-        "#x { c:d } [id=x] { c:d }",
-        ".b:lang( en ) { c:d } .- { c:d }",
-        "[x=\"a'b\"] { c:d } e { f:g }",
-        "a { b:\u{3000}(x) }",
-    ];
-    for text in sheets {
+    for text in COPIED {
         let sheet = read(&rt, text)?;
         assert!(rt; equal_rules(&sheet, &sheet.clone()?), "of {text}");
         assert!(rt; copies_are_equal(&sheet)?, "of {text}");
@@ -198,20 +206,22 @@ fn copies_are_equal_to_what_they_copy(rt: HostRuntime) -> Result<(), Fail> {
     Ok(())
 }
 
+/// Rules, each of which differs from each other one.
+const DIFFERENT: &[&str] = &[
+    "a b { c:d }",
+    "a > b { c:d }",
+    "a b { c:d !important }",
+    "a b { c:e }",
+    "a b { f:d }",
+    "a b { c:d; c:d }",
+    "a b.g { c:d }",
+];
+
 #[test]
 fn rules_differ_in_any_part(rt: HostRuntime) -> Result<(), Fail> {
-    let texts = [
-        "a b { c:d }",
-        "a > b { c:d }",
-        "a b { c:d !important }",
-        "a b { c:e }",
-        "a b { f:d }",
-        "a b { c:d; c:d }",
-        "a b.g { c:d }",
-    ];
-    for (i, text) in texts.iter().enumerate() {
+    for (i, text) in DIFFERENT.iter().enumerate() {
         let sheet = read(&rt, text)?;
-        for (j, other) in texts.iter().enumerate() {
+        for (j, other) in DIFFERENT.iter().enumerate() {
             let same = equal_rules(&sheet, &read(&rt, other)?);
             assert!(rt; same == (i == j), "of {text} and {other}");
         }
@@ -272,24 +282,25 @@ fn sheets_are_made_of_rules(rt: HostRuntime) -> Result<(), Fail> {
     Ok(())
 }
 
+/// Sheets, how they print, and how what they print is printed again. The last two show what the law
+/// of printing leaves out: a bare apostrophe in a value, and white space past ASCII.
+const PRINTED: &[(&str, &str, &str)] = &[
+    (
+        "a .b { c:d } .b:lang( en ) { c:d }",
+        "a *[class~='b'] { c:d; }\n*[class~='b']:lang(en) { c:d; }",
+        "a *[class~='b'] { c:d; }\n*[class~='b']:lang(en) { c:d; }",
+    ),
+    (
+        "[x=\"a'b\"] { c:d } e { f:g }",
+        "e { f:g; }\n*[x='a'b'] { c:d; }",
+        "e { f:g; }",
+    ),
+    ("a { b:\u{3000}(x) }", "a { b:(x); }", ""),
+];
+
 #[test]
 fn reads_again_what_it_printed(rt: HostRuntime) -> Result<(), Fail> {
-    // The last two show what the law of printing leaves out: a bare apostrophe in a value, and
-    // white space past ASCII.
-    let sheets = [
-        (
-            "a .b { c:d } .b:lang( en ) { c:d }",
-            "a *[class~='b'] { c:d; }\n*[class~='b']:lang(en) { c:d; }",
-            "a *[class~='b'] { c:d; }\n*[class~='b']:lang(en) { c:d; }",
-        ),
-        (
-            "[x=\"a'b\"] { c:d } e { f:g }",
-            "e { f:g; }\n*[x='a'b'] { c:d; }",
-            "e { f:g; }",
-        ),
-        ("a { b:\u{3000}(x) }", "a { b:(x); }", ""),
-    ];
-    for (text, printed, again) in sheets {
+    for &(text, printed, again) in PRINTED {
         let first = read(&rt, text)?.to_string(rt.alloc())?;
         assert_eq!(rt; first.as_str(), printed, "of {text}");
         let second = read(&rt, first.as_str())?.to_string(rt.alloc())?;
@@ -298,13 +309,16 @@ fn reads_again_what_it_printed(rt: HostRuntime) -> Result<(), Fail> {
     Ok(())
 }
 
+/// A text in two pieces, and how its sheet prints. A statement ends behind the first piece of the
+/// first row, and not behind that of the second.
+const IN_PIECES: &[(&str, &str, &str)] = &[
+    ("a { }}", " b { c:d }", "b { c:d; }"),
+    ("a { }", "} b { c:d }", ""),
+];
+
 #[test]
 fn reads_a_text_in_pieces(rt: HostRuntime) -> Result<(), Fail> {
-    // A statement ends behind the first piece of the first row, and not behind that of the second.
-    for (front, rest, want) in [
-        ("a { }}", " b { c:d }", "b { c:d; }"),
-        ("a { }", "} b { c:d }", ""),
-    ] {
+    for &(front, rest, want) in IN_PIECES {
         let mut sheet = StyleSheet::new(rt.alloc());
         sheet.parse_more(&Discard, rt.alloc(), front)?;
         sheet.parse_more(&Discard, rt.alloc(), rest)?;

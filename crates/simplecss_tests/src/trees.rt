@@ -3,7 +3,7 @@
 use log::sink::Discard;
 use simplecss::{Element, Keyed, Selector};
 use simplecss_tree::{States, Tree, TreeError};
-use std::alloc::Global;
+use std::alloc::{AllocError, Global};
 use std::io;
 use std::test::Fail;
 
@@ -64,35 +64,37 @@ fn matched(alloc: Global, tree: &Tree<'_>, text: &str) -> Result<Vec<usize>, Fai
     Ok(places)
 }
 
-// By CSS 2.1: sections 5.2 to 5.9 for names, steps and attributes, 5.11.1 for `:first-child`, and
-// 5.11.4 for `:lang`, which passes to children and compares letters of ASCII without their case.
+/// Selectors, and the places of the elements that they match. By CSS 2.1: sections 5.2 to 5.9 for
+/// names, steps and attributes, 5.11.1 for `:first-child`, and 5.11.4 for `:lang`, which passes to
+/// children and compares letters of ASCII without their case.
+const MATCHED: &[(&str, &[usize])] = &[
+    ("*", &[0, 1, 2, 3, 4, 5, 6, 7, 8, 9, 10]),
+    ("b", &[3, 5]),
+    ("B", &[]),
+    ("a b", &[3, 5]),
+    ("a > b", &[3]),
+    ("a > b + c", &[4]),
+    ("c + c", &[6]),
+    ("html + f", &[9]),
+    ("* > :first-child", &[1, 3, 5, 8, 10]),
+    ("#x", &[2]),
+    ("#X", &[10]),
+    (".y", &[3]),
+    (".w.y", &[3]),
+    (".Y", &[]),
+    ("[class='y w']", &[3]),
+    ("[lang|=en]", &[0, 7]),
+    (":lang(en)", &[0, 1, 2, 3, 4, 5, 6, 7, 8]),
+    (":lang(EN-us)", &[7, 8]),
+    (":lang(english)", &[9, 10]),
+    (":hover", &[7]),
+    (":link", &[]),
+];
+
 #[test]
 fn matches_as_the_standard_says(rt: HostRuntime) -> Result<(), Fail> {
     let tree = two_trees(rt.alloc())?;
-    let table: [(&str, &[usize]); 21] = [
-        ("*", &[0, 1, 2, 3, 4, 5, 6, 7, 8, 9, 10]),
-        ("b", &[3, 5]),
-        ("B", &[]),
-        ("a b", &[3, 5]),
-        ("a > b", &[3]),
-        ("a > b + c", &[4]),
-        ("c + c", &[6]),
-        ("html + f", &[9]),
-        ("* > :first-child", &[1, 3, 5, 8, 10]),
-        ("#x", &[2]),
-        ("#X", &[10]),
-        (".y", &[3]),
-        (".w.y", &[3]),
-        (".Y", &[]),
-        ("[class='y w']", &[3]),
-        ("[lang|=en]", &[0, 7]),
-        (":lang(en)", &[0, 1, 2, 3, 4, 5, 6, 7, 8]),
-        (":lang(EN-us)", &[7, 8]),
-        (":lang(english)", &[9, 10]),
-        (":hover", &[7]),
-        (":link", &[]),
-    ];
-    for (text, wanted) in table {
+    for &(text, wanted) in MATCHED {
         let places = matched(rt.alloc(), &tree, text)?;
         assert_eq!(rt; places.as_slice(), wanted, "at {text}");
     }
@@ -121,20 +123,23 @@ fn tells_each_state(rt: HostRuntime) -> Result<(), Fail> {
     Ok(())
 }
 
+/// Elements, their parents and their previous siblings, by place.
+const RELATIVES: &[(usize, Option<usize>, Option<usize>)] = &[
+    (0, None, None),
+    (1, Some(0), None),
+    (2, Some(0), Some(1)),
+    (4, Some(2), Some(3)),
+    (5, Some(4), None),
+    (6, Some(2), Some(4)),
+    (7, Some(0), Some(2)),
+    (9, None, Some(0)),
+    (10, Some(9), None),
+];
+
 #[test]
-fn tells_relatives_and_values(rt: HostRuntime) -> Result<(), Fail> {
+fn tells_relatives(rt: HostRuntime) -> Result<(), Fail> {
     let tree = two_trees(rt.alloc())?;
-    for (place, parent, previous) in [
-        (0, None, None),
-        (1, Some(0), None),
-        (2, Some(0), Some(1)),
-        (4, Some(2), Some(3)),
-        (5, Some(4), None),
-        (6, Some(2), Some(4)),
-        (7, Some(0), Some(2)),
-        (9, None, Some(0)),
-        (10, Some(9), None),
-    ] {
+    for &(place, parent, previous) in RELATIVES {
         let node = tree.node(place).ok_or("no element")?;
         assert_eq!(rt;
             node.parent_element().map(|n| n.place()),
@@ -147,34 +152,38 @@ fn tells_relatives_and_values(rt: HostRuntime) -> Result<(), Fail> {
             "before {place}"
         );
     }
-    let b = tree.node(3).ok_or("no element")?;
-    assert_eq!(rt; (b.name(), b.local_name()), ("b", "b"));
-    assert_eq!(rt; (b.id_value(), b.class_value()), (None, Some("y w")));
-    let g = tree.node(10).ok_or("no element")?;
-    assert_eq!(rt;
-        (g.attribute("id"), g.id_value(), g.attribute("ID")),
-        (Some("X"), Some("X"), None)
-    );
     Ok(())
 }
 
 #[test]
-fn answers_that_there_is_no_element(rt: HostRuntime) -> Result<(), Fail> {
+fn tells_values(rt: HostRuntime) -> Result<(), Fail> {
+    let tree = two_trees(rt.alloc())?;
+    let b = tree.node(3).ok_or("no element")?;
+    assert!(rt; b.name() == "b" && b.local_name() == "b");
+    assert!(rt; b.id_value().is_none() && b.class_value() == Some("y w"));
+    let g = tree.node(10).ok_or("no element")?;
+    assert!(rt; g.id_value() == Some("X") && g.attribute("id") == Some("X"));
+    assert!(rt; g.attribute("ID").is_none() && g.class_value().is_none());
+    Ok(())
+}
+
+#[test]
+fn answers_that_there_is_no_element(rt: HostRuntime) -> Result<(), TreeError> {
+    let none = TreeError::NoElement;
     let mut tree = Tree::new(rt.alloc());
-    assert_eq!(rt; tree.set_attribute("a", "b"), Err(TreeError::NoElement));
-    assert_eq!(rt;
-        tree.set_states(0, States::default()),
-        Err(TreeError::NoElement)
-    );
-    assert_eq!(rt; tree.push(Some(0), "a"), Err(TreeError::NoElement));
+    assert_eq!(rt; tree.set_attribute("a", "b"), Err(none));
+    assert_eq!(rt; tree.set_states(0, States::default()), Err(none));
+    assert_eq!(rt; tree.push(Some(0), "a"), Err(none));
     assert!(rt; tree.node(0).is_none());
-    assert_eq!(rt; tree.push(None, "a"), Ok(0));
-    assert_eq!(rt; tree.push(Some(1), "b"), Err(TreeError::NoElement));
-    assert_eq!(rt;
-        tree.set_states(1, States::default()),
-        Err(TreeError::NoElement)
-    );
+    tree.push(None, "a")?;
+    assert_eq!(rt; tree.push(Some(1), "b"), Err(none));
+    assert_eq!(rt; tree.set_states(1, States::default()), Err(none));
     assert_eq!(rt; tree.len(), 1);
+    Ok(())
+}
+
+#[test]
+fn says_that_there_is_no_element(rt: HostRuntime) -> Result<(), AllocError> {
     let text = TreeError::NoElement.to_string(rt.alloc())?;
     assert_eq!(rt; text.as_str(), "no such element");
     let text = io::Error::from(TreeError::NoElement).to_string(rt.alloc())?;

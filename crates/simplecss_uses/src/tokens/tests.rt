@@ -8,47 +8,66 @@ use std::test::Fail;
 
 const STYLE: &str = "color: red; background: url(\"img.png\") !important; a:b!importantly:x";
 
+/// Styles, and how many of their declarations are important.
+const IMPORTANT: &[(&str, usize)] = &[
+    (STYLE, 2),
+    ("color:red !important", 1),
+    ("color:red", 0),
+    ("color:; x:y !important", 0),
+    ("", 0),
+];
+
 #[test]
 fn counts_important_declarations(rt: HostRuntime) {
-    for (text, want) in [
-        (STYLE, 2),
-        ("color:red !important", 1),
-        ("color:red", 0),
-        ("color:; x:y !important", 0),
-        ("", 0),
-    ] {
+    for &(text, want) in IMPORTANT {
         assert_eq!(rt; important_count(text), want, "at {text}");
         assert_eq!(rt; important_count_by_chain(text), want, "at {text}");
     }
 }
 
+/// Styles, and how many declarations they have.
+const DECLARATIONS: &[(&str, usize)] = &[
+    (STYLE, 4),
+    ("color:red", 1),
+    ("color:; x:y", 0),
+    ("/**/", 0),
+];
+
 #[test]
 fn counts_declarations(rt: HostRuntime) {
-    for (text, want) in [
-        (STYLE, 4),
-        ("color:red", 1),
-        ("color:; x:y", 0),
-        ("/**/", 0),
-    ] {
+    for &(text, want) in DECLARATIONS {
         assert_eq!(rt; declaration_count(text), want, "at {text}");
     }
 }
 
+/// The declarations of the style.
+const ALL: &[Declaration<'static>] = &[
+    Declaration {
+        name: "color",
+        value: "red",
+        important: false,
+    },
+    Declaration {
+        name: "background",
+        value: "url(\"img.png\")",
+        important: true,
+    },
+    Declaration {
+        name: "a",
+        value: "b",
+        important: true,
+    },
+    Declaration {
+        name: "ly",
+        value: "x",
+        important: false,
+    },
+];
+
 #[test]
 fn gathers_declarations(rt: HostRuntime) -> Result<(), Fail> {
     let all = all_declarations(rt.alloc(), STYLE)?;
-    let want = [
-        ("color", "red", false),
-        ("background", "url(\"img.png\")", true),
-        ("a", "b", true),
-        ("ly", "x", false),
-    ];
-    assert_eq!(rt; all.len(), want.len());
-    for (declaration, (name, value, important)) in all.iter().zip(&want) {
-        assert_eq!(rt; declaration.name, *name);
-        assert_eq!(rt; declaration.value, *value);
-        assert_eq!(rt; declaration.important, *important);
-    }
+    assert!(rt; all.as_slice() == ALL);
     Ok(())
 }
 
@@ -64,31 +83,37 @@ fn finds_an_important_declaration(rt: HostRuntime) {
     assert!(rt; first_important("color:red").is_none());
 }
 
+/// Selectors, and how many errors their tokens have.
+const ERRORS: &[(&str, usize)] = &[
+    ("a > b", 0),
+    ("a <", 2),
+    ("a<", 1),
+    ("/* x", 2),
+    ("a / b", 1),
+    ("a/ b", 0),
+    ("", 1),
+];
+
 #[test]
 fn counts_errors(rt: HostRuntime) {
-    for (text, want) in [
-        ("a > b", 0),
-        ("a <", 2),
-        ("a<", 1),
-        ("/* x", 2),
-        ("a / b", 1),
-        ("a/ b", 0),
-        ("", 1),
-    ] {
+    for &(text, want) in ERRORS {
         assert_eq!(rt; error_count(text), want, "at {text}");
     }
 }
 
+/// Selectors, and how many tokens and errors they have.
+const ITEMS: &[(&str, usize)] = &[
+    ("a > b", 3),
+    ("a <", 4),
+    ("a<", 2),
+    ("<", 2),
+    ("", 1),
+    ("a, b", 1),
+];
+
 #[test]
 fn counts_items(rt: HostRuntime) {
-    for (text, want) in [
-        ("a > b", 3),
-        ("a <", 4),
-        ("a<", 2),
-        ("<", 2),
-        ("", 1),
-        ("a, b", 1),
-    ] {
+    for &(text, want) in ITEMS {
         assert_eq!(rt; item_count(text), want, "at {text}");
     }
 }
