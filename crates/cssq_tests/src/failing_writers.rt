@@ -106,42 +106,54 @@ const TREE: &str = "0\ta\n1\tb\n1\tc\n2\tb\n";
 
 const STYLED: &str = "a { c:red !important; c:blue } a { c:green }";
 
-/// Runs, and what each writes where there is room.
-const WHOLE: &[(Run<'static>, &str)] = &[
-    (Run::Selector("a > .b"), "a > *[class~='b']\t0,1,1\n"),
+/// Runs, their outcomes where there is room, and what they then write.
+const RUNS: &[(Run<'static>, Result<(), RunFault>, &str)] = &[
+    (
+        Run::Selector("a > .b"),
+        Ok(()),
+        "a > *[class~='b']\t0,1,1\n",
+    ),
     (
         Run::Sheet(&["#x { a:b }", "p { c:d }"]),
+        Ok(()),
         "p { c:d; }\n*[id='x'] { a:b; }\n",
     ),
-    (Run::Sheet(&[]), ""),
-    (Run::Match(SHEET, TREE), "1:\n2: 1 2\n3:\n4: 1\n"),
-    (Run::Match(SHEET, ""), ""),
-    (Run::Style(STYLED, "0\ta", "c"), "1: red !important\n"),
+    (Run::Sheet(&[]), Ok(()), ""),
+    (Run::Match(SHEET, TREE), Ok(()), "1:\n2: 1 2\n3:\n4: 1\n"),
+    (Run::Match(SHEET, ""), Ok(()), ""),
+    (
+        Run::Style(STYLED, "0\ta", "c"),
+        Ok(()),
+        "1: red !important\n",
+    ),
     (
         Run::Style("a { c:\u{E9} }", "0\ta\n0\ta", "c"),
+        Ok(()),
         "1: \u{E9}\n2: \u{E9}\n",
     ),
-];
-
-/// Runs that end with a fault before they write.
-const FAULTY: &[(Run<'static>, RunFault)] = &[
-    (Run::Selector(""), RunFault::Refused),
-    (Run::Selector("a <"), RunFault::Refused),
+    // With another fault nothing is written. Without room each write would be refused, of no byte
+    // too.
+    (Run::Selector(""), Err(RunFault::Refused), ""),
+    (Run::Selector("a <"), Err(RunFault::Refused), ""),
     (
         Run::Match(SHEET, "1\ta"),
-        RunFault::Tree(TreeFault::BadDepth(1)),
+        Err(RunFault::Tree(TreeFault::BadDepth(1))),
+        "",
     ),
     (
         Run::Match(SHEET, "0\ta\n1\tb\tk"),
-        RunFault::Tree(TreeFault::NoEquals(2)),
+        Err(RunFault::Tree(TreeFault::NoEquals(2))),
+        "",
     ),
     (
         Run::Style(STYLED, "0\ta\n0\t\n", "c"),
-        RunFault::Tree(TreeFault::EmptyName(2)),
+        Err(RunFault::Tree(TreeFault::EmptyName(2))),
+        "",
     ),
     (
         Run::Style(STYLED, "0\ta\tk=\tk=", "c"),
-        RunFault::Tree(TreeFault::RepeatedKey(1)),
+        Err(RunFault::Tree(TreeFault::RepeatedKey(1))),
+        "",
     ),
 ];
 
@@ -159,18 +171,21 @@ fn goes_as(
 }
 
 /// The first writer, by its room, its most bytes a call and its ending, into which the run does not
-/// go as it must: it stops at the first write that is refused, and says so; where there is room it
-/// ends well.
-fn astray(alloc: Global, run: Run<'_>, output: &[u8]) -> Option<(usize, usize, Ending)> {
+/// go as it must: where there is room, or more, it has that outcome and output; else it stops at
+/// the first write that is refused, and says so.
+fn astray(
+    alloc: Global,
+    run: Run<'_>,
+    outcome: Result<(), RunFault>,
+    output: &[u8],
+) -> Option<(usize, usize, Ending)> {
     for (most, ending) in WRITERS {
-        for room in 0..=output.len() {
-            let is_short = room < output.len();
-            let outcome = if is_short {
-                Err(RunFault::Output)
+        for room in 0..output.len().saturating_add(2) {
+            let wanted = if room < output.len() {
+                (Err(RunFault::Output), &output[..room], 1)
             } else {
-                Ok(())
+                (outcome, output, 0)
             };
-            let wanted = (outcome, &output[..room], usize::from(is_short));
             if !goes_as(alloc, run, (room, most, ending), wanted) {
                 return Some((room, most, ending));
             }
@@ -181,29 +196,8 @@ fn astray(alloc: Global, run: Run<'_>, output: &[u8]) -> Option<(usize, usize, E
 
 #[test]
 fn stops_where_the_writer_is_full(rt: HostRuntime) {
-    for (run, output) in WHOLE {
-        let found = astray(rt.alloc(), *run, output.as_bytes());
-        assert!(rt; found.is_none(), "{run:?} into {found:?}");
-    }
-}
-
-/// The first writer into which the run does not end with the fault before it writes. Without room
-/// each write would be refused, of no byte too.
-fn astray_before(alloc: Global, run: Run<'_>, fault: RunFault) -> Option<(usize, usize, Ending)> {
-    for (most, ending) in WRITERS {
-        for room in [0, 100] {
-            if !goes_as(alloc, run, (room, most, ending), (Err(fault), b"", 0)) {
-                return Some((room, most, ending));
-            }
-        }
-    }
-    None
-}
-
-#[test]
-fn writes_nothing_after_another_fault(rt: HostRuntime) {
-    for (run, fault) in FAULTY {
-        let found = astray_before(rt.alloc(), *run, *fault);
+    for &(run, outcome, output) in RUNS {
+        let found = astray(rt.alloc(), run, outcome, output.as_bytes());
         assert!(rt; found.is_none(), "{run:?} into {found:?}");
     }
 }

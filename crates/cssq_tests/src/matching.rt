@@ -41,47 +41,32 @@ fn taken(alloc: Global, selector: &str, tree: &str) -> Result<String, Fail> {
     Ok(numbers)
 }
 
+/// Two elements, each with a child.
+const TWO_ROOTS: &str = "0,a;1,b;0,a;1,c;";
+
+/// An element, its child, and the child of that.
+const CHAIN: &str = "0,a,class=w;1,b,class=x;2,c,class=w";
+
+/// A drawing of two rectangles.
+const DRAWING: &str = "0,svg;1,g;2,rect,class=round blue;2,rect,color=red";
+
 /// A tree, a selector, and the numbers of the elements that it takes.
 const TAKEN: &[(&str, &str, &str)] = &[
-    // Combinators.
-    ("0,a;1,b;0,a;1,c;", "b + c", ""),
-    ("0,a;1,b;0,a;1,c;", "a + a > c", "4"),
-    ("0,a;1,b;0,a;1,c;", ":first-child", "1 2 4"),
-    ("0,a;1,b;0,a;1,c;", "a b", "2"),
-    ("0,a;1,b;0,a;1,c;", "a + a", "3"),
-    // Steps to children.
-    ("0,a,class=w;1,b,class=x;2,c,class=w", "a > .x", "2"),
-    ("0,a,class=w;1,b,class=x;2,c,class=w", "a > b > c", "3"),
-    ("0,a,class=w;1,b,class=x;2,c,class=w", "b > a", ""),
-    ("0,a,class=w;1,b,class=x;2,c,class=w", "*", "1 2 3"),
-    ("0,a,class=w;1,b,class=x;2,c,class=w", "* > * > * > *", ""),
-    // A drawing.
-    (
-        "0,svg;1,g;2,rect,class=round blue;2,rect,color=red",
-        "rect:first-child",
-        "3",
-    ),
-    (
-        "0,svg;1,g;2,rect,class=round blue;2,rect,color=red",
-        "[color=red]",
-        "4",
-    ),
-    (
-        "0,svg;1,g;2,rect,class=round blue;2,rect,color=red",
-        "svg rect",
-        "3 4",
-    ),
-    (
-        "0,svg;1,g;2,rect,class=round blue;2,rect,color=red",
-        "svg > g > rect",
-        "3 4",
-    ),
-    (
-        "0,svg;1,g;2,rect,class=round blue;2,rect,color=red",
-        ".blue",
-        "3",
-    ),
-    // Small trees.
+    (TWO_ROOTS, "b + c", ""),
+    (TWO_ROOTS, "a + a > c", "4"),
+    (TWO_ROOTS, ":first-child", "1 2 4"),
+    (TWO_ROOTS, "a b", "2"),
+    (TWO_ROOTS, "a + a", "3"),
+    (CHAIN, "a > .x", "2"),
+    (CHAIN, "a > b > c", "3"),
+    (CHAIN, "b > a", ""),
+    (CHAIN, "*", "1 2 3"),
+    (CHAIN, "* > * > * > *", ""),
+    (DRAWING, "rect:first-child", "3"),
+    (DRAWING, "[color=red]", "4"),
+    (DRAWING, "svg rect", "3 4"),
+    (DRAWING, "svg > g > rect", "3 4"),
+    (DRAWING, ".blue", "3"),
     (
         "0,div,id=div1;1,p;2,ol;3,li;4,g;5,p,id=p1;",
         "div ol>li p",

@@ -151,13 +151,13 @@ fn consumes_bytes(rt: HostRuntime) {
     let mut s = Stream::new(TEXT);
     assert_eq!(rt; (s.curr_byte(), s.next_byte()), (Ok(b'a'), Ok(0xC3)));
     assert!(rt; !s.at_end());
-    assert_eq!(rt; s.consume_byte(b'a'), Ok(()));
+    assert_eq!(rt; (s.consume_byte(b'a'), s.pos()), (Ok(()), 1));
     let other = Err(Error::InvalidByte {
         expected: b'x',
         actual: 0xC3,
         pos: at(1, 2),
     });
-    assert_eq!(rt; s.consume_byte(b'x'), other);
+    assert_eq!(rt; (s.consume_byte(b'x'), s.pos()), (other, 1));
     s.try_consume_byte(b'x');
     assert_eq!(rt; s.pos(), 1);
 }
@@ -171,6 +171,7 @@ fn consumes_runs_of_bytes(rt: HostRuntime) {
     s.skip_spaces();
     assert_eq!(rt; (s.pos(), s.gen_text_pos()), (4, at(2, 1)));
     s.try_consume_byte(b'(');
+    assert_eq!(rt; s.pos(), 5);
     s.skip_bytes(|b| b != b')');
     assert_eq!(rt; (s.pos(), s.slice_tail()), (6, ")c"));
 }
