@@ -3,7 +3,6 @@ pub mod Joins
 pub mod ListLemmas
 pub mod DeclarationEquality
 pub mod SheetLemmas
-pub mod BlockLemmas
 pub mod StatementLemmas
 pub mod StatementPlaces
 pub mod RulePlaces

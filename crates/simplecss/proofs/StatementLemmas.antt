@@ -1,17 +1,15 @@
--- The parts of a rule set's head, its block, and the statements of a text, one at a time.
+-- The parts of a rule set's head, and the statements of a text, one at a time.
 -- Serves `StyleSheet::{parse, parse_more}` and `StatementReader::read_next` (a text statement by
 -- statement).
-use Rattle.std.proofs.Common.{◌≡◌, ◌==◌, ◌||◌, not, ℕ, ◌+◌, suc, ◌<◌, List, [], ◌∷◌, ◌++◌, Bool, true, false, if◌then◌else◌, length, Option, Some, None, option_to_list, refl, sym, ap, ◌∙◌, arith, inl, inr, subst, MatchBool, IsTrue, ◌↔◌}
+use Rattle.std.proofs.Common.{◌≡◌, ◌==◌, ◌||◌, not, ℕ, ◌+◌, ◌<◌, List, [], ◌∷◌, ◌++◌, Bool, true, false, if◌then◌else◌, length, Option, Some, None, option_to_list, refl, sym, ap, ◌∙◌, arith, inl, inr, subst, MatchBool, IsTrue, ◌↔◌}
 use Rattle.std.proofs.lemmas.Bool.Decides.{nat_tests}
-use Rattle.std.specs.List.{filter_map, flat_map, prefix_len}
+use Rattle.std.specs.List.{filter_map, flat_map}
 use Rattle.simplecss_text.specs.Reading.{Fault, no_comment, got, fails, each}
-use Rattle.simplecss_text.specs.Bytes.{past_one, starts, after_byte}
+use Rattle.simplecss_text.specs.Bytes.{past_one, starts}
 use Rattle.simplecss_text.specs.Characters.{Edition}
 use Rattle.simplecss_text.specs.Comments.{opens_comment, past_blank, blank}
 use Rattle.simplecss_text.specs.Components.{Component}
-use Rattle.simplecss_text.specs.Declarations.{StyleDeclaration}
-use Rattle.simplecss_text.specs.Blocks.{block}
-use Rattle.simplecss_text.specs.Statements.{StyleRule, part, part_and_comma, parts, next_block, statement, ends_statements, next_statement, statements}
+use Rattle.simplecss_text.specs.Statements.{StyleRule, part, part_and_comma, parts, statement, ends_statements, next_statement, statements}
 use Rattle.simplecss_text.proofs.reading.EachLaws.{took, option_cases, each-none, each-some}
 use Rattle.simplecss_text.proofs.bytes.GapLaws.{past_blank-again}
 use Rattle.simplecss_text.proofs.reading.StatementLaws.{part_and_comma-takes, next_statement-takes}
@@ -58,30 +56,6 @@ parts-less edition here rest o p e = took (part_and_comma edition) (part_and_com
 
 pub pair-of : {A B : Type 0} {a : A} {b : B} {r : A × B} → a ≡ r.0 → b ≡ r.1 → r ≡ (a, b)
 pair-of e f = rw (e, f) refl
-
--- ---- the block of a rule set
-
--- the block behind the first opening brace, if there is one
-abbrev block_behind : Edition → Option (List ℕ) → List StyleDeclaration × List ℕ
-block_behind edition None = ([], [])
-block_behind edition (Some text) = block edition text
-
-next_block-behind : (edition : Edition) (text : List ℕ) → next_block edition text ≡ block_behind edition (after_byte 123 text)
-unfolding next_block
-next_block-behind edition [] = refl
-next_block-behind edition (b ∷ text) = by (b == 123) refl (next_block-behind edition text)
-  where
-    by : (t : Bool) → (b == 123) ≡ t → next_block edition text ≡ block_behind edition (after_byte 123 text) → next_block edition (b ∷ text) ≡ block_behind edition (after_byte 123 (b ∷ text))
-    by true e more = rw (e, e) refl
-    by false e more =
-        let one : 1 + prefix_len (λ b. not (b == 123)) text ≡ suc (prefix_len (λ b. not (b == 123)) text) = omega arith in
-        rw (e, one) more
-
-pub next_block-some : (edition : Edition) (text rest : List ℕ) → after_byte 123 text ≡ Some rest → next_block edition text ≡ block edition rest
-next_block-some edition text rest e = next_block-behind edition text ∙ ap (block_behind edition) e
-
-pub next_block-none : (edition : Edition) (text : List ℕ) → after_byte 123 text ≡ None → next_block edition text ≡ ([], [])
-next_block-none edition text e = next_block-behind edition text ∙ ap (block_behind edition) e
 
 -- ---- statements
 

@@ -1,7 +1,6 @@
 pub mod SeenRules
 pub mod RulePlaces
 pub mod SharedBlocks
-pub mod BlockDepths
 pub mod SheetPlaces
 pub mod SelectorPlaces
 pub mod Matching

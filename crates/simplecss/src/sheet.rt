@@ -1,6 +1,4 @@
 //! Rules and style sheets.
-mod blocks;
-mod ends;
 pub mod laws;
 mod order;
 mod printing;

@@ -1,3 +1,4 @@
 pub mod SeenDeclarations
 pub mod UntoldFaults
 pub mod DeclarationTokenizers
+pub mod BlockDepths

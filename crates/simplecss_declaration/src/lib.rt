@@ -1,14 +1,16 @@
-//! Declarations of CSS 2.1 and their tokenizer. Users depend on the crate `simplecss`, which gives
-//! these on.
+//! Declarations of CSS 2.1, their tokenizer, and the blocks that they stand in. Users depend on the
+//! crate `simplecss`, which gives declarations and tokenizer on.
 #![tactic(auto)]
 
+mod blocks;
 mod declarations;
 mod digits;
+mod ends;
 mod printing;
 mod reader;
 mod terms;
 mod tokenizer;
 
+pub use blocks::{consume_next_block, pass_semicolon_or_block};
 pub use declarations::Declaration;
-pub use reader::consume_declaration;
 pub use tokenizer::DeclarationTokenizer;

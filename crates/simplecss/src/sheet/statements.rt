@@ -1,22 +1,18 @@
 //! Rule sets and at-rules.
-ghost use Rattle.std.specs.Prelude.{◌≡◌, ◌++◌, [], IfOk, OnOk, map, option_to_list};
-ghost use Rattle.simplecss_text.specs.Statements.{part, parts, next_block, rule_set, at_rule_rest};
-ghost use Rattle.simplecss_text.specs.Statements.{past_semicolon_or_block, statement};
-ghost use Rattle.simplecss_text.specs.Bytes.{is_neither, past};
+ghost use Rattle.std.specs.Prelude.{◌≡◌, ◌++◌, [], OnOk, map, option_to_list};
+ghost use Rattle.simplecss_text.specs.Statements.{part, parts, rule_set, at_rule_rest, statement};
 ghost use Rattle.simplecss_text.specs.ThisEdition.{this_edition};
 ghost use Rattle.simplecss_text.specs.Cursor.{text_of, rest_of};
 ghost use Rattle.simplecss_declaration.specs.SeenDeclarations.{declaration_of};
 ghost use Rattle.simplecss.specs.SeenRules.{rule_of};
 ghost use Rattle.simplecss.specs.SharedBlocks.{rules_with};
 
-use super::blocks::{consume_block, pass_block};
-use super::ends;
 use super::rules::Rule;
 use log::{Log, warn};
-use simplecss_declaration::Declaration;
+use simplecss_declaration::{Declaration, consume_next_block, pass_semicolon_or_block};
 use simplecss_selector::Selector;
+use simplecss_text::readers;
 use simplecss_text::stream::Stream;
-use simplecss_text::{readers, scan};
 use std::alloc::{AllocError, Global};
 
 /// Adds the selector, if there is one.
@@ -74,29 +70,6 @@ fn consume_parts<'a, R: Log>(
     }
 }
 
-/// Reads the declarations of the block that the next opening brace begins into the list, in the
-/// place of those that it held. Without such a brace there are none, and the text is used up.
-fn consume_next_block<'a>(
-    s: &mut Stream<'a>,
-    declarations: &mut Vec<Declaration<'a>>,
-) -> Result<(), AllocError>
-    ensures text { text_of s.new ≡ text_of s.old }
-    ensures reads { OnOk result (next_block this_edition (rest_of s.old)
-        ≡ (map declaration_of declarations.new.items, rest_of s.new)) }
-{
-    match scan::find_byte(s.slice_tail(), b'{') {
-        Some(at) => {
-            s.advance(at + 1);
-            consume_block(s, declarations)
-        }
-        None => {
-            s.jump_to_end();
-            declarations.clear();
-            Ok(())
-        }
-    }
-}
-
 /// Adds a rule for each selector, and takes the selectors out of their list. Each rule has its own
 /// list of the declarations, which takes no more memory than they need.
 fn push_rules<'a>(
@@ -118,20 +91,6 @@ fn push_rules<'a>(
     Ok(())
 }
 
-/// Passes the rest of an at-rule behind its name: up to a semicolon, and it, or up to a block, and
-/// that.
-fn pass_to_end(s: &mut Stream<'_>)
-    ensures text { text_of s.new ≡ text_of s.old }
-    ensures rest { rest_of s.new ≡ past_semicolon_or_block (past (is_neither 59 123) (rest_of s.old)) }
-{
-    s.advance(ends::before_either(s.slice_tail(), b';', b'{'));
-    if readers::pass_byte(s, b'{') {
-        pass_block(s);
-    } else {
-        s.try_consume_byte(b';');
-    }
-}
-
 /// Passes an at-rule behind its sign, and tells the logger that it is passed. A faulty name ends
 /// it.
 #[tactic(auto, unfolding(simplecss_text::specs::Statements::at_rule_rest))]
@@ -141,7 +100,7 @@ fn pass_at_rule<R: Log>(rt: &R, s: &mut Stream<'_>)
 {
     if let Some(name) = readers::take_name(s) {
         warn!(rt; "The @{} rule is not supported. Skipped.", name);
-        pass_to_end(s);
+        pass_semicolon_or_block(s);
     }
 }
 

@@ -5,8 +5,8 @@ use Rattle.simplecss_text.specs.ThisEdition.{this_edition}
 use Rattle.simplecss_text.specs.Cursor.{rest_of}
 use Rattle.simplecss_text.proofs.reading.EachLaws.{done_start, done_step, done_end}
 use Rattle.simplecss_declaration.specs.SeenDeclarations.{declaration_of}
-use Rattle.simplecss.proofs.BlockLemmas.{list-some, list-less, list-none, list-broken, past_list-end, past_list-broken}
-use Rattle.simplecss.proofs.sheet.blocks.consume_declarations.Goals as goal
+use Rattle.simplecss_declaration.proofs.BlockLemmas.{list-some, list-less, list-none, list-broken, past_list-end, past_list-broken}
+use Rattle.simplecss_declaration.proofs.blocks.consume_declarations.Goals as goal
 
 pub list-smaller : goal.list-smaller
 list-smaller c = list-less this_edition _ _ _ c.in-Some.ensures.reads

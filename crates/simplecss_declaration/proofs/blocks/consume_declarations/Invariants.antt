@@ -4,7 +4,7 @@ use Rattle.simplecss_text.specs.ThisEdition.{this_edition}
 use Rattle.simplecss_text.specs.Cursor.{text_of, rest_of}
 use Rattle.simplecss_text.proofs.reading.EachLaws.{Done}
 use Rattle.simplecss_declaration.specs.SeenDeclarations.{declaration_of}
-use Rattle.simplecss.proofs.sheet.blocks.consume_declarations.Given as goal
+use Rattle.simplecss_declaration.proofs.blocks.consume_declarations.Given as goal
 
 abbrev pub invariant-list : goal.invariant-list
 invariant-list l = record {

@@ -1,7 +1,7 @@
 use Rattle.std.proofs.Common.{◌≡◌, ◌+◌, ◌-◌, length, take, drop, sym, subst, arith, refl}
-use Rattle.simplecss.specs.BlockDepths.{ClosesFirst, ClosesNowhere}
-use Rattle.simplecss.proofs.BlockLemmas.{IsInside, part_len, part_split, inside-passed, inside-closed, inside-open}
-use Rattle.simplecss.proofs.sheet.blocks.closing_place.Goals as goal
+use Rattle.simplecss_declaration.specs.BlockDepths.{ClosesFirst, ClosesNowhere}
+use Rattle.simplecss_declaration.proofs.BlockLemmas.{IsInside, part_len, part_split, inside-passed, inside-closed, inside-open}
+use Rattle.simplecss_declaration.proofs.blocks.closing_place.Goals as goal
 
 pub overflow_add-result : goal.overflow_add-result
 overflow_add-result c =

@@ -1,6 +1,6 @@
 use Rattle.std.proofs.Common.{◌≡◌, take}
 use Rattle.simplecss_text.specs.Blocks.{count_of}
-use Rattle.simplecss.proofs.sheet.blocks.brace_counts.Given as goal
+use Rattle.simplecss_declaration.proofs.blocks.brace_counts.Given as goal
 
 abbrev pub invariant-loop-byte : goal.invariant-loop-byte
 invariant-loop-byte l = record {

@@ -4,7 +4,7 @@ use Rattle.std.specs.Str.{IsCharBoundary}
 use Rattle.simplecss_text.specs.Bytes.{is_neither}
 use Rattle.simplecss_text.proofs.bytes.CutLemmas.{IsCharBoundary-stops}
 use Rattle.simplecss_declaration.proofs.ByteLemmas.{is_neither-ascii}
-use Rattle.simplecss.proofs.sheet.ends.before_either.Goals as goal
+use Rattle.simplecss_declaration.proofs.ends.before_either.Goals as goal
 
 pub returns-clause-boundary : goal.returns-clause-boundary
 returns-clause-boundary c =

@@ -1,6 +1,6 @@
 use Rattle.std.proofs.Common.{◌≤◌, ◌-◌, length}
-use Rattle.simplecss.proofs.BlockLemmas.{IsInside}
-use Rattle.simplecss.proofs.sheet.blocks.closing_place.Given as goal
+use Rattle.simplecss_declaration.proofs.BlockLemmas.{IsInside}
+use Rattle.simplecss_declaration.proofs.blocks.closing_place.Given as goal
 
 abbrev pub invariant-chunks : goal.invariant-chunks
 invariant-chunks l = record {

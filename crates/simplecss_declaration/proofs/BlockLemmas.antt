@@ -1,19 +1,22 @@
 -- Blocks, a declaration at a time.
--- Serves `sheet::blocks::{closing_place, block_end, consume_declarations}` (where a block ends).
-use Rattle.std.proofs.Common.{◌≡◌, ℕ, ◌+◌, ◌-◌, ◌<◌, ◌≤◌, ◌==◌, ◌&&◌, List, [], Bool, true, false, cond, length, take, drop, get_or, slice_index, None, Some, refl, sym, ap, ◌∙◌, arith, eq-eqb, eqb-true, if◌then◌else◌, length-drop, nat_lt, ltb-true, ltb-false}
+-- Serves `blocks::{closing_place, block_end, consume_declarations, consume_next_block}` (where a
+-- block begins and ends).
+use Rattle.std.proofs.Common.{◌≡◌, ℕ, ◌+◌, ◌-◌, ◌<◌, ◌≤◌, ◌==◌, ◌&&◌, List, [], ◌∷◌, Bool, true, false, cond, not, suc, length, take, drop, get_or, slice_index, Option, None, Some, refl, sym, ap, ◌∙◌, arith, eq-eqb, eqb-true, if◌then◌else◌, length-drop, nat_lt, ltb-true, ltb-false}
 use Rattle.std.proofs.lemmas.List.{get_or-drop, get_or-take, take-take, drop-take, length-take, length-take-le, take_rest}
 use Rattle.std.proofs.lemmas.List.Sums.{sum_by-take-drop}
+use Rattle.std.specs.List.{prefix_len}
 use Rattle.std.specs.Str.{IsCharBoundary}
 use Rattle.simplecss_text.specs.Reading.{Reading, got, fails, found, each, followed_by}
-use Rattle.simplecss_text.specs.Bytes.{past_byte}
+use Rattle.simplecss_text.specs.Bytes.{past_byte, after_byte}
 use Rattle.simplecss_text.specs.Characters.{Edition}
 use Rattle.simplecss_text.specs.Declarations.{StyleDeclaration, declaration, next_declaration}
-use Rattle.simplecss_text.specs.Blocks.{count_of, closes_block, block_end, from_block_end, ends_list, declaration_in_block, past_broken, past_list}
+use Rattle.simplecss_text.specs.Blocks.{count_of, closes_block, block_end, from_block_end, ends_list, declaration_in_block, past_broken, past_list, block}
+use Rattle.simplecss_text.specs.Statements.{next_block}
 use Rattle.simplecss_text.proofs.reading.EachLaws.{took, each-none, each-some}
 use Rattle.simplecss_text.proofs.reading.DeclarationLaws.{next_declaration-takes, declaration_in_block-takes}
 use Rattle.simplecss_text.proofs.reading.LeastLaws.{least-is, least-none, least-le, least-passes}
 use Rattle.simplecss_declaration.specs.UntoldFaults.{FailsAt}
-use Rattle.simplecss.specs.BlockDepths.{closes_at, ClosesFirst, ClosesNowhere}
+use Rattle.simplecss_declaration.specs.BlockDepths.{closes_at, ClosesFirst, ClosesNowhere}
 use Rattle.simplecss_declaration.proofs.DeclarationLists.{found-none}
 
 first-true : (a b : Bool) → (a && b) ≡ true → a ≡ true
@@ -140,3 +143,27 @@ past_list-broken edition text left e h = rw e (by (declaration edition text) h)
     by : (r : Reading StyleDeclaration) → FailsAt r left → past_broken r ≡ past_byte 125 (from_block_end left)
     by (got p rest) h = absurd h
     by (fails fault rest) h = ap (λ (t : List ℕ). past_byte 125 (from_block_end t)) (sym h)
+
+-- ---- the block of a rule set
+
+-- the block behind the first opening brace, if there is one
+abbrev block_behind : Edition → Option (List ℕ) → List StyleDeclaration × List ℕ
+block_behind edition None = ([], [])
+block_behind edition (Some text) = block edition text
+
+next_block-behind : (edition : Edition) (text : List ℕ) → next_block edition text ≡ block_behind edition (after_byte 123 text)
+unfolding next_block
+next_block-behind edition [] = refl
+next_block-behind edition (b ∷ text) = by (b == 123) refl (next_block-behind edition text)
+  where
+    by : (t : Bool) → (b == 123) ≡ t → next_block edition text ≡ block_behind edition (after_byte 123 text) → next_block edition (b ∷ text) ≡ block_behind edition (after_byte 123 (b ∷ text))
+    by true e more = rw (e, e) refl
+    by false e more =
+        let one : 1 + prefix_len (λ b. not (b == 123)) text ≡ suc (prefix_len (λ b. not (b == 123)) text) = omega arith in
+        rw (e, one) more
+
+pub next_block-some : (edition : Edition) (text rest : List ℕ) → after_byte 123 text ≡ Some rest → next_block edition text ≡ block edition rest
+next_block-some edition text rest e = next_block-behind edition text ∙ ap (block_behind edition) e
+
+pub next_block-none : (edition : Edition) (text : List ℕ) → after_byte 123 text ≡ None → next_block edition text ≡ ([], [])
+next_block-none edition text e = next_block-behind edition text ∙ ap (block_behind edition) e

@@ -1,18 +1,21 @@
-//! Blocks of declarations.
+//! Blocks of declarations, and what of a style sheet is passed up to a block and with it.
 ghost use Rattle.std.specs.Prelude.{◌≡◌, ◌+◌, ◌<◌, ◌^◌, MatchResult, OnOk, length, map};
 ghost use Rattle.std.specs.Str.{IsCharBoundary};
 ghost use Rattle.simplecss_text.specs.Reading.{each};
-ghost use Rattle.simplecss_text.specs.Bytes.{past_byte};
+ghost use Rattle.simplecss_text.specs.Bytes.{past_byte, is_neither, past};
 ghost use Rattle.simplecss_text.specs.Blocks.{count_of, block_end as block_end_of, from_block_end};
 ghost use Rattle.simplecss_text.specs.Blocks.{ends_list, declaration_in_block, past_list, block};
+ghost use Rattle.simplecss_text.specs.Statements.{next_block, past_semicolon_or_block};
 ghost use Rattle.simplecss_text.specs.ThisEdition.{this_edition};
 ghost use Rattle.simplecss_text.specs.Cursor.{text_of, rest_of};
-ghost use Rattle.simplecss.specs.BlockDepths.{ClosesFirst, ClosesNowhere};
+ghost use Rattle.simplecss_declaration.specs.BlockDepths.{ClosesFirst, ClosesNowhere};
 ghost use Rattle.simplecss_declaration.specs.SeenDeclarations.{declaration_of};
 
-use simplecss_declaration::{Declaration, consume_declaration};
-use simplecss_text::readers;
+use super::declarations::Declaration;
+use super::ends;
+use super::reader::consume_declaration;
 use simplecss_text::stream::Stream;
+use simplecss_text::{readers, scan};
 use std::alloc::AllocError;
 
 /// How many bytes are tested at once.
@@ -99,7 +102,7 @@ fn block_end(text: &str) -> usize
 }
 
 /// Passes the rest of the block that the place is in, and the closing brace that ends it.
-pub fn pass_block(s: &mut Stream<'_>)
+fn pass_block(s: &mut Stream<'_>)
     ensures text { text_of s.new ≡ text_of s.old }
     ensures rest { rest_of s.new ≡ past_byte 125 (from_block_end (rest_of s.old)) }
 {
@@ -147,7 +150,7 @@ fn consume_declarations<'a>(
 /// its declarations. So a block that a broken declaration ended takes a further one. The list then
 /// holds the block's declarations alone.
 #[tactic(auto, unfolding(simplecss_text::specs::Blocks::block))]
-pub fn consume_block<'a>(
+fn consume_block<'a>(
     s: &mut Stream<'a>,
     declarations: &mut Vec<Declaration<'a>>,
 ) -> Result<(), AllocError>
@@ -158,4 +161,41 @@ pub fn consume_block<'a>(
     consume_declarations(s, declarations)?;
     s.try_consume_byte(b'}');
     Ok(())
+}
+
+/// Reads the declarations of the block that the next opening brace begins into the list, in the
+/// place of those that it held. Without such a brace there are none, and the text is used up.
+pub fn consume_next_block<'a>(
+    s: &mut Stream<'a>,
+    declarations: &mut Vec<Declaration<'a>>,
+) -> Result<(), AllocError>
+    ensures text { text_of s.new ≡ text_of s.old }
+    ensures reads { OnOk result (next_block this_edition (rest_of s.old)
+        ≡ (map declaration_of declarations.new.items, rest_of s.new)) }
+{
+    match scan::find_byte(s.slice_tail(), b'{') {
+        Some(at) => {
+            s.advance(at + 1);
+            consume_block(s, declarations)
+        }
+        None => {
+            s.jump_to_end();
+            declarations.clear();
+            Ok(())
+        }
+    }
+}
+
+/// Passes what an at-rule has behind its name: up to a semicolon, and it, or up to a block, and that.
+pub fn pass_semicolon_or_block(s: &mut Stream<'_>)
+    ensures text { text_of s.new ≡ text_of s.old }
+    ensures rest { rest_of s.new
+        ≡ past_semicolon_or_block (past (is_neither 59 123) (rest_of s.old)) }
+{
+    s.advance(ends::before_either(s.slice_tail(), b';', b'{'));
+    if readers::pass_byte(s, b'{') {
+        pass_block(s);
+    } else {
+        s.try_consume_byte(b';');
+    }
 }

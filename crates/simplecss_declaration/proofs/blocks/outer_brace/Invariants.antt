@@ -1,7 +1,7 @@
 use Rattle.std.proofs.Common.{◌≡◌, ℕ, ◌+◌, ◌<◌, false, take}
 use Rattle.simplecss_text.specs.Blocks.{count_of}
-use Rattle.simplecss.specs.BlockDepths.{closes_at}
-use Rattle.simplecss.proofs.sheet.blocks.outer_brace.Given as goal
+use Rattle.simplecss_declaration.specs.BlockDepths.{closes_at}
+use Rattle.simplecss_declaration.proofs.blocks.outer_brace.Given as goal
 
 abbrev pub invariant-loop-place : goal.invariant-loop-place
 invariant-loop-place l = record {

@@ -2,8 +2,8 @@ use Rattle.std.proofs.Common.{◌≡◌, ◌+◌, drop, Some, None, sym, ap, ◌
 use Rattle.simplecss_text.specs.Bytes.{after_byte}
 use Rattle.simplecss_text.specs.ThisEdition.{this_edition}
 use Rattle.simplecss_text.specs.Cursor.{rest_of}
-use Rattle.simplecss.proofs.StatementLemmas.{next_block-some, next_block-none}
-use Rattle.simplecss.proofs.sheet.statements.consume_next_block.Goals as goal
+use Rattle.simplecss_declaration.proofs.BlockLemmas.{next_block-some, next_block-none}
+use Rattle.simplecss_declaration.proofs.blocks.consume_next_block.Goals as goal
 
 pub returns-in-Some-clause-reads : goal.returns-in-Some-clause-reads
 returns-in-Some-clause-reads c =
