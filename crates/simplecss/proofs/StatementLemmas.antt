@@ -1,7 +1,7 @@
 -- The parts of a rule set's head, and the statements of a text, one at a time.
 -- Serves `StyleSheet::{parse, parse_more}` and `StatementReader::read_next` (a text statement by
 -- statement).
-use Rattle.std.proofs.Common.{◌≡◌, ◌==◌, ◌||◌, not, ℕ, ◌+◌, ◌<◌, List, [], ◌∷◌, ◌++◌, Bool, true, false, if◌then◌else◌, length, Option, Some, None, option_to_list, refl, sym, ap, ◌∙◌, arith, inl, inr, subst, MatchBool, IsTrue, ◌↔◌}
+use Rattle.std.proofs.Common.{◌≡◌, ◌==◌, ◌||◌, not, ℕ, ◌<◌, List, [], ◌∷◌, ◌++◌, Bool, true, false, if◌then◌else◌, length, Option, Some, None, option_to_list, refl, sym, ap, ◌∙◌, arith, inl, inr, subst, MatchBool, IsTrue, ◌↔◌}
 use Rattle.std.proofs.lemmas.Bool.Decides.{nat_tests}
 use Rattle.std.specs.List.{filter_map, flat_map}
 use Rattle.simplecss_text.specs.Reading.{Fault, no_comment, got, fails, each}

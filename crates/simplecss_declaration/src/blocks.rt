@@ -2,6 +2,7 @@
 ghost use Rattle.std.specs.Prelude.{◌≡◌, ◌+◌, ◌<◌, ◌^◌, MatchResult, OnOk, length, map};
 ghost use Rattle.std.specs.Str.{IsCharBoundary};
 ghost use Rattle.simplecss_text.specs.Reading.{each};
+ghost use Rattle.simplecss_text.specs.AsciiBytes.{semicolon, open_brace, close_brace};
 ghost use Rattle.simplecss_text.specs.Bytes.{past_byte, is_neither, past};
 ghost use Rattle.simplecss_text.specs.Blocks.{count_of, block_end as block_end_of, from_block_end};
 ghost use Rattle.simplecss_text.specs.Blocks.{ends_list, declaration_in_block, past_list, block};
@@ -25,8 +26,8 @@ const CHUNK: usize = 32;
 /// they are added up many at once.
 #[inline(always)]
 fn brace_counts(chunk: &[u8; CHUNK]) -> (usize, usize)
-    ensures opening { result.0 ≡ count_of 123 chunk.now }
-    ensures closing { result.1 ≡ count_of 125 chunk.now }
+    ensures opening { result.0 ≡ count_of open_brace chunk.now }
+    ensures closing { result.1 ≡ count_of close_brace chunk.now }
 {
     let mut opening = 0u8;
     let mut closing = 0u8;
@@ -104,7 +105,7 @@ fn block_end(text: &str) -> usize
 /// Passes the rest of the block that the place is in, and the closing brace that ends it.
 fn pass_block(s: &mut Stream<'_>)
     ensures text { text_of s.new ≡ text_of s.old }
-    ensures rest { rest_of s.new ≡ past_byte 125 (from_block_end (rest_of s.old)) }
+    ensures rest { rest_of s.new ≡ past_byte close_brace (from_block_end (rest_of s.old)) }
 {
     s.advance(block_end(s.slice_tail()));
     s.try_consume_byte(b'}');
@@ -190,7 +191,7 @@ pub fn consume_next_block<'a>(
 pub fn pass_semicolon_or_block(s: &mut Stream<'_>)
     ensures text { text_of s.new ≡ text_of s.old }
     ensures rest { rest_of s.new
-        ≡ past_semicolon_or_block (past (is_neither 59 123) (rest_of s.old)) }
+        ≡ past_semicolon_or_block (past (is_neither semicolon open_brace) (rest_of s.old)) }
 {
     s.advance(ends::before_either(s.slice_tail(), b';', b'{'));
     if readers::pass_byte(s, b'{') {

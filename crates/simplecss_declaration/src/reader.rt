@@ -1,6 +1,7 @@
 //! Declarations, read from a cursor without telling an error.
 ghost use Rattle.std.specs.Prelude.{◌≡◌, [], ◌∷◌, IfSome};
 ghost use Rattle.simplecss_text.specs.Reading.{got, each};
+ghost use Rattle.simplecss_text.specs.AsciiBytes.{colon};
 ghost use Rattle.simplecss_text.specs.Bytes.{byte as byte_read};
 ghost use Rattle.simplecss_text.specs.Slices.{StandBetween};
 ghost use Rattle.simplecss_text.specs.Comments.{past_blank};
@@ -112,7 +113,7 @@ fn take_trailing(s: &mut Stream<'_>) -> Option<bool>
 #[inline(always)]
 fn pass_colon(s: &mut Stream<'_>) -> bool
     ensures text { text_of s.new ≡ text_of s.old }
-    ensures reads { Passes (byte_read 58 (rest_of s.old)) result (rest_of s.new) }
+    ensures reads { Passes (byte_read colon (rest_of s.old)) result (rest_of s.new) }
 {
     readers::pass_byte(s, b':')
 }

@@ -1,6 +1,7 @@
 //! The terms of values.
 ghost use Rattle.std.specs.Prelude.{◌≡◌};
 ghost use Rattle.simplecss_text.specs.Reading.{ended};
+ghost use Rattle.simplecss_text.specs.AsciiBytes.{close_parenthesis};
 ghost use Rattle.simplecss_text.specs.Bytes.{past, is_digit, after_byte, closed_or};
 ghost use Rattle.simplecss_text.specs.Names.{name as name_read};
 ghost use Rattle.simplecss_text.specs.Terms.{past_hash, past_number, word, term};
@@ -52,7 +53,7 @@ fn pass_number(s: &mut Stream<'_>)
 #[inline(always)]
 fn pass_arguments(s: &mut Stream<'_>) -> bool
     ensures text { text_of s.new ≡ text_of s.old }
-    ensures reads { Passes (closed_or ended (after_byte 41 (rest_of s.old))) result
+    ensures reads { Passes (closed_or ended (after_byte close_parenthesis (rest_of s.old))) result
         (rest_of s.new) }
 {
     match scan::find_byte(s.slice_tail(), b')') {

@@ -1,6 +1,7 @@
 //! What selectors ask of an attribute's value, and the pseudo-classes that they ask of an element.
 ghost use Rattle.std.specs.Prelude.{◌≡◌, ◌<◌, ◌==◌, ℕ, length, true, false, None, IfSome};
 ghost use Rattle.std.specs.Prelude.{EachIndex, slice_index};
+ghost use Rattle.simplecss_text.specs.AsciiBytes.{space};
 ghost use Rattle.simplecss_selector.specs.Operators.{is_word_of};
 
 /// What an attribute's value is asked.
@@ -46,10 +47,10 @@ impl<'a> AttributeOperator<'a> {
 #[inline(always)]
 fn first_space(bytes: &[u8]) -> Option<usize>
     ensures none { result ≡ None
-        → EachIndex bytes.now (λ k. (slice_index bytes.now k == 32) ≡ false) }
+        → EachIndex bytes.now (λ k. (slice_index bytes.now k == space) ≡ false) }
     ensures some { IfSome result (λ n. (n < length bytes.now)
-        × ((slice_index bytes.now n == 32) ≡ true)
-        × ((k : ℕ) → k < n → (slice_index bytes.now k == 32) ≡ false)) }
+        × ((slice_index bytes.now n == space) ≡ true)
+        × ((k : ℕ) → k < n → (slice_index bytes.now k == space) ≡ false)) }
 {
     bytes.iter().position(|byte| *byte == b' ')
 }

@@ -1,6 +1,7 @@
 //! The tokenizer of selectors.
 ghost use Rattle.std.specs.Prelude.{◌≡◌, ◌<◌, ℕ, List, true, false, Some, if◌then◌else◌};
 ghost use Rattle.simplecss_text.specs.Reading.{got};
+ghost use Rattle.simplecss_text.specs.AsciiBytes.{slash};
 ghost use Rattle.simplecss_text.specs.Bytes.{all_before, past_one, starts};
 ghost use Rattle.simplecss_text.specs.Errors.{Gives, position_of};
 ghost use Rattle.simplecss_text.specs.Cursor.{text_of, rest_of};
@@ -383,7 +384,7 @@ fn after_fault(follows: NextKind) -> Stage
 #[cold]
 #[inline(never)]
 fn slash_error(stream: &mut Stream<'_>) -> Error
-    requires { starts 47 (rest_of stream.old) ≡ true }
+    requires { starts slash (rest_of stream.old) ≡ true }
     ensures text { text_of stream.new ≡ text_of stream.old }
     ensures rest { rest_of stream.new ≡ past_one (rest_of stream.old) }
     ensures error { result

@@ -1,12 +1,13 @@
 //! Rows and columns, which begin at 1.
 ghost use Rattle.std.specs.Prelude.{◌≡◌, ◌+◌, ◌==◌, length, min, count_by, chars};
 ghost use Rattle.std.specs.List.{after_last};
+ghost use Rattle.simplecss_text.specs.AsciiBytes.{newline};
 
 use crate::TextPos;
 
 /// The row of the place behind the text.
 fn row_behind(before: &str) -> u32
-    ensures { result ≡ min u32.MAX (1 + count_by (λ b. b == 10) before.now) }
+    ensures { result ≡ min u32.MAX (1 + count_by (λ b. b == newline) before.now) }
 {
     one_more(
         before
@@ -19,7 +20,7 @@ fn row_behind(before: &str) -> u32
 
 /// The column of the place behind the text.
 fn column_behind(before: &str) -> u32
-    ensures { result ≡ min u32.MAX (1 + length (chars (after_last (λ b. b == 10) before.now))) }
+    ensures { result ≡ min u32.MAX (1 + length (chars (after_last (λ b. b == newline) before.now))) }
 {
     let line = match before.rfind('\n') {
         Some(newline) => &before[newline + 1..],
@@ -44,9 +45,9 @@ fn one_more(count: usize) -> u32
 
 /// The position of the place behind the text.
 pub(crate) fn position_behind(before: &str) -> TextPos
-    ensures row { result.row ≡ min u32.MAX (1 + count_by (λ b. b == 10) before.now) }
+    ensures row { result.row ≡ min u32.MAX (1 + count_by (λ b. b == newline) before.now) }
     ensures col { result.col
-        ≡ min u32.MAX (1 + length (chars (after_last (λ b. b == 10) before.now))) }
+        ≡ min u32.MAX (1 + length (chars (after_last (λ b. b == newline) before.now))) }
 {
     TextPos::new(row_behind(before), column_behind(before))
 }

@@ -5,6 +5,7 @@ ghost use Rattle.std.specs.Prelude.{false, None, Some, MatchOption, IfSome, IsTr
 ghost use Rattle.std.specs.Prelude.{EachIndex, chars};
 ghost use Rattle.std.specs.Str.{IsCharBoundary};
 ghost use Rattle.std.specs.List.{prefix_len};
+ghost use Rattle.simplecss_text.specs.AsciiBytes.{slash};
 ghost use Rattle.simplecss_text.specs.Bytes.{after_byte, starts_by, is_ascii};
 ghost use Rattle.simplecss_text.specs.Characters.{is_space as is_space_byte};
 ghost use Rattle.simplecss_text.specs.Characters.{is_name_start as is_name_start_of};
@@ -285,7 +286,7 @@ pub fn find_gap(text: &str) -> Gap
 /// Whether the byte is a space byte or a slash.
 #[inline(always)]
 fn is_gap_start(byte: u8) -> bool
-    ensures { result ≡ (is_space_byte byte || byte == 47) }
+    ensures { result ≡ (is_space_byte byte || byte == slash) }
 {
     BYTES[usize::from(byte)] & GAP_START != 0
 }

@@ -55,6 +55,7 @@ impl<'a> From<&'a str> for Stream<'a> {
 
 impl<'a> Stream<'a> {
     ghost use Rattle.simplecss_text.specs.Cursor.{text_of, place_of, rest_of};
+    ghost use Rattle.simplecss_text.specs.AsciiBytes.{hyphen};
     ghost use Rattle.simplecss_text.specs.Bytes.{byte as byte_read, past, past_one, past_byte};
     ghost use Rattle.simplecss_text.specs.Characters.{is_space};
     ghost use Rattle.simplecss_text.specs.Comments.{comment, blank};
@@ -277,7 +278,7 @@ impl<'a> Stream<'a> {
     #[inline(never)]
     fn no_name_error(&mut self) -> Error
         ensures text { text_of self.new ≡ text_of self.old }
-        ensures rest { rest_of self.new ≡ past_byte 45 (rest_of self.old) }
+        ensures rest { rest_of self.new ≡ past_byte hyphen (rest_of self.old) }
         ensures error { result
             ≡ Error.InvalidIdent (position_of (text_of self.old) (rest_of self.old)) }
     {

@@ -2,6 +2,7 @@
 ghost use Rattle.std.specs.Prelude.{◌∷◌};
 ghost use Rattle.std.specs.Fmt.{WritesStyledOnOk};
 ghost use Rattle.std.specs.List.{flat_map};
+ghost use Rattle.simplecss_text.specs.AsciiBytes.{newline};
 ghost use Rattle.simplecss_text.specs.Printing.{declaration_text, rule_text, sheet_text};
 ghost use Rattle.simplecss_declaration.specs.SeenDeclarations.{declaration_of, declarations_of};
 ghost use Rattle.simplecss.specs.SeenRules.{rule_of, rules_of};
@@ -61,7 +62,7 @@ fn write_rules<W: fmt::Write>(f: &mut fmt::Formatter<W>, rules: &[Rule]) -> fmt:
 /// Writes each rule behind a newline.
 fn write_lines<W: fmt::Write>(f: &mut fmt::Formatter<W>, rules: &[Rule]) -> fmt::Result
     ensures { WritesStyledOnOk W.write_str_gives f.old result
-        (flat_map (λ r. 10 ∷ rule_text (rule_of r)) rules.now) f.new }
+        (flat_map (λ r. newline ∷ rule_text (rule_of r)) rules.now) f.new }
 {
     for rule in rules {
         write_line(f, rule)?;
@@ -73,7 +74,7 @@ fn write_lines<W: fmt::Write>(f: &mut fmt::Formatter<W>, rules: &[Rule]) -> fmt:
 #[tactic(auto, using(simplecss_text::proofs::printed::StyledWrites::styled_two))]
 fn write_line<W: fmt::Write>(f: &mut fmt::Formatter<W>, rule: &Rule) -> fmt::Result
     ensures { WritesStyledOnOk W.write_str_gives f.old result
-        (10 ∷ rule_text (rule_of rule.now)) f.new }
+        (newline ∷ rule_text (rule_of rule.now)) f.new }
 {
     f.write_str("\n")?;
     write_rule(f, rule)
