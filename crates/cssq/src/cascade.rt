@@ -222,3 +222,6 @@ pub fn winners<'a, E: Element>(
     }
     Ok(all)
 }
+
+#[cfg(test)]
+mod tests;

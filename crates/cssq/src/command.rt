@@ -85,3 +85,6 @@ fn style_tree(operands: &[String]) -> Option<Command<'_>>
         _ => None,
     }
 }
+
+#[cfg(test)]
+mod tests;

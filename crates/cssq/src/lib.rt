@@ -8,3 +8,6 @@ pub mod laws;
 pub mod runs;
 
 pub use cssq_tree::tree;
+
+#[cfg(test)]
+mod tests;

@@ -365,3 +365,6 @@ pub fn run_style<R: Log, W: Write>(
     let text = style_output(rt, alloc, sheet, tree, name)?;
     write_out(out, text.as_bytes())
 }
+
+#[cfg(test)]
+mod tests;

@@ -563,3 +563,6 @@ impl<'p, 't> Keyed for Node<'p, 't> {
         self.page.attribute(self.place, "class")
     }
 }
+
+#[cfg(test)]
+mod tests;

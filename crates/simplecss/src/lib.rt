@@ -25,3 +25,6 @@ pub use simplecss_selector::{
     SelectorTokenizer, Tests,
 };
 pub use simplecss_text::{Error, TextPos, stream};
+
+#[cfg(test)]
+mod tests;

@@ -67,3 +67,6 @@ impl<'a> Iterator for DeclarationTokenizer<'a> {
 }
 
 impl FusedIterator for DeclarationTokenizer<'_> {}
+
+#[cfg(test)]
+mod tests;

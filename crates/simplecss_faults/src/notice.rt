@@ -48,3 +48,6 @@ impl Log for Notice {
         ""
     }
 }
+
+#[cfg(test)]
+mod tests;

@@ -45,3 +45,6 @@ pub(crate) fn first_class<'a>(subselectors: &[SubSelector<'a>]) -> Option<&'a st
     }
     None
 }
+
+#[cfg(test)]
+mod tests;

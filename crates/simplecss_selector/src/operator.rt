@@ -87,3 +87,6 @@ pub enum PseudoClass<'a> {
     /// `:lang(language)`
     Lang(&'a str),
 }
+
+#[cfg(test)]
+mod tests;

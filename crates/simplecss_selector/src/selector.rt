@@ -352,3 +352,6 @@ impl<'a> Selector<'a> {
         })
     }
 }
+
+#[cfg(test)]
+mod tests;

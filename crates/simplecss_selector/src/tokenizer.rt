@@ -422,3 +422,6 @@ impl<'a> Iterator for SelectorTokenizer<'a> {
 }
 
 impl<'a> FusedIterator for SelectorTokenizer<'a> {}
+
+#[cfg(test)]
+mod tests;

@@ -319,3 +319,6 @@ impl<'t> Tree<'t> {
         }
     }
 }
+
+#[cfg(test)]
+mod tests;

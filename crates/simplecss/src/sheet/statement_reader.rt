@@ -84,3 +84,6 @@ impl<'a> StatementReader<'a> {
         }))
     }
 }
+
+#[cfg(test)]
+mod tests;

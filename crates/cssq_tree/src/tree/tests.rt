@@ -1,0 +1,244 @@
+//! Texts of trees: their faults, their elements, and what these answer.
+
+use super::{Node, Page, TreeFault};
+use simplecss_selector::{AttributeOperator, Element, PseudoClass};
+use std::alloc::Global;
+use std::test::Fail;
+
+/// The number of elements, or the fault.
+fn read(alloc: Global, text: &str) -> Result<usize, TreeFault> {
+    let page = Page::read(alloc, text)?;
+    Ok(page.len())
+}
+
+/// Texts, and the fault of the first faulty line.
+const FAULTY: &[(&str, TreeFault)] = &[
+    ("1\ta", TreeFault::BadDepth(1)),
+    ("0\ta\n2\tb", TreeFault::BadDepth(2)),
+    ("0\ta\n\n", TreeFault::BadDepth(2)),
+    ("\n", TreeFault::BadDepth(1)),
+    ("\ta", TreeFault::BadDepth(1)),
+    ("00\ta", TreeFault::BadDepth(1)),
+    ("0\ta\n01\tb", TreeFault::BadDepth(2)),
+    ("0\ta\n+1\tb", TreeFault::BadDepth(2)),
+    ("0\ta\n1 \tb", TreeFault::BadDepth(2)),
+    ("0\ta\n-1\tb", TreeFault::BadDepth(2)),
+    ("0\ta\n99999999999999999999\tb", TreeFault::BadDepth(2)),
+    ("0\ta\n18446744073709551617\tb", TreeFault::BadDepth(2)),
+    ("0\r\n", TreeFault::BadDepth(1)),
+    ("0", TreeFault::EmptyName(1)),
+    ("0\t", TreeFault::EmptyName(1)),
+    ("0\t\tk", TreeFault::EmptyName(1)),
+    ("0\ta\tk", TreeFault::NoEquals(1)),
+    ("0\ta\t", TreeFault::NoEquals(1)),
+    ("0\ta\tk=1\t\tk=2", TreeFault::NoEquals(1)),
+    ("0\ta\tk=1\tk=2", TreeFault::RepeatedKey(1)),
+    ("0\ta\tk=1\tk=2\tl", TreeFault::RepeatedKey(1)),
+    ("0\ta\t=x\t=y", TreeFault::RepeatedKey(1)),
+    ("0\ta\n1\tb\n2\tc\tk\n9\td", TreeFault::NoEquals(3)),
+];
+
+#[test]
+fn tells_the_first_faulty_line(rt: HostRuntime) {
+    for &(text, fault) in FAULTY {
+        assert_eq!(rt; read(rt.alloc(), text), Err(fault), "at {text:?}");
+    }
+}
+
+/// Texts, and how many elements they have.
+const SOUND: &[(&str, usize)] = &[
+    ("", 0),
+    ("0\ta", 1),
+    ("0\ta\n", 1),
+    ("0\ta\r\n", 1),
+    ("0\ta\t=\tk=", 1),
+    ("0\ta\tk=1=2\tK=1", 1),
+    ("0\ta\n1\tb\n0\tc\n1\td\n2\te\n1\tf", 6),
+];
+
+#[test]
+fn reads_sound_texts(rt: HostRuntime) {
+    for &(text, count) in SOUND {
+        assert_eq!(rt; read(rt.alloc(), text), Ok(count), "at {text:?}");
+    }
+}
+
+/// A line of attributes `k0=` to the one before the count, and then a text.
+fn long_line(alloc: Global, count: usize, end: &str) -> Result<String, Fail> {
+    use std::fmt::Write;
+    let mut text = String::from_str(alloc, "0\ta")?;
+    for i in 0..count {
+        write!(text, "\tk{i}=")?;
+    }
+    text.push_str(end)?;
+    Ok(text)
+}
+
+#[test]
+fn checks_many_attributes(rt: HostRuntime) -> Result<(), Fail> {
+    for count in [14, 15, 16, 17, 40, 1000] {
+        for (end, answer) in [
+            ("", Ok(1)),
+            ("\tk0=", Err(TreeFault::RepeatedKey(1))),
+            ("\tk13=", Err(TreeFault::RepeatedKey(1))),
+            ("\tk13=\tk", Err(TreeFault::RepeatedKey(1))),
+            ("\tk", Err(TreeFault::NoEquals(1))),
+            ("\tk\tk0=", Err(TreeFault::NoEquals(1))),
+            ("\t=\t=", Err(TreeFault::RepeatedKey(1))),
+        ] {
+            let text = long_line(rt.alloc(), count, end)?;
+            assert_eq!(rt;
+                read(rt.alloc(), text.as_str()),
+                answer,
+                "at {count} and {end:?}"
+            );
+        }
+    }
+    Ok(())
+}
+
+/// The place of an element among those that are named by these letters in turn.
+fn place_of(element: &Node<'_, '_>) -> Option<usize> {
+    for (place, name) in ["a", "b", "c", "d", "e", "f", "g", "h", "i"]
+        .iter()
+        .enumerate()
+    {
+        if element.has_local_name(name) {
+            return Some(place);
+        }
+    }
+    None
+}
+
+/// Of each element of `ties_elements` in turn, the places of its parent and its previous sibling.
+const TIES: &[(Option<usize>, Option<usize>)] = &[
+    (None, None),
+    (Some(0), None),
+    (Some(1), None),
+    (Some(0), Some(1)),
+    (None, Some(0)),
+    (Some(4), None),
+    (Some(5), None),
+    (Some(5), Some(6)),
+    (None, Some(4)),
+];
+
+#[test]
+fn ties_elements(rt: HostRuntime) -> Result<(), Fail> {
+    let text = "0\ta\n1\tb\n2\tc\n1\td\n0\te\n1\tf\n2\tg\n2\th\n0\ti\n";
+    let page = Page::read(rt.alloc(), text)?;
+    assert_eq!(rt; page.len(), 9);
+    for (place, (parent, previous)) in TIES.iter().enumerate() {
+        let node = page.node(place).ok_or("no node")?;
+        assert_eq!(rt; place_of(&node), Some(place));
+        let parent_place = node.parent_element().map(|n| place_of(&n));
+        assert_eq!(rt; parent_place, parent.map(Some), "at {place}");
+        let previous_place = node.prev_sibling_element().map(|n| place_of(&n));
+        assert_eq!(rt; previous_place, previous.map(Some), "at {place}");
+    }
+    assert!(rt; page.node(9).is_none());
+    Ok(())
+}
+
+/// An attribute, an operator, and what the first element of `answers_questions` answers.
+const ASKED: &[(&str, AttributeOperator<'static>, bool)] = &[
+    ("id", AttributeOperator::Exists, true),
+    ("id", AttributeOperator::Matches("x"), true),
+    ("id", AttributeOperator::Matches(""), false),
+    ("class", AttributeOperator::Contains("v"), true),
+    ("class", AttributeOperator::Contains("u v"), false),
+    ("class", AttributeOperator::StartsWith("u"), false),
+    ("", AttributeOperator::Matches("e"), true),
+    ("name", AttributeOperator::Exists, false),
+    ("name", AttributeOperator::Matches(""), false),
+];
+
+#[test]
+fn answers_questions(rt: HostRuntime) -> Result<(), Fail> {
+    let page = Page::read(rt.alloc(), "0\ta\tid=x\tclass=u v\t=e\n1\tb\r\n1\tc\n")?;
+    let a = page.node(0).ok_or("no node")?;
+    let b = page.node(1).ok_or("no node")?;
+    let c = page.node(2).ok_or("no node")?;
+    assert!(rt; a.has_local_name("a"));
+    assert!(rt; !a.has_local_name("A"));
+    assert!(rt; !b.has_local_name("b"));
+    assert!(rt; b.has_local_name("b\r"));
+    for &(key, operator, answer) in ASKED {
+        assert_eq!(rt;
+            a.attribute_matches(key, operator),
+            answer,
+            "at {key} and {operator:?}"
+        );
+    }
+    assert!(rt; a.pseudo_class_matches(PseudoClass::FirstChild));
+    assert!(rt; b.pseudo_class_matches(PseudoClass::FirstChild));
+    assert!(rt; !c.pseudo_class_matches(PseudoClass::FirstChild));
+    for class in [
+        PseudoClass::Link,
+        PseudoClass::Visited,
+        PseudoClass::Hover,
+        PseudoClass::Active,
+        PseudoClass::Focus,
+        PseudoClass::Lang("en"),
+    ] {
+        assert!(rt; !a.pseudo_class_matches(class), "at {class:?}");
+    }
+    Ok(())
+}
+
+/// Faults, and their numbers.
+const NUMBERS: &[(TreeFault, u8)] = &[
+    (TreeFault::BadDepth(7), 1),
+    (TreeFault::EmptyName(7), 2),
+    (TreeFault::NoEquals(7), 3),
+    (TreeFault::RepeatedKey(7), 4),
+    (TreeFault::Memory(7), 5),
+];
+
+#[test]
+fn numbers_faults(rt: HostRuntime) {
+    for &(fault, number) in NUMBERS {
+        assert_eq!(rt; fault.number(), number);
+        assert_eq!(rt; fault.line(), 7);
+    }
+}
+
+/// Lines of elements `a`, each the child of the one before, or its sibling.
+fn deep_or_wide(alloc: Global, count: usize, is_deep: bool) -> Result<String, Fail> {
+    use std::fmt::Write;
+    let mut text = String::new(alloc);
+    for i in 0..count {
+        let depth = if is_deep { i } else { 0 };
+        write!(text, "{depth}\ta\n")?;
+    }
+    Ok(text)
+}
+
+#[test]
+fn reads_a_deep_tree(rt: HostRuntime) -> Result<(), Fail> {
+    let text = deep_or_wide(rt.alloc(), 100_000, true)?;
+    let page = Page::read(rt.alloc(), text.as_str())?;
+    let mut element = page.node(99_999).ok_or("no node")?;
+    let mut steps = 0usize;
+    for _ in 0..100_000 {
+        let Some(parent) = element.parent_element() else {
+            break;
+        };
+        element = parent;
+        steps = steps.saturating_add(1);
+    }
+    assert_eq!(rt; steps, 99_999);
+    Ok(())
+}
+
+#[test]
+fn reads_many_siblings(rt: HostRuntime) -> Result<(), Fail> {
+    let mut text = deep_or_wide(rt.alloc(), 749_998, false)?;
+    text.push_str("0\tb\n0\ta\n")?;
+    let page = Page::read(rt.alloc(), text.as_str())?;
+    assert_eq!(rt; page.len(), 750_000);
+    let last = page.node(749_999).ok_or("no node")?;
+    let before = last.prev_sibling_element().ok_or("no sibling")?;
+    assert!(rt; before.has_local_name("b"));
+    Ok(())
+}
