@@ -228,21 +228,17 @@ fn rules_differ_in_any_part(rt: HostRuntime) -> Result<(), Fail> {
     Ok(())
 }
 
-/// A declaration of this name, with the value `x`.
-fn declaration(name: &str, important: bool) -> Declaration<'_> {
-    Declaration {
-        name,
-        value: "x",
-        important,
-    }
-}
-
 #[test]
 fn sheets_are_made_of_rules(rt: HostRuntime) -> Result<(), Fail> {
     let mut sheet = read(&rt, "a { b:c } d { e:f; g:h }")?;
     sheet.rules.retain(|rule| rule.declarations.len() > 1);
     let selector = Selector::parse(&Discard, rt.alloc(), ".i")?.ok_or("refused")?;
-    let declarations = vec![in rt.alloc(); declaration("j", true)]?;
+    let important = Declaration {
+        name: "j",
+        value: "x",
+        important: true,
+    };
+    let declarations = vec![in rt.alloc(); important]?;
     sheet.rules.push(Rule {
         selector,
         declarations,
