@@ -42,30 +42,33 @@ fn fill<'a>(draft: &mut Draft<'a>, token: SelectorToken<'a>) -> Result<bool, All
         (λ _. draft.new ≡ drafted_if (role_of (token_of token.entry)) draft.old) }
 {
     match token {
-        SelectorToken::UniversalSelector => {}
-        SelectorToken::TypeSelector(name) => draft.set_name(name),
+        SelectorToken::UniversalSelector => Ok(()),
+        SelectorToken::TypeSelector(name) => {
+            draft.set_name(name);
+            Ok(())
+        }
         SelectorToken::ClassSelector(name) => draft.push_subselector(SubSelector::Attribute(
             "class",
             AttributeOperator::Contains(name),
-        ))?,
+        )),
         SelectorToken::IdSelector(name) => draft.push_subselector(SubSelector::Attribute(
             "id",
             AttributeOperator::Matches(name),
-        ))?,
+        )),
         SelectorToken::AttributeSelector(name, operator) => {
-            draft.push_subselector(SubSelector::Attribute(name, operator))?
+            draft.push_subselector(SubSelector::Attribute(name, operator))
         }
         SelectorToken::PseudoClass(name) => match pseudo_class(name) {
-            Some(class) => draft.push_subselector(SubSelector::PseudoClass(class))?,
+            Some(class) => draft.push_subselector(SubSelector::PseudoClass(class)),
             None => return Ok(false),
         },
         SelectorToken::LangPseudoClass(language) => {
-            draft.push_subselector(SubSelector::PseudoClass(PseudoClass::Lang(language)))?
+            draft.push_subselector(SubSelector::PseudoClass(PseudoClass::Lang(language)))
         }
-        SelectorToken::DescendantCombinator => draft.join(Combinator::Descendant)?,
-        SelectorToken::ChildCombinator => draft.join(Combinator::Child)?,
-        SelectorToken::AdjacentCombinator => draft.join(Combinator::Adjacent)?,
-    }
+        SelectorToken::DescendantCombinator => draft.join(Combinator::Descendant),
+        SelectorToken::ChildCombinator => draft.join(Combinator::Child),
+        SelectorToken::AdjacentCombinator => draft.join(Combinator::Adjacent),
+    }?;
     Ok(true)
 }
 
