@@ -1,12 +1,17 @@
 -- Filling a draft role by role gives the selector of the roles.
 -- Serves `Selector::{parse, parse_front}` (the tokens of a text give its selector).
-use Rattle.std.proofs.Common.{◌≡◌, ℕ, true, Option, Some, None, is_some, List, [], ◌∷◌, ◌++◌, refl, sym, ap, ◌∙◌, append_assoc, append-nil, map}
+use Rattle.std.proofs.Common.{◌≡◌, ◌<◌, ℕ, true, false, Option, Some, None, Ok, Err, is_some, List, [], ◌∷◌, ◌++◌, length, refl, sym, ap, ◌∙◌, append_assoc, append-nil, map, arith}
 use Rattle.simplecss_text.specs.Components.{Component}
-use Rattle.simplecss_text.specs.Selectors.{Part, Role, Outcome, with_role, after_role, cut, type_among, subselectors_among, component_of, components_of, selector_of}
+use Rattle.simplecss_text.specs.declared.Error.{Error}
+use Rattle.simplecss_text.specs.TokenSequences.{TokenSequence, items}
+use Rattle.simplecss_text.specs.Selectors.{Part, Role, Outcome, role_of, outcome, with_role, after_role, cut, type_among, subselectors_among, component_of, components_of, selector_of}
 use Rattle.simplecss_text.specs.Selectors.Part.{any_type, of_type, with}
 use Rattle.simplecss_text.specs.Selectors.Role.{part, joint}
 use Rattle.simplecss_text.specs.Selectors.Outcome.{refused, accepted}
-use Rattle.simplecss_selector.specs.SelectorDrafts.{Drafted, empty_draft, drafted_after, drafted_if, continued, selector_after}
+use Rattle.simplecss_selector.specs.declared.token.SelectorToken.{SelectorToken}
+use Rattle.simplecss_selector.specs.SeenTokens.{token_of}
+use Rattle.simplecss_selector.specs.SelectorDrafts.{Drafted, empty_draft, drafted_after, drafted_if, continued, finished, selector_after}
+use Rattle.simplecss_selector.specs.SelectorTokenizers.{GivesFirst}
 
 -- the component with what the parts ask besides
 abbrev pub extended : Component → List Part → Component
@@ -40,6 +45,29 @@ selector_after-with_role role d (refused left) = refl
 selector_after-with_role role d (accepted roles left) = refl
 
 -- a token that has a role goes into the draft
-pub selector_after_role : (role : Option Role) (d : Drafted) (after : List ℕ) (rest : Outcome) → is_some role ≡ true → selector_after d (after_role role after rest) ≡ selector_after (drafted_if role d) rest
-selector_after_role (Some role) d after rest h = selector_after-with_role role d rest
+selector_after_role : (role : Option Role) (d : Drafted) (after : List ℕ) (rest : Outcome) → is_some role ≡ true → selector_after (drafted_if role d) rest ≡ selector_after d (after_role role after rest)
+selector_after_role (Some role) d after rest h = sym (selector_after-with_role role d rest)
 selector_after_role None d after rest h = absurd (cc)
+
+-- a token that has none ends the reading
+selector_after_none : (role : Option Role) (d : Drafted) (after : List ℕ) (rest : Outcome) → is_some role ≡ false → (None, after) ≡ selector_after d (after_role role after rest)
+selector_after_none (Some role) d after rest h = absurd (cc)
+selector_after_none None d after rest h = refl
+
+pub token-filled : (text : List ℕ) (d : Drafted) (token : SelectorToken) (before after : TokenSequence) (left : List ℕ) → GivesFirst text before (Some (Ok token)) left after → is_some (role_of (token_of token)) ≡ true → selector_after (drafted_if (role_of (token_of token)) d) (outcome after) ≡ selector_after d (outcome before)
+token-filled text d token before after left (Ok told, e, b) h = let same : token_of token ≡ told = cc in rw (b, ← same) (selector_after_role (role_of (token_of token)) d left (outcome after) h)
+token-filled text d token before after left (Err fault, e, b) h = absurd (cc)
+
+pub token-unknown : (text : List ℕ) (d : Drafted) (token : SelectorToken) (before after : TokenSequence) (left : List ℕ) → GivesFirst text before (Some (Ok token)) left after → is_some (role_of (token_of token)) ≡ false → (None, left) ≡ selector_after d (outcome before)
+token-unknown text d token before after left (Ok told, e, b) h = let same : token_of token ≡ told = cc in rw (b, ← same) (selector_after_none (role_of (token_of token)) d left (outcome after) h)
+token-unknown text d token before after left (Err fault, e, b) h = absurd (cc)
+
+pub error-refused : (text : List ℕ) (d : Drafted) (error : Error) (before after : TokenSequence) (left : List ℕ) → GivesFirst text before (Some (Err error)) left after → (None, left) ≡ selector_after d (outcome before)
+error-refused text d error before after left (Ok told, e, b) = absurd (cc)
+error-refused text d error before after left (Err fault, e, b) = rw b refl
+
+pub end-finished : (text : List ℕ) (d : Drafted) (before after : TokenSequence) (left : List ℕ) → GivesFirst text before None left after → (Some (finished d), left) ≡ selector_after d (outcome before)
+end-finished text d before after left (b, e) = rw b refl
+
+pub token-fewer : (text : List ℕ) (token : SelectorToken) (before after : TokenSequence) (left : List ℕ) → GivesFirst text before (Some (Ok token)) left after → length (items after) < length (items before)
+token-fewer text token before after left (told, e, b) = rw b (omega arith)

@@ -91,7 +91,6 @@ fn warn_unknown<R: Log>(rt: &R, token: SelectorToken<'_>) {
 /// Puts the tokens that are still to come into the selector that is being made, up to the first
 /// error or unknown pseudo-class, and says whether there was none.
 #[inline(always)]
-#[tactic(auto, using(crate::proofs::Drafting::selector_after_role))]
 fn fill_all<'a, R: Log>(
     rt: &R,
     tokenizer: &mut SelectorTokenizer<'a>,
