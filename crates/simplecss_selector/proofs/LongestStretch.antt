@@ -63,6 +63,22 @@ stretch_times-le cs d = mul-le-mul_right d (longest_stretch-le cs)
 pub falls : (l a b : ℕ) → a < b → l + l * (a + 1) ≤ l * (b + 1)
 falls l a b h = let p : l * (a + 1) ≤ l * b = mul-le-mul_left l (omega arith) in omega arith
 
+-- what is spent on one stretch alone
+pub spent_once : (l d before after : ℕ) → after + 1 ≤ before + l → after + 1 ≤ before + l * (d + 1)
+spent_once l d before after h = let p : l * 1 ≤ l * (d + 1) = mul-le-mul_left l (omega arith) in omega arith
+
+-- what is spent on a last stretch, behind those before it
+pub spent_last : (l d before now after bound : ℕ) → now + 1 + l * (d + 1) ≤ before + bound → after ≤ now + l → after + 1 ≤ before + bound
+spent_last l d before now after bound s h = let p : l * 1 ≤ l * (d + 1) = mul-le-mul_left l (omega arith) in omega arith
+
+-- what is spent on a first stretch, of which the candidate at the depth `a` is left
+pub spent_first : (l a b before after : ℕ) → a < b → after + 1 ≤ before + l → after + 1 + l * (a + 1) ≤ before + l * (b + 1)
+spent_first l a b before after h t = let p = falls l a b h in omega arith
+
+-- the same of one more stretch
+pub spent_more : (l a b before now after bound : ℕ) → a < b → now + 1 + l * (b + 1) ≤ before + bound → after ≤ now + l → after + 1 + l * (a + 1) ≤ before + bound
+spent_more l a b before now after bound h s t = let p = falls l a b h in omega arith
+
 pub longest_stretch-some : (cs : List Component) → 0 < length cs → 0 < longest_stretch cs
 longest_stretch-some [] some = absurd (omega arith)
 longest_stretch-some (c ∷ cs) some = omega arith

@@ -1,8 +1,8 @@
 -- Single steps of the search for a placement.
--- Serves `matching::{climb, place_stretch}` (a step more of a search).
+-- Serves `matching::{climb, place_stretch, goes_on}` (a step more of a search).
 use Rattle.simplecss_selector.specs.declared.matching.Fit.{Fit}
 use Rattle.simplecss_selector.specs.declared.matching.Fit.TheVariants.{Misfit, Alone, Whole, Rest}
-use Rattle.std.proofs.Common.{◌≡◌, ℕ, ◌+◌, arith, Option, Some, None, ap, sym, ◌∙◌, Bor}
+use Rattle.std.proofs.Common.{◌≡◌, ◌<◌, ◌≤◌, ℕ, ◌+◌, arith, Option, Some, None, ap, sym, ◌∙◌, Bor}
 use Rattle.std.specs.Option.{option_copied, unwrap_or, option_map_or}
 use Rattle.simplecss_text.specs.Components.{Combinator as Seen}
 use Rattle.std.proofs.Common.{IsTrue}
@@ -33,3 +33,25 @@ tests_before first last before begun after Misfit e h = tt
 tests_before first last before begun after Alone e h = tt
 tests_before first last before begun after Whole e h = omega arith
 tests_before first last before begun after (Rest node) e h = omega arith
+
+pub tested_more : (begun now after : ℕ) → begun ≤ now → now < after → begun ≤ after
+tested_more begun now after h t = omega arith
+
+pub placed_once : (begun last after : ℕ) → begun + last < after + 1 → begun + last ≤ after
+placed_once begun last after t = omega arith
+
+-- the first stretch is placed, and another ends before it
+pub placed_first : (begun last after first end : ℕ) → begun + last < after + 1 + first → end ≡ first → begun + last ≤ after + end
+placed_first begun last after first end t e = omega arith
+
+-- nothing more is placed
+pub placed_same : (begun last now after end : ℕ) → begun + last ≤ now + end → now < after → begun + last ≤ after + end
+placed_same begun last now after end h t = omega arith
+
+-- one more stretch is placed, and another ends before it
+pub placed_more : (begun last now place after first end : ℕ) → begun + last ≤ now + (place + 1) → now + place < after + first → end ≡ first → begun + last ≤ after + end
+placed_more begun last now place after first end h t e = omega arith
+
+-- the last stretch is placed
+pub placed_last : (begun last now place after : ℕ) → begun + last ≤ now + (place + 1) → now + place < after → begun + last ≤ after
+placed_last begun last now place after h t = omega arith

@@ -193,9 +193,13 @@ AreStretchEnds-last cs kept r first last ends counted begun ended =
     AreStretchEnds-stretch cs kept r first last ends (omega arith) begun (ended ∙ sym (get_or_at kept (length cs) [] 0 r (sym counted)))
 
 -- a stretch that does not begin at 0 begins where the one before it ends
-begun-after : (kept : List ℕ) (n first : ℕ) → first ≡ get_or (0 ∷ kept) n 0 → 0 < first → (0 < n) × (get_or kept (n - 1) 0 ≡ first)
+pub begun-after : (kept : List ℕ) (n first : ℕ) → first ≡ get_or (0 ∷ kept) n 0 → 0 < first → (0 < n) × (get_or kept (n - 1) 0 ≡ first)
 begun-after kept zero first e some = absurd (omega arith)
 begun-after kept (suc n) first e some = (omega arith, (rw sub-one (sym e)))
+
+-- the stretch before the one that begins at `first`
+pub before-within : (kept : List ℕ) (n first : ℕ) → n ≤ length kept → first ≡ get_or (0 ∷ kept) n 0 → 0 < first → (n - 1 < length kept) × (0 < get_or kept (n - 1) 0)
+before-within kept n first counted e some = let after = begun-after kept n first e some in (omega (arith, after.0), rw after.1 some)
 
 pub AreStretchEnds-before : (cs : List Component) (kept : List ℕ) (n first before last : ℕ) → AreStretchEnds cs (all_stretch_ends cs kept) → n ≤ length kept → first ≡ get_or (0 ∷ kept) n 0 → 0 < first → before ≡ get_or (0 ∷ kept) (n - 1) 0 → last + 1 ≡ get_or kept (n - 1) 0 → (n - 1 < length kept) × IsStretch cs before last × (last + 1 ≡ first)
 AreStretchEnds-before cs kept n first before last ends counted begun some start ended =

@@ -1,11 +1,12 @@
-use Rattle.std.proofs.Common.{◌+◌, length, refl, sym, arith, inl, inr}
+use Rattle.std.proofs.Common.{◌+◌, ◌*◌, length, refl, sym, arith, inl, inr}
 use Rattle.std.proofs.lemmas.Bool.{false≢true}
 use Rattle.simplecss_selector.specs.Placements.{longest_stretch}
 use Rattle.simplecss_selector.specs.PlacementSearch.IsAtOrAbove.{here}
 use Rattle.simplecss_selector.proofs.Depths.{depth-below}
 use Rattle.simplecss_selector.proofs.Greedy.{placement_of, first_rest, misfit_up, misfit_top, rest_up, alone_fails}
-use Rattle.simplecss_selector.proofs.StretchEnds.{AreStretchEnds-last, AreStretchEnds-before}
-use Rattle.simplecss_selector.proofs.LongestStretch.{falls}
+use Rattle.simplecss_selector.proofs.StretchEnds.{AreStretchEnds-last, AreStretchEnds-before, begun-after, before-within}
+use Rattle.simplecss_selector.proofs.LongestStretch.{spent_once, spent_first, spent_more, spent_last}
+use Rattle.simplecss_selector.proofs.SearchSteps.{tested_more, placed_once, placed_first, placed_same, placed_more, placed_last}
 use Rattle.simplecss_selector.proofs.matching.goes_on.Goals as goal
 
 pub climb-requires-clause-stretch : goal.climb-requires-clause-stretch
@@ -31,6 +32,8 @@ returns-in-Whole-clause-answer g c =
 pub loop-candidate-init : goal.loop-candidate-init
 loop-candidate-init g c =
     let f = c.in-Rest.ensures.finds in
+    let tree = g.E.Element.tree in
+    let node = g.E.Element.node in
     let stretch = AreStretchEnds-before c.args.selector.now c.as_slice-ends.result.now (length c.as_slice-ends.result.now) c.begin_after-first.result _ _
     (rw (← c.selector.view_is, c.as_slice-ends.ensures.value) c.selector.invariant.stretches) (omega arith) c.begin_after-first.ensures f.some c.stretch_at-stretch.ensures.first c.stretch_at-stretch.ensures.last in
     record {
@@ -38,9 +41,9 @@ loop-candidate-init g c =
       begun = c.stretch_at-stretch.ensures.first;
       is_stretch = stretch.1;
       same = rw stretch.2 (first_rest g.E.Element.tree c.args.selector.now (c.args.last + 1) _ _ _ c.requires.last f);
-      spent = omega (arith, c.in-Rest.ensures.bounded, falls (longest_stretch c.args.selector.now) _ _ f.higher);
-      placed = omega (arith, c.in-Rest.ensures.placed, c.requires.last, stretch.2);
-      tested = omega (arith, c.in-Rest.ensures.tested);
+      spent = spent_first (longest_stretch c.args.selector.now) (tree.depth (node c.in-Rest.above)) (tree.depth (node c.args.element.now)) c.args.tests.now c.climb.new.tests f.higher c.in-Rest.ensures.bounded;
+      placed = placed_first c.args.tests.now c.args.last c.climb.new.tests c.begin_after-first.result (c.stretch_at-stretch.result.last + 1) c.in-Rest.ensures.placed stretch.2;
+      tested = c.in-Rest.ensures.tested;
     }
 
 pub returns-in-Alone-clause-answer : goal.returns-in-Alone-clause-answer
@@ -56,6 +59,7 @@ returns-in-Whole-place_stretch-clause-answer g c =
 pub loop-candidate-preserved-in-Some : goal.loop-candidate-preserved-in-Some
 loop-candidate-preserved-in-Some g c =
     let tree = g.E.Element.tree in
+    let node = g.E.Element.node in
     let i = c.loop-candidate.invariant in
     let up = misfit_up tree c.args.selector.now (c.loop-candidate.stretch.last + 1) _ _ (sym c.in-Some.ensures) c.in-Misfit-place_stretch.ensures.finds in
     record {
@@ -63,14 +67,16 @@ loop-candidate-preserved-in-Some g c =
       begun = i.begun;
       is_stretch = i.is_stretch;
       same = (λ h. up.0 (i.same.0 h), λ h. i.same.1 (up.1 h));
-      spent = omega (arith, i.spent, c.in-Misfit-place_stretch.ensures.bounded, falls (longest_stretch c.args.selector.now) _ _ (depth-below tree g.met.E.Element.depth_law _ _ (sym c.in-Some.ensures)));
-      placed = omega (arith, i.placed, c.in-Misfit-place_stretch.ensures.tested);
-      tested = omega (arith, i.tested, c.in-Misfit-place_stretch.ensures.tested);
+      spent = spent_more (longest_stretch c.args.selector.now) (tree.depth (node c.in-Some.parent)) (tree.depth (node c.loop-candidate.candidate)) c.args.tests.now c.loop-candidate.tests c.place_stretch.new.tests
+          (longest_stretch c.args.selector.now * (tree.depth (node c.args.element.now) + 1)) (depth-below tree g.met.E.Element.depth_law _ _ (sym c.in-Some.ensures)) i.spent c.in-Misfit-place_stretch.ensures.bounded;
+      placed = placed_same c.args.tests.now c.args.last c.loop-candidate.tests c.place_stretch.new.tests (c.loop-candidate.stretch.last + 1) i.placed c.in-Misfit-place_stretch.ensures.tested;
+      tested = tested_more c.args.tests.now c.loop-candidate.tests c.place_stretch.new.tests i.tested c.in-Misfit-place_stretch.ensures.tested;
     }
 
 pub loop-candidate-preserved : goal.loop-candidate-preserved
 loop-candidate-preserved g c =
     let tree = g.E.Element.tree in
+    let node = g.E.Element.node in
     let i = c.loop-candidate.invariant in
     let f = c.in-Rest-place_stretch.ensures.finds in
     let up = rest_up tree c.args.selector.now (c.loop-candidate.stretch.last + 1) c.loop-candidate.stretch.first _ _ f in
@@ -81,9 +87,10 @@ loop-candidate-preserved g c =
       begun = c.stretch_at-stretch-in-Rest-place_stretch.ensures.first;
       is_stretch = stretch.1;
       same = rw stretch.2 (λ h. up.0 (i.same.0 h), λ h. i.same.1 (up.1 h));
-      spent = omega (arith, i.spent, c.in-Rest-place_stretch.ensures.bounded, falls (longest_stretch c.args.selector.now) _ _ f.higher);
-      placed = omega (arith, i.placed, c.in-Rest-place_stretch.ensures.placed, stretch.2);
-      tested = omega (arith, i.tested, c.in-Rest-place_stretch.ensures.tested);
+      spent = spent_more (longest_stretch c.args.selector.now) (tree.depth (node c.in-Rest-place_stretch.above)) (tree.depth (node c.loop-candidate.candidate)) c.args.tests.now c.loop-candidate.tests c.place_stretch.new.tests
+          (longest_stretch c.args.selector.now * (tree.depth (node c.args.element.now) + 1)) f.higher i.spent c.in-Rest-place_stretch.ensures.bounded;
+      placed = placed_more c.args.tests.now c.args.last c.loop-candidate.tests c.loop-candidate.stretch.last c.place_stretch.new.tests c.loop-candidate.stretch.first (c.stretch_at-stretch-in-Rest-place_stretch.result.last + 1) i.placed c.in-Rest-place_stretch.ensures.placed stretch.2;
+      tested = tested_more c.args.tests.now c.loop-candidate.tests c.place_stretch.new.tests i.tested c.in-Rest-place_stretch.ensures.tested;
     }
 
 pub returns-in-None-clause-answer : goal.returns-in-None-clause-answer
@@ -91,3 +98,78 @@ returns-in-None-clause-answer g c = (
   λ e. absurd (false≢true e),
   λ h. absurd (misfit_top g.E.Element.tree c.args.selector.now (c.loop-candidate.stretch.last + 1) _ (sym c.in-None.ensures) c.in-Misfit-place_stretch.ensures.finds (c.loop-candidate.invariant.same.0 h)),
 )
+
+pub returns-in-Misfit-clause-tested : goal.returns-in-Misfit-clause-tested
+returns-in-Misfit-clause-tested g c = c.climb.ensures.tested
+
+pub returns-in-Misfit-clause-all_when_true : goal.returns-in-Misfit-clause-all_when_true
+returns-in-Misfit-clause-all_when_true g c = λ e. absurd (false≢true e)
+
+pub returns-in-Misfit-clause-bounded : goal.returns-in-Misfit-clause-bounded
+returns-in-Misfit-clause-bounded g c =
+    spent_once (longest_stretch c.args.selector.now) (g.E.Element.tree.depth (g.E.Element.node c.args.element.now)) c.args.tests.now c.climb.new.tests c.climb.ensures.bounded
+
+pub returns-in-Whole-clause-tested : goal.returns-in-Whole-clause-tested
+returns-in-Whole-clause-tested g c = c.in-Whole.ensures.tested
+
+pub returns-in-Whole-clause-all_when_true : goal.returns-in-Whole-clause-all_when_true
+returns-in-Whole-clause-all_when_true g c = λ e. placed_once c.args.tests.now c.args.last c.climb.new.tests c.in-Whole.ensures.placed
+
+pub returns-in-Whole-clause-bounded : goal.returns-in-Whole-clause-bounded
+returns-in-Whole-clause-bounded g c =
+    spent_once (longest_stretch c.args.selector.now) (g.E.Element.tree.depth (g.E.Element.node c.args.element.now)) c.args.tests.now c.climb.new.tests c.in-Whole.ensures.bounded
+
+pub returns-in-Alone-clause-tested : goal.returns-in-Alone-clause-tested
+returns-in-Alone-clause-tested g c = tested_more c.args.tests.now c.loop-candidate.tests c.place_stretch.new.tests c.loop-candidate.invariant.tested c.in-Alone.ensures.tested
+
+pub returns-in-Alone-clause-all_when_true : goal.returns-in-Alone-clause-all_when_true
+returns-in-Alone-clause-all_when_true g c = λ e. absurd (false≢true e)
+
+pub returns-in-Alone-clause-bounded : goal.returns-in-Alone-clause-bounded
+returns-in-Alone-clause-bounded g c =
+    spent_last (longest_stretch c.args.selector.now) (g.E.Element.tree.depth (g.E.Element.node c.loop-candidate.candidate)) c.args.tests.now c.loop-candidate.tests c.place_stretch.new.tests
+    (longest_stretch c.args.selector.now * (g.E.Element.tree.depth (g.E.Element.node c.args.element.now) + 1)) c.loop-candidate.invariant.spent c.in-Alone.ensures.bounded
+
+pub returns-in-Whole-place_stretch-clause-tested : goal.returns-in-Whole-place_stretch-clause-tested
+returns-in-Whole-place_stretch-clause-tested g c = tested_more c.args.tests.now c.loop-candidate.tests c.place_stretch.new.tests c.loop-candidate.invariant.tested c.in-Whole-place_stretch.ensures.tested
+
+pub returns-in-Whole-place_stretch-clause-all_when_true : goal.returns-in-Whole-place_stretch-clause-all_when_true
+returns-in-Whole-place_stretch-clause-all_when_true g c = λ e. placed_last c.args.tests.now c.args.last c.loop-candidate.tests c.loop-candidate.stretch.last c.place_stretch.new.tests c.loop-candidate.invariant.placed c.in-Whole-place_stretch.ensures.placed
+
+pub returns-in-Whole-place_stretch-clause-bounded : goal.returns-in-Whole-place_stretch-clause-bounded
+returns-in-Whole-place_stretch-clause-bounded g c =
+    spent_last (longest_stretch c.args.selector.now) (g.E.Element.tree.depth (g.E.Element.node c.loop-candidate.candidate)) c.args.tests.now c.loop-candidate.tests c.place_stretch.new.tests
+    (longest_stretch c.args.selector.now * (g.E.Element.tree.depth (g.E.Element.node c.args.element.now) + 1)) c.loop-candidate.invariant.spent c.in-Whole-place_stretch.ensures.bounded
+
+pub returns-in-None-clause-tested : goal.returns-in-None-clause-tested
+returns-in-None-clause-tested g c = tested_more c.args.tests.now c.loop-candidate.tests c.place_stretch.new.tests c.loop-candidate.invariant.tested c.in-Misfit-place_stretch.ensures.tested
+
+pub returns-in-None-clause-all_when_true : goal.returns-in-None-clause-all_when_true
+returns-in-None-clause-all_when_true g c = λ e. absurd (false≢true e)
+
+pub returns-in-None-clause-bounded : goal.returns-in-None-clause-bounded
+returns-in-None-clause-bounded g c =
+    spent_last (longest_stretch c.args.selector.now) (g.E.Element.tree.depth (g.E.Element.node c.loop-candidate.candidate)) c.args.tests.now c.loop-candidate.tests c.place_stretch.new.tests
+    (longest_stretch c.args.selector.now * (g.E.Element.tree.depth (g.E.Element.node c.args.element.now) + 1)) c.loop-candidate.invariant.spent c.in-Misfit-place_stretch.ensures.bounded
+
+pub loop-candidate-smaller-in-Some : goal.loop-candidate-smaller-in-Some
+loop-candidate-smaller-in-Some g c = depth-below g.E.Element.tree g.met.E.Element.depth_law _ _ (sym c.in-Some.ensures)
+
+pub loop-candidate-smaller : goal.loop-candidate-smaller
+loop-candidate-smaller g c = c.in-Rest-place_stretch.ensures.finds.higher
+
+pub overflow_sub-number : goal.overflow_sub-number
+overflow_sub-number g c = (begun-after c.as_slice-ends.result.now (length c.as_slice-ends.result.now) c.begin_after-first.result c.begin_after-first.ensures c.in-Rest.ensures.finds.some).0
+
+pub stretch_at-stretch-requires : goal.stretch_at-stretch-requires
+stretch_at-stretch-requires g c =
+    let before = before-within c.as_slice-ends.result.now (length c.as_slice-ends.result.now) c.begin_after-first.result (omega arith) c.begin_after-first.ensures c.in-Rest.ensures.finds.some in
+    record { within = before.0; some = before.1 }
+
+pub overflow_sub-number-in-Rest-place_stretch : goal.overflow_sub-number-in-Rest-place_stretch
+overflow_sub-number-in-Rest-place_stretch g c = (begun-after c.as_slice-ends.result.now c.loop-candidate.number c.loop-candidate.stretch.first c.loop-candidate.invariant.begun c.in-Rest-place_stretch.ensures.finds.some).0
+
+pub stretch_at-stretch-requires-in-Rest-place_stretch : goal.stretch_at-stretch-requires-in-Rest-place_stretch
+stretch_at-stretch-requires-in-Rest-place_stretch g c =
+    let before = before-within c.as_slice-ends.result.now c.loop-candidate.number c.loop-candidate.stretch.first (omega (arith, c.loop-candidate.invariant.numbered)) c.loop-candidate.invariant.begun c.in-Rest-place_stretch.ensures.finds.some in
+    record { within = before.0; some = before.1 }
