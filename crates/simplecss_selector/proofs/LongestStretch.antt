@@ -56,7 +56,7 @@ AreJoined-more cs p q left e b j k from to =
       | no fewer ↦ (let here : p ≡ k = omega arith in subst (λ (x : ℕ). IsTrue (is_joined (component_at cs x))) here b)
     ]
 
-pub stretch_times-le : (cs : List Component) (d : ℕ) → longest_stretch cs * d ≤ length cs * d
+stretch_times-le : (cs : List Component) (d : ℕ) → longest_stretch cs * d ≤ length cs * d
 stretch_times-le cs d = mul-le-mul_right d (longest_stretch-le cs)
 
 -- a higher candidate leaves room for one more stretch
@@ -83,5 +83,22 @@ pub longest_stretch-some : (cs : List Component) → 0 < length cs → 0 < longe
 longest_stretch-some [] some = absurd (omega arith)
 longest_stretch-some (c ∷ cs) some = omega arith
 
-pub once_le : (l d : ℕ) → 0 < l → 1 ≤ l * (d + 1)
+once_le : (l d : ℕ) → 0 < l → 1 ≤ l * (d + 1)
 once_le l d some = let h : 1 * (d + 1) ≤ l * (d + 1) = mul-le-mul_right (d + 1) (omega arith) in omega arith
+
+-- one test alone
+pub once_within : (l d before after : ℕ) → 0 < l → after ≡ before + 1 → after ≤ before + l * (d + 1)
+once_within l d before after some one = let h = once_le l d some in omega arith
+
+-- one test, and then others
+pub one_more : (before now after : ℕ) → now ≡ before + 1 → now ≤ after → before < after
+one_more before now after one h = omega arith
+
+pub all_more : (before now after last all : ℕ) → now ≡ before + 1 → last + 1 ≡ all → now + last ≤ after → before + all ≤ after
+all_more before now after last all one e h = omega arith
+
+pub within_more : (before now after bound : ℕ) → now ≡ before + 1 → after + 1 ≤ now + bound → after ≤ before + bound
+within_more before now after bound one h = omega arith
+
+pub within_all : (cs : List Component) (d before now after : ℕ) → now ≡ before + 1 → after + 1 ≤ now + longest_stretch cs * d → after ≤ before + length cs * d
+within_all cs d before now after one h = let t = stretch_times-le cs d in omega arith

@@ -1,9 +1,21 @@
-use Rattle.std.proofs.Common.{◌+◌, length, refl, arith}
+use Rattle.std.proofs.Common.{◌≡◌, ◌<◌, ◌≤◌, ℕ, ◌+◌, ◌*◌, length, refl, arith}
 use Rattle.std.proofs.lemmas.Bool.{false≢true}
 use Rattle.simplecss_selector.specs.Placements.{longest_stretch}
 use Rattle.simplecss_selector.proofs.Greedy.{not_met, tracks_from, alone_reached, placement_of}
-use Rattle.simplecss_selector.proofs.LongestStretch.{once_le, longest_stretch-some, stretch_times-le}
+use Rattle.simplecss_selector.proofs.LongestStretch.{longest_stretch-some, once_within, one_more, all_more, within_more, within_all}
 use Rattle.simplecss_selector.proofs.selector.Selector.matches_counted.Goals as goal
+
+some : (last n : ℕ) → last + 1 ≡ n → 0 < n
+some last n e = omega arith
+
+below : (last n : ℕ) → last + 1 ≡ n → last < n
+below last n e = omega arith
+
+counted : (before after : ℕ) → after ≡ before + 1 → before < after
+counted before after e = omega arith
+
+alone : (before after last n : ℕ) → after ≡ before + 1 → last + 1 ≡ n → last ≡ 0 → before + n ≤ after
+alone before after last n e l z = omega arith
 
 pub returns-then-not-is_met_at-clause-answer : goal.returns-then-not-is_met_at-clause-answer
 returns-then-not-is_met_at-clause-answer g c =
@@ -21,14 +33,52 @@ returns-then-last-eq0-clause-answer g c =
       λ h. refl,
     )
 
+pub is_met_at-requires : goal.is_met_at-requires
+is_met_at-requires g c = below _ _ c.last_place-last.ensures
+
+pub goes_on-requires : goal.goes_on-requires
+goes_on-requires g c = record { last = c.last_place-last.ensures; met = c.if-not-is_met_at.ensures.answer.0 refl }
+
+pub returns-then-not-is_met_at-clause-at_least_one : goal.returns-then-not-is_met_at-clause-at_least_one
+returns-then-not-is_met_at-clause-at_least_one g c = counted _ _ c.is_met_at.ensures.counted
+
+pub returns-then-last-eq0-clause-at_least_one : goal.returns-then-last-eq0-clause-at_least_one
+returns-then-last-eq0-clause-at_least_one g c = counted _ _ c.is_met_at.ensures.counted
+
+pub returns-then-last-eq0-clause-all_when_true : goal.returns-then-last-eq0-clause-all_when_true
+returns-then-last-eq0-clause-all_when_true g c = λ t. alone _ _ _ _ c.is_met_at.ensures.counted c.last_place-last.ensures c.if-last-eq0.true
+
+pub returns-then-not-is_met_at-clause-all_when_true : goal.returns-then-not-is_met_at-clause-all_when_true
+returns-then-not-is_met_at-clause-all_when_true g c = λ e. absurd (false≢true e)
+
+pub returns-then-not-is_met_at-clause-at_most : goal.returns-then-not-is_met_at-clause-at_most
+returns-then-not-is_met_at-clause-at_most g c =
+    once_within (length c.args.self.now) (g.E.Element.tree.depth (g.E.Element.node c.args.element.now)) c.args.tests.now c.is_met_at.new.tests (some _ _ c.last_place-last.ensures) c.is_met_at.ensures.counted
+
+pub returns-then-not-is_met_at-clause-at_most_by_stretches : goal.returns-then-not-is_met_at-clause-at_most_by_stretches
+returns-then-not-is_met_at-clause-at_most_by_stretches g c =
+    once_within (longest_stretch c.args.self.now) (g.E.Element.tree.depth (g.E.Element.node c.args.element.now)) c.args.tests.now c.is_met_at.new.tests (longest_stretch-some c.args.self.now (some _ _ c.last_place-last.ensures)) c.is_met_at.ensures.counted
+
 pub returns-then-last-eq0-clause-at_most : goal.returns-then-last-eq0-clause-at_most
 returns-then-last-eq0-clause-at_most g c =
-    omega (arith, c.is_met_at.ensures.counted, once_le (length c.args.self.now) (g.E.Element.tree.depth (g.E.Element.node c.args.element.now)) (omega arith))
+    once_within (length c.args.self.now) (g.E.Element.tree.depth (g.E.Element.node c.args.element.now)) c.args.tests.now c.is_met_at.new.tests (some _ _ c.last_place-last.ensures) c.is_met_at.ensures.counted
 
 pub returns-then-last-eq0-clause-at_most_by_stretches : goal.returns-then-last-eq0-clause-at_most_by_stretches
 returns-then-last-eq0-clause-at_most_by_stretches g c =
-    omega (arith, c.is_met_at.ensures.counted, once_le (longest_stretch c.args.self.now) (g.E.Element.tree.depth (g.E.Element.node c.args.element.now)) (longest_stretch-some c.args.self.now (omega arith)))
+    once_within (longest_stretch c.args.self.now) (g.E.Element.tree.depth (g.E.Element.node c.args.element.now)) c.args.tests.now c.is_met_at.new.tests (longest_stretch-some c.args.self.now (some _ _ c.last_place-last.ensures)) c.is_met_at.ensures.counted
+
+pub returns-clause-answer : goal.returns-clause-answer
+returns-clause-answer g c = c.goes_on.ensures.answer
+
+pub returns-clause-at_least_one : goal.returns-clause-at_least_one
+returns-clause-at_least_one g c = one_more c.args.tests.now c.is_met_at.new.tests c.goes_on.new.tests c.is_met_at.ensures.counted c.goes_on.ensures.tested
+
+pub returns-clause-all_when_true : goal.returns-clause-all_when_true
+returns-clause-all_when_true g c = λ t. all_more c.args.tests.now c.is_met_at.new.tests c.goes_on.new.tests c.last_place-last.result (length c.args.self.now) c.is_met_at.ensures.counted c.last_place-last.ensures (c.goes_on.ensures.all_when_true t)
 
 pub returns-clause-at_most : goal.returns-clause-at_most
-returns-clause-at_most g c =
-    omega (arith, c.goes_on.ensures.bounded, c.is_met_at.ensures.counted, stretch_times-le c.args.self.now (g.E.Element.tree.depth (g.E.Element.node c.args.element.now) + 1))
+returns-clause-at_most g c = within_all c.args.self.now (g.E.Element.tree.depth (g.E.Element.node c.args.element.now) + 1) c.args.tests.now c.is_met_at.new.tests c.goes_on.new.tests c.is_met_at.ensures.counted c.goes_on.ensures.bounded
+
+pub returns-clause-at_most_by_stretches : goal.returns-clause-at_most_by_stretches
+returns-clause-at_most_by_stretches g c =
+    within_more c.args.tests.now c.is_met_at.new.tests c.goes_on.new.tests (longest_stretch c.args.self.now * (g.E.Element.tree.depth (g.E.Element.node c.args.element.now) + 1)) c.is_met_at.ensures.counted c.goes_on.ensures.bounded
