@@ -16,3 +16,4 @@ pub mod Counts
 pub mod FlatEquality
 pub mod Firsts
 pub mod KeyLemmas
+pub mod Refused

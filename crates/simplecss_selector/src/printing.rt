@@ -48,7 +48,6 @@ impl<'a> fmt::Display for Selector<'a> {
 }
 
 /// Writes a component, with what stands before it.
-#[tactic(auto, using(simplecss_text::proofs::printed::StyledWrites::styled_three))]
 fn write_component<W: fmt::Write>(
     f: &mut fmt::Formatter<W>,
     part: Part,
@@ -99,7 +98,6 @@ fn write_subselectors<W: fmt::Write>(
 }
 
 /// Writes an attribute in brackets, or a pseudo-class behind its colon.
-#[tactic(auto, using(simplecss_text::proofs::printed::StyledWrites::styled_two, simplecss_text::proofs::printed::StyledWrites::styled_four))]
 fn write_subselector<W: fmt::Write>(
     f: &mut fmt::Formatter<W>,
     subselector: SubSelector,
@@ -154,7 +152,6 @@ fn write_class<W: fmt::Write>(f: &mut fmt::Formatter<W>, class: PseudoClass) -> 
 }
 
 /// Writes three texts one after another.
-#[tactic(auto, using(simplecss_text::proofs::printed::StyledWrites::styled_three))]
 fn write_three<W: fmt::Write>(f: &mut fmt::Formatter<W>, a: &str, b: &str, c: &str) -> fmt::Result
     ensures { WritesStyledOnOk W.write_str_gives f.old result (a.now ++ b.now ++ c.now) f.new }
 {
