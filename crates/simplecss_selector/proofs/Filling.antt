@@ -1,7 +1,8 @@
 -- The flat lists of a selector as it is filled.
 -- Serves `draft::Draft` (a token more in each of its lists).
-use Rattle.std.proofs.Common.{◌≡◌, ◌≢◌, ℕ, zero, suc, ◌+◌, ◌-◌, ◌<◌, ◌≤◌, List, [], ◌∷◌, ◌++◌, None, length, get_or, drop, map, refl, sym, ap, ◌∙◌, arith}
+use Rattle.std.proofs.Common.{◌≡◌, ◌≢◌, ℕ, zero, suc, ◌+◌, ◌-◌, ◌<◌, ◌≤◌, List, [], ◌∷◌, ◌++◌, None, length, get_or, take, drop, map, refl, sym, ap, ◌∙◌, arith}
 use Rattle.std.proofs.Math.Decide.{dec_lt}
+use Rattle.std.proofs.Math.Seq.{take-append_seam}
 use Rattle.std.proofs.lemmas.List.{take-append-le, drop-append-le, map-append, length-append, get_or_append_left, get_or_at}
 use Rattle.std.proofs.lemmas.Slice.{between_is, between_to_end}
 use Rattle.std.specs.List.{slice_range}
@@ -134,6 +135,12 @@ flat_joined ps q ss n m kept f j e done =
 
 pub drafted-finished : (ps : List Part) (ss : List SubSelector) (p : Part) → components_from 0 (ps ++ p ∷ []) ss ≡ finished (drafted ps ss p)
 drafted-finished ps ss p = components_from-push ps p ss
+
+-- a list without the element that was put behind it
+pub without_last : {X : Type 0} (xs ys zs : List X) (x : X) (n : ℕ) → ys ≡ xs ++ x ∷ [] → n ≡ length ys → zs ≡ take (n - 1) ys → zs ≡ xs
+without_last xs ys zs x n e m t =
+    let length_is : n - 1 ≡ length xs = omega (arith, m, ap length e, length-append xs (x ∷ [])) in
+    t ∙ ap (λ k. take k ys) length_is ∙ ap (take (length xs)) e ∙ take-append_seam xs (x ∷ [])
 
 slice_range-empty : {X : Type 0} (xs : List X) (i j : ℕ) → i ≡ j → slice_range xs i j ≡ []
 slice_range-empty xs i j e = let z : j - i ≡ 0 = omega arith in rw z refl

@@ -1,7 +1,20 @@
 use Rattle.std.proofs.Common.{◌≡◌, length, refl, vec_len, arith}
 use Rattle.simplecss_selector.specs.SeenSelectors.{IsFlat}
-use Rattle.simplecss_selector.proofs.Filling.{flat_joined, drafted-joined}
+use Rattle.simplecss_selector.proofs.Filling.{flat_joined, drafted-joined, without_last}
 use Rattle.simplecss_selector.proofs.draft.Draft.join.Goals as goal
+use Rattle.simplecss_selector.proofs.draft.Draft.join.Goals.{After-pop}
+
+pub invariant_of-self : goal.invariant_of-self
+invariant_of-self c = rw c.in_err-push.ensures.items c.self.invariant
+
+unpushed : (c : After-pop) → c.pop.new.self.items ≡ c.self.inside.parts.items
+unpushed c = without_last c.self.inside.parts.items c.push.new.self.items c.pop.new.self.items _ (vec_len c.push.new.self) c.in_ok-push.ensures.items c.push.new.self.ok.0 c.pop.ensures.rest
+
+pub invariant_of-self-in-Err : goal.invariant_of-self-in-Err
+invariant_of-self-in-Err c = rw (unpushed c, c.in-Err.ensures.err) c.self.invariant
+
+pub returns-in-Err-clause-err : goal.returns-in-Err-clause-err
+returns-in-Err-clause-err c = rw (unpushed c) c.self.view_is
 
 pub invariant_of-self-2 : goal.invariant_of-self-2
 invariant_of-self-2 c =
