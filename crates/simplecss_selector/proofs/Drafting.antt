@@ -1,16 +1,17 @@
 -- Filling a draft role by role gives the selector of the roles.
 -- Serves `Selector::{parse, parse_front}` (the tokens of a text give its selector).
-use Rattle.std.proofs.Common.{◌≡◌, ◌<◌, ℕ, true, false, Option, Some, None, Ok, Err, is_some, List, [], ◌∷◌, ◌++◌, length, refl, sym, ap, ◌∙◌, append_assoc, append-nil, map, arith}
+use Rattle.std.proofs.Common.{◌≡◌, ◌<◌, ℕ, Bool, true, false, Option, Some, None, Ok, Err, is_some, List, [], ◌∷◌, ◌++◌, length, refl, sym, ap, ◌∙◌, append_assoc, append-nil, map, arith}
 use Rattle.simplecss_text.specs.Components.{Component}
 use Rattle.simplecss_text.specs.declared.Error.{Error}
-use Rattle.simplecss_text.specs.TokenSequences.{TokenSequence, items}
-use Rattle.simplecss_text.specs.Selectors.{Part, Role, Outcome, role_of, outcome, with_role, after_role, cut, type_among, subselectors_among, component_of, components_of, selector_of}
+use Rattle.simplecss_text.specs.TokenSequences.{TokenSequence, sequence_of, items}
+use Rattle.simplecss_text.specs.ThisEdition.{this_edition}
+use Rattle.simplecss_text.specs.Selectors.{Part, Role, Outcome, role_of, outcome, with_role, after_role, cut, type_among, subselectors_among, component_of, components_of, selector_of, reads}
 use Rattle.simplecss_text.specs.Selectors.Part.{any_type, of_type, with}
 use Rattle.simplecss_text.specs.Selectors.Role.{part, joint}
 use Rattle.simplecss_text.specs.Selectors.Outcome.{refused, accepted}
 use Rattle.simplecss_selector.specs.declared.token.SelectorToken.{SelectorToken}
 use Rattle.simplecss_selector.specs.SeenTokens.{token_of}
-use Rattle.simplecss_selector.specs.SelectorDrafts.{Drafted, empty_draft, drafted_after, drafted_if, continued, finished, selector_after}
+use Rattle.simplecss_selector.specs.SelectorDrafts.{Drafted, empty_draft, drafted_after, drafted_if, continued, finished, selector_after, selector_read}
 use Rattle.simplecss_selector.specs.SelectorTokenizers.{GivesFirst}
 
 -- the component with what the parts ask besides
@@ -36,9 +37,14 @@ continued-cut (joint combinator ∷ roles) d =
 pub continued-by_byte : (roles : List Role) → continued empty_draft roles ≡ components_of roles
 continued-by_byte roles = continued-cut roles empty_draft
 
-pub selector_after_empty_draft : (outcome : Outcome) → selector_after empty_draft outcome ≡ selector_of outcome
+selector_after_empty_draft : (outcome : Outcome) → selector_after empty_draft outcome ≡ selector_of outcome
 selector_after_empty_draft (refused left) = refl
 selector_after_empty_draft (accepted roles left) = ap (λ cs. (Some cs, left)) (continued-by_byte roles)
+
+-- what was put into an empty draft is what the text reads as
+pub read-whole : (is_read b : Bool) (d empty : Drafted) (left text : List ℕ) (all : TokenSequence) → empty ≡ empty_draft → all ≡ sequence_of this_edition text → is_read ≡ b → selector_read is_read d left ≡ selector_after empty (outcome all) → selector_read b d left ≡ reads this_edition text
+unfolding reads
+read-whole is_read b d empty left text all e s t h = ap (λ x. selector_read x d left) (sym t) ∙ h ∙ ap (λ x. selector_after x (outcome all)) e ∙ ap (λ x. selector_after empty_draft (outcome x)) s ∙ selector_after_empty_draft (outcome (sequence_of this_edition text))
 
 selector_after-with_role : (role : Role) (d : Drafted) (rest : Outcome) → selector_after d (with_role role rest) ≡ selector_after (drafted_after role d) rest
 selector_after-with_role role d (refused left) = refl

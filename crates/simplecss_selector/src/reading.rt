@@ -119,7 +119,6 @@ fn fill_all<'a, R: Log>(
 /// The selector that a text begins with, or `None` where it is refused, and the place behind what
 /// was read.
 #[inline(always)]
-#[tactic(auto, unfolding(simplecss_text::specs::Selectors::reads), using(crate::proofs::Drafting::selector_after_empty_draft))]
 pub(crate) fn read_front<'a, R: Log>(
     rt: &R,
     alloc: Global,
