@@ -1,4 +1,4 @@
-use Rattle.std.proofs.Common.{◌≡◌, ◌<◌, ◌+◌, ◌-◌, refl, sym, ap, ◌∙◌, arith}
+use Rattle.std.proofs.Common.{◌≡◌, ℕ, ◌<◌, ◌≤◌, ◌+◌, ◌-◌, refl, sym, ap, ◌∙◌, arith}
 use Rattle.std.proofs.lemmas.Bool.{false≢true}
 use Rattle.simplecss_selector.proofs.Depths.{depth-above, depth-step}
 use Rattle.simplecss_selector.proofs.Greedy.{tracks_step, not_met, no_node, no_rest, leaves_rest, stepped, no_step}
@@ -6,6 +6,43 @@ use Rattle.simplecss_selector.proofs.StretchEnds.{IsStretch-step, IsStretch-gap}
 use Rattle.simplecss_selector.proofs.LongestStretch.{stretch_tests-bound, AreJoined-more}
 use Rattle.simplecss_selector.proofs.SearchSteps.{borrowed, step_at, step_not}
 use Rattle.simplecss_selector.proofs.matching.climb.Goals as goal
+
+above_zero : (a b : ℕ) → a < b → 0 < b
+above_zero a b h = omega arith
+
+at_one_less : (a b : ℕ) → a < b → a ≤ b - 1
+at_one_less a b h = omega arith
+
+one_less : (a b : ℕ) → a ≤ b → a - 1 ≤ b
+one_less a b h = omega arith
+
+one_less_more : (a : ℕ) → 0 < a → a - 1 + 1 ≡ a
+one_less_more a h = omega arith
+
+stays_within : (a b n : ℕ) → a ≤ b → b < n → a < n
+stays_within a b n h k = omega arith
+
+one_less_within : (a b n : ℕ) → a ≤ b → b < n → a - 1 < n
+one_less_within a b n h k = omega arith
+
+below_next : (a b : ℕ) → a ≤ b → a < b + 1
+below_next a b h = omega arith
+
+no_greater : (a b d : ℕ) → a ≤ b → b ≤ d → a ≤ d
+no_greater a b d h k = omega arith
+
+at_first : (place first : ℕ) → place ≤ first → first ≤ place → place ≡ first
+at_first place first h k = omega arith
+
+-- one test more, one component further up
+one_more_counted : (begun last now place after : ℕ) → 0 < place → now + place ≡ begun + last → after ≡ now + 1 → after + (place - 1) ≡ begun + last
+one_more_counted begun last now place after some counted one = omega arith
+
+tested : (begun last now place : ℕ) → place ≤ last → now + place ≡ begun + last → begun ≤ now
+tested begun last now place h counted = omega arith
+
+all_placed : (begun last now place first : ℕ) → place ≤ first → now + place ≡ begun + last → begun + last < now + 1 + first
+all_placed begun last now place first h counted = omega arith
 
 pub returns-in_default-clause-finds : goal.returns-in_default-clause-finds
 returns-in_default-clause-finds g c =
@@ -16,7 +53,7 @@ returns-in_default-clause-finds g c =
     let place = borrowed node c.as_ref.result c.steps.top c.args.lowest c.unwrap_or-node.result c.as_ref.ensures.value c.unwrap_or-node.ensures in
     let joined = IsStretch-step cs c.args.stretch.first c.args.stretch.last c.steps.place _ c.requires.stretch c.steps-test.true i.within_stretch c.combinator.ensures.value c.combinator.ensures.first.0 in
     let step = step_at tree _ _ _ _ _ c.combinator.ensures.value place c.in_default.ensures in
-    no_node tree cs (c.args.stretch.last + 1) c.steps.place (node c.args.lowest.now) _ (omega (arith, c.steps-test.true)) (omega (arith, c.requires.stretch.within, i.within_stretch)) (no_step tree _ _ (step_not _ joined) step) i.tracks
+    no_node tree cs (c.args.stretch.last + 1) c.steps.place (node c.args.lowest.now) _ (above_zero _ _ c.steps-test.true) (stays_within _ _ _ i.within_stretch c.requires.stretch.within) (no_step tree _ _ (step_not _ joined) step) i.tracks
 
 pub returns-in_default-clause-bounded : goal.returns-in_default-clause-bounded
 returns-in_default-clause-bounded g c =
@@ -29,20 +66,20 @@ returns-then-not-is_met_at-clause-finds g c =
     let node = g.E.Element.node in
     let cs = c.args.selector.now in
     let i = c.steps.invariant in
-    let some : 0 < c.steps.place = omega (arith, c.steps-test.true) in
+    let some : 0 < c.steps.place = above_zero _ _ c.steps-test.true in
     let place = borrowed node c.as_ref.result c.steps.top c.args.lowest c.unwrap_or-node.result c.as_ref.ensures.value c.unwrap_or-node.ensures in
     let step = stepped tree _ _ _ (step_at tree _ _ _ _ _ c.combinator.ensures.value place c.in-Some.ensures) in
-    not_met tree cs (c.args.stretch.last + 1) (c.steps.place - 1) _ _ (omega (arith, c.requires.stretch.within, i.within_stretch)) (λ m. false≢true (c.if-not-is_met_at.ensures.answer.1 m))
-    (tracks_step tree cs g.met.E.Element.sibling_law (c.args.stretch.last + 1) c.steps.place (c.steps.place - 1 + 1) _ _ _ some (omega (arith, c.requires.stretch.within, i.within_stretch)) (omega (arith, some)) step.0 i.met step.1 i.tracks)
+    not_met tree cs (c.args.stretch.last + 1) (c.steps.place - 1) _ _ (one_less_within _ _ _ i.within_stretch c.requires.stretch.within) (λ m. false≢true (c.if-not-is_met_at.ensures.answer.1 m))
+    (tracks_step tree cs g.met.E.Element.sibling_law (c.args.stretch.last + 1) c.steps.place (c.steps.place - 1 + 1) _ _ _ some (stays_within _ _ _ i.within_stretch c.requires.stretch.within) (one_less_more _ some) step.0 i.met step.1 i.tracks)
 
 pub returns-then-not-is_met_at-clause-bounded : goal.returns-then-not-is_met_at-clause-bounded
 returns-then-not-is_met_at-clause-bounded g c =
     let cs = c.args.selector.now in
     let i = c.steps.invariant in
-    let some : 0 < c.steps.place = omega (arith, c.steps-test.true) in
+    let some : 0 < c.steps.place = above_zero _ _ c.steps-test.true in
     let joined = IsStretch-step cs c.args.stretch.first c.args.stretch.last c.steps.place _ c.requires.stretch c.steps-test.true i.within_stretch c.combinator.ensures.value c.combinator.ensures.first.0 in
-    stretch_tests-bound cs (c.steps.place - 1) c.args.stretch.last _ _ (omega (arith, i.within_stretch)) c.requires.stretch.within
-    (AreJoined-more cs c.steps.place (c.steps.place - 1 + 1) (c.args.stretch.last + 1) (omega (arith, some)) joined i.joined) (omega (arith, i.counted, some, c.is_met_at.ensures.counted))
+    stretch_tests-bound cs (c.steps.place - 1) c.args.stretch.last _ _ (one_less _ _ i.within_stretch) c.requires.stretch.within
+    (AreJoined-more cs c.steps.place (c.steps.place - 1 + 1) (c.args.stretch.last + 1) (one_less_more _ some) joined i.joined) (one_more_counted _ _ _ _ _ some i.counted c.is_met_at.ensures.counted)
 
 pub steps-preserved : goal.steps-preserved
 steps-preserved g c =
@@ -50,17 +87,17 @@ steps-preserved g c =
     let node = g.E.Element.node in
     let cs = c.args.selector.now in
     let i = c.steps.invariant in
-    let some : 0 < c.steps.place = omega (arith, c.steps-test.true) in
+    let some : 0 < c.steps.place = above_zero _ _ c.steps-test.true in
     let place = borrowed node c.as_ref.result c.steps.top c.args.lowest c.unwrap_or-node.result c.as_ref.ensures.value c.unwrap_or-node.ensures in
     let step = stepped tree _ _ _ (step_at tree _ _ _ _ _ c.combinator.ensures.value place c.in-Some.ensures) in
     record {
-      from_stretch = omega (arith, c.steps-test.true);
-      within_stretch = omega (arith, i.within_stretch);
-      tracks = tracks_step tree cs g.met.E.Element.sibling_law (c.args.stretch.last + 1) c.steps.place (c.steps.place - 1 + 1) _ _ _ some (omega (arith, c.requires.stretch.within, i.within_stretch)) (omega (arith, some)) step.0 i.met step.1 i.tracks;
+      from_stretch = at_one_less _ _ c.steps-test.true;
+      within_stretch = one_less _ _ i.within_stretch;
+      tracks = tracks_step tree cs g.met.E.Element.sibling_law (c.args.stretch.last + 1) c.steps.place (c.steps.place - 1 + 1) _ _ _ some (stays_within _ _ _ i.within_stretch c.requires.stretch.within) (one_less_more _ some) step.0 i.met step.1 i.tracks;
       met = c.if-not-is_met_at.ensures.answer.0 refl;
-      joined = AreJoined-more cs c.steps.place (c.steps.place - 1 + 1) (c.args.stretch.last + 1) (omega (arith, some)) step.0 i.joined;
-      no_deeper = omega (arith, i.no_deeper, depth-step tree g.met.E.Element.depth_law g.met.E.Element.sibling_law _ _ _ step.0 step.1);
-      counted = omega (arith, i.counted, some, c.is_met_at.ensures.counted);
+      joined = AreJoined-more cs c.steps.place (c.steps.place - 1 + 1) (c.args.stretch.last + 1) (one_less_more _ some) step.0 i.joined;
+      no_deeper = no_greater _ _ _ (depth-step tree g.met.E.Element.depth_law g.met.E.Element.sibling_law _ _ _ step.0 step.1) i.no_deeper;
+      counted = one_more_counted _ _ _ _ _ some i.counted c.is_met_at.ensures.counted;
     }
 
 pub returns-then-stretch-eq0-clause-bounded : goal.returns-then-stretch-eq0-clause-bounded
@@ -86,11 +123,11 @@ returns-in-Some-parent_element-clause-finds g c =
     let i = c.steps.invariant in
     let place = borrowed node c.as_ref-2.result c.steps.top c.args.lowest c.unwrap_or-node-2.result c.as_ref-2.ensures.value c.unwrap_or-node-2.ensures in
     let parent = ap tree.parent (sym place) ∙ sym c.in-Some-parent_element.ensures in
-    let first : c.steps.place ≡ c.args.stretch.first = omega (arith, c.steps-test.false, i.from_stretch) in
+    let first : c.steps.place ≡ c.args.stretch.first = at_first _ _ c.steps-test.false i.from_stretch in
     let some : 0 < c.steps.place = omega (arith, c.if-stretch-eq0.false) in
     let gap = rw (← first) at (IsStretch-gap cs c.args.stretch.first c.args.stretch.last c.requires.stretch (omega (arith, c.if-stretch-eq0.false))) in
     rw (← first)
-    (leaves_rest tree cs (c.args.stretch.last + 1) c.steps.place (node c.args.lowest.now) _ (node c.in-Some-parent_element.above) some (omega (arith, i.within_stretch)) (omega (arith, c.requires.stretch.within, i.within_stretch)) gap i.met parent
+    (leaves_rest tree cs (c.args.stretch.last + 1) c.steps.place (node c.args.lowest.now) _ (node c.in-Some-parent_element.above) some (below_next _ _ i.within_stretch) (stays_within _ _ _ i.within_stretch c.requires.stretch.within) gap i.met parent
     (depth-above tree g.met.E.Element.depth_law _ _ _ parent i.no_deeper) i.tracks)
 
 pub returns-clause-finds : goal.returns-clause-finds
@@ -101,7 +138,22 @@ returns-clause-finds g c =
     let i = c.steps.invariant in
     let place = borrowed node c.as_ref-2.result c.steps.top c.args.lowest c.unwrap_or-node-2.result c.as_ref-2.ensures.value c.unwrap_or-node-2.ensures in
     let parent = ap tree.parent (sym place) ∙ sym c.in-None.ensures in
-    let first : c.steps.place ≡ c.args.stretch.first = omega (arith, c.steps-test.false, i.from_stretch) in
+    let first : c.steps.place ≡ c.args.stretch.first = at_first _ _ c.steps-test.false i.from_stretch in
     let some : 0 < c.steps.place = omega (arith, c.if-stretch-eq0.false) in
     let gap = rw (← first) at (IsStretch-gap cs c.args.stretch.first c.args.stretch.last c.requires.stretch (omega (arith, c.if-stretch-eq0.false))) in
-    no_rest tree cs (c.args.stretch.last + 1) c.steps.place (node c.args.lowest.now) _ some (omega (arith, c.requires.stretch.within, i.within_stretch)) gap parent i.tracks
+    no_rest tree cs (c.args.stretch.last + 1) c.steps.place (node c.args.lowest.now) _ some (stays_within _ _ _ i.within_stretch c.requires.stretch.within) gap parent i.tracks
+
+pub returns-in_default-clause-tested : goal.returns-in_default-clause-tested
+returns-in_default-clause-tested g c = tested _ _ _ _ c.steps.invariant.within_stretch c.steps.invariant.counted
+
+pub returns-then-stretch-eq0-clause-tested : goal.returns-then-stretch-eq0-clause-tested
+returns-then-stretch-eq0-clause-tested g c = tested _ _ _ _ c.steps.invariant.within_stretch c.steps.invariant.counted
+
+pub returns-in-Some-parent_element-clause-tested : goal.returns-in-Some-parent_element-clause-tested
+returns-in-Some-parent_element-clause-tested g c = tested _ _ _ _ c.steps.invariant.within_stretch c.steps.invariant.counted
+
+pub returns-clause-tested : goal.returns-clause-tested
+returns-clause-tested g c = tested _ _ _ _ c.steps.invariant.within_stretch c.steps.invariant.counted
+
+pub returns-in-Some-parent_element-clause-placed : goal.returns-in-Some-parent_element-clause-placed
+returns-in-Some-parent_element-clause-placed g c = all_placed _ _ _ _ _ c.steps-test.false c.steps.invariant.counted
