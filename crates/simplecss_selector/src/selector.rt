@@ -344,11 +344,12 @@ impl<'a> Selector<'a> {
     pub fn clone(&self) -> Result<Self, AllocError>
         ensures { IfOk result (λ copy. copy ≡ self.now) }
     {
+        let alloc = *self.parts.allocator();
         Ok(Selector {
-            parts: Vec::from_slice(*self.parts.allocator(), &self.parts)?,
+            parts: Vec::from_slice(alloc, &self.parts)?,
             last: self.last,
-            subselectors: Vec::from_slice(*self.subselectors.allocator(), &self.subselectors)?,
-            stretch_ends: Vec::from_slice(*self.stretch_ends.allocator(), &self.stretch_ends)?,
+            subselectors: Vec::from_slice(alloc, &self.subselectors)?,
+            stretch_ends: Vec::from_slice(alloc, &self.stretch_ends)?,
         })
     }
 }
