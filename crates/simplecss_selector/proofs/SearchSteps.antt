@@ -24,6 +24,9 @@ borrowed node r top low b e f = ap (λ (x : Bor _). node x.now) f ∙ taken node
 pub step_at : {Node : Type 0} (tree : Tree Node) (c d : Seen) (x u : Node) (o : Option Node) → c ≡ d → x ≡ u → o ≡ step_from tree c x → step_from tree d u ≡ o
 step_at tree c d x u o e f s = cc
 
+pub parent_at : {Node : Type 0} (tree : Tree Node) (x u : Node) (o : Option Node) → x ≡ u → o ≡ tree.parent x → tree.parent u ≡ o
+parent_at tree x u o e p = cc
+
 pub step_not : (c : Seen) → IsTrue (is_step c) → c ≡ descendant → ⊥
 step_not c s e = false≢true (ap is_step (sym e) ∙ s)
 

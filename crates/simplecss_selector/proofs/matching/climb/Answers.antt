@@ -1,10 +1,13 @@
-use Rattle.std.proofs.Common.{◌≡◌, ℕ, ◌<◌, ◌≤◌, ◌+◌, ◌-◌, refl, sym, ap, ◌∙◌, arith}
+use Rattle.std.proofs.Common.{◌≡◌, ℕ, ◌<◌, ◌≤◌, ◌+◌, ◌-◌, None, Some, refl, arith}
 use Rattle.std.proofs.lemmas.Bool.{false≢true}
+use Rattle.std.specs.Option.{option_map_or}
+use Rattle.simplecss_selector.specs.SeenCombinators.{combinator_of}
+use Rattle.simplecss_selector.specs.Shapes.{component_at}
 use Rattle.simplecss_selector.proofs.Depths.{depth-above, depth-step}
 use Rattle.simplecss_selector.proofs.Greedy.{tracks_step, not_met, no_node, no_rest, leaves_rest, stepped, no_step}
 use Rattle.simplecss_selector.proofs.StretchEnds.{IsStretch-step, IsStretch-gap}
 use Rattle.simplecss_selector.proofs.LongestStretch.{stretch_tests-bound, AreJoined-more}
-use Rattle.simplecss_selector.proofs.SearchSteps.{borrowed, step_at, step_not}
+use Rattle.simplecss_selector.proofs.SearchSteps.{borrowed, step_at, step_not, parent_at}
 use Rattle.simplecss_selector.proofs.matching.climb.Goals as goal
 
 above_zero : (a b : ℕ) → a < b → 0 < b
@@ -51,9 +54,9 @@ returns-in_default-clause-finds g c =
     let cs = c.args.selector.now in
     let i = c.steps.invariant in
     let place = borrowed node c.as_ref.result c.steps.top c.args.lowest c.unwrap_or-node.result c.as_ref.ensures.value c.unwrap_or-node.ensures in
-    let joined = IsStretch-step cs c.args.stretch.first c.args.stretch.last c.steps.place _ c.requires.stretch c.steps-test.true i.within_stretch c.combinator.ensures.value c.combinator.ensures.first.0 in
-    let step = step_at tree _ _ _ _ _ c.combinator.ensures.value place c.in_default.ensures in
-    no_node tree cs (c.args.stretch.last + 1) c.steps.place (node c.args.lowest.now) _ (above_zero _ _ c.steps-test.true) (stays_within _ _ _ i.within_stretch c.requires.stretch.within) (no_step tree _ _ (step_not _ joined) step) i.tracks
+    let joined = IsStretch-step cs c.args.stretch.first c.args.stretch.last c.steps.place (combinator_of c.combinator.result) c.requires.stretch c.steps-test.true i.within_stretch c.combinator.ensures.value c.combinator.ensures.first.0 in
+    let step = step_at tree (combinator_of c.combinator.result) (component_at cs c.steps.place).combinator (node c.unwrap_or-node.result.now) (option_map_or node c.steps.top (node c.args.lowest.now)) None c.combinator.ensures.value place c.in_default.ensures in
+    no_node tree cs (c.args.stretch.last + 1) c.steps.place (node c.args.lowest.now) (option_map_or node c.steps.top (node c.args.lowest.now)) (above_zero _ _ c.steps-test.true) (stays_within _ _ _ i.within_stretch c.requires.stretch.within) (no_step tree (component_at cs c.steps.place).combinator (option_map_or node c.steps.top (node c.args.lowest.now)) (step_not (component_at cs c.steps.place).combinator joined) step) i.tracks
 
 pub returns-in_default-clause-bounded : goal.returns-in_default-clause-bounded
 returns-in_default-clause-bounded g c =
@@ -68,16 +71,16 @@ returns-then-not-is_met_at-clause-finds g c =
     let i = c.steps.invariant in
     let some : 0 < c.steps.place = above_zero _ _ c.steps-test.true in
     let place = borrowed node c.as_ref.result c.steps.top c.args.lowest c.unwrap_or-node.result c.as_ref.ensures.value c.unwrap_or-node.ensures in
-    let step = stepped tree _ _ _ (step_at tree _ _ _ _ _ c.combinator.ensures.value place c.in-Some.ensures) in
-    not_met tree cs (c.args.stretch.last + 1) (c.steps.place - 1) _ _ (one_less_within _ _ _ i.within_stretch c.requires.stretch.within) (λ m. false≢true (c.if-not-is_met_at.ensures.answer.1 m))
-    (tracks_step tree cs g.met.E.Element.sibling_law (c.args.stretch.last + 1) c.steps.place (c.steps.place - 1 + 1) _ _ _ some (stays_within _ _ _ i.within_stretch c.requires.stretch.within) (one_less_more _ some) step.0 i.met step.1 i.tracks)
+    let step = stepped tree (component_at cs c.steps.place).combinator (option_map_or node c.steps.top (node c.args.lowest.now)) (node c.in-Some.before) (step_at tree (combinator_of c.combinator.result) (component_at cs c.steps.place).combinator (node c.unwrap_or-node.result.now) (option_map_or node c.steps.top (node c.args.lowest.now)) (Some (node c.in-Some.before)) c.combinator.ensures.value place c.in-Some.ensures) in
+    not_met tree cs (c.args.stretch.last + 1) (c.steps.place - 1) (node c.args.lowest.now) (node c.in-Some.before) (one_less_within _ _ _ i.within_stretch c.requires.stretch.within) (λ m. false≢true (c.if-not-is_met_at.ensures.answer.1 m))
+    (tracks_step tree cs g.met.E.Element.sibling_law (c.args.stretch.last + 1) c.steps.place (c.steps.place - 1 + 1) (node c.args.lowest.now) (option_map_or node c.steps.top (node c.args.lowest.now)) (node c.in-Some.before) some (stays_within _ _ _ i.within_stretch c.requires.stretch.within) (one_less_more _ some) step.0 i.met step.1 i.tracks)
 
 pub returns-then-not-is_met_at-clause-bounded : goal.returns-then-not-is_met_at-clause-bounded
 returns-then-not-is_met_at-clause-bounded g c =
     let cs = c.args.selector.now in
     let i = c.steps.invariant in
     let some : 0 < c.steps.place = above_zero _ _ c.steps-test.true in
-    let joined = IsStretch-step cs c.args.stretch.first c.args.stretch.last c.steps.place _ c.requires.stretch c.steps-test.true i.within_stretch c.combinator.ensures.value c.combinator.ensures.first.0 in
+    let joined = IsStretch-step cs c.args.stretch.first c.args.stretch.last c.steps.place (combinator_of c.combinator.result) c.requires.stretch c.steps-test.true i.within_stretch c.combinator.ensures.value c.combinator.ensures.first.0 in
     stretch_tests-bound cs (c.steps.place - 1) c.args.stretch.last _ _ (one_less _ _ i.within_stretch) c.requires.stretch.within
     (AreJoined-more cs c.steps.place (c.steps.place - 1 + 1) (c.args.stretch.last + 1) (one_less_more _ some) joined i.joined) (one_more_counted _ _ _ _ _ some i.counted c.is_met_at.ensures.counted)
 
@@ -89,14 +92,14 @@ steps-preserved g c =
     let i = c.steps.invariant in
     let some : 0 < c.steps.place = above_zero _ _ c.steps-test.true in
     let place = borrowed node c.as_ref.result c.steps.top c.args.lowest c.unwrap_or-node.result c.as_ref.ensures.value c.unwrap_or-node.ensures in
-    let step = stepped tree _ _ _ (step_at tree _ _ _ _ _ c.combinator.ensures.value place c.in-Some.ensures) in
+    let step = stepped tree (component_at cs c.steps.place).combinator (option_map_or node c.steps.top (node c.args.lowest.now)) (node c.in-Some.before) (step_at tree (combinator_of c.combinator.result) (component_at cs c.steps.place).combinator (node c.unwrap_or-node.result.now) (option_map_or node c.steps.top (node c.args.lowest.now)) (Some (node c.in-Some.before)) c.combinator.ensures.value place c.in-Some.ensures) in
     record {
       from_stretch = at_one_less _ _ c.steps-test.true;
       within_stretch = one_less _ _ i.within_stretch;
-      tracks = tracks_step tree cs g.met.E.Element.sibling_law (c.args.stretch.last + 1) c.steps.place (c.steps.place - 1 + 1) _ _ _ some (stays_within _ _ _ i.within_stretch c.requires.stretch.within) (one_less_more _ some) step.0 i.met step.1 i.tracks;
+      tracks = tracks_step tree cs g.met.E.Element.sibling_law (c.args.stretch.last + 1) c.steps.place (c.steps.place - 1 + 1) (node c.args.lowest.now) (option_map_or node c.steps.top (node c.args.lowest.now)) (node c.in-Some.before) some (stays_within _ _ _ i.within_stretch c.requires.stretch.within) (one_less_more _ some) step.0 i.met step.1 i.tracks;
       met = c.if-not-is_met_at.ensures.answer.0 refl;
       joined = AreJoined-more cs c.steps.place (c.steps.place - 1 + 1) (c.args.stretch.last + 1) (one_less_more _ some) step.0 i.joined;
-      no_deeper = no_greater _ _ _ (depth-step tree g.met.E.Element.depth_law g.met.E.Element.sibling_law _ _ _ step.0 step.1) i.no_deeper;
+      no_deeper = no_greater _ _ _ (depth-step tree g.met.E.Element.depth_law g.met.E.Element.sibling_law (component_at cs c.steps.place).combinator (option_map_or node c.steps.top (node c.args.lowest.now)) (node c.in-Some.before) step.0 step.1) i.no_deeper;
       counted = one_more_counted _ _ _ _ _ some i.counted c.is_met_at.ensures.counted;
     }
 
@@ -122,13 +125,13 @@ returns-in-Some-parent_element-clause-finds g c =
     let cs = c.args.selector.now in
     let i = c.steps.invariant in
     let place = borrowed node c.as_ref-2.result c.steps.top c.args.lowest c.unwrap_or-node-2.result c.as_ref-2.ensures.value c.unwrap_or-node-2.ensures in
-    let parent = ap tree.parent (sym place) ∙ sym c.in-Some-parent_element.ensures in
+    let parent = parent_at tree (node c.unwrap_or-node-2.result.now) (option_map_or node c.steps.top (node c.args.lowest.now)) (Some (node c.in-Some-parent_element.above)) place c.in-Some-parent_element.ensures in
     let first : c.steps.place ≡ c.args.stretch.first = at_first _ _ c.steps-test.false i.from_stretch in
     let some : 0 < c.steps.place = omega (arith, c.if-stretch-eq0.false) in
     let gap = rw (← first) at (IsStretch-gap cs c.args.stretch.first c.args.stretch.last c.requires.stretch (omega (arith, c.if-stretch-eq0.false))) in
     rw (← first)
-    (leaves_rest tree cs (c.args.stretch.last + 1) c.steps.place (node c.args.lowest.now) _ (node c.in-Some-parent_element.above) some (below_next _ _ i.within_stretch) (stays_within _ _ _ i.within_stretch c.requires.stretch.within) gap i.met parent
-    (depth-above tree g.met.E.Element.depth_law _ _ _ parent i.no_deeper) i.tracks)
+    (leaves_rest tree cs (c.args.stretch.last + 1) c.steps.place (node c.args.lowest.now) (option_map_or node c.steps.top (node c.args.lowest.now)) (node c.in-Some-parent_element.above) some (below_next _ _ i.within_stretch) (stays_within _ _ _ i.within_stretch c.requires.stretch.within) gap i.met parent
+    (depth-above tree g.met.E.Element.depth_law (node c.args.lowest.now) (option_map_or node c.steps.top (node c.args.lowest.now)) (node c.in-Some-parent_element.above) parent i.no_deeper) i.tracks)
 
 pub returns-clause-finds : goal.returns-clause-finds
 returns-clause-finds g c =
@@ -137,11 +140,11 @@ returns-clause-finds g c =
     let cs = c.args.selector.now in
     let i = c.steps.invariant in
     let place = borrowed node c.as_ref-2.result c.steps.top c.args.lowest c.unwrap_or-node-2.result c.as_ref-2.ensures.value c.unwrap_or-node-2.ensures in
-    let parent = ap tree.parent (sym place) ∙ sym c.in-None.ensures in
+    let parent = parent_at tree (node c.unwrap_or-node-2.result.now) (option_map_or node c.steps.top (node c.args.lowest.now)) None place c.in-None.ensures in
     let first : c.steps.place ≡ c.args.stretch.first = at_first _ _ c.steps-test.false i.from_stretch in
     let some : 0 < c.steps.place = omega (arith, c.if-stretch-eq0.false) in
     let gap = rw (← first) at (IsStretch-gap cs c.args.stretch.first c.args.stretch.last c.requires.stretch (omega (arith, c.if-stretch-eq0.false))) in
-    no_rest tree cs (c.args.stretch.last + 1) c.steps.place (node c.args.lowest.now) _ some (stays_within _ _ _ i.within_stretch c.requires.stretch.within) gap parent i.tracks
+    no_rest tree cs (c.args.stretch.last + 1) c.steps.place (node c.args.lowest.now) (option_map_or node c.steps.top (node c.args.lowest.now)) some (stays_within _ _ _ i.within_stretch c.requires.stretch.within) gap parent i.tracks
 
 pub returns-in_default-clause-tested : goal.returns-in_default-clause-tested
 returns-in_default-clause-tested g c = tested _ _ _ _ c.steps.invariant.within_stretch c.steps.invariant.counted
