@@ -1,11 +1,12 @@
 -- The flat lists of a selector as it is filled.
 -- Serves `draft::Draft` (a token more in each of its lists).
-use Rattle.std.proofs.Common.{◌≡◌, ◌≢◌, ℕ, zero, suc, ◌+◌, ◌-◌, ◌<◌, ◌≤◌, List, [], ◌∷◌, ◌++◌, None, length, get_or, take, drop, map, refl, sym, ap, ◌∙◌, arith}
+use Rattle.std.proofs.Common.{◌≡◌, ◌≢◌, ℕ, zero, suc, ◌+◌, ◌-◌, ◌<◌, ◌≤◌, List, [], ◌∷◌, ◌++◌, None, length, get_or, take, drop, map, Result, Ok, Err, refl, sym, ap, ◌∙◌, arith}
 use Rattle.std.proofs.Math.Decide.{dec_lt}
 use Rattle.std.proofs.Math.Seq.{take-append_seam}
 use Rattle.std.proofs.lemmas.List.{take-append-le, drop-append-le, map-append, length-append, get_or_append_left, get_or_at}
 use Rattle.std.proofs.lemmas.Slice.{between_is, between_to_end}
 use Rattle.std.specs.List.{slice_range}
+use Rattle.std.specs.Result.{IfOk, OnOk, OnErr}
 use Rattle.std.specs.Option.{option_map}
 use Rattle.simplecss_text.specs.Components.{Component, Combinator}
 use Rattle.simplecss_text.specs.Components.Combinator.{none}
@@ -135,6 +136,16 @@ flat_joined ps q ss n m kept f j e done =
 
 pub drafted-finished : (ps : List Part) (ss : List SubSelector) (p : Part) → components_from 0 (ps ++ p ∷ []) ss ≡ finished (drafted ps ss p)
 drafted-finished ps ss p = components_from-push ps p ss
+
+-- what two facts on success come to
+pub both_on_ok : {T E A B C : Type 0} (r : Result T E) → (A → B → C) → OnOk r A → OnOk r B → IfOk r (λ _. C)
+both_on_ok (Ok x) f a b = f a b
+both_on_ok (Err e) f a b = tt
+
+-- a list does not get shorter where one more element may be put behind it
+pub pushed_len : {T E X : Type 0} (r : Result T E) (xs ys : List X) (x : X) (n m : ℕ) → n ≡ length xs → m ≡ length ys → OnOk r (ys ≡ xs ++ x ∷ []) → OnErr r (ys ≡ xs) → n ≤ m
+pushed_len (Ok t) xs ys x n m a b ok err = omega (arith, a, b, ap length ok, length-append xs (x ∷ []))
+pushed_len (Err e) xs ys x n m a b ok err = omega (arith, a, b, ap length err)
 
 -- a list without the element that was put behind it
 pub without_last : {X : Type 0} (xs ys zs : List X) (x : X) (n : ℕ) → ys ≡ xs ++ x ∷ [] → n ≡ length ys → zs ≡ take (n - 1) ys → zs ≡ xs

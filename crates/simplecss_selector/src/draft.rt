@@ -107,8 +107,7 @@ impl<'a> Draft<'a> {
             (λ _. self.new ≡ with_subselector (subselector_of subselector.entry) self.old) }
         ensures err { OnErr result (self.new ≡ self.old) }
     {
-        push_few(&mut self.subselectors, subselector)?;
-        Ok(())
+        push_few(&mut self.subselectors, subselector)
     }
 
     /// Ends the last component, and begins one that is joined to it.
