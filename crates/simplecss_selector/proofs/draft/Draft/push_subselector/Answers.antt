@@ -15,7 +15,7 @@ returns-clause-ok c =
     let s = c.self.inside in
     both_on_ok c.push_few.result
     (λ (items : c.push_few.new.list.items ≡ s.subselectors.items ++ c.args.subselector ∷ []) (len : vec_len c.push_few.new.list ≡ vec_len s.subselectors + 1).
-      rw (items, ← c.self.view_is) (drafted-narrowed s.parts.items s.subselectors.items c.args.subselector _ _ _ _ c.self.invariant s.subselectors.ok.0 refl refl len))
+    rw (items, ← c.self.view_is) (drafted-narrowed s.parts.items s.subselectors.items c.args.subselector _ _ _ _ c.self.invariant s.subselectors.ok.0 refl refl len))
     c.push_few.ensures.ok c.push_few.ensures.len
 
 pub returns-clause-err : goal.returns-clause-err
@@ -23,6 +23,6 @@ returns-clause-err c =
     let s = c.self.inside in
     on_err_weaker c.push_few.result
     (λ (items : c.push_few.new.list.items ≡ s.subselectors.items).
-      let len : vec_len c.push_few.new.list ≡ vec_len s.subselectors = omega (arith, ap length items, c.push_few.new.list.ok.0, s.subselectors.ok.0) in
-      rw (items, len) c.self.view_is)
+    let len : vec_len c.push_few.new.list ≡ vec_len s.subselectors = omega (arith, ap length items, c.push_few.new.list.ok.0, s.subselectors.ok.0) in
+    rw (items, len) c.self.view_is)
     c.push_few.ensures.err
