@@ -23,18 +23,9 @@ pub returns-clause-answer : goal.returns-clause-answer
 returns-clause-answer g c =
     not_named g.E.Element.tree (g.E.Element.node c.args.element.now) c.component.result.0 c.component.result.1.now (component_at c.args.selector.now c.args.place) c.in-Some.name c.has_local_name.result c.component.ensures c.in-Some.is c.has_local_name.ensures c.if-not-has_local_name.true
 
-pub returns-clause-counted : goal.returns-clause-counted
-returns-clause-counted g c = c.tick.ensures
-
-pub returns-then-not-holds-clause-counted : goal.returns-then-not-holds-clause-counted
-returns-then-not-holds-clause-counted g c = c.tick.ensures
-
 pub loop-subselector-smaller : goal.loop-subselector-smaller
 loop-subselector-smaller g c = fewer_left (length c.component.result.1.now) c.loop-subselector.subselector-index c.loop-subselector-test.true
 
 pub returns-2-clause-answer : goal.returns-2-clause-answer
 returns-2-clause-answer g c =
     whole_holds (Holds g.E.Element.tree (g.E.Element.node c.args.element.now)) subselector_of c.component.result.1.now c.loop-subselector.subselector-index c.loop-subselector-test.false c.loop-subselector.invariant
-
-pub returns-2-clause-counted : goal.returns-2-clause-counted
-returns-2-clause-counted g c = c.tick.ensures
