@@ -15,20 +15,6 @@ use simplecss_text::readers;
 use simplecss_text::stream::Stream;
 use std::alloc::{AllocError, Global};
 
-/// Adds the selector, if there is one.
-fn push_some<'a>(
-    selectors: &mut Vec<Selector<'a>>,
-    selector: Option<Selector<'a>>,
-) -> Result<(), AllocError>
-    ensures { OnOk result
-        (selectors.new.items ≡ selectors.old.items ++ option_to_list selector.entry) }
-{
-    if let Some(selector) = selector {
-        selectors.push(selector)?;
-    }
-    Ok(())
-}
-
 /// Reads a part of a rule set's head, passes the space bytes behind it, and adds its selector, if it
 /// gives one.
 #[tactic(auto, unfolding(simplecss_text::specs::Statements::part))]
@@ -46,7 +32,10 @@ fn consume_part<'a, R: Log>(
     let (selector, len) = Selector::parse_front(rt, alloc, s.slice_tail())?;
     s.advance(len);
     s.skip_spaces();
-    push_some(selectors, selector)
+    if let Some(selector) = selector {
+        selectors.push(selector)?;
+    }
+    Ok(())
 }
 
 /// Reads the parts of a rule set's head, with a comma behind each but the last, and puts their
