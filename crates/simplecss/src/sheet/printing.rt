@@ -65,19 +65,10 @@ fn write_lines<W: fmt::Write>(f: &mut fmt::Formatter<W>, rules: &[Rule]) -> fmt:
         (flat_map (λ r. newline ∷ rule_text (rule_of r)) rules.now) f.new }
 {
     for rule in rules {
-        write_line(f, rule)?;
+        f.write_str("\n")?;
+        write_rule(f, rule)?;
     }
     Ok(())
-}
-
-/// Writes a newline and the rule.
-#[tactic(auto, using(simplecss_text::proofs::printed::StyledWrites::styled_two))]
-fn write_line<W: fmt::Write>(f: &mut fmt::Formatter<W>, rule: &Rule) -> fmt::Result
-    ensures { WritesStyledOnOk W.write_str_gives f.old result
-        (newline ∷ rule_text (rule_of rule.now)) f.new }
-{
-    f.write_str("\n")?;
-    write_rule(f, rule)
 }
 
 /// Writes the selector, and the declarations between braces.
