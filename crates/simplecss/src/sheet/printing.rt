@@ -91,18 +91,7 @@ fn write_declarations<W: fmt::Write>(
         (flat_map declaration_text (declarations_of declarations.now)) f.new }
 {
     for declaration in declarations {
-        write_declaration(f, declaration)?;
+        declaration.fmt(f)?;
     }
     Ok(())
-}
-
-/// Writes a declaration as it prints itself.
-fn write_declaration<W: fmt::Write>(
-    f: &mut fmt::Formatter<W>,
-    declaration: &Declaration,
-) -> fmt::Result
-    ensures { WritesStyledOnOk W.write_str_gives f.old result
-        (declaration_text (declaration_of declaration.now)) f.new }
-{
-    declaration.fmt(f)
 }

@@ -15,4 +15,4 @@ loop-declaration-preserved g c = λ plain.
     has_written_styled_of_eq _ _ _ _ _ (sym (flat_map-map declaration_text declaration_of (take (i + 1) all)))
     (styled_step_at _ (λ d. declaration_text (declaration_of d)) _ _ _ _ _ _ within
     (has_written_styled_of_eq _ _ _ _ _ (flat_map-map declaration_text declaration_of (take i all)) so_far)
-    (c.write_declaration.ensures so_far.flush (search rules)))
+    (c.fmt.ensures.styled so_far.flush (search rules)))
