@@ -21,18 +21,15 @@ fn sort_rules(rules: &mut Vec<Rule>) -> Result<(), AllocError>
     )
 }
 
-/// Whether the rule has a declaration.
-fn has_declaration(rule: &Rule) -> bool
-    ensures { result ≡ has_declaration (rule_of rule.now) }
-{
-    !rule.declarations.is_empty()
-}
-
 /// Drops the rules without a declaration.
 fn drop_empty(rules: &mut Vec<Rule>)
     ensures { rules_of rules.new.items ≡ filter has_declaration (rules_of rules.old.items) }
 {
-    rules.retain(|rule| has_declaration(rule));
+    rules.retain(
+        |rule: &Rule| -> bool
+            ensures { result ≡ has_declaration (rule_of rule.now) }
+        { !rule.declarations.is_empty() },
+    );
 }
 
 /// Puts the rules behind the others, which may take them as they are where there are no others. An
