@@ -1,10 +1,8 @@
 //! An index of rules by the keys of their selectors.
-ghost use Rattle.std.specs.Prelude.{◌≡◌, ◌+◌, ◌<◌, ◌≤◌, ◌∷◌, ◌++◌, [], None, IfOk, OnOk};
+ghost use Rattle.std.specs.Prelude.{◌≡◌, ◌+◌, ◌<◌, ◌≤◌, ◌∷◌, ◌++◌, [], IfOk, OnOk};
 ghost use Rattle.std.specs.Prelude.{OnErr, length, map};
 ghost use Rattle.std.specs.List.{sum_by};
-ghost use Rattle.simplecss_selector.specs.Keys.{Key};
 ghost use Rattle.simplecss.specs.Chains.{selectors_of, IsLastBefore, AreChained};
-ghost use Rattle.simplecss.specs.Lasts.{last_for};
 ghost use Rattle.simplecss.specs.SelectorPlaces.{key_at};
 ghost use Rattle.simplecss.specs.Matching.{AreMatches, most_tests, keyed_for};
 
@@ -76,23 +74,6 @@ fn push_links<'a>(
     Ok(())
 }
 
-/// The links of the rules, in order, where no key has a place before.
-#[inline(always)]
-fn links_of<'a>(
-    alloc: Global,
-    lasts: &mut Lasts<'a>,
-    rules: &[Rule<'a>],
-) -> Result<Vec<Link<'a>>, AllocError>
-    requires { (key : Key) → last_for lasts.old key ≡ None }
-    ensures chained { IfOk result (λ links. AreChained lasts.new links.items) }
-    ensures selectors { IfOk result
-        (λ links. selectors_of links.items ≡ map (λ rule. rule.selector) rules.now) }
-{
-    let mut links = Vec::with_capacity(alloc, rules.len())?;
-    push_links(lasts, &mut links, rules)?;
-    Ok(links)
-}
-
 /// An index of rules by the keys of their selectors: it finds the rules that match an element, and
 /// asks only those whose key the element tells.
 ///
@@ -138,7 +119,8 @@ impl<'a> RuleIndex<'a> {
         ensures { IfOk result (λ index. index ≡ map (λ rule. rule.selector) rules.now) }
     {
         let mut lasts = Lasts::new(alloc);
-        let links = links_of(alloc, &mut lasts, rules)?;
+        let mut links = Vec::with_capacity(alloc, rules.len())?;
+        push_links(&mut lasts, &mut links, rules)?;
         Ok(RuleIndex { lasts, links })
     }
 
