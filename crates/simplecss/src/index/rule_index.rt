@@ -24,39 +24,8 @@ struct Link<'a> {
     selector: Snapshot<Selector<'a>>,
 }
 
-impl<'a> Link<'a> {
-    /// The link of a selector.
-    #[inline(always)]
-    fn new(earlier: Option<usize>, selector: &Selector<'a>) -> Link<'a>
-        ensures earlier { result.earlier ≡ earlier }
-        ensures selector { result.selector.value ≡ selector.now }
-    {
-        Link {
-            earlier,
-            selector: Snapshot::of(selector),
-        }
-    }
-}
-
-/// Puts the place behind the links under the selector's key, and there a link to the last earlier
-/// place with that key.
-#[inline(always)]
-fn push_link<'a>(
-    lasts: &mut Lasts<'a>,
-    links: &mut Vec<Link<'a>>,
-    selector: &Selector<'a>,
-) -> Result<(), AllocError>
-    requires { AreChained lasts.old links.old.items }
-    ensures chained { OnOk result (AreChained lasts.new links.new.items) }
-    ensures selectors { OnOk result
-        (selectors_of links.new.items ≡ selectors_of links.old.items ++ selector.now ∷ []) }
-{
-    let earlier = lasts.replace(selector.key(), links.len())?;
-    links.push(Link::new(earlier, selector))?;
-    Ok(())
-}
-
-/// Puts the links of the rules behind the others, in order.
+/// Puts the links of the rules behind the others, in order: each place is put under the key of its
+/// selector, with a link to the last earlier place with that key.
 #[inline(always)]
 fn push_links<'a>(
     lasts: &mut Lasts<'a>,
@@ -69,7 +38,11 @@ fn push_links<'a>(
         ≡ selectors_of links.old.items ++ map (λ rule. rule.selector) rules.now) }
 {
     for rule in rules {
-        push_link(lasts, links, &rule.selector)?;
+        let earlier = lasts.replace(rule.selector.key(), links.len())?;
+        links.push(Link {
+            earlier,
+            selector: Snapshot::of(&rule.selector),
+        })?;
     }
     Ok(())
 }
