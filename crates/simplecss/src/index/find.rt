@@ -1,5 +1,5 @@
 //! The places of the rules whose key an element tells.
-ghost use Rattle.std.specs.Prelude.{◌≡◌, ◌<◌, ◌↔◌, ℕ, OnOk, Some, Contains, length};
+ghost use Rattle.std.specs.Prelude.{◌≡◌, ◌<◌, ◌↔◌, ℕ, OnOk, Contains, length};
 ghost use Rattle.std.specs.List.Sorted.{IsStrictlyIncreasing};
 ghost use Rattle.std.specs.Option.{option_map};
 ghost use Rattle.simplecss_selector.specs.SeenKeys.{key_value};
@@ -45,19 +45,8 @@ fn push_id(lasts: &Lasts<'_>, id: Option<&str>, places: &mut Vec<usize>) -> Resu
     }
 }
 
-/// Adds the last places of the classes that are words of the value.
-fn push_words(lasts: &Lasts<'_>, value: &str, places: &mut Vec<usize>) -> Result<(), AllocError>
-    ensures { OnOk result (Adds places.old.items places.new.items
-        (ClassLeads lasts.now (Some value.now))) }
-{
-    for word in value.split(' ') {
-        push_last(lasts, Key::Class(word), places)?;
-    }
-    Ok(())
-}
-
-/// Adds the last places of the classes in the value of an attribute `class`, if there is one.
-#[inline(always)]
+/// Adds the last places of the classes that are words in the value of an attribute `class`, if
+/// there is one.
 fn push_classes(
     lasts: &Lasts<'_>,
     class: Option<&str>,
@@ -66,10 +55,13 @@ fn push_classes(
     ensures { OnOk result (Adds places.old.items places.new.items
         (ClassLeads lasts.now (option_map (λ value. value.now) class.entry))) }
 {
-    match class {
-        Some(value) => push_words(lasts, value, places),
-        None => Ok(()),
+    let Some(value) = class else {
+        return Ok(());
+    };
+    for word in value.split(' ') {
+        push_last(lasts, Key::Class(word), places)?;
     }
+    Ok(())
 }
 
 /// Adds the last places of the keys that the element tells.
