@@ -56,11 +56,12 @@ impl<'a> Lasts<'a> {
         ensures known { IfOk result (λ known. known ≡ last_for self.old (key_value key.entry)) }
         ensures taken { OnOk result (TakesPlace self.old self.new (key_value key.entry) place) }
     {
-        Ok(match key {
-            Key::Id(text) => self.ids.insert(text, place)?,
-            Key::Class(word) => self.classes.insert(word, place)?,
-            Key::Name(name) => self.names.insert(name, place)?,
-            Key::Any => self.any.replace(place),
-        })
+        let known = match key {
+            Key::Id(text) => self.ids.insert(text, place),
+            Key::Class(word) => self.classes.insert(word, place),
+            Key::Name(name) => self.names.insert(name, place),
+            Key::Any => Ok(self.any.replace(place)),
+        };
+        Ok(known?)
     }
 }

@@ -1,11 +1,15 @@
-use Rattle.simplecss.proofs.LastPlaces.{takes_id, takes_class, takes_name}
+use Rattle.std.proofs.Common.{sym, ◌∙◌}
+use Rattle.simplecss.proofs.LastPlaces.{takes_id, takes_class, takes_name, takes_any}
 use Rattle.simplecss.proofs.index.lasts.Lasts.replace.Goals as goal
+use Rattle.simplecss.proofs.index.lasts.Lasts.replace.Goals.{in-Id, in-Class, in-Name, in-Any}
 
-pub returns-in_ok-insert-in-Id-clause-taken : goal.returns-in_ok-insert-in-Id-clause-taken
-returns-in_ok-insert-in-Id-clause-taken c = rw c.in-Id.is (takes_id c.args.self.now c.args.place c.insert.new.self _ c.in_ok-insert-in-Id.ensures.updates)
-
-pub returns-in_ok-insert-in-Class-clause-taken : goal.returns-in_ok-insert-in-Class-clause-taken
-returns-in_ok-insert-in-Class-clause-taken c = rw c.in-Class.is (takes_class c.args.self.now c.args.place c.insert-in-Class.new.self _ c.in_ok-insert-in-Class.ensures.updates)
-
-pub returns-in_ok-insert-in-Name-clause-taken : goal.returns-in_ok-insert-in-Name-clause-taken
-returns-in_ok-insert-in-Name-clause-taken c = rw c.in-Name.is (takes_name c.args.self.now c.args.place c.insert-in-Name.new.self _ c.in_ok-insert-in-Name.ensures.updates)
+pub returns-clause-taken : goal.returns-clause-taken
+returns-clause-taken c =
+    let old = c.args.self.now in
+    let place = c.args.place in
+    elim c.match-key.branch [
+      | in-Id w ↦ rw (w.self-is, w.in-Id.is) (takes_id old place w.insert-known.new.self _ (rw (sym w.known-is ∙ c.in_ok-known.was) at w.insert-known.ensures.updates))
+      | in-Class w ↦ rw (w.self-is, w.in-Class.is) (takes_class old place w.insert-known-in-Class.new.self _ (rw (sym w.known-is ∙ c.in_ok-known.was) at w.insert-known-in-Class.ensures.updates))
+      | in-Name w ↦ rw (w.self-is, w.in-Name.is) (takes_name old place w.insert-known-in-Name.new.self _ (rw (sym w.known-is ∙ c.in_ok-known.was) at w.insert-known-in-Name.ensures.updates))
+      | in-Any w ↦ rw (w.self-is, w.in-Any.is, w.replace.ensures.after) (takes_any old place)
+    ]
