@@ -18,3 +18,7 @@ loop-text-preserved g c =
 
 pub returns-clause-utf8 : goal.returns-clause-utf8
 returns-clause-utf8 g c = λ _. subst (All (λ text. IsUtf8 text.now)) (take_all c.loop-text.text-index c.args.texts.now (omega arith)) c.loop-text.invariant.1
+
+pub returns-clause-kept : goal.returns-clause-kept
+returns-clause-kept g c =
+    c.loop-text.invariant.0 ∙ ap (λ ts. flat_map (kept this_edition) (map (λ text. text.now) ts)) (take_all c.loop-text.text-index c.args.texts.now (omega arith))
