@@ -22,18 +22,27 @@ returns-in-None-clause-filled g c texts was = subst (AllPass has_declaration) (s
 pub returns-in-None-clause-sheet : goal.returns-in-None-clause-sheet
 returns-in-None-clause-sheet g c texts was = was ∙ sym (sheet_open this_edition texts c.args.text.now (search rules))
 
--- the sheet of the texts and this one, where the rules were merged
+-- the old rules that have a declaration and then those of the text, where the rules were merged
+put_in_order : (g : _) (c : goal.After-merge g) → OnOk c.merge.result (rules_of c.merge.new.rules.items ≡ ordered (filter has_declaration (rules_of c.args.self.now.rules.items) ++ kept this_edition c.args.text.now))
+put_in_order g c =
+    let old = rules_of c.args.self.now.rules.items in
+    let read : map rule_of c.in-Some.more.items ≡ flat_map (λ given. given) (statements this_edition c.args.text.now) = (rw c.in-Some.is at c.in_ok-more.ensures).1 in
+    on_ok_weaker c.merge.result
+    (λ (e : rules_of c.merge.new.rules.items ≡ ordered (filter has_declaration (old ++ map rule_of c.in-Some.more.items))).
+    e ∙ ap (λ l. ordered (filter has_declaration (old ++ l))) read ∙ ap ordered (filter-append has_declaration old (flat_map (λ given. given) (statements this_edition c.args.text.now))))
+    c.merge.ensures.ok
+
+pub returns-in-Some-clause-ok : goal.returns-in-Some-clause-ok
+returns-in-Some-clause-ok g c = on_ok_weaker c.merge.result (λ e closed. e) (put_in_order g c)
+
+-- the sheet of the texts and this one
 merged : (g : _) (c : goal.After-merge g) (texts : List (List ℕ)) → rules_of c.args.self.now.rules.items ≡ sheet this_edition texts → OnOk c.merge.result (rules_of c.merge.new.rules.items ≡ sheet this_edition (texts ++ c.args.text.now ∷ []))
 merged g c texts was =
-    let old = rules_of c.args.self.now.rules.items in
     let text = c.args.text.now in
-    let read : map rule_of c.in-Some.more.items ≡ flat_map (λ given. given) (statements this_edition text) = search rules in
-    on_ok_weaker {P = rules_of c.merge.new.rules.items ≡ ordered (filter has_declaration (old ++ map rule_of c.in-Some.more.items))} {Q = rules_of c.merge.new.rules.items ≡ sheet this_edition (texts ++ text ∷ [])} c.merge.result
-    (λ ok.
-    ok ∙ ap (λ l. ordered (filter has_declaration (old ++ l))) read
-    ∙ ap ordered (filter-append has_declaration old (flat_map (λ given. given) (statements this_edition text)))
-    ∙ ap (λ l. ordered (filter has_declaration l ++ kept this_edition text)) was ∙ sym (sheet_more this_edition texts text))
-    c.merge.ensures.ok
+    on_ok_weaker c.merge.result
+    (λ (e : rules_of c.merge.new.rules.items ≡ ordered (filter has_declaration (rules_of c.args.self.now.rules.items) ++ kept this_edition text)).
+    e ∙ ap (λ l. ordered (filter has_declaration l ++ kept this_edition text)) was ∙ sym (sheet_more this_edition texts text))
+    (put_in_order g c)
 
 pub returns-in-Some-clause-sheet : goal.returns-in-Some-clause-sheet
 returns-in-Some-clause-sheet g c texts was = merged g c texts was
@@ -62,12 +71,9 @@ pub returns-in-Some-clause-selectors : goal.returns-in-Some-clause-selectors
 returns-in-Some-clause-selectors g c back =
     let old = rules_of c.args.self.now.rules.items in
     let text = c.args.text.now in
-    let read : map rule_of c.in-Some.more.items ≡ flat_map (λ given. given) (statements this_edition text) = search rules in
     either_way c.merge.result
-    (on_ok_weaker c.merge.result (λ (e : rules_of c.merge.new.rules.items ≡ ordered (filter has_declaration (old ++ map rule_of c.in-Some.more.items))).
-    let is : rules_of c.merge.new.rules.items ≡ ordered (filter has_declaration old ++ kept this_edition text) =
-    e ∙ ap (λ l. ordered (filter has_declaration (old ++ l))) read ∙ ap ordered (filter-append has_declaration old (flat_map (λ given. given) (statements this_edition text))) in
-    subst (SelectorsReadBack this_edition) (sym is) (more-reads_back this_edition old text back c.utf8.text)) c.merge.ensures.ok)
+    (on_ok_weaker c.merge.result (λ (e : rules_of c.merge.new.rules.items ≡ ordered (filter has_declaration old ++ kept this_edition text)).
+    subst (SelectorsReadBack this_edition) (sym e) (more-reads_back this_edition old text back c.utf8.text)) (put_in_order g c))
     (on_err_weaker c.merge.result (λ (e : c.merge.new.rules.items ≡ c.args.self.now.rules.items). subst (SelectorsReadBack this_edition) (sym (ap rules_of e)) back) c.merge.ensures.err)
 
 -- for all texts at once
