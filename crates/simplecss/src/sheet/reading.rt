@@ -9,6 +9,7 @@ ghost use Rattle.simplecss_text.specs.ThisEdition.{this_edition};
 ghost use Rattle.simplecss_text.specs.Cursor.{text_of, rest_of};
 ghost use Rattle.simplecss.specs.SeenRules.{rule_of, rules_of};
 
+use super::order;
 use super::rules::Rule;
 use super::statements::RuleReader;
 use log::Log;
@@ -64,7 +65,7 @@ fn add_rules<'a, R: Log>(
     ensures utf8 { IsUtf8 text.now }
 {
     match read_rules(rt, alloc, text)? {
-        Some(mut more) => rules.append(&mut more),
+        Some(more) => order::join(rules, more),
         None => Ok(()),
     }
 }

@@ -49,9 +49,7 @@ impl<'a> StyleSheet<'a> {
         ensures editions { IsCommon text.now
             → IfOk result (λ s. rules_in s ≡ sheet first_edition (text.now ∷ [])) }
     {
-        let mut sheet = StyleSheet::new(alloc);
-        sheet.parse_more(rt, alloc, text)?;
-        Ok(sheet)
+        StyleSheet::parse_all(rt, alloc, &[text])
     }
 
     /// The style sheet of all these texts, read in turn: the one that [`StyleSheet::parse_more`]

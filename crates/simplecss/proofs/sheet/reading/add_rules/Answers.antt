@@ -1,4 +1,4 @@
-use Rattle.std.proofs.Common.{◌≡◌, ◌++◌, ◌∷◌, [], ◌∙◌, ap, sym, rules, flat_map}
+use Rattle.std.proofs.Common.{◌≡◌, ◌++◌, ◌∷◌, [], ◌∙◌, ap, sym, flat_map}
 use Rattle.std.specs.List.{filter}
 use Rattle.std.proofs.lemmas.Result.{on_ok_weaker}
 use Rattle.std.proofs.lemmas.List.{map-append}
@@ -13,14 +13,14 @@ pub returns-in-Some-clause-kept : goal.returns-in-Some-clause-kept
 returns-in-Some-clause-kept g c texts was =
     let old = rules_of c.args.rules.now.items in
     let text = c.args.text.now in
-    let read : rules_of c.in-Some.more.items ≡ flat_map (λ given. given) (statements this_edition text) = search rules in
-    on_ok_weaker {P = c.append.new.self.items ≡ c.args.rules.now.items ++ c.in-Some.more.items} {Q = filter has_declaration (rules_of c.append.new.self.items) ≡ flat_map (kept this_edition) (texts ++ text ∷ [])} c.append.result
+    let read : rules_of c.in-Some.more.items ≡ flat_map (λ given. given) (statements this_edition text) = (rw c.in-Some.is at c.in_ok-more.ensures).1 in
+    on_ok_weaker {P = c.join.new.rules.items ≡ c.args.rules.now.items ++ c.in-Some.more.items} {Q = filter has_declaration (rules_of c.join.new.rules.items) ≡ flat_map (kept this_edition) (texts ++ text ∷ [])} c.join.result
     (λ ok.
     ap (λ l. filter has_declaration (rules_of l)) ok
     ∙ ap (filter has_declaration) (map-append rule_of c.args.rules.now.items c.in-Some.more.items ∙ ap (λ l. old ++ l) read)
     ∙ filter-append has_declaration old (flat_map (λ given. given) (statements this_edition text))
     ∙ ap (λ l. l ++ kept this_edition text) was ∙ sym (texts_more this_edition texts text))
-    (search rules)
+    c.join.ensures.ok
 
 pub returns-in-None-clause-kept : goal.returns-in-None-clause-kept
-returns-in-None-clause-kept g c texts was = was ∙ sym (texts_open this_edition texts c.args.text.now (search rules))
+returns-in-None-clause-kept g c texts was = was ∙ sym (texts_open this_edition texts c.args.text.now (rw c.in-None.is at c.in_ok-more.ensures))

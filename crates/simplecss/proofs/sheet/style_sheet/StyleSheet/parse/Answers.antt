@@ -1,21 +1,20 @@
-use Rattle.std.proofs.Common.{[], ◌∙◌, sym, subst}
+use Rattle.std.proofs.Common.{◌≡◌, [], ◌∷◌, ◌∙◌, false}
+use Rattle.std.proofs.lemmas.List.Elements.{All-nil, All-cons}
+use Rattle.std.proofs.lemmas.Result.{IfOk-weaker}
 use Rattle.simplecss_text.specs.Characters.{first_edition}
+use Rattle.simplecss_text.specs.PrintingLaws.{has_wide_space}
+use Rattle.simplecss_text.specs.Sheets.{sheet}
 use Rattle.simplecss_text.specs.ThisEdition.{this_edition}
-use Rattle.simplecss_text.specs.PrintingLaws.{SelectorsReadBack, PrintsBack}
-use Rattle.simplecss_text.proofs.again.KeptSelectors.{text-reads_back}
 use Rattle.simplecss_text.proofs.editions.SheetEditions.{sheet-editions}
-use Rattle.simplecss_text.proofs.again.SheetsAgain.{text-prints_back}
+use Rattle.simplecss.specs.SeenRules.{rules_in}
 use Rattle.simplecss.proofs.sheet.style_sheet.StyleSheet.parse.Goals as goal
 
-pub returns-clause-sheet : goal.returns-clause-sheet
-returns-clause-sheet g c = c.in_ok-parse_more.ensures.sheet [] c.new-sheet.ensures.sheet
-
-pub returns-clause-selectors : goal.returns-clause-selectors
-returns-clause-selectors g c = subst (SelectorsReadBack this_edition) (sym (c.in_ok-parse_more.ensures.sheet [] c.new-sheet.ensures.sheet)) (text-reads_back this_edition c.args.text.now c.utf8.text)
-
 pub returns-clause-prints_back : goal.returns-clause-prints_back
-returns-clause-prints_back g c narrow = subst (PrintsBack this_edition) (sym (c.in_ok-parse_more.ensures.sheet [] c.new-sheet.ensures.sheet)) (text-prints_back this_edition c.args.text.now (c.utf8.text, narrow))
+returns-clause-prints_back g c narrow =
+    c.parse_all.ensures.prints_back (All-cons (λ text. has_wide_space text.now ≡ false) c.args.text [] narrow (All-nil _))
 
 pub returns-clause-editions : goal.returns-clause-editions
 returns-clause-editions g c common =
-    c.in_ok-parse_more.ensures.sheet [] c.new-sheet.ensures.sheet ∙ sheet-editions this_edition first_edition c.args.text.now common
+    let text = c.args.text.now in
+    IfOk-weaker c.parse_all.result (λ s. rules_in s ≡ sheet this_edition (text ∷ [])) (λ s. rules_in s ≡ sheet first_edition (text ∷ []))
+    (λ s is. is ∙ sheet-editions this_edition first_edition text common) c.parse_all.ensures.sheet
