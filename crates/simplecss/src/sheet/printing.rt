@@ -56,15 +56,7 @@ fn write_rules<W: fmt::Write>(f: &mut fmt::Formatter<W>, rules: &[Rule]) -> fmt:
         return Ok(());
     };
     write_rule(f, first)?;
-    write_lines(f, rest)
-}
-
-/// Writes each rule behind a newline.
-fn write_lines<W: fmt::Write>(f: &mut fmt::Formatter<W>, rules: &[Rule]) -> fmt::Result
-    ensures { WritesStyledOnOk W.write_str_gives f.old result
-        (flat_map (λ r. newline ∷ rule_text (rule_of r)) rules.now) f.new }
-{
-    for rule in rules {
+    for rule in rest {
         f.write_str("\n")?;
         write_rule(f, rule)?;
     }

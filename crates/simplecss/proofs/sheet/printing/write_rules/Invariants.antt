@@ -3,9 +3,9 @@ use Rattle.std.specs.List.{flat_map}
 use Rattle.std.specs.Fmt.{HasWrittenStyled, IsFlush}
 use Rattle.simplecss_text.specs.Printing.{rule_text}
 use Rattle.simplecss.specs.SeenRules.{rule_of}
-use Rattle.simplecss.proofs.sheet.printing.write_lines.Given as goal
+use Rattle.simplecss.proofs.sheet.printing.write_rules.Given as goal
 
--- what is written is the text of the first ones
+-- what is written behind the first rule are the lines of those that follow
 abbrev pub invariant-loop-rule : goal.invariant-loop-rule
 invariant-loop-rule g l =
-    IsFlush l.initial.f → HasWrittenStyled g.W.Write.write_str_gives l.initial.f (flat_map (λ r. 10 ∷ rule_text (rule_of r)) (take l.rule-index l.rules)) l.f
+    IsFlush l.initial.f → HasWrittenStyled g.W.Write.write_str_gives l.initial.f (flat_map (λ r. 10 ∷ rule_text (rule_of r)) (take l.rule-index l.rest)) l.f
