@@ -41,9 +41,12 @@ impl<'a> Display for Rule<'a> {
 
     ghost styled_output = { λ r _. Some (rule_text (rule_of r)) };
 
-    #[tactic(auto, using(simplecss_text::proofs::printed::StyledWrites::plain_of_styled))]
+    #[tactic(auto, using(simplecss_text::proofs::printed::StyledWrites::plain_of_styled, simplecss_text::proofs::printed::StyledWrites::styled_four))]
     fn fmt<W: fmt::Write>(&self, f: &mut fmt::Formatter<W>) -> fmt::Result {
-        write_rule(f, self)
+        self.selector.fmt(f)?;
+        f.write_str(" { ")?;
+        write_declarations(f, self.declarations.as_slice())?;
+        f.write_str(" }")
     }
 }
 
@@ -55,23 +58,12 @@ fn write_rules<W: fmt::Write>(f: &mut fmt::Formatter<W>, rules: &[Rule]) -> fmt:
     let Some((first, rest)) = rules.split_first() else {
         return Ok(());
     };
-    write_rule(f, first)?;
+    first.fmt(f)?;
     for rule in rest {
         f.write_str("\n")?;
-        write_rule(f, rule)?;
+        rule.fmt(f)?;
     }
     Ok(())
-}
-
-/// Writes the selector, and the declarations between braces.
-#[tactic(auto, using(simplecss_text::proofs::printed::StyledWrites::styled_four))]
-fn write_rule<W: fmt::Write>(f: &mut fmt::Formatter<W>, rule: &Rule) -> fmt::Result
-    ensures { WritesStyledOnOk W.write_str_gives f.old result (rule_text (rule_of rule.now)) f.new }
-{
-    rule.selector.fmt(f)?;
-    f.write_str(" { ")?;
-    write_declarations(f, rule.declarations.as_slice())?;
-    f.write_str(" }")
 }
 
 /// Writes the declarations, with nothing between two.

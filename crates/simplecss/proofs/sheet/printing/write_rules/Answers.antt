@@ -16,13 +16,13 @@ loop-rule-preserved g c = λ plain.
     let within : c.loop-rule.rule-index < length c.in-Some.rest.now = omega arith in
     let newline : HasWrittenStyled g.W.Write.write_str_gives c.loop-rule.f (10 ∷ []) c.write_str.new.self = c.write_str.ensures.styled so_far.flush (search rules) in
     styled_step _ (λ r. 10 ∷ rule_text (rule_of r)) _ _ _ _ _ _ within c.rule-item.is so_far
-    (styled_two _ _ _ _ (10 ∷ []) _ _ newline (c.write_rule-in-loop-rule.ensures newline.flush (search rules)) refl)
+    (styled_two _ _ _ _ (10 ∷ []) _ _ newline (c.fmt-in-loop-rule.ensures.styled newline.flush (search rules)) refl)
 
 pub returns : goal.returns
 returns g c = λ flush ok.
     let split : c.args.rules.now ≡ c.in-Some.first.now ∷ c.in-Some.rest.now = search rules in
-    let first : HasWrittenStyled g.W.Write.write_str_gives c.args.f.now (rule_text (rule_of c.in-Some.first.now)) c.write_rule.new.f = c.in_ok-write_rule.ensures flush (search rules) in
-    let lines : HasWrittenStyled g.W.Write.write_str_gives c.write_rule.new.f (flat_map (λ r. 10 ∷ rule_text (rule_of r)) c.in-Some.rest.now) c.loop-rule.f =
+    let first : HasWrittenStyled g.W.Write.write_str_gives c.args.f.now (rule_text (rule_of c.in-Some.first.now)) c.fmt.new.f = c.in_ok-fmt.ensures.styled flush (search rules) in
+    let lines : HasWrittenStyled g.W.Write.write_str_gives c.fmt.new.f (flat_map (λ r. 10 ∷ rule_text (rule_of r)) c.in-Some.rest.now) c.loop-rule.f =
     has_written_styled_of_eq _ _ _ _ _ (ap (flat_map (λ r. 10 ∷ rule_text (rule_of r))) (take_all c.loop-rule.rule-index c.in-Some.rest.now (omega arith))) (c.loop-rule.invariant first.flush) in
     has_written_styled_of_eq _ _ _ _ _
     (sym (join_first 10 rule_text (rule_of c.in-Some.first.now) (map rule_of c.in-Some.rest.now) ∙ ap (λ l. rule_text (rule_of c.in-Some.first.now) ++ l) (flat_map-map (λ r. 10 ∷ rule_text r) rule_of c.in-Some.rest.now)) ∙ ap (λ l. sheet_text (map rule_of l)) (sym split))
