@@ -21,17 +21,6 @@ fn sort_rules(rules: &mut Vec<Rule>) -> Result<(), AllocError>
     )
 }
 
-/// Drops the rules without a declaration.
-fn drop_empty(rules: &mut Vec<Rule>)
-    ensures { rules_of rules.new.items ≡ filter has_declaration (rules_of rules.old.items) }
-{
-    rules.retain(
-        |rule: &Rule| -> bool
-            ensures { result ≡ has_declaration (rule_of rule.now) }
-        { !rule.declarations.is_empty() },
-    );
-}
-
 /// Puts the rules behind the others, which may take them as they are where there are no others. An
 /// `Err` changes nothing.
 pub(crate) fn join<'a>(
@@ -60,6 +49,10 @@ pub(crate) fn merge<'a>(rules: &mut Vec<Rule<'a>>, more: Vec<Rule<'a>>) -> Resul
         rules.truncate(len);
         return Err(e);
     }
-    drop_empty(rules);
+    rules.retain(
+        |rule: &Rule| -> bool
+            ensures { result ≡ has_declaration (rule_of rule.now) }
+        { !rule.declarations.is_empty() },
+    );
     Ok(())
 }
