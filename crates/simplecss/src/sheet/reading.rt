@@ -35,10 +35,11 @@ pub(crate) fn read_rules<'a, R: Log>(
     alloc: Global,
     text: &'a str,
 ) -> Result<Option<Vec<Rule<'a>>>, AllocError>
-    ensures { IfOk result (λ read. MatchOption read (is_open_comment text.now ≡ true)
+    ensures rules { IfOk result (λ read. MatchOption read (is_open_comment text.now ≡ true)
         (λ rules. (is_open_comment text.now ≡ false)
         × (map rule_of rules.items
         ≡ flat_map (λ given. given) (statements this_edition text.now)))) }
+    ensures utf8 { IsUtf8 text.now }
 {
     let mut s = Stream::new(text);
     if !readers::pass_blank(&mut s) {
@@ -51,26 +52,8 @@ pub(crate) fn read_rules<'a, R: Log>(
     Ok(Some(reader.into_rules()))
 }
 
-/// Puts the rules of a text behind those of other texts. An open comment has none.
-fn add_rules<'a, R: Log>(
-    rt: &R,
-    alloc: Global,
-    text: &'a str,
-    rules: &mut Vec<Rule<'a>>,
-) -> Result<(), AllocError>
-    ensures kept { (texts : List (List ℕ))
-        → filter has_declaration (rules_of rules.old.items) ≡ flat_map (kept this_edition) texts
-        → OnOk result (filter has_declaration (rules_of rules.new.items)
-        ≡ flat_map (kept this_edition) (texts ++ text.now ∷ [])) }
-    ensures utf8 { IsUtf8 text.now }
-{
-    match read_rules(rt, alloc, text)? {
-        Some(more) => order::join(rules, more),
-        None => Ok(()),
-    }
-}
-
-/// All rules of the texts in turn, of which those that have a declaration are kept.
+/// All rules of the texts in turn, of which those that have a declaration are kept. An open comment
+/// has none.
 pub(crate) fn read_all<'a, R: Log>(
     rt: &R,
     alloc: Global,
@@ -82,7 +65,9 @@ pub(crate) fn read_all<'a, R: Log>(
 {
     let mut rules = Vec::new(alloc);
     for text in texts {
-        add_rules(rt, alloc, text, &mut rules)?;
+        if let Some(more) = read_rules(rt, alloc, text)? {
+            order::join(&mut rules, more)?;
+        }
     }
     Ok(rules)
 }

@@ -8,8 +8,8 @@ use Rattle.simplecss.specs.SeenRules.{rule_of}
 use Rattle.simplecss.proofs.StatementLemmas.{rules_from, rules_from-some, rules_from-none, rules_from-blank, statement-less, blank-got, blank-open}
 use Rattle.simplecss.proofs.sheet.reading.read_rules.Goals as goal
 
-pub returns-then-not-pass_blank : goal.returns-then-not-pass_blank
-returns-then-not-pass_blank g c =
+pub returns-then-not-pass_blank-clause-rules : goal.returns-then-not-pass_blank-clause-rules
+returns-then-not-pass_blank-clause-rules g c =
     let start : rest_of c.new-s.result ≡ c.args.text.now = ap (λ n. drop n c.new-s.result.text.now) c.new-s.ensures.place ∙ c.new-s.ensures.text in
     subst (λ (t : List ℕ). opens_comment (past_blank t) ≡ true) start (blank-open (rest_of c.new-s.result) (rest_of c.pass_blank.new.s) (no_comment (past_blank (rest_of c.new-s.result))) c.if-not-pass_blank.ensures.reads)
 
@@ -34,8 +34,8 @@ statements-preserved g c =
     ∙ ap (λ l. map rule_of c.statements.reader.rules.items ++ l) (sym step)
     ∙ c.statements.invariant
 
-pub returns : goal.returns
-returns g c =
+pub returns-clause-rules : goal.returns-clause-rules
+returns-clause-rules g c =
     let start : rest_of c.new-s.result ≡ c.args.text.now = ap (λ n. drop n c.new-s.result.text.now) c.new-s.ensures.place ∙ c.new-s.ensures.text in
     let behind = blank-got (rest_of c.new-s.result) (rest_of c.pass_blank.new.s) c.if-not-pass_blank.ensures.reads in
     let end = rules_from-none this_edition (rest_of c.statements.s) c.statements-test.ensures.reads in (

@@ -26,7 +26,7 @@ returns-in-None-clause-sheet g c texts was = was ∙ sym (sheet_open this_editio
 put_in_order : (g : _) (c : goal.After-merge g) → OnOk c.merge.result (rules_of c.merge.new.rules.items ≡ ordered (filter has_declaration (rules_of c.args.self.now.rules.items) ++ kept this_edition c.args.text.now))
 put_in_order g c =
     let old = rules_of c.args.self.now.rules.items in
-    let read : map rule_of c.in-Some.more.items ≡ flat_map (λ given. given) (statements this_edition c.args.text.now) = (rw c.in-Some.is at c.in_ok-more.ensures).1 in
+    let read : map rule_of c.in-Some.more.items ≡ flat_map (λ given. given) (statements this_edition c.args.text.now) = (rw c.in-Some.is at c.in_ok-more.ensures.rules).1 in
     on_ok_weaker c.merge.result
     (λ (e : rules_of c.merge.new.rules.items ≡ ordered (filter has_declaration (old ++ map rule_of c.in-Some.more.items))).
     e ∙ ap (λ l. ordered (filter has_declaration (old ++ l))) read ∙ ap ordered (filter-append has_declaration old (flat_map (λ given. given) (statements this_edition c.args.text.now))))
