@@ -22,8 +22,8 @@ impl<'a> Rule<'a> {
         ensures { IfOk result (λ copy. rule_of copy ≡ rule_of self.now) }
     {
         Ok(Rule {
-            selector: self.selector.clone()?,
             declarations: Vec::from_slice(*self.declarations.allocator(), &self.declarations)?,
+            selector: self.selector.clone()?,
         })
     }
 }
