@@ -91,8 +91,8 @@ impl<'a> RuleIndex<'a> {
     pub fn new(alloc: Global, rules: &[Rule<'a>]) -> Result<Self, AllocError>
         ensures { IfOk result (λ index. index ≡ map (λ rule. rule.selector) rules.now) }
     {
-        let mut lasts = Lasts::new(alloc);
         let mut links = Vec::with_capacity(alloc, rules.len())?;
+        let mut lasts = Lasts::new(alloc);
         push_links(&mut lasts, &mut links, rules)?;
         Ok(RuleIndex { lasts, links })
     }
