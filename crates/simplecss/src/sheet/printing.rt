@@ -25,7 +25,15 @@ impl<'a> Display for StyleSheet<'a> {
 
     #[tactic(auto, using(simplecss_text::proofs::printed::StyledWrites::plain_of_styled))]
     fn fmt<W: fmt::Write>(&self, f: &mut fmt::Formatter<W>) -> fmt::Result {
-        write_rules(f, self.rules.as_slice())
+        let Some((first, rest)) = self.rules.split_first() else {
+            return Ok(());
+        };
+        first.fmt(f)?;
+        for rule in rest {
+            f.write_str("\n")?;
+            rule.fmt(f)?;
+        }
+        Ok(())
     }
 }
 
@@ -48,22 +56,6 @@ impl<'a> Display for Rule<'a> {
         write_declarations(f, self.declarations.as_slice())?;
         f.write_str(" }")
     }
-}
-
-/// Writes the rules with newlines between them.
-fn write_rules<W: fmt::Write>(f: &mut fmt::Formatter<W>, rules: &[Rule]) -> fmt::Result
-    ensures { WritesStyledOnOk W.write_str_gives f.old result
-        (sheet_text (rules_of rules.now)) f.new }
-{
-    let Some((first, rest)) = rules.split_first() else {
-        return Ok(());
-    };
-    first.fmt(f)?;
-    for rule in rest {
-        f.write_str("\n")?;
-        rule.fmt(f)?;
-    }
-    Ok(())
 }
 
 /// Writes the declarations, with nothing between two.

@@ -3,7 +3,7 @@ use Rattle.std.specs.List.{flat_map}
 use Rattle.std.specs.Fmt.{HasWrittenStyled, IsFlush}
 use Rattle.simplecss_text.specs.Printing.{rule_text}
 use Rattle.simplecss.specs.SeenRules.{rule_of}
-use Rattle.simplecss.proofs.sheet.printing.write_rules.Given as goal
+use Rattle.simplecss.proofs.sheet.printing.StyleSheetDisplay.fmt.Given as goal
 
 -- what is written behind the first rule are the lines of those that follow
 abbrev pub invariant-loop-rule : goal.invariant-loop-rule
