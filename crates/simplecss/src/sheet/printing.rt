@@ -49,7 +49,7 @@ impl<'a> Display for Rule<'a> {
 
     ghost styled_output = { λ r _. Some (rule_text (rule_of r)) };
 
-    #[tactic(auto, using(simplecss_text::proofs::printed::StyledWrites::plain_of_styled, simplecss_text::proofs::printed::StyledWrites::styled_four))]
+    #[tactic(auto, using(simplecss_text::proofs::printed::StyledWrites::plain_of_styled))]
     fn fmt<W: fmt::Write>(&self, f: &mut fmt::Formatter<W>) -> fmt::Result {
         self.selector.fmt(f)?;
         f.write_str(" { ")?;
