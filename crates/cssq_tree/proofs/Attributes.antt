@@ -1,16 +1,20 @@
 -- The attribute with a key.
 -- Serves `Page::{parent, previous}` and the answers of `Node` (the value of a key).
-use Rattle.std.proofs.Common.{◌≡◌, ℕ, ◌+◌, ◌<◌, List, [], ◌∷◌, length, get_or, refl, sym, ap, ◌∙◌, subst, arith, None, Some, map, IfSome}
+use Rattle.std.proofs.Common.{◌≡◌, ℕ, ◌+◌, ◌<◌, List, [], ◌∷◌, length, take, get_or, refl, sym, ap, ◌∙◌, subst, arith, None, Some, map, IfSome}
 use Rattle.std.specs.List.{position_or_len, slice_get}
-use Rattle.std.proofs.lemmas.List.{drop_all, length-map}
+use Rattle.std.proofs.lemmas.List.{take_all, drop_all, length-map}
 use Rattle.std.proofs.lemmas.Option.{slice_get-map, slice_get-get_or}
 use Rattle.cssq_tree.specs.declared.tree.Line.{Line}
 use Rattle.std.specs.Option.{option_map_or}
-use Rattle.cssq_tree.specs.TreeText.{fields_in, Row, is_equals, value_of, attribute_of}
+use Rattle.cssq_tree.specs.TreeText.{fields_in, Row, is_equals, key_of, value_of, attribute_of}
 use Rattle.cssq_tree.specs.ParentsAndSiblings.{depths_of, parent_place, previous_place}
 use Rattle.cssq_tree.specs.Lines.{row, rows, depths, AreLinked}
 use Rattle.cssq_tree.specs.Nodes.{value_in, attribute_at, name_at}
 use Rattle.cssq_tree.specs.Siblings.{parent_within, previous_within, within_longer}
+
+-- a field without a `=` is its key
+pub key_none : (field : List ℕ) → position_or_len is_equals field ≡ length field → field ≡ key_of field
+key_none field none = sym (ap (λ n. take n field) none ∙ take_all (length field) field (omega arith))
 
 pub value_none : (field : List ℕ) → position_or_len is_equals field ≡ length field → value_of field ≡ []
 value_none field none = drop_all (position_or_len is_equals field + 1) field (omega (arith, none))

@@ -1,6 +1,6 @@
 -- The attribute fields of a line, one after the other.
 -- Serves `Page::read` (the first fault of a line) and the answers of `Node` (the value of a key).
-use Rattle.std.proofs.Common.{◌≡◌, ℕ, suc, ◌+◌, Bool, true, false, cond, List, [], ◌∷◌, ◌++◌, length, take, get_or, refl, sym, ap, ◌∙◌, subst, arith, Option, None, Some, Bor, append_assoc}
+use Rattle.std.proofs.Common.{◌≡◌, ℕ, suc, ◌+◌, Bool, true, false, cond, List, [], ◌∷◌, ◌++◌, length, take, get_or, refl, sym, ap, ◌∙◌, subst, arith, Option, None, Some, MatchOption, Bor, append_assoc}
 use Rattle.std.specs.Prelude.{bytes_eq, ◌||◌, not}
 use Rattle.std.specs.Option.{unwrap_or}
 use Rattle.std.specs.List.{slice_get, filter_map, cons_option, range_with_len}
@@ -121,6 +121,11 @@ fields_told number fields (RepeatedKey line) is = sym is
 pub no_first : (faults : List TreeFault) → None ≡ slice_get faults 0 → faults ≡ []
 no_first [] is = refl
 no_first (fault ∷ faults) is = absurd (cc)
+
+-- the first fault is told where there is one
+pub first_told : (number : ℕ) (fields : List (List ℕ)) (first : Option TreeFault) → first ≡ slice_get (field_faults number fields) 0 → MatchOption first (field_faults number fields ≡ []) (IsToldOf number (field_faults number fields))
+first_told number fields None is = no_first (field_faults number fields) is
+first_told number fields (Some fault) is = fields_told number fields fault is
 
 -- the first fault, or else want of memory
 pub first_or_memory : (number : ℕ) (fields : List (List ℕ)) (first : Option TreeFault) → first ≡ slice_get (field_faults number fields) 0 → IsToldOf number (field_faults number fields) (unwrap_or first (Memory number))

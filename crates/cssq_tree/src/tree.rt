@@ -81,7 +81,6 @@ struct Line<'t> {
 const FEW: usize = 16;
 
 /// The first line of a text that is not empty, and the text behind it.
-#[tactic(auto, using(crate::proofs::Cuts::lines_cut, crate::proofs::Cuts::lines_whole))]
 fn cut_line(text: &str) -> (&str, &str)
     requires { 0 < length text.now }
     ensures lines { lines_of text.now ≡ result.0.now ∷ lines_of result.1.now }
@@ -94,7 +93,6 @@ fn cut_line(text: &str) -> (&str, &str)
 }
 
 /// The first field of a text, and the text of the others.
-#[tactic(auto, using(crate::proofs::Cuts::fields_cut, crate::proofs::Cuts::fields_whole))]
 fn cut_field(text: &str) -> (&str, Option<&str>)
     ensures fields { fields_of text.now ≡ result.0.now ∷ fields_in result.1 }
     ensures within { length result.0.now ≤ length text.now }
@@ -169,7 +167,6 @@ fn cut_attribute(field: &str) -> Option<(&str, &str)>
 }
 
 /// What stands before the first `=`, and what stands behind it.
-#[tactic(auto, using(crate::proofs::Attributes::value_none))]
 fn attribute_of(field: &str) -> (&str, &str)
     ensures key { result.0.now ≡ key_of field.now }
     ensures value { result.1.now ≡ value_of field.now }
@@ -228,28 +225,23 @@ fn first_fault_by_set(
 /// Whether there are too many fields for comparing their keys in pairs.
 fn are_many(fields: Option<&str>) -> bool {
     match fields {
-        Some(text) => text.bytes().filter(|b| *b == b'\t').take(FEW).count() == FEW,
+        Some(text) => text.matches('\t').nth(FEW - 1).is_some(),
         None => false,
     }
 }
 
-/// Checks the attribute fields of a line. Where memory for a set of many keys is refused, the
-/// fields are compared in pairs, so that want of memory is told of a sound line alone.
-fn check_fields(alloc: Global, number: usize, fields: Option<&str>) -> Result<(), TreeFault>
-    ensures { MatchResult result (λ _. field_faults number (fields_in fields.entry) ≡ [])
+/// What is told of the attribute fields of a line. Where memory for a set of many keys is refused,
+/// the fields are compared in pairs, so that want of memory is told of a sound line alone.
+fn fault_of_fields(alloc: Global, number: usize, fields: Option<&str>) -> Option<TreeFault>
+    ensures { MatchOption result (field_faults number (fields_in fields.entry) ≡ [])
         (λ fault. IsToldOf number (field_faults number (fields_in fields.entry)) fault) }
 {
-    if are_many(fields) {
-        match first_fault_by_set(alloc, number, fields) {
-            Ok(None) => return Ok(()),
-            Ok(Some(fault)) => return Err(fault),
-            Err(_) => {}
-        }
-        return Err(first_fault(number, fields).unwrap_or(TreeFault::Memory(number)));
+    if !are_many(fields) {
+        return first_fault(number, fields);
     }
-    match first_fault(number, fields) {
-        Some(fault) => Err(fault),
-        None => Ok(()),
+    match first_fault_by_set(alloc, number, fields) {
+        Ok(fault) => fault,
+        Err(_) => Some(first_fault(number, fields).unwrap_or(TreeFault::Memory(number))),
     }
 }
 
@@ -287,7 +279,9 @@ fn read_line(alloc: Global, number: usize, limit: usize, line: &str) -> Result<E
     if name.is_empty() {
         return Err(TreeFault::EmptyName(number));
     }
-    check_fields(alloc, number, attributes)?;
+    if let Some(fault) = fault_of_fields(alloc, number, attributes) {
+        return Err(fault);
+    }
     Ok(Entry {
         depth,
         name,
@@ -363,10 +357,10 @@ fn add_line<'t>(
     let number = lines.len() + 1;
     let entry = read_line(alloc, number, limit, text)?;
     let line = link(lines.as_slice(), entry);
-    if lines.push(line).is_err() {
-        return Err(TreeFault::Memory(number));
+    match lines.push(line) {
+        Ok(()) => Ok(entry.depth + 1),
+        Err(_) => Err(TreeFault::Memory(number)),
     }
-    Ok(entry.depth + 1)
 }
 
 /// The elements of a tree, in the order of their lines.

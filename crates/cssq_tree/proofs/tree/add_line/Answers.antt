@@ -1,6 +1,4 @@
 use Rattle.std.proofs.Common.{◌≡◌, ◌+◌, ◌++◌, ◌∷◌, [], length, ap, sym, subst, ◌∙◌}
-use Rattle.std.specs.Prelude.{not}
-use Rattle.std.proofs.ResultArms.{chosen}
 use Rattle.cssq_tree.specs.TreeText.{fields_of, faults_of_line}
 use Rattle.cssq_tree.specs.Lines.{AreLinked, IsToldOf}
 use Rattle.cssq_tree.proofs.Reading.{line_added, passed_on}
@@ -20,15 +18,15 @@ returns-in_err-entry-clause-fault c =
     passed_on c.from_residual.result c.in_err-entry.field-0.0 (IsToldOf (length old + 1) (faults_of_line (length old + 1) limit (fields_of text))) c.from_residual.ensures.1 told
 
 -- a growth was refused behind the check of the line
-pub returns-then-is_err-clause-fault : goal.returns-then-is_err-clause-fault
-returns-then-is_err-clause-fault c =
+pub returns-in-Err-clause-fault : goal.returns-in-Err-clause-fault
+returns-in-Err-clause-fault c =
     let number : c.len-number.result + 1 ≡ length c.args.lines.now.items + 1 = ap (λ n. n + 1) (c.len-number.ensures ∙ c.args.lines.now.ok.0) in
     (number, subst (λ n. faults_of_line n c.args.limit (fields_of c.args.text.now) ≡ []) number c.in_ok-entry.ensures.value.0)
 
-pub returns-clause-ok : goal.returns-clause-ok
-returns-clause-ok c =
+pub returns-in-Ok-clause-ok : goal.returns-in-Ok-clause-ok
+returns-in-Ok-clause-ok c =
     let old = c.args.lines.now.items in
     let number : c.len-number.result + 1 ≡ length old + 1 = ap (λ n. n + 1) (c.len-number.ensures ∙ c.args.lines.now.ok.0) in
     let linked : AreLinked (old ++ c.link-line.result ∷ []) = subst (λ lines. AreLinked (lines ++ c.link-line.result ∷ [])) c.as_slice.ensures.value c.link-line.ensures.linked in
-    let pushed : c.push.new.self.items ≡ old ++ c.link-line.result ∷ [] = chosen _ _ _ _ c.push.ensures.items (c.is_err.ensures.negation ∙ ap not c.if-is_err.false) in
+    let pushed : c.push.new.self.items ≡ old ++ c.link-line.result ∷ [] = c.in-Ok.ensures.items in
     line_added old c.args.limit (c.len-number.result + 1) c.args.text.now c.in_ok-entry.entry c.link-line.result c.push.new.self.items number c.in_ok-entry.ensures.value c.in_ok-entry.ensures.within c.link-line.ensures.entry linked pushed
