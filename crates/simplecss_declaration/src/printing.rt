@@ -18,7 +18,6 @@ impl<'a> Display for Declaration<'a> {
 
     ghost styled_output = { λ d _. Some (declaration_text (declaration_of d)) };
 
-    #[tactic(auto, using(simplecss_text::proofs::printed::StyledWrites::plain_of_styled, simplecss_text::proofs::printed::StyledWrites::styled_three))]
     fn fmt<W: fmt::Write>(&self, f: &mut fmt::Formatter<W>) -> fmt::Result {
         write_stated(f, self.name, self.value)?;
         f.write_str(important_mark(self.important))?;
@@ -27,7 +26,6 @@ impl<'a> Display for Declaration<'a> {
 }
 
 /// Writes the name, a colon and the value.
-#[tactic(auto, using(simplecss_text::proofs::printed::StyledWrites::styled_three))]
 fn write_stated<W: fmt::Write>(f: &mut fmt::Formatter<W>, name: &str, value: &str) -> fmt::Result
     ensures { WritesStyledOnOk W.write_str_gives f.old result
         (name.now ++ codes ":" ++ value.now) f.new }
