@@ -89,7 +89,6 @@ fn pass_semicolons(s: &mut Stream<'_>)
 /// Passes what stands behind a value, up to the next declaration, and says whether the value is
 /// important.
 #[inline(always)]
-#[tactic(auto, unfolding(simplecss_text::specs::Declarations::trailing))]
 fn take_trailing(s: &mut Stream<'_>) -> Option<bool>
     ensures text { text_of s.new ≡ text_of s.old }
     ensures reads { Answers (λ important. important) (trailing (rest_of s.old)) result
@@ -121,7 +120,6 @@ fn pass_colon(s: &mut Stream<'_>) -> bool
 /// Reads a declaration: a name, a colon, a value, and what stands behind it up to the next
 /// declaration. Where there is none, the place is where reading stopped.
 #[inline(always)]
-#[tactic(auto, unfolding(simplecss_text::specs::Declarations::declaration))]
 pub fn consume_declaration<'a>(s: &mut Stream<'a>) -> Option<Declaration<'a>>
     ensures text { text_of s.new ≡ text_of s.old }
     ensures reads { Answers declaration_of (declaration_read this_edition (rest_of s.old)) result

@@ -87,7 +87,6 @@ fn pass_word(s: &mut Stream<'_>) -> bool
 /// Passes a term: a hash, a number, a string, a comma, a slash that opens no comment, a name or a
 /// function. Says whether one stood there.
 #[inline(always)]
-#[tactic(auto, unfolding(simplecss_text::specs::Terms::term))]
 pub fn pass_term(s: &mut Stream<'_>) -> bool
     ensures text { text_of s.new ≡ text_of s.old }
     ensures reads { Passes (term this_edition (rest_of s.old)) result (rest_of s.new) }
