@@ -1,6 +1,6 @@
 -- The attribute fields of a line, one after the other.
 -- Serves `Page::read` (the first fault of a line) and the answers of `Node` (the value of a key).
-use Rattle.std.proofs.Common.{◌≡◌, ℕ, suc, ◌+◌, Bool, true, false, cond, List, [], ◌∷◌, ◌++◌, length, take, get_or, refl, sym, ap, ◌∙◌, subst, arith, Option, None, Some, MatchOption, Bor, append_assoc}
+use Rattle.std.proofs.Common.{◌≡◌, ℕ, suc, ◌+◌, ◌<◌, ◌≤◌, Bool, true, false, cond, List, [], ◌∷◌, ◌++◌, length, take, get_or, refl, sym, ap, ◌∙◌, subst, arith, Option, None, Some, IfSome, MatchOption, Bor, append_assoc}
 use Rattle.std.specs.Prelude.{bytes_eq, ◌||◌, not}
 use Rattle.std.specs.Option.{unwrap_or}
 use Rattle.std.specs.List.{slice_get, filter_map, cons_option, range_with_len}
@@ -15,6 +15,10 @@ use Rattle.cssq_tree.specs.Lines.{IsToldOf}
 abbrev pub left : Option (Bor (List ℕ)) → ℕ
 left None = 0
 left (Some text) = length text.now + 1
+
+pub left_less : (text : Bor (List ℕ)) (others : Option (Bor (List ℕ))) → IfSome others (λ others. length others.now < length text.now) → left others ≤ length text.now
+left_less text None shorter = omega arith
+left_less text (Some others) shorter = omega arith
 
 key_apart : (key : List ℕ) (n m : ℕ) (field : List ℕ) (others : List (List ℕ)) → n ≡ suc m → bytes_eq (key_of field) key ≡ false → has_key (take n (field ∷ others)) key ≡ has_key (take m others) key
 key_apart key n m field others e apart = subst (λ n. has_key (take n (field ∷ others)) key ≡ has_key (take m others) key) (sym e) (ap (λ b. b || has_key (take m others) key) apart)
