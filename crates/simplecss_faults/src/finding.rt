@@ -25,15 +25,10 @@ fn tail(text: &str, place: usize) -> &str {
 
 /// What stands before the first of the two characters, or all, without white space around it.
 fn before(text: &str, one: char, two: char) -> &str {
-    match text.find(|c| c == one || c == two) {
-        Some(end) => tail_before(text, end),
+    match text.split_once([one, two]) {
+        Some((front, _)) => front.trim(),
         None => text.trim(),
     }
-}
-
-/// What stands before a place of the text, without white space around it.
-fn tail_before(text: &str, end: usize) -> &str {
-    text.get(..end).unwrap_or("").trim()
 }
 
 /// How many space bytes and closed comments stand at the front, and whether a comment that is not
@@ -108,9 +103,8 @@ impl<'a> Finder<'a> {
     /// Tells that what begins at a place is passed over. Places are told in their order.
     fn tell(&mut self, place: usize, text: &'a str, reason: Reason) -> Result<(), AllocError> {
         let between = self.text.get(self.place..place).unwrap_or("");
-        let mut stream = Stream::new(between);
-        stream.jump_to_end();
-        self.pos = self.pos.in_whole(stream.gen_text_pos());
+        let end = Stream::new(between).gen_text_pos_from(between.len());
+        self.pos = self.pos.in_whole(end);
         self.place = place;
         self.faults.push(Fault {
             pos: self.pos,
@@ -167,19 +161,15 @@ impl<'a> Finder<'a> {
         self.tell(place, before(left, ';', '}'), Reason::Declaration)
     }
 
-    /// Looks at the declarations of a block that begin at a place.
-    fn look_at_declarations(&mut self, start: usize) -> Result<(), AllocError> {
+    /// Looks at the declarations of the block of a rule set whose selectors end at a place.
+    fn look_at_block(&mut self, selectors_end: usize) -> Result<(), AllocError> {
+        let Some(open) = tail(self.text, selectors_end).find('{') else {
+            return Ok(());
+        };
+        let start = selectors_end.saturating_add(open).saturating_add(1);
         let behind = start.saturating_add(declarations_len(tail(self.text, start)));
         let (passed, is_open) = blank(tail(self.text, behind));
         self.look_behind(behind.saturating_add(passed), is_open)
-    }
-
-    /// Looks at the block of a rule set whose selectors end at a place.
-    fn look_at_block(&mut self, start: usize) -> Result<(), AllocError> {
-        match tail(self.text, start).find('{') {
-            Some(open) => self.look_at_declarations(start.saturating_add(open).saturating_add(1)),
-            None => Ok(()),
-        }
     }
 
     /// Looks at the statement that stands between two places. Of an at-rule no more is quoted than
