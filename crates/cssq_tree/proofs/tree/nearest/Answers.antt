@@ -1,4 +1,5 @@
-use Rattle.std.proofs.Common.{◌<◌, ◌≤◌, sym, subst}
+use Rattle.std.proofs.Common.{◌<◌, ◌≤◌, sym, subst, arith}
+use Rattle.std.proofs.lemmas.Grind.{common_steps}
 use Rattle.cssq_tree.specs.Places.{IsCandidate, steps_left}
 use Rattle.cssq_tree.specs.Lines.{depths}
 use Rattle.cssq_tree.proofs.Linked.{next_candidate, last_found, none_found}
@@ -19,3 +20,15 @@ returns-then-line-depth-clause-value c = last_found c.args.lines.now c.args.dept
 
 pub returns-in_default-clause-value : goal.returns-in_default-clause-value
 returns-in_default-clause-value c = none_found c.args.lines.now c.args.depth c.loop-candidate.candidate c.in_default.is c.loop-candidate.invariant
+
+pub returns-then-line-depth-clause-within : goal.returns-then-line-depth-clause-within
+returns-then-line-depth-clause-within c = grind (arith, common_steps)
+
+pub returns-in_default-clause-within : goal.returns-in_default-clause-within
+returns-in_default-clause-within c = grind (arith, common_steps)
+
+pub loop-candidate-init : goal.loop-candidate-init
+loop-candidate-init c = grind (arith, common_steps)
+
+pub bounds-lines-i : goal.bounds-lines-i
+bounds-lines-i c = grind (arith, common_steps)
