@@ -60,7 +60,6 @@ fn pass_important(s: &mut Stream<'_>) -> bool
 /// Passes an exclamation mark with a blank and the word `important` behind it, as far as they stand
 /// there, and says whether the word does.
 #[inline(always)]
-#[tactic(auto, unfolding(simplecss_text::specs::Declarations::importance), using(crate::proofs::ByteLemmas::past_byte_there, crate::proofs::ByteLemmas::past_byte_not))]
 fn take_importance(s: &mut Stream<'_>) -> Option<bool>
     ensures text { text_of s.new ≡ text_of s.old }
     ensures reads { Answers (λ important. important) (importance (rest_of s.old)) result

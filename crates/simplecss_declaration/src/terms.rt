@@ -35,7 +35,6 @@ fn pass_hash(s: &mut Stream<'_>)
 
 /// Passes a number behind its first byte: digits, a point and digits, and a percent sign or a unit.
 #[inline(always)]
-#[tactic(auto, unfolding(simplecss_text::specs::Terms::past_number), using(crate::proofs::ByteLemmas::past_byte_there, crate::proofs::ByteLemmas::past_byte_not))]
 fn pass_number(s: &mut Stream<'_>)
     ensures text { text_of s.new ≡ text_of s.old }
     ensures rest { rest_of s.new ≡ past_number this_edition (rest_of s.old) }
