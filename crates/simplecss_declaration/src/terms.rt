@@ -69,7 +69,6 @@ fn pass_arguments(s: &mut Stream<'_>) -> bool
 
 /// Passes a name, and where a parenthesis follows directly, the arguments of the function.
 #[inline(always)]
-#[tactic(auto, unfolding(simplecss_text::specs::Terms::word))]
 fn pass_word(s: &mut Stream<'_>) -> bool
     ensures text { text_of s.new ≡ text_of s.old }
     ensures reads { Passes (word this_edition (rest_of s.old)) result (rest_of s.new) }
