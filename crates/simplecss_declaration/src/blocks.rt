@@ -13,7 +13,6 @@ ghost use Rattle.simplecss_declaration.specs.BlockDepths.{ClosesFirst, ClosesNow
 ghost use Rattle.simplecss_declaration.specs.SeenDeclarations.{declaration_of};
 
 use super::declarations::Declaration;
-use super::ends;
 use super::reader::consume_declaration;
 use simplecss_text::stream::Stream;
 use simplecss_text::{readers, scan};
@@ -193,7 +192,7 @@ pub fn pass_semicolon_or_block(s: &mut Stream<'_>)
     ensures rest { rest_of s.new
         ≡ past_semicolon_or_block (past (is_neither semicolon open_brace) (rest_of s.old)) }
 {
-    s.advance(ends::before_either(s.slice_tail(), b';', b'{'));
+    s.skip_bytes(|byte| byte != b';' && byte != b'{');
     if readers::pass_byte(s, b'{') {
         pass_block(s);
     } else {

@@ -4,8 +4,6 @@
 
 mod blocks;
 mod declarations;
-mod digits;
-mod ends;
 mod printing;
 mod reader;
 mod terms;

@@ -4,12 +4,11 @@ ghost use Rattle.simplecss_text.specs.Reading.{ended};
 ghost use Rattle.simplecss_text.specs.AsciiBytes.{close_parenthesis};
 ghost use Rattle.simplecss_text.specs.Bytes.{past, is_digit, after_byte, closed_or};
 ghost use Rattle.simplecss_text.specs.Names.{name as name_read};
-ghost use Rattle.simplecss_text.specs.Terms.{past_hash, past_number, word, term};
+ghost use Rattle.simplecss_text.specs.Terms.{is_hex_digit, past_hash, past_number, word, term};
 ghost use Rattle.simplecss_text.specs.ThisEdition.{this_edition};
 ghost use Rattle.simplecss_text.specs.Cursor.{text_of, rest_of};
 ghost use Rattle.simplecss_declaration.specs.UntoldFaults.{Passes};
 
-use super::digits;
 use simplecss_text::stream::Stream;
 use simplecss_text::{readers, scan};
 
@@ -19,7 +18,16 @@ fn pass_digits(s: &mut Stream<'_>)
     ensures text { text_of s.new ≡ text_of s.old }
     ensures rest { rest_of s.new ≡ past is_digit (rest_of s.old) }
 {
-    s.advance(digits::digits_len(s.slice_tail()));
+    s.skip_bytes(|byte| byte.is_ascii_digit());
+}
+
+/// Passes the hexadecimal digits that stand there.
+#[inline(always)]
+fn pass_hex_digits(s: &mut Stream<'_>)
+    ensures text { text_of s.new ≡ text_of s.old }
+    ensures rest { rest_of s.new ≡ past is_hex_digit (rest_of s.old) }
+{
+    s.skip_bytes(|byte| byte.is_ascii_hexdigit());
 }
 
 /// Passes a hash behind its number sign: a name, or where none stands hexadecimal digits.
@@ -29,7 +37,7 @@ fn pass_hash(s: &mut Stream<'_>)
     ensures rest { rest_of s.new ≡ past_hash (name_read this_edition (rest_of s.old)) }
 {
     if readers::take_name(s).is_none() {
-        s.advance(digits::hex_digits_len(s.slice_tail()));
+        pass_hex_digits(s);
     }
 }
 

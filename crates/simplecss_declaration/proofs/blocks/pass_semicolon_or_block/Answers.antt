@@ -1,9 +1,20 @@
-use Rattle.std.proofs.Common.{arith}
+use Rattle.std.proofs.Common.{◌≡◌, drop, ap, ◌∙◌, arith, rules}
 use Rattle.std.proofs.lemmas.Grind.{common_steps}
+use Rattle.simplecss_text.specs.Bytes.{past, is_neither}
+use Rattle.simplecss_text.specs.Cursor.{text_of, place_of, rest_of}
+use Rattle.simplecss_declaration.proofs.ByteLemmas.{past_run}
 use Rattle.simplecss_declaration.proofs.blocks.pass_semicolon_or_block.Goals as goal
 
 pub returns-then-pass_byte-clause-rest : goal.returns-then-pass_byte-clause-rest
-returns-then-pass_byte-clause-rest c = grind (arith, common_steps)
+returns-then-pass_byte-clause-rest c =
+    let head : rest_of c.skip_bytes.new.self ≡ past (is_neither 59 123) (rest_of c.args.s.now) =
+    ap (drop (place_of c.skip_bytes.new.self)) c.skip_bytes.ensures.text
+    ∙ past_run (is_neither 59 123) (text_of c.args.s.now) (place_of c.args.s.now) (place_of c.skip_bytes.new.self) (λ b x answered. search rules) c.skip_bytes.ensures.run in
+    grind (arith, common_steps)
 
 pub returns-else-pass_byte-clause-rest : goal.returns-else-pass_byte-clause-rest
-returns-else-pass_byte-clause-rest c = grind (arith, common_steps)
+returns-else-pass_byte-clause-rest c =
+    let head : rest_of c.skip_bytes.new.self ≡ past (is_neither 59 123) (rest_of c.args.s.now) =
+    ap (drop (place_of c.skip_bytes.new.self)) c.skip_bytes.ensures.text
+    ∙ past_run (is_neither 59 123) (text_of c.args.s.now) (place_of c.args.s.now) (place_of c.skip_bytes.new.self) (λ b x answered. search rules) c.skip_bytes.ensures.run in
+    grind (arith, common_steps)
