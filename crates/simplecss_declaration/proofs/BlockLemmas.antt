@@ -1,9 +1,10 @@
 -- Blocks, a declaration at a time.
--- Serves `blocks::{closing_place, block_end, consume_declarations, consume_next_block}` (where a
--- block begins and ends).
+-- Serves `blocks::{brace_counts, closing_place, block_end, consume_declarations, consume_next_block}`
+-- (where a block begins and ends).
 use Rattle.std.proofs.Common.{◌≡◌, ℕ, ◌+◌, ◌-◌, ◌<◌, ◌≤◌, ◌==◌, ◌&&◌, List, [], ◌∷◌, Bool, true, false, cond, not, suc, length, take, drop, get_or, slice_index, Option, None, Some, refl, sym, ap, ◌∙◌, arith, eq-eqb, eqb-true, if◌then◌else◌, length-drop, nat_lt, ltb-true, ltb-false}
-use Rattle.std.proofs.lemmas.List.{get_or-drop, get_or-take, take-take, drop-take, length-take, length-take-le, take_rest}
-use Rattle.std.proofs.lemmas.List.Sums.{sum_by-take-drop}
+use Rattle.std.proofs.lemmas.List.{get_or-drop, get_or-take, take-take, drop-take, length-take, length-take-le, take_rest, take_more}
+use Rattle.std.proofs.lemmas.List.Sums.{sum_by-take-drop, sum_by-append}
+use mir.Val.{bool_byte}
 use Rattle.std.specs.List.{prefix_len}
 use Rattle.std.specs.Str.{IsCharBoundary}
 use Rattle.simplecss_text.specs.Reading.{Reading, got, fails, found, each, followed_by}
@@ -30,6 +31,18 @@ count_of-take-add byte text place len =
     let behind : drop place (take (place + len) text) ≡ take len (drop place text) = drop-take place len text in
     let all : count_of byte (take place (take (place + len) text)) + count_of byte (drop place (take (place + len) text)) ≡ count_of byte (take (place + len) text) = sum_by-take-drop (λ b. cond (b == byte) 1 0) (take (place + len) text) place in
     sym all ∙ ap (λ t. count_of byte t + count_of byte (drop place (take (place + len) text))) front ∙ ap (λ t. count_of byte (take place text) + count_of byte t) behind
+
+one_byte : (b : Bool) → 0 + cond b 1 0 ≡ bool_byte b
+one_byte true = refl
+one_byte false = refl
+
+-- one more of the byte stands before the next place, if it stands here
+pub count_of-more : (byte : ℕ) (text : List ℕ) (place : ℕ) → place < length text → count_of byte (take place text) + bool_byte (get_or text place 0 == byte) ≡ count_of byte (take (place + 1) text)
+count_of-more byte text place within = sym (
+  ap (count_of byte) (take_more text place 0 within)
+  ∙ sum_by-append (λ b. cond (b == byte) 1 0) (take place text) (get_or text place 0 ∷ [])
+  ∙ ap (λ n. count_of byte (take place text) + n) (one_byte (get_or text place 0 == byte))
+)
 
 same_test : (a b c d : ℕ) → (a ≡ b → c ≡ d) → (c ≡ d → a ≡ b) → (a == b) ≡ (c == d)
 same_test a b c d there back = by (a == b) (c == d) refl refl

@@ -1,7 +1,7 @@
 -- Bytes that stand in front, and runs of them.
 -- Serves `terms::{pass_digits, pass_hex_digits, pass_number}` (numbers), `reader::{pass_semicolons,
 -- take_importance}`, and `blocks::pass_semicolon_or_block` (what an at-rule has behind its name).
-use Rattle.std.proofs.Common.{◌≡◌, ◌+◌, ◌-◌, ℕ, Bool, List, [], ◌∷◌, length, drop, slice_index, true, false, refl, sym, ap, ◌∙◌, arith, length-drop}
+use Rattle.std.proofs.Common.{◌≡◌, ◌+◌, ◌-◌, ℕ, Bool, List, [], ◌∷◌, drop, slice_index, true, false, refl, sym, ap, ◌∙◌, arith, length-drop}
 use Rattle.std.specs.List.{prefix_len}
 use Rattle.std.proofs.lemmas.List.{get_or-drop, drop-drop}
 use Rattle.std.proofs.lemmas.List.Sums.{prefix_len_is}

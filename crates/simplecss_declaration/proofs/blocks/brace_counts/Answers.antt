@@ -1,6 +1,12 @@
-use Rattle.std.proofs.Common.{arith}
-use Rattle.std.proofs.lemmas.Grind.{common_steps}
+use Rattle.std.proofs.Common.{◌+◌, ◌∙◌, arith}
+use Rattle.simplecss_declaration.proofs.BlockLemmas.{count_of-more}
 use Rattle.simplecss_declaration.proofs.blocks.brace_counts.Goals as goal
 
 pub loop-byte-preserved : goal.loop-byte-preserved
-loop-byte-preserved c = grind (arith, common_steps)
+loop-byte-preserved c =
+    let counted = c.loop-byte.invariant in
+    let chunk = c.args.chunk.now in
+    record {
+      opening = (λ k. counted.opening k + c.from-opening.ensures k) ∙ count_of-more 123 chunk c.loop-byte.byte-index (omega arith);
+      closing = (λ k. counted.closing k + c.from-closing.ensures k) ∙ count_of-more 125 chunk c.loop-byte.byte-index (omega arith);
+    }

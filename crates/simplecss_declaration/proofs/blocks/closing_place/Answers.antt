@@ -1,14 +1,7 @@
 use Rattle.std.proofs.Common.{◌≡◌, ◌+◌, ◌-◌, length, take, drop, sym, subst, arith, refl}
-use Rattle.std.proofs.lemmas.Grind.{common_steps}
 use Rattle.simplecss_declaration.specs.BlockDepths.{ClosesFirst, ClosesNowhere}
 use Rattle.simplecss_declaration.proofs.BlockLemmas.{IsInside, part_len, part_split, inside-passed, inside-closed, inside-open}
 use Rattle.simplecss_declaration.proofs.blocks.closing_place.Goals as goal
-
-pub chunks-init : goal.chunks-init
-chunks-init c = grind (arith, common_steps)
-
-pub chunks-smaller : goal.chunks-smaller
-chunks-smaller c = grind (arith, common_steps)
 
 pub overflow_add-result : goal.overflow_add-result
 overflow_add-result c =
