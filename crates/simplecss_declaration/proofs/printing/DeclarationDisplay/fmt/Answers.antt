@@ -1,4 +1,4 @@
-use Rattle.std.proofs.Common.{◌++◌, refl, ap}
+use Rattle.std.proofs.Common.{◌++◌, true, refl, ap}
 use Rattle.std.specs.Prelude.{codes}
 use Rattle.simplecss_text.proofs.printed.StyledWrites.{styled_three, plain_of_styled}
 use Rattle.simplecss_declaration.proofs.printing.DeclarationDisplay.fmt.Goals as goal
@@ -6,8 +6,8 @@ use Rattle.simplecss_declaration.proofs.printing.DeclarationDisplay.fmt.Goals as
 pub returns-clause-styled : goal.returns-clause-styled
 returns-clause-styled g c flush ok =
     let d = c.args.self.now in
-    let stated = c.in_ok-write_stated.ensures flush refl in
-    let marked = c.in_ok-write_str.ensures.styled stated.flush refl in
+    let stated = c.in_ok-write_stated.ensures flush (refl {a = true}) in
+    let marked = c.in_ok-write_str.ensures.styled stated.flush (refl {a = true}) in
     let closed = c.write_str-2.ensures.styled marked.flush ok in
     styled_three g.W.Write.write_str_gives _ _ _ _ _ _ _ _ stated marked closed (ap (λ mark. d.name.now ++ codes ":" ++ d.value.now ++ mark ++ codes ";") c.important_mark.ensures)
 
