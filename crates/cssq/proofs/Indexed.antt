@@ -9,8 +9,9 @@ use Rattle.simplecss.specs.Placements.{HasPlacement}
 use Rattle.simplecss.specs.Statements.{StyleRule}
 use Rattle.simplecss.specs.SelectorPlaces.{selector_at, AreThePlaces}
 use Rattle.simplecss.specs.Matching.{AreMatches}
-use Rattle.cssq_tree.specs.Nodes.{Spot, page_tree}
-use Rattle.cssq.specs.MatchRuns.{Takes, AreAnswers, numbers_line, IsLineAdded}
+use Rattle.cssq_tree.specs.TreeText.{Row}
+use Rattle.cssq_tree.specs.Nodes.{Spot, spot, page_tree}
+use Rattle.cssq.specs.MatchRuns.{Takes, AreAnswers, numbers_line, IsLineOf}
 use Rattle.cssq.proofs.FromLast.{before_or_from, here_or_later}
 use Rattle.cssq.proofs.MatchLines.{AnsweredSoFar, answered_none, answered_yes, answered_no}
 
@@ -122,10 +123,10 @@ module _ (rules : List StyleRule) (element : Spot) where
         (subst (λ ps. AnsweredSoFar rules element (get_or places (length places) (length (map (λ rule. rule.components) rules))) ps) (take_all (length places) places (omega arith))
         (up_to (length places) (omega arith) (first_places (length places) (omega arith))))
 
-    -- the line with the numbers of these places is that of the element
-    pub line_added : (old new : List ℕ) (number : ℕ) → new ≡ old ++ numbers_line number (map (λ place. place + 1) places) → IsLineAdded old new number rules element
-    line_added old new number wrote = (
+    -- the line with the numbers of these places tells of the element
+    pub numbers_told : (rows : List Row) (place : ℕ) → element ≡ spot rows place → IsLineOf rules rows place (numbers_line (place + 1) (map (λ place. place + 1) places))
+    numbers_told rows place is = (
       all_places.answers,
-      subst (λ rs. AreAnswers all_places.answers rs element) (take_all (length rules) rules (omega arith)) all_places.are,
-      wrote ∙ ap (λ ns. old ++ numbers_line number ns) (sym all_places.numbers),
+      subst (λ e. AreAnswers all_places.answers rules e) is (subst (λ rs. AreAnswers all_places.answers rs element) (take_all (length rules) rules (omega arith)) all_places.are),
+      ap (numbers_line (place + 1)) (sym all_places.numbers),
     )

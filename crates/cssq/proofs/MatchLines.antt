@@ -4,9 +4,8 @@ use Rattle.std.proofs.Common.{◌≡◌, ℕ, zero, suc, ◌+◌, ◌<◌, ◌�
 use Rattle.std.specs.List.{AllZip, items_where_true, range_with_len, concat}
 use Rattle.std.proofs.lemmas.List.{take_more, length-append, map-append}
 use Rattle.simplecss.specs.Statements.{StyleRule}
-use Rattle.cssq_tree.specs.TreeText.{Row}
-use Rattle.cssq_tree.specs.Nodes.{Spot, spot}
-use Rattle.cssq.specs.MatchRuns.{Takes, AreAnswers, numbers_of, line_text, IsLineOf, IsLineAdded}
+use Rattle.cssq_tree.specs.Nodes.{Spot}
+use Rattle.cssq.specs.MatchRuns.{Takes, AreAnswers, numbers_of}
 
 all_zip_push : {A B : Type 0} (R : A → B → Type 0) (xs : List A) (ys : List B) (x : A) (y : B) → AllZip R xs ys → R x y → AllZip R (xs ++ x ∷ []) (ys ++ y ∷ [])
 all_zip_push R [] [] x y all r = (r, tt)
@@ -91,8 +90,3 @@ lines_more {IsLine} {place} {before} so_far line text here added =
           (all_zip_push IsLine (range_with_len 0 place) so_far.lines place line so_far.are here);
       whole = added ∙ ap (λ t. t ++ line) so_far.whole ∙ sym (concat_push so_far.lines line);
     }
-
--- the line of one more element
-pub matched_more : {rules : List StyleRule} {rows : List Row} {place : ℕ} {before : List ℕ} → LinesSoFar (IsLineOf rules rows) place before → (text : List ℕ) (element : Spot) → element ≡ spot rows place → IsLineAdded before text (place + 1) rules element → LinesSoFar (IsLineOf rules rows) (place + 1) text
-matched_more {rules} {rows} {place} {before} so_far text element is added =
-    lines_more so_far (line_text (place + 1) added.0) text (added.0, subst (AreAnswers added.0 rules) is added.1, refl) added.2

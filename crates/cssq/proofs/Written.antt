@@ -50,6 +50,11 @@ pub runs_failed : (IsDue : Result (List ℕ) RunFault → Type 0) (r : Result (U
 runs_failed IsDue (Ok x) fault known is due = absurd is
 runs_failed IsDue (Err told) fault known is due = fails_unwritten IsDue told known (subst (FailsBeforeWriting IsDue) (sym is) due)
 
+-- what `?` gives on, where the fault is as wanted
+pub failed_with : {V : Type 0} (P : RunFault → Type 0) (r : Result V RunFault) (fault : RunFault) → IsErrAnd r (λ told. told ≡ fault) → P fault → IfErr r P
+failed_with P (Ok x) fault is holds = tt
+failed_with P (Err told) fault is holds = subst P (sym is) holds
+
 -- a tree's fault, handed on, is due
 pub tree_due : (IsDue : Result (List ℕ) RunFault → Type 0) (tree : List ℕ) (fault : TreeFault) → ((fault : TreeFault) → tree_of tree ≡ Err fault → IsDue (Err (Tree fault))) → IsFaultOf fault tree → FailsBeforeWriting IsDue (run_fault fault)
 tree_due IsDue tree (told.Memory n) due is = tt

@@ -41,12 +41,6 @@ IsLineOf rules rows place line =
     (answers : List Bool) × AreAnswers answers rules (spot rows place)
     × (line ≡ line_text (place + 1) answers)
 
--- the line of an element was added to a text
-abbrev pub IsLineAdded : List ℕ → List ℕ → ℕ → List StyleRule → Spot → Type 0
-IsLineAdded old new number rules element =
-    (answers : List Bool) × AreAnswers answers rules element
-    × (new ≡ old ++ line_text number answers)
-
 -- the text is a line for each place below the count, in turn
 abbrev pub AreLines : (ℕ → List ℕ → Type 0) → ℕ → List ℕ → Type 0
 AreLines IsLine count text =

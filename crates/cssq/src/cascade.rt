@@ -1,17 +1,19 @@
 //! Which declarations of a style sheet win on an element: the cascade (CSS 2.1 section 6.4.1).
 
-ghost use Rattle.std.specs.Prelude.{◌≡◌, ◌↔◌, ℕ, ◌<◌, length, map, Contains, IfOk, IfSome, IsNone};
+ghost use Rattle.std.specs.Prelude.{◌≡◌, ◌↔◌, ℕ, ◌<◌, length, map, All, Contains, IfOk, IfSome, IsNone};
 ghost use Rattle.std.specs.Prelude.{IsTrue, Some};
 ghost use Rattle.std.specs.Option.{option_map};
 ghost use Rattle.simplecss.specs.Declarations.{StyleDeclaration};
 ghost use Rattle.simplecss.specs.SeenDeclarations.{declaration_of, declarations_of};
 ghost use Rattle.simplecss.specs.SeenRules.{rule_of, rules_of, rules_in};
+ghost use Rattle.simplecss.specs.Matching.{AreMatches};
+ghost use Rattle.cssq_tree.specs.Nodes.{Spot, page_tree};
 ghost use Rattle.cssq.specs.Winners.{Wins, IsStated, IsWinner, HasNoWinner, WinsForItsName};
 ghost use Rattle.cssq.specs.Winners.{ListsInOrder, HaveOwnNames};
 ghost use Rattle.cssq.specs.Candidates.{better_of, InRule, IsCandidate, IsOutdone, IsPassedOver};
 ghost use Rattle.cssq.specs.Candidates.{TellsWhether, HasBestPlaces};
 
-use simplecss::{Declaration, Element, Keyed, Rule, RuleIndex, StyleSheet};
+use simplecss::{Declaration, Element, Rule, StyleSheet};
 use std::alloc::{AllocError, Global};
 use std::collections::BTreeMap;
 
@@ -113,33 +115,29 @@ pub fn winning<'a, E: Element>(
     winner
 }
 
-/// What `winning` gives, by an index of the rules, which finds those that take the element. What
-/// stood in `places` is dropped, and its growth is all the memory that this takes.
-pub(crate) fn winning_by<'a, E: Keyed>(
-    index: &RuleIndex<'a>,
+/// What `winning` gives for an element of a page, by the places of the rules that take it.
+pub(crate) fn winning_among<'a>(
     rules: &[Rule<'a>],
-    element: &E,
+    places: &[usize],
     name: &str,
-    places: &mut Vec<usize>,
-) -> Result<Option<Declaration<'a>>, AllocError>
-    requires { index.now ≡ map (λ rule. rule.selector) rules.now }
-    ensures { IfOk result (λ winner.
-        Wins (IsStated E.tree (E.node element.now) (rules_of rules.now)) name.now
-        (option_map declaration_of winner)) }
+) -> Option<Declaration<'a>>
+    requires { All (λ place. place < length rules.now) places.now }
+    ensures { (element : Spot)
+        → AreMatches page_tree element (map (λ rule. rule.selector) rules.now) places.now
+        → Wins (IsStated page_tree element (rules_of rules.now)) name.now
+        (option_map declaration_of result) }
 {
-    index.matching(rules, element, places)?;
-    let places = places.as_slice();
     let mut winner: Option<Declaration<'a>> = None;
     for i in (0..places.len()).rev() {
-        let Some(best) = contender(&rules[places[i]], name, winner.is_some()) else {
+        let Some(found) = contender(&rules[places[i]], name, winner.is_some()) else {
             continue;
         };
-        if best.important {
-            return Ok(Some(best));
+        if found.important {
+            return Some(found);
         }
-        winner = Some(best);
+        winner = Some(found);
     }
-    Ok(winner)
+    winner
 }
 
 /// The declarations of the rules that take the element, in the order of their places.

@@ -1,7 +1,7 @@
 //! What the program's commands do, over any writer.
 
 ghost use Rattle.std.specs.Prelude.{◌≡◌, ◌+◌, ◌^◌, ◌<◌, ◌++◌, Some, All, OnOk, OnErr, IfErr, IfOk, Ok};
-ghost use Rattle.std.specs.Prelude.{string_bytes, map, decimal};
+ghost use Rattle.std.specs.Prelude.{string_bytes, map, length, decimal, List, ℕ, ◌∷◌, []};
 ghost use Rattle.std.specs.Option.{option_map};
 ghost use Rattle.std.specs.Fmt.{WritesStyledOnOk};
 ghost use Rattle.std.specs.Io.KnownBytes.{Appends};
@@ -9,14 +9,16 @@ ghost use Rattle.cssq.specs.Writing.{AppendsProperPart, Writes, FailsBeforeWriti
 ghost use Rattle.cssq.specs.Faults.{status_of, message_of, run_fault};
 ghost use Rattle.cssq.specs.SelectorRuns.{selector_line, IsSelectorRun};
 ghost use Rattle.cssq.specs.SheetRuns.{sheet_output, IsSheetRun};
-ghost use Rattle.cssq.specs.MatchRuns.{numbers_line, IsMatchText, IsMatchRun};
-ghost use Rattle.cssq.specs.StyleRuns.{style_line, IsStyleText, IsStyleRun};
+ghost use Rattle.cssq.specs.MatchRuns.{numbers_line, IsMatchRun};
+ghost use Rattle.cssq.specs.StyleRuns.{style_line, IsStyleRun};
+ghost use Rattle.cssq.specs.PageRuns.{IsLineTold, IsToldText, IsAskedRun};
 ghost use Rattle.cssq.specs.declared.runs.RunFault.TheVariants.{Memory};
 ghost use Rattle.simplecss.specs.SeenDeclarations.{declaration_of};
 ghost use Rattle.simplecss.specs.Sheets.{sheet};
+ghost use Rattle.simplecss.specs.ThisEdition.{this_edition};
 ghost use Rattle.simplecss.specs.SeenRules.{rules_of, rules_in};
 
-use crate::cascade::winning_by;
+use crate::cascade::winning_among;
 use cssq_tree::tree::{Page, TreeFault};
 use log::Log;
 use simplecss::{Declaration, Rule, RuleIndex, Selector, StyleSheet};
@@ -211,64 +213,6 @@ fn push_line(out: &mut String, number: usize, places: &[usize]) -> Result<(), Al
     Ok(())
 }
 
-/// The lines of the elements of a page, by an index of the rules.
-fn match_lines<'a>(
-    alloc: Global,
-    index: &RuleIndex<'a>,
-    rules: &[Rule<'a>],
-    page: &Page<'_>,
-) -> Result<String, AllocError>
-    requires { index.now ≡ map (λ rule. rule.selector) rules.now }
-    ensures { IfOk result (λ text. IsMatchText (rules_of rules.now) page.now (string_bytes text)) }
-{
-    let mut places = Vec::new(alloc);
-    let mut text = String::new(alloc);
-    for place in 0..page.len() {
-        let node = page.node(place).unwrap();
-        index.matching(rules, &node, &mut places)?;
-        push_line(&mut text, place + 1, places.as_slice())?;
-    }
-    Ok(text)
-}
-
-/// The lines of the elements of a page.
-fn match_text(alloc: Global, rules: &[Rule<'_>], page: &Page<'_>) -> Result<String, AllocError>
-    ensures { IfOk result (λ text. IsMatchText (rules_of rules.now) page.now (string_bytes text)) }
-{
-    let index = RuleIndex::new(alloc, rules)?;
-    match_lines(alloc, &index, rules, page)
-}
-
-/// What `run_match` writes. The sheet is read first, then the tree.
-fn match_output<R: Log>(rt: &R, alloc: Global, sheet: &str, tree: &str) -> Result<String, RunFault>
-    ensures ok { IfOk result (λ text. IsMatchRun sheet.now tree.now (Ok (string_bytes text))) }
-    ensures fault { IfErr result (FailsBeforeWriting (IsMatchRun sheet.now tree.now)) }
-{
-    let sheet = StyleSheet::parse(rt, alloc, sheet)?;
-    let page = Page::read(alloc, tree)?;
-    Ok(match_text(alloc, sheet.rules.as_slice(), &page)?)
-}
-
-/// Writes for each element of a tree its number from 1, a colon, a space and the number of each
-/// rule of the sheet that takes it, and a newline.
-///
-/// The sheet is read first, then the tree, and then the whole output is built: after `Tree` and
-/// `Memory` nothing was written. After `Output` a beginning of it was, and never all of it.
-/// `Refused` does not come.
-pub fn run_match<R: Log, W: Write>(
-    rt: &R,
-    alloc: Global,
-    sheet: &str,
-    tree: &str,
-    out: &mut W,
-) -> Result<(), RunFault>
-    ensures { Writes (IsMatchRun sheet.now tree.now) result (W.contents out.old)
-        (W.contents out.new) }
-{
-    let text = match_output(rt, alloc, sheet, tree)?;
-    write_out(out, text.as_bytes())
-}
-
 /// Adds the line of an element: its number, and the value of the declaration that wins there, if
 /// one does.
 fn push_winner(
@@ -291,58 +235,128 @@ fn push_winner(
     Ok(())
 }
 
-/// The lines of the elements of a page, with what wins for the name on each, by an index of the
-/// rules.
-fn style_lines<'a>(
-    alloc: Global,
+/// What the lines tell of the elements of a page.
+#[derive(Clone, Copy)]
+enum Asked<'n> {
+    /// The numbers of the rules that take the element.
+    Rules,
+    /// The declaration of the name that wins on the element.
+    Winner(&'n str),
+}
+
+/// Adds the line of the element at a place of a page, by an index of the rules. What stood in
+/// `places` is dropped.
+fn push_element<'a>(
+    out: &mut String,
+    asked: Asked<'_>,
     index: &RuleIndex<'a>,
     rules: &[Rule<'a>],
     page: &Page<'_>,
-    name: &str,
-) -> Result<String, AllocError>
+    place: usize,
+    places: &mut Vec<usize>,
+) -> Result<(), AllocError>
+    requires index { index.now ≡ map (λ rule. rule.selector) rules.now }
+    requires place { place < length page.now }
+    requires number { place + 1 < 2 ^ 64 }
+    ensures { OnOk result (IsLineTold asked.entry (rules_of rules.now) page.now place
+        (string_bytes out.old) (string_bytes out.new)) }
+{
+    let node = page.node(place).unwrap();
+    index.matching(rules, &node, places)?;
+    let places = places.as_slice();
+    match asked {
+        Asked::Rules => push_line(out, place + 1, places),
+        Asked::Winner(name) => push_winner(out, place + 1, winning_among(rules, places, name)),
+    }
+}
+
+/// The lines of the elements of a page, by an index of the rules.
+fn page_lines<'a>(
+    alloc: Global,
+    asked: Asked<'_>,
+    index: &RuleIndex<'a>,
+    rules: &[Rule<'a>],
+    page: &Page<'_>,
+) -> Result<String, RunFault>
     requires { index.now ≡ map (λ rule. rule.selector) rules.now }
-    ensures { IfOk result
-        (λ text. IsStyleText name.now (rules_of rules.now) page.now (string_bytes text)) }
+    ensures ok { IfOk result
+        (λ text. IsToldText asked.entry (rules_of rules.now) page.now (string_bytes text)) }
+    ensures fault { IfErr result (λ fault. fault ≡ RunFault.Memory) }
 {
     let mut places = Vec::new(alloc);
     let mut text = String::new(alloc);
     for place in 0..page.len() {
-        let node = page.node(place).unwrap();
-        let winner = winning_by(index, rules, &node, name, &mut places)?;
-        push_winner(&mut text, place + 1, winner)?;
+        push_element(&mut text, asked, index, rules, page, place, &mut places)?;
     }
     Ok(text)
 }
 
-/// The lines of the elements of a page, with what wins for the name on each.
-fn style_text(
+/// What is asked of the elements of a tree, by the rules of a sheet.
+fn tree_output(
     alloc: Global,
+    asked: Asked<'_>,
     rules: &[Rule<'_>],
-    page: &Page<'_>,
-    name: &str,
-) -> Result<String, AllocError>
-    ensures { IfOk result
-        (λ text. IsStyleText name.now (rules_of rules.now) page.now (string_bytes text)) }
+    tree: &str,
+) -> Result<String, RunFault>
+    ensures ok { (text : List ℕ) → rules_of rules.now ≡ sheet this_edition (text ∷ [])
+        → IfOk result (λ lines. IsAskedRun asked.entry text tree.now (Ok (string_bytes lines))) }
+    ensures fault { (text : List ℕ)
+        → IfErr result (FailsBeforeWriting (IsAskedRun asked.entry text tree.now)) }
 {
+    let page = Page::read(alloc, tree)?;
     let index = RuleIndex::new(alloc, rules)?;
-    style_lines(alloc, &index, rules, page, name)
+    page_lines(alloc, asked, &index, rules, &page)
 }
 
-/// What `run_style` writes. The sheet is read first, then the tree.
-fn style_output<R: Log>(
+/// What `run_match` and `run_style` write. The sheet is read first, then the tree.
+fn page_output<R: Log>(
+    rt: &R,
+    alloc: Global,
+    asked: Asked<'_>,
+    sheet: &str,
+    tree: &str,
+) -> Result<String, RunFault>
+    ensures ok { IfOk result
+        (λ text. IsAskedRun asked.entry sheet.now tree.now (Ok (string_bytes text))) }
+    ensures fault { IfErr result (FailsBeforeWriting (IsAskedRun asked.entry sheet.now tree.now)) }
+{
+    let sheet = StyleSheet::parse(rt, alloc, sheet)?;
+    tree_output(alloc, asked, sheet.rules.as_slice(), tree)
+}
+
+/// Writes what is asked of the elements of a tree. The whole output is built first.
+fn run_page<R: Log, W: Write>(
+    rt: &R,
+    alloc: Global,
+    asked: Asked<'_>,
+    sheet: &str,
+    tree: &str,
+    out: &mut W,
+) -> Result<(), RunFault>
+    ensures { Writes (IsAskedRun asked.entry sheet.now tree.now) result (W.contents out.old)
+        (W.contents out.new) }
+{
+    let text = page_output(rt, alloc, asked, sheet, tree)?;
+    write_out(out, text.as_bytes())
+}
+
+/// Writes for each element of a tree its number from 1, a colon, a space and the number of each
+/// rule of the sheet that takes it, and a newline.
+///
+/// The sheet is read first, then the tree, and then the whole output is built: after `Tree` and
+/// `Memory` nothing was written. After `Output` a beginning of it was, and never all of it.
+/// `Refused` does not come.
+pub fn run_match<R: Log, W: Write>(
     rt: &R,
     alloc: Global,
     sheet: &str,
     tree: &str,
-    name: &str,
-) -> Result<String, RunFault>
-    ensures ok { IfOk result
-        (λ text. IsStyleRun sheet.now tree.now name.now (Ok (string_bytes text))) }
-    ensures fault { IfErr result (FailsBeforeWriting (IsStyleRun sheet.now tree.now name.now)) }
+    out: &mut W,
+) -> Result<(), RunFault>
+    ensures { Writes (IsMatchRun sheet.now tree.now) result (W.contents out.old)
+        (W.contents out.new) }
 {
-    let sheet = StyleSheet::parse(rt, alloc, sheet)?;
-    let page = Page::read(alloc, tree)?;
-    Ok(style_text(alloc, sheet.rules.as_slice(), &page, name)?)
+    run_page(rt, alloc, Asked::Rules, sheet, tree, out)
 }
 
 /// Writes for each element of a tree its number from 1, a colon, and where a declaration of the
@@ -362,8 +376,7 @@ pub fn run_style<R: Log, W: Write>(
     ensures { Writes (IsStyleRun sheet.now tree.now name.now) result (W.contents out.old)
         (W.contents out.new) }
 {
-    let text = style_output(rt, alloc, sheet, tree, name)?;
-    write_out(out, text.as_bytes())
+    run_page(rt, alloc, Asked::Winner(name), sheet, tree, out)
 }
 
 #[cfg(test)]

@@ -1,8 +1,0 @@
-use Rattle.std.proofs.Common.{string_bytes}
-use Rattle.simplecss.specs.SeenRules.{rules_of}
-use Rattle.cssq.specs.StyleRuns.{IsStyleLineOf}
-use Rattle.cssq.proofs.MatchLines.{LinesSoFar}
-use Rattle.cssq.proofs.runs.style_lines.Given as goal
-
-abbrev pub invariant-loop-place : goal.invariant-loop-place
-invariant-loop-place l = LinesSoFar (IsStyleLineOf l.name (rules_of l.rules) l.page) l.place (string_bytes l.text)
