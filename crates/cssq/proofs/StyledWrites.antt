@@ -1,3 +1,3 @@
--- Writes that follow one another, whatever the formatter's options: the lemmas of the crates below.
+-- What is written whatever the formatter's options: the lemma of the crates below.
 -- Serves Display of `RunFault` (under every formatter).
-pub use Rattle.simplecss.proofs.StyledWrites.{plain_of_styled, styled_four}
+pub use Rattle.simplecss.proofs.StyledWrites.{plain_of_styled}

@@ -1,7 +1,7 @@
 //! What the program's commands do, over any writer.
 
 ghost use Rattle.std.specs.Prelude.{◌≡◌, ◌+◌, ◌^◌, ◌<◌, ◌++◌, Some, All, OnOk, OnErr, IfErr, IfOk, Ok};
-ghost use Rattle.std.specs.Prelude.{string_bytes, map, length, decimal, List, ℕ, ◌∷◌, []};
+ghost use Rattle.std.specs.Prelude.{string_bytes, map, length, List, ℕ, ◌∷◌, []};
 ghost use Rattle.std.specs.Option.{option_map};
 ghost use Rattle.std.specs.Fmt.{WritesStyledOnOk};
 ghost use Rattle.std.specs.Io.KnownBytes.{Appends};
@@ -73,25 +73,16 @@ impl fmt::Display for RunFault {
     }
 }
 
-/// Writes the line of a tree's fault: its number and that of the line.
-#[tactic(auto, using(crate::proofs::StyledWrites::styled_four))]
+/// Writes the line of a tree's fault: its number and that of the line. It has at most 49 bytes.
 fn write_tree_fault<W: fmt::Write>(f: &mut fmt::Formatter<W>, fault: TreeFault) -> fmt::Result
     ensures { WritesStyledOnOk W.write_str_gives f.old result
         (message_of (RunFault.Tree fault)) f.new }
 {
-    f.write_str("cssq: tree fault ")?;
-    write_decimal(f, usize::from(fault.number()))?;
-    f.write_str(" at line ")?;
-    write_decimal(f, fault.line())
-}
-
-/// Writes the number in decimal digits, which are at most twenty.
-fn write_decimal<W: fmt::Write>(f: &mut fmt::Formatter<W>, number: usize) -> fmt::Result
-    ensures { WritesStyledOnOk W.write_str_gives f.old result (decimal number) f.new }
-{
-    let mut digits = InlineText::<20>::new();
-    write!(digits, "{number}")?;
-    f.write_str(digits.as_str())
+    let number = fault.number();
+    let line = fault.line();
+    let mut text = InlineText::<49>::new();
+    write!(text, "cssq: tree fault {number} at line {line}")?;
+    f.write_str(text.as_str())
 }
 
 impl Error for RunFault {}
