@@ -132,8 +132,8 @@ fn write_out<W: Write>(out: &mut W, bytes: &[u8]) -> Result<(), RunFault>
 }
 
 /// The line that `run_selector` writes for a selector.
-fn selector_line(alloc: Global, selector: &Selector<'_>) -> Result<String, AllocError>
-    ensures { IfOk result (λ line. string_bytes line ≡ selector_line selector.now) }
+fn selector_line(alloc: Global, selector: Selector<'_>) -> Result<String, AllocError>
+    ensures { IfOk result (λ line. string_bytes line ≡ selector_line selector.entry) }
 {
     let specificity = selector.specificity();
     let (ids, others, types) = (specificity[0], specificity[1], specificity[2]);
@@ -156,7 +156,7 @@ pub fn run_selector<R: Log, W: Write>(
     let Some(selector) = Selector::parse(rt, alloc, text)? else {
         return Err(RunFault::Refused);
     };
-    let line = selector_line(alloc, &selector)?;
+    let line = selector_line(alloc, selector)?;
     write_out(out, line.as_bytes())
 }
 
@@ -200,8 +200,7 @@ fn push_line(out: &mut String, number: usize, places: &[usize]) -> Result<(), Al
         let rule_number = *place + 1;
         write!(out, " {rule_number}")?;
     }
-    out.push('\n')?;
-    Ok(())
+    out.push('\n')
 }
 
 /// Adds the line of an element: its number, and the value of the declaration that wins there, if
@@ -214,16 +213,12 @@ fn push_winner(
     ensures { OnOk result (string_bytes out.new
         ≡ string_bytes out.old ++ style_line number (option_map declaration_of winner.entry)) }
 {
-    write!(out, "{number}:")?;
-    if let Some(declaration) = winner {
-        out.push(' ')?;
-        out.push_str(declaration.value)?;
-        if declaration.important {
-            out.push_str(" !important")?;
-        }
-    }
-    out.push('\n')?;
-    Ok(())
+    let Some(declaration) = winner else {
+        return writeln!(out, "{number}:");
+    };
+    let value = declaration.value;
+    let mark = if declaration.important { " !important" } else { "" };
+    writeln!(out, "{number}: {value}{mark}")
 }
 
 /// What the lines tell of the elements of a page.

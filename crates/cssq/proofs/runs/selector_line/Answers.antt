@@ -11,7 +11,7 @@ joined s a b d end = ap (λ l. s ++ (9 ∷ l)) (sym (append_assoc a (44 ∷ (b +
 pub returns : goal.returns
 returns c =
     let r = c.specificity-specificity.result in
-    let s = selector_text c.args.selector.now in
+    let s = selector_text c.args.selector in
     let f : IfOk c.format.result (λ t. string_bytes t ≡ s ++ (9 ∷ (decimal (get_or r 0 0) ++ (44 ∷ (decimal (get_or r 1 0) ++ (44 ∷ (decimal (get_or r 2 0) ++ 10 ∷ []))))))) = c.format.ensures.ok in
     let numbers : List ℕ → List ℕ = λ v. s ++ (9 ∷ (join_with_byte 44 (decimal (get_or v 0 0) ∷ decimal (get_or v 1 0) ∷ decimal (get_or v 2 0) ∷ []) ++ 10 ∷ [])) in
     let P : List ℕ → Type 0 = λ text. IfOk c.format.result (λ t. string_bytes t ≡ text) in
