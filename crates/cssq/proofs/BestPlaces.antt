@@ -18,7 +18,7 @@ use Rattle.cssq.specs.Winners.Beats.{by_importance, by_rule, by_place}
 use Rattle.cssq.specs.Candidates.{InRule, IsBestPlace, TellsWhether}
 use Rattle.cssq.proofs.Cascading.{OneMore, beats_as_later, not_two, in_rule_more, others_stay, first, takes_over, stays}
 use Rattle.cssq.proofs.FromLast.{here_or_later, before_or_from}
-use Rattle.cssq.proofs.Listing.{placed_at, slice_get_some, lists_more, lists_same}
+use Rattle.cssq.proofs.Listing.{placed_at, slice_get_some, lists_none, lists_more, lists_same}
 
 -- ---- one more declaration behind a list
 
@@ -218,6 +218,10 @@ module _ (stands : Standing) (ps : List StyleDeclaration) (lists : ListsInOrder 
       winners_skip not_best =
           lists_same (λ i j q h. (h.0, (h.1.0, (let lt = h.1.1 in omega (arith, lt)), h.1.2)))
           (λ i j q h. kept_not_at i j q (λ won. not_best (best_here (place a.declaration.name) (best a.declaration.name) won)) h.0 (kept_either_at i j q h.0 h.1.0 h.1.1 h.1.2 (before_or_from m h.1.0))) so_far
+
+  -- none at first
+  pub winners_none : ListsInOrder (Kept 0) []
+  winners_none = lists_none (λ i j p h. let lt = h.1.1 in omega (arith, lt))
 
   pub winners_all : (m : ℕ) {qs : List StyleDeclaration} → length ps ≤ m → ListsInOrder (Kept m) qs → ListsInOrder (λ i j p. WinsAt stands p.name i j p) qs
   winners_all m all so_far =

@@ -15,6 +15,16 @@ use Rattle.cssq.proofs.FromLast.{before_or_from, stated_takes, stated_here}
 abbrev pub placed_at : ℕ → ℕ → StyleDeclaration → Placed
 placed_at i j p = record { rule = i; place = j; declaration = p }
 
+-- where nothing stands, there is nothing to list
+pub lists_none : {stands : Standing} → ((i j : ℕ) (p : StyleDeclaration) → stands i j p → ⊥) → ListsInOrder stands []
+lists_none none = record {
+  placed = [];
+  are = refl;
+  stand = λ k a at. absurd (cc);
+  rise = λ k l a b lt at_k at_l. absurd (cc);
+  all = λ i j p h. absurd (none i j p h);
+}
+
 -- where the same stands, the same list does
 pub lists_same : {before after : Standing} {ps : List StyleDeclaration} → ((i j : ℕ) (p : StyleDeclaration) → before i j p → after i j p) → ((i j : ℕ) (p : StyleDeclaration) → after i j p → before i j p) → ListsInOrder before ps → ListsInOrder after ps
 lists_same forth back lists = record {
@@ -117,6 +127,9 @@ listed_part : (stands : Standing) (m : ℕ) (declared ps : List StyleDeclaration
 listed_part stands m declared ps lists zero le =
     subst (ListsInOrder (Partly stands m declared 0)) (sym (append-nil ps)) (lists_same (λ i j p h. inl h) (none_of_part stands m declared) lists)
 listed_part stands m declared ps lists (suc c) le = listed_next stands m declared ps c (omega arith) (listed_part stands m declared ps lists c (omega arith))
+
+pub lists_before : (stands : Standing) → ListsInOrder (Before stands 0) []
+lists_before stands = lists_none (λ i j p h. let lt = h.0 in omega (arith, lt))
 
 module _ {Node : Type 0} (tree : Tree Node) (n : Node) (rules : List StyleRule) (m : ℕ) (rule : StyleRule) (at : slice_get rules m ≡ Some rule) where
   whole_forth : HasPlacement tree rule.components n → (i j : ℕ) (p : StyleDeclaration) → Partly (IsStated tree n rules) m rule.declarations (length rule.declarations) i j p → Before (IsStated tree n rules) (m + 1) i j p

@@ -5,9 +5,14 @@ use Rattle.simplecss.specs.SeenDeclarations.{declaration_of, declarations_of}
 use Rattle.simplecss.specs.SeenRules.{rule_of, rules_of}
 use Rattle.cssq.specs.Winners.{IsStated, ListsInOrder}
 use Rattle.cssq.proofs.FromLast.{rule_read}
-use Rattle.cssq.proofs.Listing.{Before, lists_rule, lists_skip, lists_all}
+use Rattle.cssq.proofs.Listing.{Before, lists_before, lists_rule, lists_skip, lists_all}
 use Rattle.cssq.proofs.cascade.stated_on.Goals as goal
 use Rattle.cssq.proofs.cascade.stated_on.Goals.{then-matches+in_ok-extend_from_slice, else-matches}
+
+pub loop-rule-init : goal.loop-rule-init
+loop-rule-init g c =
+    let stands = Before (IsStated g.E.Element.tree (g.E.Element.node c.args.element.now) (rules_of c.args.rules.now)) 0 in
+    subst (λ items. ListsInOrder stands (declarations_of items)) (sym c.new-all.ensures.items) (lists_before (IsStated g.E.Element.tree (g.E.Element.node c.args.element.now) (rules_of c.args.rules.now)))
 
 pub loop-rule-preserved : goal.loop-rule-preserved
 loop-rule-preserved g c =

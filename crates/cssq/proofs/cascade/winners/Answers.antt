@@ -4,10 +4,23 @@ use Rattle.std.proofs.lemmas.List.{map-append, length-map}
 use Rattle.simplecss.specs.SeenDeclarations.{declaration_of, declarations_of}
 use Rattle.simplecss.specs.SeenRules.{rules_of}
 use Rattle.cssq.specs.Winners.{IsStated, ListsInOrder}
-use Rattle.cssq.specs.Candidates.{place_for}
-use Rattle.cssq.proofs.BestPlaces.{Kept, nothing, stands_at, placed_of, winners_more, winners_skip, winners_all, has_winners, own_names, same_place, other_place}
+use Rattle.cssq.specs.Candidates.{place_for, HasBestPlaces}
+use Rattle.cssq.proofs.BestPlaces.{Kept, nothing, stands_at, placed_of, winners_none, winners_more, winners_skip, winners_all, has_winners, own_names, same_place, other_place}
 use Rattle.cssq.proofs.cascade.winners.Goals as goal
 use Rattle.cssq.proofs.cascade.winners.Goals.{then-eq+in_ok-push, else-eq}
+
+pub loop-place-init : goal.loop-place-init
+loop-place-init g c =
+    let tree = g.E.Element.tree in
+    let n = g.E.Element.node c.args.element.now in
+    let stands = IsStated tree n (rules_of c.args.sheet.now.rules.items) in
+    let ds = c.deref-declaration-items.result.now in
+    let stated = subst (λ rules. ListsInOrder (IsStated tree n (rules_of rules)) (declarations_of c.in_ok-stated.stated.items)) c.deref.ensures.value c.in_ok-stated.ensures in
+    let lists = subst (λ items. ListsInOrder stands (declarations_of items)) (sym c.deref-declaration-items.ensures.value) stated in (
+      lists,
+      subst (λ items. HasBestPlaces c.in_ok-places.places (declarations_of items)) (c.deref-2.ensures.value ∙ sym c.deref-declaration-items.ensures.value) c.in_ok-places.ensures,
+      subst (λ items. ListsInOrder (Kept stands (declarations_of ds) lists 0) (declarations_of items)) (sym c.new-all.ensures.items) (winners_none stands (declarations_of ds) lists),
+    )
 
 pub loop-place-preserved : goal.loop-place-preserved
 loop-place-preserved g c =
