@@ -1,7 +1,7 @@
 //! Which declarations of a style sheet win on an element: the cascade (CSS 2.1 section 6.4.1).
 
-ghost use Rattle.std.specs.Prelude.{◌≡◌, ◌↔◌, ℕ, ◌<◌, length, map, All, Contains, IfOk, IfSome, IsNone};
-ghost use Rattle.std.specs.Prelude.{IsTrue, Some};
+ghost use Rattle.std.specs.Prelude.{◌≡◌, ◌↔◌, ℕ, ◌<◌, length, map, Contains, IfOk, IfSome, IsNone};
+ghost use Rattle.std.specs.Prelude.{All, IsTrue, Some};
 ghost use Rattle.std.specs.Option.{option_map};
 ghost use Rattle.simplecss.specs.Declarations.{StyleDeclaration};
 ghost use Rattle.simplecss.specs.SeenDeclarations.{declaration_of, declarations_of};

@@ -1,7 +1,7 @@
 //! What the program's commands do, over any writer.
 
 ghost use Rattle.std.specs.Prelude.{◌≡◌, ◌+◌, ◌^◌, ◌<◌, ◌++◌, Some, All, OnOk, OnErr, IfErr, IfOk, Ok};
-ghost use Rattle.std.specs.Prelude.{string_bytes, map, length, List, ℕ, ◌∷◌, []};
+ghost use Rattle.std.specs.Prelude.{ℕ, List, [], ◌∷◌, length, map, string_bytes};
 ghost use Rattle.std.specs.Option.{option_map};
 ghost use Rattle.std.specs.Fmt.{WritesStyledOnOk};
 ghost use Rattle.std.specs.Io.KnownBytes.{Appends};
@@ -217,7 +217,11 @@ fn push_winner(
         return writeln!(out, "{number}:");
     };
     let value = declaration.value;
-    let mark = if declaration.important { " !important" } else { "" };
+    let mark = if declaration.important {
+        " !important"
+    } else {
+        ""
+    };
     writeln!(out, "{number}: {value}{mark}")
 }
 

@@ -1,7 +1,6 @@
 use Rattle.std.proofs.Common.{◌≡◌, ℕ, List, ◌∷◌, [], Ok, Err, IfOk, IfErr, Result, string_bytes, sym, subst}
 use Rattle.simplecss.specs.ThisEdition.{this_edition}
 use Rattle.simplecss.specs.Sheets.{sheet}
-use Rattle.simplecss.specs.SeenRules.{rules_of}
 use Rattle.cssq_tree.specs.declared.tree.TreeFault.{TreeFault}
 use Rattle.cssq_tree.specs.TreeText.{Row, tree_of}
 use Rattle.cssq.specs.declared.runs.Asked.{Asked}
@@ -26,6 +25,7 @@ fault_due : (asked : Asked) (text tree : List ℕ) (fault : TreeFault) → tree_
 fault_due Rules text tree fault is = is
 fault_due (Winner name) text tree fault is = is
 
+-- want of memory comes before the first write
 memory_fails : {V : Type 0} (IsDue : Result (List ℕ) RunFault → Type 0) (r : Result V RunFault) → IfErr r (λ fault. fault ≡ Memory) → IfErr r (FailsBeforeWriting IsDue)
 memory_fails IsDue (Ok x) is = tt
 memory_fails IsDue (Err fault) is = subst (FailsBeforeWriting IsDue) (sym is) tt
