@@ -1,6 +1,6 @@
 //! The printed texts of positions and errors, which no option of the formatter changes.
-ghost use Rattle.std.specs.Prelude.{◌++◌, codes, decimal, encode_utf8};
-ghost use Rattle.std.specs.Fmt.{WritesStyledOnOk};
+ghost use Rattle.std.specs.Prelude.{◌++◌, IsOk};
+ghost use Rattle.std.specs.Fmt.InlineText.{AppendsIfIntact};
 ghost use Rattle.simplecss_text.specs.Errors.{position_text, error_text};
 
 use crate::{Error, TextPos};
@@ -17,9 +17,10 @@ impl fmt::Display for TextPos {
 
     ghost styled_output = { λ pos _. Some (position_text pos) };
 
-    #[tactic(auto, using(crate::proofs::printed::StyledWrites::plain_of_styled))]
     fn fmt<W: fmt::Write>(&self, f: &mut fmt::Formatter<W>) -> fmt::Result {
-        write_position(f, *self)
+        let mut position = Text::new();
+        append_at(&mut position, "", *self)?;
+        f.write_str(position.as_str())
     }
 }
 
@@ -34,88 +35,58 @@ impl fmt::Display for Error {
 
     ghost styled_output = { λ e _. Some (error_text e) };
 
-    #[tactic(auto, using(crate::proofs::printed::StyledWrites::plain_of_styled))]
     fn fmt<W: fmt::Write>(&self, f: &mut fmt::Formatter<W>) -> fmt::Result {
-        write_error(f, *self)
+        let mut text = Text::new();
+        append_error(&mut text, *self)?;
+        f.write_str(text.as_str())
     }
 }
 
-/// Writes what the error prints.
-fn write_error<W: fmt::Write>(f: &mut fmt::Formatter<W>, error: Error) -> fmt::Result
-    ensures { WritesStyledOnOk W.write_str_gives f.old result (error_text error) f.new }
+/// What is printed, which is at most 47 bytes: an `InvalidByte` has 22 bytes of words, two
+/// characters of at most two bytes, two numbers of at most ten digits and a colon.
+type Text = InlineText<47>;
+
+/// Appends what the error prints.
+fn append_error(text: &mut Text, error: Error) -> fmt::Result
+    ensures { IsOk result → AppendsIfIntact text.old (error_text error) text.new }
 {
     match error {
-        Error::UnexpectedEndOfStream => f.write_str("unexpected end of stream"),
-        Error::InvalidIdent(pos) => write_at(f, "invalid ident at ", pos),
-        Error::InvalidComment(pos) => write_at(f, "invalid comment at ", pos),
-        Error::InvalidValue(pos) => write_at(f, "invalid value at ", pos),
+        Error::UnexpectedEndOfStream => text.write_str("unexpected end of stream"),
+        Error::InvalidIdent(pos) => append_at(text, "invalid ident at ", pos),
+        Error::InvalidComment(pos) => append_at(text, "invalid comment at ", pos),
+        Error::InvalidValue(pos) => append_at(text, "invalid value at ", pos),
         Error::InvalidByte {
             expected,
             actual,
             pos,
-        } => write_invalid_byte(f, expected, actual, pos),
-        Error::SelectorMissing => f.write_str("selector missing"),
-        Error::UnexpectedSelector => f.write_str("unexpected selector"),
-        Error::UnexpectedCombinator => f.write_str("unexpected combinator"),
-        Error::InvalidAttributeSelector => f.write_str("invalid or unsupported attribute selector"),
-        Error::InvalidLanguagePseudoClass => f.write_str("invalid language pseudo-class"),
+        } => append_invalid_byte(text, expected, actual, pos),
+        Error::SelectorMissing => text.write_str("selector missing"),
+        Error::UnexpectedSelector => text.write_str("unexpected selector"),
+        Error::UnexpectedCombinator => text.write_str("unexpected combinator"),
+        Error::InvalidAttributeSelector => text.write_str(
+            "invalid or unsupported attribute selector",
+        ),
+        Error::InvalidLanguagePseudoClass => text.write_str("invalid language pseudo-class"),
     }
 }
 
-/// Writes what an `InvalidByte` prints.
-#[tactic(auto, using(crate::proofs::printed::StyledWrites::styled_three))]
-fn write_invalid_byte<W: fmt::Write>(
-    f: &mut fmt::Formatter<W>,
-    expected: u8,
-    actual: u8,
-    pos: TextPos,
-) -> fmt::Result
-    ensures { WritesStyledOnOk W.write_str_gives f.old result
-        (error_text (Error.InvalidByte expected actual pos)) f.new }
+/// Appends what an `InvalidByte` prints. Each byte is the character with its number.
+fn append_invalid_byte(text: &mut Text, expected: u8, actual: u8, pos: TextPos) -> fmt::Result
+    ensures { IsOk result →
+        AppendsIfIntact text.old (error_text (Error.InvalidByte expected actual pos)) text.new }
 {
-    write_bytes(f, expected, actual)?;
-    f.write_str("' at ")?;
-    write_position(f, pos)
+    let expected = char::from(expected);
+    let actual = char::from(actual);
+    write!(
+        text,
+        "expected '{expected}' not '{actual}' at {}:{}",
+        pos.row, pos.col
+    )
 }
 
-/// Writes the front of that text, up to the second byte. Each byte is the character with its
-/// number.
-#[tactic(auto, using(crate::proofs::printed::StyledWrites::styled_four))]
-fn write_bytes<W: fmt::Write>(f: &mut fmt::Formatter<W>, expected: u8, actual: u8) -> fmt::Result
-    ensures { WritesStyledOnOk W.write_str_gives f.old result
-        (codes "expected '" ++ encode_utf8 expected ++ codes "' not '" ++ encode_utf8 actual) f.new }
+/// Appends the words, the row, a colon and the column.
+fn append_at(text: &mut Text, words: &str, pos: TextPos) -> fmt::Result
+    ensures { IsOk result → AppendsIfIntact text.old (words.now ++ position_text pos) text.new }
 {
-    f.write_str("expected '")?;
-    f.write_char(char::from(expected))?;
-    f.write_str("' not '")?;
-    f.write_char(char::from(actual))
-}
-
-/// Writes the words and the position.
-#[tactic(auto, using(crate::proofs::printed::StyledWrites::styled_two))]
-fn write_at<W: fmt::Write>(f: &mut fmt::Formatter<W>, words: &str, pos: TextPos) -> fmt::Result
-    ensures { WritesStyledOnOk W.write_str_gives f.old result
-        (words.now ++ position_text pos) f.new }
-{
-    f.write_str(words)?;
-    write_position(f, pos)
-}
-
-/// Writes the row, a colon and the column.
-#[tactic(auto, using(crate::proofs::printed::StyledWrites::styled_three))]
-fn write_position<W: fmt::Write>(f: &mut fmt::Formatter<W>, pos: TextPos) -> fmt::Result
-    ensures { WritesStyledOnOk W.write_str_gives f.old result (position_text pos) f.new }
-{
-    write_decimal(f, pos.row)?;
-    f.write_str(":")?;
-    write_decimal(f, pos.col)
-}
-
-/// Writes the number in decimal digits, which are at most ten.
-fn write_decimal<W: fmt::Write>(f: &mut fmt::Formatter<W>, number: u32) -> fmt::Result
-    ensures { WritesStyledOnOk W.write_str_gives f.old result (decimal number) f.new }
-{
-    let mut digits = InlineText::<10>::new();
-    write!(digits, "{number}")?;
-    f.write_str(digits.as_str())
+    write!(text, "{words}{}:{}", pos.row, pos.col)
 }
