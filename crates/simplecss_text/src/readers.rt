@@ -48,7 +48,6 @@ pub fn pass_byte(s: &mut Stream<'_>, byte: u8) -> bool
 }
 
 /// Passes a name and gives it. Where none begins, a hyphen that stands there is passed.
-#[tactic(auto, unfolding(crate::specs::Names::name))]
 #[inline(always)]
 pub fn take_name<'a>(s: &mut Stream<'a>) -> Option<&'a str>
     ensures text { text_of s.new ≡ text_of s.old }

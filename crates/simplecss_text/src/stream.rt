@@ -55,7 +55,6 @@ impl<'a> From<&'a str> for Stream<'a> {
 
 impl<'a> Stream<'a> {
     ghost use Rattle.simplecss_text.specs.Cursor.{text_of, place_of, rest_of};
-    ghost use Rattle.simplecss_text.specs.AsciiBytes.{hyphen};
     ghost use Rattle.simplecss_text.specs.Bytes.{byte as byte_read, past, past_one, past_byte};
     ghost use Rattle.simplecss_text.specs.Characters.{is_space};
     ghost use Rattle.simplecss_text.specs.Comments.{comment, blank};
@@ -256,35 +255,17 @@ impl<'a> Stream<'a> {
     /// Passes a name, and gives it (CSS 2.1 section 4.1.3): an optional hyphen, a name start and
     /// name characters. A hyphen that ends the text is a name too. Where none begins, the error is
     /// `InvalidIdent` with the position there, and a hyphen that stands there is passed.
-    #[tactic(auto, unfolding(crate::specs::Names::name))]
     #[inline(always)]
     pub fn consume_ident(&mut self) -> Result<&'a str, Error>
         ensures text { text_of self.new ≡ text_of self.old }
         ensures reads { Gives (λ found. found.now) (text_of self.old)
             (name_read this_edition (rest_of self.old)) result (rest_of self.new) }
     {
-        let text = self.slice_tail();
-        match scan::name_len(text) {
-            Some(len) => {
-                self.advance(len);
-                Ok(&text[..len])
-            }
-            None => Err(self.no_name_error()),
+        let start = *self;
+        match readers::take_name(self) {
+            Some(name) => Ok(name),
+            None => Err(Error::InvalidIdent(start.gen_text_pos())),
         }
-    }
-
-    /// Tells that no name begins at the place, and passes a hyphen that stands there.
-    #[cold]
-    #[inline(never)]
-    fn no_name_error(&mut self) -> Error
-        ensures text { text_of self.new ≡ text_of self.old }
-        ensures rest { rest_of self.new ≡ past_byte hyphen (rest_of self.old) }
-        ensures error { result
-            ≡ Error.InvalidIdent (position_of (text_of self.old) (rest_of self.old)) }
-    {
-        let pos = self.gen_text_pos();
-        self.try_consume_byte(b'-');
-        Error::InvalidIdent(pos)
     }
 
     /// Passes a string or a name, and gives what stands between the quotes or the name. A string

@@ -1,7 +1,7 @@
 -- Names, a character at a time.
 -- Serves `scan::{begins_by_characters, wide_name_chars_len, name_len}` (where a name begins and
--- ends).
-use Rattle.std.proofs.Common.{◌≡◌, ℕ, suc, ◌+◌, ◌-◌, ◌≤◌, List, [], ◌∷◌, ◌++◌, Bool, true, false, length, drop, refl, ap, sym, ◌∙◌, arith, length-append, length-drop, encode_utf8, encode_utf8_all, drop-drop, ◌&&◌, subst, one-add, get_or, ◌<◌, inl, inr, drop-cons, lt-ltb}
+-- ends) and `readers::take_name` (a name).
+use Rattle.std.proofs.Common.{◌≡◌, ℕ, suc, ◌+◌, ◌-◌, ◌≤◌, List, [], ◌∷◌, ◌++◌, Bool, true, false, length, drop, refl, ap, sym, ◌∙◌, arith, length-append, length-drop, encode_utf8, encode_utf8_all, take, slice_range, drop-drop, ◌&&◌, subst, one-add, get_or, ◌<◌, inl, inr, drop-cons, lt-ltb}
 use Rattle.std.specs.Str.{chars, IsUtf8}
 use Rattle.std.specs.List.{take_while, prefix_len}
 use Rattle.std.specs.Char.{len_utf8}
@@ -9,9 +9,12 @@ use Rattle.std.proofs.lemmas.Str.{chars_past_char, length-encode, chars-nil, IsU
 use lib.Utf8.{encode}
 use Rattle.std.proofs.Math.Nat.{eq-or-lt_of_le}
 use Rattle.std.proofs.lemmas.List.Sums.{prefix_len-le-length, prefix_len_stops, prefix_len_is}
-use Rattle.simplecss_text.specs.Bytes.{is_ascii, starts_by}
+use Rattle.simplecss_text.specs.AsciiBytes.{hyphen}
+use Rattle.simplecss_text.specs.Reading.{no_name, got, fails, before}
+use Rattle.simplecss_text.specs.Bytes.{is_ascii, starts_by, past_byte}
 use Rattle.simplecss_text.specs.Characters.{Edition, is_name_start, is_name_char}
-use Rattle.simplecss_text.specs.Names.{begins_name, past_name_chars}
+use Rattle.simplecss_text.specs.Names.{begins_name, past_name_chars, name}
+use Rattle.simplecss_text.proofs.bytes.StringLemmas.{before-drop}
 
 -- the bytes of the characters at the front that pass
 front_len : (p : ℕ → Bool) → List ℕ → ℕ
@@ -158,3 +161,19 @@ begins_name-ascii edition (b ∷ rest) u e =
     begins : (cs : List ℕ) → is_name_start edition b ≡ true → begins_name edition (b ∷ cs) ≡ true
     begins [] s = rw s refl
     begins (c ∷ cs) s = rw s refl
+
+-- a name that has n bytes
+pub name-got : (edition : Edition) (tail text value rest : List ℕ) (n : ℕ) → tail ≡ text → n ≤ length tail → begins_name edition (chars tail) ≡ true → past_name_chars edition tail ≡ drop n tail → value ≡ slice_range tail 0 n → rest ≡ drop n text → name edition text ≡ got value rest
+unfolding name
+name-got edition tail text value rest n e within begins run is left =
+    let shown : slice_range tail 0 n ≡ take n tail = ap (λ k. take k tail) (omega arith) in
+    let found : name edition tail ≡ got (before tail (past_name_chars edition tail)) (past_name_chars edition tail) = rw begins refl in
+    ap (name edition) (sym e) ∙ found ∙ ap (λ k. got (before tail k) k) run
+    ∙ ap (λ v. got v (drop n tail)) (before-drop tail n within ∙ sym (is ∙ shown)) ∙ ap (got value) (ap (drop n) e ∙ sym left)
+
+-- no name begins there
+pub name-none : (edition : Edition) (tail text rest : List ℕ) → tail ≡ text → begins_name edition (chars tail) ≡ false → rest ≡ past_byte hyphen text → name edition text ≡ fails (no_name text) rest
+unfolding name
+name-none edition tail text rest e begins left =
+    let none : begins_name edition (chars text) ≡ false = ap (λ t. begins_name edition (chars t)) (sym e) ∙ begins in
+    rw none (ap (fails (no_name text)) (sym left))

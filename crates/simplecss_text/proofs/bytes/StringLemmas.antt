@@ -1,12 +1,12 @@
 -- Strings.
--- Serves `readers::take_string` (a string up to its closing quote).
+-- Serves `readers::take_string` (a string up to its closing quote) and `readers::take_name` (a name).
 use Rattle.std.proofs.Common.{◌≡◌, ℕ, ◌+◌, ◌-◌, ◌<◌, ◌≤◌, List, length, take, drop, Some, arith, refl, ap, ◌∙◌, length-drop, add-one, drop-cons}
 use Rattle.simplecss_text.specs.Reading.{got, before}
 use Rattle.simplecss_text.specs.Bytes.{past_one}
 use Rattle.simplecss_text.specs.Strings.{from_quote, string_up_to, string_after}
 
 -- what stands before the last bytes
-before-drop : (text : List ℕ) (n : ℕ) → n ≤ length text → before text (drop n text) ≡ take n text
+pub before-drop : (text : List ℕ) (n : ℕ) → n ≤ length text → before text (drop n text) ≡ take n text
 before-drop text n h =
     let len : length text - length (drop n text) ≡ n = omega (arith, length-drop n text) in
     ap (λ k. take k text) len
