@@ -69,7 +69,6 @@ pub fn take_name<'a>(s: &mut Stream<'a>) -> Option<&'a str>
 
 /// Passes the rest of a string behind its opening quote, and gives what stands before the closing
 /// one. A string that is not closed takes the whole text.
-#[tactic(auto, using(crate::proofs::bytes::StringLemmas::string_after_closed))]
 #[inline(always)]
 pub fn take_string<'a>(s: &mut Stream<'a>, quote: u8) -> Option<&'a str>
     requires { quote < 128 }

@@ -1,4 +1,4 @@
-use Rattle.std.proofs.Common.{◌≡◌, ℕ, List, ◌++◌, ◌∙◌, sym, ap, length, drop, encode_utf8, true, false}
+use Rattle.std.proofs.Common.{◌≡◌, ℕ, List, ◌++◌, ◌∙◌, refl, sym, ap, arith, length, drop, encode_utf8, true, false}
 use Rattle.std.specs.Str.Iter.{chars_rest}
 use Rattle.std.proofs.lemmas.Str.{IsUtf8-had, IsCharBoundary-from_drop}
 use Rattle.simplecss_text.specs.Characters.{is_name_char}
@@ -37,4 +37,16 @@ returns-then-not-is_name_char-clause-len c =
 pub returns-then-not-is_name_char-clause-boundary :
     goal.returns-then-not-is_name_char-clause-boundary
 returns-then-not-is_name_char-clause-boundary c =
+    IsCharBoundary-from_drop c.args.text.now c.loop-c.len c.loop-c.invariant.within (IsUtf8-had (drop c.loop-c.len c.args.text.now) c.loop-c.invariant.utf8)
+
+pub loop-c-init : goal.loop-c-init
+loop-c-init c = record {
+  within = omega arith;
+  rest = sym (ap chars_rest c.into_iter-c-iterator.ensures.into_iter_gives ∙ c.chars-c-items.ensures.rest);
+  utf8 = ∣ c.utf8.text ∣₁;
+  run = refl;
+}
+
+pub returns-in-None-clause-boundary : goal.returns-in-None-clause-boundary
+returns-in-None-clause-boundary c =
     IsCharBoundary-from_drop c.args.text.now c.loop-c.len c.loop-c.invariant.within (IsUtf8-had (drop c.loop-c.len c.args.text.now) c.loop-c.invariant.utf8)
