@@ -148,16 +148,18 @@ impl<'a> Stream<'a> {
         ensures reads { Gives (λ u. u) (text_of self.old) (byte_read c (rest_of self.old))
             result (rest_of self.new) }
     {
-        let actual = self.curr_byte()?;
-        if actual != c {
-            return Err(Error::InvalidByte {
+        match readers::peek(self) {
+            Some(actual) if actual != c => Err(Error::InvalidByte {
                 expected: c,
                 actual,
                 pos: self.gen_text_pos(),
-            });
+            }),
+            Some(_) => {
+                readers::pass_ascii(self);
+                Ok(())
+            }
+            None => Err(Error::UnexpectedEndOfStream),
         }
-        readers::pass_ascii(self);
-        Ok(())
     }
 
     /// Passes the byte, which is ASCII, if it stands at the place.
@@ -280,13 +282,12 @@ impl<'a> Stream<'a> {
         ensures reads { Gives (λ value. value.now) (text_of self.old)
             (string_or_name this_edition (rest_of self.old)) result (rest_of self.new) }
     {
-        let quote = self.curr_byte()?;
-        if quote != b'\'' && quote != b'"' {
-            return self.consume_ident();
-        }
-        readers::pass_ascii(self);
-        match readers::take_string(self, quote) {
-            Some(value) => Ok(value),
+        match readers::peek(self) {
+            Some(quote @ (b'\'' | b'"')) => {
+                readers::pass_ascii(self);
+                readers::take_string(self, quote).ok_or(Error::UnexpectedEndOfStream)
+            }
+            Some(_) => self.consume_ident(),
             None => Err(Error::UnexpectedEndOfStream),
         }
     }
