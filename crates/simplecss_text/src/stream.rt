@@ -250,8 +250,7 @@ impl<'a> Stream<'a> {
         ensures reads { Gives (λ u. u) (text_of self.old) (blank (rest_of self.old))
             result (rest_of self.new) }
     {
-        let _spaced = readers::consume_gap(self)?;
-        Ok(())
+        readers::consume_gap(self).and(Ok(()))
     }
 
     /// Passes a name, and gives it (CSS 2.1 section 4.1.3): an optional hyphen, a name start and
