@@ -1,8 +1,8 @@
 //! Where things end in a text. Each function answers a number of bytes, at which the text may be
 //! cut.
-ghost use Rattle.std.specs.Prelude.{◌≡◌, ℕ, ◌+◌, ◌-◌, ◌<◌, ◌&&◌, ◌||◌, ◌==◌, length, drop, true};
+ghost use Rattle.std.specs.Prelude.{◌≡◌, ◌+◌, ◌-◌, ◌<◌, ◌&&◌, ◌||◌, ◌==◌, length, drop, true};
 ghost use Rattle.std.specs.Prelude.{false, None, Some, MatchOption, IfSome, IsTrue, slice_index};
-ghost use Rattle.std.specs.Prelude.{EachIndex, chars};
+ghost use Rattle.std.specs.Prelude.{chars};
 ghost use Rattle.std.specs.Str.{IsCharBoundary};
 ghost use Rattle.std.specs.List.{prefix_len};
 ghost use Rattle.simplecss_text.specs.AsciiBytes.{slash};
@@ -177,19 +177,16 @@ fn is_ascii_name_char(byte: u8) -> bool
     BYTES[usize::from(byte)] & NAME_CHAR != 0
 }
 
-/// Where the first byte stands that is no ASCII name character, if there is one.
+/// How many ASCII name characters stand at the front.
 #[inline(always)]
-fn ascii_name_end(bytes: &[u8]) -> Option<usize>
-    ensures none { result ≡ None → EachIndex bytes.now
-        (λ k. (is_ascii (slice_index bytes.now k)
-        && is_name_char_of this_edition (slice_index bytes.now k)) ≡ true) }
-    ensures some { IfSome result (λ n. (n < length bytes.now)
-        × ((is_ascii (slice_index bytes.now n)
-        && is_name_char_of this_edition (slice_index bytes.now n)) ≡ false)
-        × ((k : ℕ) → k < n → (is_ascii (slice_index bytes.now k)
-        && is_name_char_of this_edition (slice_index bytes.now k)) ≡ true)) }
+fn ascii_name_len(bytes: &[u8]) -> usize
+    ensures { result
+        ≡ prefix_len (λ b. is_ascii b && is_name_char_of this_edition b) bytes.now }
 {
-    bytes.iter().position(|byte| !is_ascii_name_char(*byte))
+    bytes
+        .iter()
+        .take_while(|byte| is_ascii_name_char(**byte))
+        .count()
 }
 
 /// How many bytes the longest run of name characters at the front has, a character at a time.
@@ -215,10 +212,11 @@ fn name_chars_len(text: &str) -> usize
     ensures boundary { IsCharBoundary text.now result }
 {
     let bytes = text.as_bytes();
-    match ascii_name_end(bytes) {
-        Some(len) if bytes[len] < 128 => len,
-        Some(_) => wide_name_chars_len(text),
-        None => text.len(),
+    let len = ascii_name_len(bytes);
+    if len < bytes.len() && bytes[len] >= 128 {
+        wide_name_chars_len(text)
+    } else {
+        len
     }
 }
 

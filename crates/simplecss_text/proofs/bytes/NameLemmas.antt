@@ -1,19 +1,20 @@
 -- Names, a character at a time.
 -- Serves `scan::{begins_by_characters, wide_name_chars_len, name_len}` (where a name begins and
 -- ends) and `readers::take_name` (a name).
-use Rattle.std.proofs.Common.{◌≡◌, ℕ, suc, ◌+◌, ◌-◌, ◌≤◌, List, [], ◌∷◌, ◌++◌, Bool, true, false, length, drop, refl, ap, sym, ◌∙◌, arith, length-append, length-drop, encode_utf8, encode_utf8_all, take, slice_range, drop-drop, ◌&&◌, subst, one-add, get_or, ◌<◌, inl, inr, drop-cons, lt-ltb}
-use Rattle.std.specs.Str.{chars, IsUtf8}
+use Rattle.std.proofs.Common.{◌≡◌, ℕ, suc, ◌+◌, ◌-◌, ◌≤◌, List, [], ◌∷◌, ◌++◌, Bool, true, false, length, drop, refl, ap, sym, ◌∙◌, arith, length-append, length-drop, encode_utf8, encode_utf8_all, take, slice_range, drop-drop, ◌&&◌, subst, one-add, get_or, ◌<◌, inl, inr, drop-cons, lt-ltb, ltb-true}
+use Rattle.std.specs.Str.{chars, IsUtf8, IsCharBoundary}
 use Rattle.std.specs.List.{take_while, prefix_len}
 use Rattle.std.specs.Char.{len_utf8}
 use Rattle.std.proofs.lemmas.Str.{chars_past_char, length-encode, chars-nil, IsUtf8-past_char, drop_past_char, len_utf8_bounds}
 use lib.Utf8.{encode}
 use Rattle.std.proofs.Math.Nat.{eq-or-lt_of_le}
-use Rattle.std.proofs.lemmas.List.Sums.{prefix_len-le-length, prefix_len_stops, prefix_len_is}
+use Rattle.std.proofs.lemmas.List.Sums.{prefix_len-le-length, prefix_len_stops}
 use Rattle.simplecss_text.specs.AsciiBytes.{hyphen}
 use Rattle.simplecss_text.specs.Reading.{no_name, got, fails, before}
 use Rattle.simplecss_text.specs.Bytes.{is_ascii, starts_by, past_byte}
 use Rattle.simplecss_text.specs.Characters.{Edition, is_name_start, is_name_char}
 use Rattle.simplecss_text.specs.Names.{begins_name, past_name_chars, name}
+use Rattle.simplecss_text.proofs.bytes.CutLemmas.{IsCharBoundary-prefix_len}
 use Rattle.simplecss_text.proofs.bytes.StringLemmas.{before-drop}
 
 -- the bytes of the characters at the front that pass
@@ -145,11 +146,15 @@ passed-stops edition text u ascii =
 
 -- The run of name characters ends behind ASCII ones, at the end of the text or before another ASCII
 -- byte.
-pub past_name_chars-at : (edition : Edition) (text : List ℕ) (n : ℕ) → IsUtf8 text → n ≤ length text → ((k : ℕ) → k < n → is_ascii_name_char edition (get_or text k 0) ≡ true)
-    → (n < length text → (is_ascii_name_char edition (get_or text n 0) ≡ false) × (get_or text n 0 < 128)) → past_name_chars edition text ≡ drop n text
-past_name_chars-at edition text n u within passes stops =
-    let run : prefix_len (is_ascii_name_char edition) text ≡ n = prefix_len_is (is_ascii_name_char edition) text n 0 within passes (λ h. (stops h).0) in
-    passed-stops edition text u (subst (λ (i : ℕ). i < length text → get_or text i 0 < 128) (sym run) (λ h. (stops h).1)) ∙ ap (λ i. drop i text) run
+pub past_name_chars-at : (edition : Edition) (text : List ℕ) (n : ℕ) → IsUtf8 text → n ≡ prefix_len (is_ascii_name_char edition) text → (n < length text → get_or text n 0 < 128) → past_name_chars edition text ≡ drop n text
+past_name_chars-at edition text n u is small =
+    passed-stops edition text u (subst (λ (i : ℕ). i < length text → get_or text i 0 < 128) is small) ∙ ap (λ i. drop i text) (sym is)
+
+-- a text may be cut behind ASCII name characters
+pub boundary_past_ascii_name : (edition : Edition) (text : List ℕ) (n : ℕ) → IsUtf8 text → n ≡ prefix_len (is_ascii_name_char edition) text → IsCharBoundary text n
+boundary_past_ascii_name edition text n u is =
+    let ascii : (b : ℕ) → is_ascii_name_char edition b ≡ true → b < 128 = λ b e. ltb-true b 128 (and_left (is_ascii b) (is_name_char edition b) e) in
+    subst (λ (i : ℕ). IsCharBoundary text i) (sym is) (IsCharBoundary-prefix_len (is_ascii_name_char edition) ascii text u)
 
 -- a name begins with an ASCII name start
 pub begins_name-ascii : (edition : Edition) (text : List ℕ) → IsUtf8 text → starts_by (λ b. is_ascii b && is_name_start edition b) text ≡ true → begins_name edition (chars text) ≡ true

@@ -1,15 +1,24 @@
-use Rattle.std.proofs.Common.{arith, length, refl}
+use Rattle.std.proofs.Common.{◌≡◌, ◌<◌, ◌∙◌, List, ℕ, ap, arith, length, get_or}
+use Rattle.std.specs.List.{prefix_len}
 use Rattle.simplecss_text.specs.ThisEdition.{this_edition}
-use Rattle.simplecss_text.proofs.bytes.NameLemmas.{past_name_chars-at}
+use Rattle.simplecss_text.proofs.bytes.NameLemmas.{is_ascii_name_char, past_name_chars-at, boundary_past_ascii_name}
 use Rattle.simplecss_text.proofs.scan.name_chars_len.Goals as goal
+use Rattle.simplecss_text.proofs.scan.name_chars_len.Goals.{else-len-bytes-via-then-len-bytes+else-bytes-len-ge128, else-len-bytes-via-else-len-bytes}
 
-pub returns-in-Some-clause-len : goal.returns-in-Some-clause-len
-returns-in-Some-clause-len c =
-    let end = rw c.as_bytes-bytes.ensures.value at c.in-Some.ensures.some in
-    let small = rw c.as_bytes-bytes.ensures.value at c.if-bytes-len-lt128.true in
-    past_name_chars-at this_edition c.args.text.now c.in-Some.len c.utf8.text (omega arith) end.2 (λ h. (end.1, small))
+-- behind the ASCII name characters the text ends, or an ASCII byte stands
+pub returns-else-len-bytes-clause-len : goal.returns-else-len-bytes-clause-len
+returns-else-len-bytes-clause-len c =
+    let value = c.as_bytes-bytes.ensures.value in
+    let lengths = ap (λ (bytes : List ℕ). length bytes) value in
+    let is = c.ascii_name_len-len.ensures ∙ ap (prefix_len (is_ascii_name_char this_edition)) value in
+    let small : c.ascii_name_len-len.result < length c.args.text.now → get_or c.args.text.now c.ascii_name_len-len.result 0 < 128
+    = λ h. elim c.else-len-bytes.branch [
+      | else-len-bytes-via-then-len-bytes+else-bytes-len-ge128 w ↦ rw value at w.if-bytes-len-ge128.false
+      | else-len-bytes-via-else-len-bytes w ↦ absurd (omega arith)
+    ] in
+    past_name_chars-at this_edition c.args.text.now c.ascii_name_len-len.result c.utf8.text is small
 
-pub returns-in-None-clause-len : goal.returns-in-None-clause-len
-returns-in-None-clause-len c =
-    let all = rw c.as_bytes-bytes.ensures.value at c.in-None.ensures.none in
-    past_name_chars-at this_edition c.args.text.now (length c.args.text.now) c.utf8.text (omega arith) (all refl) (λ h. absurd (omega arith))
+pub returns-else-len-bytes-clause-boundary : goal.returns-else-len-bytes-clause-boundary
+returns-else-len-bytes-clause-boundary c =
+    boundary_past_ascii_name this_edition c.args.text.now c.ascii_name_len-len.result c.utf8.text
+    (c.ascii_name_len-len.ensures ∙ ap (prefix_len (is_ascii_name_char this_edition)) c.as_bytes-bytes.ensures.value)
