@@ -102,10 +102,7 @@ impl<'a> Stream<'a> {
         ensures { MatchResult result (λ b. rest_of self.now ≡ b ∷ past_one (rest_of self.now))
             (λ e. (rest_of self.now ≡ []) × (e ≡ Error.UnexpectedEndOfStream)) }
     {
-        match readers::peek(self) {
-            Some(byte) => Ok(byte),
-            None => Err(Error::UnexpectedEndOfStream),
-        }
+        readers::peek(self).ok_or(Error::UnexpectedEndOfStream)
     }
 
     /// The byte at the place, which is not the end of the text.
