@@ -301,18 +301,13 @@ impl<'a> Stream<'a> {
         let text = self.slice_tail();
         if !scan::opens_comment(text) {
             self.try_consume_byte(b'/');
-            return Err(Error::InvalidComment(start.gen_text_pos()));
+        } else if let Some(len) = scan::close_len(&text[2..]) {
+            self.advance(2 + len);
+            return Ok(());
+        } else {
+            self.jump_to_end();
         }
-        match scan::close_len(&text[2..]) {
-            Some(len) => {
-                self.advance(2 + len);
-                Ok(())
-            }
-            None => {
-                self.jump_to_end();
-                Err(Error::InvalidComment(start.gen_text_pos()))
-            }
-        }
+        Err(Error::InvalidComment(start.gen_text_pos()))
     }
 
     /// The position of the place, whose row and column begin at 1.
