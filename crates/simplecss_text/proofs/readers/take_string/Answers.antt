@@ -1,4 +1,3 @@
-use Rattle.std.proofs.Common.{refl}
 use Rattle.simplecss_text.specs.Cursor.{rest_of}
 use Rattle.simplecss_text.proofs.bytes.StringLemmas.{string-got, string-none}
 use Rattle.simplecss_text.proofs.readers.take_string.Goals as goal

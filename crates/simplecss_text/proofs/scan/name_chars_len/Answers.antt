@@ -1,4 +1,4 @@
-use Rattle.std.proofs.Common.{◌≡◌, ◌<◌, ◌∙◌, List, ℕ, ap, arith, length, get_or}
+use Rattle.std.proofs.Common.{◌<◌, ◌∙◌, List, ℕ, ap, arith, length, get_or}
 use Rattle.std.specs.List.{prefix_len}
 use Rattle.simplecss_text.specs.ThisEdition.{this_edition}
 use Rattle.simplecss_text.proofs.bytes.NameLemmas.{is_ascii_name_char, past_name_chars-at, boundary_past_ascii_name}
