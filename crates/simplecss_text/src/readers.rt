@@ -78,9 +78,9 @@ pub fn take_string<'a>(s: &mut Stream<'a>, quote: u8) -> Option<&'a str>
 {
     let text = s.slice_tail();
     match scan::string_len(text, quote) {
-        Some(len) => {
-            s.advance(len + 1);
-            Some(&text[..len])
+        Some(closing) => {
+            s.advance(closing + 1);
+            Some(&text[..closing])
         }
         None => {
             s.jump_to_end();
