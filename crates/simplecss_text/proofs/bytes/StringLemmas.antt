@@ -1,7 +1,8 @@
 -- Strings.
--- Serves `readers::take_string` (a string up to its closing quote) and `readers::take_name` (a
--- name).
-use Rattle.std.proofs.Common.{◌≡◌, ℕ, ◌+◌, ◌-◌, ◌<◌, ◌≤◌, List, [], length, take, drop, slice_range, Some, None, arith, refl, ap, sym, ◌∙◌, length-drop, add-one, drop-cons}
+-- Serves `readers::take_string` and `scan::quote_place` (a string up to its closing quote), and
+-- `readers::take_name` (a name).
+use Rattle.std.proofs.Common.{◌≡◌, ℕ, ◌+◌, ◌-◌, ◌<◌, ◌≤◌, List, [], length, take, drop, slice_range, Some, None, arith, refl, ap, sym, ◌∙◌, get_or, ◌⊎◌, length-drop, add-one, drop-cons}
+use Rattle.std.proofs.lemmas.Bool.Decides.{nat_tests}
 use Rattle.simplecss_text.specs.Reading.{ended, got, fails, before}
 use Rattle.simplecss_text.specs.Bytes.{past_one}
 use Rattle.simplecss_text.specs.Strings.{from_quote, string_up_to, string_after}
@@ -31,3 +32,7 @@ string-got quote n tail text value rest e within closing is left =
 pub string-none : (quote : ℕ) (tail text rest : List ℕ) → tail ≡ text → from_quote quote quote tail ≡ None → rest ≡ [] → string_after quote text ≡ fails ended rest
 string-none quote tail text rest e none left =
     ap (string_after quote) (sym e) ∙ ap (string_up_to tail) none ∙ ap (fails ended) (sym left)
+
+-- a byte that closes no string is passed
+pub from_quote-passes : (quote previous : ℕ) (bytes : List ℕ) (n : ℕ) → n < length bytes → ((get_or bytes n 0 ≡ quote) × (previous ≡ 92)) ⊎ (get_or bytes n 0 ≡ quote → ⊥) → from_quote quote previous (drop n bytes) ≡ from_quote quote (get_or bytes n 0) (drop (n + 1) bytes)
+from_quote-passes quote previous bytes n h passes = rw (drop-cons bytes n 0, add-one) (grind (arith, nat_tests))
