@@ -60,9 +60,6 @@ module _ {number : ℕ} {all rest before : List (List ℕ)} (passed : Passed num
   told : (fault : TreeFault) → field_fault number before field ≡ Some fault → Some fault ≡ slice_get (field_faults number all) 0
   told fault e = sym (ap (λ l. slice_get l 0) (passed.same ∙ ap (faults_behind number before) is) ∙ first_of number before field others fault _ e)
 
-  pub no_equals : has_equals field ≡ false → Some (NoEquals number) ≡ slice_get (field_faults number all) 0
-  no_equals none = told (NoEquals number) (grind (arith, none))
-
   pub repeated : has_equals field ≡ true → has_key before (key_of field) ≡ true → Some (RepeatedKey number) ≡ slice_get (field_faults number all) 0
   repeated some there = told (RepeatedKey number) (grind (arith, some, there))
 

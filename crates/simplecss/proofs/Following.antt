@@ -12,7 +12,7 @@ use Rattle.simplecss.specs.Chains.{selectors_of, IsLastBefore, earlier_at, AreCh
 use Rattle.simplecss.specs.declared.index.rule_index.Link.{Link}
 use Rattle.simplecss.specs.declared.index.lasts.Lasts.{Lasts}
 use Rattle.simplecss.specs.SelectorPlaces.{key_at, Adds}
-use Rattle.simplecss.proofs.Adding.{contains_none, adds_none, adds_one, adds_then, adds_as}
+use Rattle.simplecss.proofs.Adding.{adds_none, adds_one, adds_then, adds_as}
 
 -- how far a chain goes on from here
 abbrev pub end_of : Option ℕ → ℕ
@@ -89,9 +89,6 @@ module _ (selectors : List (List Component)) where
   -- the places before one of the starts, with its key
   abbrev pub Behind : List ℕ → ℕ → Type 0
   Behind starts other = (place : ℕ) × Contains starts place × (other < place) × (key_at selectors other ≡ key_at selectors place)
-
-  pub no_chain : (old : List ℕ) → Adds old old (Behind [])
-  no_chain old = adds_none old (Behind []) (λ other h. contains_none h.0 h.1)
 
   pub one_chain : (starts old new more : List ℕ) (place : ℕ) → Adds old new (Behind starts) → Adds new more (λ other. (other < place) × (key_at selectors other ≡ key_at selectors place)) → Adds old more (Behind (starts ++ place ∷ []))
   one_chain starts old new more place before next = adds_as old more (λ other. (there other, back other)) (adds_then old new more before next)

@@ -39,10 +39,10 @@ one_byte false = refl
 -- one more of the byte stands before the next place, if it stands here
 pub count_of-more : (byte : ℕ) (text : List ℕ) (place : ℕ) → place < length text → count_of byte (take place text) + bool_byte (get_or text place 0 == byte) ≡ count_of byte (take (place + 1) text)
 count_of-more byte text place within = sym (
-  ap (count_of byte) (take_more text place 0 within)
-  ∙ sum_by-append (λ b. cond (b == byte) 1 0) (take place text) (get_or text place 0 ∷ [])
-  ∙ ap (λ n. count_of byte (take place text) + n) (one_byte (get_or text place 0 == byte))
-)
+    ap (count_of byte) (take_more text place 0 within)
+    ∙ sum_by-append (λ b. cond (b == byte) 1 0) (take place text) (get_or text place 0 ∷ [])
+    ∙ ap (λ n. count_of byte (take place text) + n) (one_byte (get_or text place 0 == byte))
+    )
 
 same_test : (a b c d : ℕ) → (a ≡ b → c ≡ d) → (c ≡ d → a ≡ b) → (a == b) ≡ (c == d)
 same_test a b c d there back = by (a == b) (c == d) refl refl

@@ -3,7 +3,7 @@
 -- printed and read again).
 use Rattle.std.proofs.Common.{false, ℕ, ◌≡◌, List, [], ◌∷◌, ◌++◌, false, filter, IsUtf8}
 use Rattle.std.specs.List.{AllByRecursion, All}
-use Rattle.std.proofs.lemmas.List.Elements.{All-nil, All-push, All-append, All-weaker, All-filter, All-from_recursion, recursion_from_All}
+use Rattle.std.proofs.lemmas.List.Elements.{All-append, All-weaker, All-filter, All-from_recursion, recursion_from_All}
 use Rattle.simplecss_text.specs.Characters.{Edition}
 use Rattle.simplecss_text.specs.Declarations.{StyleDeclaration, declaration}
 use Rattle.simplecss_text.specs.Statements.{StyleRule, has_declaration, kept}
@@ -57,10 +57,6 @@ pub sheet-reads_back : (edition : Edition) (texts : List (List ℕ)) → All IsU
 sheet-reads_back edition texts u =
     from_each edition (sheet edition texts) (All-from_recursion (ReadsBackAsKept edition) (sheet edition texts)
     (kept-both edition Anything (sheet edition texts) (sheet-are edition IsUtf8 Anything (texts-known edition) texts (recursion_from_All IsUtf8 texts u))))
-
--- So do those of the sheet of one text.
-pub text-reads_back : (edition : Edition) (text : List ℕ) → IsUtf8 text → SelectorsReadBack edition (sheet edition (text ∷ []))
-text-reads_back edition text u = sheet-reads_back edition (text ∷ []) (All-push IsUtf8 [] text (All-nil IsUtf8) u)
 
 -- So do those of a sheet into which one more text was read.
 pub more-reads_back : (edition : Edition) (rules : List StyleRule) (text : List ℕ) → SelectorsReadBack edition rules → IsUtf8 text → SelectorsReadBack edition (ordered (filter has_declaration rules ++ kept edition text))

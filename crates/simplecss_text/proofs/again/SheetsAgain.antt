@@ -3,7 +3,7 @@
 -- again).
 use Rattle.std.proofs.Common.{subst, ◌≡◌, ℕ, List, [], ◌∷◌, ◌++◌, Bool, true, false, if◌then◌else◌, ◌==◌, length, map, filter, refl, sym, ap, ◌∙◌, append-nil, Option, Some, None}
 use Rattle.std.specs.List.{flat_map, AllByRecursion, All}
-use Rattle.std.proofs.lemmas.List.Elements.{All-nil, All-push, All-from_recursion, recursion_from_All}
+use Rattle.std.proofs.lemmas.List.Elements.{All-push, All-from_recursion, recursion_from_All}
 use Rattle.simplecss_text.specs.Reading.{each, followed_by}
 use Rattle.simplecss_text.specs.Characters.{Edition}
 use Rattle.simplecss_text.specs.Declarations.{StyleDeclaration}
@@ -124,10 +124,6 @@ sheet-prints_back edition texts narrow =
       each_rule = All-from_recursion (λ rule. is_clean rule.components ≡ true → RuleReadsBack edition rule) rules (each-rule edition rules are);
       whole = λ clean. ordered-again edition rules (all-printable edition rules are clean) ∙ ordered_twice is_smaller smaller_order (flat_map (kept edition) texts);
     }
-
--- So does one that was read from one text.
-pub text-prints_back : (edition : Edition) (text : List ℕ) → IsNarrow text → PrintsBack edition (sheet edition (text ∷ []))
-text-prints_back edition text narrow = sheet-prints_back edition (text ∷ []) (All-push IsNarrow [] text (All-nil IsNarrow) narrow)
 
 -- So does one into which one more text was read.
 pub prints_back-after : (edition : Edition) (old : List StyleRule) (text : List ℕ) (new : List StyleRule) → ((texts : List (List ℕ)) → old ≡ sheet edition texts → new ≡ sheet edition (texts ++ text ∷ [])) → PrintsBackAfter edition old text new

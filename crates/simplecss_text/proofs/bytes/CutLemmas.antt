@@ -6,7 +6,7 @@ use Rattle.std.specs.Str.{IsUtf8, IsCharBoundary}
 use Rattle.std.specs.List.{prefix_len}
 use Rattle.std.proofs.Math.Nat.{eq-or-lt_of_le}
 use Rattle.std.proofs.lemmas.Bool.Decides.{nat_tests, leb_tells}
-use Rattle.std.proofs.lemmas.List.Sums.{prefix_len-le-length, prefix_len_passes, prefix_len_stops}
+use Rattle.std.proofs.lemmas.List.Sums.{prefix_len-le-length, prefix_len_passes}
 use Rattle.std.proofs.lemmas.Str.{IsUtf8-had, IsCharBoundary-after_ascii, IsCharBoundary-start, lead_after_ascii, IsUtf8-drop}
 use Rattle.simplecss_text.specs.Bytes.{starts_by, starts_two, is_ascii}
 use Rattle.simplecss_text.specs.Characters.{is_space}
@@ -28,15 +28,6 @@ IsCharBoundary-prefix_len p ascii text u = by (prefix_len p text) refl
         let le : prefix_len p text ≤ length text = prefix_len-le-length p text in
         let last : slice_index text (prefix_len p text - 1) < 128 = ascii _ (prefix_len_passes p text (prefix_len p text - 1) 0 (omega arith)) in
         IsCharBoundary-behind text (prefix_len p text) u (omega arith) le last
-
--- before an ASCII byte that ends a run, or at the end
-pub IsCharBoundary-stops : (p : ℕ → Bool) → ((b : ℕ) → p b ≡ false → b < 128) → (text : List ℕ) → IsCharBoundary text (prefix_len p text)
-IsCharBoundary-stops p ascii text = (
-  prefix_len-le-length p text,
-  λ h big.
-      let small : slice_index text (prefix_len p text) < 128 = ascii (slice_index text (prefix_len p text)) (prefix_len_stops p text 0 h) in
-      absurd (omega arith),
-)
 
 pub is_space-ascii : (b : ℕ) → is_space b ≡ true → b < 128
 is_space-ascii b e = grind (arith, nat_tests)
