@@ -55,6 +55,18 @@ const PRINTED: &[(Error, &str)] = &[
         },
         "expected ']' not '\u{C3}' at 2:4",
     ),
+    // The longest of all.
+    (
+        Error::InvalidByte {
+            expected: 0xC3,
+            actual: 0xFF,
+            pos: TextPos {
+                row: u32::MAX,
+                col: u32::MAX,
+            },
+        },
+        "expected '\u{C3}' not '\u{FF}' at 4294967295:4294967295",
+    ),
     (Error::SelectorMissing, "selector missing"),
     (Error::UnexpectedSelector, "unexpected selector"),
     (Error::UnexpectedCombinator, "unexpected combinator"),

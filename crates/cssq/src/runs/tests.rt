@@ -20,6 +20,11 @@ const TOLD: &[(RunFault, u8, &str)] = &[
         1,
         "cssq: tree fault 4 at line 1200",
     ),
+    (
+        RunFault::Tree(TreeFault::RepeatedKey(usize::MAX)),
+        1,
+        "cssq: tree fault 4 at line 18446744073709551615",
+    ),
     (RunFault::Memory, 3, "cssq: want of memory"),
     (RunFault::Output, 4, "cssq: cannot write"),
 ];
