@@ -1,7 +1,7 @@
 pub use Rattle.simplecss_text.proofs.printed.StyledWrites
 pub mod Joins
 pub mod ListLemmas
-pub mod DeclarationEquality
+pub mod RuleEquality
 pub mod SheetLemmas
 pub mod StatementLemmas
 pub mod StatementPlaces

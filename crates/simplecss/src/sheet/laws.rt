@@ -11,9 +11,9 @@ ghost use Rattle.simplecss_text.specs.Editions.{IsCommon, KeepsInBoth};
 ghost use Rattle.simplecss_text.specs.ThisEdition.{this_edition};
 ghost use Rattle.simplecss_declaration.specs.SeenDeclarations.{declaration_of};
 ghost use Rattle.simplecss.specs.RulePlaces.{ComesBefore};
-ghost use Rattle.simplecss.specs.SeenRules.{rule_of};
+ghost use Rattle.simplecss.specs.SeenRules.{rule_of, rules_in};
 
-use crate::sheet::Rule;
+use crate::sheet::{Rule, StyleSheet};
 use simplecss_declaration::Declaration;
 
 /// The order of the rules in a style sheet: each is kept and stands at its rank, which is the
@@ -62,11 +62,15 @@ pub fn edition_law()
     ensures { (text : List ℕ) → IsCommon text → KeepsInBoth text }
 {}
 
-/// Two rules are equal exactly if their selectors and their declarations are, and two declarations,
-/// if their names, their values and whether they are important are.
+/// Two rules are equal exactly if their selectors and their declarations are, the rules of two style
+/// sheets, if each is in its turn, and two declarations, if their names, their values and whether
+/// they are important are.
 pub fn equality_laws()
     ensures rules { (a b : Rule) → IsTrue (⟦<Rule<'static> as PartialEq>⟧.eq a b)
         ↔ (rule_of a ≡ rule_of b) }
+    ensures sheets { (a b : StyleSheet)
+        → IsTrue (⟦<Vec<Rule<'static>> as PartialEq>⟧.eq a.rules b.rules)
+        ↔ (rules_in a ≡ rules_in b) }
     ensures declarations { (a b : Declaration)
         → IsTrue (⟦<Declaration<'static> as PartialEq>⟧.eq a b)
         ↔ (declaration_of a ≡ declaration_of b) }
