@@ -2,25 +2,26 @@
 //! declarations win there.
 #![tactic(auto)]
 
+mod notice;
+
 use cssq::command::{Command, USAGE};
 use cssq::runs::{RunFault, run_match, run_selector, run_sheet, run_style};
 use log::Log;
 use log::sink::Writer;
-use simplecss_faults::{Notice, tell_faults};
-use std::io::{BufWriter, Read, Stderr, Write};
+use notice::Notice;
+use simplecss_faults::tell_faults;
+use std::io::{BufWriter, Stderr, Write};
 use std::process::ExitCode;
 use std::{env, fs, io};
 
-/// The words after the program's name.
-fn words(rt: &HostRuntime) -> Option<Vec<String>> {
-    env::args(rt).ok()?.skip(1).collect(rt.alloc()).ok()
+/// The words of the command line, the program's name the first of them.
+fn all_words(rt: &HostRuntime) -> Option<Vec<String>> {
+    env::args(rt).ok()?.collect(rt.alloc()).ok()
 }
 
 /// All of standard input, as text.
 fn read_input(rt: &HostRuntime) -> Option<String> {
-    let mut bytes = Vec::new(rt.alloc());
-    rt.reader().read_to_end(&mut bytes).ok()?;
-    String::from_utf8(bytes).ok()
+    io::read_to_string(rt.alloc(), rt.reader()).ok()
 }
 
 /// All of a file, as text.
@@ -107,72 +108,51 @@ fn show_sheet(rt: &HostRuntime, names: &[String]) -> ExitCode {
         Ok(owned) => owned,
         Err(code) => return code,
     };
-    let Ok(texts) = owned.iter().map(|text| text.as_str()).collect(rt.alloc()) else {
-        return ended(rt, Err(RunFault::Memory));
-    };
-    let texts: Vec<&str> = texts;
+    let mut texts = Vec::new(rt.alloc());
+    for text in owned.iter() {
+        if texts.push(text.as_str()).is_err() {
+            return ended(rt, Err(RunFault::Memory));
+        }
+    }
     show_texts(rt, names, texts.as_slice())
 }
 
-/// Shows which rules of the file's sheet take each element of the tree.
-fn show_match(rt: &HostRuntime, file: &str, tree: &str) -> ExitCode {
+/// Shows, for each element of the tree, which rules of the file's sheet take it or, where a name is
+/// given, which declaration of that name wins there.
+fn show_elements(rt: &HostRuntime, file: &str, tree: &str, name: Option<&str>) -> ExitCode {
     let Some(sheet_text) = read_file(rt, file) else {
         return unreadable(rt, file);
     };
     let Some(tree_text) = read_file(rt, tree) else {
         return unreadable(rt, tree);
     };
+    let (sheet, page) = (sheet_text.as_str(), tree_text.as_str());
     let notice = Notice::new();
-    let outcome = run_match(
-        &notice,
-        rt.alloc(),
-        sheet_text.as_str(),
-        tree_text.as_str(),
-        &mut rt.stdout(),
-    );
+    let outcome = match name {
+        None => run_match(&notice, rt.alloc(), sheet, page, &mut rt.stdout()),
+        Some(name) => run_style(&notice, rt.alloc(), sheet, page, name, &mut rt.stdout()),
+    };
     if notice.is_given() {
-        let _ = tell(rt, file, sheet_text.as_str());
+        let _ = tell(rt, file, sheet);
     }
     ended(rt, outcome)
 }
 
-/// Shows which declaration of the name in the file's sheet wins on each element of the tree.
-fn show_style(rt: &HostRuntime, file: &str, tree: &str, name: &str) -> ExitCode {
-    let Some(sheet_text) = read_file(rt, file) else {
-        return unreadable(rt, file);
-    };
-    let Some(tree_text) = read_file(rt, tree) else {
-        return unreadable(rt, tree);
-    };
-    let notice = Notice::new();
-    let outcome = run_style(
-        &notice,
-        rt.alloc(),
-        sheet_text.as_str(),
-        tree_text.as_str(),
-        name,
-        &mut rt.stdout(),
-    );
-    if notice.is_given() {
-        let _ = tell(rt, file, sheet_text.as_str());
-    }
-    ended(rt, outcome)
-}
-
-/// Runs the command that the program's words ask for.
+/// Runs the command that the words after the program's name ask for.
 fn main(rt: HostRuntime) -> ExitCode {
-    let Some(words) = words(&rt) else {
+    let Some(words) = all_words(&rt) else {
         return fail(&rt, 2, USAGE);
     };
-    match Command::of(words.as_slice()) {
+    let asked = words.as_slice().get(1..).unwrap_or(&[]);
+    match Command::of(asked) {
         Some(Command::Input) => match read_input(&rt) {
             Some(text) => show_selector(&rt, text.as_str()),
             None => unreadable(&rt, "standard input"),
         },
         Some(Command::Selector(text)) => show_selector(&rt, text),
         Some(Command::Sheet(names)) => show_sheet(&rt, names),
-        Some(Command::Match(file, tree)) => show_match(&rt, file, tree),
-        Some(Command::Style(file, tree, name)) => show_style(&rt, file, tree, name),
+        Some(Command::Match(file, tree)) => show_elements(&rt, file, tree, None),
+        Some(Command::Style(file, tree, name)) => show_elements(&rt, file, tree, Some(name)),
         None => fail(&rt, 2, USAGE),
     }
 }

@@ -5,10 +5,8 @@
 
 mod fault;
 mod finding;
-mod notice;
 mod telling;
 
 pub use fault::{Fault, Reason};
 pub use finding::find_faults;
-pub use notice::Notice;
 pub use telling::tell_faults;

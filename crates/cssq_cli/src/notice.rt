@@ -1,4 +1,4 @@
-//! Whether a sheet's reading gave a warning: only then are there faults to tell of.
+//! Whether a sheet's reading gave a warning: only then is the sheet read again, for the places.
 ghost use Rattle.std.specs.Prelude.{[], Some, true};
 
 use log::kv::Source;
