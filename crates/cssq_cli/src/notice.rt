@@ -9,21 +9,21 @@ use std::fmt::Display;
 
 /// A logger that keeps nothing but whether a warning was given.
 #[derive(Drop)]
-pub struct Notice {
+pub(crate) struct Notice {
     /// A cell, since a logger is told of warnings by a shared reference.
     given: Cell<bool>,
 }
 
 impl Notice {
     /// None was given yet.
-    pub fn new() -> Notice {
+    pub(crate) fn new() -> Notice {
         Notice {
             given: Cell::new(false),
         }
     }
 
     /// Whether one was given.
-    pub fn is_given(&self) -> bool {
+    pub(crate) fn is_given(&self) -> bool {
         self.given.get()
     }
 }
