@@ -1,4 +1,5 @@
-//! Elements of a page that count what they are asked.
+//! What the tests of the crate have in common, and elements of a page that count what they are
+//! asked.
 
 use crate::cascade::{winners, winning};
 use cssq_tree::tree::{Node, Page};
@@ -6,7 +7,14 @@ use log::sink::Discard;
 use simplecss::{AttributeOperator, Element, PseudoClass, Selector, StyleSheet, Tests};
 use std::alloc::Global;
 use std::cell::Cell;
+use std::fmt::Debug;
+use std::process::Abort;
 use std::test::Fail;
+
+/// Fails the test where what was found is not what is wanted.
+pub(crate) fn same<T: Copy + Debug + PartialEq>(rt: &impl Abort, found: T, wanted: T, of: &str) {
+    assert_eq!(rt; found, wanted, "of {of}");
+}
 
 /// How often elements were asked each question.
 #[derive(Drop)]
@@ -173,17 +181,12 @@ fn counts_tests(rt: HostRuntime) -> Result<(), Fail> {
         let tree = tree_of(rt.alloc(), tree)?;
         for is_counted in [true, false] {
             let named = asked_on_last(rt.alloc(), by_names, tree.as_str(), is_counted)?;
-            assert!(rt;
-                named == run_with(answer, tests, 0),
-                "{by_names:?}: {named:?}"
-            );
+            same(&rt, named, run_with(answer, tests, 0), by_names);
             let classed = asked_on_last(rt.alloc(), by_classes, tree.as_str(), is_counted)?;
-            assert!(rt;
-                classed == run_with(answer, 0, tests),
-                "{by_classes:?}: {classed:?}"
-            );
+            same(&rt, classed, run_with(answer, 0, tests), by_classes);
         }
-        assert!(rt; tests <= bounds.0 && tests <= bounds.1, "at {by_names:?}");
+        let is_bounded = tests <= bounds.0 && tests <= bounds.1;
+        same(&rt, is_bounded, true, by_names);
     }
     Ok(())
 }
@@ -192,19 +195,15 @@ fn counts_tests(rt: HostRuntime) -> Result<(), Fail> {
 fn counts_pseudo_classes(rt: HostRuntime) -> Result<(), Fail> {
     let tree = tree_of(rt.alloc(), "a b c")?;
     for is_counted in [true, false] {
-        let got = asked_on_last(
-            rt.alloc(),
-            ":first-child > :first-child",
-            tree.as_str(),
-            is_counted,
-        )?;
+        let selector = ":first-child > :first-child";
+        let got = asked_on_last(rt.alloc(), selector, tree.as_str(), is_counted)?;
         let wanted = Run {
             answer: true,
             names: 0,
             attributes: 0,
             classes: 2,
         };
-        assert_eq!(rt; got, wanted);
+        same(&rt, got, wanted, selector);
     }
     Ok(())
 }
@@ -225,13 +224,7 @@ fn counts_in_a_deep_tree(rt: HostRuntime) -> Result<(), Fail> {
     for is_counted in [true, false] {
         for (text, answer) in [(selector.as_str(), true), ("x a", false)] {
             let got = asked_on_last(rt.alloc(), text, tree.as_str(), is_counted)?;
-            let wanted = Run {
-                answer,
-                names: 100_000,
-                attributes: 0,
-                classes: 0,
-            };
-            assert_eq!(rt; got, wanted);
+            same(&rt, got, run_with(answer, 100_000, 0), "a long selector");
         }
     }
     Ok(())
@@ -270,7 +263,7 @@ const ASKED_RULES: &[(&str, (u64, u64))] = &[
 fn asks_few_rules_for_winners(rt: HostRuntime) -> Result<(), Fail> {
     for &(sheet, times) in ASKED_RULES {
         let asked = asked_for_winners(rt.alloc(), sheet)?;
-        assert_eq!(rt; asked, times, "at {sheet:?}");
+        same(&rt, asked, times, sheet);
     }
     Ok(())
 }

@@ -1,10 +1,18 @@
-//! Which elements of small trees each selector takes.
+//! What the tests of the crate have in common, and which elements of small trees each selector
+//! takes.
 
 use crate::tree::Page;
 use log::sink::Discard;
 use simplecss_selector::{Selector, Tests};
 use std::alloc::Global;
+use std::fmt::Debug;
+use std::process::Abort;
 use std::test::Fail;
+
+/// Fails the test where what was found is not what is wanted.
+pub(crate) fn same<T: Copy + Debug + PartialEq>(rt: &impl Abort, found: T, wanted: T, of: &str) {
+    assert_eq!(rt; found, wanted, "of {of}");
+}
 
 /// A tree's text with its TABs and newlines written as `,` and `;`.
 fn tree_text(alloc: Global, short: &str) -> Result<String, Fail> {
@@ -119,7 +127,7 @@ const TAKEN: &[(&str, &str, &str)] = &[
 fn takes_elements_of_small_trees(rt: HostRuntime) -> Result<(), Fail> {
     for (tree, selector, elements) in TAKEN {
         let numbers = taken(rt.alloc(), selector, tree)?;
-        assert_eq!(rt; numbers.as_str(), *elements, "at {tree:?} and {selector:?}");
+        same(&rt, (*tree, numbers.as_str()), (*tree, *elements), selector);
     }
     Ok(())
 }

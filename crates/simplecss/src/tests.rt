@@ -1,10 +1,17 @@
-//! What a formatter's options leave alone: each value of the crate prints alike under all of them.
+//! What the tests of the crate have in common, and what a formatter's options leave alone: each
+//! value of the crate prints alike under all of them.
 
 use crate::{Declaration, Error, PseudoClass, Selector, StyleSheet, TextPos};
 use log::sink::Discard;
 use std::alloc::{AllocError, Global};
-use std::fmt::{Display, Write as _};
+use std::fmt::{Debug, Display, Write as _};
+use std::process::Abort;
 use std::test::Fail;
+
+/// Fails the test where what was found is not what is wanted.
+pub(crate) fn same<T: Copy + Debug + PartialEq>(rt: &impl Abort, found: T, wanted: T, of: &str) {
+    assert_eq!(rt; found, wanted, "of {of}");
+}
 
 /// The text of a value, plain and under options: the alternate form, a width to either side, and a
 /// fill with a precision.
@@ -15,9 +22,11 @@ fn under_options<T: Display>(alloc: Global, value: &T) -> Result<String, AllocEr
     Ok(texts)
 }
 
-/// The text, as often as `under_options` writes one.
-fn five_times(alloc: Global, text: &str) -> Result<String, AllocError> {
-    format!(in alloc; "{text}\n{text}\n{text}\n{text}\n{text}\n")
+/// Whether the value prints this text under all options.
+fn prints_alike<T: Display>(alloc: Global, value: &T, text: &str) -> Result<bool, AllocError> {
+    let printed = under_options(alloc, value)?;
+    let wanted = format!(in alloc; "{text}\n{text}\n{text}\n{text}\n{text}\n")?;
+    Ok(printed.as_str() == wanted.as_str())
 }
 
 /// Rows, columns, and how they print.
@@ -31,9 +40,8 @@ const POSITIONS: &[(u32, u32, &str)] = &[
 #[test]
 fn prints_positions_alike_under_all_options(rt: HostRuntime) -> Result<(), AllocError> {
     for &(row, col, text) in POSITIONS {
-        let printed = under_options(rt.alloc(), &TextPos::new(row, col))?;
-        let wanted = five_times(rt.alloc(), text)?;
-        assert_eq!(rt; printed.as_str(), wanted.as_str());
+        let position = TextPos::new(row, col);
+        same(&rt, prints_alike(rt.alloc(), &position, text)?, true, text);
     }
     Ok(())
 }
@@ -83,9 +91,7 @@ const PRINTED: &[(Error, &str)] = &[
 #[test]
 fn prints_errors_alike_under_all_options(rt: HostRuntime) -> Result<(), AllocError> {
     for &(error, text) in PRINTED {
-        let printed = under_options(rt.alloc(), &error)?;
-        let wanted = five_times(rt.alloc(), text)?;
-        assert_eq!(rt; printed.as_str(), wanted.as_str());
+        same(&rt, prints_alike(rt.alloc(), &error, text)?, true, text);
     }
     Ok(())
 }
@@ -104,9 +110,7 @@ const CLASSES: &[(PseudoClass<'static>, &str)] = &[
 #[test]
 fn options_leave_a_class_alone(rt: HostRuntime) -> Result<(), Fail> {
     for (class, text) in CLASSES {
-        let printed = under_options(rt.alloc(), class)?;
-        let wanted = five_times(rt.alloc(), text)?;
-        assert_eq!(rt; printed.as_str(), wanted.as_str());
+        same(&rt, prints_alike(rt.alloc(), class, text)?, true, text);
     }
     Ok(())
 }
@@ -114,9 +118,8 @@ fn options_leave_a_class_alone(rt: HostRuntime) -> Result<(), Fail> {
 #[test]
 fn options_leave_a_selector_alone(rt: HostRuntime) -> Result<(), Fail> {
     let selector = Selector::parse(&rt, rt.alloc(), "a > .b")?.ok_or("refused")?;
-    let printed = under_options(rt.alloc(), &selector)?;
-    let wanted = five_times(rt.alloc(), "a > *[class~='b']")?;
-    assert_eq!(rt; printed.as_str(), wanted.as_str());
+    let text = "a > *[class~='b']";
+    same(&rt, prints_alike(rt.alloc(), &selector, text)?, true, text);
     Ok(())
 }
 
@@ -128,9 +131,12 @@ fn declarations_print_as_in_a_sheet(rt: HostRuntime) -> Result<(), Fail> {
             value: "x",
             important,
         };
-        let printed = under_options(rt.alloc(), &declaration)?;
-        let wanted = five_times(rt.alloc(), text)?;
-        assert_eq!(rt; printed.as_str(), wanted.as_str());
+        same(
+            &rt,
+            prints_alike(rt.alloc(), &declaration, text)?,
+            true,
+            text,
+        );
     }
     Ok(())
 }
@@ -138,13 +144,9 @@ fn declarations_print_as_in_a_sheet(rt: HostRuntime) -> Result<(), Fail> {
 #[test]
 fn rules_print_as_in_a_sheet(rt: HostRuntime) -> Result<(), Fail> {
     let sheet = StyleSheet::parse(&Discard, rt.alloc(), "#x > .y { a:b; c:d ! important }")?;
-    let wanted = five_times(
-        rt.alloc(),
-        "*[id='x'] > *[class~='y'] { a:b;c:d !important; }",
-    )?;
-    let of_sheet = under_options(rt.alloc(), &sheet)?;
-    assert_eq!(rt; of_sheet.as_str(), wanted.as_str());
-    let of_rule = under_options(rt.alloc(), sheet.rules.first().ok_or("no rule")?)?;
-    assert_eq!(rt; of_rule.as_str(), wanted.as_str());
+    let text = "*[id='x'] > *[class~='y'] { a:b;c:d !important; }";
+    same(&rt, prints_alike(rt.alloc(), &sheet, text)?, true, text);
+    let rule = sheet.rules.first().ok_or("no rule")?;
+    same(&rt, prints_alike(rt.alloc(), rule, text)?, true, text);
     Ok(())
 }

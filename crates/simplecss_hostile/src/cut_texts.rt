@@ -1,4 +1,5 @@
 //! Texts that are cut at every character.
+use crate::tests::same;
 use cssq::tree::{Page, TreeFault};
 use log::sink::Discard;
 use simplecss::{DeclarationTokenizer, Selector, SelectorTokenizer, StyleSheet};
@@ -63,9 +64,9 @@ fn each_front_is_read(rt: HostRuntime) -> Result<(), Fail> {
     for text in TEXTS {
         for (place, _) in text.char_indices() {
             let front = text.get(..place).ok_or("a place within a character")?;
-            assert!(rt; ends_in_each_way(rt.alloc(), front)?, "at {front:?}");
+            same(&rt, ends_in_each_way(rt.alloc(), front)?, true, front);
         }
-        assert!(rt; ends_in_each_way(rt.alloc(), text)?, "at {text:?}");
+        same(&rt, ends_in_each_way(rt.alloc(), text)?, true, text);
     }
     Ok(())
 }
@@ -77,9 +78,15 @@ fn a_cut_sheet_keeps_what_is_whole(rt: HostRuntime) -> Result<(), Fail> {
         let front = text.get(..place).ok_or("past the end")?;
         let printed = StyleSheet::parse(&Discard, rt.alloc(), front)?.to_string(rt.alloc())?;
         let want = if place < 9 { "" } else { "a { b:\"c\"; }" };
-        assert_eq!(rt; printed.as_str(), want, "at {place}");
+        same(&rt, printed.as_str(), want, front);
     }
     Ok(())
+}
+
+/// The number of elements of a tree's text, or its fault.
+fn read(alloc: Global, text: &str) -> Result<usize, TreeFault> {
+    let page = Page::read(alloc, text)?;
+    Ok(page.len())
 }
 
 #[test]
@@ -102,11 +109,7 @@ fn a_cut_tree_tells_its_fault(rt: HostRuntime) -> Result<(), Fail> {
     ];
     for (place, want) in wanted.iter().enumerate() {
         let front = text.get(..place).ok_or("past the end")?;
-        let got = match Page::read(rt.alloc(), front) {
-            Ok(page) => Ok(page.len()),
-            Err(fault) => Err(fault),
-        };
-        assert!(rt; got == *want, "at {place}: {got:?}");
+        same(&rt, read(rt.alloc(), front), *want, front);
     }
     Ok(())
 }
@@ -119,7 +122,7 @@ fn a_sheet_in_pieces_is_whole_where_a_statement_ends(rt: HostRuntime) -> Result<
         let mut sheet = StyleSheet::parse(&Discard, rt.alloc(), front)?;
         sheet.parse_more(&Discard, rt.alloc(), rest)?;
         let printed = sheet.to_string(rt.alloc())?;
-        assert_eq!(rt; printed.as_str(), want, "at {place}");
+        same(&rt, printed.as_str(), want, front);
     }
     Ok(())
 }

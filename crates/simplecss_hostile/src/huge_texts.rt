@@ -1,4 +1,5 @@
 //! Texts of a hundred thousand parts.
+use crate::tests::same;
 use cssq::tree::Page;
 use log::sink::Discard;
 use simplecss::{Selector, StyleSheet, Tests};
@@ -10,12 +11,8 @@ const MANY: usize = 100_000;
 
 /// The part many times, between two other texts.
 fn many(alloc: Global, first: &str, part: &str, last: &str) -> Result<String, AllocError> {
-    let mut text = String::from_str(alloc, first)?;
-    for _ in 0..MANY {
-        text.push_str(part)?;
-    }
-    text.push_str(last)?;
-    Ok(text)
+    let middle = part.repeat(alloc, MANY)?;
+    format!(in alloc; "{first}{middle}{last}")
 }
 
 #[test]
@@ -28,7 +25,7 @@ fn selectors_with_many_comments(rt: HostRuntime) -> Result<(), Fail> {
         let text = many(rt.alloc(), first, "/**/", last)?;
         let selector = Selector::parse(&Discard, rt.alloc(), text.as_str())?.ok_or("refused")?;
         let printed = selector.to_string(rt.alloc())?;
-        assert_eq!(rt; printed.as_str(), want, "before {last:?}");
+        same(&rt, printed.as_str(), want, last);
     }
     Ok(())
 }
@@ -38,9 +35,9 @@ fn a_selector_of_many_components(rt: HostRuntime) -> Result<(), Fail> {
     let text = many(rt.alloc(), "", "a ", "")?;
     let text = text.as_str().trim_end();
     let selector = Selector::parse(&Discard, rt.alloc(), text)?.ok_or("refused")?;
-    assert_eq!(rt; selector.specificity(), [0, 0, 255]);
     let printed = selector.to_string(rt.alloc())?;
-    assert!(rt; printed.as_str() == text);
+    let found = (selector.specificity(), printed.as_str() == text);
+    same(&rt, found, ([0, 0, 255], true), "many components");
     Ok(())
 }
 
@@ -50,7 +47,7 @@ fn sheets_of_many_braces(rt: HostRuntime) -> Result<(), Fail> {
         let text = many(rt.alloc(), "", part, last)?;
         let sheet = StyleSheet::parse(&Discard, rt.alloc(), text.as_str())?;
         let printed = sheet.to_string(rt.alloc())?;
-        assert_eq!(rt; printed.as_str(), "", "of {part:?}");
+        same(&rt, printed.as_str(), "", part);
     }
     Ok(())
 }
@@ -67,9 +64,9 @@ fn a_deep_tree(rt: HostRuntime) -> Result<(), Fail> {
     let long = many(rt.alloc(), "", "a ", "")?;
     for (text, want) in [(long.as_str().trim_end(), true), ("x a", false)] {
         let selector = Selector::parse(&Discard, rt.alloc(), text)?.ok_or("refused")?;
-        assert_eq!(rt; selector.matches(&element), want);
-        let mut tests = Tests::new();
-        assert_eq!(rt; selector.matches_counted(&element, &mut tests), want);
+        let counted = selector.matches_counted(&element, &mut Tests::new());
+        let found = (selector.matches(&element), counted);
+        same(&rt, found, (want, want), "a deep tree");
     }
     Ok(())
 }

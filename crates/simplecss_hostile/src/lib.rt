@@ -6,3 +6,5 @@
 mod cut_texts;
 #[cfg(test)]
 mod huge_texts;
+#[cfg(test)]
+mod tests;

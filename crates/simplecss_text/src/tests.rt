@@ -1,6 +1,13 @@
-//! The positions that errors tell.
+//! What the tests of the crate have in common, and the positions that errors tell.
 
 use crate::{Error, TextPos};
+use std::fmt::Debug;
+use std::process::Abort;
+
+/// Fails the test where what was found is not what is wanted.
+pub(crate) fn same<T: Copy + Debug + PartialEq>(rt: &impl Abort, found: T, wanted: T, of: &str) {
+    assert_eq!(rt; found, wanted, "of {of}");
+}
 
 /// The position of the errors below.
 const POS: TextPos = TextPos { row: 2, col: 4 };

@@ -6,4 +6,6 @@
 
 pub mod editing;
 pub mod own_tree;
+#[cfg(test)]
+mod tests;
 pub mod tokens;

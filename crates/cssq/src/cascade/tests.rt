@@ -1,6 +1,7 @@
 //! Which declarations win on an element, and which of all names.
 
 use super::{winners, winning};
+use crate::tests::same;
 use cssq_tree::tree::Page;
 use log::sink::Discard;
 use simplecss::StyleSheet;
@@ -48,7 +49,7 @@ const BY_IMPORTANCE: &[(&str, Option<(&str, bool)>)] = &[
 fn wins_by_importance_then_place(rt: HostRuntime) -> Result<(), Fail> {
     for &(text, wanted) in BY_IMPORTANCE {
         let sheet = sheet_of(rt.alloc(), text)?;
-        assert!(rt; wins(rt.alloc(), &sheet, "0\ta", wanted)?, "at {text:?}");
+        same(&rt, wins(rt.alloc(), &sheet, "0\ta", wanted)?, true, text);
     }
     Ok(())
 }
@@ -57,9 +58,19 @@ fn wins_by_importance_then_place(rt: HostRuntime) -> Result<(), Fail> {
 fn wins_by_place_in_an_edited_sheet(rt: HostRuntime) -> Result<(), Fail> {
     let tree = "0\ta\tclass=x";
     let mut sheet = sheet_of(rt.alloc(), "a { c:red } .x { c:blue }")?;
-    assert!(rt; wins(rt.alloc(), &sheet, tree, Some(("blue", false)))?);
+    same(
+        &rt,
+        wins(rt.alloc(), &sheet, tree, Some(("blue", false)))?,
+        true,
+        "blue",
+    );
     sheet.rules.reverse();
-    assert!(rt; wins(rt.alloc(), &sheet, tree, Some(("red", false)))?);
+    same(
+        &rt,
+        wins(rt.alloc(), &sheet, tree, Some(("red", false)))?,
+        true,
+        "red",
+    );
     Ok(())
 }
 
@@ -103,7 +114,7 @@ fn lists_all_that_win(rt: HostRuntime) -> Result<(), Fail> {
     for &(text, wanted) in ALL_THAT_WIN {
         let sheet = sheet_of(rt.alloc(), text)?;
         let all = all_that_win(rt.alloc(), &sheet, "0\ta")?;
-        assert_eq!(rt; all.as_str(), wanted, "at {text:?}");
+        same(&rt, all.as_str(), wanted, text);
     }
     Ok(())
 }
@@ -130,7 +141,8 @@ fn lists_many_that_win(rt: HostRuntime) -> Result<(), Fail> {
     let page = Page::read(rt.alloc(), "0\ta")?;
     let element = page.node(0).ok_or("no element")?;
     let all = winners(rt.alloc(), &sheet, &element)?;
-    assert_eq!(rt; all.len(), NAMES);
-    assert!(rt; all.iter().all(|declaration| declaration.value == "1"));
+    same(&rt, all.len(), NAMES, "many names");
+    let are_last = all.iter().all(|declaration| declaration.value == "1");
+    same(&rt, are_last, true, "many names");
     Ok(())
 }

@@ -1,6 +1,7 @@
 //! What the words of a command line ask for.
 
 use super::Command;
+use crate::tests::same;
 use std::alloc::Global;
 use std::test::Fail;
 
@@ -38,14 +39,14 @@ const NOTHING: &[&str] = &[
 fn refuses_words(rt: HostRuntime) -> Result<(), Fail> {
     for line in NOTHING {
         let words = words(rt.alloc(), line)?;
-        assert_eq!(rt; Command::of(words.as_slice()), None, "at {line:?}");
+        same(&rt, Command::of(words.as_slice()), None, line);
     }
     Ok(())
 }
 
 #[test]
 fn reads_words(rt: HostRuntime) -> Result<(), Fail> {
-    assert_eq!(rt; Command::of(&[]), Some(Command::Input));
+    same(&rt, Command::of(&[]), Some(Command::Input), "no words");
     for (line, command) in [
         ("selector a", Command::Selector("a")),
         ("selector ", Command::Selector("")),
@@ -55,7 +56,7 @@ fn reads_words(rt: HostRuntime) -> Result<(), Fail> {
         ("style a b ", Command::Style("a", "b", "")),
     ] {
         let words = words(rt.alloc(), line)?;
-        assert_eq!(rt; Command::of(words.as_slice()), Some(command), "at {line:?}");
+        same(&rt, Command::of(words.as_slice()), Some(command), line);
     }
     Ok(())
 }
@@ -65,10 +66,11 @@ fn reads_files(rt: HostRuntime) -> Result<(), Fail> {
     for line in ["sheet a", "sheet a b c", "sheet sheet"] {
         let words = words(rt.alloc(), line)?;
         let files = words.as_slice().get(1..).ok_or("no word")?;
-        assert_eq!(rt;
+        same(
+            &rt,
             Command::of(words.as_slice()),
             Some(Command::Sheet(files)),
-            "at {line:?}"
+            line,
         );
     }
     Ok(())

@@ -3,6 +3,7 @@
 mod failing_writers;
 
 use super::{RunFault, run_match, run_selector, run_sheet, run_style};
+use crate::tests::same;
 use cssq_tree::tree::TreeFault;
 use log::sink::Discard;
 use std::test::Fail;
@@ -32,15 +33,15 @@ const TOLD: &[(RunFault, u8, &str)] = &[
 #[test]
 fn tells_statuses_and_lines(rt: HostRuntime) -> Result<(), Fail> {
     for &(fault, status, line) in TOLD {
-        assert_eq!(rt; fault.status(), status, "at {fault:?}");
+        same(&rt, fault.status(), status, line);
         let text = format!(in rt.alloc(); "{fault}")?;
-        assert_eq!(rt; text.as_str(), line);
+        same(&rt, text.as_str(), line, "the plain form");
         let flagged = format!(in rt.alloc(); "{fault:#}")?;
-        assert_eq!(rt; flagged.as_str(), line);
+        same(&rt, flagged.as_str(), line, "the alternate form");
         let right = format!(in rt.alloc(); "{fault:>40}")?;
-        assert_eq!(rt; right.as_str(), line);
+        same(&rt, right.as_str(), line, "a width to the right");
         let left = format!(in rt.alloc(); "{fault:<5}")?;
-        assert_eq!(rt; left.as_str(), line);
+        same(&rt, left.as_str(), line, "a width to the left");
     }
     Ok(())
 }
@@ -59,8 +60,8 @@ fn writes_selectors(rt: HostRuntime) {
     for &(text, outcome, line) in SELECTORS {
         let mut out = Vec::new(rt.alloc());
         let got = run_selector(&Discard, rt.alloc(), text, &mut out);
-        assert_eq!(rt; got, outcome, "at {text:?}");
-        assert_eq!(rt; out.as_slice(), line.as_bytes(), "at {text:?}");
+        same(&rt, got, outcome, text);
+        same(&rt, out.as_slice(), line.as_bytes(), text);
     }
 }
 
@@ -84,8 +85,8 @@ fn writes_sheets(rt: HostRuntime) {
     for &(texts, written) in SHEETS {
         let mut out = Vec::new(rt.alloc());
         let outcome = run_sheet(&Discard, rt.alloc(), texts, &mut out);
-        assert_eq!(rt; outcome, Ok(()), "at {texts:?}");
-        assert_eq!(rt; out.as_slice(), written.as_bytes(), "at {texts:?}");
+        same(&rt, outcome, Ok(()), written);
+        same(&rt, out.as_slice(), written.as_bytes(), written);
     }
 }
 
@@ -113,8 +114,8 @@ fn writes_matches(rt: HostRuntime) {
     for &(sheet, tree, outcome, lines) in MATCHES {
         let mut out = Vec::new(rt.alloc());
         let got = run_match(&Discard, rt.alloc(), sheet, tree, &mut out);
-        assert_eq!(rt; got, outcome, "at {tree:?}");
-        assert_eq!(rt; out.as_slice(), lines, "at {tree:?}");
+        same(&rt, got, outcome, tree);
+        same(&rt, out.as_slice(), lines, tree);
     }
 }
 
@@ -156,12 +157,8 @@ fn writes_styles(rt: HostRuntime) {
     for &(sheet, tree, name, lines) in STYLES {
         let mut out = Vec::new(rt.alloc());
         let outcome = run_style(&Discard, rt.alloc(), sheet, tree, name, &mut out);
-        assert_eq!(rt; outcome, Ok(()), "at {sheet:?}");
-        assert_eq!(rt;
-            out.as_slice(),
-            lines.as_bytes(),
-            "at {sheet:?} and {name:?}"
-        );
+        same(&rt, outcome, Ok(()), sheet);
+        same(&rt, out.as_slice(), lines.as_bytes(), sheet);
     }
 }
 
@@ -178,7 +175,7 @@ fn tells_a_faulty_tree_of_styles(rt: HostRuntime) {
     for &(tree, fault) in FAULTY {
         let mut out = Vec::new(rt.alloc());
         let outcome = run_style(&Discard, rt.alloc(), STYLED, tree, "c", &mut out);
-        assert_eq!(rt; outcome, Err(RunFault::Tree(fault)), "at {tree:?}");
-        assert_eq!(rt; out.as_slice(), b"".as_slice(), "at {tree:?}");
+        same(&rt, outcome, Err(RunFault::Tree(fault)), tree);
+        same(&rt, out.len(), 0, tree);
     }
 }

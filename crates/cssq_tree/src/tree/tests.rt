@@ -1,6 +1,7 @@
 //! Texts of trees: their faults, their elements, and what these answer.
 
 use super::{Node, Page, TreeFault};
+use crate::tests::same;
 use simplecss_selector::{AttributeOperator, Element, PseudoClass};
 use std::alloc::Global;
 use std::test::Fail;
@@ -41,7 +42,7 @@ const FAULTY: &[(&str, TreeFault)] = &[
 #[test]
 fn tells_the_first_faulty_line(rt: HostRuntime) {
     for &(text, fault) in FAULTY {
-        assert_eq!(rt; read(rt.alloc(), text), Err(fault), "at {text:?}");
+        same(&rt, read(rt.alloc(), text), Err(fault), text);
     }
 }
 
@@ -59,7 +60,7 @@ const SOUND: &[(&str, usize)] = &[
 #[test]
 fn reads_sound_texts(rt: HostRuntime) {
     for &(text, count) in SOUND {
-        assert_eq!(rt; read(rt.alloc(), text), Ok(count), "at {text:?}");
+        same(&rt, read(rt.alloc(), text), Ok(count), text);
     }
 }
 
@@ -87,11 +88,8 @@ fn checks_many_attributes(rt: HostRuntime) -> Result<(), Fail> {
             ("\t=\t=", Err(TreeFault::RepeatedKey(1))),
         ] {
             let text = long_line(rt.alloc(), count, end)?;
-            assert_eq!(rt;
-                read(rt.alloc(), text.as_str()),
-                answer,
-                "at {count} and {end:?}"
-            );
+            let found = read(rt.alloc(), text.as_str());
+            same(&rt, (count, found), (count, answer), end);
         }
     }
     Ok(())
@@ -127,20 +125,23 @@ const TIES: &[(Option<usize>, Option<usize>)] = &[
 fn ties_elements(rt: HostRuntime) -> Result<(), Fail> {
     let text = "0\ta\n1\tb\n2\tc\n1\td\n0\te\n1\tf\n2\tg\n2\th\n0\ti\n";
     let page = Page::read(rt.alloc(), text)?;
-    assert_eq!(rt; page.len(), 9);
+    same(&rt, page.len(), 9, text);
     for (place, (parent, previous)) in TIES.iter().enumerate() {
         let node = page.node(place).ok_or("no node")?;
-        assert_eq!(rt; place_of(&node), Some(place));
+        same(&rt, place_of(&node), Some(place), text);
         let parent_place = node.parent_element().map(|n| place_of(&n));
-        assert_eq!(rt; parent_place, parent.map(Some), "at {place}");
         let previous_place = node.prev_sibling_element().map(|n| place_of(&n));
-        assert_eq!(rt; previous_place, previous.map(Some), "at {place}");
+        let wanted = (place, parent.map(Some), previous.map(Some));
+        same(&rt, (place, parent_place, previous_place), wanted, text);
     }
-    assert!(rt; page.node(9).is_none());
+    same(&rt, page.node(9).is_none(), true, text);
     Ok(())
 }
 
-/// An attribute, an operator, and what the first element of `answers_questions` answers.
+/// The tree that is asked below.
+const THREE: &str = "0\ta\tid=x\tclass=u v\t=e\n1\tb\r\n1\tc\n";
+
+/// An attribute, an operator, and what the first element answers.
 const ASKED: &[(&str, AttributeOperator<'static>, bool)] = &[
     ("id", AttributeOperator::Exists, true),
     ("id", AttributeOperator::Matches("x"), true),
@@ -154,34 +155,54 @@ const ASKED: &[(&str, AttributeOperator<'static>, bool)] = &[
 ];
 
 #[test]
-fn answers_questions(rt: HostRuntime) -> Result<(), Fail> {
-    let page = Page::read(rt.alloc(), "0\ta\tid=x\tclass=u v\t=e\n1\tb\r\n1\tc\n")?;
+fn answers_of_attributes(rt: HostRuntime) -> Result<(), Fail> {
+    let page = Page::read(rt.alloc(), THREE)?;
     let a = page.node(0).ok_or("no node")?;
-    let b = page.node(1).ok_or("no node")?;
-    let c = page.node(2).ok_or("no node")?;
-    assert!(rt; a.has_local_name("a"));
-    assert!(rt; !a.has_local_name("A"));
-    assert!(rt; !b.has_local_name("b"));
-    assert!(rt; b.has_local_name("b\r"));
     for &(key, operator, answer) in ASKED {
-        assert_eq!(rt;
-            a.attribute_matches(key, operator),
-            answer,
-            "at {key} and {operator:?}"
-        );
+        let found = a.attribute_matches(key, operator);
+        same(&rt, (operator, found), (operator, answer), key);
     }
-    assert!(rt; a.pseudo_class_matches(PseudoClass::FirstChild));
-    assert!(rt; b.pseudo_class_matches(PseudoClass::FirstChild));
-    assert!(rt; !c.pseudo_class_matches(PseudoClass::FirstChild));
-    for class in [
-        PseudoClass::Link,
-        PseudoClass::Visited,
-        PseudoClass::Hover,
-        PseudoClass::Active,
-        PseudoClass::Focus,
-        PseudoClass::Lang("en"),
-    ] {
-        assert!(rt; !a.pseudo_class_matches(class), "at {class:?}");
+    Ok(())
+}
+
+/// The place of an element of the tree, a name, and whether the element answers to it.
+const NAMED: &[(usize, &str, bool)] = &[
+    (0, "a", true),
+    (0, "A", false),
+    (1, "b", false),
+    (1, "b\r", true),
+];
+
+#[test]
+fn answers_to_names(rt: HostRuntime) -> Result<(), Fail> {
+    let page = Page::read(rt.alloc(), THREE)?;
+    for &(place, name, answer) in NAMED {
+        let node = page.node(place).ok_or("no node")?;
+        same(&rt, node.has_local_name(name), answer, name);
+    }
+    Ok(())
+}
+
+/// The place of an element of the tree, a pseudo-class, and whether the element is in it.
+const CLASSED: &[(usize, PseudoClass<'static>, bool)] = &[
+    (0, PseudoClass::FirstChild, true),
+    (1, PseudoClass::FirstChild, true),
+    (2, PseudoClass::FirstChild, false),
+    (0, PseudoClass::Link, false),
+    (0, PseudoClass::Visited, false),
+    (0, PseudoClass::Hover, false),
+    (0, PseudoClass::Active, false),
+    (0, PseudoClass::Focus, false),
+    (0, PseudoClass::Lang("en"), false),
+];
+
+#[test]
+fn is_in_pseudo_classes(rt: HostRuntime) -> Result<(), Fail> {
+    let page = Page::read(rt.alloc(), THREE)?;
+    for &(place, class, answer) in CLASSED {
+        let node = page.node(place).ok_or("no node")?;
+        let found = (place, class, node.pseudo_class_matches(class));
+        same(&rt, found, (place, class, answer), THREE);
     }
     Ok(())
 }
@@ -198,8 +219,7 @@ const NUMBERS: &[(TreeFault, u8)] = &[
 #[test]
 fn numbers_faults(rt: HostRuntime) {
     for &(fault, number) in NUMBERS {
-        assert_eq!(rt; fault.number(), number);
-        assert_eq!(rt; fault.line(), 7);
+        same(&rt, (fault.number(), fault.line()), (number, 7), "a fault");
     }
 }
 
@@ -227,7 +247,7 @@ fn reads_a_deep_tree(rt: HostRuntime) -> Result<(), Fail> {
         element = parent;
         steps = steps.saturating_add(1);
     }
-    assert_eq!(rt; steps, 99_999);
+    same(&rt, steps, 99_999, "a deep tree");
     Ok(())
 }
 
@@ -236,9 +256,9 @@ fn reads_many_siblings(rt: HostRuntime) -> Result<(), Fail> {
     let mut text = deep_or_wide(rt.alloc(), 749_998, false)?;
     text.push_str("0\tb\n0\ta\n")?;
     let page = Page::read(rt.alloc(), text.as_str())?;
-    assert_eq!(rt; page.len(), 750_000);
+    same(&rt, page.len(), 750_000, "many siblings");
     let last = page.node(749_999).ok_or("no node")?;
     let before = last.prev_sibling_element().ok_or("no sibling")?;
-    assert!(rt; before.has_local_name("b"));
+    same(&rt, before.has_local_name("b"), true, "many siblings");
     Ok(())
 }

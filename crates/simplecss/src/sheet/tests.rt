@@ -1,5 +1,6 @@
 //! Sheets that are read, printed, edited and copied.
 
+use crate::tests::same;
 use crate::{Declaration, Rule, Selector, StyleSheet};
 use log::sink::{Discard, Memory};
 use std::alloc::AllocError;
@@ -36,7 +37,7 @@ const IN_ORDER: &[(&str, &str)] = &[
 fn prints_rules_in_order(rt: HostRuntime) -> Result<(), Fail> {
     for &(text, want) in IN_ORDER {
         let sheet = read(&rt, text)?;
-        assert!(rt; prints(&rt, &sheet, want)?, "of {text}");
+        same(&rt, prints(&rt, &sheet, want)?, true, text);
     }
     Ok(())
 }
@@ -59,7 +60,7 @@ const MAY_STAND: &[(&str, &str)] = &[
 #[test]
 fn reads_what_may_stand(rt: HostRuntime) -> Result<(), Fail> {
     for &(text, want) in MAY_STAND {
-        assert!(rt; prints(&rt, &read(&rt, text)?, want)?, "of {text}");
+        same(&rt, prints(&rt, &read(&rt, text)?, want)?, true, text);
     }
     Ok(())
 }
@@ -87,11 +88,11 @@ fn tells_the_logger_what_is_passed_over(rt: HostRuntime) -> Result<(), Fail> {
     for &(text, message) in PASSED_OVER {
         let sink = Memory::new(rt.alloc());
         let sheet = StyleSheet::parse(&sink, rt.alloc(), text)?;
-        assert!(rt; sheet.rules.is_empty());
         let lines = sink.into_lines();
-        assert_eq!(rt; lines.len(), 1);
+        same(&rt, (sheet.rules.len(), lines.len()), (0, 1), text);
         for line in lines.as_slice() {
-            assert!(rt; line.as_str().ends_with(message), "{line:?}");
+            let is_told = line.as_str().ends_with(message);
+            same(&rt, is_told, true, line.as_str());
         }
     }
     Ok(())
@@ -100,22 +101,23 @@ fn tells_the_logger_what_is_passed_over(rt: HostRuntime) -> Result<(), Fail> {
 #[test]
 fn reads_texts_in_turn(rt: HostRuntime) -> Result<(), Fail> {
     let mut sheet = StyleSheet::new(rt.alloc());
-    assert!(rt; prints(&rt, &sheet, "")?);
+    same(&rt, prints(&rt, &sheet, "")?, true, "no text");
     sheet.parse_more(&Discard, rt.alloc(), "#x { a:b }")?;
     sheet.parse_more(&Discard, rt.alloc(), "p { c:d }")?;
-    assert!(rt; prints(&rt, &sheet, "p { c:d; }\n*[id='x'] { a:b; }")?);
+    let both = "p { c:d; }\n*[id='x'] { a:b; }";
+    same(&rt, prints(&rt, &sheet, both)?, true, both);
     sheet.parse_more(&Discard, rt.alloc(), "/* open")?;
-    assert!(rt; prints(&rt, &sheet, "p { c:d; }\n*[id='x'] { a:b; }")?);
+    same(&rt, prints(&rt, &sheet, both)?, true, both);
     sheet.parse_more(&Discard, rt.alloc(), "#y { e:f } q { g:h }")?;
     let want = "p { c:d; }\nq { g:h; }\n*[id='x'] { a:b; }\n*[id='y'] { e:f; }";
-    assert!(rt; prints(&rt, &sheet, want)?);
+    same(&rt, prints(&rt, &sheet, want)?, true, want);
     Ok(())
 }
 
 #[test]
 fn reads_all_texts_at_once(rt: HostRuntime) -> Result<(), Fail> {
     let none = StyleSheet::parse_all(&Discard, rt.alloc(), &[])?;
-    assert!(rt; prints(&rt, &none, "")?);
+    same(&rt, prints(&rt, &none, "")?, true, "no texts");
     let texts = [
         "#x { a:b }",
         "p { c:d } q {}",
@@ -126,7 +128,7 @@ fn reads_all_texts_at_once(rt: HostRuntime) -> Result<(), Fail> {
     ];
     let sheet = StyleSheet::parse_all(&Discard, rt.alloc(), &texts)?;
     let want = "p { c:d; }\nq { g:h; }\np { i:j; }\n*[id='x'] { a:b; }\n*[id='y'] { e:f; }";
-    assert!(rt; prints(&rt, &sheet, want)?);
+    same(&rt, prints(&rt, &sheet, want)?, true, want);
     Ok(())
 }
 
@@ -141,9 +143,10 @@ fn tells_the_logger_of_all_texts_in_turn(rt: HostRuntime) -> Result<(), Fail> {
     let sink = Memory::new(rt.alloc());
     StyleSheet::parse_all(&sink, rt.alloc(), &texts)?;
     let lines = sink.into_lines();
-    assert_eq!(rt; lines.len(), messages.len());
+    same(&rt, lines.len(), messages.len(), "the lines");
     for (line, message) in lines.as_slice().iter().zip(messages) {
-        assert!(rt; line.as_str().ends_with(message), "{line:?}");
+        let is_told = line.as_str().ends_with(message);
+        same(&rt, is_told, true, line.as_str());
     }
     Ok(())
 }
@@ -163,9 +166,11 @@ fn reads_into_an_edited_sheet(rt: HostRuntime) -> Result<(), Fail> {
     let mut sheet = read(&rt, "a { x:y } #b { x:y }")?;
     turn(&mut sheet);
     sheet.parse_more(&Discard, rt.alloc(), "/* x")?;
-    assert!(rt; prints(&rt, &sheet, "*[id='b'] { x:y; }\na {  }")?);
+    let want = "*[id='b'] { x:y; }\na {  }";
+    same(&rt, prints(&rt, &sheet, want)?, true, want);
     sheet.parse_more(&Discard, rt.alloc(), "")?;
-    assert!(rt; prints(&rt, &sheet, "*[id='b'] { x:y; }")?);
+    let want = "*[id='b'] { x:y; }";
+    same(&rt, prints(&rt, &sheet, want)?, true, want);
     Ok(())
 }
 
@@ -199,8 +204,8 @@ const COPIED: &[&str] = &[
 fn copies_are_equal_to_what_they_copy(rt: HostRuntime) -> Result<(), Fail> {
     for text in COPIED {
         let sheet = read(&rt, text)?;
-        assert!(rt; equal_rules(&sheet, &sheet.clone()?), "of {text}");
-        assert!(rt; copies_are_equal(&sheet)?, "of {text}");
+        same(&rt, equal_rules(&sheet, &sheet.clone()?), true, text);
+        same(&rt, copies_are_equal(&sheet)?, true, text);
     }
     Ok(())
 }
@@ -221,8 +226,8 @@ fn rules_differ_in_any_part(rt: HostRuntime) -> Result<(), Fail> {
     for (i, text) in DIFFERENT.iter().enumerate() {
         let sheet = read(&rt, text)?;
         for (j, other) in DIFFERENT.iter().enumerate() {
-            let same = equal_rules(&sheet, &read(&rt, other)?);
-            assert!(rt; same == (i == j), "of {text} and {other}");
+            let are_equal = equal_rules(&sheet, &read(&rt, other)?);
+            same(&rt, are_equal, i == j, text);
         }
     }
     Ok(())
@@ -243,13 +248,8 @@ fn sheets_are_made_of_rules(rt: HostRuntime) -> Result<(), Fail> {
         selector,
         declarations,
     })?;
-    assert!(rt;
-        prints(
-            &rt,
-            &sheet,
-            "d { e:f;g:h; }\n*[class~='i'] { j:x !important; }"
-        )?
-    );
+    let want = "d { e:f;g:h; }\n*[class~='i'] { j:x !important; }";
+    same(&rt, prints(&rt, &sheet, want)?, true, want);
     Ok(())
 }
 
@@ -273,9 +273,9 @@ const PRINTED: &[(&str, &str, &str)] = &[
 fn reads_again_what_it_printed(rt: HostRuntime) -> Result<(), Fail> {
     for &(text, printed, again) in PRINTED {
         let first = read(&rt, text)?.to_string(rt.alloc())?;
-        assert_eq!(rt; first.as_str(), printed, "of {text}");
+        same(&rt, first.as_str(), printed, text);
         let second = read(&rt, first.as_str())?.to_string(rt.alloc())?;
-        assert_eq!(rt; second.as_str(), again, "of {text}");
+        same(&rt, second.as_str(), again, text);
     }
     Ok(())
 }
@@ -293,7 +293,7 @@ fn reads_a_text_in_pieces(rt: HostRuntime) -> Result<(), Fail> {
         let mut sheet = StyleSheet::new(rt.alloc());
         sheet.parse_more(&Discard, rt.alloc(), front)?;
         sheet.parse_more(&Discard, rt.alloc(), rest)?;
-        assert!(rt; prints(&rt, &sheet, want)?, "of {front}{rest}");
+        same(&rt, prints(&rt, &sheet, want)?, true, want);
     }
     Ok(())
 }

@@ -2,6 +2,7 @@
 
 use super::Key;
 use crate::Selector;
+use crate::tests::same;
 use std::test::Fail;
 
 /// A selector, and its key.
@@ -43,7 +44,7 @@ const KEYS: &[(&str, Key<'static>)] = &[
 fn the_keys_of_selectors(rt: HostRuntime) -> Result<(), Fail> {
     for (text, key) in KEYS {
         let selector = Selector::parse(&rt, rt.alloc(), text)?.ok_or("refused")?;
-        assert_eq!(rt; selector.key(), *key, "{text}");
+        same(&rt, selector.key(), *key, text);
     }
     Ok(())
 }

@@ -1,6 +1,7 @@
 //! How operators compare values.
 
 use super::AttributeOperator;
+use crate::tests::same;
 
 /// An operator, a value, and whether the value is as the operator asks.
 const ASKED: &[(AttributeOperator<'static>, &str, bool)] = &[
@@ -45,10 +46,11 @@ const ASKED: &[(AttributeOperator<'static>, &str, bool)] = &[
 #[test]
 fn the_relations_of_operators(rt: HostRuntime) {
     for (operator, value, answer) in ASKED {
-        assert_eq!(rt;
-            operator.matches(value),
-            *answer,
-            "{operator:?} at {value:?}"
+        same(
+            &rt,
+            (*operator, operator.matches(value)),
+            (*operator, *answer),
+            value,
         );
     }
 }

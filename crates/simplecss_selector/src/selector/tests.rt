@@ -1,7 +1,8 @@
 //! Selectors that are read from the front of a text, printed, weighed and compared.
 
 use super::Selector;
-use log::sink::{Discard, Memory};
+use crate::tests::same;
+use log::sink::{Discard, Lines, Memory};
 use std::alloc::{AllocError, Global};
 use std::process::Abort;
 use std::test::Fail;
@@ -23,8 +24,7 @@ fn assert_reads(
 ) -> Result<(), AllocError> {
     for (text, want, place) in rows {
         let (printed, end) = read(alloc, text)?;
-        assert_eq!(rt; printed.as_str(), *want, "at {text}");
-        assert_eq!(rt; end, *place, "at {text}");
+        same(rt, (printed.as_str(), end), (*want, *place), text);
     }
     Ok(())
 }
@@ -99,46 +99,52 @@ const WEIGHTS: &[(&str, [u8; 3])] = &[
 #[test]
 fn weighs(rt: HostRuntime) -> Result<(), Fail> {
     for &(text, want) in WEIGHTS {
-        assert_eq!(rt; parsed(rt.alloc(), text)?.specificity(), want, "at {text}");
+        same(&rt, parsed(rt.alloc(), text)?.specificity(), want, text);
     }
     Ok(())
 }
 
 /// Texts, and the lines that the logger gets: one where the selector is refused, and else none.
-const TOLD: &[(&str, &str)] = &[
+const TOLD: &[(&str, &[&str])] = &[
     (
         "> {}",
-        "[WARN  simplecss_selector::reading] Selector parsing failed cause unexpected combinator.\n",
+        &[
+            "[WARN  simplecss_selector::reading] Selector parsing failed cause unexpected combinator.",
+        ],
     ),
     (
         "a\nb <",
-        "[WARN  simplecss_selector::reading] Selector parsing failed cause invalid ident at 2:3.\n",
+        &[
+            "[WARN  simplecss_selector::reading] Selector parsing failed cause invalid ident at 2:3.",
+        ],
     ),
     (
         ":le {}",
-        "[WARN  simplecss_selector::reading] ':le' is not supported. Selector skipped.\n",
+        &["[WARN  simplecss_selector::reading] ':le' is not supported. Selector skipped."],
     ),
-    ("a > .b:link", ""),
+    ("a > .b:link", &[]),
 ];
 
 /// The lines that the logger gets, and whether the selector is refused.
-fn told(alloc: Global, text: &str) -> Result<(String, bool), AllocError> {
+fn told(alloc: Global, text: &str) -> Result<(Lines, bool), AllocError> {
     let sink = Memory::new(alloc);
     let selector = Selector::parse(&sink, alloc, text)?;
-    let mut lines = String::new(alloc);
-    for line in sink.into_lines().as_slice() {
-        lines.push_str(line.as_str())?;
-        lines.push('\n')?;
-    }
-    Ok((lines, selector.is_none()))
+    Ok((sink.into_lines(), selector.is_none()))
 }
 
 #[test]
 fn tells_the_logger_why_it_refuses(rt: HostRuntime) -> Result<(), AllocError> {
     for &(text, want) in TOLD {
         let (lines, is_refused) = told(rt.alloc(), text)?;
-        assert_eq!(rt; lines.as_str(), want, "at {text}");
-        assert_eq!(rt; is_refused, !want.is_empty(), "at {text}");
+        same(
+            &rt,
+            (lines.len(), is_refused),
+            (want.len(), !want.is_empty()),
+            text,
+        );
+        for (line, wanted) in lines.as_slice().iter().zip(want) {
+            same(&rt, line.as_str(), *wanted, text);
+        }
     }
     Ok(())
 }
@@ -151,13 +157,8 @@ fn repeated(
     count: usize,
     last: &str,
 ) -> Result<String, AllocError> {
-    let mut text = String::new(alloc);
-    text.push_str(first)?;
-    for _ in 0..count {
-        text.push_str(part)?;
-    }
-    text.push_str(last)?;
-    Ok(text)
+    let middle = part.repeat(alloc, count)?;
+    format!(in alloc; "{first}{middle}{last}")
 }
 
 /// The front of a text, what stands a hundred thousand times behind it, the end, how the selector
@@ -178,8 +179,7 @@ fn reads_long_gaps(rt: HostRuntime) -> Result<(), Fail> {
     for &(first, part, last, want, place) in LONG_GAPS {
         let text = repeated(rt.alloc(), first, part, 100_000, last)?;
         let (printed, end) = read(rt.alloc(), text.as_str())?;
-        assert_eq!(rt; printed.as_str(), want, "at {first}");
-        assert_eq!(rt; end, place, "at {first}");
+        same(&rt, (printed.as_str(), end), (want, place), first);
     }
     Ok(())
 }
@@ -188,13 +188,16 @@ fn reads_long_gaps(rt: HostRuntime) -> Result<(), Fail> {
 fn reads_long_selectors(rt: HostRuntime) -> Result<(), Fail> {
     let text = repeated(rt.alloc(), "a", " a", 99_999, "")?;
     let (printed, end) = read(rt.alloc(), text.as_str())?;
-    assert!(rt; printed.as_str() == text.as_str());
-    assert_eq!(rt; end, text.len());
-    let text = repeated(rt.alloc(), "", ".x", 300, "")?;
-    assert_eq!(rt;
-        parsed(rt.alloc(), text.as_str())?.specificity(),
-        [0, 255, 0]
-    );
+    let is_whole = printed.as_str() == text.as_str();
+    same(&rt, (is_whole, end), (true, text.len()), "many components");
+    Ok(())
+}
+
+#[test]
+fn weighs_many_subselectors(rt: HostRuntime) -> Result<(), Fail> {
+    let text = ".x".repeat(rt.alloc(), 300)?;
+    let weight = parsed(rt.alloc(), text.as_str())?.specificity();
+    same(&rt, weight, [0, 255, 0], "many subselectors");
     Ok(())
 }
 
@@ -224,7 +227,7 @@ const PAIRS: &[(&str, &str, bool)] = &[
 #[test]
 fn copies_are_equal(rt: HostRuntime) -> Result<(), Fail> {
     for &(text, other, is_equal) in PAIRS {
-        assert_eq!(rt; are_equal(rt.alloc(), text, other)?, is_equal, "at {text}");
+        same(&rt, are_equal(rt.alloc(), text, other)?, is_equal, text);
     }
     Ok(())
 }

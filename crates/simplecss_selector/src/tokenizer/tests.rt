@@ -2,6 +2,7 @@
 //! as `descendant`, and an error behind a `!`.
 
 use super::SelectorTokenizer;
+use crate::tests::same;
 use crate::{AttributeOperator, SelectorToken};
 use simplecss_text::Error;
 use std::alloc::{AllocError, Global};
@@ -58,7 +59,7 @@ fn given(alloc: Global, text: &str) -> Result<(String, usize), AllocError> {
 fn assert_given(rt: &impl Abort, alloc: Global, rows: &[(&str, &str)]) -> Result<(), AllocError> {
     for (text, want) in rows {
         let (items, _) = given(alloc, text)?;
-        assert_eq!(rt; items.as_str(), *want, "at {text}");
+        same(rt, items.as_str(), *want, text);
     }
     Ok(())
 }
@@ -70,8 +71,7 @@ fn assert_ends(
 ) -> Result<(), AllocError> {
     for (text, want, place) in rows {
         let (items, end) = given(alloc, text)?;
-        assert_eq!(rt; items.as_str(), *want, "at {text}");
-        assert_eq!(rt; end, *place, "at {text}");
+        same(rt, (items.as_str(), end), (*want, *place), text);
     }
     Ok(())
 }
@@ -222,10 +222,10 @@ fn tells_the_place_behind_each_item(rt: HostRuntime) {
     ];
     for (text, places) in rows {
         let mut tokenizer = SelectorTokenizer::from(*text);
-        assert_eq!(rt; tokenizer.pos(), 0, "at {text}");
+        same(&rt, tokenizer.pos(), 0, text);
         for place in *places {
             let _ = tokenizer.next();
-            assert_eq!(rt; tokenizer.pos(), *place, "at {text}");
+            same(&rt, tokenizer.pos(), *place, text);
         }
     }
 }

@@ -1,6 +1,7 @@
 //! The calls of the cursor on worked texts.
 
 use super::{Stream, is_name_char, is_name_start};
+use crate::tests::same;
 use crate::{Error, TextPos};
 
 fn at(row: u32, col: u32) -> TextPos {
@@ -32,8 +33,11 @@ const NAME_CHARACTERS: &[(char, bool, bool)] = &[
 #[test]
 fn knows_the_characters_of_names(rt: HostRuntime) {
     for &(c, start, inside) in NAME_CHARACTERS {
-        assert_eq!(rt; is_name_start(c), start, "at {c:?}");
-        assert_eq!(rt; is_name_char(c), inside, "at {c:?}");
+        assert_eq!(rt;
+            (is_name_start(c), is_name_char(c)),
+            (start, inside),
+            "at {c:?}"
+        );
     }
 }
 
@@ -64,8 +68,8 @@ const NAMES: &[(&str, Result<&str, Error>, usize)] = &[
 fn reads_names(rt: HostRuntime) {
     for &(text, found, place) in NAMES {
         let mut s = Stream::from(text);
-        assert_eq!(rt; s.consume_ident(), found, "at {text}");
-        assert_eq!(rt; s.pos(), place, "at {text}");
+        same(&rt, s.consume_ident(), found, text);
+        same(&rt, s.pos(), place, text);
     }
 }
 
@@ -87,8 +91,8 @@ const STRINGS: &[(&str, Result<&str, Error>, usize)] = &[
 fn reads_strings(rt: HostRuntime) {
     for &(text, found, place) in STRINGS {
         let mut s = Stream::from(text);
-        assert_eq!(rt; s.consume_string(), found, "at {text}");
-        assert_eq!(rt; s.pos(), place, "at {text}");
+        same(&rt, s.consume_string(), found, text);
+        same(&rt, s.pos(), place, text);
     }
 }
 
@@ -110,8 +114,8 @@ const COMMENTS: &[(&str, Result<(), Error>, usize)] = &[
 fn reads_comments(rt: HostRuntime) {
     for &(text, found, place) in COMMENTS {
         let mut s = Stream::from(text);
-        assert_eq!(rt; s.skip_comment(), found, "at {text}");
-        assert_eq!(rt; s.pos(), place, "at {text}");
+        same(&rt, s.skip_comment(), found, text);
+        same(&rt, s.pos(), place, text);
     }
 }
 
@@ -138,8 +142,8 @@ const BLANKS: &[(&str, Result<(), Error>, usize)] = &[
 fn reads_blanks(rt: HostRuntime) {
     for &(text, found, place) in BLANKS {
         let mut s = Stream::from(text);
-        assert_eq!(rt; s.skip_spaces_and_comments(), found, "at {text}");
-        assert_eq!(rt; s.pos(), place, "at {text}");
+        same(&rt, s.skip_spaces_and_comments(), found, text);
+        same(&rt, s.pos(), place, text);
     }
 }
 
@@ -149,50 +153,66 @@ const TEXT: &str = "a\u{E9}\n(b)c";
 #[test]
 fn consumes_bytes(rt: HostRuntime) {
     let mut s = Stream::new(TEXT);
-    assert_eq!(rt; (s.curr_byte(), s.next_byte()), (Ok(b'a'), Ok(0xC3)));
-    assert!(rt; !s.at_end());
-    assert_eq!(rt; (s.consume_byte(b'a'), s.pos()), (Ok(()), 1));
+    same(
+        &rt,
+        (s.curr_byte(), s.next_byte()),
+        (Ok(b'a'), Ok(0xC3)),
+        TEXT,
+    );
+    same(&rt, s.at_end(), false, TEXT);
+    same(&rt, (s.consume_byte(b'a'), s.pos()), (Ok(()), 1), TEXT);
     let other = Err(Error::InvalidByte {
         expected: b'x',
         actual: 0xC3,
         pos: at(1, 2),
     });
-    assert_eq!(rt; (s.consume_byte(b'x'), s.pos()), (other, 1));
+    same(&rt, (s.consume_byte(b'x'), s.pos()), (other, 1), TEXT);
     s.try_consume_byte(b'x');
-    assert_eq!(rt; s.pos(), 1);
+    same(&rt, s.pos(), 1, TEXT);
 }
 
 #[test]
 fn consumes_runs_of_bytes(rt: HostRuntime) {
     let mut s = Stream::new(TEXT);
     s.try_consume_byte(b'a');
-    assert_eq!(rt; s.consume_bytes(|b| b >= 128), "\u{E9}");
-    assert_eq!(rt; (s.pos(), s.gen_text_pos()), (3, at(1, 3)));
+    same(&rt, s.consume_bytes(|b| b >= 128), "\u{E9}", TEXT);
+    same(&rt, (s.pos(), s.gen_text_pos()), (3, at(1, 3)), TEXT);
     s.skip_spaces();
-    assert_eq!(rt; (s.pos(), s.gen_text_pos()), (4, at(2, 1)));
+    same(&rt, (s.pos(), s.gen_text_pos()), (4, at(2, 1)), TEXT);
     s.try_consume_byte(b'(');
-    assert_eq!(rt; s.pos(), 5);
+    same(&rt, s.pos(), 5, TEXT);
     s.skip_bytes(|b| b != b')');
-    assert_eq!(rt; (s.pos(), s.slice_tail()), (6, ")c"));
+    same(&rt, (s.pos(), s.slice_tail()), (6, ")c"), TEXT);
 }
 
 #[test]
 fn consumes_nothing_at_the_end(rt: HostRuntime) {
     let mut s = Stream::new(TEXT);
     s.jump_to_end();
-    assert_eq!(rt; (s.at_end(), s.pos()), (true, 8));
+    same(&rt, (s.at_end(), s.pos()), (true, 8), TEXT);
     let ended = Error::UnexpectedEndOfStream;
-    assert_eq!(rt; (s.curr_byte(), s.next_byte()), (Err(ended), Err(ended)));
-    assert_eq!(rt; s.consume_byte(b'a'), Err(ended));
-    assert_eq!(rt; s.gen_text_pos(), at(2, 5));
+    same(
+        &rt,
+        (s.curr_byte(), s.next_byte()),
+        (Err(ended), Err(ended)),
+        TEXT,
+    );
+    same(&rt, s.consume_byte(b'a'), Err(ended), TEXT);
+    same(&rt, s.gen_text_pos(), at(2, 5), TEXT);
 }
 
 #[test]
 fn goes_by_places(rt: HostRuntime) {
-    let mut s = Stream::new("abc");
+    let text = "abc";
+    let mut s = Stream::new(text);
     s.advance(2);
-    assert_eq!(rt; (s.pos(), s.curr_byte_unchecked()), (2, b'c'));
-    assert_eq!(rt; (s.slice_range(0, 1), s.slice_back(1)), ("a", "b"));
-    assert_eq!(rt; s.gen_text_pos_from(1), at(1, 2));
-    assert_eq!(rt; s.gen_text_pos_from(100), at(1, 4));
+    same(&rt, (s.pos(), s.curr_byte_unchecked()), (2, b'c'), text);
+    same(
+        &rt,
+        (s.slice_range(0, 1), s.slice_back(1)),
+        ("a", "b"),
+        text,
+    );
+    same(&rt, s.gen_text_pos_from(1), at(1, 2), text);
+    same(&rt, s.gen_text_pos_from(100), at(1, 4), text);
 }

@@ -1,5 +1,6 @@
 //! What an index finds.
 
+use super::same;
 use crate::{Node, Tree, TreeError};
 use log::sink::Discard;
 use simplecss::{Rule, RuleIndex, StyleSheet, Tests};
@@ -121,10 +122,11 @@ fn found(alloc: Global, text: &str, line: &[Entry<'_>]) -> Result<String, Fail> 
 #[test]
 fn what_an_index_finds(rt: HostRuntime) -> Result<(), Fail> {
     for (text, line, expected) in FOUND {
-        assert_eq!(rt;
+        same(
+            &rt,
             found(rt.alloc(), text, line)?.as_str(),
             *expected,
-            "{text}"
+            text,
         );
     }
     Ok(())
@@ -173,7 +175,7 @@ fn asked_in_turn(
 #[test]
 fn as_if_each_rule_were_asked(rt: HostRuntime) -> Result<(), Fail> {
     let sheet = StyleSheet::parse(&Discard, rt.alloc(), SHEET)?;
-    assert_eq!(rt; sheet.rules.len(), 27);
+    same(&rt, sheet.rules.len(), 27, SHEET);
     let index = RuleIndex::new(rt.alloc(), &sheet.rules)?;
     let mut places = Vec::new(rt.alloc());
     places.push(7)?;
@@ -182,7 +184,7 @@ fn as_if_each_rule_were_asked(rt: HostRuntime) -> Result<(), Fail> {
         let element = last(&tree).ok_or("no element")?;
         index.matching_counted(&sheet.rules, &element, &mut places, &mut Tests::new())?;
         let asked = asked_in_turn(rt.alloc(), &sheet.rules, &element)?;
-        assert!(rt; places == asked, "{line:?}: {places:?}");
+        same(&rt, places.as_slice(), asked.as_slice(), element.name());
     }
     Ok(())
 }
@@ -217,7 +219,7 @@ fn a_repeated_class_takes_little_memory(rt: HostRuntime) -> Result<(), Fail> {
     let text = repeated(rt.alloc(), ".b{n:1} ", 100)?;
     let class = repeated(rt.alloc(), "b ", 100)?;
     let (count, room, later) = rooms(rt.alloc(), text.as_str(), class.as_str())?;
-    assert_eq!(rt; count, 100);
-    assert!(rt; room <= 512 && later == room);
+    same(&rt, (count, later), (100, room), "the places");
+    same(&rt, room <= 512, true, "their room");
     Ok(())
 }

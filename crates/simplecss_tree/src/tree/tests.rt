@@ -1,6 +1,7 @@
 //! What the elements of the ready tree answer.
 
 use super::{States, Tree, TreeError};
+use crate::tests::same;
 use log::sink::Discard;
 use simplecss::{Element, Keyed, Selector};
 use std::alloc::{AllocError, Global};
@@ -96,7 +97,7 @@ fn matches_as_the_standard_says(rt: HostRuntime) -> Result<(), Fail> {
     let tree = two_trees(rt.alloc())?;
     for &(text, wanted) in MATCHED {
         let places = matched(rt.alloc(), &tree, text)?;
-        assert_eq!(rt; places.as_slice(), wanted, "at {text}");
+        same(&rt, places.as_slice(), wanted, text);
     }
     Ok(())
 }
@@ -117,7 +118,7 @@ fn tells_each_state(rt: HostRuntime) -> Result<(), Fail> {
         tree.set_states(0, states)?;
         for other in texts {
             let is_matched = !matched(rt.alloc(), &tree, other)?.is_empty();
-            assert_eq!(rt; is_matched, other == *text, "{other} in the state {text}");
+            same(&rt, is_matched, other == *text, other);
         }
     }
     Ok(())
@@ -141,16 +142,9 @@ fn tells_relatives(rt: HostRuntime) -> Result<(), Fail> {
     let tree = two_trees(rt.alloc())?;
     for &(place, parent, previous) in RELATIVES {
         let node = tree.node(place).ok_or("no element")?;
-        assert_eq!(rt;
-            node.parent_element().map(|n| n.place()),
-            parent,
-            "above {place}"
-        );
-        assert_eq!(rt;
-            node.prev_sibling_element().map(|n| n.place()),
-            previous,
-            "before {place}"
-        );
+        let above = node.parent_element().map(|n| n.place());
+        let before = node.prev_sibling_element().map(|n| n.place());
+        same(&rt, (above, before), (parent, previous), node.name());
     }
     Ok(())
 }
@@ -159,11 +153,21 @@ fn tells_relatives(rt: HostRuntime) -> Result<(), Fail> {
 fn tells_values(rt: HostRuntime) -> Result<(), Fail> {
     let tree = two_trees(rt.alloc())?;
     let b = tree.node(3).ok_or("no element")?;
-    assert!(rt; b.name() == "b" && b.local_name() == "b");
-    assert!(rt; b.id_value().is_none() && b.class_value() == Some("y w"));
+    same(&rt, (b.name(), b.local_name()), ("b", "b"), "b");
+    same(
+        &rt,
+        (b.id_value(), b.class_value()),
+        (None, Some("y w")),
+        "b",
+    );
     let g = tree.node(10).ok_or("no element")?;
-    assert!(rt; g.id_value() == Some("X") && g.attribute("id") == Some("X"));
-    assert!(rt; g.attribute("ID").is_none() && g.class_value().is_none());
+    same(&rt, (g.id_value(), g.class_value()), (Some("X"), None), "g");
+    same(
+        &rt,
+        (g.attribute("id"), g.attribute("ID")),
+        (Some("X"), None),
+        "g",
+    );
     Ok(())
 }
 
@@ -171,21 +175,23 @@ fn tells_values(rt: HostRuntime) -> Result<(), Fail> {
 fn answers_that_there_is_no_element(rt: HostRuntime) {
     let none = TreeError::NoElement;
     let mut tree = Tree::new(rt.alloc());
-    assert_eq!(rt; tree.set_attribute("a", "b"), Err(none));
-    assert_eq!(rt; tree.set_states(0, States::default()), Err(none));
-    assert_eq!(rt; tree.push(Some(0), "a"), Err(none));
-    assert!(rt; tree.node(0).is_none());
-    assert!(rt; tree.push(None, "a") == Ok(0));
-    assert_eq!(rt; tree.push(Some(1), "b"), Err(none));
-    assert_eq!(rt; tree.set_states(1, States::default()), Err(none));
-    assert_eq!(rt; tree.len(), 1);
+    let of = "no element";
+    same(&rt, tree.set_attribute("a", "b"), Err(none), of);
+    same(&rt, tree.set_states(0, States::default()), Err(none), of);
+    same(&rt, tree.push(Some(0), "a"), Err(none), of);
+    same(&rt, tree.node(0).is_none(), true, of);
+    let of = "one element";
+    same(&rt, tree.push(None, "a"), Ok(0), of);
+    same(&rt, tree.push(Some(1), "b"), Err(none), of);
+    same(&rt, tree.set_states(1, States::default()), Err(none), of);
+    same(&rt, tree.len(), 1, of);
 }
 
 #[test]
 fn says_that_there_is_no_element(rt: HostRuntime) -> Result<(), AllocError> {
     let text = TreeError::NoElement.to_string(rt.alloc())?;
-    assert_eq!(rt; text.as_str(), "no such element");
+    same(&rt, text.as_str(), "no such element", "a tree");
     let text = io::Error::from(TreeError::NoElement).to_string(rt.alloc())?;
-    assert_eq!(rt; text.as_str(), "no such element");
+    same(&rt, text.as_str(), "no such element", "an error of io");
     Ok(())
 }

@@ -1,4 +1,5 @@
 use super::*;
+use crate::tests::same;
 use log::sink::Discard;
 use std::test::Fail;
 
@@ -20,13 +21,13 @@ fn edits_a_sheet(rt: HostRuntime) -> Result<(), Fail> {
     push_rule(rt.alloc(), &mut sheet, selector, declaration)?;
     let printed = sheet.to_string(rt.alloc())?;
     let want = "a { b:c !important; }\n*[id='i'] { j:k !important; }\nl > *[class~='m'] { n:o; }";
-    assert_eq!(rt; printed.as_str(), want);
+    same(&rt, printed.as_str(), want, text);
     // A text that is read then takes the rule to its place in the order.
     sheet.parse_more(&Discard, rt.alloc(), "p { q:r }")?;
     let printed = sheet.to_string(rt.alloc())?;
     let want =
         "a { b:c !important; }\np { q:r; }\nl > *[class~='m'] { n:o; }\n*[id='i'] { j:k !important; }";
-    assert_eq!(rt; printed.as_str(), want);
+    same(&rt, printed.as_str(), want, text);
     Ok(())
 }
 
@@ -46,15 +47,11 @@ fn tells_which_sheets_read_back(rt: HostRuntime) -> Result<(), Fail> {
                 declaration.value = value;
             }
         }
-        assert_eq!(rt;
-            reads_back(rt.alloc(), &sheet)?,
-            wanted,
-            "{text} with {value}"
-        );
+        same(&rt, reads_back(rt.alloc(), &sheet)?, wanted, value);
     }
     // A sheet reads back in the order of specificity.
     let mut sheet = StyleSheet::parse(&Discard, rt.alloc(), "a { b:c } #d { e:f }")?;
     sheet.rules.reverse();
-    assert!(rt; !reads_back(rt.alloc(), &sheet)?);
+    same(&rt, reads_back(rt.alloc(), &sheet)?, false, "another order");
     Ok(())
 }

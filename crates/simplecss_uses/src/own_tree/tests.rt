@@ -1,4 +1,5 @@
 use super::*;
+use crate::tests::same;
 use log::sink::Discard;
 use simplecss::Selector;
 use std::test::Fail;
@@ -46,11 +47,8 @@ fn matches_in_an_own_tree(rt: HostRuntime) -> Result<(), Fail> {
                 entries: &entries,
                 place,
             };
-            assert_eq!(rt;
-                selector.matches(&spot),
-                wanted.contains(&place),
-                "{text} at {place}"
-            );
+            let found = (place, selector.matches(&spot));
+            same(&rt, found, (place, wanted.contains(&place)), text);
         }
     }
     Ok(())

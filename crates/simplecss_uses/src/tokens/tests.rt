@@ -3,6 +3,7 @@ use super::{
     all_declarations, all_items, declaration_count, error_count, first_error, first_important,
     important_count, important_count_by_chain, item_count,
 };
+use crate::tests::same;
 use simplecss::{Declaration, Error, SelectorToken, TextPos};
 use std::test::Fail;
 
@@ -20,8 +21,8 @@ const IMPORTANT: &[(&str, usize)] = &[
 #[test]
 fn counts_important_declarations(rt: HostRuntime) {
     for &(text, want) in IMPORTANT {
-        assert_eq!(rt; important_count(text), want, "at {text}");
-        assert_eq!(rt; important_count_by_chain(text), want, "at {text}");
+        same(&rt, important_count(text), want, text);
+        same(&rt, important_count_by_chain(text), want, text);
     }
 }
 
@@ -36,7 +37,7 @@ const DECLARATIONS: &[(&str, usize)] = &[
 #[test]
 fn counts_declarations(rt: HostRuntime) {
     for &(text, want) in DECLARATIONS {
-        assert_eq!(rt; declaration_count(text), want, "at {text}");
+        same(&rt, declaration_count(text), want, text);
     }
 }
 
@@ -67,7 +68,7 @@ const ALL: &[Declaration<'static>] = &[
 #[test]
 fn gathers_declarations(rt: HostRuntime) -> Result<(), Fail> {
     let all = all_declarations(rt.alloc(), STYLE)?;
-    assert!(rt; all.as_slice() == ALL);
+    same(&rt, all.as_slice(), ALL, STYLE);
     Ok(())
 }
 
@@ -79,8 +80,8 @@ fn finds_an_important_declaration(rt: HostRuntime) {
         value: "url(\"img.png\")",
         important: true,
     });
-    assert!(rt; found == want);
-    assert!(rt; first_important("color:red").is_none());
+    same(&rt, found, want, STYLE);
+    same(&rt, first_important("color:red"), None, "color:red");
 }
 
 /// Selectors, and how many errors their tokens have.
@@ -97,7 +98,7 @@ const ERRORS: &[(&str, usize)] = &[
 #[test]
 fn counts_errors(rt: HostRuntime) {
     for &(text, want) in ERRORS {
-        assert_eq!(rt; error_count(text), want, "at {text}");
+        same(&rt, error_count(text), want, text);
     }
 }
 
@@ -114,26 +115,27 @@ const ITEMS: &[(&str, usize)] = &[
 #[test]
 fn counts_items(rt: HostRuntime) {
     for &(text, want) in ITEMS {
-        assert_eq!(rt; item_count(text), want, "at {text}");
+        same(&rt, item_count(text), want, text);
     }
 }
 
 #[test]
 fn gathers_items(rt: HostRuntime) -> Result<(), Fail> {
-    let all = all_items(rt.alloc(), "a <")?;
+    let text = "a <";
+    let all = all_items(rt.alloc(), text)?;
     let want = [
         Ok(SelectorToken::TypeSelector("a")),
         Ok(SelectorToken::DescendantCombinator),
         Err(Error::InvalidIdent(TextPos::new(1, 3))),
         Err(Error::SelectorMissing),
     ];
-    assert!(rt; all.as_slice() == want.as_slice());
+    same(&rt, all.as_slice(), want.as_slice(), text);
     Ok(())
 }
 
 #[test]
 fn finds_an_error(rt: HostRuntime) {
     let want = Some(Err(Error::InvalidIdent(TextPos::new(1, 3))));
-    assert!(rt; first_error("a < b") == want);
-    assert!(rt; first_error("a > b").is_none());
+    same(&rt, first_error("a < b"), want, "a < b");
+    same(&rt, first_error("a > b"), None, "a > b");
 }

@@ -1,6 +1,7 @@
 //! Statements with their places.
 
 use super::StatementReader;
+use crate::tests::same;
 use log::sink::Discard;
 use std::fmt::Write as _;
 use std::test::Fail;
@@ -21,9 +22,7 @@ fn reads_statements_with_their_places(rt: HostRuntime) -> Result<(), Fail> {
         }
         told.push('\n')?;
     }
-    assert_eq!(rt;
-        told.as_str(),
-        "8 17 a { b:c; }\n18 21\n22 34 d { f:g; } e { f:g; }\nnone\nnone\n"
-    );
+    let wanted = "8 17 a { b:c; }\n18 21\n22 34 d { f:g; } e { f:g; }\nnone\nnone\n";
+    same(&rt, told.as_str(), wanted, text);
     Ok(())
 }
