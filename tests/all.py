@@ -14,7 +14,7 @@ import tempfile
 
 TOP = os.path.dirname(os.path.dirname(os.path.abspath(__file__)))
 # Each script of this folder, and the crate of the program that it runs.
-SWEEPS = (("refused.py", "simplecss_refusals"), ("program.py", "cssq_cli"))
+SWEEPS = (("refused.py", "tests_refusals"), ("program.py", "cssq_cli"))
 # The scripts that refuse no request for memory, and the crate of the program that one runs.
 PLAIN = (("docs.py", "cssq_cli"), ("script.py", None))
 passed = failed = 0

@@ -140,7 +140,8 @@ def answers(words, stdin, kinds, status, out, line):
     if err is not None:
         told, last = faults(err)
         holds &= told == ([line] if line else []) and (not line or last == [line])
-    expect(holds, f"{words} with {kinds or 'ordinary streams'}: status {child.returncode}, {got}, {err}")
+    shown = got if got is None or len(got) < 1000 else got[:1000] + b" .."
+    expect(holds, f"{words} with {kinds or 'ordinary streams'}: status {child.returncode}, {shown}, {err}")
 
 
 # words, standard input, status, output, the line that tells why
@@ -210,6 +211,28 @@ for bad in UNREADABLE:
     for worse in UNREADABLE:
         for words in (["sheet", bad, worse], ["match", bad, worse], ["style", bad, worse, "c"]):
             answers(words, b"", {}, 4, "", f"cssq: cannot read {bad}")
+# ---- inputs of a hundred thousand parts, and 750,000 siblings: the answers, on an ordinary stack
+
+MANY = 100_000
+chain = " ".join(["a"] * MANY)
+HUGE = [
+    ([], chain, f"{chain}\t0,0,255\n"),
+    (["sheet", put("closing.css", b"}" * MANY + b"a { b:c }")], "", ""),
+    (["sheet", put("opening.css", b"{" * MANY + b"}")], "", ""),
+    (["sheet", put("declarations.css", b"a { " + b"b:c;" * MANY + b"}")], "", "a { " + "b:c;" * MANY + " }\n"),
+    (
+        ["match", put("child.css", b"a > a { b:c }"), put("deep.tree", "".join(f"{depth}\ta\n" for depth in range(MANY)).encode())],
+        "",
+        "1:\n" + "".join(f"{number}: 1\n" for number in range(2, MANY + 1)),
+    ),
+    (
+        ["match", put("step.css", b"b + a { c:d }"), put("wide.tree", b"0\ta\n" * 749_998 + b"0\tb\n0\ta\n")],
+        "",
+        "".join(f"{number}:\n" for number in range(1, 750_000)) + "750000: 1\n",
+    ),
+]
+for words, stdin, out in HUGE:
+    answers(words, stdin.encode(), {}, 0, out, "")
 print(f"the program: {checks.passed - before} answers to words and files")
 
 # ---- streams: what can't be written is told by the status, and a fault of standard error changes nothing

@@ -220,6 +220,3 @@ pub fn winners<'a, E: Element>(
     }
     Ok(all)
 }
-
-#[cfg(test)]
-mod tests;

@@ -85,6 +85,3 @@ fn style_tree(operands: &[String]) -> Option<Command<'_>>
         _ => None,
     }
 }
-
-#[cfg(test)]
-mod tests;

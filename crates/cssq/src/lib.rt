@@ -8,6 +8,3 @@ pub mod laws;
 pub mod runs;
 
 pub use cssq_tree::tree;
-
-#[cfg(test)]
-mod tests;

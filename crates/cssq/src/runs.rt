@@ -368,6 +368,3 @@ pub fn run_style<R: Log, W: Write>(
 {
     run_page(rt, alloc, Asked::Winner(name), sheet, tree, out)
 }
-
-#[cfg(test)]
-mod tests;

@@ -48,6 +48,3 @@ impl Log for Notice {
         ""
     }
 }
-
-#[cfg(test)]
-mod tests;

@@ -557,6 +557,3 @@ impl<'p, 't> Keyed for Node<'p, 't> {
         self.page.attribute(self.place, "class")
     }
 }
-
-#[cfg(test)]
-mod tests;

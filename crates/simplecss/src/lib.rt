@@ -25,6 +25,3 @@ pub use simplecss_selector::{
     SelectorTokenizer, Tests,
 };
 pub use simplecss_text::{Error, TextPos, stream};
-
-#[cfg(test)]
-mod tests;

@@ -11,6 +11,3 @@ mod style_sheet;
 pub use rules::Rule;
 pub use statement_reader::{Statement, StatementReader};
 pub use style_sheet::StyleSheet;
-
-#[cfg(test)]
-mod tests;

@@ -67,6 +67,3 @@ impl<'a> Iterator for DeclarationTokenizer<'a> {
 }
 
 impl FusedIterator for DeclarationTokenizer<'_> {}
-
-#[cfg(test)]
-mod tests;

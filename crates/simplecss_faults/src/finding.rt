@@ -229,6 +229,3 @@ pub fn find_faults<'a>(alloc: Global, text: &'a str) -> Result<Vec<Fault<'a>>, A
     let Finder { faults, .. } = finder;
     Ok(faults)
 }
-
-#[cfg(test)]
-mod tests;

@@ -28,6 +28,3 @@ fn tell_fault<W: Write>(out: &mut W, name: &str, fault: &Fault<'_>) -> io::Resul
         Reason::Declaration | Reason::Comment => Ok(()),
     }
 }
-
-#[cfg(test)]
-mod tests;

@@ -45,6 +45,3 @@ pub(crate) fn first_class<'a>(subselectors: &[SubSelector<'a>]) -> Option<&'a st
     }
     None
 }
-
-#[cfg(test)]
-mod tests;

@@ -33,6 +33,3 @@ pub use operator_laws::operator_equality_laws;
 pub use selector::Selector;
 pub use token::SelectorToken;
 pub use tokenizer::SelectorTokenizer;
-
-#[cfg(test)]
-mod tests;

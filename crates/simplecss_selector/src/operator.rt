@@ -87,6 +87,3 @@ pub enum PseudoClass<'a> {
     /// `:lang(language)`
     Lang(&'a str),
 }
-
-#[cfg(test)]
-mod tests;

@@ -353,6 +353,3 @@ impl<'a> Selector<'a> {
         })
     }
 }
-
-#[cfg(test)]
-mod tests;

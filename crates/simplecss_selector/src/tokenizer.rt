@@ -422,6 +422,3 @@ impl<'a> Iterator for SelectorTokenizer<'a> {
 }
 
 impl<'a> FusedIterator for SelectorTokenizer<'a> {}
-
-#[cfg(test)]
-mod tests;

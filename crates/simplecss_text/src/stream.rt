@@ -328,6 +328,3 @@ impl<'a> Stream<'a> {
         position_behind(&self.text[..pos.min(self.text.len())])
     }
 }
-
-#[cfg(test)]
-mod tests;

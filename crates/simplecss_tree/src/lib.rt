@@ -6,6 +6,3 @@ mod tree;
 
 pub use node::Node;
 pub use tree::{States, Tree, TreeError};
-
-#[cfg(test)]
-mod tests;

@@ -319,6 +319,3 @@ impl<'t> Tree<'t> {
         }
     }
 }
-
-#[cfg(test)]
-mod tests;

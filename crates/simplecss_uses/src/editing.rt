@@ -40,6 +40,3 @@ pub fn reads_back(alloc: Global, sheet: &StyleSheet<'_>) -> Result<bool, AllocEr
     let again = StyleSheet::parse(&Discard, alloc, printed.as_str())?;
     Ok(again.rules == sheet.rules)
 }
-
-#[cfg(test)]
-mod tests;

@@ -6,6 +6,4 @@
 
 pub mod editing;
 pub mod own_tree;
-#[cfg(test)]
-mod tests;
 pub mod tokens;

@@ -8,9 +8,6 @@ ghost use Rattle.simplecss_uses.specs.declared.own_tree.Entry.{Entry};
 
 use simplecss::{AttributeOperator, Element, PseudoClass};
 
-#[cfg(test)]
-mod tests;
-
 /// An entry: a name, a class, and the places of the parent and of the previous sibling, if any.
 #[derive(Clone, Copy, Debug)]
 pub struct Entry<'t> {

@@ -12,9 +12,6 @@ ghost use Rattle.simplecss.specs.SeenTokens.{item_seen};
 use simplecss::{Declaration, DeclarationTokenizer, Error, SelectorToken, SelectorTokenizer};
 use std::alloc::{AllocError, Global};
 
-#[cfg(test)]
-mod tests;
-
 /// How many of the text's declarations are important.
 pub fn important_count(text: &str) -> usize {
     let mut count = 0_usize;

@@ -84,6 +84,3 @@ impl<'a> StatementReader<'a> {
         }))
     }
 }
-
-#[cfg(test)]
-mod tests;

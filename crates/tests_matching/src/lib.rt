@@ -1,0 +1,18 @@
+//! Tests of what the library answers on trees: the ready tree, the index of rules, and the loops and
+//! the tree of `simplecss_uses`. The crate has no item of its own.
+#![tactic(auto)]
+
+#[cfg(test)]
+mod editing;
+#[cfg(test)]
+mod indexes;
+#[cfg(test)]
+mod laws;
+#[cfg(test)]
+mod loops;
+#[cfg(test)]
+mod own_tree;
+#[cfg(test)]
+mod same;
+#[cfg(test)]
+mod tree;

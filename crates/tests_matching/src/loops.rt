@@ -1,0 +1,141 @@
+//! What the loops and chains give.
+use crate::same::same;
+use simplecss::{Declaration, Error, SelectorToken, TextPos};
+use simplecss_uses::tokens::{
+    all_declarations, all_items, declaration_count, error_count, first_error, first_important,
+    important_count, important_count_by_chain, item_count,
+};
+use std::test::Fail;
+
+const STYLE: &str = "color: red; background: url(\"img.png\") !important; a:b!importantly:x";
+
+/// Styles, and how many of their declarations are important.
+const IMPORTANT: &[(&str, usize)] = &[
+    (STYLE, 2),
+    ("color:red !important", 1),
+    ("color:red", 0),
+    ("color:; x:y !important", 0),
+    ("", 0),
+];
+
+#[test]
+fn counts_important_declarations(rt: HostRuntime) {
+    for &(text, want) in IMPORTANT {
+        same(&rt, important_count(text), want, text);
+        same(&rt, important_count_by_chain(text), want, text);
+    }
+}
+
+/// Styles, and how many declarations they have.
+const DECLARATIONS: &[(&str, usize)] = &[
+    (STYLE, 4),
+    ("color:red", 1),
+    ("color:; x:y", 0),
+    ("/**/", 0),
+];
+
+#[test]
+fn counts_declarations(rt: HostRuntime) {
+    for &(text, want) in DECLARATIONS {
+        same(&rt, declaration_count(text), want, text);
+    }
+}
+
+/// The declarations of the style.
+const ALL: &[Declaration<'static>] = &[
+    Declaration {
+        name: "color",
+        value: "red",
+        important: false,
+    },
+    Declaration {
+        name: "background",
+        value: "url(\"img.png\")",
+        important: true,
+    },
+    Declaration {
+        name: "a",
+        value: "b",
+        important: true,
+    },
+    Declaration {
+        name: "ly",
+        value: "x",
+        important: false,
+    },
+];
+
+#[test]
+fn gathers_declarations(rt: HostRuntime) -> Result<(), Fail> {
+    let all = all_declarations(rt.alloc(), STYLE)?;
+    same(&rt, all.as_slice(), ALL, STYLE);
+    Ok(())
+}
+
+#[test]
+fn finds_an_important_declaration(rt: HostRuntime) {
+    let found = first_important(STYLE);
+    let want = Some(Declaration {
+        name: "background",
+        value: "url(\"img.png\")",
+        important: true,
+    });
+    same(&rt, found, want, STYLE);
+    same(&rt, first_important("color:red"), None, "color:red");
+}
+
+/// Selectors, and how many errors their tokens have.
+const ERRORS: &[(&str, usize)] = &[
+    ("a > b", 0),
+    ("a <", 2),
+    ("a<", 1),
+    ("/* x", 2),
+    ("a / b", 1),
+    ("a/ b", 0),
+    ("", 1),
+];
+
+#[test]
+fn counts_errors(rt: HostRuntime) {
+    for &(text, want) in ERRORS {
+        same(&rt, error_count(text), want, text);
+    }
+}
+
+/// Selectors, and how many tokens and errors they have.
+const ITEMS: &[(&str, usize)] = &[
+    ("a > b", 3),
+    ("a <", 4),
+    ("a<", 2),
+    ("<", 2),
+    ("", 1),
+    ("a, b", 1),
+];
+
+#[test]
+fn counts_items(rt: HostRuntime) {
+    for &(text, want) in ITEMS {
+        same(&rt, item_count(text), want, text);
+    }
+}
+
+#[test]
+fn gathers_items(rt: HostRuntime) -> Result<(), Fail> {
+    let text = "a <";
+    let all = all_items(rt.alloc(), text)?;
+    let want = [
+        Ok(SelectorToken::TypeSelector("a")),
+        Ok(SelectorToken::DescendantCombinator),
+        Err(Error::InvalidIdent(TextPos::new(1, 3))),
+        Err(Error::SelectorMissing),
+    ];
+    same(&rt, all.as_slice(), want.as_slice(), text);
+    Ok(())
+}
+
+#[test]
+fn finds_an_error(rt: HostRuntime) {
+    let want = Some(Err(Error::InvalidIdent(TextPos::new(1, 3))));
+    same(&rt, first_error("a < b"), want, "a < b");
+    same(&rt, first_error("a > b"), None, "a > b");
+}

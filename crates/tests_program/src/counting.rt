@@ -1,0 +1,262 @@
+//! Elements of a page that count the tests that are made of them.
+
+use crate::same::same;
+use cssq::cascade::{winners, winning};
+use cssq::tree::{Node, Page};
+use log::sink::Discard;
+use simplecss::{AttributeOperator, Element, PseudoClass, Selector, StyleSheet, Tests};
+use std::alloc::Global;
+use std::cell::Cell;
+use std::test::Fail;
+
+/// How often elements were asked each question.
+#[derive(Drop)]
+struct Asked {
+    names: Cell<u64>,
+    attributes: Cell<u64>,
+    classes: Cell<u64>,
+}
+
+impl Asked {
+    fn new() -> Asked {
+        Asked {
+            names: Cell::new(0),
+            attributes: Cell::new(0),
+            classes: Cell::new(0),
+        }
+    }
+}
+
+fn count(cell: &Cell<u64>) {
+    cell.set(cell.get().saturating_add(1));
+}
+
+/// An element of a page that counts what it and its relatives are asked.
+#[derive(Drop)]
+struct Counted<'a, 'p, 't> {
+    node: Node<'p, 't>,
+    asked: &'a Asked,
+}
+
+impl<'a, 'p, 't> Element for Counted<'a, 'p, 't> {
+    ghost use Rattle.cssq.specs.Nodes.{Spot, page_tree};
+    ghost use Rattle.cssq.specs.ElementLaws.{depths_count_ancestors, siblings_share_parents};
+
+    ghost Node = { Spot };
+
+    ghost tree = { page_tree };
+
+    ghost node = { λ counted. counted.node };
+
+    ghost depth_law = { depths_count_ancestors };
+
+    ghost sibling_law = { siblings_share_parents };
+
+    fn parent_element(&self) -> Option<Self> {
+        let node = self.node.parent_element()?;
+        Some(Counted {
+            node,
+            asked: self.asked,
+        })
+    }
+
+    fn prev_sibling_element(&self) -> Option<Self> {
+        let node = self.node.prev_sibling_element()?;
+        Some(Counted {
+            node,
+            asked: self.asked,
+        })
+    }
+
+    fn has_local_name(&self, name: &str) -> bool {
+        count(&self.asked.names);
+        self.node.has_local_name(name)
+    }
+
+    fn attribute_matches(&self, local_name: &str, operator: AttributeOperator<'_>) -> bool {
+        count(&self.asked.attributes);
+        self.node.attribute_matches(local_name, operator)
+    }
+
+    fn pseudo_class_matches(&self, class: PseudoClass<'_>) -> bool {
+        count(&self.asked.classes);
+        self.node.pseudo_class_matches(class)
+    }
+}
+
+/// An answer, and how often names, attributes and classes were asked.
+#[derive(Clone, Copy, PartialEq, Debug)]
+struct Run {
+    answer: bool,
+    names: u64,
+    attributes: u64,
+    classes: u64,
+}
+
+/// The run of a selector on the last element of a tree, by `matches_counted` or by `matches`.
+fn asked_on_last(alloc: Global, selector: &str, tree: &str, is_counted: bool) -> Result<Run, Fail> {
+    let page = Page::read(alloc, tree)?;
+    let selector = Selector::parse(&Discard, alloc, selector)?.ok_or("refused")?;
+    let asked = Asked::new();
+    let last = page.len().checked_sub(1).ok_or("empty")?;
+    let element = Counted {
+        node: page.node(last).ok_or("no element")?,
+        asked: &asked,
+    };
+    let answer = if is_counted {
+        selector.matches_counted(&element, &mut Tests::new())
+    } else {
+        selector.matches(&element)
+    };
+    Ok(Run {
+        answer,
+        names: asked.names.get(),
+        attributes: asked.attributes.get(),
+        classes: asked.classes.get(),
+    })
+}
+
+/// A tree of elements that carry their names as their classes: each word is the child of the one
+/// before, or its sibling where a `+` stands between them.
+fn tree_of(alloc: Global, words: &str) -> Result<String, Fail> {
+    use std::fmt::Write;
+    let mut text = String::new(alloc);
+    let mut depth = 0usize;
+    for word in words.split(' ') {
+        if word == "+" {
+            depth = depth.saturating_sub(1);
+        } else {
+            write!(text, "{depth}\t{word}\tclass={word}\n")?;
+            depth = depth.saturating_add(1);
+        }
+    }
+    Ok(text)
+}
+
+/// A selector by names and one by classes, the words of a tree, the answer, how many tests are
+/// made, and two bounds of them.
+const COUNTS: &[(&str, &str, &str, bool, u64, (u64, u64))] = &[
+    ("a > b c", ".a > .b .c", "a b x b c", true, 6, (15, 10)),
+    ("a b + c", ".a .b + .c", "a x b + c", true, 4, (9, 6)),
+    ("b + c", ".b + .c", "b + x + c", false, 2, (2, 2)),
+    (
+        "y a a c",
+        ".y .a .a .c",
+        "a a a a a a a a a a c",
+        false,
+        11,
+        (44, 11),
+    ),
+    (
+        "a > b > c d",
+        ".a > .b > .c .d",
+        "a b c x b c d",
+        true,
+        9,
+        (28, 21),
+    ),
+    ("y a > a b", ".y .a > .a .b", "a a b", false, 3, (12, 6)),
+];
+
+/// What a run tells that has made these tests, of names or of classes.
+fn run_with(answer: bool, names: u64, attributes: u64) -> Run {
+    Run {
+        answer,
+        names,
+        attributes,
+        classes: 0,
+    }
+}
+
+#[test]
+fn counts_tests(rt: HostRuntime) -> Result<(), Fail> {
+    for &(by_names, by_classes, tree, answer, tests, bounds) in COUNTS {
+        let tree = tree_of(rt.alloc(), tree)?;
+        for is_counted in [true, false] {
+            let named = asked_on_last(rt.alloc(), by_names, tree.as_str(), is_counted)?;
+            same(&rt, named, run_with(answer, tests, 0), by_names);
+            let classed = asked_on_last(rt.alloc(), by_classes, tree.as_str(), is_counted)?;
+            same(&rt, classed, run_with(answer, 0, tests), by_classes);
+        }
+        let is_bounded = tests <= bounds.0 && tests <= bounds.1;
+        same(&rt, is_bounded, true, by_names);
+    }
+    Ok(())
+}
+
+#[test]
+fn counts_pseudo_classes(rt: HostRuntime) -> Result<(), Fail> {
+    let tree = tree_of(rt.alloc(), "a b c")?;
+    for is_counted in [true, false] {
+        let selector = ":first-child > :first-child";
+        let got = asked_on_last(rt.alloc(), selector, tree.as_str(), is_counted)?;
+        let wanted = Run {
+            answer: true,
+            names: 0,
+            attributes: 0,
+            classes: 2,
+        };
+        same(&rt, got, wanted, selector);
+    }
+    Ok(())
+}
+
+const MANY: usize = 100_000;
+
+#[test]
+fn counts_in_a_deep_tree(rt: HostRuntime) -> Result<(), Fail> {
+    use std::fmt::Write;
+    let mut tree = String::new(rt.alloc());
+    let mut selector = String::from_str(rt.alloc(), "a")?;
+    for depth in 0..MANY {
+        write!(tree, "{depth}\ta\n")?;
+        if depth > 0 {
+            selector.push_str(" a")?;
+        }
+    }
+    for is_counted in [true, false] {
+        for (text, answer) in [(selector.as_str(), true), ("x a", false)] {
+            let got = asked_on_last(rt.alloc(), text, tree.as_str(), is_counted)?;
+            same(&rt, got, run_with(answer, 100_000, 0), "a long selector");
+        }
+    }
+    Ok(())
+}
+
+/// How often the one element of a tree is asked its name while the winner for the name `c` is
+/// sought, and while all are.
+fn asked_for_winners(alloc: Global, sheet: &str) -> Result<(u64, u64), Fail> {
+    let sheet = StyleSheet::parse(&Discard, alloc, sheet)?;
+    let page = Page::read(alloc, "0\ta")?;
+    let asked = Asked::new();
+    let element = Counted {
+        node: page.node(0).ok_or("no element")?,
+        asked: &asked,
+    };
+    let _ = winning(&sheet, &element, "c");
+    let for_one = asked.names.get();
+    let _ = winners(alloc, &sheet, &element)?;
+    let for_both = asked.names.get();
+    Ok((for_one, for_both.saturating_sub(for_one)))
+}
+
+/// A sheet, and how often an element is asked for one name and for all.
+const ASKED_RULES: &[(&str, (u64, u64))] = &[
+    ("a{d:x} a{e:x}", (0, 2)),
+    ("a{c:x} a{c:y}", (1, 2)),
+    ("a{c:x} a{c:y} a{d:z}", (1, 3)),
+    ("a{c:x;c:y;c:z}", (1, 1)),
+    ("b{c:x} b{c:y} b{c:z}", (3, 3)),
+    ("a{c:x !important} a{c:y} a{c:z}", (2, 3)),
+    ("a{c:x !important} a{c:y !important} a{c:z}", (2, 3)),
+    ("a{c:x !important} b{c:y} b{c:z}", (3, 3)),
+];
+
+#[test]
+fn asks_few_rules_for_winners(rt: HostRuntime) -> Result<(), Fail> {
+    for &(sheet, times) in ASKED_RULES {
+        let asked = asked_for_winners(rt.alloc(), sheet)?;
+        same(&rt, asked, times, sheet);
+    }
+    Ok(())
+}

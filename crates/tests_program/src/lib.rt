@@ -1,0 +1,24 @@
+//! Tests of what the program `cssq` stands on: its words, tree texts, winners, runs and warnings, and
+//! how often elements are tested. The crate has no item of its own.
+#![tactic(auto)]
+
+#[cfg(test)]
+mod cascade;
+#[cfg(test)]
+mod command;
+#[cfg(test)]
+mod counting;
+#[cfg(test)]
+mod failing_writers;
+#[cfg(test)]
+mod faults;
+#[cfg(test)]
+mod page;
+#[cfg(test)]
+mod runs;
+#[cfg(test)]
+mod same;
+#[cfg(test)]
+mod taken;
+#[cfg(test)]
+mod warnings;

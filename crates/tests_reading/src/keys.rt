@@ -1,0 +1,49 @@
+//! The keys of selectors.
+
+use crate::same::same;
+use simplecss::{Key, Selector};
+use std::test::Fail;
+
+/// A selector, and its key.
+const KEYS: &[(&str, Key<'static>)] = &[
+    ("*", Key::Any),
+    ("p", Key::Name("p")),
+    (".a", Key::Class("a")),
+    ("#x", Key::Id("x")),
+    // The last component alone tells.
+    (".a .b", Key::Class("b")),
+    ("#x > p", Key::Name("p")),
+    ("#x + *", Key::Any),
+    ("p > a:hover", Key::Name("a")),
+    // An id before a class before a name, and of each kind the first.
+    ("a.b#c", Key::Id("c")),
+    ("a.b", Key::Class("b")),
+    ("#x#y", Key::Id("x")),
+    (".b.a", Key::Class("b")),
+    ("p:first-child.a", Key::Class("a")),
+    // As attributes: an id's value as a whole, and a class as one of the words.
+    ("[id=x]", Key::Id("x")),
+    ("[id='']", Key::Id("")),
+    ("[class~=a]", Key::Class("a")),
+    ("[class='a b']", Key::Any),
+    ("a[class='a b']", Key::Name("a")),
+    ("[class=a]", Key::Any),
+    ("[class|=a]", Key::Any),
+    ("[class]", Key::Any),
+    ("[id~=x]", Key::Any),
+    ("[id|=x]", Key::Any),
+    ("[id]", Key::Any),
+    ("[type=text]", Key::Any),
+    ("[ID=x]", Key::Any),
+    ("[idx=x]", Key::Any),
+    (":hover", Key::Any),
+];
+
+#[test]
+fn the_keys_of_selectors(rt: HostRuntime) -> Result<(), Fail> {
+    for (text, key) in KEYS {
+        let selector = Selector::parse(&rt, rt.alloc(), text)?.ok_or("refused")?;
+        same(&rt, selector.key(), *key, text);
+    }
+    Ok(())
+}

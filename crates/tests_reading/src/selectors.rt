@@ -1,0 +1,233 @@
+//! Selectors that are read from the front of a text, printed, weighed and compared.
+
+use crate::same::same;
+use log::sink::{Discard, Lines, Memory};
+use simplecss::Selector;
+use std::alloc::{AllocError, Global};
+use std::process::Abort;
+use std::test::Fail;
+
+/// The selector as it prints, or `refused`, and the place where reading ended.
+fn read(alloc: Global, text: &str) -> Result<(String, usize), AllocError> {
+    let (selector, place) = Selector::parse_front(&Memory::new(alloc), alloc, text)?;
+    let printed = match selector {
+        Some(selector) => format!(in alloc; "{selector}")?,
+        None => String::from_str(alloc, "refused")?,
+    };
+    Ok((printed, place))
+}
+
+fn assert_reads(
+    rt: &impl Abort,
+    alloc: Global,
+    rows: &[(&str, &str, usize)],
+) -> Result<(), AllocError> {
+    for (text, want, place) in rows {
+        let (printed, end) = read(alloc, text)?;
+        same(rt, (printed.as_str(), end), (*want, *place), text);
+    }
+    Ok(())
+}
+
+#[test]
+fn reads_selectors(rt: HostRuntime) -> Result<(), AllocError> {
+    assert_reads(
+        &rt,
+        rt.alloc(),
+        &[
+            ("a > .b\n", "a > *[class~='b']", 7),
+            ("a {x:y}", "a", 2),
+            ("a\u{C}", "a", 2),
+            ("\u{A0}", "\u{A0}", 2),
+            ("\u{E9}", "\u{E9}", 2),
+            ("\u{EE}", "\u{EE}", 2),
+            (
+                "a:first-child + b:lang( en )",
+                "a:first-child + b:lang(en)",
+                28,
+            ),
+            (
+                ":link:visited:hover:active:focus",
+                "*:link:visited:hover:active:focus",
+                32,
+            ),
+            ("[x='a'][y='b']", "*[x='a'][y='b']", 14),
+            ("a b + c", "a b + c", 7),
+        ],
+    )
+}
+
+#[test]
+fn refuses(rt: HostRuntime) -> Result<(), AllocError> {
+    assert_reads(
+        &rt,
+        rt.alloc(),
+        &[
+            ("", "refused", 0),
+            ("a < b", "refused", 2),
+            ("a:hoover,b", "refused", 8),
+            ("a\u{B}", "refused", 1),
+            (":lang(\u{B})", "refused", 8),
+            ("\u{9F}", "refused", 0),
+            ("[a]b,c{d:e}", "refused", 4),
+            ("a*,c{d:e}", "refused", 1),
+            (">,a{b:c}", "refused", 0),
+            ("-,b{c:d}", "refused", 1),
+            ("[a,b{c:d}", "refused", 2),
+            ("[a~,b{c:d}", "refused", 3),
+            (":lang,b{c:d}", "refused", 5),
+            (":lang(),b{c:d}", "refused", 7),
+            ("- ,b{c:d}", "refused", 1),
+            ("-/**/,b{c:d}", "refused", 1),
+            ("/*{b:c}", "refused", 7),
+        ],
+    )
+}
+
+/// The selector of a text that is none otherwise.
+fn parsed<'a>(alloc: Global, text: &'a str) -> Result<Selector<'a>, Fail> {
+    Ok(Selector::parse(&Discard, alloc, text)?.ok_or("refused")?)
+}
+
+/// Selectors, and their specificity.
+const WEIGHTS: &[(&str, [u8; 3])] = &[
+    ("*", [0, 0, 0]),
+    ("ul ol li.red", [0, 1, 3]),
+    ("#x[id]", [2, 0, 0]),
+];
+
+#[test]
+fn weighs(rt: HostRuntime) -> Result<(), Fail> {
+    for &(text, want) in WEIGHTS {
+        same(&rt, parsed(rt.alloc(), text)?.specificity(), want, text);
+    }
+    Ok(())
+}
+
+/// Texts, and the lines that the logger gets: one where the selector is refused, and else none.
+const TOLD: &[(&str, &[&str])] = &[
+    (
+        "> {}",
+        &[
+            "[WARN  simplecss_selector::reading] Selector parsing failed cause unexpected combinator.",
+        ],
+    ),
+    (
+        "a\nb <",
+        &[
+            "[WARN  simplecss_selector::reading] Selector parsing failed cause invalid ident at 2:3.",
+        ],
+    ),
+    (
+        ":le {}",
+        &["[WARN  simplecss_selector::reading] ':le' is not supported. Selector skipped."],
+    ),
+    ("a > .b:link", &[]),
+];
+
+/// The lines that the logger gets, and whether the selector is refused.
+fn told(alloc: Global, text: &str) -> Result<(Lines, bool), AllocError> {
+    let sink = Memory::new(alloc);
+    let selector = Selector::parse(&sink, alloc, text)?;
+    Ok((sink.into_lines(), selector.is_none()))
+}
+
+#[test]
+fn tells_the_logger_why_it_refuses(rt: HostRuntime) -> Result<(), AllocError> {
+    for &(text, want) in TOLD {
+        let (lines, is_refused) = told(rt.alloc(), text)?;
+        same(
+            &rt,
+            (lines.len(), is_refused),
+            (want.len(), !want.is_empty()),
+            text,
+        );
+        for (line, wanted) in lines.as_slice().iter().zip(want) {
+            same(&rt, line.as_str(), *wanted, text);
+        }
+    }
+    Ok(())
+}
+
+/// The first text, the second so many times, and the third.
+fn repeated(
+    alloc: Global,
+    first: &str,
+    part: &str,
+    count: usize,
+    last: &str,
+) -> Result<String, AllocError> {
+    let middle = part.repeat(alloc, count)?;
+    format!(in alloc; "{first}{middle}{last}")
+}
+
+/// The front of a text, what stands a hundred thousand times behind it, the end, how the selector
+/// prints, and the place behind it.
+const LONG_GAPS: &[(&str, &str, &str, &str, usize)] = &[
+    ("", "/**/", "a", "a", 400_001),
+    ("a", "/**/", ".b", "a[class~='b']", 400_003),
+    ("a ", "/**/", "b", "a b", 400_003),
+    ("", " ", "a", "a", 100_001),
+    ("a", "\n", "b", "a b", 100_002),
+    ("a/* ", "x", "*/ > b", "a > b", 100_010),
+    ("a[b='", "\\'", "]", "refused", 200_006),
+    ("a", "/", "b", "a", 1),
+];
+
+#[test]
+fn reads_long_gaps(rt: HostRuntime) -> Result<(), Fail> {
+    for &(first, part, last, want, place) in LONG_GAPS {
+        let text = repeated(rt.alloc(), first, part, 100_000, last)?;
+        let (printed, end) = read(rt.alloc(), text.as_str())?;
+        same(&rt, (printed.as_str(), end), (want, place), first);
+    }
+    Ok(())
+}
+
+#[test]
+fn reads_long_selectors(rt: HostRuntime) -> Result<(), Fail> {
+    let text = repeated(rt.alloc(), "a", " a", 99_999, "")?;
+    let (printed, end) = read(rt.alloc(), text.as_str())?;
+    let is_whole = printed.as_str() == text.as_str();
+    same(&rt, (is_whole, end), (true, text.len()), "many components");
+    Ok(())
+}
+
+#[test]
+fn weighs_many_subselectors(rt: HostRuntime) -> Result<(), Fail> {
+    let text = ".x".repeat(rt.alloc(), 300)?;
+    let weight = parsed(rt.alloc(), text.as_str())?.specificity();
+    same(&rt, weight, [0, 255, 0], "many subselectors");
+    Ok(())
+}
+
+/// Whether the selectors of two texts are equal, or, of one text twice, whether the selector and
+/// its copy are.
+fn are_equal(alloc: Global, text: &str, other: &str) -> Result<bool, Fail> {
+    let selector = parsed(alloc, text)?;
+    if text == other {
+        return Ok(selector.clone()? == selector);
+    }
+    Ok(selector == parsed(alloc, other)?)
+}
+
+/// Two texts, and whether their selectors are equal; of one text twice, whether the copy is.
+const PAIRS: &[(&str, &str, bool)] = &[
+    ("a.b > #c + [d] e:hover", "a.b > #c + [d] e:hover", true),
+    ("#b", "[id=b]", true),
+    ("a b", "a > b", false),
+    ("a b", "a", false),
+    ("a.b c", "a c.b", false),
+    ("a.b", "a.c", false),
+    ("a.b.c", "a.c.b", false),
+    ("*", "a", false),
+    ("#b", ".b", false),
+];
+
+#[test]
+fn copies_are_equal(rt: HostRuntime) -> Result<(), Fail> {
+    for &(text, other, is_equal) in PAIRS {
+        same(&rt, are_equal(rt.alloc(), text, other)?, is_equal, text);
+    }
+    Ok(())
+}
