@@ -192,6 +192,16 @@ for words, out in (
     expect(child.returncode == 0 and out in (None, got.decode()), f"{words}: status {child.returncode}, {got}")
     expect(err.decode().splitlines() == WARNINGS, f"{words} warns {err}")
 
+for words, stdin, warning in (
+    (["selector", "a <"], b"", "invalid ident at 1:3."),
+    ([], b"a > > b", "unexpected combinator."),
+):
+    with open(put("stdin", stdin), "rb") as file:
+        child = start(words, {}, stdin=file)
+        got, err = child.communicate()
+    wanted = [f"[WARN  simplecss_selector::reading] Selector parsing failed cause {warning}", REFUSED]
+    expect((child.returncode, got, err.decode().splitlines()) == (1, b"", wanted), f"{words} warns {err}")
+
 # ---- files that cannot be read: the first in the words' order is told, and nothing is written
 
 missing = os.path.join(folder, "missing.css")

@@ -1,6 +1,6 @@
 pub mod Ancestors
 pub mod Reaching
-pub mod Images
+pub mod SameMeanings
 pub mod Meeting
 pub mod LongestStretch
 pub mod Greedy

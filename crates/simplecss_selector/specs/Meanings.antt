@@ -1,8 +1,29 @@
--- Trees of different nodes in which selectors can ask the same.
-use Rattle.std.specs.Prelude.{◌≡◌, ℕ, List}
+-- Nodes of two trees between which no selector can tell.
+use Rattle.std.specs.Prelude.{◌≡◌, ℕ, List, Option, Some, None}
 use Rattle.std.specs.Option.{option_map}
 use Rattle.simplecss_text.specs.Components.{Operator, KnownPseudoClass}
 use Rattle.simplecss_selector.specs.Trees.{Tree}
+
+-- there is neither, or there are both and they are related
+abbrev pub AreNoneOrRelated : {M N : Type 0} → (M → N → Type 0) → Option M → Option N → Type 0
+AreNoneOrRelated related None None = Unit {0}
+AreNoneOrRelated related None (Some n) = ⊥
+AreNoneOrRelated related (Some m) None = ⊥
+AreNoneOrRelated related (Some m) (Some n) = related m n
+
+-- A relation between the nodes of two trees under which nothing that a selector can ask differs:
+-- related nodes give the same answers, and their parents and their previous siblings, if there are
+-- any, are related. It says nothing of nodes that are not related: so descendants and later siblings
+-- may be other ones.
+pub record RelatesMeanings {M N : Type 0} (tree : Tree M) (other : Tree N) (related : M → N → Type 0) : Type 0 where
+  pub parents : (m : M) (n : N) → related m n → AreNoneOrRelated related (tree.parent m) (other.parent n)
+  pub siblings : (m : M) (n : N) → related m n
+      → AreNoneOrRelated related (tree.previous_sibling m) (other.previous_sibling n)
+  pub names : (m : M) (n : N) → related m n → (name : List ℕ) → tree.is_named m name ≡ other.is_named n name
+  pub attributes : (m : M) (n : N) → related m n → (name : List ℕ) (operator : Operator)
+      → tree.has_attribute m name operator ≡ other.has_attribute n name operator
+  pub pseudo_classes : (m : M) (n : N) → related m n → (class : KnownPseudoClass)
+      → tree.is_in_pseudo_class m class ≡ other.is_in_pseudo_class n class
 
 -- A map from the nodes of one tree to those of another that keeps all that a selector can ask: the
 -- image of a node has the images of its parent and of its previous sibling for its own, and gives

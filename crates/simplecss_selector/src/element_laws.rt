@@ -1,19 +1,24 @@
 //! Laws of elements and of the selectors that they are asked.
-ghost use Rattle.std.specs.Prelude.{◌≡◌, ◌<◌, ◌↔◌, ℕ, List, length};
+ghost use Rattle.std.specs.Prelude.{◌≡◌, ◌<◌, ◌↔◌, ℕ, Bool, IsTrue, List, length};
 ghost use Rattle.simplecss_text.specs.Components.{Component};
 ghost use Rattle.simplecss_text.specs.Components.Combinator.{none as no_combinator};
-ghost use Rattle.simplecss_selector.specs.Meanings.{KeepsMeanings};
+ghost use Rattle.simplecss_selector.specs.Meanings.{KeepsMeanings, RelatesMeanings};
 ghost use Rattle.simplecss_selector.specs.Placements.{HasPlacement};
 ghost use Rattle.simplecss_selector.specs.Shapes.{component_at};
 
 use crate::{Element, Selector};
 
-/// Where each element of one type has an image among those of another that means the same (its
-/// parent and its previous sibling are the images of its own, and the three answers are the same),
-/// a selector matches an element exactly if it matches the image. So no selector can tell the two
-/// apart.
+/// What a selector answers on an element depends on nothing but what the element, its ancestors and the previous siblings of all
+/// these answer: where a relation between the nodes of two trees holds of the parents and of the previous siblings of any two nodes
+/// of which it holds, and these give the same three answers, a selector matches both or neither (`related`). So trees may differ in
+/// descendants and in later siblings. The same holds of a map of all nodes that keeps parents, previous siblings and answers
+/// (`mapped`).
 pub fn same_meanings_law<E: Element, F: Element>()
-    ensures { (image : E.Node → F.Node) → KeepsMeanings E.tree F.tree image
+    ensures related { (related : E.Node → F.Node → Bool)
+        → RelatesMeanings E.tree F.tree (λ m n. IsTrue (related m n))
+        → (components : List Component) (m : E.Node) (n : F.Node) → IsTrue (related m n)
+        → HasPlacement E.tree components m ↔ HasPlacement F.tree components n }
+    ensures mapped { (image : E.Node → F.Node) → KeepsMeanings E.tree F.tree image
         → (components : List Component) (n : E.Node)
         → HasPlacement E.tree components n ↔ HasPlacement F.tree components (image n) }
 {}

@@ -7,8 +7,6 @@ mod editing;
 #[cfg(test)]
 mod indexes;
 #[cfg(test)]
-mod laws;
-#[cfg(test)]
 mod loops;
 #[cfg(test)]
 mod own_tree;

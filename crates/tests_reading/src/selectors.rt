@@ -2,7 +2,7 @@
 
 use crate::same::same;
 use log::sink::{Discard, Lines, Memory};
-use simplecss::Selector;
+use simplecss::{Selector, Tests};
 use std::alloc::{AllocError, Global};
 use std::process::Abort;
 use std::test::Fail;
@@ -230,4 +230,32 @@ fn copies_are_equal(rt: HostRuntime) -> Result<(), Fail> {
         same(&rt, are_equal(rt.alloc(), text, other)?, is_equal, text);
     }
     Ok(())
+}
+
+/// A selector, and its lists as `{:?}` shows them. The last component and the end of the last stretch
+/// are kept apart from the lists: subselectors end at 2 and 3 in the first row, and stretches at 2
+/// and 4, the number of components, in the second.
+const LISTS: &[(&str, &str)] = &[
+    (
+        "a.b.c > #d",
+        "Selector { parts: [Part { combinator: None, name: Some(\"a\"), end: 2 }], last: Part { combinator: Child, name: None, end: 3 }, subselectors: [Attribute(\"class\", Contains(\"b\")), Attribute(\"class\", Contains(\"c\")), Attribute(\"id\", Matches(\"d\"))], stretch_ends: [] }",
+    ),
+    (
+        "a > b c + d",
+        "Selector { parts: [Part { combinator: None, name: Some(\"a\"), end: 0 }, Part { combinator: Child, name: Some(\"b\"), end: 0 }, Part { combinator: Descendant, name: Some(\"c\"), end: 0 }], last: Part { combinator: Adjacent, name: Some(\"d\"), end: 0 }, subselectors: [], stretch_ends: [2] }",
+    ),
+];
+
+#[test]
+fn keeps_components_in_flat_lists(rt: HostRuntime) -> Result<(), Fail> {
+    for &(text, lists) in LISTS {
+        let shown = format!(in rt.alloc(); "{:?}", parsed(rt.alloc(), text)?)?;
+        same(&rt, shown.as_str(), lists, text);
+    }
+    Ok(())
+}
+
+#[test]
+fn a_count_of_tests_takes_no_bytes(rt: HostRuntime) {
+    same(&rt, std::mem::size_of::<Tests>(), 0, "Tests");
 }

@@ -1,18 +1,18 @@
 //! Makes one call of the libraries, between two marks on standard error, and shows what it
 //! answered. The sweep in `tests/` refuses the requests for memory that are made between the marks,
-//! one after the other.
+//! one after the other. Before the second mark come all calls that take no memory (`free`), whose
+//! answers are shown, too.
 #![tactic(auto)]
+
+mod free;
 
 use cssq::cascade::winners;
 use cssq::runs::{RunFault, run_match, run_selector, run_sheet, run_style};
 use cssq::tree::{Page, TreeFault};
+use free::Made;
 use log::Log;
 use log::sink::{Discard, Memory};
-use simplecss::stream::{is_name_char, is_name_start};
-use simplecss::{
-    AttributeOperator, DeclarationTokenizer, Element, RuleIndex, Selector, SelectorTokenizer,
-    StatementReader, StyleSheet, Tests, TextPos,
-};
+use simplecss::{RuleIndex, Selector, StatementReader, StyleSheet};
 use simplecss_faults::find_faults;
 use simplecss_tree::{Tree, TreeError};
 use std::alloc::{AllocError, Global};
@@ -43,16 +43,18 @@ fn begin(rt: &HostRuntime) {
     let _ = eprint!(rt; "begin");
 }
 
-/// Marks that what came before was tried.
-fn end(rt: &HostRuntime) {
+/// Makes the calls that take no memory, marks that what came before was tried, and shows the answers.
+fn end(rt: &HostRuntime, made: &Made<'_>) {
+    let answers = made.answers();
     let _ = eprint!(rt; "end");
+    let _ = println!(rt; "free: {answers:?}");
 }
 
 /// Reads the text as a selector.
-fn show_selector<R: Log>(rt: &HostRuntime, log: &R, text: &str) -> io::Result<()> {
+fn show_selector<R: Log>(rt: &HostRuntime, made: &Made<'_>, log: &R, text: &str) -> io::Result<()> {
     begin(rt);
     let read = Selector::parse(log, rt.alloc(), text);
-    end(rt);
+    end(rt, made);
     match read {
         Err(_) => println!(rt; "refused"),
         Ok(None) => println!(rt; "none"),
@@ -61,10 +63,10 @@ fn show_selector<R: Log>(rt: &HostRuntime, log: &R, text: &str) -> io::Result<()
 }
 
 /// Reads the text as a sheet.
-fn show_sheet<R: Log>(rt: &HostRuntime, log: &R, text: &str) -> io::Result<()> {
+fn show_sheet<R: Log>(rt: &HostRuntime, made: &Made<'_>, log: &R, text: &str) -> io::Result<()> {
     begin(rt);
     let read = StyleSheet::parse(log, rt.alloc(), text);
-    end(rt);
+    end(rt, made);
     match read {
         Err(_) => println!(rt; "refused"),
         Ok(sheet) => println!(rt; "{sheet}"),
@@ -73,11 +75,17 @@ fn show_sheet<R: Log>(rt: &HostRuntime, log: &R, text: &str) -> io::Result<()> {
 
 /// Reads a second text into the sheet of a first one. Where that is refused, the sheet is shown as
 /// it is, and the second text is read again.
-fn show_more<R: Log>(rt: &HostRuntime, log: &R, text: &str, more: &str) -> io::Result<()> {
+fn show_more<R: Log>(
+    rt: &HostRuntime,
+    made: &Made<'_>,
+    log: &R,
+    text: &str,
+    more: &str,
+) -> io::Result<()> {
     let mut sheet = StyleSheet::parse(log, rt.alloc(), text)?;
     begin(rt);
     let read = sheet.parse_more(log, rt.alloc(), more);
-    end(rt);
+    end(rt, made);
     if read.is_err() {
         println!(rt; "refused")?;
         println!(rt; "{sheet}")?;
@@ -96,21 +104,21 @@ fn show_equality(rt: &HostRuntime, equal: Result<bool, AllocError>) -> io::Resul
 }
 
 /// Copies the sheet of the text, and its rules and their selectors each by itself.
-fn show_copies(rt: &HostRuntime, text: &str) -> io::Result<()> {
+fn show_copies(rt: &HostRuntime, made: &Made<'_>, text: &str) -> io::Result<()> {
     let sheet = StyleSheet::parse(&Discard, rt.alloc(), text)?;
     for rule in &sheet.rules {
         begin(rt);
         let selector = rule.selector.clone().map(|copy| copy == rule.selector);
-        end(rt);
+        end(rt, made);
         show_equality(rt, selector)?;
         begin(rt);
         let copied = rule.clone().map(|copy| copy == *rule);
-        end(rt);
+        end(rt, made);
         show_equality(rt, copied)?;
     }
     begin(rt);
     let copied = sheet.clone();
-    end(rt);
+    end(rt, made);
     let equal = match copied {
         Ok(copy) => Ok(have_equal_rules(&copy, &sheet)),
         Err(error) => Err(error),
@@ -124,10 +132,10 @@ fn have_equal_rules(a: &StyleSheet<'_>, b: &StyleSheet<'_>) -> bool {
 }
 
 /// Reads the text as a tree.
-fn show_page(rt: &HostRuntime, text: &str) -> io::Result<()> {
+fn show_page(rt: &HostRuntime, made: &Made<'_>, text: &str) -> io::Result<()> {
     begin(rt);
     let read = Page::read(rt.alloc(), text);
-    end(rt);
+    end(rt, made);
     match read {
         Err(TreeFault::Memory(line)) => println!(rt; "refused at {line}"),
         Err(fault) => println!(rt; "fault {} at {}", fault.number(), fault.line()),
@@ -144,10 +152,15 @@ fn show_number<E: Drop>(rt: &HostRuntime, number: Result<usize, E>) -> io::Resul
 }
 
 /// Reads all the texts into one sheet.
-fn show_sheets<R: Log>(rt: &HostRuntime, log: &R, texts: &[&str]) -> io::Result<()> {
+fn show_sheets<R: Log>(
+    rt: &HostRuntime,
+    made: &Made<'_>,
+    log: &R,
+    texts: &[&str],
+) -> io::Result<()> {
     begin(rt);
     let read = StyleSheet::parse_all(log, rt.alloc(), texts);
-    end(rt);
+    end(rt, made);
     match read {
         Err(_) => println!(rt; "refused"),
         Ok(sheet) => println!(rt; "{sheet}"),
@@ -217,7 +230,13 @@ fn winner_count(
 }
 
 /// Makes the calls that are asked of a sheet and a page.
-fn show_asked(rt: &HostRuntime, call: &str, text: &str, tree: &str) -> io::Result<()> {
+fn show_asked(
+    rt: &HostRuntime,
+    made: &Made<'_>,
+    call: &str,
+    text: &str,
+    tree: &str,
+) -> io::Result<()> {
     let sheet = StyleSheet::parse(&Discard, rt.alloc(), text)?;
     let Ok(page) = Page::read(rt.alloc(), tree) else {
         return println!(rt; "no tree");
@@ -228,7 +247,7 @@ fn show_asked(rt: &HostRuntime, call: &str, text: &str, tree: &str) -> io::Resul
     } else {
         winner_count(rt.alloc(), &sheet, &page)
     };
-    end(rt);
+    end(rt, made);
     show_number(rt, number)
 }
 
@@ -254,97 +273,57 @@ fn show_run(rt: &HostRuntime, outcome: Result<(), RunFault>, out: &Counted) -> i
     }
 }
 
-/// Makes the calls that take no memory, on what is there.
-fn show_free(rt: &HostRuntime, text: &str, tree: &str) -> io::Result<()> {
-    let sheet = StyleSheet::parse(&Discard, rt.alloc(), text)?;
-    let page = match Page::read(rt.alloc(), tree) {
-        Ok(page) => page,
-        Err(_) => return println!(rt; "no tree"),
-    };
-    begin(rt);
-    let mut answers = 0usize;
-    for _ in SelectorTokenizer::from(text) {
-        answers = answers.saturating_add(1);
-    }
-    for _ in DeclarationTokenizer::from(text) {
-        answers = answers.saturating_add(1);
-    }
-    for place in 0..page.len() {
-        if let Some(element) = page.node(place) {
-            let _is_root = element.parent_element().is_none();
-            let _is_first = element.prev_sibling_element().is_none();
-            for rule in &sheet.rules {
-                let _is_equal = rule == rule;
-                let _numbers = rule.selector.specificity();
-                let mut tests = Tests::new();
-                if rule.selector.matches(&element)
-                    && rule.selector.matches_counted(&element, &mut tests)
-                {
-                    answers = answers.saturating_add(1);
-                }
-            }
-        }
-    }
-    let _empty = StyleSheet::new(rt.alloc());
-    let _pos = TextPos::new(1, 1);
-    let _names = is_name_start('a') && is_name_char('-');
-    let _asked = AttributeOperator::Contains("a").matches("b a");
-    end(rt);
-    println!(rt; "{answers} answers")
-}
-
 /// Makes the call that the words name, on their texts.
-fn show<R: Log>(rt: &HostRuntime, log: &R, words: &[&str]) -> io::Result<()> {
+fn show<R: Log>(rt: &HostRuntime, made: &Made<'_>, log: &R, words: &[&str]) -> io::Result<()> {
     let mut out = Counted { bytes: 0 };
     match words {
-        ["selector", text] => show_selector(rt, log, text),
-        ["sheet", text] => show_sheet(rt, log, text),
-        ["more", text, more] => show_more(rt, log, text, more),
-        ["copies", text] => show_copies(rt, text),
-        ["page", text] => show_page(rt, text),
-        ["sheets", texts @ ..] => show_sheets(rt, log, texts),
+        ["selector", text] => show_selector(rt, made, log, text),
+        ["sheet", text] => show_sheet(rt, made, log, text),
+        ["more", text, more] => show_more(rt, made, log, text, more),
+        ["copies", text] => show_copies(rt, made, text),
+        ["page", text] => show_page(rt, made, text),
+        ["sheets", texts @ ..] => show_sheets(rt, made, log, texts),
         ["statements", text] => {
             begin(rt);
             let sum = statement_ends(log, rt.alloc(), text);
-            end(rt);
+            end(rt, made);
             show_number(rt, sum)
         }
         ["faults", text] => {
             begin(rt);
             let faults = find_faults(rt.alloc(), text).map(|faults| faults.len());
-            end(rt);
+            end(rt, made);
             show_number(rt, faults)
         }
-        [call @ ("index" | "winners"), text, tree] => show_asked(rt, call, text, tree),
+        [call @ ("index" | "winners"), text, tree] => show_asked(rt, made, call, text, tree),
         ["tree", names @ ..] => {
             begin(rt);
             let len = chain_len(rt.alloc(), names);
-            end(rt);
+            end(rt, made);
             show_number(rt, len)
         }
-        ["free", text, tree] => show_free(rt, text, tree),
         ["run_selector", text] => {
             begin(rt);
             let outcome = run_selector(log, rt.alloc(), text, &mut out);
-            end(rt);
+            end(rt, made);
             show_run(rt, outcome, &out)
         }
         ["run_sheet", texts @ ..] => {
             begin(rt);
             let outcome = run_sheet(log, rt.alloc(), texts, &mut out);
-            end(rt);
+            end(rt, made);
             show_run(rt, outcome, &out)
         }
         ["run_match", text, tree] => {
             begin(rt);
             let outcome = run_match(log, rt.alloc(), text, tree, &mut out);
-            end(rt);
+            end(rt, made);
             show_run(rt, outcome, &out)
         }
         ["run_style", text, tree, name] => {
             begin(rt);
             let outcome = run_style(log, rt.alloc(), text, tree, name, &mut out);
-            end(rt);
+            end(rt, made);
             show_run(rt, outcome, &out)
         }
         _ => println!(rt; "no such call"),
@@ -355,9 +334,12 @@ fn show<R: Log>(rt: &HostRuntime, log: &R, words: &[&str]) -> io::Result<()> {
 fn main(rt: HostRuntime) -> Result<ExitCode, io::Error> {
     let owned: Vec<String> = env::args(&rt)?.skip(1).collect(rt.alloc())?;
     let words: Vec<&str> = owned.iter().map(|word| word.as_str()).collect(rt.alloc())?;
+    let Ok(made) = Made::new(rt.alloc()) else {
+        return Ok(ExitCode::FAILURE);
+    };
     match words.as_slice() {
-        ["kept", others @ ..] => show(&rt, &Memory::new(rt.alloc()), others)?,
-        ["lost", others @ ..] => show(&rt, &Discard, others)?,
+        ["kept", others @ ..] => show(&rt, &made, &Memory::new(rt.alloc()), others)?,
+        ["lost", others @ ..] => show(&rt, &made, &Discard, others)?,
         _ => println!(&rt; "no such logger")?,
     }
     Ok(ExitCode::SUCCESS)

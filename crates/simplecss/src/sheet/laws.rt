@@ -1,6 +1,6 @@
 //! Laws of sheets: each is the contract of a function that does nothing.
 ghost use Rattle.std.specs.Prelude.{◌≡◌, ◌↔◌, ◌<◌, ℕ, List, IsTrue, Some, length, slice_index_or};
-ghost use Rattle.std.specs.List.{AllPass, flat_map, slice_get};
+ghost use Rattle.std.specs.List.{All, AllPass, flat_map, slice_get};
 ghost use Rattle.std.specs.List.Sorted.{IsPermutation, IsSortedBy, IsStableBy};
 ghost use Rattle.simplecss_text.specs.Ranks.{rank_by};
 ghost use Rattle.simplecss_text.specs.Statements.{StyleRule, has_declaration, kept};
@@ -8,6 +8,7 @@ ghost use Rattle.simplecss_text.specs.Sheets.{is_smaller, ordered, sheet};
 ghost use Rattle.std.specs.Str.{IsUtf8};
 ghost use Rattle.simplecss_text.specs.Cutting.{StatementEndsAt, KeepsAcross};
 ghost use Rattle.simplecss_text.specs.Editions.{IsCommon, KeepsInBoth};
+ghost use Rattle.simplecss_text.specs.PrintingLaws.{SelectorsReadBack};
 ghost use Rattle.simplecss_text.specs.ThisEdition.{this_edition};
 ghost use Rattle.simplecss_declaration.specs.SeenDeclarations.{declaration_of};
 ghost use Rattle.simplecss.specs.RulePlaces.{ComesBefore};
@@ -44,9 +45,12 @@ pub fn place_law()
         → ComesBefore (flat_map (kept this_edition) texts) i j a b }
 {}
 
-/// Each rule of a style sheet that was read has a declaration.
+/// Each rule of a style sheet that was read has a declaration, and each of its selectors reads back when printed, whatever white
+/// space the texts have.
 pub fn sheet_law()
-    ensures { (texts : List (List ℕ)) → AllPass has_declaration (sheet this_edition texts) }
+    ensures filled { (texts : List (List ℕ)) → AllPass has_declaration (sheet this_edition texts) }
+    ensures selectors { (texts : List (List ℕ)) → All IsUtf8 texts
+        → SelectorsReadBack this_edition (sheet this_edition texts) }
 {}
 
 /// A text has the rules of its front up to a place and then those of what stands from there on,

@@ -1,6 +1,10 @@
 use Rattle.simplecss_text.specs.ThisEdition.{this_edition}
+use Rattle.simplecss_text.proofs.again.KeptSelectors.{sheet-reads_back}
 use Rattle.simplecss.proofs.SheetLemmas.{AllPass-sheet}
 use Rattle.simplecss.proofs.sheet.laws.sheet_law.Goals as goal
 
-pub returns : goal.returns
-returns c = AllPass-sheet this_edition
+pub returns-clause-filled : goal.returns-clause-filled
+returns-clause-filled c = AllPass-sheet this_edition
+
+pub returns-clause-selectors : goal.returns-clause-selectors
+returns-clause-selectors c = sheet-reads_back this_edition
