@@ -4,7 +4,8 @@
 
 A block of code below a line `<!-- from FILE -->` stands in that file, apart from indentation; so does one in the documentation of
 an item. What the README's table of commands shows is what the program answers, with the files of the blocks below lines
-`<!-- file NAME -->`. There are no other blocks. Prints 'N passed, M failed' in the end; the status is 1 if something failed.
+`<!-- file NAME -->`, and what docs/DIFFERENCES.md shows of sheets is what it prints of them. There are no other blocks. Prints
+'N passed, M failed' in the end; the status is 1 if something failed.
 """
 import os
 import re
@@ -77,6 +78,19 @@ for name, text in documents:
         else:
             expect(above.startswith("<!-- file "), f"{name}: no source is named of {block[:1]}..")
 expect(named > 0, "no document names a source")
+
+# ---- the sheets that docs/DIFFERENCES.md shows
+
+shown_sheets = re.findall(r"^\| `([^`]+)` \| ([^|]*) \| [^|]* \|$", read("docs/DIFFERENCES.md").split("## What surprises", 1)[-1], re.MULTILINE)
+with tempfile.TemporaryDirectory() as folder:
+    for text, shown in shown_sheets:
+        sheet = os.path.join(folder, "text.css")
+        with open(sheet, "w", encoding="utf-8") as made:
+            made.write(text)
+        wanted = "".join(line + "\n" for line in re.findall(r"`([^`]+)`", shown))
+        done = subprocess.run([program, "sheet", sheet], stdin=subprocess.DEVNULL, capture_output=True, check=False)
+        expect((done.returncode, done.stdout.decode()) == (0, wanted), f"docs/DIFFERENCES.md: {text!r} is printed as {done.stdout.decode()!r}, and shown as {wanted!r}")
+expect(len(shown_sheets) > 20, f"docs/DIFFERENCES.md shows {len(shown_sheets)} sheets")
 
 # ---- the README's table of commands
 
