@@ -8,11 +8,12 @@ ghost use Rattle.simplecss_selector.specs.Shapes.{component_at};
 
 use crate::{Element, Selector};
 
-/// What a selector answers on an element depends on nothing but what the element, its ancestors and the previous siblings of all
-/// these answer: where a relation between the nodes of two trees holds of the parents and of the previous siblings of any two nodes
-/// of which it holds, and these give the same three answers, a selector matches both or neither (`related`). So trees may differ in
-/// descendants and in later siblings. The same holds of a map of all nodes that keeps parents, previous siblings and answers
-/// (`mapped`).
+/// A selector's answer on an element depends only on what the element, its ancestors and the earlier
+/// siblings of these answer. Take a relation between the nodes of two trees that, where it holds of two
+/// nodes, holds of their parents and of their previous siblings, and under which nodes give the same
+/// three answers: a selector then matches both of two related nodes or neither (`related`). So trees
+/// may differ in descendants and in later siblings. The same holds of a map of all nodes that keeps
+/// parents, previous siblings and answers (`mapped`).
 pub fn same_meanings_law<E: Element, F: Element>()
     ensures related { (related : E.Node → F.Node → Bool)
         → RelatesMeanings E.tree F.tree (λ m n. IsTrue (related m n))

@@ -1,3 +1,5 @@
+//! Sheets that a user edits, and whether they read back.
+
 use crate::same::same;
 use log::sink::Discard;
 use simplecss::{Declaration, Selector, StyleSheet};

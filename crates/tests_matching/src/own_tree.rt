@@ -1,3 +1,5 @@
+//! What the tree of a user's own answers.
+
 use crate::same::same;
 use log::sink::Discard;
 use simplecss::Selector;

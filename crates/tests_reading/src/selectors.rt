@@ -238,11 +238,19 @@ fn copies_are_equal(rt: HostRuntime) -> Result<(), Fail> {
 const LISTS: &[(&str, &str)] = &[
     (
         "a.b.c > #d",
-        "Selector { parts: [Part { combinator: None, name: Some(\"a\"), end: 2 }], last: Part { combinator: Child, name: None, end: 3 }, subselectors: [Attribute(\"class\", Contains(\"b\")), Attribute(\"class\", Contains(\"c\")), Attribute(\"id\", Matches(\"d\"))], stretch_ends: [] }",
+        "Selector { parts: [Part { combinator: None, name: Some(\"a\"), end: 2 }], \
+        last: Part { combinator: Child, name: None, end: 3 }, \
+        subselectors: [Attribute(\"class\", Contains(\"b\")), \
+        Attribute(\"class\", Contains(\"c\")), Attribute(\"id\", Matches(\"d\"))], \
+        stretch_ends: [] }",
     ),
     (
         "a > b c + d",
-        "Selector { parts: [Part { combinator: None, name: Some(\"a\"), end: 0 }, Part { combinator: Child, name: Some(\"b\"), end: 0 }, Part { combinator: Descendant, name: Some(\"c\"), end: 0 }], last: Part { combinator: Adjacent, name: Some(\"d\"), end: 0 }, subselectors: [], stretch_ends: [2] }",
+        "Selector { parts: [Part { combinator: None, name: Some(\"a\"), end: 0 }, \
+        Part { combinator: Child, name: Some(\"b\"), end: 0 }, \
+        Part { combinator: Descendant, name: Some(\"c\"), end: 0 }], \
+        last: Part { combinator: Adjacent, name: Some(\"d\"), end: 0 }, \
+        subselectors: [], stretch_ends: [2] }",
     ),
 ];
 

@@ -45,8 +45,8 @@ pub fn place_law()
         → ComesBefore (flat_map (kept this_edition) texts) i j a b }
 {}
 
-/// Each rule of a style sheet that was read has a declaration, and each of its selectors reads back when printed, whatever white
-/// space the texts have.
+/// Each rule of a style sheet that was read has a declaration, and its selector reads back when
+/// printed, whatever white space the texts have.
 pub fn sheet_law()
     ensures filled { (texts : List (List ℕ)) → AllPass has_declaration (sheet this_edition texts) }
     ensures selectors { (texts : List (List ℕ)) → All IsUtf8 texts
