@@ -64,7 +64,6 @@ fn looks(text: &str) -> usize {
         s.pos() == 2,
         s.slice_tail().len() < text.len(),
         s.gen_text_pos() == TextPos::new(1, 3),
-        s.gen_text_pos_from(1) == TextPos::new(1, 2),
     ];
     yes(&first).saturating_add(yes(&second))
 }
@@ -96,6 +95,7 @@ fn places() -> usize {
     s.advance(2);
     yes(&[
         s.curr_byte_unchecked() == b'c',
+        s.gen_text_pos_from(1) == TextPos::new(1, 2),
         s.slice_range(0, 1) == "a",
         s.slice_back(1) == "b",
         is_name_start('a'),
