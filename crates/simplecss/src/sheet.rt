@@ -10,7 +10,7 @@ mod style_sheet;
 
 pub use rules::Rule;
 pub use statement_reader::{Statement, StatementReader};
-pub use style_sheet::StyleSheet;
+pub use style_sheet::{StyleSheet, find_skipped};
 
 #[cfg(test)]
 mod tests;

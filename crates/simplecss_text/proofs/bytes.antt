@@ -2,6 +2,7 @@
 pub mod GapLaws
 pub mod ScanLemmas
 pub mod PositionLemmas
+pub mod ByteLemmas
 pub mod CutLemmas
 pub mod NameLemmas
 pub mod GapSteps
