@@ -87,11 +87,11 @@ refusal_in-within text (item (Err fault) after rest) r e = by r (cc)
     by : (r : Refusal) → faulty text (error_of text fault) ≡ r → IsRefusalWithin text r
     by (faulty within error) h = let same : text ≡ within = cc in subst (Ends text) same (ends-same text)
     by (unknown_class name) h = tt
-refusal_in-within text (item (Ok token) after rest) r e = by (role_of token) e
+refusal_in-within text (item (Ok token) after rest) r e = by (role_of token) e (λ h. refusal_in-within text rest r h)
   where
-    by : (role : Option Role) → unless_unknown role token (refusal_in text rest) ≡ Some r → IsRefusalWithin text r
-    by (Some role) h = refusal_in-within text rest r h
-    by None h = unknown r (cc)
+    by : (role : Option Role) → unless_unknown role token (refusal_in text rest) ≡ Some r → (refusal_in text rest ≡ Some r → IsRefusalWithin text r) → IsRefusalWithin text r
+    by (Some role) h more = more h
+    by None h more = unknown r (cc)
       where
         unknown : (r : Refusal) → unknown_class (class_name token) ≡ r → IsRefusalWithin text r
         unknown (faulty within error) h = absurd (cc)
@@ -105,7 +105,7 @@ past_refused-ends text rest e = by (starts 44 rest)
     by false = ends-ends text rest (from_brace rest) e (ends-past (λ b. not (b == 123)) rest)
 
 selector_skips-within : (edition : Edition) (text : List ℕ) → AllWithin text (selector_skips edition text)
-unfolding selector_skips refusal
+unfolding selector_skips refusal part
 selector_skips-within edition text = by (refusal_in text (sequence_of edition text)) refl
   where
     rest : List ℕ
