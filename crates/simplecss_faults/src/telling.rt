@@ -13,10 +13,10 @@ use std::io::Write;
 pub struct FaultLines<'n, 'a, W: Write> {
     /// Where the lines are written.
     out: W,
-    /// The names of the texts that are still to be read, in order.
-    names: &'n [String],
-    /// The name of the text that is read.
-    name: &'n str,
+    /// The names of the texts, in order.
+    names: &'n [&'n str],
+    /// How many texts were begun.
+    begun: usize,
     /// The text that is read.
     text: &'a str,
     /// The last place of it that was reported.
@@ -27,11 +27,11 @@ pub struct FaultLines<'n, 'a, W: Write> {
 
 impl<'n, 'a, W: Write + Drop> FaultLines<'n, 'a, W> {
     /// A reporter for texts with these names, in order. A text after those has an empty name.
-    pub fn new(out: W, names: &'n [String]) -> Self {
+    pub fn new(out: W, names: &'n [&'n str]) -> Self {
         FaultLines {
             out,
             names,
-            name: "",
+            begun: 0,
             text: "",
             known: Known::START,
             outcome: Ok(()),
@@ -59,17 +59,17 @@ impl<'n, 'a, W: Write> Report<'a> for FaultLines<'n, 'a, W> {
     fn begin(&mut self, text: &'a str) {
         self.text = text;
         self.known = Known::START;
-        self.name = "";
-        if let Some((name, rest)) = self.names.split_first() {
-            self.name = name.as_str();
-            self.names = rest;
-        }
+        self.begun = self.begun.saturating_add(1);
     }
 
     fn report(&mut self, skipped: Skipped<'a>) -> Result<(), AllocError> {
         let fault = fault(self.text, &mut self.known, skipped);
+        let name = match self.names.get(self.begun.saturating_sub(1)) {
+            Some(name) => *name,
+            None => "",
+        };
         if self.outcome.is_ok() {
-            self.outcome = writeln!(self.out, "{}:{fault}", self.name);
+            self.outcome = writeln!(self.out, "{name}:{fault}");
         }
         Ok(())
     }

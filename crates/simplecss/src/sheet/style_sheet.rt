@@ -53,7 +53,27 @@ impl<'a> StyleSheet<'a> {
         ensures editions { IsCommon text.now
             → IfOk result (λ s. rules_in s ≡ sheet first_edition (text.now ∷ [])) }
     {
-        StyleSheet::parse_all(rt, alloc, &[text])
+        StyleSheet::parse_reporting(&mut Warnings::new(rt), alloc, text)
+    }
+
+    /// Reads a text as [`StyleSheet::parse`] does. All that is skipped is reported, in order, after a
+    /// call of [`Report::begin`] with the text.
+    pub fn parse_reporting<P: Report<'a>>(
+        report: &mut P,
+        alloc: Global,
+        text: &'a str,
+    ) -> Result<Self, AllocError>
+        ensures sheet { IfOk result (λ s. rules_in s ≡ sheet this_edition (text.now ∷ [])) }
+        ensures selectors { IfOk result (λ s. SelectorsReadBack this_edition (rules_in s)) }
+        ensures prints_back { has_wide_space text.now ≡ false
+            → IfOk result (λ s. PrintsBack this_edition (rules_in s)) }
+        ensures editions { IsCommon text.now
+            → IfOk result (λ s. rules_in s ≡ sheet first_edition (text.now ∷ [])) }
+        // The reporter receives exactly what reading the text skips, in order.
+        ensures reported { OnOk result (P.state report.new
+            ≡ add_each P.add (P.state report.old) (skipped this_edition text.now)) }
+    {
+        StyleSheet::parse_all_reporting(report, alloc, &[text])
     }
 
     /// The style sheet of all these texts, read in turn: the one that [`StyleSheet::parse_more`]

@@ -23,8 +23,7 @@ const LINES: &[(&[&str], &str)] = &[
 
 /// Reads the texts into a sheet, and writes what is skipped.
 fn read<W: Write + Drop>(alloc: Global, texts: &[&str], out: W) -> io::Result<()> {
-    let names = vec![in alloc; String::from(alloc, "x.css")?, String::from(alloc, "y.css")?]?;
-    let mut lines = FaultLines::new(out, names.as_slice());
+    let mut lines = FaultLines::new(out, &["x.css", "y.css"]);
     StyleSheet::parse_all_reporting(&mut lines, alloc, texts)?;
     lines.finish()
 }
