@@ -2,6 +2,7 @@
 
 ghost use Rattle.std.specs.Prelude.{◌≡◌, ◌+◌, ◌^◌, ◌<◌, ◌++◌, Some, All, OnOk, OnErr, IfErr, IfOk, Ok};
 ghost use Rattle.std.specs.Prelude.{ℕ, List, [], ◌∷◌, length, map, string_bytes};
+ghost use Rattle.std.specs.List.{flat_map};
 ghost use Rattle.std.specs.Option.{option_map};
 ghost use Rattle.std.specs.Fmt.{WritesStyledOnOk};
 ghost use Rattle.std.specs.Io.KnownBytes.{Appends};
@@ -15,13 +16,14 @@ ghost use Rattle.cssq.specs.PageRuns.{IsLineTold, IsToldText, IsAskedRun};
 ghost use Rattle.cssq.specs.declared.runs.RunFault.TheVariants.{Memory};
 ghost use Rattle.simplecss.specs.SeenDeclarations.{declaration_of};
 ghost use Rattle.simplecss.specs.Sheets.{sheet};
+ghost use Rattle.simplecss.specs.Skipped.{add_each, skipped};
 ghost use Rattle.simplecss.specs.ThisEdition.{this_edition};
 ghost use Rattle.simplecss.specs.SeenRules.{rules_of, rules_in};
 
 use crate::cascade::winning_among;
 use cssq_tree::tree::{Page, TreeFault};
 use log::Log;
-use simplecss::{Declaration, Rule, RuleIndex, Selector, StyleSheet};
+use simplecss::{Declaration, Report, Rule, RuleIndex, Selector, StyleSheet, Warnings};
 use std::alloc::{AllocError, AllocFailed, Global};
 use std::error::Error;
 use std::fmt;
@@ -184,7 +186,25 @@ pub fn run_sheet<R: Log, W: Write>(
     ensures { Writes (IsSheetRun (map (λ text. text.now) texts.now)) result (W.contents out.old)
         (W.contents out.new) }
 {
-    let sheet = StyleSheet::parse_all(rt, alloc, texts)?;
+    run_sheet_reporting(&mut Warnings::new(rt), alloc, texts, out)
+}
+
+/// Does what [`run_sheet`] does, and reports what reading each text skips, in order.
+pub fn run_sheet_reporting<'a, P: Report<'a>, W: Write>(
+    report: &mut P,
+    alloc: Global,
+    texts: &[&'a str],
+    out: &mut W,
+) -> Result<(), RunFault>
+    ensures run { Writes (IsSheetRun (map (λ text. text.now) texts.now)) result
+        (W.contents out.old) (W.contents out.new) }
+    ensures reported { OnOk result (P.state report.new ≡ add_each P.add (P.state report.old)
+        (flat_map (skipped this_edition) (map (λ text. text.now) texts.now))) }
+{
+    let sheet = match StyleSheet::parse_all_reporting(report, alloc, texts) {
+        Ok(sheet) => sheet,
+        Err(_) => return Err(RunFault::Memory),
+    };
     let text = sheet_text(alloc, &sheet)?;
     write_out(out, text.as_bytes())
 }
@@ -299,34 +319,37 @@ fn tree_output(
 }
 
 /// What `run_match` and `run_style` write. The sheet is read first, then the tree.
-fn page_output<R: Log>(
-    rt: &R,
+fn page_output<'a, P: Report<'a>>(
+    report: &mut P,
     alloc: Global,
     asked: Asked<'_>,
-    sheet: &str,
+    sheet: &'a str,
     tree: &str,
 ) -> Result<String, RunFault>
     ensures ok { IfOk result
         (λ text. IsAskedRun asked.entry sheet.now tree.now (Ok (string_bytes text))) }
     ensures fault { IfErr result (FailsBeforeWriting (IsAskedRun asked.entry sheet.now tree.now)) }
 {
-    let sheet = StyleSheet::parse(rt, alloc, sheet)?;
+    let sheet = match StyleSheet::parse_reporting(report, alloc, sheet) {
+        Ok(sheet) => sheet,
+        Err(_) => return Err(RunFault::Memory),
+    };
     tree_output(alloc, asked, sheet.rules.as_slice(), tree)
 }
 
 /// Writes what is asked of the elements of a tree. The whole output is built first.
-fn run_page<R: Log, W: Write>(
-    rt: &R,
+fn run_page<'a, P: Report<'a>, W: Write>(
+    report: &mut P,
     alloc: Global,
     asked: Asked<'_>,
-    sheet: &str,
+    sheet: &'a str,
     tree: &str,
     out: &mut W,
 ) -> Result<(), RunFault>
     ensures { Writes (IsAskedRun asked.entry sheet.now tree.now) result (W.contents out.old)
         (W.contents out.new) }
 {
-    let text = page_output(rt, alloc, asked, sheet, tree)?;
+    let text = page_output(report, alloc, asked, sheet, tree)?;
     write_out(out, text.as_bytes())
 }
 
@@ -346,7 +369,21 @@ pub fn run_match<R: Log, W: Write>(
     ensures { Writes (IsMatchRun sheet.now tree.now) result (W.contents out.old)
         (W.contents out.new) }
 {
-    run_page(rt, alloc, Asked::Rules, sheet, tree, out)
+    run_match_reporting(&mut Warnings::new(rt), alloc, sheet, tree, out)
+}
+
+/// Does what [`run_match`] does, and reports what reading the sheet skips, in order.
+pub fn run_match_reporting<'a, P: Report<'a>, W: Write>(
+    report: &mut P,
+    alloc: Global,
+    sheet: &'a str,
+    tree: &str,
+    out: &mut W,
+) -> Result<(), RunFault>
+    ensures { Writes (IsMatchRun sheet.now tree.now) result (W.contents out.old)
+        (W.contents out.new) }
+{
+    run_page(report, alloc, Asked::Rules, sheet, tree, out)
 }
 
 /// Writes for each element of a tree its number from 1, a colon, and where a declaration of the
@@ -366,5 +403,20 @@ pub fn run_style<R: Log, W: Write>(
     ensures { Writes (IsStyleRun sheet.now tree.now name.now) result (W.contents out.old)
         (W.contents out.new) }
 {
-    run_page(rt, alloc, Asked::Winner(name), sheet, tree, out)
+    run_style_reporting(&mut Warnings::new(rt), alloc, sheet, tree, name, out)
+}
+
+/// Does what [`run_style`] does, and reports what reading the sheet skips, in order.
+pub fn run_style_reporting<'a, P: Report<'a>, W: Write>(
+    report: &mut P,
+    alloc: Global,
+    sheet: &'a str,
+    tree: &str,
+    name: &str,
+    out: &mut W,
+) -> Result<(), RunFault>
+    ensures { Writes (IsStyleRun sheet.now tree.now name.now) result (W.contents out.old)
+        (W.contents out.new) }
+{
+    run_page(report, alloc, Asked::Winner(name), sheet, tree, out)
 }

@@ -2,15 +2,14 @@
 //! declarations win there.
 #![tactic(auto)]
 
-mod notice;
-
 use cssq::command::{Command, USAGE};
-use cssq::runs::{RunFault, run_match, run_selector, run_sheet, run_style};
+use cssq::runs::{
+    RunFault, run_match_reporting, run_selector, run_sheet_reporting, run_style_reporting,
+};
 use log::Log;
 use log::sink::Writer;
-use notice::Notice;
-use simplecss_faults::tell_faults;
-use std::io::{BufWriter, Stderr, Write};
+use simplecss_faults::FaultLines;
+use std::io::{BufWriter, Stderr};
 use std::process::ExitCode;
 use std::{env, fs, io};
 
@@ -82,39 +81,42 @@ fn read_files(rt: &HostRuntime, names: &[String]) -> Result<Vec<String>, ExitCod
     Ok(texts)
 }
 
-/// Tells on standard error what of a sheet's text was passed over with a warning. Where memory or
-/// standard error is wanting, less is told.
-fn tell(rt: &HostRuntime, name: &str, text: &str) -> io::Result<()> {
-    let mut out = BufWriter::new(rt.alloc(), rt.stderr())?;
-    tell_faults(&mut out, rt.alloc(), name, text)?;
-    out.flush()
+/// A reporter that writes a warning to standard error for all that is skipped of the files' texts.
+fn fault_lines<'n, 'a>(
+    rt: &HostRuntime,
+    names: &'n [&'n str],
+) -> Option<FaultLines<'n, 'a, BufWriter<Stderr>>> {
+    let out = BufWriter::new(rt.alloc(), rt.stderr()).ok()?;
+    Some(FaultLines::new(out, names))
 }
 
 /// Shows the sheet of the texts in turn, which are those of the files.
-fn show_texts(rt: &HostRuntime, names: &[String], texts: &[&str]) -> ExitCode {
-    let notice = Notice::new();
-    let outcome = run_sheet(&notice, rt.alloc(), texts, &mut rt.stdout());
-    if notice.is_given() {
-        for (name, text) in names.iter().zip(texts.iter()) {
-            let _ = tell(rt, name.as_str(), text);
-        }
-    }
+fn show_texts(rt: &HostRuntime, names: &[&str], texts: &[&str]) -> ExitCode {
+    let Some(mut lines) = fault_lines(rt, names) else {
+        return ended(rt, Err(RunFault::Memory));
+    };
+    let outcome = run_sheet_reporting(&mut lines, rt.alloc(), texts, &mut rt.stdout());
+    let _ = lines.finish();
     ended(rt, outcome)
 }
 
-/// Shows the sheet of the files' texts in turn.
-fn show_sheet(rt: &HostRuntime, names: &[String]) -> ExitCode {
-    let owned = match read_files(rt, names) {
-        Ok(owned) => owned,
-        Err(code) => return code,
-    };
+/// The same strings as text.
+fn as_texts<'s>(rt: &HostRuntime, owned: &'s [String]) -> Result<Vec<&'s str>, ExitCode> {
     let mut texts = Vec::new(rt.alloc());
-    for text in owned.iter() {
+    for text in owned {
         if texts.push(text.as_str()).is_err() {
-            return ended(rt, Err(RunFault::Memory));
+            return Err(ended(rt, Err(RunFault::Memory)));
         }
     }
-    show_texts(rt, names, texts.as_slice())
+    Ok(texts)
+}
+
+/// Shows the sheet of the files' texts in turn.
+fn show_sheet(rt: &HostRuntime, names: &[String]) -> Result<ExitCode, ExitCode> {
+    let owned = read_files(rt, names)?;
+    let texts = as_texts(rt, owned.as_slice())?;
+    let names = as_texts(rt, names)?;
+    Ok(show_texts(rt, names.as_slice(), texts.as_slice()))
 }
 
 /// Shows, for each element of the tree, which rules of the file's sheet take it or, where a name is
@@ -127,14 +129,16 @@ fn show_elements(rt: &HostRuntime, file: &str, tree: &str, name: Option<&str>) -
         return unreadable(rt, tree);
     };
     let (sheet, page) = (sheet_text.as_str(), tree_text.as_str());
-    let notice = Notice::new();
-    let outcome = match name {
-        None => run_match(&notice, rt.alloc(), sheet, page, &mut rt.stdout()),
-        Some(name) => run_style(&notice, rt.alloc(), sheet, page, name, &mut rt.stdout()),
+    let names = [file];
+    let Some(mut lines) = fault_lines(rt, &names) else {
+        return ended(rt, Err(RunFault::Memory));
     };
-    if notice.is_given() {
-        let _ = tell(rt, file, sheet);
-    }
+    let (alloc, out) = (rt.alloc(), &mut rt.stdout());
+    let outcome = match name {
+        None => run_match_reporting(&mut lines, alloc, sheet, page, out),
+        Some(name) => run_style_reporting(&mut lines, alloc, sheet, page, name, out),
+    };
+    let _ = lines.finish();
     ended(rt, outcome)
 }
 
@@ -150,7 +154,9 @@ fn main(rt: HostRuntime) -> ExitCode {
             None => unreadable(&rt, "standard input"),
         },
         Some(Command::Selector(text)) => show_selector(&rt, text),
-        Some(Command::Sheet(names)) => show_sheet(&rt, names),
+        Some(Command::Sheet(names)) => match show_sheet(&rt, names) {
+            Ok(code) | Err(code) => code,
+        },
         Some(Command::Match(file, tree)) => show_elements(&rt, file, tree, None),
         Some(Command::Style(file, tree, name)) => show_elements(&rt, file, tree, Some(name)),
         None => fail(&rt, 2, USAGE),

@@ -14,3 +14,4 @@ pub mod Chaining
 pub mod AskedInTurn
 pub mod Candidates
 pub mod Keeping
+pub mod Reports

@@ -42,8 +42,11 @@ pub use Rattle.simplecss_text.specs.PrintingLaws
 pub use Rattle.simplecss_text.specs.Ranks
 pub use Rattle.simplecss_text.specs.Reading
 pub use Rattle.simplecss_text.specs.ByteTests
+pub use Rattle.simplecss_text.specs.SeenSkips
 pub use Rattle.simplecss_text.specs.Selectors
 pub use Rattle.simplecss_text.specs.Sheets
+pub use Rattle.simplecss_text.specs.SkipPlaces
+pub use Rattle.simplecss_text.specs.Skipped
 pub use Rattle.simplecss_text.specs.Slices
 pub use Rattle.simplecss_text.specs.Specificity
 pub use Rattle.simplecss_text.specs.Statements

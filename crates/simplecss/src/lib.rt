@@ -18,10 +18,11 @@ pub mod laws;
 mod sheet;
 
 pub use index::RuleIndex;
-pub use sheet::{Rule, Statement, StatementReader, StyleSheet};
+pub use sheet::{Rule, Statement, StatementReader, StyleSheet, find_skipped};
 pub use simplecss_declaration::{Declaration, DeclarationTokenizer};
 pub use simplecss_selector::{
     AttributeOperator, Element, Key, Keyed, PseudoClass, Selector, SelectorToken,
-    SelectorTokenizer, Tests,
+    SelectorTokenizer, Tests, Warnings,
 };
+pub use simplecss_text::report::{Kept, Refusal, Report, Silent, Skipped, Why};
 pub use simplecss_text::{Error, TextPos, stream};

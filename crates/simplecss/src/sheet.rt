@@ -10,4 +10,4 @@ mod style_sheet;
 
 pub use rules::Rule;
 pub use statement_reader::{Statement, StatementReader};
-pub use style_sheet::StyleSheet;
+pub use style_sheet::{StyleSheet, find_skipped};

@@ -13,6 +13,8 @@ use Rattle.simplecss_text.specs.Characters.{Edition}
 use Rattle.simplecss_text.specs.Declarations.{StyleDeclaration, declaration, next_declaration}
 use Rattle.simplecss_text.specs.Blocks.{count_of, closes_block, block_end, from_block_end, ends_list, declaration_in_block, past_broken, past_list, block}
 use Rattle.simplecss_text.specs.Statements.{next_block}
+use Rattle.simplecss_declaration.specs.ListEnds.{EndsAt}
+use Rattle.simplecss_text.specs.Skipped.{Skip, broken_part, if_broken, list_skips, block_skips, next_block_skips}
 use Rattle.simplecss_text.proofs.reading.EachLaws.{took, each-none, each-some}
 use Rattle.simplecss_text.proofs.reading.DeclarationLaws.{next_declaration-takes, declaration_in_block-takes}
 use Rattle.simplecss_text.proofs.reading.LeastLaws.{least-is, least-none, least-le, least-passes}
@@ -180,3 +182,67 @@ next_block-some edition text rest e = next_block-behind edition text ∙ ap (blo
 
 pub next_block-none : (edition : Edition) (text : List ℕ) → after_byte 123 text ≡ None → next_block edition text ≡ ([], [])
 next_block-none edition text e = next_block-behind edition text ∙ ap (block_behind edition) e
+
+-- where the list of declarations ends by itself
+pub block-ended : (edition : Edition) (text left rest : List ℕ) (front : List StyleDeclaration) → front ≡ (each (declaration_in_block edition) text).0 → EndsAt edition (each (declaration_in_block edition) text).1 None left → rest ≡ past_byte 125 left → block edition text ≡ (front, rest)
+unfolding block
+block-ended edition text left rest front f h r =
+    let here = (each (declaration_in_block edition) text).1 in
+    ap (λ (x : List StyleDeclaration). (x, past_byte 125 (past_list edition here))) (sym f)
+    ∙ ap (λ (t : List ℕ). (front, past_byte 125 t)) (past_list-end edition here h.0 ∙ sym h.1)
+    ∙ ap (λ (t : List ℕ). (front, t)) (sym r)
+
+-- where a broken declaration ends it
+pub block-broken : (edition : Edition) (text begun left rest : List ℕ) (front : List StyleDeclaration) → front ≡ (each (declaration_in_block edition) text).0 → EndsAt edition (each (declaration_in_block edition) text).1 (Some begun) left → rest ≡ past_byte 125 (past_byte 125 (from_block_end left)) → block edition text ≡ (front, rest)
+unfolding block
+block-broken edition text begun left rest front f h r =
+    let here = (each (declaration_in_block edition) text).1 in
+    ap (λ (x : List StyleDeclaration). (x, past_byte 125 (past_list edition here))) (sym f)
+    ∙ ap (λ (t : List ℕ). (front, past_byte 125 t)) (past_list-broken edition here left h.0 h.2)
+    ∙ ap (λ (t : List ℕ). (front, t)) (sym r)
+
+-- ---- what a block skips
+
+list_skips-broken : (edition : Edition) (text left : List ℕ) → ends_list text ≡ false → FailsAt (declaration edition text) left → list_skips edition text ≡ broken_part text (from_block_end left)
+list_skips-broken edition text left e h = rw e (by (declaration edition text) h)
+  where
+    by : (r : Reading StyleDeclaration) → FailsAt r left → if_broken text r ≡ broken_part text (from_block_end left)
+    by (got p rest) h = absurd h
+    by (fails fault rest) h = ap (λ (t : List ℕ). broken_part text (from_block_end t)) (sym h)
+
+list_skips-end : (edition : Edition) (text : List ℕ) → ends_list text ≡ true → list_skips edition text ≡ []
+list_skips-end edition text e = rw e refl
+
+-- where the list of declarations ends by itself
+pub block_skips-ended : (edition : Edition) (text left : List ℕ) → EndsAt edition (each (declaration_in_block edition) text).1 None left → [] ≡ block_skips edition text
+unfolding block_skips
+block_skips-ended edition text left h = sym (list_skips-end edition (each (declaration_in_block edition) text).1 h.0)
+
+-- where a broken declaration ends it
+pub block_skips-broken : (edition : Edition) (text begun left : List ℕ) → EndsAt edition (each (declaration_in_block edition) text).1 (Some begun) left → broken_part begun (from_block_end left) ≡ block_skips edition text
+unfolding block_skips
+block_skips-broken edition text begun left h =
+    ap (λ (t : List ℕ). broken_part t (from_block_end left)) h.1
+    ∙ sym (list_skips-broken edition (each (declaration_in_block edition) text).1 left h.0 h.2)
+
+-- the block behind the first opening brace, if there is one
+abbrev skips_behind : Edition → Option (List ℕ) → List Skip
+skips_behind edition None = []
+skips_behind edition (Some text) = block_skips edition text
+
+next_block_skips-behind : (edition : Edition) (text : List ℕ) → next_block_skips edition text ≡ skips_behind edition (after_byte 123 text)
+unfolding next_block_skips
+next_block_skips-behind edition [] = refl
+next_block_skips-behind edition (b ∷ text) = by (b == 123) refl (next_block_skips-behind edition text)
+  where
+    by : (t : Bool) → (b == 123) ≡ t → next_block_skips edition text ≡ skips_behind edition (after_byte 123 text) → next_block_skips edition (b ∷ text) ≡ skips_behind edition (after_byte 123 (b ∷ text))
+    by true e more = rw (e, e) refl
+    by false e more =
+        let one : 1 + prefix_len (λ b. not (b == 123)) text ≡ suc (prefix_len (λ b. not (b == 123)) text) = omega arith in
+        rw (e, one) more
+
+pub next_block_skips-some : (edition : Edition) (text rest : List ℕ) → after_byte 123 text ≡ Some rest → next_block_skips edition text ≡ block_skips edition rest
+next_block_skips-some edition text rest e = next_block_skips-behind edition text ∙ ap (skips_behind edition) e
+
+pub next_block_skips-none : (edition : Edition) (text : List ℕ) → after_byte 123 text ≡ None → next_block_skips edition text ≡ []
+next_block_skips-none edition text e = next_block_skips-behind edition text ∙ ap (skips_behind edition) e

@@ -1,4 +1,3 @@
-pub mod ByteLemmas
 pub mod FaultLemmas
 pub mod ValueLemmas
 pub mod DeclarationLists

@@ -2,3 +2,4 @@ pub mod SeenDeclarations
 pub mod UntoldFaults
 pub mod DeclarationTokenizers
 pub mod BlockDepths
+pub mod ListEnds

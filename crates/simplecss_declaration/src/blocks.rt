@@ -1,19 +1,23 @@
 //! Blocks of declarations, and what of a style sheet is passed up to a block and with it.
-ghost use Rattle.std.specs.Prelude.{◌≡◌, ◌+◌, ◌<◌, ◌^◌, MatchResult, OnOk, length, map};
+ghost use Rattle.std.specs.Prelude.{◌≡◌, ◌+◌, ◌<◌, ◌^◌, MatchResult, OnOk, IfOk, length, map, option_map};
 ghost use Rattle.std.specs.Str.{IsCharBoundary};
 ghost use Rattle.simplecss_text.specs.Reading.{each};
 ghost use Rattle.simplecss_text.specs.AsciiBytes.{semicolon, open_brace, close_brace};
 ghost use Rattle.simplecss_text.specs.Bytes.{past_byte, is_neither, past};
 ghost use Rattle.simplecss_text.specs.Blocks.{count_of, block_end as block_end_of, from_block_end};
-ghost use Rattle.simplecss_text.specs.Blocks.{ends_list, declaration_in_block, past_list, block};
+ghost use Rattle.simplecss_text.specs.Blocks.{ends_list, declaration_in_block, block};
 ghost use Rattle.simplecss_text.specs.Statements.{next_block, past_semicolon_or_block};
+ghost use Rattle.simplecss_text.specs.Skipped.{list_end_skips, brace_skips, broken_part};
+ghost use Rattle.simplecss_text.specs.Skipped.{block_skips, next_block_skips, add_each};
 ghost use Rattle.simplecss_text.specs.ThisEdition.{this_edition};
 ghost use Rattle.simplecss_text.specs.Cursor.{text_of, rest_of};
 ghost use Rattle.simplecss_declaration.specs.BlockDepths.{ClosesFirst, ClosesNowhere};
+ghost use Rattle.simplecss_declaration.specs.ListEnds.{EndsAt};
 ghost use Rattle.simplecss_declaration.specs.SeenDeclarations.{declaration_of};
 
 use super::declarations::Declaration;
 use super::reader::consume_declaration;
+use simplecss_text::report::{Report, Skipped, Why};
 use simplecss_text::stream::Stream;
 use simplecss_text::{readers, scan};
 use std::alloc::AllocError;
@@ -101,13 +105,90 @@ fn block_end(text: &str) -> usize
     closing_place(text.as_bytes())
 }
 
+/// Passes the rest of the block that the place is in, up to the closing brace that ends it.
+fn pass_to_block_end(s: &mut Stream<'_>)
+    ensures text { text_of s.new ≡ text_of s.old }
+    ensures rest { rest_of s.new ≡ from_block_end (rest_of s.old) }
+{
+    s.advance(block_end(s.slice_tail()));
+}
+
 /// Passes the rest of the block that the place is in, and the closing brace that ends it.
 fn pass_block(s: &mut Stream<'_>)
     ensures text { text_of s.new ≡ text_of s.old }
     ensures rest { rest_of s.new ≡ past_byte close_brace (from_block_end (rest_of s.old)) }
 {
-    s.advance(block_end(s.slice_tail()));
+    pass_to_block_end(s);
     s.try_consume_byte(b'}');
+}
+
+/// Whether a list of declarations ends at the front of the text.
+fn ends_list_at(text: &str) -> bool
+    ensures { result ≡ ends_list text.now }
+{
+    at_list_end(&Stream::new(text))
+}
+
+/// Reports what follows the declarations of a block, up to where the block ends: nothing where the
+/// block or the text ends, a comment that is not closed, or a declaration that is broken.
+fn report_list_end<'a, P: Report<'a>>(
+    report: &mut P,
+    text: &'a str,
+    after: &'a str,
+) -> Result<(), AllocError>
+    ensures { OnOk result (P.state report.new
+        ≡ add_each P.add (P.state report.old) (list_end_skips text.now after.now)) }
+{
+    let gap = scan::find_gap(text);
+    let from = &text[gap.len..];
+    if ends_list_at(from) {
+        return Ok(());
+    }
+    let why = if gap.unclosed {
+        Why::Comment
+    } else {
+        Why::Declaration
+    };
+    report.report(Skipped { from, after, why })
+}
+
+/// Skips a closing brace that follows a block, if one does, and reports it.
+fn skip_brace<'a, P: Report<'a>>(report: &mut P, s: &mut Stream<'a>) -> Result<(), AllocError>
+    ensures text { text_of s.new ≡ text_of s.old }
+    ensures rest { rest_of s.new ≡ past_byte close_brace (rest_of s.old) }
+    ensures reported { OnOk result (P.state report.new
+        ≡ add_each P.add (P.state report.old) (brace_skips (rest_of s.old))) }
+{
+    let from = s.slice_tail();
+    if !readers::pass_byte(s, b'}') {
+        return Ok(());
+    }
+    report.report(Skipped {
+        from,
+        after: s.slice_tail(),
+        why: Why::ExtraBrace,
+    })
+}
+
+/// Skips the rest of a block whose declarations end at `text`, with its closing brace and one more
+/// that follows it, and reports what is skipped.
+#[cold]
+#[inline(never)]
+fn skip_broken<'a, P: Report<'a>>(
+    report: &mut P,
+    text: &'a str,
+    s: &mut Stream<'a>,
+) -> Result<(), AllocError>
+    ensures text { text_of s.new ≡ text_of s.old }
+    ensures rest { OnOk result (rest_of s.new
+        ≡ past_byte close_brace (past_byte close_brace (from_block_end (rest_of s.old)))) }
+    ensures reported { OnOk result (P.state report.new ≡ add_each P.add (P.state report.old)
+        (broken_part text.now (from_block_end (rest_of s.old)))) }
+{
+    pass_to_block_end(s);
+    report_list_end(report, text, s.slice_tail())?;
+    s.try_consume_byte(b'}');
+    skip_brace(report, s)
 }
 
 /// Whether a list of declarations ends here: at a closing brace and at the end of the text.
@@ -122,61 +203,76 @@ fn at_list_end(s: &Stream<'_>) -> bool
 }
 
 /// Reads the declarations of a block into the list, in the place of those that it held. A broken
-/// one ends them, and then the block's end and its brace are passed.
+/// one ends them; the text from where it begins is returned, and the place is where reading it
+/// stopped.
 fn consume_declarations<'a>(
     s: &mut Stream<'a>,
     declarations: &mut Vec<Declaration<'a>>,
-) -> Result<(), AllocError>
+) -> Result<Option<&'a str>, AllocError>
     ensures text { text_of s.new ≡ text_of s.old }
     ensures values { OnOk result (map declaration_of declarations.new.items
         ≡ (each (declaration_in_block this_edition) (rest_of s.old)).0) }
-    ensures rest { OnOk result (rest_of s.new
-        ≡ past_list this_edition (each (declaration_in_block this_edition) (rest_of s.old)).1) }
+    ensures list { IfOk result (λ broken. EndsAt this_edition
+        (each (declaration_in_block this_edition) (rest_of s.old)).1
+        (option_map (λ text. text.now) broken) (rest_of s.new)) }
 {
     declarations.clear();
     'list: while !at_list_end(s) {
+        let text = s.slice_tail();
         match consume_declaration(s) {
             Some(declaration) => declarations.push(declaration)?,
-            None => {
-                pass_block(s);
-                return Ok(());
-            }
+            None => return Ok(Some(text)),
         }
     }
-    Ok(())
+    Ok(None)
 }
 
 /// Reads a block behind its opening brace, and passes one closing brace that stands directly behind
 /// its declarations. So a block that a broken declaration ended takes a further one. The list then
-/// holds the block's declarations alone.
-#[tactic(auto, unfolding(simplecss_text::specs::Blocks::block))]
-fn consume_block<'a>(
+/// holds the block's declarations alone. What is skipped is reported.
+#[inline(always)]
+fn consume_block<'a, P: Report<'a>>(
+    report: &mut P,
     s: &mut Stream<'a>,
     declarations: &mut Vec<Declaration<'a>>,
 ) -> Result<(), AllocError>
     ensures text { text_of s.new ≡ text_of s.old }
     ensures reads { OnOk result (block this_edition (rest_of s.old)
         ≡ (map declaration_of declarations.new.items, rest_of s.new)) }
+    ensures reported { OnOk result (P.state report.new
+        ≡ add_each P.add (P.state report.old) (block_skips this_edition (rest_of s.old))) }
 {
-    consume_declarations(s, declarations)?;
-    s.try_consume_byte(b'}');
-    Ok(())
+    let broken = match consume_declarations(s, declarations) {
+        Ok(broken) => broken,
+        Err(error) => return Err(error),
+    };
+    match broken {
+        None => {
+            s.try_consume_byte(b'}');
+            Ok(())
+        }
+        Some(text) => skip_broken(report, text, s),
+    }
 }
 
 /// Reads the declarations of the block that the next opening brace begins into the list, in the
-/// place of those that it held. Without such a brace there are none, and the text is used up.
-pub fn consume_next_block<'a>(
+/// place of those that it held. Without such a brace there are none, and the text is used up. What
+/// the block skips is reported.
+pub fn consume_next_block<'a, P: Report<'a>>(
+    report: &mut P,
     s: &mut Stream<'a>,
     declarations: &mut Vec<Declaration<'a>>,
 ) -> Result<(), AllocError>
     ensures text { text_of s.new ≡ text_of s.old }
     ensures reads { OnOk result (next_block this_edition (rest_of s.old)
         ≡ (map declaration_of declarations.new.items, rest_of s.new)) }
+    ensures reported { OnOk result (P.state report.new
+        ≡ add_each P.add (P.state report.old) (next_block_skips this_edition (rest_of s.old))) }
 {
     match scan::find_byte(s.slice_tail(), b'{') {
         Some(at) => {
             s.advance(at + 1);
-            consume_block(s, declarations)
+            consume_block(report, s, declarations)
         }
         None => {
             s.jump_to_end();

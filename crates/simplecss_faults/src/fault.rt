@@ -1,42 +1,84 @@
-//! A part of a style sheet that is passed over.
+//! A part of a style sheet that is skipped.
 use simplecss::{Error, TextPos};
 use std::fmt;
 
-/// A part of a style sheet that is passed over, as CSS 2.1 section 4.2 asks.
+/// A part of a style sheet that reading it skips (CSS 2.1 section 4.2).
 #[derive(Clone, Copy, Debug, PartialEq)]
 pub struct Fault<'a> {
     /// Where it begins in the whole text.
     pub pos: TextPos,
-    /// The selector, the declaration or the name of the at-rule, as it stands there.
+    /// All that is skipped, from there on.
     pub text: &'a str,
-    /// Why it is passed over.
+    /// Why it is skipped.
     pub reason: Reason,
 }
 
-/// Why a part of a style sheet is passed over.
+/// Why a part of a style sheet is skipped.
 #[derive(Clone, Copy, Debug, PartialEq)]
 pub enum Reason {
-    /// The selector has an error. A position in it counts from the selector's own start.
+    /// A comma before the first selector of a rule set.
+    LeadingComma,
+    /// The selector has an error. A position in it counts from the start of the whole text.
     Selector(Error),
     /// The selector has a pseudo-class of no known name.
     PseudoClass,
+    /// Text between the last selector of a rule set and the block.
+    AfterSelector,
+    /// No block follows the last selector of a rule set.
+    MissingBlock,
+    /// The declaration is broken. All that follows it in its block is skipped with it.
+    Declaration,
+    /// A closing brace after a block that already has one.
+    ExtraBrace,
+    /// The comment is not closed. All that follows it is skipped with it.
+    Comment,
     /// At-rules are not supported.
     AtRule,
-    /// The declaration is broken. All that follows it in its block is passed over with it.
-    Declaration,
-    /// The comment is not closed. All that follows it is passed over with it.
-    Comment,
+}
+
+/// The text before the first of the two characters, or all, without white space around it.
+fn before(text: &str, one: char, two: char) -> &str {
+    match text.split_once([one, two]) {
+        Some((front, _)) => front.trim(),
+        None => text.trim(),
+    }
+}
+
+impl<'a> Fault<'a> {
+    /// The part of the text that a message quotes: an at-rule up to its block or semicolon, a
+    /// declaration up to its semicolon, a comment's first line, and anything else as it is. White
+    /// space around it is left out.
+    pub fn quote(&self) -> &'a str {
+        match self.reason {
+            Reason::AtRule => before(self.text, '{', ';'),
+            Reason::Declaration => before(self.text, ';', '}'),
+            Reason::Comment => before(self.text, '\n', '\r'),
+            _ => self.text.trim(),
+        }
+    }
+}
+
+/// Prints the row and the column, what is quoted and the reason, as `3:1: 'a < b': invalid ident`.
+impl fmt::Display for Fault<'_> {
+    fn fmt<W: fmt::Write>(&self, f: &mut fmt::Formatter<W>) -> fmt::Result {
+        let quote = self.quote();
+        write!(f, "{}: '{quote}': {}", self.pos, self.reason)
+    }
 }
 
 /// Prints the reason in a few words, without a position.
 impl fmt::Display for Reason {
     fn fmt<W: fmt::Write>(&self, f: &mut fmt::Formatter<W>) -> fmt::Result {
         f.write_str(match *self {
+            Reason::LeadingComma => "comma before a selector",
             Reason::Selector(error) => words_of(error),
             Reason::PseudoClass => "unknown pseudo-class",
-            Reason::AtRule => "at-rule not supported",
+            Reason::AfterSelector => "unexpected text after a selector",
+            Reason::MissingBlock => "block missing",
             Reason::Declaration => "broken declaration",
+            Reason::ExtraBrace => "unexpected closing brace",
             Reason::Comment => "comment not closed",
+            Reason::AtRule => "at-rule not supported",
         })
     }
 }

@@ -1,6 +1,5 @@
-//! What of a style sheet's text is passed over, and where it stands: for linters, and for programs
-//! that tell where a warning comes from. What is found here is tested and not proved; that every
-//! text is read without a fault of memory or of arithmetic, and to its end, is proved.
+//! What reading a style sheet's text skips, with positions in the text: for linters, and for programs
+//! that print where a warning comes from.
 #![tactic(auto)]
 
 mod fault;
@@ -9,4 +8,4 @@ mod telling;
 
 pub use fault::{Fault, Reason};
 pub use finding::find_faults;
-pub use telling::tell_faults;
+pub use telling::FaultLines;

@@ -1,30 +1,76 @@
-//! Telling what is passed over.
-use crate::{Fault, Reason, find_faults};
-use std::alloc::Global;
+//! Warnings of what is skipped, a line each.
+use crate::finding::{Known, fault};
+use simplecss::{Report, Skipped};
+use std::alloc::AllocError;
 use std::io;
 use std::io::Write;
 
-/// Writes a line for each fault of a style sheet's text that a warning is given of: the name, the
-/// row and the column in the text, what stands there, and why. Where memory is refused nothing is
-/// written. Where the writer fails, what stood before is.
-pub fn tell_faults<W: Write>(out: &mut W, alloc: Global, name: &str, text: &str) -> io::Result<()> {
-    let faults = find_faults(alloc, text)?;
-    for fault in &faults {
-        tell_fault(out, name, fault)?;
-    }
-    Ok(())
+/// A reporter that writes a line for each part that is skipped: the name of the text, the row and
+/// the column in it, what is quoted, and why, as `page.css:3:1: 'a < b': invalid ident`.
+///
+/// After an error of the writer nothing more is written.
+#[derive(Debug, Drop)]
+pub struct FaultLines<'n, 'a, W: Write> {
+    /// Where the lines are written.
+    out: W,
+    /// The names of the texts, in order.
+    names: &'n [&'n str],
+    /// How many texts were begun.
+    begun: usize,
+    /// The text that is read.
+    text: &'a str,
+    /// The last place of it that was reported.
+    known: Known,
+    /// The first error of the writer.
+    outcome: io::Result<()>,
 }
 
-/// Writes the line of a fault, if it is one that a warning is given of.
-fn tell_fault<W: Write>(out: &mut W, name: &str, fault: &Fault<'_>) -> io::Result<()> {
-    match fault.reason {
-        Reason::Selector(_) | Reason::PseudoClass | Reason::AtRule => {
-            writeln!(
-                out,
-                "{name}:{}: '{}': {}",
-                fault.pos, fault.text, fault.reason
-            )
+impl<'n, 'a, W: Write + Drop> FaultLines<'n, 'a, W> {
+    /// A reporter for texts with these names, in order. A text after those has an empty name.
+    pub fn new(out: W, names: &'n [&'n str]) -> Self {
+        FaultLines {
+            out,
+            names,
+            begun: 0,
+            text: "",
+            known: Known::START,
+            outcome: Ok(()),
         }
-        Reason::Declaration | Reason::Comment => Ok(()),
+    }
+
+    /// Writes what is still in the writer's buffers. Fails if this does, or if a line could not be
+    /// written.
+    pub fn finish(self) -> io::Result<()> {
+        let FaultLines {
+            mut out, outcome, ..
+        } = self;
+        outcome?;
+        out.flush()
+    }
+}
+
+impl<'n, 'a, W: Write> Report<'a> for FaultLines<'n, 'a, W> {
+    ghost State = { Unit {0} };
+
+    ghost state = { λ _. tt };
+
+    ghost add = { λ _ _. tt };
+
+    fn begin(&mut self, text: &'a str) {
+        self.text = text;
+        self.known = Known::START;
+        self.begun = self.begun.saturating_add(1);
+    }
+
+    fn report(&mut self, skipped: Skipped<'a>) -> Result<(), AllocError> {
+        let fault = fault(self.text, &mut self.known, skipped);
+        let name = match self.names.get(self.begun.saturating_sub(1)) {
+            Some(name) => *name,
+            None => "",
+        };
+        if self.outcome.is_ok() {
+            self.outcome = writeln!(self.out, "{name}:{fault}");
+        }
+        Ok(())
     }
 }

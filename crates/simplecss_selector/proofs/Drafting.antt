@@ -4,6 +4,11 @@ use Rattle.std.proofs.Common.{◌≡◌, ◌<◌, ℕ, Bool, true, false, Option
 use Rattle.simplecss_text.specs.Components.{Component}
 use Rattle.simplecss_text.specs.declared.Error.{Error}
 use Rattle.simplecss_text.specs.TokenSequences.{TokenSequence, sequence_of, items}
+use Rattle.simplecss_text.specs.Bytes.{past}
+use Rattle.simplecss_text.specs.Characters.{is_space}
+use Rattle.simplecss_text.specs.Errors.{error_of}
+use Rattle.simplecss_text.specs.Tokens.{Token}
+use Rattle.simplecss_text.specs.Skipped.{Refusal, faulty, unknown_class, unless_unknown, class_name, refusal_in, refusal, refused as refused_skip, refused_part, selector_skips}
 use Rattle.simplecss_text.specs.ThisEdition.{this_edition}
 use Rattle.simplecss_text.specs.Selectors.{Part, Role, Outcome, role_of, outcome, with_role, after_role, cut, type_among, subselectors_among, component_of, components_of, selector_of, reads}
 use Rattle.simplecss_text.specs.Selectors.Part.{any_type, of_type, with}
@@ -77,3 +82,39 @@ end-finished text d before after left (b, e) = rw b refl
 
 pub token-fewer : (text : List ℕ) (token : SelectorToken) (before after : TokenSequence) (left : List ℕ) → GivesFirst text before (Some (Ok token)) left after → length (items after) < length (items before)
 token-fewer text token before after left (told, e, b) = rw b (omega arith)
+
+-- ---- why a selector is refused
+
+-- a token that has a role refuses nothing
+refusal_role : (role : Option Role) (token : Token) (later : Option Refusal) → is_some role ≡ true → later ≡ unless_unknown role token later
+refusal_role (Some role) token later h = refl
+refusal_role None token later h = absurd (cc)
+
+-- a token that has none is why
+refusal_no_role : (role : Option Role) (token : Token) (later : Option Refusal) → is_some role ≡ false → Some (unknown_class (class_name token)) ≡ unless_unknown role token later
+refusal_no_role (Some role) token later h = absurd (cc)
+refusal_no_role None token later h = refl
+
+pub refusal-filled : (text : List ℕ) (token : SelectorToken) (before after : TokenSequence) (left : List ℕ) → GivesFirst text before (Some (Ok token)) left after → is_some (role_of (token_of token)) ≡ true → refusal_in text after ≡ refusal_in text before
+refusal-filled text token before after left (Ok told, e, b) h = let same : token_of token ≡ told = cc in rw (b, ← same) (refusal_role (role_of (token_of token)) (token_of token) (refusal_in text after) h)
+refusal-filled text token before after left (Err fault, e, b) h = absurd (cc)
+
+pub refusal-unknown : (text : List ℕ) (token : SelectorToken) (before after : TokenSequence) (left : List ℕ) → GivesFirst text before (Some (Ok token)) left after → is_some (role_of (token_of token)) ≡ false → Some (unknown_class (class_name (token_of token))) ≡ refusal_in text before
+refusal-unknown text token before after left (Ok told, e, b) h = let same : token_of token ≡ told = cc in rw (b, ← same) (refusal_no_role (role_of (token_of token)) (token_of token) (refusal_in text after) h)
+refusal-unknown text token before after left (Err fault, e, b) h = absurd (cc)
+
+pub refusal-error : (text : List ℕ) (error : Error) (before after : TokenSequence) (left : List ℕ) → GivesFirst text before (Some (Err error)) left after → Some (faulty text error) ≡ refusal_in text before
+refusal-error text error before after left (Ok told, e, b) = absurd (cc)
+refusal-error text error before after left (Err fault, e, b) = let same : error ≡ error_of text fault = cc in rw (b, same) refl
+
+pub refusal-end : (text : List ℕ) (before after : TokenSequence) (left : List ℕ) → GivesFirst text before None left after → None ≡ refusal_in text before
+refusal-end text before after left (b, e) = rw b refl
+
+-- what the selector at the front of a text skips, from where reading it ends
+pub selector_skips-is : (text left : List ℕ) (all : TokenSequence) → all ≡ sequence_of this_edition text → (reads this_edition text).1 ≡ left → selector_skips this_edition text ≡ refused_part text (past is_space left) (refusal_in text all)
+unfolding selector_skips refusal
+selector_skips-is text left all s e = rw (e, s) refl
+
+-- the report of a refusal
+pub refused-reported : (text left rest : List ℕ) (r : Refusal) (why : Option Refusal) → Some r ≡ why → left ≡ rest → refused_skip text (past is_space left) r ∷ [] ≡ refused_part text (past is_space rest) why
+refused-reported text left rest r why w l = rw (sym w, l) refl

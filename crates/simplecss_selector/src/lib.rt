@@ -20,6 +20,7 @@ mod selector;
 mod specificity;
 mod token;
 mod tokenizer;
+mod warnings;
 
 pub use counter::Tests;
 pub use element::Element;
@@ -33,3 +34,4 @@ pub use operator_laws::operator_equality_laws;
 pub use selector::Selector;
 pub use token::SelectorToken;
 pub use tokenizer::SelectorTokenizer;
+pub use warnings::Warnings;

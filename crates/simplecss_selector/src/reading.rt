@@ -1,8 +1,13 @@
 //! Reading a selector from the front of a text.
-ghost use Rattle.std.specs.Prelude.{◌≡◌, drop, is_some, IfOk, IfSome};
+ghost use Rattle.std.specs.Prelude.{◌≡◌, ◌∷◌, [], drop, is_some, IfOk, IfSome, OnOk};
 ghost use Rattle.std.specs.Str.{IsCharBoundary};
 ghost use Rattle.simplecss_text.specs.PrintingLaws.{SelectorReadsBack};
 ghost use Rattle.simplecss_text.specs.Selectors.{role_of, known_pseudo_class, outcome, reads};
+ghost use Rattle.simplecss_text.specs.Bytes.{past};
+ghost use Rattle.simplecss_text.specs.Characters.{is_space};
+ghost use Rattle.simplecss_text.specs.Skipped.{class_name, refusal_in, past_refused, refused};
+ghost use Rattle.simplecss_text.specs.Skipped.{refused_part, selector_skips, add_each};
+ghost use Rattle.simplecss_text.specs.SeenSkips.{refusal_of};
 ghost use Rattle.simplecss_text.specs.ThisEdition.{this_edition};
 ghost use Rattle.simplecss_selector.specs.SelectorDrafts.{drafted_if, selector_after, selector_read};
 ghost use Rattle.simplecss_selector.specs.SelectorTokenizers.{whole_text, left_of, still_to_come};
@@ -12,8 +17,9 @@ ghost use Rattle.simplecss_selector.specs.KnownPseudoClasses.{pseudo_class_seen}
 use crate::draft::Draft;
 use crate::selector::{Combinator, Selector, SubSelector};
 use crate::{AttributeOperator, PseudoClass, SelectorToken, SelectorTokenizer};
-use log::{Log, warn};
-use simplecss_text::Error;
+use simplecss_text::report::{Refusal, Report, Skipped, Why};
+use simplecss_text::stream::Stream;
+use simplecss_text::{readers, scan};
 use std::alloc::{AllocError, Global};
 
 /// The pseudo-class of a name, if there is one.
@@ -72,55 +78,94 @@ fn fill<'a>(draft: &mut Draft<'a>, token: SelectorToken<'a>) -> Result<bool, All
     Ok(true)
 }
 
-/// Tells the logger why a selector was refused.
+/// The name of a pseudo-class; any other token has none.
 #[cold]
-#[inline(never)]
-fn warn_fault<R: Log>(rt: &R, error: Error) {
-    warn!(rt; "Selector parsing failed cause {}.", error);
-}
-
-/// Tells the logger that a pseudo-class has no known name.
-#[cold]
-#[inline(never)]
-fn warn_unknown<R: Log>(rt: &R, token: SelectorToken<'_>) {
-    if let SelectorToken::PseudoClass(name) = token {
-        warn!(rt; "':{}' is not supported. Selector skipped.", name);
+fn class_name<'a>(token: SelectorToken<'a>) -> &'a str
+    ensures { result.now ≡ class_name (token_of token.entry) }
+{
+    match token {
+        SelectorToken::PseudoClass(name) => name,
+        _ => "",
     }
 }
 
+/// What is left after a refused selector and what is skipped with it: the text up to the comma, and
+/// without one up to the block.
+fn past_refused(rest: &str) -> &str
+    ensures { result.now ≡ past_refused rest.now }
+{
+    if readers::starts(rest, b',') {
+        return rest;
+    }
+    readers::from_brace(rest)
+}
+
+/// Reports that the selector at the front of the text is refused. Reading it stopped after `len`
+/// bytes.
+#[cold]
+#[inline(never)]
+fn report_refusal<'a, P: Report<'a>>(
+    report: &mut P,
+    text: &'a str,
+    len: usize,
+    refusal: Refusal<'a>,
+) -> Result<(), AllocError>
+    requires { IsCharBoundary text.now len }
+    ensures { OnOk result (P.state report.new ≡ add_each P.add (P.state report.old)
+        (refused text.now (past is_space (drop len text.now)) (refusal_of refusal.entry) ∷ [])) }
+{
+    let mut rest = Stream::new(&text[len..]);
+    rest.skip_spaces();
+    report.report(Skipped {
+        from: &text[scan::find_gap(text).len..],
+        after: past_refused(rest.slice_tail()),
+        why: Why::Selector(refusal),
+    })
+}
+
 /// Puts the tokens that are still to come into the selector that is being made, up to the first
-/// error or unknown pseudo-class, and says whether there was none.
+/// error or unknown pseudo-class, and says whether there was none. One is reported.
 #[inline(always)]
-fn fill_all<'a, R: Log>(
-    rt: &R,
+fn fill_all<'a, P: Report<'a>>(
+    report: &mut P,
+    text: &'a str,
     tokenizer: &mut SelectorTokenizer<'a>,
     draft: &mut Draft<'a>,
 ) -> Result<bool, AllocError>
+    requires { whole_text tokenizer.old ≡ text.now }
     ensures text { whole_text tokenizer.new ≡ whole_text tokenizer.old }
     ensures filled { IfOk result (λ is_read. selector_read is_read draft.new (left_of tokenizer.new)
         ≡ selector_after draft.old (outcome (still_to_come tokenizer.old))) }
+    ensures reported { OnOk result (P.state report.new ≡ add_each P.add (P.state report.old)
+        (refused_part text.now (past is_space (left_of tokenizer.new))
+        (refusal_in text.now (still_to_come tokenizer.old)))) }
 {
     while let Some(item) = tokenizer.next() {
         let token = match item {
             Ok(token) => token,
             Err(error) => {
-                warn_fault(rt, error);
+                let refusal = Refusal::Faulty {
+                    within: text,
+                    error,
+                };
+                report_refusal(report, text, tokenizer.pos(), refusal)?;
                 return Ok(false);
             }
         };
         if !fill(draft, token)? {
-            warn_unknown(rt, token);
+            let refusal = Refusal::UnknownClass(class_name(token));
+            report_refusal(report, text, tokenizer.pos(), refusal)?;
             return Ok(false);
         }
     }
     Ok(true)
 }
 
-/// The selector that a text begins with, or `None` where it is refused, and the place behind what
-/// was read.
+/// The selector that a text begins with, or `None` where it is refused, which is reported, and the
+/// place behind what was read.
 #[inline(always)]
-pub(crate) fn read_front<'a, R: Log>(
-    rt: &R,
+pub(crate) fn read_front<'a, P: Report<'a>>(
+    report: &mut P,
     alloc: Global,
     text: &'a str,
 ) -> Result<(Option<Selector<'a>>, usize), AllocError>
@@ -128,10 +173,12 @@ pub(crate) fn read_front<'a, R: Log>(
     ensures rest { IfOk result (λ read. drop read.1 text.now ≡ (reads this_edition text.now).1) }
     ensures boundary { IfOk result (λ read. IsCharBoundary text.now read.1) }
     ensures printed { IfOk result (λ read. IfSome read.0 (SelectorReadsBack this_edition)) }
+    ensures reported { OnOk result (P.state report.new
+        ≡ add_each P.add (P.state report.old) (selector_skips this_edition text.now)) }
 {
-    let mut tokenizer = SelectorTokenizer::from(text);
-    let mut draft = Draft::new(alloc);
-    if !fill_all(rt, &mut tokenizer, &mut draft)? {
+    let mut tokenizer: SelectorTokenizer<'a> = SelectorTokenizer::from(text);
+    let mut draft: Draft<'a> = Draft::new(alloc);
+    if !fill_all(report, text, &mut tokenizer, &mut draft)? {
         return Ok((None, tokenizer.pos()));
     }
     Ok((Some(draft.finish()), tokenizer.pos()))

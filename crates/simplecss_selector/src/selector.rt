@@ -15,8 +15,9 @@ use crate::key::{first_class, first_id};
 use crate::matching::{goes_on, is_met_at};
 use crate::reading::read_front;
 use crate::specificity::{at_most_255, id_count, name_count};
-use crate::{AttributeOperator, Element, Key, PseudoClass, Tests};
+use crate::{AttributeOperator, Element, Key, PseudoClass, Tests, Warnings};
 use log::Log;
+use simplecss_text::report::Report;
 use std::alloc::{AllocError, Global};
 use std::marker::Model;
 
@@ -218,10 +219,11 @@ impl<'a> Selector<'a> {
 
 /// Reading.
 impl<'a> Selector<'a> {
-    ghost use Rattle.std.specs.Prelude.{◌≡◌, drop, IfOk, IfSome};
+    ghost use Rattle.std.specs.Prelude.{◌≡◌, drop, IfOk, IfSome, OnOk};
     ghost use Rattle.std.specs.Str.{IsCharBoundary};
     ghost use Rattle.simplecss_text.specs.ThisEdition.{this_edition};
     ghost use Rattle.simplecss_text.specs.Selectors.{reads};
+    ghost use Rattle.simplecss_text.specs.Skipped.{selector_skips, add_each};
     ghost use Rattle.simplecss_text.specs.PrintingLaws.{SelectorReadsBack};
 
     /// The selector that a text begins with, or `None` where it is refused (CSS 2.1 section 5).
@@ -259,7 +261,29 @@ impl<'a> Selector<'a> {
         ensures boundary { IfOk result (λ read. IsCharBoundary text.now read.1) }
         ensures printed { IfOk result (λ read. IfSome read.0 (SelectorReadsBack this_edition)) }
     {
-        read_front(rt, alloc, text)
+        read_front(&mut Warnings::new(rt), alloc, text)
+    }
+
+    /// The selector that a text begins with, or `None` where it is refused, and the place where
+    /// reading stopped, as by [`Selector::parse_front`].
+    ///
+    /// A refused selector is reported, with what a rule set skips with it: the text up to the next
+    /// comma if one follows, and else up to the next `{`.
+    #[inline(always)]
+    pub fn parse_front_reporting<P: Report<'a>>(
+        report: &mut P,
+        alloc: Global,
+        text: &'a str,
+    ) -> Result<(Option<Selector<'a>>, usize), AllocError>
+        ensures selector { IfOk result (λ read. read.0 ≡ (reads this_edition text.now).0) }
+        ensures rest { IfOk result
+            (λ read. drop read.1 text.now ≡ (reads this_edition text.now).1) }
+        ensures boundary { IfOk result (λ read. IsCharBoundary text.now read.1) }
+        ensures printed { IfOk result (λ read. IfSome read.0 (SelectorReadsBack this_edition)) }
+        ensures reported { OnOk result (P.state report.new
+            ≡ add_each P.add (P.state report.old) (selector_skips this_edition text.now)) }
+    {
+        read_front(report, alloc, text)
     }
 }
 

@@ -2,6 +2,8 @@
 pub mod GapLaws
 pub mod ScanLemmas
 pub mod PositionLemmas
+pub mod ByteLemmas
+pub mod PositionSums
 pub mod CutLemmas
 pub mod NameLemmas
 pub mod GapSteps

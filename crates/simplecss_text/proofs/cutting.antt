@@ -13,3 +13,4 @@ pub mod StatementEnds
 pub mod RoomLaws
 pub mod StatementCuts
 pub mod CuttingLaws
+pub mod SkipEnds

@@ -18,3 +18,4 @@ pub mod PiecesLawful
 pub mod LeastLaws
 pub mod SequenceSteps
 pub mod KindLaws
+pub mod SkipLaws

@@ -10,3 +10,4 @@ pub mod CuttingVectors
 pub mod EditionVectors
 pub mod HyphenVectors
 pub mod PrintingVectors
+pub mod SkippedVectors

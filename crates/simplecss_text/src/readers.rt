@@ -6,6 +6,7 @@ ghost use Rattle.simplecss_text.specs.Reading.{no_name, no_comment, ended};
 ghost use Rattle.simplecss_text.specs.Bytes.{past_one, past_byte, starts, starts_by, is_ascii};
 ghost use Rattle.simplecss_text.specs.Comments.{past_blank, blank, gap as gap_read};
 ghost use Rattle.simplecss_text.specs.Names.{name as name_read};
+ghost use Rattle.simplecss_text.specs.Skipped.{from_brace};
 ghost use Rattle.simplecss_text.specs.Strings.{string_after};
 ghost use Rattle.simplecss_text.specs.ThisEdition.{this_edition};
 ghost use Rattle.simplecss_text.specs.Errors.{Gives, GivesOrNone};
@@ -21,6 +22,23 @@ pub fn peek(s: &Stream<'_>) -> Option<u8>
         (λ b. rest_of s.now ≡ b ∷ past_one (rest_of s.now)) }
 {
     s.slice_tail().as_bytes().first().copied()
+}
+
+/// Whether the text begins with the byte.
+#[inline(always)]
+pub fn starts(text: &str, byte: u8) -> bool
+    ensures { result ≡ starts byte text.now }
+{
+    text.as_bytes().first().copied() == Some(byte)
+}
+
+/// The text from its first opening brace on, or the empty text at its end.
+pub fn from_brace(text: &str) -> &str
+    ensures { result.now ≡ from_brace text.now }
+{
+    let mut s = Stream::new(text);
+    s.skip_bytes(|byte| byte != b'{');
+    s.slice_tail()
 }
 
 /// Passes the byte at the place, which is ASCII.

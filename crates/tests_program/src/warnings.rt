@@ -1,37 +1,50 @@
-//! What is told of what is passed over.
+//! Lines that are written of what is skipped.
 
-use simplecss_faults::tell_faults;
-use std::io::Cursor;
+use simplecss::StyleSheet;
+use simplecss_faults::FaultLines;
+use std::alloc::Global;
+use std::io;
+use std::io::{Cursor, Write};
 use std::test::Fail;
 
-/// What is told of each text under the name `x.css`.
-const TOLD: &[(&str, &str)] = &[
-    ("a { }", ""),
-    ("a < b { c:d }", "x.css:1:1: 'a < b': invalid ident\n"),
+/// Texts, and the lines of them, the first text's name being `x.css` and the second's `y.css`.
+const LINES: &[(&[&str], &str)] = &[
+    (&["a { }"], ""),
+    (&["a < b { c:d }"], "x.css:1:1: 'a < b': invalid ident\n"),
     (
-        // The crate gives no warning of a broken declaration, and none of an open comment.
-        "a { b:c; d } e:f { g:h }\n@i; /* j",
-        "x.css:1:14: 'e:f': unknown pseudo-class\nx.css:2:1: '@i': at-rule not supported\n",
+        &["a { b:c; d } e:f { g:h }\n@i; /* j"],
+        "x.css:1:10: 'd': broken declaration\nx.css:1:14: 'e:f': unknown pseudo-class\nx.css:2:1: '@i': at-rule not supported\nx.css:2:5: '/* j': comment not closed\n",
+    ),
+    (
+        &["@a;", "\n@b;"],
+        "x.css:1:1: '@a': at-rule not supported\ny.css:2:1: '@b': at-rule not supported\n",
     ),
 ];
 
+/// Reads the texts into a sheet, and writes what is skipped.
+fn read<W: Write + Drop>(alloc: Global, texts: &[&str], out: W) -> io::Result<()> {
+    let mut lines = FaultLines::new(out, &["x.css", "y.css"]);
+    StyleSheet::parse_all_reporting(&mut lines, alloc, texts)?;
+    lines.finish()
+}
+
 #[test]
-fn tells_where_warnings_come_from(rt: HostRuntime) -> Result<(), Fail> {
-    for (text, wanted) in TOLD {
+fn writes_what_is_skipped(rt: HostRuntime) -> Result<(), Fail> {
+    for (texts, wanted) in LINES {
         let mut out = Vec::new(rt.alloc());
-        tell_faults(&mut out, rt.alloc(), "x.css", text)?;
-        assert_eq!(rt; out.as_slice(), wanted.as_bytes(), "at {text:?}");
+        read(rt.alloc(), texts, &mut out)?;
+        assert_eq!(rt; out.as_slice(), wanted.as_bytes(), "at {texts:?}");
     }
     Ok(())
 }
 
 #[test]
-fn stops_telling_where_the_writer_is_full(rt: HostRuntime) -> Result<(), Fail> {
+fn stops_where_the_writer_is_full(rt: HostRuntime) -> Result<(), Fail> {
     for room in 0..12 {
         let mut taken = [b'.'; 12];
         let mut out = Cursor::new(&mut taken[..room]);
-        let told = tell_faults(&mut out, rt.alloc(), "x.css", "a < { b:c }");
-        assert!(rt; told.is_err(), "with {room} bytes of room");
+        let outcome = read(rt.alloc(), &["a < { b:c }"], &mut out);
+        assert!(rt; outcome.is_err(), "with {room} bytes of room");
         assert_eq!(rt; &taken[..room], &b"x.css:1:1: '"[..room]);
     }
     Ok(())

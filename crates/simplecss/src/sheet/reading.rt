@@ -5,6 +5,7 @@ ghost use Rattle.std.specs.List.{All, flat_map};
 ghost use Rattle.simplecss_text.specs.Comments.{past_blank};
 ghost use Rattle.simplecss_text.specs.Statements.{has_declaration, kept, statement, next_statement};
 ghost use Rattle.simplecss_text.specs.Statements.{statements, is_open_comment};
+ghost use Rattle.simplecss_text.specs.Skipped.{add_each, end_skips, skipped};
 ghost use Rattle.simplecss_text.specs.ThisEdition.{this_edition};
 ghost use Rattle.simplecss_text.specs.Cursor.{text_of, rest_of};
 ghost use Rattle.simplecss.specs.SeenRules.{rule_of, rules_of};
@@ -12,9 +13,9 @@ ghost use Rattle.simplecss.specs.SeenRules.{rule_of, rules_of};
 use super::order;
 use super::rules::Rule;
 use super::statements::RuleReader;
-use log::Log;
-use simplecss_text::readers;
+use simplecss_text::report::{Report, Skipped, Why};
 use simplecss_text::stream::Stream;
+use simplecss_text::{readers, scan};
 use std::alloc::{AllocError, Global};
 
 /// Passes a blank, and says whether a statement stands behind it.
@@ -29,9 +30,28 @@ pub(crate) fn at_statement(s: &mut Stream<'_>) -> bool
     readers::pass_blank(s) && !s.at_end()
 }
 
+/// Reports a comment that is open behind a blank, if one is.
+pub(crate) fn report_end<'a, P: Report<'a>>(
+    report: &mut P,
+    text: &'a str,
+) -> Result<(), AllocError>
+    ensures { OnOk result
+        (P.state report.new ≡ add_each P.add (P.state report.old) (end_skips text.now)) }
+{
+    let gap = scan::find_gap(text);
+    if !gap.unclosed {
+        return Ok(());
+    }
+    report.report(Skipped {
+        from: &text[gap.len..],
+        after: "",
+        why: Why::Comment,
+    })
+}
+
 /// All rules of a text in order, or `None` where the text is a blank and then an open comment.
-pub(crate) fn read_rules<'a, R: Log>(
-    rt: &R,
+pub(crate) fn read_rules<'a, P: Report<'a>>(
+    report: &mut P,
     alloc: Global,
     text: &'a str,
 ) -> Result<Option<Vec<Rule<'a>>>, AllocError>
@@ -40,32 +60,42 @@ pub(crate) fn read_rules<'a, R: Log>(
         × (map rule_of rules.items
         ≡ flat_map (λ given. given) (statements this_edition text.now)))) }
     ensures utf8 { IsUtf8 text.now }
+    ensures reported { OnOk result (P.state report.new
+        ≡ add_each P.add (P.state report.old) (skipped this_edition text.now)) }
 {
+    report.begin(text);
     let mut s = Stream::new(text);
     if !readers::pass_blank(&mut s) {
+        report_end(report, text)?;
         return Ok(None);
     }
     let mut reader = RuleReader::new(alloc);
-    'statements: while at_statement(&mut s) {
-        reader.consume_statement(rt, alloc, &mut s)?;
+    'statements: loop {
+        let left = s.slice_tail();
+        if !at_statement(&mut s) {
+            report_end(report, left)?;
+            return Ok(Some(reader.into_rules()));
+        }
+        reader.consume_statement(report, alloc, &mut s)?;
     }
-    Ok(Some(reader.into_rules()))
 }
 
 /// All rules of the texts in turn, of which those that have a declaration are kept. An open comment
 /// has none.
-pub(crate) fn read_all<'a, R: Log>(
-    rt: &R,
+pub(crate) fn read_all<'a, P: Report<'a>>(
+    report: &mut P,
     alloc: Global,
     texts: &[&'a str],
 ) -> Result<Vec<Rule<'a>>, AllocError>
     ensures kept { IfOk result (λ rules. filter has_declaration (rules_of rules.items)
         ≡ flat_map (kept this_edition) (map (λ text. text.now) texts.now)) }
     ensures utf8 { IsOk result → All (λ text. IsUtf8 text.now) texts.now }
+    ensures reported { OnOk result (P.state report.new ≡ add_each P.add (P.state report.old)
+        (flat_map (skipped this_edition) (map (λ text. text.now) texts.now))) }
 {
     let mut rules = Vec::new(alloc);
     for text in texts {
-        if let Some(more) = read_rules(rt, alloc, text)? {
+        if let Some(more) = read_rules(report, alloc, text)? {
             order::join(&mut rules, more)?;
         }
     }

@@ -1,13 +1,16 @@
 //! The statements of a style sheet, one by one.
-ghost use Rattle.std.specs.Prelude.{◌≡◌, IfOk, MatchOption, None, OnErr, drop};
+ghost use Rattle.std.specs.Prelude.{◌≡◌, IfOk, MatchOption, None, OnErr, OnOk, drop};
 ghost use Rattle.simplecss_text.specs.Statements.{next_statement};
+ghost use Rattle.simplecss_text.specs.Skipped.{add_each, next_skips};
 ghost use Rattle.simplecss_text.specs.ThisEdition.{this_edition};
 ghost use Rattle.simplecss.specs.SheetPlaces.{StandsNext};
 
-use super::reading::at_statement;
+use super::reading::{at_statement, report_end};
 use super::rules::Rule;
 use super::statements::RuleReader;
 use log::Log;
+use simplecss_selector::Warnings;
+use simplecss_text::report::Report;
 use simplecss_text::stream::Stream;
 use std::alloc::{AllocError, Global};
 use std::marker::Model;
@@ -69,13 +72,35 @@ impl<'a> StatementReader<'a> {
             × (self.new.1 ≡ statement.end))) }
         ensures err { OnErr result (self.new ≡ self.old) }
     {
-        let mut stream = self.stream;
+        self.read_next_reporting(&mut Warnings::new(rt), alloc)
+    }
+
+    /// Reads the next statement as [`StatementReader::read_next`] does. What it skips is reported;
+    /// where there is no statement, a comment that is open there. [`Report::begin`] is not called.
+    pub fn read_next_reporting<P: Report<'a>>(
+        &mut self,
+        report: &mut P,
+        alloc: Global,
+    ) -> Result<Option<Statement<'a>>, AllocError>
+        ensures text { self.new.0 ≡ self.old.0 }
+        ensures ok { IfOk result (λ read. MatchOption read
+            ((next_statement this_edition (drop self.old.1 self.old.0) ≡ None)
+            × (self.new ≡ self.old))
+            (λ statement. StandsNext self.old.0 self.old.1 statement
+            × (self.new.1 ≡ statement.end))) }
+        ensures err { OnErr result (self.new ≡ self.old) }
+        ensures reported { OnOk result (P.state report.new ≡ add_each P.add (P.state report.old)
+            (next_skips this_edition (drop self.old.1 self.old.0))) }
+    {
+        let mut stream: Stream<'a> = self.stream;
+        let left: &'a str = stream.slice_tail();
         if !at_statement(&mut stream) {
+            report_end(report, left)?;
             return Ok(None);
         }
         let start = stream.pos();
-        let mut reader = RuleReader::new(alloc);
-        reader.consume_statement(rt, alloc, &mut stream)?;
+        let mut reader: RuleReader<'a> = RuleReader::new(alloc);
+        reader.consume_statement(report, alloc, &mut stream)?;
         self.stream = stream;
         Ok(Some(Statement {
             start,

@@ -1,6 +1,12 @@
 //! Rule sets and at-rules.
-ghost use Rattle.std.specs.Prelude.{◌≡◌, ◌++◌, [], OnOk, map, option_to_list};
+ghost use Rattle.std.specs.Prelude.{◌≡◌, ◌++◌, ◌∷◌, [], OnOk, map, option_map, option_to_list};
 ghost use Rattle.simplecss_text.specs.Statements.{part, parts, rule_set, at_rule_rest, statement};
+ghost use Rattle.simplecss_text.specs.Names.{name as name_read};
+ghost use Rattle.simplecss_text.specs.AsciiBytes.{comma};
+ghost use Rattle.simplecss_text.specs.Bytes.{past_byte};
+ghost use Rattle.simplecss_text.specs.Skipped.{add_each, from_brace, why_after, skips_after, comma_skips};
+ghost use Rattle.simplecss_text.specs.Skipped.{part_skips, parts_skips, name_of, rule_set_skips};
+ghost use Rattle.simplecss_text.specs.Skipped.{statement_skips};
 ghost use Rattle.simplecss_text.specs.ThisEdition.{this_edition};
 ghost use Rattle.simplecss_text.specs.Cursor.{text_of, rest_of};
 ghost use Rattle.simplecss_declaration.specs.SeenDeclarations.{declaration_of};
@@ -8,18 +14,67 @@ ghost use Rattle.simplecss.specs.SeenRules.{rule_of};
 ghost use Rattle.simplecss.specs.SharedBlocks.{rules_with};
 
 use super::rules::Rule;
-use log::{Log, warn};
 use simplecss_declaration::{Declaration, consume_next_block, pass_semicolon_or_block};
 use simplecss_selector::Selector;
 use simplecss_text::readers;
+use simplecss_text::report::{Report, Skipped, Why};
 use simplecss_text::stream::Stream;
 use std::alloc::{AllocError, Global};
 
+/// Reports what follows a selector that was read, up to the block: nothing where a comma or the block
+/// follows.
+fn report_left<'a, P: Report<'a>>(report: &mut P, rest: &'a str) -> Result<(), AllocError>
+    ensures { OnOk result (P.state report.new
+        ≡ add_each P.add (P.state report.old) (skips_after rest.now)) }
+{
+    if readers::starts(rest, b',') || readers::starts(rest, b'{') {
+        return Ok(());
+    }
+    report_stray(report, rest)
+}
+
+/// Reports the text from here up to the next block.
+#[cold]
+#[inline(never)]
+fn report_stray<'a, P: Report<'a>>(report: &mut P, from: &'a str) -> Result<(), AllocError>
+    ensures { OnOk result (P.state report.new ≡ add_each P.add (P.state report.old) (record {
+        from = from.now;
+        after = from_brace from.now;
+        why = why_after (from_brace from.now);
+    } ∷ [])) }
+{
+    let after = readers::from_brace(from);
+    let why = if after.is_empty() {
+        Why::MissingBlock
+    } else {
+        Why::AfterSelector
+    };
+    report.report(Skipped { from, after, why })
+}
+
+/// Skips a comma, if one follows, and reports it.
+fn skip_comma<'a, P: Report<'a>>(report: &mut P, s: &mut Stream<'a>) -> Result<(), AllocError>
+    ensures text { text_of s.new ≡ text_of s.old }
+    ensures rest { rest_of s.new ≡ past_byte comma (rest_of s.old) }
+    ensures reported { OnOk result (P.state report.new
+        ≡ add_each P.add (P.state report.old) (comma_skips (rest_of s.old))) }
+{
+    let from = s.slice_tail();
+    if !readers::pass_byte(s, b',') {
+        return Ok(());
+    }
+    report.report(Skipped {
+        from,
+        after: s.slice_tail(),
+        why: Why::LeadingComma,
+    })
+}
+
 /// Reads a part of a rule set's head, passes the space bytes behind it, and adds its selector, if it
-/// gives one.
+/// gives one. What is skipped is reported.
 #[tactic(auto, unfolding(simplecss_text::specs::Statements::part))]
-fn consume_part<'a, R: Log>(
-    rt: &R,
+fn consume_part<'a, P: Report<'a>>(
+    report: &mut P,
     alloc: Global,
     s: &mut Stream<'a>,
     selectors: &mut Vec<Selector<'a>>,
@@ -28,20 +83,30 @@ fn consume_part<'a, R: Log>(
     ensures selectors { OnOk result (selectors.new.items
         ≡ selectors.old.items ++ option_to_list (part this_edition (rest_of s.old)).0) }
     ensures rest { OnOk result (rest_of s.new ≡ (part this_edition (rest_of s.old)).1) }
+    ensures reported { OnOk result (P.state report.new
+        ≡ add_each P.add (P.state report.old) (part_skips this_edition (rest_of s.old))) }
 {
-    let (selector, len) = Selector::parse_front(rt, alloc, s.slice_tail())?;
+    let read = Selector::parse_front_reporting(report, alloc, s.slice_tail());
+    let (selector, len) = match read {
+        Ok(read) => read,
+        Err(error) => return Err(error),
+    };
     s.advance(len);
     s.skip_spaces();
-    if let Some(selector) = selector {
-        selectors.push(selector)?;
+    match selector {
+        Some(selector) => {
+            selectors.push(selector)?;
+            report_left(report, s.slice_tail())?;
+            Ok(())
+        }
+        None => Ok(()),
     }
-    Ok(())
 }
 
 /// Reads the parts of a rule set's head, with a comma behind each but the last, and puts their
 /// selectors into the list, in the place of those that it held.
-fn consume_parts<'a, R: Log>(
-    rt: &R,
+fn consume_parts<'a, P: Report<'a>>(
+    report: &mut P,
     alloc: Global,
     s: &mut Stream<'a>,
     selectors: &mut Vec<Selector<'a>>,
@@ -49,10 +114,12 @@ fn consume_parts<'a, R: Log>(
     ensures text { text_of s.new ≡ text_of s.old }
     ensures reads { OnOk result
         (parts this_edition (rest_of s.old) ≡ (selectors.new.items, rest_of s.new)) }
+    ensures reported { OnOk result (P.state report.new
+        ≡ add_each P.add (P.state report.old) (parts_skips this_edition (rest_of s.old))) }
 {
     selectors.clear();
     'parts: loop {
-        consume_part(rt, alloc, s, selectors)?;
+        consume_part(report, alloc, s, selectors)?;
         if !readers::pass_byte(s, b',') {
             return Ok(());
         }
@@ -80,17 +147,17 @@ fn push_rules<'a>(
     Ok(())
 }
 
-/// Passes an at-rule behind its sign, and tells the logger that it is passed. A faulty name ends
-/// it.
+/// Passes an at-rule behind its sign, and gives its name, if it has one. A faulty name ends it.
 #[tactic(auto, unfolding(simplecss_text::specs::Statements::at_rule_rest))]
-fn pass_at_rule<R: Log>(rt: &R, s: &mut Stream<'_>)
+fn pass_at_rule<'a>(s: &mut Stream<'a>) -> Option<&'a str>
     ensures text { text_of s.new ≡ text_of s.old }
     ensures rest { rest_of s.new ≡ at_rule_rest this_edition (rest_of s.old) }
+    ensures name { option_map (λ name. name.now) result
+        ≡ name_of (name_read this_edition (rest_of s.old)) }
 {
-    if let Some(name) = readers::take_name(s) {
-        warn!(rt; "The @{} rule is not supported. Skipped.", name);
-        pass_semicolon_or_block(s);
-    }
+    let name = readers::take_name(s)?;
+    pass_semicolon_or_block(s);
+    Some(name)
 }
 
 /// Reads statements, and keeps the rules that they give. The lists that a rule set is read into are
@@ -128,9 +195,9 @@ impl<'a> RuleReader<'a> {
     /// Reads a rule set, and adds its rules: one for each part that gave a selector, with all
     /// declarations of the block.
     #[tactic(auto, unfolding(simplecss_text::specs::Statements::rule_set))]
-    fn consume_rule_set<R: Log>(
+    fn consume_rule_set<P: Report<'a>>(
         &mut self,
-        rt: &R,
+        report: &mut P,
         alloc: Global,
         s: &mut Stream<'a>,
     ) -> Result<(), AllocError>
@@ -138,10 +205,12 @@ impl<'a> RuleReader<'a> {
         ensures rules { OnOk result (map rule_of self.new.rules.items
             ≡ map rule_of self.old.rules.items ++ (rule_set this_edition (rest_of s.old)).0) }
         ensures rest { OnOk result (rest_of s.new ≡ (rule_set this_edition (rest_of s.old)).1) }
+        ensures reported { OnOk result (P.state report.new
+            ≡ add_each P.add (P.state report.old) (rule_set_skips this_edition (rest_of s.old))) }
     {
-        s.try_consume_byte(b',');
-        consume_parts(rt, alloc, s, &mut self.selectors)?;
-        consume_next_block(s, &mut self.declarations)?;
+        skip_comma(report, s)?;
+        consume_parts(report, alloc, s, &mut self.selectors)?;
+        consume_next_block(report, s, &mut self.declarations)?;
         push_rules(
             alloc,
             &mut self.rules,
@@ -151,10 +220,10 @@ impl<'a> RuleReader<'a> {
     }
 
     /// Reads a statement, and adds the rules that it gives. An at-rule gives none.
-    #[tactic(auto, unfolding(simplecss_text::specs::Statements::statement), using(simplecss_declaration::proofs::ByteLemmas::past_byte_there, simplecss_declaration::proofs::ByteLemmas::past_byte_not))]
-    pub fn consume_statement<R: Log>(
+    #[tactic(auto, unfolding(simplecss_text::specs::Statements::statement), using(simplecss_text::proofs::bytes::ByteLemmas::past_byte_there, simplecss_text::proofs::bytes::ByteLemmas::past_byte_not))]
+    pub fn consume_statement<P: Report<'a>>(
         &mut self,
-        rt: &R,
+        report: &mut P,
         alloc: Global,
         s: &mut Stream<'a>,
     ) -> Result<(), AllocError>
@@ -162,11 +231,18 @@ impl<'a> RuleReader<'a> {
         ensures rules { OnOk result (map rule_of self.new.rules.items
             ≡ map rule_of self.old.rules.items ++ (statement this_edition (rest_of s.old)).0) }
         ensures rest { OnOk result (rest_of s.new ≡ (statement this_edition (rest_of s.old)).1) }
+        ensures reported { OnOk result (P.state report.new
+            ≡ add_each P.add (P.state report.old) (statement_skips this_edition (rest_of s.old))) }
     {
+        let text = s.slice_tail();
         if readers::pass_byte(s, b'@') {
-            pass_at_rule(rt, s);
-            return Ok(());
+            let name = pass_at_rule(s);
+            return report.report(Skipped {
+                from: text,
+                after: s.slice_tail(),
+                why: Why::AtRule(name),
+            });
         }
-        self.consume_rule_set(rt, alloc, s)
+        self.consume_rule_set(report, alloc, s)
     }
 }

@@ -1,12 +1,14 @@
 //! Style sheets.
 ghost use Rattle.std.specs.Prelude.{◌≡◌, ◌∷◌, ◌++◌, [], ℕ, List, IfOk, OnErr, OnOk, filter, map};
 ghost use Rattle.std.specs.Prelude.{true, false};
-ghost use Rattle.std.specs.List.{All, AllPass};
+ghost use Rattle.std.specs.List.{All, AllPass, flat_map};
 ghost use Rattle.simplecss_text.specs.Characters.{first_edition};
 ghost use Rattle.simplecss_text.specs.Editions.{IsCommon};
 ghost use Rattle.simplecss_text.specs.Statements.{has_declaration, kept, is_open_comment};
 ghost use Rattle.simplecss_text.specs.Sheets.{ordered, sheet};
 ghost use Rattle.simplecss_text.specs.Cutting.{GoesOn};
+ghost use Rattle.simplecss_text.specs.Skipped.{add_each, skipped};
+ghost use Rattle.simplecss_text.specs.SeenSkips.{skip_of};
 ghost use Rattle.simplecss_text.specs.ThisEdition.{this_edition};
 ghost use Rattle.simplecss_text.specs.PrintingLaws.{SelectorsReadBack, has_wide_space, PrintsBack};
 ghost use Rattle.simplecss_text.specs.PrintingLaws.{PrintsBackAfter};
@@ -14,6 +16,8 @@ ghost use Rattle.simplecss.specs.SeenRules.{rules_in};
 
 use crate::sheet::{Rule, order, reading};
 use log::Log;
+use simplecss_selector::Warnings;
+use simplecss_text::report::{Kept, Report, Skipped};
 use std::alloc::{AllocError, Global};
 
 /// A style sheet: the rules of the texts that were read into it, in the order of their specificity.
@@ -49,7 +53,27 @@ impl<'a> StyleSheet<'a> {
         ensures editions { IsCommon text.now
             → IfOk result (λ s. rules_in s ≡ sheet first_edition (text.now ∷ [])) }
     {
-        StyleSheet::parse_all(rt, alloc, &[text])
+        StyleSheet::parse_reporting(&mut Warnings::new(rt), alloc, text)
+    }
+
+    /// Reads a text as [`StyleSheet::parse`] does. All that is skipped is reported, in order, after a
+    /// call of [`Report::begin`] with the text.
+    pub fn parse_reporting<P: Report<'a>>(
+        report: &mut P,
+        alloc: Global,
+        text: &'a str,
+    ) -> Result<Self, AllocError>
+        ensures sheet { IfOk result (λ s. rules_in s ≡ sheet this_edition (text.now ∷ [])) }
+        ensures selectors { IfOk result (λ s. SelectorsReadBack this_edition (rules_in s)) }
+        ensures prints_back { has_wide_space text.now ≡ false
+            → IfOk result (λ s. PrintsBack this_edition (rules_in s)) }
+        ensures editions { IsCommon text.now
+            → IfOk result (λ s. rules_in s ≡ sheet first_edition (text.now ∷ [])) }
+        // The reporter receives exactly what reading the text skips, in order.
+        ensures reported { OnOk result (P.state report.new
+            ≡ add_each P.add (P.state report.old) (skipped this_edition text.now)) }
+    {
+        StyleSheet::parse_all_reporting(report, alloc, &[text])
     }
 
     /// The style sheet of all these texts, read in turn: the one that [`StyleSheet::parse_more`]
@@ -63,8 +87,28 @@ impl<'a> StyleSheet<'a> {
         ensures prints_back { All (λ text. has_wide_space text.now ≡ false) texts.now
             → IfOk result (λ s. PrintsBack this_edition (rules_in s)) }
     {
-        let all = reading::read_all(rt, alloc, texts)?;
-        let mut sheet = StyleSheet::new(alloc);
+        StyleSheet::parse_all_reporting(&mut Warnings::new(rt), alloc, texts)
+    }
+
+    /// Reads all these texts as [`StyleSheet::parse_all`] does. All that is skipped is reported, in
+    /// order; before each text, [`Report::begin`] is called with it.
+    pub fn parse_all_reporting<P: Report<'a>>(
+        report: &mut P,
+        alloc: Global,
+        texts: &[&'a str],
+    ) -> Result<Self, AllocError>
+        ensures sheet { IfOk result
+            (λ s. rules_in s ≡ sheet this_edition (map (λ text. text.now) texts.now)) }
+        ensures filled { IfOk result (λ s. AllPass has_declaration (rules_in s)) }
+        ensures selectors { IfOk result (λ s. SelectorsReadBack this_edition (rules_in s)) }
+        ensures prints_back { All (λ text. has_wide_space text.now ≡ false) texts.now
+            → IfOk result (λ s. PrintsBack this_edition (rules_in s)) }
+        // The reporter receives exactly what reading the texts skips, in order.
+        ensures reported { OnOk result (P.state report.new ≡ add_each P.add (P.state report.old)
+            (flat_map (skipped this_edition) (map (λ text. text.now) texts.now))) }
+    {
+        let all = reading::read_all(report, alloc, texts)?;
+        let mut sheet: StyleSheet<'a> = StyleSheet::new(alloc);
         order::merge(&mut sheet.rules, all)?;
         Ok(sheet)
     }
@@ -100,7 +144,42 @@ impl<'a> StyleSheet<'a> {
         ensures prints_back { OnOk result
             (PrintsBackAfter this_edition (rules_in self.old) text.now (rules_in self.new)) }
     {
-        match reading::read_rules(rt, alloc, text)? {
+        self.parse_more_reporting(&mut Warnings::new(rt), alloc, text)
+    }
+
+    /// Reads a text into the style sheet as [`StyleSheet::parse_more`] does. All that is skipped is
+    /// reported, in order.
+    pub fn parse_more_reporting<P: Report<'a>>(
+        &mut self,
+        report: &mut P,
+        alloc: Global,
+        text: &'a str,
+    ) -> Result<(), AllocError>
+        // The old rules that have a declaration and then those of the text, in order.
+        ensures ok { OnOk result (is_open_comment text.now ≡ false
+            → rules_in self.new
+            ≡ ordered (filter has_declaration (rules_in self.old) ++ kept this_edition text.now)) }
+        ensures nothing { is_open_comment text.now ≡ true → rules_in self.new ≡ rules_in self.old }
+        ensures err { OnErr result (rules_in self.new ≡ rules_in self.old) }
+        // The sheet of some texts is then the sheet of these and of this one, and each of its rules
+        // has a declaration.
+        ensures sheet { (texts : List (List ℕ)) → rules_in self.old ≡ sheet this_edition texts
+            → OnOk result (rules_in self.new ≡ sheet this_edition (texts ++ text.now ∷ [])) }
+        ensures filled { (texts : List (List ℕ)) → rules_in self.old ≡ sheet this_edition texts
+            → AllPass has_declaration (rules_in self.new) }
+        // A text may be read in pieces that are cut where a statement ends.
+        ensures pieces { OnOk result
+            (GoesOn this_edition (rules_in self.old) text.now (rules_in self.new)) }
+        // Printed selectors and printed sheets read as what was printed.
+        ensures selectors { SelectorsReadBack this_edition (rules_in self.old)
+            → SelectorsReadBack this_edition (rules_in self.new) }
+        ensures prints_back { OnOk result
+            (PrintsBackAfter this_edition (rules_in self.old) text.now (rules_in self.new)) }
+        // The reporter receives exactly what reading the text skips, in order.
+        ensures reported { OnOk result (P.state report.new
+            ≡ add_each P.add (P.state report.old) (skipped this_edition text.now)) }
+    {
+        match reading::read_rules(report, alloc, text)? {
             Some(more) => order::merge(&mut self.rules, more),
             None => Ok(()),
         }
@@ -117,4 +196,16 @@ impl<'a> StyleSheet<'a> {
         }
         Ok(StyleSheet { rules })
     }
+}
+
+/// All that reading a style sheet's text skips, in order. Fails only if an allocation fails.
+pub fn find_skipped<'a>(alloc: Global, text: &'a str) -> Result<Vec<Skipped<'a>>, AllocError>
+    ensures { IfOk result (λ skips. map skip_of skips.items ≡ skipped this_edition text.now) }
+{
+    let mut kept = Kept {
+        skips: Vec::new(alloc),
+    };
+    reading::read_rules(&mut kept, alloc, text)?;
+    let Kept { skips } = kept;
+    Ok(skips)
 }

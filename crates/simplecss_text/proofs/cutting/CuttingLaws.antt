@@ -110,7 +110,7 @@ rests-reached edition (suc k) text d l =
     ]
 
 -- a rest and the place where it begins
-drop_place : (text rest : List ℕ) → Ends text rest → drop (rest_place text rest) text ≡ rest
+pub drop_place : (text rest : List ℕ) → Ends text rest → drop (rest_place text rest) text ≡ rest
 drop_place text rest e = append_cancel_left (before text rest) (drop (rest_place text rest) text) rest (take-append-drop (rest_place text rest) text ∙ sym e)
 
 -- The rules of a text that is cut where one of its statements ends are those of the front and then

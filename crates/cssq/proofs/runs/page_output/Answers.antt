@@ -6,11 +6,8 @@ use Rattle.cssq.specs.PageRuns.{IsAskedRun}
 use Rattle.cssq.proofs.Written.{failed_with}
 use Rattle.cssq.proofs.runs.page_output.Goals as goal
 
-pub returns-in_err-sheet-clause-fault : goal.returns-in_err-sheet-clause-fault
-returns-in_err-sheet-clause-fault g c = failed_with (FailsBeforeWriting (IsAskedRun c.args.asked c.args.sheet.now c.args.tree.now)) c.from_residual.result Memory c.from_residual.ensures.1 tt
-
 pub returns : goal.returns
 returns g c = record {
-  ok = c.tree_output.ensures.ok c.args.sheet.now (ap rules_of c.as_slice.ensures.value ∙ c.in_ok-sheet.ensures.sheet);
+  ok = c.tree_output.ensures.ok c.args.sheet.now (ap rules_of c.as_slice.ensures.value ∙ c.in-Ok.ensures.sheet);
   fault = c.tree_output.ensures.fault c.args.sheet.now;
 }

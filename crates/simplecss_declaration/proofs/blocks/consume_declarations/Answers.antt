@@ -1,11 +1,12 @@
-use Rattle.std.proofs.Common.{◌∷◌, [], sym, ◌∙◌, ap, refl}
+use Rattle.std.proofs.Common.{◌∷◌, [], Some, None, sym, subst, ◌∙◌, ap, refl, List, ℕ}
 use Rattle.std.proofs.lemmas.List.{map-append}
-use Rattle.simplecss_text.specs.Blocks.{declaration_in_block, past_list}
+use Rattle.simplecss_text.specs.Blocks.{declaration_in_block}
 use Rattle.simplecss_text.specs.ThisEdition.{this_edition}
 use Rattle.simplecss_text.specs.Cursor.{rest_of}
 use Rattle.simplecss_text.proofs.reading.EachLaws.{done_start, done_step, done_end}
+use Rattle.simplecss_declaration.specs.ListEnds.{EndsAt}
 use Rattle.simplecss_declaration.specs.SeenDeclarations.{declaration_of}
-use Rattle.simplecss_declaration.proofs.BlockLemmas.{list-some, list-less, list-none, list-broken, past_list-end, past_list-broken}
+use Rattle.simplecss_declaration.proofs.BlockLemmas.{list-some, list-less, list-none, list-broken}
 use Rattle.simplecss_declaration.proofs.blocks.consume_declarations.Goals as goal
 
 pub list-smaller : goal.list-smaller
@@ -27,21 +28,20 @@ returns-in-None-clause-values c =
     let broken = list-broken this_edition (rest_of c.list.s) (rest_of c.consume_declaration.new.s) c.in-None.ensures.reads in
     sym (ap (λ r. r.0) (done_end (declaration_in_block this_edition) _ _ _ broken c.list.invariant.read))
 
-pub returns-in-None-clause-rest : goal.returns-in-None-clause-rest
-returns-in-None-clause-rest c =
-    let broken = list-broken this_edition (rest_of c.list.s) (rest_of c.consume_declaration.new.s) c.in-None.ensures.reads in
+pub returns-in-None-clause-list : goal.returns-in-None-clause-list
+returns-in-None-clause-list c =
+    let here = rest_of c.list.s in
+    let broken = list-broken this_edition here (rest_of c.consume_declaration.new.s) c.in-None.ensures.reads in
     let all = done_end (declaration_in_block this_edition) _ _ _ broken c.list.invariant.read in
-    c.pass_block.ensures.rest
-    ∙ sym (past_list-broken this_edition (rest_of c.list.s) (rest_of c.consume_declaration.new.s) (sym c.at_list_end.ensures ∙ c.list-test.true) c.in-None.ensures.reads)
-    ∙ ap (λ r. past_list this_edition r.1) (sym all)
+    subst (λ (t : List ℕ). EndsAt this_edition t (Some c.slice_tail-text.result.now) (rest_of c.consume_declaration.new.s)) (sym (ap (λ r. r.1) all)) (sym c.at_list_end.ensures ∙ c.list-test.true, c.slice_tail-text.ensures, c.in-None.ensures.reads)
 
 pub returns-clause-values : goal.returns-clause-values
 returns-clause-values c =
     let end = list-none this_edition (rest_of c.list.s) (sym c.at_list_end.ensures ∙ c.list-test.false) in
     sym (ap (λ r. r.0) (done_end (declaration_in_block this_edition) _ _ _ end c.list.invariant.read))
 
-pub returns-clause-rest : goal.returns-clause-rest
-returns-clause-rest c =
+pub returns-clause-list : goal.returns-clause-list
+returns-clause-list c =
     let here = sym c.at_list_end.ensures ∙ c.list-test.false in
     let all = done_end (declaration_in_block this_edition) _ _ _ (list-none this_edition (rest_of c.list.s) here) c.list.invariant.read in
-    sym (past_list-end this_edition (rest_of c.list.s) here) ∙ ap (λ r. past_list this_edition r.1) (sym all)
+    subst (λ (t : List ℕ). EndsAt this_edition t None (rest_of c.list.s)) (sym (ap (λ r. r.1) all)) (here, refl)

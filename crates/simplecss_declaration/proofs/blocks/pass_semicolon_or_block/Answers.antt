@@ -2,7 +2,7 @@ use Rattle.std.proofs.Common.{◌≡◌, drop, ap, ◌∙◌, arith, rules}
 use Rattle.std.proofs.lemmas.Grind.{common_steps}
 use Rattle.simplecss_text.specs.Bytes.{past, is_neither}
 use Rattle.simplecss_text.specs.Cursor.{text_of, place_of, rest_of}
-use Rattle.simplecss_declaration.proofs.ByteLemmas.{past_run}
+use Rattle.simplecss_text.proofs.bytes.ByteLemmas.{past_run}
 use Rattle.simplecss_declaration.proofs.blocks.pass_semicolon_or_block.Goals as goal
 
 pub returns-then-pass_byte-clause-rest : goal.returns-then-pass_byte-clause-rest

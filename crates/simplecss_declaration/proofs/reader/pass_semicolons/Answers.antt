@@ -2,7 +2,7 @@ use Rattle.std.proofs.Common.{◌≡◌, ◌<◌, length, sym, ap, ◌∙◌, su
 use Rattle.simplecss_text.specs.Bytes.{past_one}
 use Rattle.simplecss_text.specs.Comments.{past_blank}
 use Rattle.simplecss_text.specs.Cursor.{rest_of}
-use Rattle.simplecss_declaration.proofs.ByteLemmas.{past_byte_there, past_byte_not}
+use Rattle.simplecss_text.proofs.bytes.ByteLemmas.{past_byte_there, past_byte_not}
 use Rattle.simplecss_declaration.proofs.ValueLemmas.{semicolons-some, semicolons-none, semicolon-less}
 use Rattle.simplecss_declaration.proofs.reader.pass_semicolons.Goals as goal
 

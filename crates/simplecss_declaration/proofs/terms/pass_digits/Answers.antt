@@ -1,7 +1,7 @@
 use Rattle.std.proofs.Common.{drop, ap, ◌∙◌, rules}
 use Rattle.simplecss_text.specs.Bytes.{is_digit}
 use Rattle.simplecss_text.specs.Cursor.{text_of, place_of}
-use Rattle.simplecss_declaration.proofs.ByteLemmas.{past_run}
+use Rattle.simplecss_text.proofs.bytes.ByteLemmas.{past_run}
 use Rattle.simplecss_declaration.proofs.terms.pass_digits.Goals as goal
 
 pub returns-clause-rest : goal.returns-clause-rest

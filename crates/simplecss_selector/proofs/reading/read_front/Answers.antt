@@ -3,7 +3,8 @@ use Rattle.std.proofs.lemmas.Result.{IfOk-from_err}
 use Rattle.simplecss_text.specs.ThisEdition.{this_edition}
 use Rattle.simplecss_text.proofs.printed.ReadSelectors.{found-reads_back}
 use Rattle.simplecss_selector.specs.SelectorTokenizers.{left_of, still_to_come}
-use Rattle.simplecss_selector.proofs.Drafting.{read-whole}
+use Rattle.simplecss_text.specs.Skipped.{add_each}
+use Rattle.simplecss_selector.proofs.Drafting.{read-whole, selector_skips-is}
 use Rattle.simplecss_selector.proofs.reading.read_front.Goals as goal
 
 pub returns-in_err-fill_all-clause-selector : goal.returns-in_err-fill_all-clause-selector
@@ -46,3 +47,11 @@ returns-clause-boundary g c = rw (c.in_ok-fill_all.ensures.text ∙ c.from-token
 -- a selector that was read reads back
 pub returns-clause-printed : goal.returns-clause-printed
 returns-clause-printed g c = rw (sym (returns-clause-selector g c)) at (found-reads_back this_edition c.args.text.now c.utf8.text)
+
+pub returns-then-not-branch-clause-reported : goal.returns-then-not-branch-clause-reported
+returns-then-not-branch-clause-reported g c =
+    c.in_ok-fill_all.ensures.reported ∙ ap (add_each g.P.Report.add (g.P.Report.state c.args.report.now)) (sym (selector_skips-is c.args.text.now (left_of c.fill_all.new.tokenizer) (still_to_come c.from-tokenizer.result) c.from-tokenizer.ensures.sequence (sym (returns-then-not-branch-clause-rest g c) ∙ ap (drop c.pos.result) (sym (c.in_ok-fill_all.ensures.text ∙ c.from-tokenizer.ensures.whole_text_is)) ∙ c.pos.ensures.rest)))
+
+pub returns-clause-reported : goal.returns-clause-reported
+returns-clause-reported g c =
+    c.in_ok-fill_all.ensures.reported ∙ ap (add_each g.P.Report.add (g.P.Report.state c.args.report.now)) (sym (selector_skips-is c.args.text.now (left_of c.fill_all.new.tokenizer) (still_to_come c.from-tokenizer.result) c.from-tokenizer.ensures.sequence (sym (returns-clause-rest g c) ∙ ap (drop c.pos-2.result) (sym (c.in_ok-fill_all.ensures.text ∙ c.from-tokenizer.ensures.whole_text_is)) ∙ c.pos-2.ensures.rest)))

@@ -3,6 +3,8 @@ use Rattle.std.specs.List.{All, filter}
 use Rattle.std.proofs.lemmas.List.{map-append, map_more, take_all, take_more}
 use Rattle.std.proofs.lemmas.List.Elements.{All-push, filter-append}
 use Rattle.simplecss_text.specs.Statements.{has_declaration, kept, statements}
+use Rattle.simplecss_text.specs.Skipped.{add_each, skipped}
+use Rattle.simplecss.proofs.Reports.{add-more}
 use Rattle.simplecss_text.specs.ThisEdition.{this_edition}
 use Rattle.simplecss.specs.declared.sheet.rules.Rule.{Rule}
 use Rattle.simplecss.specs.SeenRules.{rule_of, rules_of}
@@ -32,6 +34,8 @@ loop-text-preserved g c =
         | in_default w ↦ rw w.rules-is (c.loop-text.invariant.0 ∙ sym (texts_open this_edition before _ (rw w.in_default.is at c.in_ok-more.ensures.rules)) ∙ ap (flat_map (kept this_edition)) (sym more))
       ],
       subst (All (λ text. IsUtf8 text.now)) (sym (take_more texts i _ within)) (All-push (λ text. IsUtf8 text.now) (take i texts) _ c.loop-text.invariant.1 c.read_rules.ensures.utf8),
+      add-more g.P.Report.add this_edition before _ (g.P.Report.state c.args.report.now) (g.P.Report.state c.loop-text.report) (g.P.Report.state c.read_rules.new.report) c.loop-text.invariant.2 c.in_ok-more.ensures.reported
+          ∙ ap (λ (ts : List (List ℕ)). add_each g.P.Report.add (g.P.Report.state c.args.report.now) (flat_map (skipped this_edition) ts)) (sym more),
     )
 
 pub returns-clause-kept : goal.returns-clause-kept
@@ -40,3 +44,7 @@ returns-clause-kept g c =
 
 pub returns-clause-utf8 : goal.returns-clause-utf8
 returns-clause-utf8 g c = λ _. subst (All (λ text. IsUtf8 text.now)) (take_all c.loop-text.text-index c.args.texts.now (omega arith)) c.loop-text.invariant.1
+
+pub returns-clause-reported : goal.returns-clause-reported
+returns-clause-reported g c =
+    c.loop-text.invariant.2 ∙ ap (λ ts. add_each g.P.Report.add (g.P.Report.state c.args.report.now) (flat_map (skipped this_edition) (map (λ text. text.now) ts))) (take_all c.loop-text.text-index c.args.texts.now (omega arith))

@@ -11,7 +11,7 @@ use Rattle.simplecss_text.proofs.again.KeptSelectors.{more-reads_back}
 use Rattle.simplecss_text.proofs.again.SheetsAgain.{prints_back-after, prints_back-same}
 use Rattle.simplecss.specs.SeenRules.{rule_of, rules_of}
 use Rattle.simplecss.proofs.SheetLemmas.{AllPass-sheet, sheet_more, sheet_open}
-use Rattle.simplecss.proofs.sheet.style_sheet.StyleSheet.parse_more.Goals as goal
+use Rattle.simplecss.proofs.sheet.style_sheet.StyleSheet.parse_more_reporting.Goals as goal
 
 pub returns-in_err-more-clause-filled : goal.returns-in_err-more-clause-filled
 returns-in_err-more-clause-filled g c texts was = subst (AllPass has_declaration) (sym was) (AllPass-sheet this_edition texts)

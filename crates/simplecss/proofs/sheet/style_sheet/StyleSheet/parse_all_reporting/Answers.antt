@@ -9,7 +9,7 @@ use Rattle.simplecss_text.proofs.again.KeptSelectors.{sheet-reads_back}
 use Rattle.simplecss_text.proofs.again.SheetsAgain.{sheet-prints_back}
 use Rattle.simplecss.specs.SeenRules.{rules_of}
 use Rattle.simplecss.proofs.SheetLemmas.{AllPass-sheet}
-use Rattle.simplecss.proofs.sheet.style_sheet.StyleSheet.parse_all.Goals as goal
+use Rattle.simplecss.proofs.sheet.style_sheet.StyleSheet.parse_all_reporting.Goals as goal
 
 pub returns-clause-filled : goal.returns-clause-filled
 returns-clause-filled g c =

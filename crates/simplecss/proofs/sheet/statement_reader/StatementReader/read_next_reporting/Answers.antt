@@ -6,7 +6,7 @@ use Rattle.simplecss_text.specs.ThisEdition.{this_edition}
 use Rattle.simplecss.specs.SheetPlaces.{StandsNext}
 use Rattle.simplecss.specs.SeenRules.{rule_of}
 use Rattle.simplecss.proofs.StatementPlaces.{stands_next}
-use Rattle.simplecss.proofs.sheet.statement_reader.StatementReader.read_next.Goals as goal
+use Rattle.simplecss.proofs.sheet.statement_reader.StatementReader.read_next_reporting.Goals as goal
 
 pub returns-clause-ok : goal.returns-clause-ok
 returns-clause-ok g c =

@@ -1,5 +1,5 @@
 -- Bytes that stand in front, and runs of them.
--- Serves `terms::{pass_digits, pass_hex_digits, pass_number}` (numbers), `reader::{pass_semicolons,
+-- Serves `readers::from_brace`, and of simplecss_declaration `terms::{pass_digits, pass_hex_digits, pass_number}` (numbers), `reader::{pass_semicolons,
 -- take_importance}`, and `blocks::pass_semicolon_or_block` (what an at-rule has behind its name).
 use Rattle.std.proofs.Common.{◌≡◌, ◌+◌, ◌-◌, ℕ, Bool, List, [], ◌∷◌, drop, slice_index, true, false, refl, sym, ap, ◌∙◌, arith, length-drop}
 use Rattle.std.specs.List.{prefix_len}

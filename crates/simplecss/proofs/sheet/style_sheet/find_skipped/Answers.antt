@@ -1,0 +1,13 @@
+use Rattle.std.proofs.Common.{◌∙◌, ◌++◌, map, ap}
+use Rattle.simplecss_text.specs.Skipped.{skipped}
+use Rattle.simplecss_text.specs.SeenSkips.{skip_of}
+use Rattle.simplecss_text.specs.ThisEdition.{this_edition}
+use Rattle.simplecss_text.proofs.reading.SkipLaws.{add_each-kept}
+use Rattle.simplecss.proofs.sheet.style_sheet.find_skipped.Goals as goal
+
+pub returns : goal.returns
+returns c =
+    let all = skipped this_edition c.args.text.now in
+    c.in_ok-read_rules.ensures.reported
+    ∙ add_each-kept (map skip_of c.new.result.items) all
+    ∙ ap (λ l. map skip_of l ++ all) c.new.ensures.items

@@ -1,0 +1,255 @@
+-- What reading a style sheet skips, in order: where it begins, what is left after it, and why.
+use Rattle.std.specs.Prelude.{ℕ, Bool, if◌then◌else◌, List, [], ◌∷◌, ◌++◌, length, not, ◌==◌, ◌||◌, Option, Some, None, Ok, Err}
+use Rattle.std.specs.List.{flat_map}
+use Rattle.std.specs.Option.{option_map}
+use Rattle.simplecss_text.specs.declared.Error.{Error}
+use Rattle.simplecss_text.specs.AsciiBytes.{at_sign, comma, open_brace, close_brace}
+use Rattle.simplecss_text.specs.Reading.{Reading, got, fails, each}
+use Rattle.simplecss_text.specs.Errors.{error_of}
+use Rattle.simplecss_text.specs.Bytes.{past, past_one, past_byte, starts}
+use Rattle.simplecss_text.specs.Characters.{Edition, is_space}
+use Rattle.simplecss_text.specs.Comments.{opens_comment, past_blank}
+use Rattle.simplecss_text.specs.Names.{name}
+use Rattle.simplecss_text.specs.Components.{Component}
+use Rattle.simplecss_text.specs.Tokens.{Token}
+use Rattle.simplecss_text.specs.Tokens.Token.{universal_selector, type_selector, id_selector, class_selector, attribute_selector, named_pseudo_class, lang_pseudo_class, descendant_combinator, child_combinator, adjacent_combinator}
+use Rattle.simplecss_text.specs.TokenSequences.{TokenSequence, sequence_of}
+use Rattle.simplecss_text.specs.TokenSequences.TokenSequence.{item, sequence_end}
+use Rattle.simplecss_text.specs.Selectors.{Role, role_of, reads}
+use Rattle.simplecss_text.specs.Declarations.{StyleDeclaration, declaration}
+use Rattle.simplecss_text.specs.Blocks.{ends_list, from_block_end, declaration_in_block}
+use Rattle.simplecss_text.specs.Statements.{StyleRule, part, part_and_comma, parts, at_rule_rest, next_statement}
+
+-- Why a selector is refused: for an error, whose position counts from where the text `within`
+-- begins, or for a pseudo-class of no known name.
+pub data Refusal : Type 0 where
+  faulty : (within : List ℕ) → Error → Refusal
+  unknown_class : (name : List ℕ) → Refusal
+
+-- Why something is skipped.
+pub data Why : Type 0 where
+  -- a comma before the first selector of a rule set
+  leading_comma : Why
+  -- a selector is refused
+  refused_selector : Refusal → Why
+  -- text between the last selector, which was read, and the block
+  after_selector : Why
+  -- no block follows the last selector, which was read
+  missing_block : Why
+  -- a declaration is broken; what follows it in its block is skipped with it
+  broken_declaration : Why
+  -- a closing brace after a block that already has one
+  extra_brace : Why
+  -- a comment is not closed; all that follows is skipped with it
+  open_comment : Why
+  -- at-rules are not supported; its name, if it has one
+  at_rule : (name : Option (List ℕ)) → Why
+
+-- Something that is skipped: what is left to read where it begins, what is left after it, and why.
+pub record Skip : Type 0 where
+  pub from : List ℕ
+  pub after : List ℕ
+  pub why : Why
+
+-- what is left from the next opening brace on
+abbrev pub from_brace : List ℕ → List ℕ
+from_brace text = past (λ b. not (b == open_brace)) text
+
+-- ---- selectors
+
+-- the name of a pseudo-class; no other token has one
+abbrev pub class_name : Token → List ℕ
+class_name (named_pseudo_class n) = n
+class_name universal_selector = []
+class_name (type_selector n) = []
+class_name (id_selector n) = []
+class_name (class_selector n) = []
+class_name (attribute_selector n operator) = []
+class_name (lang_pseudo_class value) = []
+class_name descendant_combinator = []
+class_name child_combinator = []
+class_name adjacent_combinator = []
+
+-- a token that plays no role is a pseudo-class of no known name, which refuses
+abbrev pub unless_unknown : Option Role → Token → Option Refusal → Option Refusal
+unless_unknown (Some role) token later = later
+unless_unknown None token later = Some (unknown_class (class_name token))
+
+-- why the sequence of a text is refused, if it is: for its first fault or unknown pseudo-class
+abbrev pub refusal_in : (text : List ℕ) → TokenSequence → Option Refusal
+refusal_in text (sequence_end left) = None
+refusal_in text (item (Err fault) after rest) = Some (faulty text (error_of text fault))
+refusal_in text (item (Ok token) after rest) =
+    unless_unknown (role_of token) token (refusal_in text rest)
+
+-- why the selector at the front of a text is refused, if it is
+unfoldable pub refusal : Edition → List ℕ → Option Refusal
+refusal edition text = refusal_in text (sequence_of edition text)
+
+-- What is left after a refused selector and what is skipped with it: the text up to the comma, and
+-- without one up to the block.
+abbrev pub past_refused : List ℕ → List ℕ
+past_refused rest = if starts comma rest then rest else from_brace rest
+
+-- the selector after a blank, which is refused
+abbrev pub refused : (text rest : List ℕ) → Refusal → Skip
+refused text rest r =
+    record { from = past_blank text; after = past_refused rest; why = refused_selector r }
+
+-- the same, if it is refused
+abbrev pub refused_part : (text rest : List ℕ) → Option Refusal → List Skip
+refused_part text rest None = []
+refused_part text rest (Some r) = refused text rest r ∷ []
+
+-- what the selector at the front of a text skips: itself, if it is refused
+unfoldable pub selector_skips : Edition → List ℕ → List Skip
+selector_skips edition text =
+    refused_part text (past is_space (reads edition text).1) (refusal edition text)
+
+-- Why the text after the last selector is skipped: it is followed by a block, or by none.
+abbrev pub why_after : List ℕ → Why
+why_after block = if length block == 0 then missing_block else after_selector
+
+-- What is skipped after a selector that was read: nothing before a comma or a block, else all up to
+-- the block.
+abbrev pub skips_after : (rest : List ℕ) → List Skip
+skips_after rest =
+    if starts comma rest || starts open_brace rest then []
+    else record { from = rest; after = from_brace rest; why = why_after (from_brace rest) } ∷ []
+
+-- the same, if a selector was read
+abbrev pub skips_after_read : Option (List Component) → List ℕ → List Skip
+skips_after_read None rest = []
+skips_after_read (Some selector) rest = skips_after rest
+
+-- what a part of a rule set skips: its selector, if that is refused, else what the selector leaves
+-- before the block
+unfoldable pub part_skips : Edition → List ℕ → List Skip
+part_skips edition text =
+    selector_skips edition text
+    ++ skips_after_read (part edition text).0 (part edition text).1
+
+-- ---- one thing after another
+
+-- the skips of a text at whose front `read` finds something
+abbrev pub skips_with : {A B : Type 0} → (List ℕ → B) → (List ℕ → Option (A × List ℕ)) → List ℕ → Option (B × List ℕ)
+skips_with skips read text = option_map (λ x. (skips text, x.1)) (read text)
+
+-- What is skipped where `read` finds something, one after another, and then in what is left.
+unfoldable pub skips_along : {A : Type 0} → (skips last : List ℕ → List Skip) → (List ℕ → Option (A × List ℕ)) → List ℕ → List Skip
+skips_along skips last read text =
+    let found = each (skips_with skips read) text in
+    flat_map (λ skips. skips) found.0 ++ last found.1
+
+-- what the parts of a rule set skip
+unfoldable pub parts_skips : Edition → List ℕ → List Skip
+parts_skips edition text = skips_along (part_skips edition) (part_skips edition) (part_and_comma edition) text
+
+-- ---- blocks
+
+-- a closing brace that follows a block
+abbrev pub brace_skips : List ℕ → List Skip
+brace_skips text =
+    if starts close_brace text then record { from = text; after = past_one text; why = extra_brace } ∷ []
+    else []
+
+-- What follows a blank in the place of a declaration, with the rest of its block up to the closing
+-- brace: nothing, where the block or the text ends there; a comment that is open; or a declaration
+-- that is broken.
+abbrev pub list_end_skips : (text after : List ℕ) → List Skip
+list_end_skips text after =
+    if ends_list (past_blank text) then []
+    else record {
+      from = past_blank text;
+      after = after;
+      why = if opens_comment (past_blank text) then open_comment else broken_declaration;
+    } ∷ []
+
+-- the same, and then the closing brace that may follow the block's own
+abbrev pub broken_part : (text after : List ℕ) → List Skip
+broken_part text after = list_end_skips text after ++ brace_skips (past_byte close_brace after)
+
+-- the same, if no declaration is read there
+abbrev pub if_broken : (text : List ℕ) → Reading StyleDeclaration → List Skip
+if_broken text (got declared rest) = []
+if_broken text (fails fault rest) = broken_part text (from_block_end rest)
+
+-- what is skipped after the declarations of a block
+abbrev pub list_skips : Edition → List ℕ → List Skip
+list_skips edition text = if ends_list text then [] else if_broken text (declaration edition text)
+
+-- What a block skips, after its opening brace: at most one declaration with what follows it, and a
+-- closing brace after its own.
+unfoldable pub block_skips : Edition → List ℕ → List Skip
+block_skips edition text = list_skips edition (each (declaration_in_block edition) text).1
+
+-- the same of the block that the next opening brace begins
+unfoldable pub next_block_skips : Edition → List ℕ → List Skip
+next_block_skips edition text =
+    let opened = from_brace text in
+    if starts open_brace opened then block_skips edition (past_one opened) else []
+
+-- ---- statements
+
+-- a comma before the first selector
+abbrev pub comma_skips : List ℕ → List Skip
+comma_skips text =
+    if starts comma text then record { from = text; after = past_one text; why = leading_comma } ∷ []
+    else []
+
+-- what a rule set skips: a comma, selectors, and then of its block
+unfoldable pub rule_set_skips : Edition → List ℕ → List Skip
+rule_set_skips edition text =
+    comma_skips text
+    ++ (parts_skips edition (past_byte comma text)
+    ++ next_block_skips edition (parts edition (past_byte comma text)).1)
+
+-- the name that was read, if one was
+abbrev pub name_of : Reading (List ℕ) → Option (List ℕ)
+name_of (got n rest) = Some n
+name_of (fails fault rest) = None
+
+-- an at-rule, which is skipped as a whole
+abbrev pub at_rule_skip : Edition → List ℕ → Skip
+at_rule_skip edition text =
+    record {
+      from = text;
+      after = at_rule_rest edition (past_one text);
+      why = at_rule (name_of (name edition (past_one text)));
+    }
+
+-- what a statement skips
+unfoldable pub statement_skips : Edition → List ℕ → List Skip
+statement_skips edition text =
+    if starts at_sign text then at_rule_skip edition text ∷ [] else rule_set_skips edition text
+
+-- after the last statement: a comment that is not closed, with all that follows it
+abbrev pub end_skips : List ℕ → List Skip
+end_skips text =
+    if opens_comment (past_blank text)
+    then record { from = past_blank text; after = []; why = open_comment } ∷ []
+    else []
+
+-- What reading a style sheet skips, in order.
+unfoldable pub skipped : Edition → List ℕ → List Skip
+skipped edition text =
+    skips_along (λ t. statement_skips edition (past_blank t)) end_skips (next_statement edition) text
+
+-- ---- one statement
+
+-- the skips of a statement that was read, or of what follows in its place
+abbrev pub skips_of_next : Edition → List ℕ → Option (List StyleRule × List ℕ) → List Skip
+skips_of_next edition text None = end_skips text
+skips_of_next edition text (Some read) = statement_skips edition (past_blank text)
+
+-- What reading the next statement skips: what that statement does, and where there is none, a
+-- comment that is open there.
+abbrev pub next_skips : Edition → List ℕ → List Skip
+next_skips edition text = skips_of_next edition text (next_statement edition text)
+
+-- ---- reporting
+
+-- the state of a reporter after these reports, one after another
+abbrev pub add_each : {S : Type 0} → (S → Skip → S) → S → List Skip → S
+add_each add s [] = s
+add_each add s (x ∷ xs) = add_each add (add s x) xs

@@ -1,0 +1,119 @@
+//! What reading a style sheet skips, and reporters of it.
+use crate::Error;
+use std::alloc::AllocError;
+
+/// Why a selector is refused.
+#[derive(Clone, Copy, Debug, PartialEq)]
+pub enum Refusal<'a> {
+    /// It has an error.
+    Faulty {
+        /// The text from whose start a position in the error counts.
+        within: &'a str,
+        /// The error.
+        error: Error,
+    },
+    /// It has a pseudo-class of this name, which is not known.
+    UnknownClass(&'a str),
+}
+
+/// Why something is skipped.
+#[derive(Clone, Copy, Debug, PartialEq)]
+pub enum Why<'a> {
+    /// A comma before the first selector of a rule set.
+    LeadingComma,
+    /// A selector is refused.
+    Selector(Refusal<'a>),
+    /// Text between the last selector of a rule set and the block.
+    AfterSelector,
+    /// No block follows the last selector of a rule set.
+    MissingBlock,
+    /// A declaration is broken. All that follows it in its block is skipped with it.
+    Declaration,
+    /// A closing brace after a block that already has one.
+    ExtraBrace,
+    /// A comment is not closed. All that follows it is skipped with it.
+    Comment,
+    /// At-rules are not supported. This is its name, if it has one.
+    AtRule(Option<&'a str>),
+}
+
+/// Something that reading a style sheet skips.
+#[derive(Clone, Copy, Debug, PartialEq)]
+pub struct Skipped<'a> {
+    /// The text from where it begins to the end.
+    pub from: &'a str,
+    /// The text after it.
+    pub after: &'a str,
+    /// Why it is skipped.
+    pub why: Why<'a>,
+}
+
+/// Receives reports of what reading a style sheet skips.
+///
+/// Proofs describe a reporter by its `state`, and by what `add` makes of the state with one more
+/// report.
+pub trait Report<'a> {
+    ghost use Rattle.std.specs.Prelude.{◌≡◌, OnOk};
+    ghost use Rattle.simplecss_text.specs.Skipped.{Skip};
+    ghost use Rattle.simplecss_text.specs.SeenSkips.{skip_of};
+
+    ghost State: { Type 0 };
+
+    ghost state: { Self → State };
+
+    ghost add: { State → Skip → State };
+
+    /// Is called before the reading of a whole text. The reports of it follow.
+    fn begin(&mut self, text: &'a str)
+        ensures { state self.new ≡ state self.old };
+
+    /// Receives a report. Fails only if an allocation fails.
+    fn report(&mut self, skipped: Skipped<'a>) -> Result<(), AllocError>
+        ensures { OnOk result (state self.new ≡ add (state self.old) (skip_of skipped.entry)) };
+}
+
+/// A reporter that drops all reports.
+#[derive(Clone, Copy, Debug, Drop)]
+pub struct Silent;
+
+impl<'a> Report<'a> for Silent {
+    ghost State = { Unit {0} };
+
+    ghost state = { λ _. tt };
+
+    ghost add = { λ _ _. tt };
+
+    #[inline(always)]
+    fn begin(&mut self, _text: &'a str) {}
+
+    #[inline(always)]
+    fn report(&mut self, _skipped: Skipped<'a>) -> Result<(), AllocError> {
+        Ok(())
+    }
+}
+
+/// A reporter that keeps all reports.
+#[derive(Debug, Drop)]
+pub struct Kept<'a> {
+    /// The reports, in order.
+    pub skips: Vec<Skipped<'a>>,
+}
+
+impl<'a> Report<'a> for Kept<'a> {
+    ghost use Rattle.std.specs.Prelude.{List, ◌++◌, ◌∷◌, [], map};
+    ghost use Rattle.simplecss_text.specs.Skipped.{Skip};
+    ghost use Rattle.simplecss_text.specs.SeenSkips.{skip_of};
+
+    ghost State = { List Skip };
+
+    ghost state = { λ k. map skip_of k.skips.items };
+
+    ghost add = { λ skips skip. skips ++ skip ∷ [] };
+
+    fn begin(&mut self, _text: &'a str) {}
+
+    fn report(&mut self, skipped: Skipped<'a>) -> Result<(), AllocError> {
+        self.skips.push(skipped)?;
+        Ok(())
+    }
+}
