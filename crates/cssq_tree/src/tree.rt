@@ -556,6 +556,10 @@ impl<'p, 't> Keyed for Node<'p, 't> {
     fn class_value(&self) -> Option<&str> {
         self.page.attribute(self.place, "class")
     }
+
+    fn has_attribute(&self, name: &str) -> bool {
+        self.page.attribute(self.place, name).is_some()
+    }
 }
 
 #[cfg(test)]

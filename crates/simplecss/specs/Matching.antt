@@ -2,7 +2,7 @@
 use Rattle.std.specs.Prelude.{◌≡◌, ◌↔◌, ℕ, ◌+◌, ◌*◌, Bool, true, List, length, filter, IsTrue}
 use Rattle.std.specs.List.{AllZip, items_where_true, range_with_len}
 use Rattle.simplecss_text.specs.Components.{Component}
-use Rattle.simplecss_selector.specs.Keys.{Told, tells_key, key_of}
+use Rattle.simplecss_selector.specs.Wanted.{Near, tells_wanted, wanted_of}
 use Rattle.simplecss_selector.specs.Placements.{HasPlacement, longest_stretch}
 use Rattle.simplecss_selector.specs.Trees.{Tree}
 use Rattle.simplecss.specs.SelectorPlaces.{selector_at, key_at, AreThePlaces}
@@ -14,9 +14,9 @@ AreMatches tree element selectors =
     AreThePlaces (λ place. HasPlacement tree (selector_at selectors place) element) (length selectors)
 
 -- the places are in order, and are exactly those of the selectors whose key is told
-abbrev pub AreCandidates : Told → List (List Component) → List ℕ → Type 0
+abbrev pub AreCandidates : Near → List (List Component) → List ℕ → Type 0
 AreCandidates told selectors =
-    AreThePlaces (λ place. IsTrue (tells_key told (key_at selectors place))) (length selectors)
+    AreThePlaces (λ place. IsTrue (tells_wanted told (key_at selectors place))) (length selectors)
 
 -- the most tests that asking whether a selector matches takes: for the element and each of its
 -- ancestors one for each component of the longest stretch that child and adjacent steps join
@@ -24,8 +24,8 @@ abbrev pub most_tests : {Node : Type 0} → Tree Node → Node → List Componen
 most_tests tree element selector = longest_stretch selector * (tree.depth element + 1)
 
 -- the selectors whose key is told
-abbrev pub keyed_for : Told → List (List Component) → List (List Component)
-keyed_for told selectors = filter (λ selector. tells_key told (key_of selector)) selectors
+abbrev pub keyed_for : Near → List (List Component) → List (List Component)
+keyed_for told selectors = filter (λ selector. tells_wanted told (wanted_of selector)) selectors
 
 -- the answers tell of each selector whether it has a placement on the element
 abbrev pub AreAnswers : {Node : Type 0} → Tree Node → Node → List (List Component) → List Bool → Type 0

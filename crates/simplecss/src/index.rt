@@ -3,6 +3,7 @@
 mod find;
 mod keep;
 mod lasts;
+mod wanted_lasts;
 pub mod laws;
 mod rule_index;
 

@@ -16,4 +16,5 @@ pub mod Counts
 pub mod FlatEquality
 pub mod Firsts
 pub mod KeyLemmas
+pub mod WantedLemmas
 pub mod Refused

@@ -19,3 +19,5 @@ pub mod NextKinds
 pub mod KnownPseudoClasses
 pub mod Keys
 pub mod SeenKeys
+pub mod Wanted
+pub mod SeenWanted

@@ -31,5 +31,9 @@ pub trait Keyed: Element {
     fn class_value(&self) -> Option<&str>
         ensures { option_map (λ value. value.now) result ≡ (told self.now).class };
 
+    /// Whether there is an attribute of this name.
+    fn has_attribute(&self, name: &str) -> bool
+        ensures { result ≡ (told self.now).has_attribute name.now };
+
     ghost told_law: { (element : Self) → TellsKeys Self.tree (Self.node element) (told element) };
 }

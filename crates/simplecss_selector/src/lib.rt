@@ -20,6 +20,7 @@ mod selector;
 mod specificity;
 mod token;
 mod tokenizer;
+mod wanted;
 
 pub use counter::Tests;
 pub use element::Element;
@@ -33,6 +34,7 @@ pub use operator_laws::operator_equality_laws;
 pub use selector::Selector;
 pub use token::SelectorToken;
 pub use tokenizer::SelectorTokenizer;
+pub use wanted::{told_near_law, wanted_law, Wanted};
 
 #[cfg(test)]
 mod tests;

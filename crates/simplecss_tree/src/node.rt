@@ -161,4 +161,8 @@ impl<'p, 't> Keyed for Node<'p, 't> {
     fn class_value(&self) -> Option<&str> {
         self.tree.attribute(self.place, "class")
     }
+
+    fn has_attribute(&self, name: &str) -> bool {
+        self.tree.attribute(self.place, name).is_some()
+    }
 }

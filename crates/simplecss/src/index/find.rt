@@ -1,15 +1,19 @@
-//! The places of the rules whose key an element tells.
-ghost use Rattle.std.specs.Prelude.{◌≡◌, ◌<◌, ◌↔◌, ℕ, OnOk, Contains, length};
+//! The places of the rules whose key an element or one of its neighbours reports.
+ghost use Rattle.std.specs.Prelude.{◌≡◌, ◌<◌, ◌↔◌, ℕ, OnOk, Contains, Option, Some, length};
 ghost use Rattle.std.specs.List.Sorted.{IsStrictlyIncreasing};
 ghost use Rattle.std.specs.Option.{option_map};
 ghost use Rattle.simplecss_selector.specs.SeenKeys.{key_value};
-ghost use Rattle.simplecss.specs.Lasts.{last_for, IdLeads, ClassLeads, KeyLeads};
+ghost use Rattle.simplecss.specs.Lasts.{last_for, IdLeads, ClassLeads, AttributeLeads, KeyLeads};
+ghost use Rattle.simplecss_selector.specs.Keys.{Told};
+ghost use Rattle.simplecss_selector.specs.Wanted.{Near, IsNear, IsToldOf};
+ghost use Rattle.simplecss.specs.WantedLasts.{NeighbourLeads, WantedLeads};
 ghost use Rattle.simplecss.specs.Matching.{AreCandidates};
 ghost use Rattle.simplecss.specs.SelectorPlaces.{key_at, Adds};
 
 use super::lasts::Lasts;
 use super::rule_index::RuleIndex;
-use simplecss_selector::{Key, Keyed};
+use super::wanted_lasts::WantedLasts;
+use simplecss_selector::{AttributeOperator, Key, Keyed};
 use std::alloc::AllocError;
 
 /// Puts the places in order, each once.
@@ -45,6 +49,45 @@ fn push_id(lasts: &Lasts<'_>, id: Option<&str>, places: &mut Vec<usize>) -> Resu
     }
 }
 
+/// Whether looking for each class of the sheet in the value takes less than looking up each word of
+/// the value. So a class value of a thousand words costs no more than testing the rules.
+#[inline(always)]
+fn are_few(lasts: &Lasts<'_>, value: &str) -> bool {
+    lasts.classes.len() <= value.len() / 64
+}
+
+/// Adds the last places of the classes that are words in a value: looks for each class in it.
+fn push_classes_within(
+    lasts: &Lasts<'_>,
+    value: &str,
+    places: &mut Vec<usize>,
+) -> Result<(), AllocError>
+    ensures { OnOk result (Adds places.old.items places.new.items
+        (ClassLeads lasts.now (Some value.now))) }
+{
+    for (word, place) in &lasts.classes {
+        if AttributeOperator::Contains(word).matches(value) {
+            places.push(*place)?;
+        }
+    }
+    Ok(())
+}
+
+/// Adds the last places of the classes that are words in a value: looks up each word.
+fn push_words(
+    lasts: &Lasts<'_>,
+    value: &str,
+    places: &mut Vec<usize>,
+) -> Result<(), AllocError>
+    ensures { OnOk result (Adds places.old.items places.new.items
+        (ClassLeads lasts.now (Some value.now))) }
+{
+    for word in value.split(' ') {
+        push_last(lasts, Key::Class(word), places)?;
+    }
+    Ok(())
+}
+
 /// Adds the last places of the classes that are words in the value of an attribute `class`, if
 /// there is one.
 fn push_classes(
@@ -58,8 +101,25 @@ fn push_classes(
     let Some(value) = class else {
         return Ok(());
     };
-    for word in value.split(' ') {
-        push_last(lasts, Key::Class(word), places)?;
+    if are_few(lasts, value) {
+        return push_classes_within(lasts, value, places);
+    }
+    push_words(lasts, value, places)
+}
+
+/// Adds the last places of the attributes that the element has.
+fn push_attributes<E: Keyed>(
+    lasts: &Lasts<'_>,
+    element: &E,
+    places: &mut Vec<usize>,
+) -> Result<(), AllocError>
+    ensures { OnOk result (Adds places.old.items places.new.items
+        (AttributeLeads lasts.now (E.told element.now).has_attribute)) }
+{
+    for (name, place) in &lasts.attributes {
+        if element.has_attribute(name) {
+            places.push(*place)?;
+        }
     }
     Ok(())
 }
@@ -73,10 +133,44 @@ fn push_keys_of<E: Keyed>(
     ensures { OnOk result (Adds places.old.items places.new.items
         (KeyLeads (E.told element.now) lasts.now)) }
 {
+    if lasts.is_empty() {
+        return Ok(());
+    }
     push_last(lasts, Key::Any, places)?;
     push_last(lasts, Key::Name(element.local_name()), places)?;
     push_id(lasts, element.id_value(), places)?;
-    push_classes(lasts, element.class_value(), places)
+    push_classes(lasts, element.class_value(), places)?;
+    push_attributes(lasts, element, places)
+}
+
+/// Adds the last places of the keys that a neighbour tells, if it is there.
+fn push_neighbour<E: Keyed>(
+    lasts: &Lasts<'_>,
+    neighbour: Option<E>,
+    places: &mut Vec<usize>,
+) -> Result<(), AllocError>
+    ensures { OnOk result ((told : Option Told)
+        × IsToldOf E.node E.told (option_map E.node neighbour) told
+        × Adds places.old.items places.new.items (NeighbourLeads lasts.now told)) }
+{
+    match neighbour {
+        Some(node) => push_keys_of(lasts, &node, places),
+        None => Ok(()),
+    }
+}
+
+/// Adds the last places of what the element, its parent and its previous sibling tell.
+fn push_near<E: Keyed>(
+    lasts: &WantedLasts<'_>,
+    element: &E,
+    places: &mut Vec<usize>,
+) -> Result<(), AllocError>
+    ensures { OnOk result ((near : Near) × IsNear E.tree E.node E.told element.now near
+        × Adds places.old.items places.new.items (WantedLeads near lasts.now)) }
+{
+    push_keys_of(&lasts.own, element, places)?;
+    push_neighbour(&lasts.parent, element.parent_element(), places)?;
+    push_neighbour(&lasts.previous, element.prev_sibling_element(), places)
 }
 
 /// Adds the earlier places with the key of this one.
@@ -118,10 +212,11 @@ pub(crate) fn candidates<E: Keyed>(
     element: &E,
     places: &mut Vec<usize>,
 ) -> Result<(), AllocError>
-    ensures { OnOk result (AreCandidates (E.told element.now) rule_index.now places.new.items) }
+    ensures { OnOk result ((near : Near) × IsNear E.tree E.node E.told element.now near
+        × AreCandidates near rule_index.now places.new.items) }
 {
     places.clear();
-    push_keys_of(&rule_index.lasts, element, places)?;
+    push_near(&rule_index.lasts, element, places)?;
     sort_once(places);
     push_all_earlier(rule_index, places)?;
     sort_once(places);

@@ -2,13 +2,14 @@
 ghost use Rattle.std.specs.Prelude.{◌≡◌, ◌+◌, ◌<◌, ◌≤◌, ◌∷◌, ◌++◌, [], IfOk, OnOk};
 ghost use Rattle.std.specs.Prelude.{OnErr, length, map};
 ghost use Rattle.std.specs.List.{sum_by};
+ghost use Rattle.simplecss_selector.specs.Wanted.{Near, IsNear};
 ghost use Rattle.simplecss.specs.Chains.{selectors_of, IsLastBefore, AreChained};
 ghost use Rattle.simplecss.specs.SelectorPlaces.{key_at};
 ghost use Rattle.simplecss.specs.Matching.{AreMatches, most_tests, keyed_for};
 
 use super::find::candidates;
 use super::keep::keep_matching;
-use super::lasts::Lasts;
+use super::wanted_lasts::WantedLasts;
 use crate::sheet::Rule;
 use simplecss_selector::{Keyed, Selector, Tests};
 use std::alloc::{AllocError, Global};
@@ -28,7 +29,7 @@ struct Link<'a> {
 /// selector, with a link to the last earlier place with that key.
 #[inline(always)]
 fn push_links<'a>(
-    lasts: &mut Lasts<'a>,
+    lasts: &mut WantedLasts<'a>,
     links: &mut Vec<Link<'a>>,
     rules: &[Rule<'a>],
 ) -> Result<(), AllocError>
@@ -38,7 +39,7 @@ fn push_links<'a>(
         ≡ selectors_of links.old.items ++ map (λ rule. rule.selector) rules.now) }
 {
     for rule in rules {
-        let earlier = lasts.replace(rule.selector.key(), links.len())?;
+        let earlier = lasts.replace(rule.selector.wanted(), links.len())?;
         links.push(Link {
             earlier,
             selector: Snapshot::of(&rule.selector),
@@ -68,7 +69,7 @@ fn push_links<'a>(
 #[derive(Drop)]
 pub struct RuleIndex<'a> {
     /// The last place of each key.
-    pub(crate) lasts: Lasts<'a>,
+    pub(crate) lasts: WantedLasts<'a>,
     /// For each rule, in order, how it is chained to the earlier ones.
     links: Vec<Link<'a>>,
 }
@@ -92,7 +93,7 @@ impl<'a> RuleIndex<'a> {
         ensures { IfOk result (λ index. index ≡ map (λ rule. rule.selector) rules.now) }
     {
         let mut links = Vec::with_capacity(alloc, rules.len())?;
-        let mut lasts = Lasts::new(alloc);
+        let mut lasts = WantedLasts::new(alloc);
         push_links(&mut lasts, &mut links, rules)?;
         Ok(RuleIndex { lasts, links })
     }
@@ -127,8 +128,10 @@ impl<'a> RuleIndex<'a> {
         self.matching_counted(rules, element, places, &mut Tests::new())
     }
 
-    /// `matching`, with a count of the tests that were made. No rule is asked whose key the element
-    /// does not tell.
+    /// `matching`, with a count of the tests that were made. Each rule whose key is reported is
+    /// tested, and no other: its key is that of its last component (`Selector::wanted`), which the
+    /// element reports, or where that has none, of the component before, which the element's parent
+    /// or previous sibling reports.
     pub fn matching_counted<E: Keyed>(
         &self,
         rules: &[Rule<'a>],
@@ -139,8 +142,11 @@ impl<'a> RuleIndex<'a> {
         requires { self.now ≡ map (λ rule. rule.selector) rules.now }
         ensures matches { OnOk result
             (AreMatches E.tree (E.node element.now) self.now places.new.items) }
-        ensures at_most { tests.new ≤ tests.old + sum_by (most_tests E.tree (E.node element.now))
-            (keyed_for (E.told element.now) self.now) }
+        ensures tests { OnOk result ((near : Near)
+            × IsNear E.tree E.node E.told element.now near
+            × (tests.old + length (keyed_for near self.now) ≤ tests.new)
+            × (tests.new ≤ tests.old + sum_by (most_tests E.tree (E.node element.now))
+            (keyed_for near self.now))) }
         ensures err { OnErr result (places.new.items ≡ []) }
         ensures untested { OnErr result (tests.new ≡ tests.old) }
     {
