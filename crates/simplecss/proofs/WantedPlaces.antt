@@ -1,6 +1,6 @@
 -- The last places of what is wanted, and of what is told near an element.
 -- Serves `index::wanted_lasts::WantedLasts` and `RuleIndex::matching_counted`.
-use Rattle.std.proofs.Common.{◌≡◌, ℕ, ◌↔◌, ◌⊎◌, inl, inr, List, Bool, true, false, IsTrue, Option, None, Some, refl, sym, ap, ◌∙◌, subst}
+use Rattle.std.proofs.Common.{◌≡◌, ℕ, ◌↔◌, ◌⊎◌, inl, inr, List, true, false, IsTrue, Option, None, Some, refl, ap, ◌∙◌}
 use Rattle.std.specs.Option.{option_map_or}
 use Rattle.std.proofs.lemmas.Bool.{false≢true}
 use Rattle.simplecss_selector.specs.Keys.{Key, Told, tells_key}
