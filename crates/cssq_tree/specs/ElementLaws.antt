@@ -2,16 +2,18 @@
 -- and that it tells what it answers by. They are proofs, and stand in this folder since the traits
 -- `Element` and `Keyed` ask for them: an impl names them, so they are part of what is stated.
 use Rattle.std.proofs.Common.{◌≡◌, ℕ, zero, suc, ◌+◌, ◌<◌, ◌≤◌, Bool, true, false, cond, List, take, get_or, refl, sym, ap, ◌∙◌, subst, arith, Option, None, Some, IfSome, MatchOption}
-use Rattle.std.specs.Prelude.{nat_lt, ◌==◌}
-use Rattle.std.specs.Option.{option_map}
+use Rattle.std.specs.Prelude.{nat_lt, ◌==◌, IsTrue, is_some}
+use Rattle.std.specs.Option.{option_map, option_map_or}
 use Rattle.std.proofs.lemmas.Bool.Decides.{nat_tests}
 use Rattle.std.proofs.lemmas.List.{get_or-take}
 use Rattle.std.proofs.lemmas.Grind.{common_steps}
 use Rattle.simplecss_selector.specs.Keys.{TellsKeys}
-use Rattle.simplecss_selector.specs.Keys.Key.{by_id, by_class, by_name, by_nothing}
+use Rattle.simplecss_selector.specs.Keys.Key.{by_id, by_class, by_name, by_attribute, by_nothing}
+use Rattle.simplecss_selector.specs.Operators.{is_as_asked}
+use Rattle.simplecss_text.specs.Components.{Operator}
 use Rattle.simplecss_selector.specs.Trees.{DepthCountsAncestors, SiblingsShareParent}
 use Rattle.cssq_tree.specs.ParentsAndSiblings.{depths_of, last_place, parent_place, nearest_place, previous_place}
-use Rattle.cssq_tree.specs.Nodes.{Spot, spot, parent_of, ancestors_within, ancestor_count, page_tree, told_of}
+use Rattle.cssq_tree.specs.Nodes.{Spot, spot, parent_of, ancestors_within, ancestor_count, page_tree, told_of, attribute_at}
 use Rattle.cssq_tree.specs.Siblings.{equal_near, equal_at, previous_is, parent_within, nearest_before}
 
 -- the ancestors from the parent on
@@ -90,8 +92,14 @@ shared x (Some j) is = ap (option_map (spot x.rows)) (same_parent (depths_of x.r
 pub siblings_share_parents : SiblingsShareParent page_tree
 siblings_share_parents x = shared x (previous_place (depths_of x.rows) x.place) refl
 
+-- a value that is as asked is there
+value_there : (r : Option (List ℕ)) (o : Operator) → IsTrue (option_map_or (is_as_asked o) r false) → IsTrue (is_some r)
+value_there None o h = absurd (cc)
+value_there (Some v) o h = refl
+
 pub keys_told : (s : Spot) → TellsKeys page_tree s (told_of s)
 keys_told s (by_id text) h = h
 keys_told s (by_class word) h = h
 keys_told s (by_name name) h = h
+keys_told s (by_attribute name) (o, h) = value_there (attribute_at s.rows s.place name) o h
 keys_told s by_nothing h = h

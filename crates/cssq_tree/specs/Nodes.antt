@@ -1,5 +1,5 @@
 -- The elements of a page as nodes of a tree, and what each answers to a selector.
-use Rattle.std.specs.Prelude.{ℕ, zero, suc, ◌+◌, Bool, false, List, [], ◌∷◌, Option, None, Some, if◌then◌else◌, bytes_eq, codes, is_none}
+use Rattle.std.specs.Prelude.{ℕ, zero, suc, ◌+◌, Bool, false, List, [], ◌∷◌, Option, None, Some, if◌then◌else◌, bytes_eq, codes, is_none, is_some}
 use Rattle.std.specs.List.{slice_get}
 use Rattle.std.specs.Option.{option_map, option_map_or}
 use Rattle.simplecss_text.specs.Components.{Operator, KnownPseudoClass}
@@ -80,10 +80,11 @@ page_tree = record {
   is_in_pseudo_class = is_in;
 }
 
--- the element's name, and the values of its attributes `id` and `class`
+-- the element's name, the values of its attributes `id` and `class`, and which attributes it has
 abbrev pub told_of : Spot → Told
 told_of s = record {
   name = name_at s.rows s.place;
   id = attribute_at s.rows s.place (codes "id");
   class = attribute_at s.rows s.place (codes "class");
+  has_attribute = λ name. is_some (attribute_at s.rows s.place name);
 }

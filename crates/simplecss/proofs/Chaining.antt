@@ -6,22 +6,22 @@ use Rattle.std.proofs.Math.Seq.{get_or-append_seam}
 use Rattle.std.proofs.lemmas.List.{length-map, map-append, get_or_append_left}
 use Rattle.std.proofs.lemmas.Option.{slice_get-get_or}
 use Rattle.simplecss_text.specs.Components.{Component}
-use Rattle.simplecss_selector.specs.Keys.{Key, key_of}
+use Rattle.simplecss_selector.specs.Wanted.{Wanted, wanted_of}
 use Rattle.simplecss.specs.Chains.{selectors_of, IsLastBefore, earlier_at, AreChained}
-use Rattle.simplecss.specs.Lasts.{last_for, TakesPlace}
+use Rattle.simplecss.specs.WantedLasts.{last_wanted, TakesWanted}
 use Rattle.simplecss.specs.SelectorPlaces.{key_at}
-use Rattle.simplecss.specs.declared.index.rule_index.Link.{Link}
-use Rattle.simplecss.specs.declared.index.lasts.Lasts.{Lasts}
+use Rattle.simplecss.specs.declared.index.link.Link.{Link}
+use Rattle.simplecss.specs.declared.index.wanted_lasts.WantedLasts.{WantedLasts}
 
 module _ (selectors : List (List Component)) (s : List Component) where
   key_before : (place : ℕ) → place < length selectors → key_at (selectors ++ s ∷ []) place ≡ key_at selectors place
-  key_before place lt = ap key_of (get_or_append_left selectors (s ∷ []) [] place lt)
+  key_before place lt = ap wanted_of (get_or_append_left selectors (s ∷ []) [] place lt)
 
-  key_last : key_at (selectors ++ s ∷ []) (length selectors) ≡ key_of s
-  key_last = ap key_of (get_or-append_seam selectors s [] [])
+  key_last : key_at (selectors ++ s ∷ []) (length selectors) ≡ wanted_of s
+  key_last = ap wanted_of (get_or-append_seam selectors s [] [])
 
   -- what is the last before an end still is
-  last_same : (end : ℕ) (key : Key) (left : Option ℕ) → end ≤ length selectors → IsLastBefore selectors end key left → IsLastBefore (selectors ++ s ∷ []) end key left
+  last_same : (end : ℕ) (key : Wanted) (left : Option ℕ) → end ≤ length selectors → IsLastBefore selectors end key left → IsLastBefore (selectors ++ s ∷ []) end key left
   last_same end key None le h = λ place lt e. h place lt (sym (key_before place (omega (arith, le, lt))) ∙ e)
   last_same end key (Some last) le h = (h.0, key_before last (omega (arith, le, h.0)) ∙ h.1, λ place from lt e. h.2 place from lt (sym (key_before place (omega (arith, le, lt))) ∙ e))
 
@@ -29,7 +29,7 @@ module _ (selectors : List (List Component)) (s : List Component) where
   order place end lt = grind arith
 
   -- and it is the last before the new end, too, where the new selector has another key
-  last_more : (key : Key) (left : Option ℕ) → (key_of s ≡ key → ⊥) → IsLastBefore (selectors ++ s ∷ []) (length selectors) key left → IsLastBefore (selectors ++ s ∷ []) (length selectors + 1) key left
+  last_more : (key : Wanted) (left : Option ℕ) → (wanted_of s ≡ key → ⊥) → IsLastBefore (selectors ++ s ∷ []) (length selectors) key left → IsLastBefore (selectors ++ s ∷ []) (length selectors + 1) key left
   last_more key None apart h = λ place lt e. elim (order place (length selectors) lt) [
     | inl before ↦ h place before e
     | inr same ↦ apart (sym key_last ∙ subst (λ p. key_at (selectors ++ s ∷ []) p ≡ key) (sym same) e)
@@ -43,14 +43,14 @@ module _ (selectors : List (List Component)) (s : List Component) where
     ],
   )
 
-  last_here : (key : Key) → key_of s ≡ key → IsLastBefore (selectors ++ s ∷ []) (length selectors + 1) key (Some (length selectors))
+  last_here : (key : Wanted) → wanted_of s ≡ key → IsLastBefore (selectors ++ s ∷ []) (length selectors + 1) key (Some (length selectors))
   last_here key e = (omega arith, key_last ∙ e, λ place from lt h. absurd (omega (arith, from, lt)))
 
   -- each key has its last place, once the new place is put under the key of the new selector
-  lasts_more : (old new : Lasts) → ((key : Key) → IsLastBefore selectors (length selectors) key (last_for old key)) → TakesPlace old new (key_of s) (length selectors) → (key : Key) → IsLastBefore (selectors ++ s ∷ []) (length selectors + 1) key (last_for new key)
+  lasts_more : (old new : WantedLasts) → ((key : Wanted) → IsLastBefore selectors (length selectors) key (last_wanted old key)) → TakesWanted old new (wanted_of s) (length selectors) → (key : Wanted) → IsLastBefore (selectors ++ s ∷ []) (length selectors + 1) key (last_wanted new key)
   lasts_more old new last takes key = elim (takes key) [
     | inl h ↦ subst (IsLastBefore (selectors ++ s ∷ []) (length selectors + 1) key) (sym h.1) (last_here key h.0)
-    | inr h ↦ subst (IsLastBefore (selectors ++ s ∷ []) (length selectors + 1) key) (sym h.1) (last_more key (last_for old key) h.0 (last_same (length selectors) key (last_for old key) (omega arith) (last key)))
+    | inr h ↦ subst (IsLastBefore (selectors ++ s ∷ []) (length selectors + 1) key) (sym h.1) (last_more key (last_wanted old key) h.0 (last_same (length selectors) key (last_wanted old key) (omega arith) (last key)))
   ]
 
 earlier_before : (links : List Link) (link : Link) (place : ℕ) → place < length links → earlier_at (links ++ link ∷ []) place ≡ earlier_at links place
@@ -64,9 +64,9 @@ earlier_last links link =
     ap (λ r. option_map_or (λ l. l.earlier) r None) (slice_get-get_or (links ++ link ∷ []) (length links) link longer ∙ ap Some (get_or-append_seam links link [] link))
 
 -- a link of a selector is put behind the others
-pub chain_push : (old new : Lasts) (links : List Link) (link : Link) → AreChained old links → link.earlier ≡ last_for old (key_of link.selector.value) → TakesPlace old new (key_of link.selector.value) (length links) → AreChained new (links ++ link ∷ [])
+pub chain_push : (old new : WantedLasts) (links : List Link) (link : Link) → AreChained old links → link.earlier ≡ last_wanted old (wanted_of link.selector.value) → TakesWanted old new (wanted_of link.selector.value) (length links) → AreChained new (links ++ link ∷ [])
 chain_push old new links link chained leads takes = record {
-  last = λ key. subst (λ ss. IsLastBefore ss (length (links ++ link ∷ [])) key (last_for new key)) (sym more) (subst (λ n. IsLastBefore (ss ++ s ∷ []) n key (last_for new key)) (sym number) (lasts_more ss s old new last_of (subst (TakesPlace old new (key_of s)) (sym same) takes) key));
+  last = λ key. subst (λ ss. IsLastBefore ss (length (links ++ link ∷ [])) key (last_wanted new key)) (sym more) (subst (λ n. IsLastBefore (ss ++ s ∷ []) n key (last_wanted new key)) (sym number) (lasts_more ss s old new last_of (subst (TakesWanted old new (wanted_of s)) (sym same) takes) key));
   earlier = λ place lt. subst (λ ss. IsLastBefore ss place (key_at ss place) (earlier_at (links ++ link ∷ []) place)) (sym more) (at place (order ss s place (length links) (omega (arith, lt, length-append links (link ∷ [])))));
 }
   where
@@ -85,8 +85,8 @@ chain_push old new links link chained leads takes = record {
     number : length (links ++ link ∷ []) ≡ length ss + 1
     number = length-append links (link ∷ []) ∙ ap (λ n. n + 1) (sym same)
 
-    last_of : (key : Key) → IsLastBefore ss (length ss) key (last_for old key)
-    last_of key = subst (λ n. IsLastBefore ss n key (last_for old key)) (sym same) (chained.last key)
+    last_of : (key : Wanted) → IsLastBefore ss (length ss) key (last_wanted old key)
+    last_of key = subst (λ n. IsLastBefore ss n key (last_wanted old key)) (sym same) (chained.last key)
 
     at : (place : ℕ) → (place < length links) ⊎ (length links ≡ place) → IsLastBefore (ss ++ s ∷ []) place (key_at (ss ++ s ∷ []) place) (earlier_at (links ++ link ∷ []) place)
     at place (inl before) =
@@ -96,14 +96,14 @@ chain_push old new links link chained leads takes = record {
     at place (inr here) =
         subst (λ p. IsLastBefore (ss ++ s ∷ []) p (key_at (ss ++ s ∷ []) p) (earlier_at (links ++ link ∷ []) p)) (same ∙ here)
         (subst (λ key. IsLastBefore (ss ++ s ∷ []) (length ss) key (earlier_at (links ++ link ∷ []) (length ss))) (sym (key_last ss s))
-        (subst (IsLastBefore (ss ++ s ∷ []) (length ss) (key_of s)) (sym (ap (earlier_at (links ++ link ∷ [])) same ∙ earlier_last links link ∙ leads))
-        (last_same ss s (length ss) (key_of s) (last_for old (key_of s)) (omega arith) (last_of (key_of s)))))
+        (subst (IsLastBefore (ss ++ s ∷ []) (length ss) (wanted_of s)) (sym (ap (earlier_at (links ++ link ∷ [])) same ∙ earlier_last links link ∙ leads))
+        (last_same ss s (length ss) (wanted_of s) (last_wanted old (wanted_of s)) (omega arith) (last_of (wanted_of s)))))
 
 -- a link that leads to the last selector with its key is put behind the others
-pub link_more : (old new : Lasts) (links more : List Link) (link : Link) (place : ℕ) (known : Option ℕ) (s : List Component) (key : Key) → AreChained old links → place ≡ length links → key ≡ key_of s → known ≡ last_for old key → TakesPlace old new key place → link.earlier ≡ known → link.selector.value ≡ s → more ≡ links ++ link ∷ []
+pub link_more : (old new : WantedLasts) (links more : List Link) (link : Link) (place : ℕ) (known : Option ℕ) (s : List Component) (key : Wanted) → AreChained old links → place ≡ length links → key ≡ wanted_of s → known ≡ last_wanted old key → TakesWanted old new key place → link.earlier ≡ known → link.selector.value ≡ s → more ≡ links ++ link ∷ []
     → AreChained new more × (selectors_of more ≡ selectors_of links ++ s ∷ [])
 link_more old new links more link place known s key chained place_is key_is is takes leads value e =
-    let own : key ≡ key_of link.selector.value = key_is ∙ ap key_of (sym value) in (
-      subst (AreChained new) (sym e) (chain_push old new links link chained (leads ∙ is ∙ ap (last_for old) own) (subst (TakesPlace old new (key_of link.selector.value)) place_is (subst (λ k. TakesPlace old new k place) own takes))),
+    let own : key ≡ wanted_of link.selector.value = key_is ∙ ap wanted_of (sym value) in (
+      subst (AreChained new) (sym e) (chain_push old new links link chained (leads ∙ is ∙ ap (last_wanted old) own) (subst (TakesWanted old new (wanted_of link.selector.value)) place_is (subst (λ k. TakesWanted old new k place) own takes))),
       ap selectors_of e ∙ map-append (λ l. l.selector.value) links (link ∷ []) ∙ ap (λ v. selectors_of links ++ v ∷ []) value,
     )

@@ -7,10 +7,10 @@ use Rattle.std.proofs.lemmas.Option.{slice_get-get_or}
 use Rattle.std.proofs.lemmas.List.{length-map, take_more, get_or_append_left}
 use Rattle.std.proofs.lemmas.List.Elements.{Contains-get_or, Contains-append_left, Contains-push, Contains-push_cases}
 use Rattle.simplecss_text.specs.Components.{Component}
-use Rattle.simplecss_selector.specs.Keys.{Key}
+use Rattle.simplecss_selector.specs.Wanted.{Wanted}
 use Rattle.simplecss.specs.Chains.{selectors_of, IsLastBefore, earlier_at, AreChained}
-use Rattle.simplecss.specs.declared.index.rule_index.Link.{Link}
-use Rattle.simplecss.specs.declared.index.lasts.Lasts.{Lasts}
+use Rattle.simplecss.specs.declared.index.link.Link.{Link}
+use Rattle.simplecss.specs.declared.index.wanted_lasts.WantedLasts.{WantedLasts}
 use Rattle.simplecss.specs.SelectorPlaces.{key_at, Adds}
 use Rattle.simplecss.proofs.Adding.{adds_none, adds_one, adds_then, adds_as}
 
@@ -21,10 +21,10 @@ end_of (Some place) = place + 1
 
 module _ (selectors : List (List Component)) where
   -- the places from one on and before another with the key
-  abbrev pub Between : ℕ → ℕ → Key → ℕ → Type 0
+  abbrev pub Between : ℕ → ℕ → Wanted → ℕ → Type 0
   Between start end key place = (start ≤ place) × (place < end) × (key_at selectors place ≡ key)
 
-  abbrev pub StandsBefore : ℕ → Key → Option ℕ → Type 0
+  abbrev pub StandsBefore : ℕ → Wanted → Option ℕ → Type 0
   StandsBefore end key None = Unit {0}
   StandsBefore end key (Some place) = (place < end) × (key_at selectors place ≡ key)
 
@@ -33,11 +33,11 @@ module _ (selectors : List (List Component)) where
     pub stands : StandsBefore start (key_at selectors start) left
     pub adds : Adds old new (Between (end_of left) start (key_at selectors start))
 
-  last_stands : (end : ℕ) (key : Key) (left : Option ℕ) → IsLastBefore selectors end key left → StandsBefore end key left
+  last_stands : (end : ℕ) (key : Wanted) (left : Option ℕ) → IsLastBefore selectors end key left → StandsBefore end key left
   last_stands end key None h = tt
   last_stands end key (Some place) h = (h.0, h.1)
 
-  none_after : (end : ℕ) (key : Key) (left : Option ℕ) → IsLastBefore selectors end key left → (place : ℕ) → Between (end_of left) end key place → ⊥
+  none_after : (end : ℕ) (key : Wanted) (left : Option ℕ) → IsLastBefore selectors end key left → (place : ℕ) → Between (end_of left) end key place → ⊥
   none_after end key None h place b = h place b.1 b.2
   none_after end key (Some last) h place b = h.2 place (omega (arith, b.0)) b.1 b.2
 
@@ -109,14 +109,14 @@ pub link_there : (links : List Link) (selectors : List (List Component)) (place 
 link_there links selectors place is lt = omega (arith, lt, ap length is, length-map links (λ l. l.selector.value))
 
 -- where a link that was read leads
-pub leads : (lasts : Lasts) (links : List Link) (selectors : List (List Component)) (place : ℕ) (link : Link) → AreChained lasts links → selectors_of links ≡ selectors → place < length selectors → link ≡ get_or links place link → IsLastBefore selectors place (key_at selectors place) link.earlier
+pub leads : (lasts : WantedLasts) (links : List Link) (selectors : List (List Component)) (place : ℕ) (link : Link) → AreChained lasts links → selectors_of links ≡ selectors → place < length selectors → link ≡ get_or links place link → IsLastBefore selectors place (key_at selectors place) link.earlier
 leads lasts links selectors place link chained is lt read =
     let within = link_there links selectors place is lt in
     let leads_to : link.earlier ≡ earlier_at links place = ap (λ l. l.earlier) read ∙ sym (ap (λ r. option_map_or (λ l. l.earlier) r None) (slice_get-get_or links place link within)) in
     subst (λ ss. IsLastBefore ss place (key_at ss place) link.earlier) is
     (subst (IsLastBefore (selectors_of links) place (key_at (selectors_of links) place)) (sym leads_to) (chained.earlier place within))
 
-pub leads_back : (selectors : List (List Component)) (end : ℕ) (key : Key) (left : Option ℕ) → IsLastBefore selectors end key left → end_of left < end + 1
+pub leads_back : (selectors : List (List Component)) (end : ℕ) (key : Wanted) (left : Option ℕ) → IsLastBefore selectors end key left → end_of left < end + 1
 leads_back selectors end key None h = omega arith
 leads_back selectors end key (Some place) h = omega (arith, h.0)
 

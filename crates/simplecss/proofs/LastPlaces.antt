@@ -14,8 +14,8 @@ use Rattle.std.proofs.lemmas.Map.Text.{btree_map_updates_str}
 use Rattle.std.proofs.lemmas.Slice.Eq.{bytes_eq-Decides}
 use Rattle.simplecss_text.specs.Components.Operator.{equals, has_word}
 use Rattle.simplecss_selector.specs.Keys.{Key, Told, tells_key, is_value_as_asked}
-use Rattle.simplecss_selector.specs.Keys.Key.{by_id, by_class, by_name, by_nothing}
-use Rattle.simplecss.specs.Lasts.{place_for, last_for, TakesPlace, IdLeads, ClassLeads, KeyLeads}
+use Rattle.simplecss_selector.specs.Keys.Key.{by_id, by_class, by_name, by_attribute, by_nothing}
+use Rattle.simplecss.specs.Lasts.{place_for, last_for, TakesPlace, IdLeads, ClassLeads, AttributeLeads, KeyLeads}
 use Rattle.simplecss.specs.SelectorPlaces.{Adds}
 use Rattle.simplecss.specs.declared.index.lasts.Lasts.{Lasts}
 use Rattle.simplecss.proofs.Adding.{contains_none, contains_one, adds_none, adds_then, adds_as}
@@ -39,28 +39,39 @@ kind_of kind back (inr h) = inr (λ e. h.0 (back e), h.1)
 
 -- a place is put under an id, a class, a name or none of them
 module _ (old : Lasts) (place : ℕ) where
-  pub takes_id : (m : BTreeMap (Bor (List ℕ)) ℕ) (text : List ℕ) → UpdatesBy (λ x y. slice_cmp nat_cmp x.now y.now) (λ k. slice_cmp nat_cmp text k.now) old.ids m (Some place) → TakesPlace old (record { ids = m; classes = old.classes; names = old.names; any = old.any }) (by_id text) place
+  pub takes_id : (m : BTreeMap (Bor (List ℕ)) ℕ) (text : List ℕ) → UpdatesBy (λ x y. slice_cmp nat_cmp x.now y.now) (λ k. slice_cmp nat_cmp text k.now) old.ids m (Some place) → TakesPlace old (record { ids = m; classes = old.classes; names = old.names; attributes = old.attributes; any = old.any }) (by_id text) place
   takes_id m text updates (by_id t) = kind_of by_id (λ e. cc) (changed_text old.ids m place text t updates)
   takes_id m text updates (by_class t) = inr (λ e. cc, refl)
   takes_id m text updates (by_name t) = inr (λ e. cc, refl)
+  takes_id m text updates (by_attribute t) = inr (λ e. cc, refl)
   takes_id m text updates by_nothing = inr (λ e. cc, refl)
 
-  pub takes_class : (m : BTreeMap (Bor (List ℕ)) ℕ) (text : List ℕ) → UpdatesBy (λ x y. slice_cmp nat_cmp x.now y.now) (λ k. slice_cmp nat_cmp text k.now) old.classes m (Some place) → TakesPlace old (record { ids = old.ids; classes = m; names = old.names; any = old.any }) (by_class text) place
+  pub takes_class : (m : BTreeMap (Bor (List ℕ)) ℕ) (text : List ℕ) → UpdatesBy (λ x y. slice_cmp nat_cmp x.now y.now) (λ k. slice_cmp nat_cmp text k.now) old.classes m (Some place) → TakesPlace old (record { ids = old.ids; classes = m; names = old.names; attributes = old.attributes; any = old.any }) (by_class text) place
   takes_class m text updates (by_id t) = inr (λ e. cc, refl)
   takes_class m text updates (by_class t) = kind_of by_class (λ e. cc) (changed_text old.classes m place text t updates)
   takes_class m text updates (by_name t) = inr (λ e. cc, refl)
+  takes_class m text updates (by_attribute t) = inr (λ e. cc, refl)
   takes_class m text updates by_nothing = inr (λ e. cc, refl)
 
-  pub takes_name : (m : BTreeMap (Bor (List ℕ)) ℕ) (text : List ℕ) → UpdatesBy (λ x y. slice_cmp nat_cmp x.now y.now) (λ k. slice_cmp nat_cmp text k.now) old.names m (Some place) → TakesPlace old (record { ids = old.ids; classes = old.classes; names = m; any = old.any }) (by_name text) place
+  pub takes_name : (m : BTreeMap (Bor (List ℕ)) ℕ) (text : List ℕ) → UpdatesBy (λ x y. slice_cmp nat_cmp x.now y.now) (λ k. slice_cmp nat_cmp text k.now) old.names m (Some place) → TakesPlace old (record { ids = old.ids; classes = old.classes; names = m; attributes = old.attributes; any = old.any }) (by_name text) place
   takes_name m text updates (by_id t) = inr (λ e. cc, refl)
   takes_name m text updates (by_class t) = inr (λ e. cc, refl)
   takes_name m text updates (by_name t) = kind_of by_name (λ e. cc) (changed_text old.names m place text t updates)
+  takes_name m text updates (by_attribute t) = inr (λ e. cc, refl)
   takes_name m text updates by_nothing = inr (λ e. cc, refl)
 
-  pub takes_any : TakesPlace old (record { ids = old.ids; classes = old.classes; names = old.names; any = Some place }) by_nothing place
+  pub takes_attribute : (m : BTreeMap (Bor (List ℕ)) ℕ) (text : List ℕ) → UpdatesBy (λ x y. slice_cmp nat_cmp x.now y.now) (λ k. slice_cmp nat_cmp text k.now) old.attributes m (Some place) → TakesPlace old (record { ids = old.ids; classes = old.classes; names = old.names; attributes = m; any = old.any }) (by_attribute text) place
+  takes_attribute m text updates (by_id t) = inr (λ e. cc, refl)
+  takes_attribute m text updates (by_class t) = inr (λ e. cc, refl)
+  takes_attribute m text updates (by_name t) = inr (λ e. cc, refl)
+  takes_attribute m text updates (by_attribute t) = kind_of by_attribute (λ e. cc) (changed_text old.attributes m place text t updates)
+  takes_attribute m text updates by_nothing = inr (λ e. cc, refl)
+
+  pub takes_any : TakesPlace old (record { ids = old.ids; classes = old.classes; names = old.names; attributes = old.attributes; any = Some place }) by_nothing place
   takes_any (by_id t) = inr (λ e. cc, refl)
   takes_any (by_class t) = inr (λ e. cc, refl)
   takes_any (by_name t) = inr (λ e. cc, refl)
+  takes_any (by_attribute t) = inr (λ e. cc, refl)
   takes_any by_nothing = inl (refl, refl)
 
 -- ---- the words of a class
@@ -127,23 +138,36 @@ module _ (told : Told) (lasts : Lasts) where
     key_class None word has is = absurd (false≢true has)
     key_class (Some value) word has is = (word, has, is)
 
-    keys_told : ((((last_for lasts by_nothing ≡ Some place) ⊎ (last_for lasts (by_name told.name) ≡ Some place)) ⊎ IdLeads lasts told.id place) ⊎ ClassLeads lasts told.class place) ↔ KeyLeads told lasts place
+    abbrev FiveLead : Type 0
+    FiveLead = ((((last_for lasts by_nothing ≡ Some place) ⊎ (last_for lasts (by_name told.name) ≡ Some place)) ⊎ IdLeads lasts told.id place) ⊎ ClassLeads lasts told.class place) ⊎ AttributeLeads lasts told.has_attribute place
+
+    keys_told : FiveLead ↔ KeyLeads told lasts place
     keys_told = (there, λ h. back h.0 h.1 h.2)
       where
-        there : (((last_for lasts by_nothing ≡ Some place) ⊎ (last_for lasts (by_name told.name) ≡ Some place)) ⊎ IdLeads lasts told.id place) ⊎ ClassLeads lasts told.class place → KeyLeads told lasts place
-        there (inl (inl (inl h))) = (by_nothing, refl, h)
-        there (inl (inl (inr h))) = (by_name told.name, (bytes_eq-Decides told.name told.name).1 refl, h)
-        there (inl (inr h)) = id_key told.id refl h
-        there (inr h) = pseudo_class_key told.class refl h
+        there : FiveLead → KeyLeads told lasts place
+        there (inl (inl (inl (inl h)))) = (by_nothing, refl, h)
+        there (inl (inl (inl (inr h)))) = (by_name told.name, (bytes_eq-Decides told.name told.name).1 refl, h)
+        there (inl (inl (inr h))) = id_key told.id refl h
+        there (inl (inr h)) = pseudo_class_key told.class refl h
+        there (inr h) = (by_attribute h.0, h.1, h.2)
 
-        back : (key : Key) → IsTrue (tells_key told key) → last_for lasts key ≡ Some place → (((last_for lasts by_nothing ≡ Some place) ⊎ (last_for lasts (by_name told.name) ≡ Some place)) ⊎ IdLeads lasts told.id place) ⊎ ClassLeads lasts told.class place
-        back (by_id text) has is = inl (inr (key_id told.id text has is))
-        back (by_class word) has is = inr (key_class told.class word has is)
-        back (by_name other) has is = inl (inl (inr (ap (λ x. last_for lasts (by_name x)) ((bytes_eq-Decides told.name other).0 has) ∙ is)))
-        back by_nothing has is = inl (inl (inl is))
+        back : (key : Key) → IsTrue (tells_key told key) → last_for lasts key ≡ Some place → FiveLead
+        back (by_id text) has is = inl (inl (inr (key_id told.id text has is)))
+        back (by_class word) has is = inl (inr (key_class told.class word has is))
+        back (by_attribute name) has is = inr (name, has, is)
+        back (by_name other) has is = inl (inl (inl (inr (ap (λ x. last_for lasts (by_name x)) ((bytes_eq-Decides told.name other).0 has) ∙ is))))
+        back by_nothing has is = inl (inl (inl (inl is)))
 
-  -- the places of the four kinds of keys were added
-  pub keys_added : (a b c d e : List ℕ) → Adds a b (λ place. last_for lasts by_nothing ≡ Some place) → Adds b c (λ place. last_for lasts (by_name told.name) ≡ Some place)
-      → Adds c d (IdLeads lasts told.id) → Adds d e (ClassLeads lasts told.class) → Adds a e (KeyLeads told lasts)
-  keys_added a b c d e any named by_ids by_classes =
-      adds_as a e keys_told (adds_then a d e (adds_then a c d (adds_then a b c any named) by_ids) by_classes)
+  -- where no key has a place, none is added
+  pub none_lead : (places : List ℕ) → ((key : Key) → last_for lasts key ≡ None) → Adds places places (KeyLeads told lasts)
+  none_lead places none = adds_none places (KeyLeads told lasts) (λ place h. no_place (last_for lasts h.0) place (none h.0) h.2)
+    where
+      no_place : (r : Option ℕ) (place : ℕ) → r ≡ None → r ≡ Some place → ⊥
+      no_place None place e h = cc
+      no_place (Some p) place e h = cc
+
+  -- the places of the five kinds of keys were added
+  pub keys_added : (a b c d e f : List ℕ) → Adds a b (λ place. last_for lasts by_nothing ≡ Some place) → Adds b c (λ place. last_for lasts (by_name told.name) ≡ Some place)
+      → Adds c d (IdLeads lasts told.id) → Adds d e (ClassLeads lasts told.class) → Adds e f (AttributeLeads lasts told.has_attribute) → Adds a f (KeyLeads told lasts)
+  keys_added a b c d e f any named by_ids by_classes by_attributes =
+      adds_as a f keys_told (adds_then a e f (adds_then a d e (adds_then a c d (adds_then a b c any named) by_ids) by_classes) by_attributes)

@@ -9,6 +9,8 @@ pub mod RulePlaces
 pub mod Adding
 pub mod Ascending
 pub mod LastPlaces
+pub mod ReadPlaces
+pub mod WantedPlaces
 pub mod Following
 pub mod Chaining
 pub mod AskedInTurn

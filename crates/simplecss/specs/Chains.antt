@@ -4,18 +4,18 @@ use Rattle.std.specs.Prelude.{◌≡◌, ℕ, ◌<◌, List, map, length, Option
 use Rattle.std.specs.List.{slice_get}
 use Rattle.std.specs.Option.{option_map_or}
 use Rattle.simplecss_text.specs.Components.{Component}
-use Rattle.simplecss_selector.specs.Keys.{Key}
+use Rattle.simplecss_selector.specs.Wanted.{Wanted}
 use Rattle.simplecss.specs.SelectorPlaces.{key_at}
-use Rattle.simplecss.specs.Lasts.{last_for}
-use Rattle.simplecss.specs.declared.index.lasts.Lasts.{Lasts}
-use Rattle.simplecss.specs.declared.index.rule_index.Link.{Link}
+use Rattle.simplecss.specs.WantedLasts.{last_wanted}
+use Rattle.simplecss.specs.declared.index.wanted_lasts.WantedLasts.{WantedLasts}
+use Rattle.simplecss.specs.declared.index.link.Link.{Link}
 
 -- the selectors that links stand for, in order
 abbrev pub selectors_of : List Link → List (List Component)
 selectors_of links = map (λ link. link.selector.value) links
 
 -- this is the last place before the end whose selector has the key, or there is none
-abbrev pub IsLastBefore : List (List Component) → ℕ → Key → Option ℕ → Type 0
+abbrev pub IsLastBefore : List (List Component) → ℕ → Wanted → Option ℕ → Type 0
 IsLastBefore selectors end key None = (place : ℕ) → place < end → key_at selectors place ≡ key → ⊥
 IsLastBefore selectors end key (Some last) =
     (last < end) × (key_at selectors last ≡ key) × ((place : ℕ) → last < place → place < end → key_at selectors place ≡ key → ⊥)
@@ -26,7 +26,7 @@ earlier_at links place = option_map_or (λ link. link.earlier) (slice_get links 
 
 -- Each key leads to the last selector with it, and each link leads to the last earlier selector
 -- with the key of its own.
-pub record AreChained (lasts : Lasts) (links : List Link) : Type 0 where
-  pub last : (key : Key) → IsLastBefore (selectors_of links) (length links) key (last_for lasts key)
+pub record AreChained (lasts : WantedLasts) (links : List Link) : Type 0 where
+  pub last : (key : Wanted) → IsLastBefore (selectors_of links) (length links) key (last_wanted lasts key)
   pub earlier : (place : ℕ) → place < length links
       → IsLastBefore (selectors_of links) place (key_at (selectors_of links) place) (earlier_at links place)

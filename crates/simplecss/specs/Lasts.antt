@@ -1,11 +1,11 @@
 -- The last place that each key has.
-use Rattle.std.specs.Prelude.{◌≡◌, ◌⊎◌, ℕ, List, Option, None, Some, IsTrue}
+use Rattle.std.specs.Prelude.{◌≡◌, ◌⊎◌, ℕ, List, Bool, Option, None, Some, IsTrue}
 use Rattle.std.specs.Borrow.{Bor}
 use Rattle.std.specs.BTreeMap.{BTreeMap, get_by}
 use Rattle.std.specs.Ordering.{nat_cmp}
 use Rattle.std.specs.Cmp.Lexicographic.{slice_cmp}
 use Rattle.simplecss_selector.specs.Keys.{Key, Told, tells_key}
-use Rattle.simplecss_selector.specs.Keys.Key.{by_id, by_class, by_name, by_nothing}
+use Rattle.simplecss_selector.specs.Keys.Key.{by_id, by_class, by_name, by_attribute, by_nothing}
 use Rattle.simplecss_selector.specs.Operators.{is_word_of}
 use Rattle.simplecss.specs.declared.index.lasts.Lasts.{Lasts}
 
@@ -18,6 +18,7 @@ abbrev pub last_for : Lasts → Key → Option ℕ
 last_for lasts (by_id text) = place_for lasts.ids text
 last_for lasts (by_class word) = place_for lasts.classes word
 last_for lasts (by_name name) = place_for lasts.names name
+last_for lasts (by_attribute name) = place_for lasts.attributes name
 last_for lasts by_nothing = lasts.any
 
 -- the place is now the last of the key, and every other key has the one that it had
@@ -36,6 +37,11 @@ abbrev pub ClassLeads : Lasts → Option (List ℕ) → ℕ → Type 0
 ClassLeads lasts None place = ⊥
 ClassLeads lasts (Some value) place =
     (word : List ℕ) × IsTrue (is_word_of word value) × (last_for lasts (by_class word) ≡ Some place)
+
+-- an attribute that is there, by what tells whether one of a name is, leads to the place
+abbrev pub AttributeLeads : Lasts → (List ℕ → Bool) → ℕ → Type 0
+AttributeLeads lasts has place =
+    (name : List ℕ) × IsTrue (has name) × (last_for lasts (by_attribute name) ≡ Some place)
 
 -- a key that is told leads to the place
 abbrev pub KeyLeads : Told → Lasts → ℕ → Type 0

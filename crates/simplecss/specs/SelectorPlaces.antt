@@ -2,15 +2,15 @@
 use Rattle.std.specs.Prelude.{◌≡◌, ℕ, ◌<◌, ◌↔◌, List, [], ◌++◌, slice_index_or, Contains}
 use Rattle.std.specs.List.Sorted.{IsStrictlyIncreasing}
 use Rattle.simplecss_text.specs.Components.{Component}
-use Rattle.simplecss_selector.specs.Keys.{Key, key_of}
+use Rattle.simplecss_selector.specs.Wanted.{Wanted, wanted_of}
 
 -- the selector at a place
 abbrev pub selector_at : List (List Component) → ℕ → List Component
 selector_at selectors place = slice_index_or selectors place []
 
 -- the key of the selector at a place
-abbrev pub key_at : List (List Component) → ℕ → Key
-key_at selectors place = key_of (selector_at selectors place)
+abbrev pub key_at : List (List Component) → ℕ → Wanted
+key_at selectors place = wanted_of (selector_at selectors place)
 
 -- the places are in order, each once, and are exactly those below the number that are as wanted
 pub record AreThePlaces (IsWanted : ℕ → Type 0) (number : ℕ) (places : List ℕ) : Type 0 where

@@ -4,6 +4,8 @@ mod find;
 mod keep;
 mod lasts;
 pub mod laws;
+mod link;
 mod rule_index;
+mod wanted_lasts;
 
 pub use rule_index::RuleIndex;

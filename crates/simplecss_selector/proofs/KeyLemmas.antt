@@ -12,7 +12,7 @@ use Rattle.simplecss_selector.specs.Trees.{Tree}
 use Rattle.simplecss_selector.specs.Placements.{HasPlacement, Meets, HasName, Holds}
 use Rattle.simplecss_selector.specs.PlacementSearch.{Reaches, first_of}
 use Rattle.simplecss_selector.specs.Shapes.{component_at}
-use Rattle.simplecss_selector.specs.Keys.{equal_text, wanted_word, asked_id, asked_class, first_asked, key_among, compound_key, key_of, has_key}
+use Rattle.simplecss_selector.specs.Keys.{equal_text, wanted_word, asked_id, asked_class, asked_attribute, first_asked, key_among, compound_key, key_of, HasKey}
 use Rattle.simplecss_selector.proofs.Reaching.{first_of-suc}
 use Rattle.simplecss_selector.proofs.Greedy.{placement_of}
 
@@ -54,21 +54,30 @@ class_held : {Node : Type 0} (tree : Tree Node) (n : Node) (v : List ℕ) (s : S
 class_held tree n v (pseudo_class class) e h = absurd (cc)
 class_held tree n v (attribute name o) e h = attribute_held tree n name (codes "class") wanted_word has_word v o (word_back o v) e h
 
-met_has_key : {Node : Type 0} (tree : Tree Node) (n : Node) (c : Compound) → Meets tree n c → IsTrue (has_key tree n (compound_key c))
-met_has_key tree n c m = at (first_asked asked_id c.subselectors) refl (first_asked asked_class c.subselectors) refl c.name m.0
+-- the node answers yes to something that is asked of an attribute of the name
+abbrev HasAttribute : {Node : Type 0} → Tree Node → Node → List ℕ → Type 0
+HasAttribute tree n name = (operator : Operator) × IsTrue (tree.has_attribute n name operator)
+
+attribute_there : {Node : Type 0} (tree : Tree Node) (n : Node) (v : List ℕ) (s : Subselector) → asked_attribute s ≡ Some v → Holds tree n s → HasAttribute tree n v
+attribute_there tree n v (pseudo_class class) e h = absurd (cc)
+attribute_there tree n v (attribute name o) e h = let same : name ≡ v = cc in subst (HasAttribute tree n) same (o, h)
+
+pub met_has_key : {Node : Type 0} (tree : Tree Node) (n : Node) (c : Compound) → Meets tree n c → HasKey tree n (compound_key c)
+met_has_key tree n c m = at (first_asked asked_id c.subselectors) refl (first_asked asked_class c.subselectors) refl c.name m.0 (first_asked asked_attribute c.subselectors) refl
   where
-    at : (i : Option (List ℕ)) → first_asked asked_id c.subselectors ≡ i → (k : Option (List ℕ)) → first_asked asked_class c.subselectors ≡ k → (name : Option (List ℕ)) → HasName tree n name → IsTrue (has_key tree n (key_among i k name))
-    at (Some v) is k ks name h = first_held asked_id (Holds tree n) (λ w. IsTrue (tree.has_attribute n (codes "id") (equals w))) c.subselectors v (λ s. id_held tree n v s) is m.1
-    at None is (Some v) ks name h = first_held asked_class (Holds tree n) (λ w. IsTrue (tree.has_attribute n (codes "class") (has_word w))) c.subselectors v (λ s. class_held tree n v s) ks m.1
-    at None is None ks (Some name) h = h
-    at None is None ks None h = refl
+    at : (i : Option (List ℕ)) → first_asked asked_id c.subselectors ≡ i → (k : Option (List ℕ)) → first_asked asked_class c.subselectors ≡ k → (name : Option (List ℕ)) → HasName tree n name → (a : Option (List ℕ)) → first_asked asked_attribute c.subselectors ≡ a → HasKey tree n (key_among i k name a)
+    at (Some v) is k ks name h a asks = first_held asked_id (Holds tree n) (λ w. IsTrue (tree.has_attribute n (codes "id") (equals w))) c.subselectors v (λ s. id_held tree n v s) is m.1
+    at None is (Some v) ks name h a asks = first_held asked_class (Holds tree n) (λ w. IsTrue (tree.has_attribute n (codes "class") (has_word w))) c.subselectors v (λ s. class_held tree n v s) ks m.1
+    at None is None ks (Some name) h a asks = h
+    at None is None ks None h (Some v) asks = first_held asked_attribute (Holds tree n) (HasAttribute tree n) c.subselectors v (λ s. attribute_there tree n v s) asks m.1
+    at None is None ks None h None asks = refl
 
 -- a placement needs the selector's key
-pub key_needed : {Node : Type 0} (tree : Tree Node) (cs : List Component) (n : Node) → HasPlacement tree cs n → IsTrue (has_key tree n (key_of cs))
+pub key_needed : {Node : Type 0} (tree : Tree Node) (cs : List Component) (n : Node) → HasPlacement tree cs n → HasKey tree n (key_of cs)
 key_needed tree [] n (ns, p) = absurd p
 key_needed tree (c ∷ cs) n h =
     let within : length cs < length (c ∷ cs) = omega arith in
     let last : length cs ≡ length (c ∷ cs) - 1 = omega arith in
     let at = component_at (c ∷ cs) (length cs) in
     let reached : Reaches tree (at ∷ first_of (c ∷ cs) (length cs)) n = subst (λ xs. Reaches tree xs n) (first_of-suc (c ∷ cs) (length cs) within) ((placement_of tree (c ∷ cs) (suc (length cs)) n refl).0 h) in
-    subst (λ k. IsTrue (has_key tree n (compound_key (component_at (c ∷ cs) k).compound))) last (met_has_key tree n at.compound reached.0)
+    subst (λ k. HasKey tree n (compound_key (component_at (c ∷ cs) k).compound)) last (met_has_key tree n at.compound reached.0)

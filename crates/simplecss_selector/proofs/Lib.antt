@@ -16,4 +16,6 @@ pub mod Counts
 pub mod FlatEquality
 pub mod Firsts
 pub mod KeyLemmas
+pub mod WantedLemmas
 pub mod Refused
+pub mod KeyBitLemmas

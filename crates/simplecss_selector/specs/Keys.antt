@@ -9,11 +9,12 @@ use Rattle.simplecss_selector.specs.Operators.{is_as_asked}
 use Rattle.simplecss_selector.specs.Shapes.{component_at}
 use Rattle.simplecss_selector.specs.Trees.{Tree}
 
--- an id, a class, a type name, or nothing
+-- an id, a class, a type name, an attribute of a name, or nothing
 pub data Key : Type 0 where
   by_id : List ℕ → Key
   by_class : List ℕ → Key
   by_name : List ℕ → Key
+  by_attribute : List ℕ → Key
   by_nothing : Key
 
 -- the text that the value is to equal, if the operator asks this
@@ -40,53 +41,62 @@ abbrev pub asked_class : Subselector → Option (List ℕ)
 asked_class (attribute name operator) = if bytes_eq name (codes "class") then wanted_word operator else None
 asked_class (pseudo_class class) = None
 
+-- the name of the attribute that a subselector asks, whatever it asks of its value
+abbrev pub asked_attribute : Subselector → Option (List ℕ)
+asked_attribute (attribute name operator) = Some name
+asked_attribute (pseudo_class class) = None
+
 -- the first that is asked by one of the subselectors
 abbrev pub first_asked : (Subselector → Option (List ℕ)) → List Subselector → Option (List ℕ)
 first_asked asked [] = None
 first_asked asked (s ∷ ss) = option_or (asked s) (first_asked asked ss)
 
--- the id, or else the class, or else the type name, or else nothing
-abbrev pub key_among : Option (List ℕ) → Option (List ℕ) → Option (List ℕ) → Key
-key_among (Some text) class name = by_id text
-key_among None (Some word) name = by_class word
-key_among None None (Some name) = by_name name
-key_among None None None = by_nothing
+-- the id, or else the class, or else the type name, or else the attribute, or else nothing
+abbrev pub key_among : Option (List ℕ) → Option (List ℕ) → Option (List ℕ) → Option (List ℕ) → Key
+key_among (Some text) class name other = by_id text
+key_among None (Some word) name other = by_class word
+key_among None None (Some name) other = by_name name
+key_among None None None (Some other) = by_attribute other
+key_among None None None None = by_nothing
 
--- the first id that a compound asks, or else the first class, or else its type name, or else
--- nothing
+-- the first id that a compound asks, or else the first class, or else its type name, or else the
+-- first attribute, or else nothing
 abbrev pub compound_key : Compound → Key
 compound_key compound =
-    key_among (first_asked asked_id compound.subselectors) (first_asked asked_class compound.subselectors) compound.name
+    key_among (first_asked asked_id compound.subselectors) (first_asked asked_class compound.subselectors) compound.name (first_asked asked_attribute compound.subselectors)
 
 -- the key of a selector is that of its last component
 abbrev pub key_of : List Component → Key
 key_of components = compound_key (component_at components (length components - 1)).compound
 
--- whether the node has what the key asks
-abbrev pub has_key : {Node : Type 0} → Tree Node → Node → Key → Bool
-has_key tree n (by_id text) = tree.has_attribute n (codes "id") (equals text)
-has_key tree n (by_class word) = tree.has_attribute n (codes "class") (has_word word)
-has_key tree n (by_name name) = tree.is_named n name
-has_key tree n by_nothing = true
+-- the node has what the key asks; of an attribute's value anything may be asked
+abbrev pub HasKey : {Node : Type 0} → Tree Node → Node → Key → Type 0
+HasKey tree n (by_id text) = IsTrue (tree.has_attribute n (codes "id") (equals text))
+HasKey tree n (by_class word) = IsTrue (tree.has_attribute n (codes "class") (has_word word))
+HasKey tree n (by_name name) = IsTrue (tree.is_named n name)
+HasKey tree n (by_attribute name) = (operator : Operator) × IsTrue (tree.has_attribute n name operator)
+HasKey tree n by_nothing = IsTrue true
 
 -- whether there is a value, and it is as the operator asks
 abbrev pub is_value_as_asked : Operator → Option (List ℕ) → Bool
 is_value_as_asked operator value = option_map_or (is_as_asked operator) value false
 
--- what an element tells of itself: its name, and the values of its attributes `id` and `class`,
--- where it has them
+-- what an element tells of itself: its name, the values of its attributes `id` and `class`, where
+-- it has them, and whether it has an attribute of a name
 pub record Told : Type 0 where
   pub name : List ℕ
   pub id : Option (List ℕ)
   pub class : Option (List ℕ)
+  pub has_attribute : List ℕ → Bool
 
 -- whether what is told has what the key asks
 abbrev pub tells_key : Told → Key → Bool
 tells_key told (by_id text) = is_value_as_asked (equals text) told.id
 tells_key told (by_class word) = is_value_as_asked (has_word word) told.class
 tells_key told (by_name name) = bytes_eq told.name name
+tells_key told (by_attribute name) = told.has_attribute name
 tells_key told by_nothing = true
 
 -- whatever key the node has is told; more may be told
 abbrev pub TellsKeys : {Node : Type 0} → Tree Node → Node → Told → Type 0
-TellsKeys tree n told = (key : Key) → IsTrue (has_key tree n key) → IsTrue (tells_key told key)
+TellsKeys tree n told = (key : Key) → HasKey tree n key → IsTrue (tells_key told key)

@@ -19,3 +19,6 @@ pub mod NextKinds
 pub mod KnownPseudoClasses
 pub mod Keys
 pub mod SeenKeys
+pub mod Wanted
+pub mod SeenWanted
+pub mod KeyBits

@@ -1,7 +1,7 @@
 //! The key of a selector: what its last component asks at least.
 ghost use Rattle.std.specs.Prelude.{◌≡◌, map};
 ghost use Rattle.std.specs.Option.{option_map};
-ghost use Rattle.simplecss_selector.specs.Keys.{asked_id, asked_class, first_asked};
+ghost use Rattle.simplecss_selector.specs.Keys.{asked_id, asked_class, asked_attribute, first_asked};
 ghost use Rattle.simplecss_selector.specs.SeenSelectors.{subselector_of};
 
 use crate::selector::SubSelector;
@@ -16,6 +16,8 @@ pub enum Key<'a> {
     Class(&'a str),
     /// The type name.
     Name(&'a str),
+    /// The name of an attribute, whatever is asked of its value.
+    Attribute(&'a str),
     /// None of these: every element has it.
     Any,
 }
@@ -41,6 +43,19 @@ pub(crate) fn first_class<'a>(subselectors: &[SubSelector<'a>]) -> Option<&'a st
     for subselector in subselectors {
         if let Some(word) = subselector.asked_class() {
             return Some(word);
+        }
+    }
+    None
+}
+
+/// The name of the first attribute that is asked.
+pub(crate) fn first_attribute<'a>(subselectors: &[SubSelector<'a>]) -> Option<&'a str>
+    ensures { option_map (λ name. name.now) result
+        ≡ first_asked asked_attribute (map subselector_of subselectors.now) }
+{
+    for subselector in subselectors {
+        if let Some(name) = subselector.asked_attribute() {
+            return Some(name);
         }
     }
     None

@@ -1,7 +1,7 @@
 //! Laws of keys.
 ghost use Rattle.std.specs.Prelude.{◌≡◌, ◌↔◌, IsTrue, List};
 ghost use Rattle.simplecss_text.specs.Components.{Component};
-ghost use Rattle.simplecss_selector.specs.Keys.{key_of, has_key};
+ghost use Rattle.simplecss_selector.specs.Keys.{key_of, HasKey};
 ghost use Rattle.simplecss_selector.specs.SeenKeys.{key_value};
 ghost use Rattle.simplecss_selector.specs.Placements.{HasPlacement};
 
@@ -16,5 +16,5 @@ pub fn key_equality_law()
 /// An element that a selector matches has what the selector's key asks.
 pub fn key_law<E: Element>()
     ensures { (components : List Component) (n : E.Node)
-        → HasPlacement E.tree components n → IsTrue (has_key E.tree n (key_of components)) }
+        → HasPlacement E.tree components n → HasKey E.tree n (key_of components) }
 {}

@@ -9,13 +9,13 @@ ghost use Rattle.simplecss_text.specs.Specificity.{is_id};
 ghost use Rattle.simplecss_selector.specs.Placements.{Holds};
 ghost use Rattle.simplecss_selector.specs.SeenCombinators.{combinator_of};
 ghost use Rattle.simplecss_selector.specs.SeenSelectors.{component_of_part, subselector_of};
-ghost use Rattle.simplecss_selector.specs.Keys.{asked_id, asked_class};
+ghost use Rattle.simplecss_selector.specs.Keys.{asked_id, asked_class, asked_attribute};
 
-use crate::key::{first_class, first_id};
+use crate::key::{first_attribute, first_class, first_id};
 use crate::matching::{goes_on, is_met_at};
 use crate::reading::read_front;
 use crate::specificity::{at_most_255, id_count, name_count};
-use crate::{AttributeOperator, Element, Key, PseudoClass, Tests, Warnings};
+use crate::{AttributeOperator, Element, Key, PseudoClass, Tests, Wanted, Warnings};
 use log::Log;
 use simplecss_text::report::Report;
 use std::alloc::{AllocError, Global};
@@ -132,6 +132,18 @@ impl<'a> SubSelector<'a> {
                 if name == "class" { Some(word) } else { None }
             }
             _ => None,
+        }
+    }
+
+    /// The name of the attribute that it asks.
+    #[inline(always)]
+    pub(crate) fn asked_attribute(&self) -> Option<&'a str>
+        ensures { option_map (λ name. name.now) result
+            ≡ asked_attribute (subselector_of self.now) }
+    {
+        match *self {
+            SubSelector::Attribute(name, _) => Some(name),
+            SubSelector::PseudoClass(_) => None,
         }
     }
 }
@@ -323,7 +335,12 @@ impl<'a> Selector<'a> {
 impl<'a> Selector<'a> {
     ghost use Rattle.std.specs.Prelude.{IfOk};
     ghost use Rattle.simplecss_text.specs.Specificity.{specificity};
-    ghost use Rattle.simplecss_selector.specs.Keys.{key_of};
+    ghost use Rattle.simplecss_selector.specs.Keys.{key_of, compound_key};
+    ghost use Rattle.simplecss_selector.specs.Shapes.{component_at};
+    ghost use Rattle.simplecss_selector.specs.KeyBits.{ancestor_bits, step_bits};
+    ghost use Rattle.simplecss_selector.specs.PlacementSearch.{first_of};
+    ghost use Rattle.simplecss_selector.specs.Wanted.{wanted_of};
+    ghost use Rattle.simplecss_selector.specs.SeenWanted.{wanted_value};
     ghost use Rattle.simplecss_selector.specs.SeenKeys.{key_value};
 
     /// How specific the selector is: the number of attributes named `id` with any operator, of all
@@ -345,23 +362,73 @@ impl<'a> Selector<'a> {
     }
 
     /// What the last component asks at least: the first text that it asks the attribute `id` to
-    /// equal, or else the first word that it asks of the attribute `class`, or else its type name.
-    /// An index of selectors keeps each under its key, so that an element is asked those alone
-    /// whose key it has.
+    /// equal, or else the first word that it asks of the attribute `class`, or else its type name,
+    /// or else the name of the first attribute that it asks anything of.
     pub fn key(&self) -> Key<'a>
         ensures { key_value result ≡ key_of self.now }
     {
-        let (part, subselectors) = self.component(self.last_place());
+        self.key_at(self.last_place())
+    }
+
+    /// What the component at this place asks at least.
+    pub(crate) fn key_at(&self, place: usize) -> Key<'a>
+        requires { place < length self.now }
+        ensures { key_value result ≡ compound_key (component_at self.now place).compound }
+    {
+        let (part, subselectors) = self.component(place);
         if let Some(text) = first_id(subselectors) {
             return Key::Id(text);
         }
         if let Some(word) = first_class(subselectors) {
             return Key::Class(word);
         }
-        match part.name {
-            Some(name) => Key::Name(name),
+        if let Some(name) = part.name {
+            return Key::Name(name);
+        }
+        match first_attribute(subselectors) {
+            Some(name) => Key::Attribute(name),
             None => Key::Any,
         }
+    }
+
+    /// What an index finds the selector by: the key of its last component, which the element must
+    /// have. If that is `Key::Any` and a child or an adjacent combinator joins it to the component
+    /// before, the key of that component, which the element's parent or previous sibling must have.
+    pub fn wanted(&self) -> Wanted<'a>
+        ensures { wanted_value result ≡ wanted_of self.now }
+    {
+        let last = self.last_place();
+        let key = self.key_at(last);
+        if last == 0 {
+            return Wanted::OfElement(key);
+        }
+        let before = self.key_at(last - 1);
+        wanted_by(key, self.combinator(last), before)
+    }
+
+    /// The bits of the key of the component that the combinator of the one at this place leads back
+    /// to, if it leads to an ancestor.
+    fn step_bits(&self, place: usize) -> u64
+        requires { place < length self.now }
+        ensures { result
+            ≡ step_bits (component_at self.now place).combinator (first_of self.now place) }
+    {
+        match self.combinator(place) {
+            Combinator::Child | Combinator::Descendant => self.key_at(place - 1).bits(),
+            Combinator::None | Combinator::Adjacent => 0,
+        }
+    }
+
+    /// The bits (`Key::bits`) of the keys that an element's ancestors must have for the selector to
+    /// match it: of each component that a child or a descendant combinator leads back to.
+    pub fn ancestor_bits(&self) -> u64
+        ensures { result ≡ ancestor_bits self.now }
+    {
+        let mut bits = 0;
+        for place in 0..self.len() {
+            bits |= self.step_bits(place);
+        }
+        bits
     }
 
     /// An equal selector, in memory of the same allocator.

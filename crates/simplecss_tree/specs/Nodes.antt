@@ -1,14 +1,15 @@
 -- The elements of a tree as nodes, and what each answers to a selector.
-use Rattle.std.specs.Prelude.{ℕ, Bool, true, false, List, [], ◌∷◌, ◌&&◌, length, take, drop, Option, None, Some, bytes_eq, codes, is_none, ◌==◌, if◌then◌else◌}
+use Rattle.std.specs.Prelude.{ℕ, Bool, true, false, List, [], ◌∷◌, ◌&&◌, length, take, drop, Option, None, Some, bytes_eq, codes, is_none, is_some, IsTrue, ◌==◌, if◌then◌else◌}
+use Rattle.std.proofs.Common.{refl}
 use Rattle.std.specs.List.{slice_get}
 use Rattle.std.specs.Option.{option_map_or, option_and_then, option_or}
 use Rattle.std.specs.Str.{str_eq_ignore_ascii_case}
 use Rattle.simplecss.specs.AsciiBytes.{hyphen}
-use Rattle.simplecss.specs.Components.{KnownPseudoClass}
+use Rattle.simplecss.specs.Components.{KnownPseudoClass, Operator}
 use Rattle.simplecss.specs.Components.KnownPseudoClass.{first_child, link, visited, hover, active, focus, lang}
 use Rattle.simplecss.specs.ListTrees.{ListOf, ancestors, sibling_by, list_tree}
 use Rattle.simplecss.specs.Keys.{Told, TellsKeys}
-use Rattle.simplecss.specs.Keys.Key.{by_id, by_class, by_name, by_nothing}
+use Rattle.simplecss.specs.Keys.Key.{by_id, by_class, by_name, by_attribute, by_nothing}
 use Rattle.simplecss.specs.Operators.{is_as_asked}
 use Rattle.simplecss.specs.Trees.{Tree}
 use Rattle.simplecss_tree.specs.Rows.{Row, no_states}
@@ -87,13 +88,20 @@ elements = record {
 abbrev pub element_tree : Tree (List Row × ℕ)
 element_tree = list_tree elements
 
--- the name of the element at a place, and the values of its attributes `id` and `class`
+-- the name of the element at a place, the values of its attributes `id` and `class`, and which
+-- attributes it has
 abbrev pub told_at : List Row × ℕ → Told
 told_at (rows, i) = record {
   name = name_at rows i;
   id = attribute_at rows i (codes "id");
   class = attribute_at rows i (codes "class");
+  has_attribute = λ name. is_some (attribute_at rows i name);
 }
+
+-- a value that is as asked is there
+value_there : (r : Option (List ℕ)) (o : Operator) → IsTrue (option_map_or (is_as_asked o) r false) → IsTrue (is_some r)
+value_there None o h = absurd (cc)
+value_there (Some v) o h = refl
 
 -- An element tells what it answers by. This is proved here since the trait `Keyed` asks for it: the
 -- impl names it, so it is part of what is stated.
@@ -101,4 +109,5 @@ pub keys_told : (n : List Row × ℕ) → TellsKeys element_tree n (told_at n)
 keys_told n (by_id text) h = h
 keys_told n (by_class word) h = h
 keys_told n (by_name name) h = h
+keys_told n (by_attribute name) (o, h) = value_there (attribute_at n.0 n.1 name) o h
 keys_told n by_nothing h = h

@@ -1,15 +1,20 @@
-//! The places of the rules whose key an element tells.
-ghost use Rattle.std.specs.Prelude.{◌≡◌, ◌<◌, ◌↔◌, ℕ, OnOk, Contains, length};
+//! The places of the rules whose key an element or one of its neighbours reports.
+ghost use Rattle.std.specs.Prelude.{◌≡◌, ◌<◌, ◌↔◌, ℕ, OnOk, Contains, Option, Some, length, filter};
 ghost use Rattle.std.specs.List.Sorted.{IsStrictlyIncreasing};
 ghost use Rattle.std.specs.Option.{option_map};
 ghost use Rattle.simplecss_selector.specs.SeenKeys.{key_value};
-ghost use Rattle.simplecss.specs.Lasts.{last_for, IdLeads, ClassLeads, KeyLeads};
-ghost use Rattle.simplecss.specs.Matching.{AreCandidates};
-ghost use Rattle.simplecss.specs.SelectorPlaces.{key_at, Adds};
+ghost use Rattle.simplecss.specs.Lasts.{last_for, IdLeads, ClassLeads, AttributeLeads, KeyLeads};
+ghost use Rattle.simplecss_selector.specs.Keys.{Told};
+ghost use Rattle.simplecss_selector.specs.KeyBits.{CoversAncestors};
+ghost use Rattle.simplecss_selector.specs.Wanted.{Near, IsNear, IsToldOf};
+ghost use Rattle.simplecss.specs.WantedLasts.{NeighbourLeads, WantedLeads};
+ghost use Rattle.simplecss.specs.Matching.{AreKeyed, AreCandidates, is_covered};
+ghost use Rattle.simplecss.specs.SelectorPlaces.{key_at, selector_at, Adds};
 
 use super::lasts::Lasts;
 use super::rule_index::RuleIndex;
-use simplecss_selector::{Key, Keyed};
+use super::wanted_lasts::WantedLasts;
+use simplecss_selector::{AttributeOperator, Key, Keyed};
 use std::alloc::AllocError;
 
 /// Puts the places in order, each once.
@@ -45,6 +50,41 @@ fn push_id(lasts: &Lasts<'_>, id: Option<&str>, places: &mut Vec<usize>) -> Resu
     }
 }
 
+/// Whether looking for each class of the sheet in the value takes less than looking up each word of
+/// the value. So a class value of a thousand words costs no more than testing the rules.
+#[inline(always)]
+fn are_few(lasts: &Lasts<'_>, value: &str) -> bool {
+    lasts.classes.len() <= value.len() / 64
+}
+
+/// Adds the last places of the classes that are words in a value: looks for each class in it.
+fn push_classes_within(
+    lasts: &Lasts<'_>,
+    value: &str,
+    places: &mut Vec<usize>,
+) -> Result<(), AllocError>
+    ensures { OnOk result (Adds places.old.items places.new.items
+        (ClassLeads lasts.now (Some value.now))) }
+{
+    for (word, place) in &lasts.classes {
+        if AttributeOperator::Contains(word).matches(value) {
+            places.push(*place)?;
+        }
+    }
+    Ok(())
+}
+
+/// Adds the last places of the classes that are words in a value: looks up each word.
+fn push_words(lasts: &Lasts<'_>, value: &str, places: &mut Vec<usize>) -> Result<(), AllocError>
+    ensures { OnOk result (Adds places.old.items places.new.items
+        (ClassLeads lasts.now (Some value.now))) }
+{
+    for word in value.split(' ') {
+        push_last(lasts, Key::Class(word), places)?;
+    }
+    Ok(())
+}
+
 /// Adds the last places of the classes that are words in the value of an attribute `class`, if
 /// there is one.
 fn push_classes(
@@ -58,8 +98,25 @@ fn push_classes(
     let Some(value) = class else {
         return Ok(());
     };
-    for word in value.split(' ') {
-        push_last(lasts, Key::Class(word), places)?;
+    if are_few(lasts, value) {
+        return push_classes_within(lasts, value, places);
+    }
+    push_words(lasts, value, places)
+}
+
+/// Adds the last places of the attributes that the element has.
+fn push_attributes<E: Keyed>(
+    lasts: &Lasts<'_>,
+    element: &E,
+    places: &mut Vec<usize>,
+) -> Result<(), AllocError>
+    ensures { OnOk result (Adds places.old.items places.new.items
+        (AttributeLeads lasts.now (E.told element.now).has_attribute)) }
+{
+    for (name, place) in &lasts.attributes {
+        if element.has_attribute(name) {
+            places.push(*place)?;
+        }
     }
     Ok(())
 }
@@ -73,10 +130,44 @@ fn push_keys_of<E: Keyed>(
     ensures { OnOk result (Adds places.old.items places.new.items
         (KeyLeads (E.told element.now) lasts.now)) }
 {
+    if lasts.is_empty() {
+        return Ok(());
+    }
     push_last(lasts, Key::Any, places)?;
     push_last(lasts, Key::Name(element.local_name()), places)?;
     push_id(lasts, element.id_value(), places)?;
-    push_classes(lasts, element.class_value(), places)
+    push_classes(lasts, element.class_value(), places)?;
+    push_attributes(lasts, element, places)
+}
+
+/// Adds the last places of the keys that a neighbour tells, if it is there.
+fn push_neighbour<E: Keyed>(
+    lasts: &Lasts<'_>,
+    neighbour: Option<E>,
+    places: &mut Vec<usize>,
+) -> Result<(), AllocError>
+    ensures { OnOk result ((told : Option Told)
+        × IsToldOf E.node E.told (option_map E.node neighbour) told
+        × Adds places.old.items places.new.items (NeighbourLeads lasts.now told)) }
+{
+    match neighbour {
+        Some(node) => push_keys_of(lasts, &node, places),
+        None => Ok(()),
+    }
+}
+
+/// Adds the last places of what the element, its parent and its previous sibling tell.
+fn push_near<E: Keyed>(
+    lasts: &WantedLasts<'_>,
+    element: &E,
+    places: &mut Vec<usize>,
+) -> Result<(), AllocError>
+    ensures { OnOk result ((near : Near) × IsNear E.tree E.node E.told element.now near
+        × Adds places.old.items places.new.items (WantedLeads near lasts.now)) }
+{
+    push_keys_of(&lasts.own, element, places)?;
+    push_neighbour(&lasts.parent, element.parent_element(), places)?;
+    push_neighbour(&lasts.previous, element.prev_sibling_element(), places)
 }
 
 /// Adds the earlier places with the key of this one.
@@ -110,20 +201,47 @@ fn push_all_earlier(rule_index: &RuleIndex<'_>, places: &mut Vec<usize>) -> Resu
     Ok(())
 }
 
-/// Leaves the places of the rules whose key the element tells, in order. A word that the
-/// element's class repeats costs one look-up and one place more, and that place is dropped before
-/// the chains are followed.
+/// Leaves the places of the rules whose key is reported, in order. A word that the element's class
+/// repeats costs one look-up and one place more, and that place is dropped before the chains are
+/// followed.
+#[inline(always)]
+fn find_keyed<E: Keyed>(
+    rule_index: &RuleIndex<'_>,
+    element: &E,
+    places: &mut Vec<usize>,
+) -> Result<(), AllocError>
+    ensures { OnOk result ((near : Near) × IsNear E.tree E.node E.told element.now near
+        × AreKeyed near rule_index.now places.new.items) }
+{
+    places.clear();
+    push_near(&rule_index.lasts, element, places)?;
+    sort_once(places);
+    push_all_earlier(rule_index, places)?;
+    sort_once(places);
+    Ok(())
+}
+
+/// Keeps the places of the rules whose ancestors' keys the bits cover.
+#[inline(always)]
+fn keep_covered(rule_index: &RuleIndex<'_>, above: u64, places: &mut Vec<usize>)
+    ensures { places.new.items ≡ filter
+        (λ place. is_covered above (selector_at rule_index.now place)) places.old.items }
+{
+    places.retain(|place| rule_index.is_covered(*place, above));
+}
+
+/// Leaves the places of the rules that are to be tested, in order: those whose key is reported, and
+/// whose ancestors' keys are among those of the element's ancestors, as far as their bits show.
 pub(crate) fn candidates<E: Keyed>(
     rule_index: &RuleIndex<'_>,
     element: &E,
     places: &mut Vec<usize>,
 ) -> Result<(), AllocError>
-    ensures { OnOk result (AreCandidates (E.told element.now) rule_index.now places.new.items) }
+    ensures { OnOk result ((near : Near) × IsNear E.tree E.node E.told element.now near
+        × (above : ℕ) × CoversAncestors E.tree (E.node element.now) above
+        × AreCandidates near above rule_index.now places.new.items) }
 {
-    places.clear();
-    push_keys_of(&rule_index.lasts, element, places)?;
-    sort_once(places);
-    push_all_earlier(rule_index, places)?;
-    sort_once(places);
+    find_keyed(rule_index, element, places)?;
+    keep_covered(rule_index, element.ancestor_bits(), places);
     Ok(())
 }

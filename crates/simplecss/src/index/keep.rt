@@ -26,6 +26,9 @@ pub(crate) fn keep_matching<E: Element>(
     ensures counted { tests.new ≤ tests.old + sum_by
         (λ place. most_tests E.tree (E.node element.now)
         (selector_at (map (λ rule. rule.selector) rules.now) place)) places.old }
+
+    // Each is tested at least once.
+    ensures tested { tests.old + length places.old ≤ tests.new }
 {
     let mut kept = 0;
     'places: for i in 0..places.len() {

@@ -1,5 +1,5 @@
 //! The last place that each key has.
-ghost use Rattle.std.specs.Prelude.{◌≡◌, IfOk, OnOk, None};
+ghost use Rattle.std.specs.Prelude.{◌≡◌, IfOk, OnOk, None, IsTrue};
 ghost use Rattle.simplecss_selector.specs.Keys.{Key as KeyValue};
 ghost use Rattle.simplecss_selector.specs.SeenKeys.{key_value};
 ghost use Rattle.simplecss.specs.Lasts.{last_for, TakesPlace};
@@ -15,9 +15,11 @@ pub(crate) struct Lasts<'a> {
     /// By the id.
     ids: BTreeMap<&'a str, usize>,
     /// By the class.
-    classes: BTreeMap<&'a str, usize>,
+    pub(crate) classes: BTreeMap<&'a str, usize>,
     /// By the type name.
     names: BTreeMap<&'a str, usize>,
+    /// By the name of an attribute.
+    pub(crate) attributes: BTreeMap<&'a str, usize>,
     /// The place under the key that every element has.
     any: Option<usize>,
 }
@@ -31,8 +33,20 @@ impl<'a> Lasts<'a> {
             ids: BTreeMap::new(alloc),
             classes: BTreeMap::new(alloc),
             names: BTreeMap::new(alloc),
+            attributes: BTreeMap::new(alloc),
             any: None,
         }
+    }
+
+    /// Whether no key has a place.
+    pub(crate) fn is_empty(&self) -> bool
+        ensures { IsTrue result → (key : KeyValue) → last_for self.now key ≡ None }
+    {
+        self.any.is_none()
+            && self.names.is_empty()
+            && self.ids.is_empty()
+            && self.classes.is_empty()
+            && self.attributes.is_empty()
     }
 
     /// The last place of the key, if it has one.
@@ -43,6 +57,7 @@ impl<'a> Lasts<'a> {
             Key::Id(text) => self.ids.get(text).copied(),
             Key::Class(word) => self.classes.get(word).copied(),
             Key::Name(name) => self.names.get(name).copied(),
+            Key::Attribute(name) => self.attributes.get(name).copied(),
             Key::Any => self.any,
         }
     }
@@ -60,6 +75,7 @@ impl<'a> Lasts<'a> {
             Key::Id(text) => self.ids.insert(text, place),
             Key::Class(word) => self.classes.insert(word, place),
             Key::Name(name) => self.names.insert(name, place),
+            Key::Attribute(name) => self.attributes.insert(name, place),
             Key::Any => Ok(self.any.replace(place)),
         };
         Ok(known?)

@@ -1,34 +1,27 @@
 //! An index of rules by the keys of their selectors.
-ghost use Rattle.std.specs.Prelude.{◌≡◌, ◌+◌, ◌<◌, ◌≤◌, ◌∷◌, ◌++◌, [], IfOk, OnOk};
+ghost use Rattle.std.specs.Prelude.{◌≡◌, ℕ, ◌+◌, ◌<◌, ◌≤◌, ◌∷◌, ◌++◌, [], IfOk, OnOk};
 ghost use Rattle.std.specs.Prelude.{OnErr, length, map};
 ghost use Rattle.std.specs.List.{sum_by};
+ghost use Rattle.simplecss_selector.specs.KeyBits.{CoversAncestors};
+ghost use Rattle.simplecss_selector.specs.Wanted.{Near, IsNear};
 ghost use Rattle.simplecss.specs.Chains.{selectors_of, IsLastBefore, AreChained};
-ghost use Rattle.simplecss.specs.SelectorPlaces.{key_at};
-ghost use Rattle.simplecss.specs.Matching.{AreMatches, most_tests, keyed_for};
+ghost use Rattle.simplecss.specs.SelectorPlaces.{key_at, selector_at};
+ghost use Rattle.simplecss.specs.Matching.{AreMatches, most_tests, is_covered, tested_for};
 
 use super::find::candidates;
 use super::keep::keep_matching;
-use super::lasts::Lasts;
+use super::link::Link;
+use super::wanted_lasts::WantedLasts;
 use crate::sheet::Rule;
-use simplecss_selector::{Keyed, Selector, Tests};
+use simplecss_selector::{Keyed, Tests};
 use std::alloc::{AllocError, Global};
 use std::marker::Model;
-use std::snapshot::Snapshot;
-
-/// What an index keeps of a rule.
-#[derive(Drop)]
-struct Link<'a> {
-    /// The place of the last earlier rule with the same key.
-    earlier: Option<usize>,
-    /// The selector, which contracts alone see. It takes no bytes.
-    selector: Snapshot<Selector<'a>>,
-}
 
 /// Puts the links of the rules behind the others, in order: each place is put under the key of its
 /// selector, with a link to the last earlier place with that key.
 #[inline(always)]
 fn push_links<'a>(
-    lasts: &mut Lasts<'a>,
+    lasts: &mut WantedLasts<'a>,
     links: &mut Vec<Link<'a>>,
     rules: &[Rule<'a>],
 ) -> Result<(), AllocError>
@@ -38,11 +31,8 @@ fn push_links<'a>(
         ≡ selectors_of links.old.items ++ map (λ rule. rule.selector) rules.now) }
 {
     for rule in rules {
-        let earlier = lasts.replace(rule.selector.key(), links.len())?;
-        links.push(Link {
-            earlier,
-            selector: Snapshot::of(&rule.selector),
-        })?;
+        let earlier = lasts.replace(rule.selector.wanted(), links.len())?;
+        links.push(Link::new(earlier, &rule.selector))?;
     }
     Ok(())
 }
@@ -68,7 +58,7 @@ fn push_links<'a>(
 #[derive(Drop)]
 pub struct RuleIndex<'a> {
     /// The last place of each key.
-    pub(crate) lasts: Lasts<'a>,
+    pub(crate) lasts: WantedLasts<'a>,
     /// For each rule, in order, how it is chained to the earlier ones.
     links: Vec<Link<'a>>,
 }
@@ -92,7 +82,7 @@ impl<'a> RuleIndex<'a> {
         ensures { IfOk result (λ index. index ≡ map (λ rule. rule.selector) rules.now) }
     {
         let mut links = Vec::with_capacity(alloc, rules.len())?;
-        let mut lasts = Lasts::new(alloc);
+        let mut lasts = WantedLasts::new(alloc);
         push_links(&mut lasts, &mut links, rules)?;
         Ok(RuleIndex { lasts, links })
     }
@@ -104,6 +94,18 @@ impl<'a> RuleIndex<'a> {
         ensures { IsLastBefore self.now place (key_at self.now place) result }
     {
         self.links[place].earlier
+    }
+
+    /// Whether the bits cover those of the keys that the rule at this place wants of an element's
+    /// ancestors.
+    #[inline(always)]
+    pub(crate) fn is_covered(&self, place: usize, above: u64) -> bool
+        ensures { result ≡ is_covered above (selector_at self.now place) }
+    {
+        match self.links.get(place) {
+            Some(link) => above | link.ancestors == above,
+            None => true,
+        }
     }
 
     /// The places of the rules that match the element, in order: what asking each rule would give.
@@ -127,8 +129,9 @@ impl<'a> RuleIndex<'a> {
         self.matching_counted(rules, element, places, &mut Tests::new())
     }
 
-    /// `matching`, with a count of the tests that were made. No rule is asked whose key the element
-    /// does not tell.
+    /// `matching`, with a count of the tests that were made. A rule is tested only if its key is
+    /// reported (`Selector::wanted`: by the element, its parent or its previous sibling), and
+    /// `Keyed::ancestor_bits` covers the bits of `Selector::ancestor_bits`.
     pub fn matching_counted<E: Keyed>(
         &self,
         rules: &[Rule<'a>],
@@ -139,8 +142,12 @@ impl<'a> RuleIndex<'a> {
         requires { self.now ≡ map (λ rule. rule.selector) rules.now }
         ensures matches { OnOk result
             (AreMatches E.tree (E.node element.now) self.now places.new.items) }
-        ensures at_most { tests.new ≤ tests.old + sum_by (most_tests E.tree (E.node element.now))
-            (keyed_for (E.told element.now) self.now) }
+        ensures tests { OnOk result ((near : Near)
+            × IsNear E.tree E.node E.told element.now near
+            × (above : ℕ) × CoversAncestors E.tree (E.node element.now) above
+            × (tests.old + length (tested_for near above self.now) ≤ tests.new)
+            × (tests.new ≤ tests.old + sum_by (most_tests E.tree (E.node element.now))
+            (tested_for near above self.now))) }
         ensures err { OnErr result (places.new.items ≡ []) }
         ensures untested { OnErr result (tests.new ≡ tests.old) }
     {

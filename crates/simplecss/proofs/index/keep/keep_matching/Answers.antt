@@ -11,7 +11,7 @@ use Rattle.simplecss.proofs.index.keep.keep_matching.Goals as goal
 use Rattle.simplecss.proofs.index.keep.keep_matching.Goals.{then-matches_counted, else-matches_counted}
 
 pub places-init : goal.places-init
-places-init g c = record { keeps = keep_none _ c.args.places.now; tested = omega arith }
+places-init g c = record { keeps = keep_none _ c.args.places.now; least = omega arith; tested = omega arith }
 
 pub places-preserved : goal.places-preserved
 places-preserved g c =
@@ -29,6 +29,7 @@ places-preserved g c =
     ] in
     record {
       keeps = keeps;
+      least = omega (arith, c.places.invariant.least, c.matches_counted.ensures.at_least_one);
       tested = asked_more (λ rule. rule.selector) IsMet rules places c.places.places c.places.kept c.places.i v before lt c.requires.within cost c.args.tests.now c.places.tests c.matches_counted.new.tests c.places.invariant.tested c.matches_counted.ensures.at_most_by_stretches;
     }
 
@@ -39,3 +40,6 @@ pub returns-clause-counted : goal.returns-clause-counted
 returns-clause-counted g c =
     subst (λ ps. c.places.tests ≤ c.args.tests.now + sum_by (λ place. most_tests g.E.Element.tree (g.E.Element.node c.args.element.now) (selector_at (map (λ rule. rule.selector) c.args.rules.now) place)) ps)
     (take_all c.places.i c.args.places.now c.places-test.false) c.places.invariant.tested
+
+pub returns-clause-tested : goal.returns-clause-tested
+returns-clause-tested g c = omega (arith, c.places-test.false, c.places.invariant.least)

@@ -6,9 +6,10 @@ use Rattle.simplecss.specs.SelectorPlaces.{selector_at}
 use Rattle.simplecss.proofs.Keeping.{Keeps}
 use Rattle.simplecss.proofs.index.keep.keep_matching.Given as goal
 
--- of the first places those that match are kept, and each was asked
+-- of the first places those that match are kept, and each was tested
 abbrev pub invariant-places : goal.invariant-places
 invariant-places g l = record {
   keeps : Keeps (λ place. HasPlacement g.E.Element.tree (selector_at (map (λ rule. rule.selector) l.rules) place) (g.E.Element.node l.element)) l.initial.places l.places l.kept l.i;
+  least : l.initial.tests + l.i ≤ l.tests;
   tested : l.tests ≤ l.initial.tests + sum_by (λ place. most_tests g.E.Element.tree (g.E.Element.node l.element) (selector_at (map (λ rule. rule.selector) l.rules) place)) (take l.i l.initial.places);
 }

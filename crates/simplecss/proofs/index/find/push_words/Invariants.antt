@@ -1,7 +1,7 @@
 use Rattle.std.proofs.Common.{map}
 use Rattle.simplecss.specs.SelectorPlaces.{Adds}
 use Rattle.simplecss.proofs.LastPlaces.{OfClasses}
-use Rattle.simplecss.proofs.index.find.push_classes.Given as goal
+use Rattle.simplecss.proofs.index.find.push_words.Given as goal
 
 -- the places of the words so far were added
 abbrev pub invariant-loop-word : goal.invariant-loop-word

@@ -1,0 +1,49 @@
+//! What an index finds a selector by.
+ghost use Rattle.std.specs.Prelude.{◌≡◌, List};
+ghost use Rattle.simplecss_text.specs.Components.{Component};
+ghost use Rattle.simplecss_selector.specs.Placements.{HasPlacement};
+ghost use Rattle.simplecss_selector.specs.SeenCombinators.{combinator_of};
+ghost use Rattle.simplecss_selector.specs.SeenKeys.{key_value};
+ghost use Rattle.simplecss_selector.specs.SeenWanted.{wanted_value};
+ghost use Rattle.simplecss_selector.specs.Wanted.{wanted_by, wanted_of, HasWanted, Near, IsNear, TellsWanted};
+
+use crate::selector::Combinator;
+use crate::{Element, Key, Keyed};
+
+/// What an index finds a selector by: a key, and which node is to have it.
+#[derive(Clone, Copy, Debug, PartialEq)]
+pub enum Wanted<'a> {
+    /// The element itself.
+    OfElement(Key<'a>),
+    /// Its parent.
+    OfParent(Key<'a>),
+    /// Its previous sibling.
+    OfPrevious(Key<'a>),
+}
+
+/// The key, or that of the component before where it asks nothing and a step leads there.
+pub(crate) fn wanted_by<'a>(key: Key<'a>, combinator: Combinator, before: Key<'a>) -> Wanted<'a>
+    ensures { wanted_value result
+        ≡ wanted_by (key_value key.entry) (combinator_of combinator) (key_value before.entry) }
+{
+    match key {
+        Key::Any => match combinator {
+            Combinator::Child => Wanted::OfParent(before),
+            Combinator::Adjacent => Wanted::OfPrevious(before),
+            Combinator::None | Combinator::Descendant => Wanted::OfElement(Key::Any),
+        },
+        Key::Id(_) | Key::Class(_) | Key::Name(_) | Key::Attribute(_) => Wanted::OfElement(key),
+    }
+}
+
+/// An element that a selector matches has what is wanted, or its parent or previous sibling has.
+pub fn wanted_law<E: Element>()
+    ensures { (components : List Component) (n : E.Node)
+        → HasPlacement E.tree components n → HasWanted E.tree n (wanted_of components) }
+{}
+
+/// What an element and its neighbours tell has all that is wanted and that they have.
+pub fn told_near_law<E: Keyed>()
+    ensures { (element : E) (near : Near) → IsNear E.tree E.node E.told element near
+        → TellsWanted E.tree (E.node element) near }
+{}
