@@ -42,7 +42,9 @@ impl<'n, 'a, W: Write + Drop> FaultLines<'n, 'a, W> {
     /// written.
     pub fn finish(self) -> io::Result<()> {
         let FaultLines {
-            mut out, outcome, ..
+            mut out,
+            outcome,
+            ..
         } = self;
         outcome?;
         out.flush()

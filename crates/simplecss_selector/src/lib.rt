@@ -21,8 +21,8 @@ mod selector;
 mod specificity;
 mod token;
 mod tokenizer;
-mod warnings;
 mod wanted;
+mod warnings;
 
 pub use counter::Tests;
 pub use element::Element;
@@ -37,5 +37,5 @@ pub use operator_laws::operator_equality_laws;
 pub use selector::Selector;
 pub use token::SelectorToken;
 pub use tokenizer::SelectorTokenizer;
-pub use warnings::Warnings;
 pub use wanted::{Wanted, told_near_law, wanted_law};
+pub use warnings::Warnings;

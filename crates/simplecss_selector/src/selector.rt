@@ -15,6 +15,7 @@ use crate::key::{first_attribute, first_class, first_id};
 use crate::matching::{goes_on, is_met_at};
 use crate::reading::read_front;
 use crate::specificity::{at_most_255, id_count, name_count};
+use crate::wanted::wanted_by;
 use crate::{AttributeOperator, Element, Key, PseudoClass, Tests, Wanted, Warnings};
 use log::Log;
 use simplecss_text::report::Report;

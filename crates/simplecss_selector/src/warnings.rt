@@ -29,9 +29,7 @@ fn warn_of<R: Log>(rt: &R, why: Why<'_>) {
         Why::Selector(Refusal::UnknownClass(name)) => {
             warn!(rt; "':{}' is not supported. Selector skipped.", name)
         }
-        Why::AtRule(Some(name)) => {
-            warn!(rt; "The @{} rule is not supported. Skipped.", name)
-        }
+        Why::AtRule(Some(name)) => { warn!(rt; "The @{} rule is not supported. Skipped.", name) }
         _ => {}
     }
 }

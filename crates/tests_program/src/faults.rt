@@ -18,7 +18,10 @@ const FOUND: &[(&str, &str)] = &[
         // A refused last selector takes all up to the block.
         "3:4: 'a < b , c': invalid ident\n",
     ),
-    ("\u{e9}, \u{e9} < { b:c }", "1:4: '\u{e9} <': invalid ident\n"),
+    (
+        "\u{e9}, \u{e9} < { b:c }",
+        "1:4: '\u{e9} <': invalid ident\n",
+    ),
     ("a:foo { b:c }", "1:1: 'a:foo': unknown pseudo-class\n"),
     ("a > { b:c }", "1:1: 'a >': selector missing\n"),
     (
@@ -30,17 +33,17 @@ const FOUND: &[(&str, &str)] = &[
         "a { b:c;\n  d e; f:g }\nh { :i }",
         "2:3: 'd e': broken declaration\n3:5: ':i': broken declaration\n",
     ),
-    ("a { b:c } /* d */ /* e", "1:19: '/* e': comment not closed\n"),
+    (
+        "a { b:c } /* d */ /* e",
+        "1:19: '/* e': comment not closed\n",
+    ),
     (
         // The comment belongs to what stands behind the declaration, and so the declaration is
         // broken.
         "a { b:c; /* d } e",
         "1:5: 'b:c': broken declaration\n",
     ),
-    (
-        ", a { b:c }",
-        "1:1: ',': comma before a selector\n",
-    ),
+    (", a { b:c }", "1:1: ',': comma before a selector\n"),
     (
         "a/b { c:d }",
         "1:2: '/b': unexpected text after a selector\n",

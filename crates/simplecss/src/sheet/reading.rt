@@ -31,10 +31,7 @@ pub(crate) fn at_statement(s: &mut Stream<'_>) -> bool
 }
 
 /// Reports a comment that is open behind a blank, if one is.
-pub(crate) fn report_end<'a, P: Report<'a>>(
-    report: &mut P,
-    text: &'a str,
-) -> Result<(), AllocError>
+pub(crate) fn report_end<'a, P: Report<'a>>(report: &mut P, text: &'a str) -> Result<(), AllocError>
     ensures { OnOk result
         (P.state report.new ≡ add_each P.add (P.state report.old) (end_skips text.now)) }
 {

@@ -38,9 +38,9 @@ fn report_left<'a, P: Report<'a>>(report: &mut P, rest: &'a str) -> Result<(), A
 #[inline(never)]
 fn report_stray<'a, P: Report<'a>>(report: &mut P, from: &'a str) -> Result<(), AllocError>
     ensures { OnOk result (P.state report.new ≡ add_each P.add (P.state report.old) (record {
-        from = from.now;
-        after = from_brace from.now;
-        why = why_after (from_brace from.now);
+      from = from.now;
+      after = from_brace from.now;
+      why = why_after (from_brace from.now);
     } ∷ [])) }
 {
     let after = readers::from_brace(from);

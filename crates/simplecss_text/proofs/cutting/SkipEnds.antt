@@ -67,8 +67,10 @@ up_to-within {A = A} skips last read ends each last_in (suc n) text = by (up_to-
   where
     more : List ℕ → List (List Skip) × List ℕ
     more = up_to n (skips_with skips read)
+
     found : Option (A × List ℕ) → List (List Skip) × List ℕ
     found o = and_then text (option_map (λ (x : A × List ℕ). (skips text, x.1)) o) more
+
     by : ((t : List ℕ) → AllWithin t (flat_map (λ (xs : List Skip). xs) (more t).0 ++ last (more t).1)) → (o : Option (A × List ℕ)) → EndsFound text o → AllWithin text (flat_map (λ (xs : List Skip). xs) (found o).0 ++ last (found o).1)
     by rest None h = last_in text
     by rest (Some x) h = subst (AllWithin text) (sym (append_assoc (skips text) (flat_map (λ (xs : List Skip). xs) (more x.1).0) (last (more x.1).1)))
@@ -110,6 +112,7 @@ selector_skips-within edition text = by (refusal_in text (sequence_of edition te
   where
     rest : List ℕ
     rest = past is_space (reads edition text).1
+
     by : (o : Option Refusal) → refusal_in text (sequence_of edition text) ≡ o → AllWithin text (refused_part text rest o)
     by None e = tt
     by (Some r) e = ((ends-past_blank text, past_refused-ends text rest (part-ends edition text), refusal_in-within text (sequence_of edition text) r e), tt)
@@ -186,6 +189,7 @@ ends-past_semicolon_or_block text = by (starts 123 text)
   where
     inner : List ℕ
     inner = past_one text
+
     by : (k : Bool) → Ends text (if k then past_byte 125 (from_block_end inner) else past_byte 59 text)
     by true = ends-ends text inner (past_byte 125 (from_block_end inner)) (ends-past_one text) (ends-ends inner (from_block_end inner) (past_byte 125 (from_block_end inner)) (ends-from_block_end inner) (ends-past_byte 125 (from_block_end inner)))
     by false = ends-past_byte 59 text

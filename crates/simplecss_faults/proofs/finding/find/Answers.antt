@@ -14,8 +14,8 @@ returns c known ends =
     let place : ℕ = c.saturating_sub-place.result in
     let boundary : IsCharBoundary text place = subst (IsCharBoundary text) (sym c.saturating_sub-place.ensures) (boundary_at_rest text c.args.rest.now ends c.utf8.rest) in
     let counted : c.position_from-pos.result ≡ position text place =
-        elim c.if-place-known.branch [
-          | then-place-known w ↦ c.position_from-pos.ensures (subst (IsKnown text) (sym w.from-is) (boundary_at_start text c.utf8.text, position-start text)) boundary (subst (λ (k : Known). k.place ≤ place) (sym w.from-is) (omega arith))
-          | else-place-known w ↦ c.position_from-pos.ensures (subst (IsKnown text) (sym w.from-is) known) boundary (subst (λ (k : Known). k.place ≤ place) (sym w.from-is) (omega (arith, w.if-place-known)))
-        ] in
+    elim c.if-place-known.branch [
+      | then-place-known w ↦ c.position_from-pos.ensures (subst (IsKnown text) (sym w.from-is) (boundary_at_start text c.utf8.text, position-start text)) boundary (subst (λ (k : Known). k.place ≤ place) (sym w.from-is) (omega arith))
+      | else-place-known w ↦ c.position_from-pos.ensures (subst (IsKnown text) (sym w.from-is) known) boundary (subst (λ (k : Known). k.place ≤ place) (sym w.from-is) (omega (arith, w.if-place-known)))
+    ] in
     ((boundary, counted), c.saturating_sub-place.ensures)

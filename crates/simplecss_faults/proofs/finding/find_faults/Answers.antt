@@ -7,9 +7,9 @@ use Rattle.simplecss_faults.proofs.finding.find_faults.Goals as goal
 
 pub loop-skip-init : goal.loop-skip-init
 loop-skip-init c = record {
-    here = (boundary_at_start c.args.text.now c.utf8.text, position-start c.args.text.now);
-    found = rw c.in_ok-faults.ensures.items refl;
-  }
+  here = (boundary_at_start c.args.text.now c.utf8.text, position-start c.args.text.now);
+  found = rw c.in_ok-faults.ensures.items refl;
+}
 
 pub loop-skip-preserved : goal.loop-skip-preserved
 loop-skip-preserved c =

@@ -56,7 +56,7 @@ returns-in-Err-clause-reported g c =
     let text = c.args.text.now in
     let same : whole_text t ≡ text = c.loop-item.invariant.same ∙ c.requires in
     let why : Some (faulty text c.in-Err.error) ≡ refusal_in text (still_to_come t) = subst (λ (w : List ℕ). Some (faulty w c.in-Err.error) ≡ refusal_in w (still_to_come t)) same
-        (refusal-error (whole_text t) c.in-Err.error (still_to_come t) (still_to_come after) (left_of after) (rw c.in-Err.is at c.in-Some.ensures.steps.first)) in
+    (refusal-error (whole_text t) c.in-Err.error (still_to_come t) (still_to_come after) (left_of after) (rw c.in-Err.is at c.in-Some.ensures.steps.first)) in
     let left : drop c.pos.result text ≡ left_of after = ap (drop c.pos.result) (sym (c.in-Some.ensures.steps.text ∙ same)) ∙ c.pos.ensures.rest in
     c.in_ok-report_refusal-in-Err.ensures
     ∙ ap (λ (s : g.P.Report.State). add_each add s (refused text (past is_space (drop c.pos.result text)) (faulty text c.in-Err.error) ∷ [])) c.loop-item.invariant.state
@@ -71,7 +71,7 @@ returns-then-not-branch-clause-reported g c =
     let same : whole_text t ≡ text = c.loop-item.invariant.same ∙ c.requires in
     let name = class_name (token_of c.in-Ok.token) in
     let why : Some (unknown_class name) ≡ refusal_in text (still_to_come t) = subst (λ (w : List ℕ). Some (unknown_class name) ≡ refusal_in w (still_to_come t)) same
-        (refusal-unknown (whole_text t) c.in-Ok.token (still_to_come t) (still_to_come after) (left_of after) (rw c.in-Ok.is at c.in-Some.ensures.steps.first) (sym c.in_ok-fill.ensures.known ∙ c.if-not-branch.true)) in
+    (refusal-unknown (whole_text t) c.in-Ok.token (still_to_come t) (still_to_come after) (left_of after) (rw c.in-Ok.is at c.in-Some.ensures.steps.first) (sym c.in_ok-fill.ensures.known ∙ c.if-not-branch.true)) in
     let left : drop c.pos-then-not-branch.result text ≡ left_of after = ap (drop c.pos-then-not-branch.result) (sym (c.in-Some.ensures.steps.text ∙ same)) ∙ c.pos-then-not-branch.ensures.rest in
     c.in_ok-report_refusal.ensures
     ∙ ap (λ (n : List ℕ). add_each add (g.P.Report.state c.loop-item.report) (refused text (past is_space (drop c.pos-then-not-branch.result text)) (unknown_class n) ∷ [])) c.class_name.ensures
@@ -84,6 +84,6 @@ returns-clause-reported g c =
     let after = c.next.new.self in
     let text = c.args.text.now in
     let none : None ≡ refusal_in text (still_to_come t) = subst (λ (w : List ℕ). None ≡ refusal_in w (still_to_come t)) (c.loop-item.invariant.same ∙ c.requires)
-        (refusal-end (whole_text t) (still_to_come t) (still_to_come after) (left_of after) c.in_default.ensures.steps.first) in
+    (refusal-end (whole_text t) (still_to_come t) (still_to_come after) (left_of after) c.in_default.ensures.steps.first) in
     c.loop-item.invariant.state
     ∙ ap (λ (why : Option Refusal). add_each g.P.Report.add (g.P.Report.state c.args.report.now) (refused_part text (past is_space (left_of after)) why)) (none ∙ c.loop-item.invariant.why)

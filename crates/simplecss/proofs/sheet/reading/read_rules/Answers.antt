@@ -38,16 +38,16 @@ statements-preserved g c =
     let start = rest_of c.at_statement.new.s in
     let next = rest_of c.consume_statement.new.s in
     record {
-    reported = ap (λ t. add_each add t (skipped this_edition next)) c.in_ok-consume_statement.ensures.reported
-    ∙ sym (add_each-append add before (statement_skips this_edition start) (skipped this_edition next))
-    ∙ ap (λ (t : List ℕ). add_each add before (statement_skips this_edition start ++ skipped this_edition t)) c.in_ok-consume_statement.ensures.rest
-    ∙ ap (add_each add before) (sym (skipped-some this_edition (rest_of c.statements.s) start c.if-not-at_statement.ensures.reads (c.if-not-at_statement.ensures.rest refl)))
-    ∙ c.statements.invariant.reported;
-    rules = ap (λ l. l ++ rules_from this_edition (rest_of c.consume_statement.new.s)) c.in_ok-consume_statement.ensures.rules
-    ∙ append_assoc (map rule_of c.statements.reader.rules.items) read.0 (rules_from this_edition (rest_of c.consume_statement.new.s))
-    ∙ ap (λ (t : List ℕ). map rule_of c.statements.reader.rules.items ++ (read.0 ++ rules_from this_edition t)) c.in_ok-consume_statement.ensures.rest
-    ∙ ap (λ l. map rule_of c.statements.reader.rules.items ++ l) (sym step)
-    ∙ c.statements.invariant.rules;
+      reported = ap (λ t. add_each add t (skipped this_edition next)) c.in_ok-consume_statement.ensures.reported
+          ∙ sym (add_each-append add before (statement_skips this_edition start) (skipped this_edition next))
+          ∙ ap (λ (t : List ℕ). add_each add before (statement_skips this_edition start ++ skipped this_edition t)) c.in_ok-consume_statement.ensures.rest
+          ∙ ap (add_each add before) (sym (skipped-some this_edition (rest_of c.statements.s) start c.if-not-at_statement.ensures.reads (c.if-not-at_statement.ensures.rest refl)))
+          ∙ c.statements.invariant.reported;
+      rules = ap (λ l. l ++ rules_from this_edition (rest_of c.consume_statement.new.s)) c.in_ok-consume_statement.ensures.rules
+          ∙ append_assoc (map rule_of c.statements.reader.rules.items) read.0 (rules_from this_edition (rest_of c.consume_statement.new.s))
+          ∙ ap (λ (t : List ℕ). map rule_of c.statements.reader.rules.items ++ (read.0 ++ rules_from this_edition t)) c.in_ok-consume_statement.ensures.rest
+          ∙ ap (λ l. map rule_of c.statements.reader.rules.items ++ l) (sym step)
+          ∙ c.statements.invariant.rules;
     }
 
 pub returns-then-not-at_statement-clause-rules : goal.returns-then-not-at_statement-clause-rules
