@@ -19,25 +19,36 @@ key_none field none = sym (ap (λ n. take n field) none ∙ take_all (length fie
 pub value_none : (field : List ℕ) → position_or_len is_equals field ≡ length field → value_of field ≡ []
 value_none field none = drop_all (position_or_len is_equals field + 1) field (omega (arith, none))
 
-depths_rows : (lines : List Line) → depths_of (rows lines) ≡ depths lines
+pub depths_rows : (lines : List Line) → depths_of (rows lines) ≡ depths lines
 depths_rows [] = refl
 depths_rows (l ∷ lines) = ap (λ ds. l.entry.depth ∷ ds) (depths_rows lines)
+
+-- what a page says of a line
+module _ (lines : List Line) (page : List Row) (place : ℕ) (l : Line) (view : rows lines ≡ page) (is : slice_get lines place ≡ Some l) where
+  row_of_line : slice_get page place ≡ Some (row l.entry)
+  row_of_line = ap (λ p. slice_get p place) (sym view) ∙ slice_get-map (λ l. row l.entry) lines place ∙ ap (λ o. elim o [ None ↦ None | Some x ↦ Some (row x.entry) ]) is
+
+  pub attribute_of_line : (key : List ℕ) → attribute_at page place key ≡ value_in (map attribute_of (fields_in l.entry.attributes)) key
+  attribute_of_line key = ap (λ o. option_map_or (λ row. value_in row.attributes key) o None) row_of_line
+
+  pub name_of_line : l.entry.name.now ≡ name_at page place
+  name_of_line = sym (ap (λ o. option_map_or (λ row. row.name) o []) row_of_line)
 
 module _ (lines : List Line) (page : List Row) (place : ℕ) (l : Line) (view : rows lines ≡ page) (within : place < length page) (is : l ≡ get_or lines place l) where
   inside : place < length lines
   inside = let lt : place < length (rows lines) = subst (λ p. place < length p) (sym view) within in rw (length-map lines (λ l. row l.entry)) at lt
 
-  got : slice_get lines place ≡ Some l
-  got = slice_get-get_or lines place l inside ∙ ap Some (sym is)
+  pub got_line : slice_get lines place ≡ Some l
+  got_line = slice_get-get_or lines place l inside ∙ ap Some (sym is)
 
   same_depths : depths lines ≡ depths_of page
   same_depths = sym (depths_rows lines) ∙ ap depths_of view
 
   pub parent_kept : AreLinked lines → l.parent ≡ parent_place (depths_of page) place
-  parent_kept linked = (linked place l got).0 ∙ ap (λ ds. parent_place ds place) same_depths
+  parent_kept linked = (linked place l got_line).0 ∙ ap (λ ds. parent_place ds place) same_depths
 
   pub previous_kept : AreLinked lines → l.previous ≡ previous_place (depths_of page) place
-  previous_kept linked = (linked place l got).1 ∙ ap (λ ds. previous_place ds place) same_depths
+  previous_kept linked = (linked place l got_line).1 ∙ ap (λ ds. previous_place ds place) same_depths
 
   pub parent_in : AreLinked lines → IfSome l.parent (λ j. j < length page)
   parent_in linked = subst (λ r. IfSome r (λ j. j < length page)) (sym (parent_kept linked)) (within_longer (parent_place (depths_of page) place) place (length page) (omega arith) (parent_within (depths_of page) place))
@@ -45,11 +56,8 @@ module _ (lines : List Line) (page : List Row) (place : ℕ) (l : Line) (view : 
   pub previous_in : AreLinked lines → IfSome l.previous (λ j. j < length page)
   previous_in linked = subst (λ r. IfSome r (λ j. j < length page)) (sym (previous_kept linked)) (within_longer (previous_place (depths_of page) place) place (length page) (omega arith) (previous_within (depths_of page) place))
 
-  at_place : slice_get page place ≡ Some (row l.entry)
-  at_place = ap (λ p. slice_get p place) (sym view) ∙ slice_get-map (λ l. row l.entry) lines place ∙ ap (λ o. elim o [ None ↦ None | Some x ↦ Some (row x.entry) ]) got
-
   pub attribute_first : (key : List ℕ) → attribute_at page place key ≡ value_in (map attribute_of (fields_in l.entry.attributes)) key
-  attribute_first key = ap (λ o. option_map_or (λ row. value_in row.attributes key) o None) at_place
+  attribute_first = attribute_of_line lines page place l view got_line
 
   pub name_kept : l.entry.name.now ≡ name_at page place
-  name_kept = sym (ap (λ o. option_map_or (λ row. row.name) o []) at_place)
+  name_kept = name_of_line lines page place l view got_line

@@ -6,10 +6,12 @@ use Rattle.std.specs.List.{slice_get}
 use Rattle.std.proofs.lemmas.Bool.{cases_lt}
 use Rattle.std.proofs.lemmas.List.{length-map, map-append}
 use Rattle.std.proofs.lemmas.Option.{slice_get_within, slice_get-get_or}
+use Rattle.std.specs.Int.Bits.{bit_or}
+use Rattle.simplecss_selector.proofs.KeyBitLemmas.{covers_left, covers_right}
 use Rattle.cssq_tree.specs.declared.tree.entry.Entry.{Entry}
 use Rattle.cssq_tree.specs.declared.tree.Line.{Line}
 use Rattle.cssq_tree.specs.ParentsAndSiblings.{last_place, parent_place, previous_place}
-use Rattle.cssq_tree.specs.Lines.{depths, AreLinked}
+use Rattle.cssq_tree.specs.Lines.{depths, CoversParent, AreLinked}
 use Rattle.cssq_tree.proofs.Linked.{depth_at}
 use Rattle.cssq_tree.specs.Siblings.{equal_at, parent_old, parent_new, previous_old, previous_new, none_near, lesser_near, equal_near}
 
@@ -28,24 +30,33 @@ slice_get_last (w ∷ xs) x y (suc i) past is = let rest = slice_get_last xs x y
 pub record Joins (lines : List Line) (l : Line) : Type 0 where
   pub parent : l.parent ≡ last_place (λ x. nat_lt x l.entry.depth) (depths lines)
   pub previous : l.previous ≡ equal_at (depths lines) l.entry.depth (last_place (λ x. nat_le x l.entry.depth) (depths lines))
+  pub above : CoversParent lines l
 
 module _ (lines : List Line) (l : Line) (linked : AreLinked lines) (joins : Joins lines l) where
   depths_more : depths (lines ++ l ∷ []) ≡ depths lines ++ l.entry.depth ∷ []
   depths_more = map-append (λ l. l.entry.depth) lines (l ∷ [])
 
+  -- the parent is still there
+  covers_longer : (m : Line) → CoversParent lines m → CoversParent (lines ++ l ∷ []) m
+  covers_longer m covers parent is =
+      let h = covers parent is in
+      (h.0, slice_get_front lines (l ∷ []) parent (slice_get_within lines parent h.0 h.1) ∙ h.1, h.2, h.3)
+
   -- the lines that were there
-  old_kept : (i : ℕ) (m : Line) → slice_get lines i ≡ Some m → (m.parent ≡ parent_place (depths (lines ++ l ∷ [])) i) × (m.previous ≡ previous_place (depths (lines ++ l ∷ [])) i)
+  old_kept : (i : ℕ) (m : Line) → slice_get lines i ≡ Some m → (m.parent ≡ parent_place (depths (lines ++ l ∷ [])) i) × (m.previous ≡ previous_place (depths (lines ++ l ∷ [])) i) × CoversParent (lines ++ l ∷ []) m
   old_kept i m is =
       let within : i < length (depths lines) = rw (length-map lines (λ l. l.entry.depth)) (slice_get_within lines i m is) in
       let before = linked i m is in (
         before.0 ∙ sym (parent_old (depths lines) l.entry.depth i within) ∙ ap (λ ds. parent_place ds i) (sym depths_more),
         before.1 ∙ sym (previous_old (depths lines) l.entry.depth i within) ∙ ap (λ ds. previous_place ds i) (sym depths_more),
+        covers_longer m before.2,
       )
 
-  new_kept : (l.parent ≡ parent_place (depths (lines ++ l ∷ [])) (length (depths lines))) × (l.previous ≡ previous_place (depths (lines ++ l ∷ [])) (length (depths lines)))
+  new_kept : (l.parent ≡ parent_place (depths (lines ++ l ∷ [])) (length (depths lines))) × (l.previous ≡ previous_place (depths (lines ++ l ∷ [])) (length (depths lines))) × CoversParent (lines ++ l ∷ []) l
   new_kept = (
     joins.parent ∙ sym (parent_new (depths lines) l.entry.depth) ∙ ap (λ ds. parent_place ds (length (depths lines))) (sym depths_more),
     joins.previous ∙ sym (previous_new (depths lines) l.entry.depth) ∙ ap (λ ds. previous_place ds (length (depths lines))) (sym depths_more),
+    covers_longer l joins.above,
   )
 
   pub joined : AreLinked (lines ++ l ∷ [])
@@ -54,24 +65,28 @@ module _ (lines : List Line) (l : Line) (linked : AreLinked lines) (joins : Join
       (λ within. old_kept i m (sym (slice_get_front lines (l ∷ []) i within) ∙ is))
       (λ past. let here = slice_get_last lines l m i past is in
       let at : length (depths lines) ≡ i = length-map lines (λ l. l.entry.depth) ∙ sym here.0 in
-      subst (λ m. (m.parent ≡ parent_place (depths (lines ++ l ∷ [])) i) × (m.previous ≡ previous_place (depths (lines ++ l ∷ [])) i)) (sym here.1)
-      (subst (λ i. (l.parent ≡ parent_place (depths (lines ++ l ∷ [])) i) × (l.previous ≡ previous_place (depths (lines ++ l ∷ [])) i)) at new_kept))
+      subst (λ m. (m.parent ≡ parent_place (depths (lines ++ l ∷ [])) i) × (m.previous ≡ previous_place (depths (lines ++ l ∷ [])) i) × CoversParent (lines ++ l ∷ []) m) (sym here.1)
+      (subst (λ i. (l.parent ≡ parent_place (depths (lines ++ l ∷ [])) i) × (l.previous ≡ previous_place (depths (lines ++ l ∷ [])) i) × CoversParent (lines ++ l ∷ []) l) at new_kept))
       (cases_lt i (length lines))
 
 pub link_none : (lines : List Line) (e : Entry) → AreLinked lines → None ≡ last_place (λ x. nat_le x e.depth) (depths lines)
-    → AreLinked (lines ++ record { entry = e; parent = None; previous = None } ∷ [])
+    → AreLinked (lines ++ record { entry = e; parent = None; previous = None; above = 0 } ∷ [])
 link_none lines e linked is =
     let near = none_near (depths lines) e.depth is in
-    joined lines (record { entry = e; parent = None; previous = None }) linked (record { parent = near.0; previous = near.1 })
+    joined lines (record { entry = e; parent = None; previous = None; above = 0 }) linked (record { parent = near.0; previous = near.1; above = λ parent h. absurd (cc) })
 
 pub link_lesser : (lines : List Line) (e : Entry) (i : ℕ) (d : Line) → AreLinked lines → i < length lines → Some i ≡ last_place (λ x. nat_le x e.depth) (depths lines) → ((get_or lines i d).entry.depth ≡ e.depth → ⊥)
-    → AreLinked (lines ++ record { entry = e; parent = Some i; previous = None } ∷ [])
+    → AreLinked (lines ++ record { entry = e; parent = Some i; previous = None; above = bit_or (get_or lines i d).above (get_or lines i d).entry.bits } ∷ [])
 link_lesser lines e i d linked within is ne =
     let near = lesser_near (depths lines) e.depth i is (λ same. ne (sym (depth_at lines i d within) ∙ same)) in
-    joined lines (record { entry = e; parent = Some i; previous = None }) linked (record { parent = near.0; previous = near.1 })
+    joined lines (record { entry = e; parent = Some i; previous = None; above = bit_or (get_or lines i d).above (get_or lines i d).entry.bits }) linked (record {
+      parent = near.0;
+      previous = near.1;
+      above = λ parent h. let same : i ≡ parent = cc in (get_or lines i d, subst (λ k. slice_get lines k ≡ Some (get_or lines i d)) same (slice_get-get_or lines i d within), covers_left (get_or lines i d).above (get_or lines i d).entry.bits, covers_right (get_or lines i d).above (get_or lines i d).entry.bits);
+    })
 
 pub link_equal : (lines : List Line) (e : Entry) (i : ℕ) (d : Line) → AreLinked lines → i < length lines → Some i ≡ last_place (λ x. nat_le x e.depth) (depths lines) → (get_or lines i d).entry.depth ≡ e.depth
-    → AreLinked (lines ++ record { entry = e; parent = (get_or lines i d).parent; previous = Some i } ∷ [])
+    → AreLinked (lines ++ record { entry = e; parent = (get_or lines i d).parent; previous = Some i; above = (get_or lines i d).above } ∷ [])
 link_equal lines e i d linked within is same =
     let near = equal_near (depths lines) e.depth i (get_or lines i d).parent is (depth_at lines i d within ∙ same) (linked i (get_or lines i d) (slice_get-get_or lines i d within)).0 in
-    joined lines (record { entry = e; parent = (get_or lines i d).parent; previous = Some i }) linked (record { parent = near.0; previous = near.1 })
+    joined lines (record { entry = e; parent = (get_or lines i d).parent; previous = Some i; above = (get_or lines i d).above }) linked (record { parent = near.0; previous = near.1; above = (linked i (get_or lines i d) (slice_get-get_or lines i d within)).2 })

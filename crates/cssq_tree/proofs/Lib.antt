@@ -6,3 +6,4 @@ pub mod Linked
 pub mod Joins
 pub mod Attributes
 pub mod Reading
+pub mod AboveLines

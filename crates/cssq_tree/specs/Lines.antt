@@ -1,6 +1,7 @@
 -- The lines that a page keeps, and how each is tied to others.
 use Rattle.std.specs.Prelude.{◌≡◌, ℕ, ◌+◌, ◌≤◌, List, [], ◌∷◌, ◌++◌, length, map, Some}
 use Rattle.std.specs.List.{slice_get}
+use Rattle.simplecss_selector.specs.KeyBits.{Covers}
 use Rattle.cssq_tree.specs.declared.tree.entry.Entry.{Entry}
 use Rattle.cssq_tree.specs.declared.tree.Line.{Line}
 use Rattle.cssq_tree.specs.declared.tree.TreeFault.{TreeFault}
@@ -20,11 +21,18 @@ rows lines = map (λ l. row l.entry) lines
 abbrev pub depths : List Line → List ℕ
 depths lines = map (λ l. l.entry.depth) lines
 
--- each line keeps the places of its parent and of its previous sibling
+-- the bits that a line keeps of its ancestors cover those of its parent's ancestors, and the
+-- parent's own
+abbrev pub CoversParent : List Line → Line → Type 0
+CoversParent lines l = (parent : ℕ) → l.parent ≡ Some parent
+    → (p : Line) × (slice_get lines parent ≡ Some p) × Covers l.above p.above × Covers l.above p.entry.bits
+
+-- each line keeps the places of its parent and of its previous sibling, and the bits of its
+-- ancestors
 abbrev pub AreLinked : List Line → Type 0
 AreLinked lines =
     (i : ℕ) (l : Line) → slice_get lines i ≡ Some l
-    → (l.parent ≡ parent_place (depths lines) i) × (l.previous ≡ previous_place (depths lines) i)
+    → (l.parent ≡ parent_place (depths lines) i) × (l.previous ≡ previous_place (depths lines) i) × CoversParent lines l
 
 -- ---- what the reader of a line tells
 

@@ -10,13 +10,14 @@ ghost use Rattle.cssq_tree.specs.TreeText.{value_of, lines_of, is_depth, spelled
 ghost use Rattle.cssq_tree.specs.TreeText.{field_faults, fault_number, fault_line, faults_of_line};
 ghost use Rattle.cssq_tree.specs.TreeText.{tree_of, IsFaultOf};
 ghost use Rattle.cssq_tree.specs.ParentsAndSiblings.{depths_of, last_place, parent_place, previous_place};
-ghost use Rattle.cssq_tree.specs.Nodes.{spot, name_at, attribute_at, value_in};
+ghost use Rattle.cssq_tree.specs.Nodes.{spot, name_at, attribute_at, value_in, page_tree};
+ghost use Rattle.simplecss_selector.specs.KeyBits.{CoversAncestors};
 ghost use Rattle.cssq_tree.specs.Lines.{depths, AreLinked, IsToldOf, Says, IsAdded};
 
 mod entry;
 
 use entry::Entry;
-use simplecss_selector::{AttributeOperator, Element, Keyed, PseudoClass};
+use simplecss_selector::{AttributeOperator, Element, Keyed, PseudoClass, element_bits};
 use std::alloc::{AllocError, Global};
 use std::collections::BTreeSet;
 use std::marker::Model;
@@ -75,6 +76,8 @@ struct Line<'t> {
     parent: Option<usize>,
     /// The place of the previous sibling, if there is one.
     previous: Option<usize>,
+    /// Bits that cover the keys of the ancestors.
+    above: u64,
 }
 
 /// How many attribute fields are compared in pairs.
@@ -282,12 +285,15 @@ fn read_line(alloc: Global, number: usize, limit: usize, line: &str) -> Result<E
     if let Some(fault) = fault_of_fields(alloc, number, attributes) {
         return Err(fault);
     }
+    let class = value_at(attributes, "class");
+    let id = value_at(attributes, "id");
     Ok(Entry {
         depth,
         name,
         attributes,
-        class: value_at(attributes, "class"),
-        id: value_at(attributes, "id"),
+        class,
+        id,
+        bits: element_bits(name, id, class),
     })
 }
 
@@ -319,6 +325,7 @@ fn link<'t>(lines: &[Line<'t>], entry: Entry<'t>) -> Line<'t>
             entry,
             parent: None,
             previous: None,
+            above: 0,
         },
         Some(i) => {
             let near = lines[i];
@@ -327,12 +334,14 @@ fn link<'t>(lines: &[Line<'t>], entry: Entry<'t>) -> Line<'t>
                     entry,
                     parent: near.parent,
                     previous: Some(i),
+                    above: near.above,
                 }
             } else {
                 Line {
                     entry,
                     parent: Some(i),
                     previous: None,
+                    above: near.above | near.entry.bits,
                 }
             }
         }
@@ -437,6 +446,15 @@ impl<'t> Page<'t> {
         ensures within { IfSome result (λ previous. previous < length self.now) }
     {
         self.lines[place].previous
+    }
+
+    /// Bits that cover the keys of the ancestors of the element at a place.
+    #[inline(always)]
+    fn above(&self, place: usize) -> u64
+        requires { place < length self.now }
+        ensures { CoversAncestors page_tree (spot self.now place) result }
+    {
+        self.lines[place].above
     }
 
     /// The name of the element at a place.
@@ -555,6 +573,11 @@ impl<'p, 't> Keyed for Node<'p, 't> {
     #[inline(always)]
     fn class_value(&self) -> Option<&str> {
         self.page.attribute(self.place, "class")
+    }
+
+    #[inline(always)]
+    fn ancestor_bits(&self) -> u64 {
+        self.page.above(self.place)
     }
 
     fn has_attribute(&self, name: &str) -> bool {

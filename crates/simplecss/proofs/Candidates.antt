@@ -1,23 +1,28 @@
 -- The places of the selectors whose key an element tells.
 -- Serves `RuleIndex::matching_counted` (only rules are asked whose key the element tells).
-use Rattle.std.proofs.Common.{◌≡◌, ℕ, ◌<◌, ◌↔◌, ◌⊎◌, inl, inr, ◌+◌, List, [], ◌∷◌, Option, None, Some, IsTrue, length, get_or, refl, sym, ap, ◌∙◌, subst, arith}
-use Rattle.std.specs.List.{All, Contains, sum_by, range_with_len}
+use Rattle.std.proofs.Common.{◌≡◌, ℕ, ◌<◌, ◌≤◌, ◌↔◌, ◌⊎◌, inl, inr, ◌+◌, List, [], ◌∷◌, Bool, true, false, cond, Option, None, Some, IsTrue, length, get_or, refl, sym, ap, ◌∙◌, subst, arith}
+use Rattle.std.specs.Prelude.{◌&&◌}
+use Rattle.std.specs.List.{All, filter, Contains, sum_by, range_with_len}
 use Rattle.std.specs.List.Sorted.{IsStrictlyIncreasing}
-use Rattle.std.proofs.lemmas.List.{length-map}
+use Rattle.std.proofs.lemmas.List.{length-map, get_or_past}
 use Rattle.std.proofs.lemmas.List.Sums.{sum_by-cons}
-use Rattle.std.proofs.lemmas.List.Elements.{Contains-get_or}
+use Rattle.std.proofs.lemmas.List.Elements.{Contains-get_or, Contains-append_left, Contains-append_right, Contains-append_cases}
+use Rattle.std.proofs.lemmas.List.Kept.{IsStrictlyIncreasing-filter}
+use Rattle.std.proofs.lemmas.Bool.{false≢true}
 use Rattle.simplecss_text.specs.Components.{Component}
+use Rattle.simplecss_selector.specs.KeyBits.{CoversAncestors}
 use Rattle.simplecss_selector.specs.Wanted.{Wanted, Near, TellsWanted, wanted_of, tells_wanted}
 use Rattle.simplecss_selector.specs.Placements.{HasPlacement}
-use Rattle.simplecss_selector.specs.Trees.{Tree}
+use Rattle.simplecss_selector.specs.Trees.{Tree, SiblingsShareParent}
 use Rattle.simplecss_selector.proofs.WantedLemmas.{wanted_needed}
+use Rattle.simplecss_selector.proofs.KeyBitLemmas.{covers_none, covers_test, ancestors_needed}
 use Rattle.simplecss.specs.Chains.{selectors_of, IsLastBefore, AreChained}
 use Rattle.simplecss.specs.WantedLasts.{last_wanted, WantedLeads}
-use Rattle.simplecss.specs.Matching.{AreMatches, AreCandidates, keyed_for}
+use Rattle.simplecss.specs.Matching.{AreMatches, AreKeyed, is_covered, is_tested, AreCandidates, tested_for}
 use Rattle.simplecss.specs.SelectorPlaces.{selector_at, key_at, Adds}
-use Rattle.simplecss.specs.declared.index.rule_index.Link.{Link}
+use Rattle.simplecss.specs.declared.index.link.Link.{Link}
 use Rattle.simplecss.specs.declared.index.wanted_lasts.WantedLasts.{WantedLasts}
-use Rattle.simplecss.proofs.Adding.{contains_none, added}
+use Rattle.simplecss.proofs.Adding.{contains_none, contains_one, added}
 use Rattle.simplecss.proofs.Ascending.{places_are, sum_of_values, values_at}
 use Rattle.simplecss.proofs.Following.{Behind}
 
@@ -64,8 +69,8 @@ module _ (told : Near) (lasts : WantedLasts) (links : List Link) (selectors : Li
     pub start_within : (place : ℕ) → Contains sorted place → place < length selectors
     start_within place c = (led_to place ((start_is place).0 c)).0
 
-    pub are_candidates : (all final : List ℕ) → Adds sorted all (Behind selectors sorted) → IsStrictlyIncreasing final → ((place : ℕ) → Contains final place ↔ Contains all place) → AreCandidates told selectors final
-    are_candidates all final behind up same_again = record {
+    pub are_keyed : (all final : List ℕ) → Adds sorted all (Behind selectors sorted) → IsStrictlyIncreasing final → ((place : ℕ) → Contains final place ↔ Contains all place) → AreKeyed told selectors final
+    are_keyed all final behind up same_again = record {
       ascending = up;
       exactly = λ place. (λ c. there place ((added sorted all behind place).0 ((same_again place).0 c)), λ h. (same_again place).1 ((added sorted all behind place).1 (back place (led_from place h.0 h.1))));
     }
@@ -80,31 +85,78 @@ module _ (told : Near) (lasts : WantedLasts) (links : List Link) (selectors : Li
         back place (inl h) = inl ((start_is place).1 h)
         back place (inr h) = inr (h.0, (start_is h.0).1 h.1, h.2, h.3)
 
+filter_contains : (p : ℕ → Bool) (xs : List ℕ) (x : ℕ) → Contains (filter p xs) x ↔ (Contains xs x × IsTrue (p x))
+filter_contains p [] x = (λ c. absurd (contains_none x c), λ h. absurd (contains_none x h.0))
+filter_contains p (y ∷ ys) x = at (filter_contains p ys x) (p y) refl
+  where
+    at : Contains (filter p ys) x ↔ (Contains ys x × IsTrue (p x)) → (b : Bool) → p y ≡ b → Contains (cond b (y ∷ filter p ys) (filter p ys)) x ↔ (Contains (y ∷ ys) x × IsTrue (p x))
+    at later true e = (
+      λ c. elim (Contains-append_cases (y ∷ []) (filter p ys) x c) [
+        | inl h ↦ (Contains-append_left (y ∷ []) ys x h, subst (λ v. IsTrue (p v)) ((contains_one y x).0 h) e)
+        | inr h ↦ let r = later.0 h in (Contains-append_right (y ∷ []) ys x r.0, r.1)
+      ],
+      λ h. elim (Contains-append_cases (y ∷ []) ys x h.0) [
+        | inl c ↦ Contains-append_left (y ∷ []) (filter p ys) x c
+        | inr c ↦ Contains-append_right (y ∷ []) (filter p ys) x (later.1 (c, h.1))
+      ],
+    )
+    at later false e = (
+      λ c. let r = later.0 c in (Contains-append_right (y ∷ []) ys x r.0, r.1),
+      λ h. elim (Contains-append_cases (y ∷ []) ys x h.0) [
+        | inl c ↦ absurd (false≢true (sym e ∙ subst (λ v. IsTrue (p v)) (sym ((contains_one y x).0 c)) h.1))
+        | inr c ↦ later.1 (c, h.1)
+      ],
+    )
+
+both_true : (a b : Bool) → IsTrue (a && b) ↔ (IsTrue a × IsTrue b)
+both_true true b = (λ h. (refl, h), λ h. h.1)
+both_true false b = (λ h. absurd (false≢true h), λ h. h.0)
+
+-- of the selectors whose key is told those are kept whose ancestors' keys are covered
+pub covered_only : (told : Near) (above : ℕ) (selectors : List (List Component)) (keyed final : List ℕ) → AreKeyed told selectors keyed → final ≡ filter (λ place. is_covered above (selector_at selectors place)) keyed → AreCandidates told above selectors final
+covered_only told above selectors keyed final are e = subst (AreCandidates told above selectors) (sym e) (record {
+  ascending = IsStrictlyIncreasing-filter (λ place. is_covered above (selector_at selectors place)) keyed are.ascending;
+  exactly = λ place.
+      let kept = filter_contains (λ p. is_covered above (selector_at selectors p)) keyed place in
+      let both = both_true (tells_wanted told (key_at selectors place)) (is_covered above (selector_at selectors place)) in (
+        λ c. let h = kept.0 c in let k = (are.exactly place).0 h.0 in (k.0, both.1 (k.1, h.1)),
+        λ h. let x = both.0 h.1 in kept.1 ((are.exactly place).1 (h.0, x.0), x.1),
+      );
+})
+
 -- of the candidates those are kept that match, and no other selector does
-pub are_matches : {Node : Type 0} (tree : Tree Node) (n : Node) (told : Near) (selectors : List (List Component)) (candidates final : List ℕ) → TellsWanted tree n told → AreCandidates told selectors candidates → IsStrictlyIncreasing final
+pub are_matches : {Node : Type 0} (tree : Tree Node) (n : Node) (told : Near) (above : ℕ) (selectors : List (List Component)) (candidates final : List ℕ) → SiblingsShareParent tree → TellsWanted tree n told → CoversAncestors tree n above → AreCandidates told above selectors candidates → IsStrictlyIncreasing final
     → ((place : ℕ) → Contains final place ↔ (Contains candidates place × HasPlacement tree (selector_at selectors place) n)) → AreMatches tree n selectors final
-are_matches tree n told selectors candidates final tells are up kept = record {
+are_matches tree n told above selectors candidates final shared tells covered are up kept = record {
   ascending = up;
   exactly = λ place. (
     λ c. let h = (kept place).0 c in (((are.exactly place).0 h.0).0, h.1),
-    λ h. (kept place).1 ((are.exactly place).1 (h.0, tells (key_at selectors place) (wanted_needed tree (selector_at selectors place) n h.1)), h.1),
+    λ h. (kept place).1 ((are.exactly place).1 (h.0, (both_true (tells_wanted told (key_at selectors place)) (is_covered above (selector_at selectors place))).1 (tells (key_at selectors place) (wanted_needed tree (selector_at selectors place) n h.1), ancestors_needed tree shared (selector_at selectors place) n above covered h.1)), h.1),
   );
 }
 
-pub candidate_within : (told : Near) (selectors : List (List Component)) (candidates : List ℕ) → AreCandidates told selectors candidates → All (λ place. place < length selectors) candidates
-candidate_within told selectors candidates are k d lt = ((are.exactly (get_or candidates k d)).0 (Contains-get_or candidates k d lt)).0
+pub candidate_within : (told : Near) (above : ℕ) (selectors : List (List Component)) (candidates : List ℕ) → AreCandidates told above selectors candidates → All (λ place. place < length selectors) candidates
+candidate_within told above selectors candidates are k d lt = ((are.exactly (get_or candidates k d)).0 (Contains-get_or candidates k d lt)).0
 
--- a sum over the candidates is one over the selectors whose key is told
-pub sum_of_candidates : (told : Near) (selectors : List (List Component)) (candidates : List ℕ) (cost : List Component → ℕ) → AreCandidates told selectors candidates → sum_by (λ place. cost (selector_at selectors place)) candidates ≡ sum_by cost (keyed_for told selectors)
-sum_of_candidates told selectors candidates cost are =
+-- a sum over the candidates is one over the selectors that are tested
+pub sum_of_candidates : (told : Near) (above : ℕ) (selectors : List (List Component)) (candidates : List ℕ) (cost : List Component → ℕ) → AreCandidates told above selectors candidates → sum_by (λ place. cost (selector_at selectors place)) candidates ≡ sum_by cost (tested_for told above selectors)
+sum_of_candidates told above selectors candidates cost are =
     let all = range_with_len 0 (length selectors) in
-    ap (sum_by (λ place. cost (selector_at selectors place))) (places_are (λ place. tells_wanted told (key_at selectors place)) (length selectors) candidates are) ∙ sum_of_values (selector_at selectors) (λ selector. tells_wanted told (wanted_of selector)) cost all ∙ ap (λ ss. sum_by cost (keyed_for told ss)) (values_at selectors [])
+    ap (sum_by (λ place. cost (selector_at selectors place))) (places_are (λ place. is_tested told above (selector_at selectors place)) (length selectors) candidates are) ∙ sum_of_values (selector_at selectors) (is_tested told above) cost all ∙ ap (λ ss. sum_by cost (tested_for told above ss)) (values_at selectors [])
 
 ones : {X : Type 0} (xs : List X) → sum_by (λ x. 1) xs ≡ length xs
 ones [] = refl
 ones (x ∷ xs) = let first = sum_by-cons (λ x. 1) x xs in let others = ones xs in omega (arith, first, others)
 
--- there are as many candidates as selectors whose key is told
-pub number_of_candidates : (told : Near) (selectors : List (List Component)) (candidates : List ℕ) → AreCandidates told selectors candidates → length candidates ≡ length (keyed_for told selectors)
-number_of_candidates told selectors candidates are =
-    sym (ones candidates) ∙ sum_of_candidates told selectors candidates (λ selector. 1) are ∙ ones (keyed_for told selectors)
+-- there are as many candidates as selectors that are tested
+pub number_of_candidates : (told : Near) (above : ℕ) (selectors : List (List Component)) (candidates : List ℕ) → AreCandidates told above selectors candidates → length candidates ≡ length (tested_for told above selectors)
+number_of_candidates told above selectors candidates are =
+    sym (ones candidates) ∙ sum_of_candidates told above selectors candidates (λ selector. 1) are ∙ ones (tested_for told above selectors)
+
+-- a place after the last has no selector, and nothing is wanted of ancestors there
+pub none_covered : (links : List Link) (selectors : List (List Component)) (place above : ℕ) → selectors_of links ≡ selectors → length links ≤ place → true ≡ is_covered above (selector_at selectors place)
+none_covered links selectors place above is past =
+    let number : length selectors ≡ length links = sym (ap length is) ∙ length-map links (λ l. l.selector.value) in
+    let none : selector_at selectors place ≡ [] = get_or_past selectors place [] (omega (arith, number, past)) in
+    let nothing : IsTrue (is_covered above []) = covers_test above 0 (covers_none above) in
+    sym (ap (is_covered above) none ∙ nothing)

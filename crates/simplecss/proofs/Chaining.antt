@@ -10,7 +10,7 @@ use Rattle.simplecss_selector.specs.Wanted.{Wanted, wanted_of}
 use Rattle.simplecss.specs.Chains.{selectors_of, IsLastBefore, earlier_at, AreChained}
 use Rattle.simplecss.specs.WantedLasts.{last_wanted, TakesWanted}
 use Rattle.simplecss.specs.SelectorPlaces.{key_at}
-use Rattle.simplecss.specs.declared.index.rule_index.Link.{Link}
+use Rattle.simplecss.specs.declared.index.link.Link.{Link}
 use Rattle.simplecss.specs.declared.index.wanted_lasts.WantedLasts.{WantedLasts}
 
 module _ (selectors : List (List Component)) (s : List Component) where

@@ -9,7 +9,7 @@ use Rattle.std.proofs.lemmas.List.Elements.{Contains-get_or, Contains-append_lef
 use Rattle.simplecss_text.specs.Components.{Component}
 use Rattle.simplecss_selector.specs.Wanted.{Wanted}
 use Rattle.simplecss.specs.Chains.{selectors_of, IsLastBefore, earlier_at, AreChained}
-use Rattle.simplecss.specs.declared.index.rule_index.Link.{Link}
+use Rattle.simplecss.specs.declared.index.link.Link.{Link}
 use Rattle.simplecss.specs.declared.index.wanted_lasts.WantedLasts.{WantedLasts}
 use Rattle.simplecss.specs.SelectorPlaces.{key_at, Adds}
 use Rattle.simplecss.proofs.Adding.{adds_none, adds_one, adds_then, adds_as}

@@ -8,7 +8,7 @@ use Rattle.simplecss_selector.specs.Wanted.{Wanted}
 use Rattle.simplecss.specs.SelectorPlaces.{key_at}
 use Rattle.simplecss.specs.WantedLasts.{last_wanted}
 use Rattle.simplecss.specs.declared.index.wanted_lasts.WantedLasts.{WantedLasts}
-use Rattle.simplecss.specs.declared.index.rule_index.Link.{Link}
+use Rattle.simplecss.specs.declared.index.link.Link.{Link}
 
 -- the selectors that links stand for, in order
 abbrev pub selectors_of : List Link → List (List Component)

@@ -15,6 +15,9 @@ pub use Rattle.simplecss_selector.specs.SeenOperators
 pub use Rattle.simplecss_selector.specs.SeenTokens
 pub use Rattle.simplecss_selector.specs.Keys
 pub use Rattle.simplecss_selector.specs.SeenKeys
+pub use Rattle.simplecss_selector.specs.KeyBits
+pub use Rattle.simplecss_selector.specs.SeenWanted
+pub use Rattle.simplecss_selector.specs.Wanted
 pub use Rattle.simplecss_selector.specs.ListTrees
 pub use Rattle.simplecss_selector.specs.Meanings
 pub use Rattle.simplecss_selector.specs.Operators

@@ -1,7 +1,8 @@
 -- Which selectors match an element.
-use Rattle.std.specs.Prelude.{◌≡◌, ◌↔◌, ℕ, ◌+◌, ◌*◌, Bool, true, List, length, filter, IsTrue}
+use Rattle.std.specs.Prelude.{◌≡◌, ◌↔◌, ℕ, ◌+◌, ◌*◌, ◌&&◌, Bool, true, List, length, filter, IsTrue}
 use Rattle.std.specs.List.{AllZip, items_where_true, range_with_len}
 use Rattle.simplecss_text.specs.Components.{Component}
+use Rattle.simplecss_selector.specs.KeyBits.{covers, ancestor_bits}
 use Rattle.simplecss_selector.specs.Wanted.{Near, tells_wanted, wanted_of}
 use Rattle.simplecss_selector.specs.Placements.{HasPlacement, longest_stretch}
 use Rattle.simplecss_selector.specs.Trees.{Tree}
@@ -14,18 +15,31 @@ AreMatches tree element selectors =
     AreThePlaces (λ place. HasPlacement tree (selector_at selectors place) element) (length selectors)
 
 -- the places are in order, and are exactly those of the selectors whose key is told
-abbrev pub AreCandidates : Near → List (List Component) → List ℕ → Type 0
-AreCandidates told selectors =
+abbrev pub AreKeyed : Near → List (List Component) → List ℕ → Type 0
+AreKeyed told selectors =
     AreThePlaces (λ place. IsTrue (tells_wanted told (key_at selectors place))) (length selectors)
+
+-- whether the bits of the ancestors cover those that the selector wants of them
+abbrev pub is_covered : ℕ → List Component → Bool
+is_covered above selector = covers above (ancestor_bits selector)
+
+-- whether the selector is tested: its key is told, and the bits cover those of its ancestors
+abbrev pub is_tested : Near → ℕ → List Component → Bool
+is_tested told above selector = tells_wanted told (wanted_of selector) && is_covered above selector
+
+-- the places are in order, and are exactly those of the selectors that are tested
+abbrev pub AreCandidates : Near → ℕ → List (List Component) → List ℕ → Type 0
+AreCandidates told above selectors =
+    AreThePlaces (λ place. IsTrue (is_tested told above (selector_at selectors place))) (length selectors)
 
 -- the most tests that asking whether a selector matches takes: for the element and each of its
 -- ancestors one for each component of the longest stretch that child and adjacent steps join
 abbrev pub most_tests : {Node : Type 0} → Tree Node → Node → List Component → ℕ
 most_tests tree element selector = longest_stretch selector * (tree.depth element + 1)
 
--- the selectors whose key is told
-abbrev pub keyed_for : Near → List (List Component) → List (List Component)
-keyed_for told selectors = filter (λ selector. tells_wanted told (wanted_of selector)) selectors
+-- the selectors that are tested
+abbrev pub tested_for : Near → ℕ → List (List Component) → List (List Component)
+tested_for told above selectors = filter (is_tested told above) selectors
 
 -- the answers tell of each selector whether it has a placement on the element
 abbrev pub AreAnswers : {Node : Type 0} → Tree Node → Node → List (List Component) → List Bool → Type 0

@@ -3,8 +3,9 @@
 mod find;
 mod keep;
 mod lasts;
-mod wanted_lasts;
 pub mod laws;
+mod link;
 mod rule_index;
+mod wanted_lasts;
 
 pub use rule_index::RuleIndex;

@@ -13,8 +13,8 @@ pub use crate::sheet::laws::{
 };
 pub use simplecss_selector::laws::{at_most_two_errors, token_equality_law};
 pub use simplecss_selector::{
-    components_law, equality_law as selector_equality_law, key_equality_law, key_law,
-    operator_equality_laws, printing_law, same_meanings_law,
+    ancestors_law, components_law, equality_law as selector_equality_law, key_equality_law,
+    key_law, operator_equality_laws, printing_law, same_meanings_law, told_near_law, wanted_law,
 };
 pub use simplecss_text::laws::{
     blank_is_cut, blank_is_longest, comment_is_closed, equality_laws as text_equality_laws,

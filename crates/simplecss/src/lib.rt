@@ -22,7 +22,7 @@ pub use sheet::{Rule, Statement, StatementReader, StyleSheet};
 pub use simplecss_declaration::{Declaration, DeclarationTokenizer};
 pub use simplecss_selector::{
     AttributeOperator, Element, Key, Keyed, PseudoClass, Selector, SelectorToken,
-    SelectorTokenizer, Tests,
+    SelectorTokenizer, Tests, Wanted, all_key_bits, element_bits,
 };
 pub use simplecss_text::{Error, TextPos, stream};
 

@@ -18,3 +18,4 @@ pub mod Firsts
 pub mod KeyLemmas
 pub mod WantedLemmas
 pub mod Refused
+pub mod KeyBitLemmas

@@ -1,6 +1,6 @@
 -- An element that a selector matches has what an index finds the selector by, and it is told.
 -- Serves `wanted::{wanted_law, told_near_law}` and `Selector::wanted`.
-use Rattle.std.proofs.Common.{◌≡◌, ℕ, suc, ◌+◌, ◌-◌, ◌<◌, List, [], ◌∷◌, Option, Some, None, Bool, true, false, IsTrue, length, refl, sym, ◌∙◌, ap, subst, arith}
+use Rattle.std.proofs.Common.{◌≡◌, ℕ, suc, ◌+◌, ◌-◌, ◌<◌, List, [], ◌∷◌, Option, Some, None, false, IsTrue, length, refl, sym, ◌∙◌, ap, subst, arith}
 use Rattle.std.specs.Option.{option_map_or}
 use Rattle.simplecss_text.specs.Components.{Component, Combinator}
 use Rattle.simplecss_text.specs.Components.Combinator.{none, descendant, child, adjacent}
@@ -10,7 +10,7 @@ use Rattle.simplecss_selector.specs.PlacementSearch.{Reaches, first_of}
 use Rattle.simplecss_selector.specs.Shapes.{component_at}
 use Rattle.simplecss_selector.specs.Keys.{Key, Told, TellsKeys, compound_key, HasKey, tells_key}
 use Rattle.simplecss_selector.specs.Keys.Key.{by_id, by_class, by_name, by_attribute, by_nothing}
-use Rattle.simplecss_selector.specs.Wanted.{Wanted, Near, beside, wanted_by, wanted_among, wanted_of, SomeHas, HasWanted, tells_wanted, TellsWanted, IsToldOf, IsNear}
+use Rattle.simplecss_selector.specs.Wanted.{Near, beside, wanted_by, wanted_among, wanted_of, SomeHas, HasWanted, TellsWanted, IsToldOf, IsNear}
 use Rattle.simplecss_selector.specs.Wanted.Wanted.{of_element, of_parent, of_previous}
 use Rattle.simplecss_selector.proofs.KeyLemmas.{met_has_key}
 use Rattle.simplecss_selector.proofs.Reaching.{first_of-suc}

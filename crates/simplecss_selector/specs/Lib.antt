@@ -21,3 +21,4 @@ pub mod Keys
 pub mod SeenKeys
 pub mod Wanted
 pub mod SeenWanted
+pub mod KeyBits

@@ -16,6 +16,7 @@ use crate::Element;
 pub trait Keyed: Element {
     ghost use Rattle.std.specs.Prelude.{◌≡◌, option_map};
     ghost use Rattle.simplecss_selector.specs.Keys.{Told, TellsKeys};
+    ghost use Rattle.simplecss_selector.specs.KeyBits.{CoversAncestors};
 
     ghost told: { Self → Told };
 
@@ -34,6 +35,11 @@ pub trait Keyed: Element {
     /// Whether there is an attribute of this name.
     fn has_attribute(&self, name: &str) -> bool
         ensures { result ≡ (told self.now).has_attribute name.now };
+
+    /// Bits that cover the keys (`Key::bits`) of all ancestors. `all_key_bits` returns such bits for
+    /// any element; with fewer, an index tests fewer selectors. It is called once an element.
+    fn ancestor_bits(&self) -> u64
+        ensures { CoversAncestors Self.tree (Self.node self.now) result };
 
     ghost told_law: { (element : Self) → TellsKeys Self.tree (Self.node element) (told element) };
 }

@@ -8,6 +8,7 @@ mod element;
 mod element_laws;
 mod equality;
 mod key;
+mod key_bits;
 mod key_laws;
 mod keyed;
 pub mod laws;
@@ -27,6 +28,7 @@ pub use element::Element;
 pub use element_laws::{components_law, same_meanings_law};
 pub use equality::{equality_law, printing_law};
 pub use key::Key;
+pub use key_bits::{all_key_bits, ancestors_law, element_bits};
 pub use key_laws::{key_equality_law, key_law};
 pub use keyed::Keyed;
 pub use operator::{AttributeOperator, PseudoClass};
@@ -34,7 +36,7 @@ pub use operator_laws::operator_equality_laws;
 pub use selector::Selector;
 pub use token::SelectorToken;
 pub use tokenizer::SelectorTokenizer;
-pub use wanted::{told_near_law, wanted_law, Wanted};
+pub use wanted::{Wanted, told_near_law, wanted_law};
 
 #[cfg(test)]
 mod tests;

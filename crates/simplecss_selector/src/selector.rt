@@ -14,8 +14,8 @@ ghost use Rattle.simplecss_selector.specs.Keys.{asked_id, asked_class, asked_att
 use crate::key::{first_attribute, first_class, first_id};
 use crate::matching::{goes_on, is_met_at};
 use crate::reading::read_front;
-use crate::wanted::wanted_by;
 use crate::specificity::{at_most_255, id_count, name_count};
+use crate::wanted::wanted_by;
 use crate::{AttributeOperator, Element, Key, PseudoClass, Tests, Wanted};
 use log::Log;
 use std::alloc::{AllocError, Global};
@@ -314,6 +314,8 @@ impl<'a> Selector<'a> {
     ghost use Rattle.simplecss_text.specs.Specificity.{specificity};
     ghost use Rattle.simplecss_selector.specs.Keys.{key_of, compound_key};
     ghost use Rattle.simplecss_selector.specs.Shapes.{component_at};
+    ghost use Rattle.simplecss_selector.specs.KeyBits.{ancestor_bits, step_bits};
+    ghost use Rattle.simplecss_selector.specs.PlacementSearch.{first_of};
     ghost use Rattle.simplecss_selector.specs.Wanted.{wanted_of};
     ghost use Rattle.simplecss_selector.specs.SeenWanted.{wanted_value};
     ghost use Rattle.simplecss_selector.specs.SeenKeys.{key_value};
@@ -379,6 +381,31 @@ impl<'a> Selector<'a> {
         }
         let before = self.key_at(last - 1);
         wanted_by(key, self.combinator(last), before)
+    }
+
+    /// The bits of the key of the component that the combinator of the one at this place leads back
+    /// to, if it leads to an ancestor.
+    fn step_bits(&self, place: usize) -> u64
+        requires { place < length self.now }
+        ensures { result
+            ≡ step_bits (component_at self.now place).combinator (first_of self.now place) }
+    {
+        match self.combinator(place) {
+            Combinator::Child | Combinator::Descendant => self.key_at(place - 1).bits(),
+            Combinator::None | Combinator::Adjacent => 0,
+        }
+    }
+
+    /// The bits (`Key::bits`) of the keys that an element's ancestors must have for the selector to
+    /// match it: of each component that a child or a descendant combinator leads back to.
+    pub fn ancestor_bits(&self) -> u64
+        ensures { result ≡ ancestor_bits self.now }
+    {
+        let mut bits = 0;
+        for place in 0..self.len() {
+            bits |= self.step_bits(place);
+        }
+        bits
     }
 
     /// An equal selector, in memory of the same allocator.

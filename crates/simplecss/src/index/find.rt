@@ -1,14 +1,15 @@
 //! The places of the rules whose key an element or one of its neighbours reports.
-ghost use Rattle.std.specs.Prelude.{◌≡◌, ◌<◌, ◌↔◌, ℕ, OnOk, Contains, Option, Some, length};
+ghost use Rattle.std.specs.Prelude.{◌≡◌, ◌<◌, ◌↔◌, ℕ, OnOk, Contains, Option, Some, length, filter};
 ghost use Rattle.std.specs.List.Sorted.{IsStrictlyIncreasing};
 ghost use Rattle.std.specs.Option.{option_map};
 ghost use Rattle.simplecss_selector.specs.SeenKeys.{key_value};
 ghost use Rattle.simplecss.specs.Lasts.{last_for, IdLeads, ClassLeads, AttributeLeads, KeyLeads};
 ghost use Rattle.simplecss_selector.specs.Keys.{Told};
+ghost use Rattle.simplecss_selector.specs.KeyBits.{CoversAncestors};
 ghost use Rattle.simplecss_selector.specs.Wanted.{Near, IsNear, IsToldOf};
 ghost use Rattle.simplecss.specs.WantedLasts.{NeighbourLeads, WantedLeads};
-ghost use Rattle.simplecss.specs.Matching.{AreCandidates};
-ghost use Rattle.simplecss.specs.SelectorPlaces.{key_at, Adds};
+ghost use Rattle.simplecss.specs.Matching.{AreKeyed, AreCandidates, is_covered};
+ghost use Rattle.simplecss.specs.SelectorPlaces.{key_at, selector_at, Adds};
 
 use super::lasts::Lasts;
 use super::rule_index::RuleIndex;
@@ -74,11 +75,7 @@ fn push_classes_within(
 }
 
 /// Adds the last places of the classes that are words in a value: looks up each word.
-fn push_words(
-    lasts: &Lasts<'_>,
-    value: &str,
-    places: &mut Vec<usize>,
-) -> Result<(), AllocError>
+fn push_words(lasts: &Lasts<'_>, value: &str, places: &mut Vec<usize>) -> Result<(), AllocError>
     ensures { OnOk result (Adds places.old.items places.new.items
         (ClassLeads lasts.now (Some value.now))) }
 {
@@ -204,21 +201,47 @@ fn push_all_earlier(rule_index: &RuleIndex<'_>, places: &mut Vec<usize>) -> Resu
     Ok(())
 }
 
-/// Leaves the places of the rules whose key the element tells, in order. A word that the
-/// element's class repeats costs one look-up and one place more, and that place is dropped before
-/// the chains are followed.
-pub(crate) fn candidates<E: Keyed>(
+/// Leaves the places of the rules whose key is reported, in order. A word that the element's class
+/// repeats costs one look-up and one place more, and that place is dropped before the chains are
+/// followed.
+#[inline(always)]
+fn find_keyed<E: Keyed>(
     rule_index: &RuleIndex<'_>,
     element: &E,
     places: &mut Vec<usize>,
 ) -> Result<(), AllocError>
     ensures { OnOk result ((near : Near) × IsNear E.tree E.node E.told element.now near
-        × AreCandidates near rule_index.now places.new.items) }
+        × AreKeyed near rule_index.now places.new.items) }
 {
     places.clear();
     push_near(&rule_index.lasts, element, places)?;
     sort_once(places);
     push_all_earlier(rule_index, places)?;
     sort_once(places);
+    Ok(())
+}
+
+/// Keeps the places of the rules whose ancestors' keys the bits cover.
+#[inline(always)]
+fn keep_covered(rule_index: &RuleIndex<'_>, above: u64, places: &mut Vec<usize>)
+    ensures { places.new.items ≡ filter
+        (λ place. is_covered above (selector_at rule_index.now place)) places.old.items }
+{
+    places.retain(|place| rule_index.is_covered(*place, above));
+}
+
+/// Leaves the places of the rules that are to be tested, in order: those whose key is reported, and
+/// whose ancestors' keys are among those of the element's ancestors, as far as their bits show.
+pub(crate) fn candidates<E: Keyed>(
+    rule_index: &RuleIndex<'_>,
+    element: &E,
+    places: &mut Vec<usize>,
+) -> Result<(), AllocError>
+    ensures { OnOk result ((near : Near) × IsNear E.tree E.node E.told element.now near
+        × (above : ℕ) × CoversAncestors E.tree (E.node element.now) above
+        × AreCandidates near above rule_index.now places.new.items) }
+{
+    find_keyed(rule_index, element, places)?;
+    keep_covered(rule_index, element.ancestor_bits(), places);
     Ok(())
 }

@@ -1,29 +1,21 @@
 //! An index of rules by the keys of their selectors.
-ghost use Rattle.std.specs.Prelude.{◌≡◌, ◌+◌, ◌<◌, ◌≤◌, ◌∷◌, ◌++◌, [], IfOk, OnOk};
+ghost use Rattle.std.specs.Prelude.{◌≡◌, ℕ, ◌+◌, ◌<◌, ◌≤◌, ◌∷◌, ◌++◌, [], IfOk, OnOk};
 ghost use Rattle.std.specs.Prelude.{OnErr, length, map};
 ghost use Rattle.std.specs.List.{sum_by};
+ghost use Rattle.simplecss_selector.specs.KeyBits.{CoversAncestors};
 ghost use Rattle.simplecss_selector.specs.Wanted.{Near, IsNear};
 ghost use Rattle.simplecss.specs.Chains.{selectors_of, IsLastBefore, AreChained};
-ghost use Rattle.simplecss.specs.SelectorPlaces.{key_at};
-ghost use Rattle.simplecss.specs.Matching.{AreMatches, most_tests, keyed_for};
+ghost use Rattle.simplecss.specs.SelectorPlaces.{key_at, selector_at};
+ghost use Rattle.simplecss.specs.Matching.{AreMatches, most_tests, is_covered, tested_for};
 
 use super::find::candidates;
 use super::keep::keep_matching;
+use super::link::Link;
 use super::wanted_lasts::WantedLasts;
 use crate::sheet::Rule;
-use simplecss_selector::{Keyed, Selector, Tests};
+use simplecss_selector::{Keyed, Tests};
 use std::alloc::{AllocError, Global};
 use std::marker::Model;
-use std::snapshot::Snapshot;
-
-/// What an index keeps of a rule.
-#[derive(Drop)]
-struct Link<'a> {
-    /// The place of the last earlier rule with the same key.
-    earlier: Option<usize>,
-    /// The selector, which contracts alone see. It takes no bytes.
-    selector: Snapshot<Selector<'a>>,
-}
 
 /// Puts the links of the rules behind the others, in order: each place is put under the key of its
 /// selector, with a link to the last earlier place with that key.
@@ -40,16 +32,13 @@ fn push_links<'a>(
 {
     for rule in rules {
         let earlier = lasts.replace(rule.selector.wanted(), links.len())?;
-        links.push(Link {
-            earlier,
-            selector: Snapshot::of(&rule.selector),
-        })?;
+        links.push(Link::new(earlier, &rule.selector))?;
     }
     Ok(())
 }
 
 /// An index of rules by the keys of their selectors: it finds the rules that match an element, and
-/// asks only those whose key the element tells.
+/// tests only those whose key is reported.
 ///
 /// It keeps places and not the rules, so it may stand beside its sheet in one value. It is of the
 /// rules as they stood when it was made: after an edit of their selectors, or of their number or
@@ -107,12 +96,25 @@ impl<'a> RuleIndex<'a> {
         self.links[place].earlier
     }
 
+    /// Whether the bits cover those of the keys that the rule at this place wants of an element's
+    /// ancestors.
+    #[inline(always)]
+    pub(crate) fn is_covered(&self, place: usize, above: u64) -> bool
+        ensures { result ≡ is_covered above (selector_at self.now place) }
+    {
+        match self.links.get(place) {
+            Some(link) => above | link.ancestors == above,
+            None => true,
+        }
+    }
+
     /// The places of the rules that match the element, in order: what asking each rule would give.
     /// The rules are those that the index was made of.
     ///
     /// What stood in `places` is dropped, and what it grows by is all the memory that the call
-    /// takes: it never holds more places than the greater of the number of rules and the number of
-    /// words in the element's class and three. Once it has grown, further calls take none. The error
+    /// takes: it never holds more places than the greater of the number of rules and a few more than the
+    /// number of words in the classes of the element, its parent and its previous sibling and of
+    /// attributes that are keys. Once it has grown, further calls take none. The error
     /// is that a growth was refused.
     pub fn matching<E: Keyed>(
         &self,
@@ -128,10 +130,9 @@ impl<'a> RuleIndex<'a> {
         self.matching_counted(rules, element, places, &mut Tests::new())
     }
 
-    /// `matching`, with a count of the tests that were made. Each rule whose key is reported is
-    /// tested, and no other: its key is that of its last component (`Selector::wanted`), which the
-    /// element reports, or where that has none, of the component before, which the element's parent
-    /// or previous sibling reports.
+    /// `matching`, with a count of the tests that were made. A rule is tested only if its key is
+    /// reported (`Selector::wanted`: by the element, its parent or its previous sibling), and
+    /// `Keyed::ancestor_bits` covers the bits of `Selector::ancestor_bits`.
     pub fn matching_counted<E: Keyed>(
         &self,
         rules: &[Rule<'a>],
@@ -144,9 +145,10 @@ impl<'a> RuleIndex<'a> {
             (AreMatches E.tree (E.node element.now) self.now places.new.items) }
         ensures tests { OnOk result ((near : Near)
             × IsNear E.tree E.node E.told element.now near
-            × (tests.old + length (keyed_for near self.now) ≤ tests.new)
+            × (above : ℕ) × CoversAncestors E.tree (E.node element.now) above
+            × (tests.old + length (tested_for near above self.now) ≤ tests.new)
             × (tests.new ≤ tests.old + sum_by (most_tests E.tree (E.node element.now))
-            (keyed_for near self.now))) }
+            (tested_for near above self.now))) }
         ensures err { OnErr result (places.new.items ≡ []) }
         ensures untested { OnErr result (tests.new ≡ tests.old) }
     {

@@ -1,13 +1,7 @@
-use Rattle.simplecss.proofs.Candidates.{start_within, are_candidates}
+use Rattle.simplecss.proofs.Candidates.{covered_only}
 use Rattle.simplecss.proofs.index.find.candidates.Goals as goal
-
-pub push_all_earlier-requires : goal.push_all_earlier-requires
-push_all_earlier-requires g c =
-    start_within c.in_ok-push_near.ensures.0 c.rule_index.inside.lasts c.rule_index.inside.links.items c.args.rule_index.now c.rule_index.invariant c.rule_index.view_is
-    c.clear.new.self.items c.push_near.new.places.items c.sort_once.new.places.items c.clear.ensures.items c.in_ok-push_near.ensures.2 c.sort_once.ensures.same
 
 pub returns : goal.returns
 returns g c =
-    (c.in_ok-push_near.ensures.0, c.in_ok-push_near.ensures.1, are_candidates c.in_ok-push_near.ensures.0 c.rule_index.inside.lasts c.rule_index.inside.links.items c.args.rule_index.now c.rule_index.invariant c.rule_index.view_is
-    c.clear.new.self.items c.push_near.new.places.items c.sort_once.new.places.items c.clear.ensures.items c.in_ok-push_near.ensures.2 c.sort_once.ensures.same
-    c.push_all_earlier.new.places.items c.sort_once-2.new.places.items c.in_ok-push_all_earlier.ensures c.sort_once-2.ensures.ascending c.sort_once-2.ensures.same)
+    let keyed = c.in_ok-find_keyed.ensures in
+    (keyed.0, keyed.1, c.ancestor_bits.result, c.ancestor_bits.ensures, covered_only keyed.0 c.ancestor_bits.result c.args.rule_index.now c.find_keyed.new.places.items c.keep_covered.new.places.items keyed.2 c.keep_covered.ensures)

@@ -1,4 +1,4 @@
-use Rattle.std.proofs.Common.{◌≡◌, sym, ◌∙◌, ap}
+use Rattle.std.proofs.Common.{sym, ◌∙◌, ap}
 use Rattle.simplecss_selector.specs.Wanted.Wanted.{of_element}
 use Rattle.simplecss_selector.proofs.WantedLemmas.{wanted_one, wanted_is}
 use Rattle.simplecss_selector.proofs.selector.Selector.wanted.Goals as goal

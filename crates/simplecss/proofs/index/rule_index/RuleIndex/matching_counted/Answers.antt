@@ -12,7 +12,7 @@ use Rattle.simplecss.proofs.index.rule_index.RuleIndex.matching_counted.Goals as
 pub keep_matching-kept-requires-clause-within : goal.keep_matching-kept-requires-clause-within
 keep_matching-kept-requires-clause-within g c =
     let same : length c.args.self.now ≡ length c.args.rules.now = ap length c.requires ∙ length-map c.args.rules.now (λ rule. rule.selector) in
-    let within = candidate_within c.in_default.ensures.0 c.args.self.now c.candidates.new.places.items c.in_default.ensures.2 in
+    let within = candidate_within c.in_default.ensures.0 c.in_default.ensures.2 c.args.self.now c.candidates.new.places.items c.in_default.ensures.4 in
     rw c.deref_mut.ensures.value (subst (λ n. All (λ place. place < n) c.candidates.new.places.items) same within)
 
 pub returns-clause-matches : goal.returns-clause-matches
@@ -28,7 +28,7 @@ returns-clause-matches g c =
     subst (λ ss. (place : ℕ) → Contains (take count kept) place ↔ (Contains candidates.items place × HasPlacement tree (selector_at ss place) element)) (sym c.requires)
     (subst (λ ps. (place : ℕ) → Contains (take count kept) place ↔ (Contains ps place × HasPlacement tree (selector_at (map (λ rule. rule.selector) c.args.rules.now) place) element)) c.deref_mut.ensures.value c.keep_matching-kept.ensures.exactly) in
     subst (AreMatches tree element c.args.self.now) (sym back)
-    (are_matches tree element c.in_default.ensures.0 c.args.self.now candidates.items (take count kept) (near_tells tree g.E.Element.node g.E.Keyed.told g.met.E.Keyed.told_law c.args.element.now c.in_default.ensures.0 c.in_default.ensures.1) c.in_default.ensures.2 c.keep_matching-kept.ensures.ascending exactly)
+    (are_matches tree element c.in_default.ensures.0 c.in_default.ensures.2 c.args.self.now candidates.items (take count kept) g.met.E.Element.sibling_law (near_tells tree g.E.Element.node g.E.Keyed.told g.met.E.Keyed.told_law c.args.element.now c.in_default.ensures.0 c.in_default.ensures.1) c.in_default.ensures.3 c.in_default.ensures.4 c.keep_matching-kept.ensures.ascending exactly)
 
 pub returns-clause-tests : goal.returns-clause-tests
 returns-clause-tests g c =
@@ -43,6 +43,8 @@ returns-clause-tests g c =
     (subst (λ ps. c.keep_matching-kept.new.tests ≤ c.args.tests.now + sum_by (λ place. most_tests tree element (selector_at (map (λ rule. rule.selector) c.args.rules.now) place)) ps) c.deref_mut.ensures.value c.keep_matching-kept.ensures.counted) in (
       near,
       c.in_default.ensures.1,
-      subst (λ n. c.args.tests.now + n ≤ c.keep_matching-kept.new.tests) (number_of_candidates near c.args.self.now candidates c.in_default.ensures.2) least,
-      subst (λ n. c.keep_matching-kept.new.tests ≤ c.args.tests.now + n) (sum_of_candidates near c.args.self.now candidates (most_tests tree element) c.in_default.ensures.2) asked,
+      c.in_default.ensures.2,
+      c.in_default.ensures.3,
+      subst (λ n. c.args.tests.now + n ≤ c.keep_matching-kept.new.tests) (number_of_candidates near c.in_default.ensures.2 c.args.self.now candidates c.in_default.ensures.4) least,
+      subst (λ n. c.keep_matching-kept.new.tests ≤ c.args.tests.now + n) (sum_of_candidates near c.in_default.ensures.2 c.args.self.now candidates (most_tests tree element) c.in_default.ensures.4) asked,
     )
