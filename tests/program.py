@@ -177,6 +177,7 @@ for words, stdin, *wanted in ANSWERS:
 
 warned = put("warned.css", b"x { y:z; q }\n\nq, a < b { c:d }\n@import 'e';\n:foo {}\na > { f:g }")
 WARNINGS = [
+    f"{warned}:1:10: 'q': broken declaration",
     f"{warned}:3:4: 'a < b': invalid ident",
     f"{warned}:4:1: '@import 'e'': at-rule not supported",
     f"{warned}:5:1: ':foo': unknown pseudo-class",
@@ -199,7 +200,7 @@ for words, stdin, warning in (
     with open(put("stdin", stdin), "rb") as file:
         child = start(words, {}, stdin=file)
         got, err = child.communicate()
-    wanted = [f"[WARN  simplecss_selector::reading] Selector parsing failed cause {warning}", REFUSED]
+    wanted = [f"[WARN  simplecss_selector::warnings] Selector parsing failed cause {warning}", REFUSED]
     expect((child.returncode, got, err.decode().splitlines()) == (1, b"", wanted), f"{words} warns {err}")
 
 # ---- files that cannot be read: the first in the words' order is told, and nothing is written

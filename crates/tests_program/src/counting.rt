@@ -4,7 +4,9 @@ use crate::same::same;
 use cssq::cascade::{winners, winning};
 use cssq::tree::{Node, Page};
 use log::sink::Discard;
-use simplecss::{AttributeOperator, Element, PseudoClass, Selector, StyleSheet, Tests};
+use simplecss::{
+    AttributeOperator, Element, Keyed, PseudoClass, RuleIndex, Selector, StyleSheet, Tests,
+};
 use std::alloc::Global;
 use std::cell::Cell;
 use std::test::Fail;
@@ -81,6 +83,35 @@ impl<'a, 'p, 't> Element for Counted<'a, 'p, 't> {
     fn pseudo_class_matches(&self, class: PseudoClass<'_>) -> bool {
         count(&self.asked.classes);
         self.node.pseudo_class_matches(class)
+    }
+}
+
+impl<'a, 'p, 't> Keyed for Counted<'a, 'p, 't> {
+    ghost use Rattle.cssq.specs.Nodes.{told_of};
+    ghost use Rattle.cssq.specs.ElementLaws.{keys_told};
+
+    ghost told = { λ counted. told_of counted.node };
+
+    ghost told_law = { λ counted. keys_told counted.node };
+
+    fn local_name(&self) -> &str {
+        self.node.local_name()
+    }
+
+    fn id_value(&self) -> Option<&str> {
+        self.node.id_value()
+    }
+
+    fn class_value(&self) -> Option<&str> {
+        self.node.class_value()
+    }
+
+    fn has_attribute(&self, name: &str) -> bool {
+        self.node.has_attribute(name)
+    }
+
+    fn ancestor_bits(&self) -> u64 {
+        self.node.ancestor_bits()
     }
 }
 
@@ -185,7 +216,7 @@ fn counts_pseudo_classes(rt: HostRuntime) -> Result<(), Fail> {
     Ok(())
 }
 
-const MANY: usize = 100_000;
+const MANY: usize = 20_000;
 
 #[test]
 fn counts_in_a_deep_tree(rt: HostRuntime) -> Result<(), Fail> {
@@ -201,7 +232,7 @@ fn counts_in_a_deep_tree(rt: HostRuntime) -> Result<(), Fail> {
     for is_counted in [true, false] {
         for (text, answer) in [(selector.as_str(), true), ("x a", false)] {
             let got = asked_on_last(rt.alloc(), text, tree.as_str(), is_counted)?;
-            same(&rt, got, run_with(answer, 100_000, 0), "a long selector");
+            same(&rt, got, run_with(answer, 20_000, 0), "a long selector");
         }
     }
     Ok(())
@@ -241,6 +272,56 @@ fn asks_few_rules_for_winners(rt: HostRuntime) -> Result<(), Fail> {
     for &(sheet, times) in ASKED_RULES {
         let asked = asked_for_winners(rt.alloc(), sheet)?;
         same(&rt, asked, times, sheet);
+    }
+    Ok(())
+}
+
+/// A tree for the rules below: what is asked is asked of its last element.
+const INDEXED: &str = "0\tbody\tclass=n\n1\tb\tclass=s\n1\tp\tclass=a\tq=1\n";
+
+/// How often the last element of the tree and those near it are asked their names and their
+/// attributes while an index finds the rules that match.
+fn asked_by_index(alloc: Global, sheet: &str, is_counted: bool) -> Result<(u64, u64), Fail> {
+    let sheet = StyleSheet::parse(&Discard, alloc, sheet)?;
+    let index = RuleIndex::new(alloc, &sheet.rules)?;
+    let page = Page::read(alloc, INDEXED)?;
+    let asked = Asked::new();
+    let element = Counted {
+        node: page.node(2).ok_or("no element")?,
+        asked: &asked,
+    };
+    let mut places = Vec::new(alloc);
+    if is_counted {
+        index.matching_counted(&sheet.rules, &element, &mut places, &mut Tests::new())?;
+    } else {
+        index.matching(&sheet.rules, &element, &mut places)?;
+    }
+    Ok((asked.names.get(), asked.attributes.get()))
+}
+
+/// Rules, and how often an index asks names and attributes for them.
+const INDEXED_RULES: &[(&str, (u64, u64))] = &[
+    // A rule is tested if the element has its id, its class, its name or its attribute.
+    (".a{x:y} .b{x:y} #i{x:y} p{x:y} i{x:y}", (1, 1)),
+    ("[q]{x:y} [r]{x:y} [q='2']{x:y}", (0, 2)),
+    // Or the parent or the previous sibling what a step before `*` leads to.
+    (".n > *{x:y} .m > *{x:y} .s + *{x:y} .n + *{x:y}", (0, 2)),
+    // And then only if its ancestors may be there.
+    (
+        ".n p{x:y} .z p{x:y} .z > p{x:y} #n p{x:y} .z b + p{x:y}",
+        (1, 1),
+    ),
+    // A rule without a key is tested for each element.
+    ("*{x:y} :hover{x:y} .n *{x:y}", (0, 1)),
+];
+
+#[test]
+fn an_index_asks_few_rules(rt: HostRuntime) -> Result<(), Fail> {
+    for &(sheet, times) in INDEXED_RULES {
+        for is_counted in [true, false] {
+            let asked = asked_by_index(rt.alloc(), sheet, is_counted)?;
+            same(&rt, asked, times, sheet);
+        }
     }
     Ok(())
 }

@@ -109,18 +109,18 @@ const TOLD: &[(&str, &[&str])] = &[
     (
         "> {}",
         &[
-            "[WARN  simplecss_selector::reading] Selector parsing failed cause unexpected combinator.",
+            "[WARN  simplecss_selector::warnings] Selector parsing failed cause unexpected combinator.",
         ],
     ),
     (
         "a\nb <",
         &[
-            "[WARN  simplecss_selector::reading] Selector parsing failed cause invalid ident at 2:3.",
+            "[WARN  simplecss_selector::warnings] Selector parsing failed cause invalid ident at 2:3.",
         ],
     ),
     (
         ":le {}",
-        &["[WARN  simplecss_selector::reading] ':le' is not supported. Selector skipped."],
+        &["[WARN  simplecss_selector::warnings] ':le' is not supported. Selector skipped."],
     ),
     ("a > .b:link", &[]),
 ];

@@ -38,7 +38,7 @@ fn push_links<'a>(
 }
 
 /// An index of rules by the keys of their selectors: it finds the rules that match an element, and
-/// asks only those whose key the element tells.
+/// tests only those whose key is reported.
 ///
 /// It keeps places and not the rules, so it may stand beside its sheet in one value. It is of the
 /// rules as they stood when it was made: after an edit of their selectors, or of their number or
@@ -112,8 +112,9 @@ impl<'a> RuleIndex<'a> {
     /// The rules are those that the index was made of.
     ///
     /// What stood in `places` is dropped, and what it grows by is all the memory that the call
-    /// takes: it never holds more places than the greater of the number of rules and the number of
-    /// words in the element's class and three. Once it has grown, further calls take none. The error
+    /// takes: it never holds more places than the greater of the number of rules and a few more than the
+    /// number of words in the classes of the element, its parent and its previous sibling and of
+    /// attributes that are keys. Once it has grown, further calls take none. The error
     /// is that a growth was refused.
     pub fn matching<E: Keyed>(
         &self,
