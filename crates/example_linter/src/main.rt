@@ -1,5 +1,5 @@
-//! An example: reports what of some style sheets is passed over, `lint FILE..`. A line for each
-//! refused selector, broken declaration, at-rule and open comment, with the file, the row and the
+//! An example: reports what is skipped of some style sheets, `lint FILE..`. A line for each refused
+//! selector, broken declaration, at-rule, open comment and stray text, with the file, the row and the
 //! column.
 #![tactic(auto)]
 
@@ -12,7 +12,7 @@ fn lint(rt: &HostRuntime, file: &str) -> io::Result<bool> {
     let text = fs::read_to_string(rt, file)?;
     let faults = find_faults(rt.alloc(), text.as_str())?;
     for fault in &faults {
-        println!(rt; "{file}:{}: '{}': {}", fault.pos, fault.text, fault.reason)?;
+        println!(rt; "{file}:{fault}")?;
     }
     Ok(!faults.is_empty())
 }
