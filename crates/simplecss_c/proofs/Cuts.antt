@@ -2,7 +2,7 @@
 -- Serves `texts_of` (which texts it has, and why it has none).
 use Rattle.std.proofs.Common.{◌≡◌, ℕ, ◌+◌, ◌<◌, ◌≤◌, List, [], ◌∷◌, ◌++◌, length, drop, Option, None, Some, refl, sym, ap, subst, ◌∙◌, append_assoc, arith}
 use Rattle.std.proofs.lemmas.Grind.{common_steps}
-use Rattle.std.proofs.lemmas.List.Elements.{All-append}
+use Rattle.std.proofs.lemmas.List.Elements.{All-append, All-cons, All-nil, All-head, All-tail}
 use Rattle.std.specs.Prelude.{Result, Ok, Err, MatchResult}
 use Rattle.std.specs.Result.{IsErrAnd}
 use Rattle.std.specs.Option.{option_map}
@@ -44,13 +44,13 @@ pub cut_more : {buffer ends : List ℕ} {start : ℕ} {rest : List ℕ} {texts :
     → (all : List (List ℕ)) → all ≡ texts ++ text ∷ [] → CutSoFar buffer ends end later all
 cut_more {buffer} {ends} {start} {rest} {texts} so_far end later next rising within text is utf8 all are = record {
   whole = whole_more so_far end later next rising within ∙ ap (λ ts. option_map (λ more. ts ++ more) (texts_from buffer end later)) (ap (λ t. texts ++ t ∷ []) (sym is) ∙ sym are);
-  utf8 = subst (All IsUtf8) (sym are) (All-append IsUtf8 texts (text ∷ []) so_far.utf8 (utf8, tt));
+  utf8 = subst (All IsUtf8) (sym are) (All-append IsUtf8 texts (text ∷ []) so_far.utf8 (All-cons IsUtf8 text [] utf8 (All-nil IsUtf8)));
 }
 
 -- the texts before and behind one, and that one
 has_that : (texts : List (List ℕ)) (text : List ℕ) (more : List (List ℕ)) → All IsUtf8 ((texts ++ text ∷ []) ++ more) → IsUtf8 text
-has_that [] text more all = all.0
-has_that (t ∷ texts) text more all = has_that texts text more all.1
+has_that [] text more all = All-head IsUtf8 text more all
+has_that (t ∷ texts) text more all = has_that texts text more (All-tail IsUtf8 t ((texts ++ text ∷ []) ++ more) all)
 
 found_in : (texts : List (List ℕ)) (text : List ℕ) (o : Option (List (List ℕ))) (all : List (List ℕ))
     → option_map (λ more. (texts ++ text ∷ []) ++ more) o ≡ Some all → All IsUtf8 all → IsUtf8 text
