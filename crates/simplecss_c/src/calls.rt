@@ -10,10 +10,9 @@ ghost use Rattle.simplecss_c.specs.Calls.{IsSelectorCall, IsSheetCall, IsPrinted
 ghost use Rattle.simplecss_c.specs.Calls.{IsStyleCall, IsAskedCall};
 
 use crate::answer::Failure;
-use crate::json;
-use crate::lists;
 use crate::lists::selectors_of;
 use crate::texts::{text_of, texts_of};
+use crate::{json, lists};
 use cssq::cascade::best_places;
 use cssq::runs::{Asked, page_lines, selector_line, sheet_text};
 use cssq::tree::Page;
@@ -192,12 +191,7 @@ fn page_answer(
 }
 
 /// The numbers of the rules that match each element of a tree.
-pub fn matches(
-    alloc: Global,
-    buffer: &[u8],
-    ends: &[usize],
-    tree: &[u8],
-) -> Result<String, Failure>
+pub fn matches(alloc: Global, buffer: &[u8], ends: &[usize], tree: &[u8]) -> Result<String, Failure>
     ensures { IsMatchCall buffer.now ends.now tree.now (outcome_of result) }
 {
     page_answer(alloc, Asked::Rules, buffer, ends, tree)

@@ -33,12 +33,7 @@ pub extern "C" fn simplecss_selector(
 /// Writes a line of JSON for each selector of a list with commas between them: `selector` and
 /// `specificity`.
 #[unsafe(no_mangle)]
-pub extern "C" fn simplecss_list(
-    alloc: Global,
-    text: &[u8],
-    out: &mut [u8],
-    len: &mut usize,
-) -> u32
+pub extern "C" fn simplecss_list(alloc: Global, text: &[u8], out: &mut [u8], len: &mut usize) -> u32
     ensures { (outcome : Result (List ℕ) SeenFailure)
         × Answers outcome result out.old out.new len.new }
 {
