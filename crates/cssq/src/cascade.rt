@@ -176,7 +176,7 @@ fn takes_over(
 }
 
 /// The place in the list of the declaration that wins for each name.
-fn best_places<'a>(
+pub fn best_places<'a>(
     alloc: Global,
     declarations: &[Declaration<'a>],
 ) -> Result<BTreeMap<&'a str, usize>, AllocError>

@@ -134,7 +134,7 @@ fn write_out<W: Write>(out: &mut W, bytes: &[u8]) -> Result<(), RunFault>
 }
 
 /// The line that `run_selector` writes for a selector.
-fn selector_line(alloc: Global, selector: Selector<'_>) -> Result<String, AllocError>
+pub fn selector_line(alloc: Global, selector: Selector<'_>) -> Result<String, AllocError>
     ensures { IfOk result (λ line. string_bytes line ≡ selector_line selector.entry) }
 {
     let specificity = selector.specificity();
@@ -163,7 +163,7 @@ pub fn run_selector<R: Log, W: Write>(
 }
 
 /// The printed sheet, and a newline where it has a rule.
-fn sheet_text(alloc: Global, sheet: &StyleSheet<'_>) -> Result<String, AllocError>
+pub fn sheet_text(alloc: Global, sheet: &StyleSheet<'_>) -> Result<String, AllocError>
     ensures { IfOk result (λ text. string_bytes text ≡ sheet_output (rules_in sheet.now)) }
 {
     if sheet.rules.is_empty() {
@@ -247,7 +247,7 @@ fn push_winner(
 
 /// What the lines tell of the elements of a page.
 #[derive(Clone, Copy)]
-enum Asked<'n> {
+pub enum Asked<'n> {
     /// The numbers of the rules that take the element.
     Rules,
     /// The declaration of the name that wins on the element.
@@ -281,7 +281,7 @@ fn push_element<'a>(
 }
 
 /// The lines of the elements of a page, by an index of the rules.
-fn page_lines<'a>(
+pub fn page_lines<'a>(
     alloc: Global,
     asked: Asked<'_>,
     index: &RuleIndex<'a>,

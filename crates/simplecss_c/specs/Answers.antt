@@ -1,0 +1,49 @@
+-- What a call leaves in its caller's memory.
+use Rattle.std.specs.Prelude.{◌≡◌, ℕ, ◌<◌, ◌≤◌, List, ◌++◌, length, drop, Result, Ok, Err}
+use Rattle.cssq_tree.specs.declared.tree.TreeFault.{TreeFault}
+use Rattle.cssq_tree.specs.declared.tree.TreeFault.TheVariants as told
+use Rattle.cssq_tree.specs.TreeText.{fault_number, fault_line}
+use Rattle.simplecss_c.specs.declared.answer.Failure.{Failure}
+use Rattle.simplecss_c.specs.declared.answer.Failure.TheVariants.{Refused, Tree, Memory, NotUtf8}
+use Rattle.simplecss_c.specs.declared.answer.TreePlace.{TreePlace}
+
+-- the status of a failure
+abbrev pub status_of : Failure → ℕ
+status_of Refused = 1
+status_of (Tree fault) = 2
+status_of Memory = 3
+status_of NotUtf8 = 5
+
+-- The whole text is at the front of the buffer, whose rest is unchanged; or the buffer is too small
+-- for it, and is unchanged. The length is that of the whole text.
+pub data IsHandedOver (bytes : List ℕ) (status : ℕ) (old new : List ℕ) (len : ℕ) : Type 0 where
+  written : length bytes ≤ length old → status ≡ 0 → new ≡ bytes ++ drop (length bytes) old
+      → len ≡ length bytes → IsHandedOver bytes status old new len
+  too_small : length old < length bytes → status ≡ 6 → new ≡ old → len ≡ length bytes
+      → IsHandedOver bytes status old new len
+
+-- The text is handed over; or the status is that of the failure, the buffer is unchanged, and the
+-- length is 0.
+abbrev pub Answers : Result (List ℕ) Failure → ℕ → List ℕ → List ℕ → ℕ → Type 0
+Answers (Ok bytes) status old new len = IsHandedOver bytes status old new len
+Answers (Err failure) status old new len = (status ≡ status_of failure) × (new ≡ old) × (len ≡ 0)
+
+-- the number and the line of a fault
+abbrev pub place_of : TreeFault → TreePlace
+place_of fault = record { fault = fault_number fault; line = fault_line fault }
+
+-- where the failure is a fault of the tree this is its place; else it is unchanged
+abbrev pub IsPlaced : Result (List ℕ) Failure → TreePlace → TreePlace → Type 0
+IsPlaced (Ok bytes) old new = new ≡ old
+IsPlaced (Err Refused) old new = new ≡ old
+IsPlaced (Err (Tree fault)) old new = new ≡ place_of fault
+IsPlaced (Err Memory) old new = new ≡ old
+IsPlaced (Err NotUtf8) old new = new ≡ old
+
+-- a tree's want of memory is the call's
+abbrev pub tree_failure : TreeFault → Failure
+tree_failure (told.Memory line) = Memory
+tree_failure (told.BadDepth line) = Tree (told.BadDepth line)
+tree_failure (told.EmptyName line) = Tree (told.EmptyName line)
+tree_failure (told.NoEquals line) = Tree (told.NoEquals line)
+tree_failure (told.RepeatedKey line) = Tree (told.RepeatedKey line)

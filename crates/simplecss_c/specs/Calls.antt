@@ -1,0 +1,86 @@
+-- What each call is to write, and when it fails.
+use Rattle.std.specs.Prelude.{◌≡◌, ◌⊎◌, ℕ, List, Option, None, Some, Result, Ok, Err}
+use Rattle.std.specs.List.{All}
+use Rattle.std.specs.Str.{IsUtf8}
+use Rattle.simplecss.specs.Components.{Component}
+use Rattle.simplecss.specs.ThisEdition.{this_edition}
+use Rattle.simplecss.specs.Statements.{StyleRule}
+use Rattle.simplecss.specs.Sheets.{sheet}
+use Rattle.cssq_tree.specs.declared.tree.TreeFault.{TreeFault}
+use Rattle.cssq_tree.specs.TreeText.{Row, tree_of}
+use Rattle.cssq.specs.declared.runs.Asked.{Asked}
+use Rattle.cssq.specs.PageRuns.{IsToldText}
+use Rattle.cssq.specs.SelectorRuns.{selector_in, selector_line}
+use Rattle.cssq.specs.SheetRuns.{sheet_output}
+use Rattle.cssq.specs.MatchRuns.{IsMatchText}
+use Rattle.cssq.specs.StyleRuns.{IsStyleText}
+use Rattle.simplecss_c.specs.declared.answer.Failure.{Failure}
+use Rattle.simplecss_c.specs.declared.answer.Failure.TheVariants.{Refused, Tree, Memory, NotUtf8}
+use Rattle.simplecss_c.specs.Texts.{texts_in}
+
+-- A failure is due for its own reason. Any call may be out of memory.
+abbrev pub FailsFor : Type 0 → (TreeFault → Type 0) → Type 0 → Failure → Type 0
+FailsFor IsRefused IsFaulty IsBroken Refused = IsRefused
+FailsFor IsRefused IsFaulty IsBroken (Tree fault) = IsFaulty fault
+FailsFor IsRefused IsFaulty IsBroken Memory = Unit {0}
+FailsFor IsRefused IsFaulty IsBroken NotUtf8 = IsBroken
+
+-- the line of the text's selector, or why there is none
+abbrev pub IsSelectorCall : List ℕ → Result (List ℕ) Failure → Type 0
+IsSelectorCall text (Ok line) =
+    IsUtf8 text × (selector : List Component) × (selector_in text ≡ Some selector)
+    × (line ≡ selector_line selector)
+IsSelectorCall text (Err failure) =
+    FailsFor (selector_in text ≡ None) (λ fault. ⊥) (¬ (IsUtf8 text)) failure
+
+-- the texts of a buffer by their ends, each of which is UTF-8
+abbrev pub HasTexts : List ℕ → List ℕ → List (List ℕ) → Type 0
+HasTexts buffer ends texts = (texts_in buffer ends ≡ Some texts) × All IsUtf8 texts
+
+-- the ends are not those of texts in the buffer
+abbrev pub HasBadEnds : List ℕ → List ℕ → Type 0
+HasBadEnds buffer ends = texts_in buffer ends ≡ None
+
+-- the buffer does not hold texts in UTF-8
+abbrev pub IsBrokenUtf8 : List ℕ → List ℕ → Type 0
+IsBrokenUtf8 buffer ends = (texts : List (List ℕ)) → ¬ (HasTexts buffer ends texts)
+
+-- what is to be written for the sheet of the texts, or why it is not
+abbrev pub IsSheetCall : (List StyleRule → List ℕ → Type 0) → List ℕ → List ℕ
+    → Result (List ℕ) Failure → Type 0
+IsSheetCall IsText buffer ends (Ok bytes) =
+    (texts : List (List ℕ)) × HasTexts buffer ends texts × IsText (sheet this_edition texts) bytes
+IsSheetCall IsText buffer ends (Err failure) =
+    FailsFor (HasBadEnds buffer ends) (λ fault. ⊥) (IsBrokenUtf8 buffer ends) failure
+
+-- the printed sheet, with a newline where it has a rule
+abbrev pub IsPrinted : List StyleRule → List ℕ → Type 0
+IsPrinted rules bytes = bytes ≡ sheet_output rules
+
+-- what is to be written for the sheet of the texts and a tree, or why it is not
+abbrev pub IsPageCall : (List StyleRule → List Row → List ℕ → Type 0) → List ℕ → List ℕ → List ℕ
+    → Result (List ℕ) Failure → Type 0
+IsPageCall IsText buffer ends tree (Ok bytes) =
+    (texts : List (List ℕ)) × (rows : List Row) × HasTexts buffer ends texts × IsUtf8 tree
+    × (tree_of tree ≡ Ok rows) × IsText (sheet this_edition texts) rows bytes
+IsPageCall IsText buffer ends tree (Err failure) =
+    FailsFor (HasBadEnds buffer ends) (λ fault. tree_of tree ≡ Err fault)
+    (IsBrokenUtf8 buffer ends ⊎ ¬ (IsUtf8 tree)) failure
+
+-- what is asked of each element
+abbrev pub IsAskedCall : Asked → List ℕ → List ℕ → List ℕ → Result (List ℕ) Failure → Type 0
+IsAskedCall asked = IsPageCall (IsToldText asked)
+
+-- which rules match each element
+abbrev pub IsMatchCall : List ℕ → List ℕ → List ℕ → Result (List ℕ) Failure → Type 0
+IsMatchCall = IsPageCall IsMatchText
+
+-- what wins for a name on each element; the name is UTF-8
+abbrev pub IsStyleCall : List ℕ → List ℕ → List ℕ → List ℕ → Result (List ℕ) Failure → Type 0
+IsStyleCall buffer ends tree name (Err NotUtf8) =
+    IsPageCall (IsStyleText name) buffer ends tree (Err NotUtf8) ⊎ ¬ (IsUtf8 name)
+IsStyleCall buffer ends tree name (Err Refused) = HasBadEnds buffer ends
+IsStyleCall buffer ends tree name (Err Memory) = Unit {0}
+IsStyleCall buffer ends tree name (Err (Tree fault)) = tree_of tree ≡ Err fault
+IsStyleCall buffer ends tree name (Ok bytes) =
+    IsUtf8 name × IsPageCall (IsStyleText name) buffer ends tree (Ok bytes)

@@ -1,0 +1,4 @@
+pub mod Outcomes
+pub mod Texts
+pub mod Answers
+pub mod Calls

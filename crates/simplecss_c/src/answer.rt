@@ -1,0 +1,114 @@
+//! What a call hands over to its caller.
+
+ghost use Rattle.std.specs.Prelude.{◌≡◌, Ok, Err};
+ghost use Rattle.std.specs.Prelude.{string_bytes};
+ghost use Rattle.simplecss_c.specs.Answers.{status_of, IsHandedOver, Answers, IsPlaced, tree_failure};
+ghost use Rattle.simplecss_c.specs.Outcomes.{outcome_of};
+ghost use Rattle.simplecss_c.specs.declared.answer.Failure.TheVariants.{Memory};
+
+use cssq::tree::TreeFault;
+use std::alloc::{AllocError, AllocFailed};
+
+/// The status of a call that has written its answer.
+const DONE: u32 = 0;
+/// The status of a call whose answer is longer than the buffer.
+const TOO_SMALL: u32 = 6;
+
+/// Why a call has no answer.
+#[derive(Clone, Copy, Debug, PartialEq)]
+pub enum Failure {
+    /// A text is no selector, or the ends are not those of texts in their buffer.
+    Refused,
+    /// The text of a tree has a fault.
+    Tree(TreeFault),
+    /// An allocation failed.
+    Memory,
+    /// A text is not UTF-8.
+    NotUtf8,
+}
+
+impl Failure {
+    /// The status that the call returns.
+    pub fn status(&self) -> u32
+        ensures { result ≡ status_of self.now }
+    {
+        match self {
+            Failure::Refused => 1,
+            Failure::Tree(_) => 2,
+            Failure::Memory => 3,
+            Failure::NotUtf8 => 5,
+        }
+    }
+}
+
+impl From<AllocError> for Failure {
+    ghost from_gives = { λ _ failure. failure ≡ Memory };
+
+    fn from(_error: AllocError) -> Failure {
+        Failure::Memory
+    }
+}
+
+impl<T: Drop> From<AllocFailed<T>> for Failure {
+    ghost from_gives = { λ _ failure. failure ≡ Memory };
+
+    fn from(_error: AllocFailed<T>) -> Failure {
+        Failure::Memory
+    }
+}
+
+impl From<TreeFault> for Failure {
+    ghost from_gives = { λ fault failure. failure ≡ tree_failure fault };
+
+    fn from(fault: TreeFault) -> Failure {
+        match fault {
+            TreeFault::Memory(_) => Failure::Memory,
+            other => Failure::Tree(other),
+        }
+    }
+}
+
+/// Where the text of a tree has a fault.
+#[repr(C)]
+pub struct TreePlace {
+    /// The number of the kind of fault.
+    pub fault: u32,
+    /// The number of the line, from 1.
+    pub line: usize,
+}
+
+/// Copies all bytes to the front of the buffer, or nothing where they are too many for it, and sets
+/// the length to their number.
+fn copy_whole(bytes: &[u8], out: &mut [u8], len: &mut usize) -> u32
+    ensures { IsHandedOver bytes.now result out.old out.new len.new }
+{
+    *len = bytes.len();
+    if out.len() < bytes.len() {
+        return TOO_SMALL;
+    }
+    out[..bytes.len()].copy_from_slice(bytes);
+    DONE
+}
+
+/// Hands over the answer of a call, and returns its status.
+pub fn hand_over(outcome: Result<String, Failure>, out: &mut [u8], len: &mut usize) -> u32
+    ensures { Answers (outcome_of outcome) result out.old out.new len.new }
+{
+    match outcome {
+        Ok(text) => copy_whole(text.as_bytes(), out, len),
+        Err(failure) => {
+            *len = 0;
+            failure.status()
+        }
+    }
+}
+
+/// Sets the place of a tree's fault, where that is why a call has no answer.
+pub fn set_place(outcome: &Result<String, Failure>, place: &mut TreePlace)
+    ensures { IsPlaced (outcome_of outcome.now) place.old place.new }
+{
+    if let Err(Failure::Tree(fault)) = outcome {
+        place.fault = u32::from(fault.number());
+        place.line = fault.line();
+    }
+}

@@ -1,0 +1,186 @@
+//! The functions that callers in C see.
+//!
+//! Each returns a status: 0 done, 1 refused, 2 a fault of the tree, 3 out of memory, 5 not UTF-8, 6
+//! the buffer is too small. At 0 the answer is at the front of `out`, and `len` is its length. At 6
+//! nothing was written, and `len` is the length that the call needs. At any other status nothing was
+//! written, and `len` is 0. `place` is set at 2 only.
+
+ghost use Rattle.std.specs.Prelude.{◌≡◌, List, ℕ, Result};
+ghost use Rattle.simplecss_c.specs.declared.answer.Failure.{Failure as SeenFailure};
+ghost use Rattle.simplecss_c.specs.Answers.{Answers, IsPlaced};
+ghost use Rattle.simplecss_c.specs.Calls.{IsSelectorCall, IsSheetCall, IsPrinted, IsMatchCall};
+ghost use Rattle.simplecss_c.specs.Calls.{IsStyleCall};
+
+use crate::answer::{TreePlace, hand_over, set_place};
+use crate::calls;
+use std::alloc::Global;
+
+/// Writes the printed selector of a text, a TAB, its specificity as three numbers with commas
+/// between them, and a newline.
+#[unsafe(no_mangle)]
+pub extern "C" fn simplecss_selector(
+    alloc: Global,
+    text: &[u8],
+    out: &mut [u8],
+    len: &mut usize,
+) -> u32
+    ensures { (outcome : Result (List ℕ) SeenFailure) × IsSelectorCall text.now outcome
+        × Answers outcome result out.old out.new len.new }
+{
+    hand_over(calls::selector(alloc, text), out, len)
+}
+
+/// Writes a line of JSON for each selector of a list with commas between them: `selector` and
+/// `specificity`.
+#[unsafe(no_mangle)]
+pub extern "C" fn simplecss_list(alloc: Global, text: &[u8], out: &mut [u8], len: &mut usize) -> u32
+    ensures { (outcome : Result (List ℕ) SeenFailure)
+        × Answers outcome result out.old out.new len.new }
+{
+    hand_over(calls::list(alloc, text), out, len)
+}
+
+/// Writes a line of JSON for the first error of a list of selectors: `row`, `column` and `reason`.
+/// Nothing where the list has none.
+#[unsafe(no_mangle)]
+pub extern "C" fn simplecss_refusal(
+    alloc: Global,
+    text: &[u8],
+    out: &mut [u8],
+    len: &mut usize,
+) -> u32
+    ensures { (outcome : Result (List ℕ) SeenFailure)
+        × Answers outcome result out.old out.new len.new }
+{
+    hand_over(calls::refusal(alloc, text), out, len)
+}
+
+/// Writes the printed sheet of the texts in a buffer, and a newline where it has a rule.
+#[unsafe(no_mangle)]
+pub extern "C" fn simplecss_sheet(
+    alloc: Global,
+    texts: &[u8],
+    ends: &[usize],
+    out: &mut [u8],
+    len: &mut usize,
+) -> u32
+    ensures { (outcome : Result (List ℕ) SeenFailure) × IsSheetCall IsPrinted texts.now ends.now outcome
+        × Answers outcome result out.old out.new len.new }
+{
+    hand_over(calls::sheet(alloc, texts, ends), out, len)
+}
+
+/// Writes a line of JSON for each rule of the sheet of the texts: `selector`, `specificity` and
+/// `declarations`, each with `name`, `value` and `important`.
+#[unsafe(no_mangle)]
+pub extern "C" fn simplecss_rules(
+    alloc: Global,
+    texts: &[u8],
+    ends: &[usize],
+    out: &mut [u8],
+    len: &mut usize,
+) -> u32
+    ensures { (outcome : Result (List ℕ) SeenFailure)
+        × Answers outcome result out.old out.new len.new }
+{
+    hand_over(calls::rules(alloc, texts, ends), out, len)
+}
+
+/// Writes a line of JSON for each part of a style sheet's text that is skipped: `row`, `column`,
+/// `reason` and `text`.
+#[unsafe(no_mangle)]
+pub extern "C" fn simplecss_skipped(
+    alloc: Global,
+    text: &[u8],
+    out: &mut [u8],
+    len: &mut usize,
+) -> u32
+    ensures { (outcome : Result (List ℕ) SeenFailure)
+        × Answers outcome result out.old out.new len.new }
+{
+    hand_over(calls::skipped(alloc, text), out, len)
+}
+
+/// Writes a line for each element of a tree: its number, a colon, the number of each rule that
+/// matches it after a space, and a newline. Numbers begin at 1.
+#[unsafe(no_mangle)]
+pub extern "C" fn simplecss_match(
+    alloc: Global,
+    texts: &[u8],
+    ends: &[usize],
+    tree: &[u8],
+    out: &mut [u8],
+    len: &mut usize,
+    place: &mut TreePlace,
+) -> u32
+    ensures { (outcome : Result (List ℕ) SeenFailure) × IsMatchCall texts.now ends.now tree.now outcome
+        × Answers outcome result out.old out.new len.new
+        × IsPlaced outcome place.old place.new }
+{
+    let outcome = calls::matches(alloc, texts, ends, tree);
+    set_place(&outcome, place);
+    hand_over(outcome, out, len)
+}
+
+/// Writes the number of each element of a tree that one of the selectors of a list matches, and a
+/// newline.
+#[unsafe(no_mangle)]
+pub extern "C" fn simplecss_select(
+    alloc: Global,
+    selectors: &[u8],
+    tree: &[u8],
+    out: &mut [u8],
+    len: &mut usize,
+    place: &mut TreePlace,
+) -> u32
+    ensures { (outcome : Result (List ℕ) SeenFailure)
+        × Answers outcome result out.old out.new len.new
+        × IsPlaced outcome place.old place.new }
+{
+    let outcome = calls::select(alloc, selectors, tree);
+    set_place(&outcome, place);
+    hand_over(outcome, out, len)
+}
+
+/// Writes a line for each element of a tree: its number, a colon, the value of the declaration that
+/// wins for the name after a space, ` !important` if it is, and a newline.
+#[unsafe(no_mangle)]
+pub extern "C" fn simplecss_style(
+    alloc: Global,
+    texts: &[u8],
+    ends: &[usize],
+    tree: &[u8],
+    name: &[u8],
+    out: &mut [u8],
+    len: &mut usize,
+    place: &mut TreePlace,
+) -> u32
+    ensures { (outcome : Result (List ℕ) SeenFailure) × IsStyleCall texts.now ends.now tree.now name.now outcome
+        × Answers outcome result out.old out.new len.new
+        × IsPlaced outcome place.old place.new }
+{
+    let outcome = calls::style(alloc, texts, ends, tree, name);
+    set_place(&outcome, place);
+    hand_over(outcome, out, len)
+}
+
+/// Writes a line of JSON for each element of a tree: an array of the winning declarations, each with
+/// `name`, `value` and `important`.
+#[unsafe(no_mangle)]
+pub extern "C" fn simplecss_styles(
+    alloc: Global,
+    texts: &[u8],
+    ends: &[usize],
+    tree: &[u8],
+    out: &mut [u8],
+    len: &mut usize,
+    place: &mut TreePlace,
+) -> u32
+    ensures { (outcome : Result (List ℕ) SeenFailure)
+        × Answers outcome result out.old out.new len.new
+        × IsPlaced outcome place.old place.new }
+{
+    let outcome = calls::styles(alloc, texts, ends, tree);
+    set_place(&outcome, place);
+    hand_over(outcome, out, len)
+}

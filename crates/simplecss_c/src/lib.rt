@@ -1,0 +1,13 @@
+//! A C interface: selectors, style sheets, and which rules match the elements of a tree.
+//!
+//! Each function takes texts as a pointer and a length and writes its answer to the caller's buffer.
+//! None keeps state, so that any thread may call at any time. `include/simplecss.h` documents them
+//! for callers.
+#![tactic(auto)]
+
+mod answer;
+mod calls;
+mod exports;
+mod json;
+mod lists;
+mod texts;

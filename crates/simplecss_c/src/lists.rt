@@ -1,0 +1,94 @@
+//! Lists of selectors, with commas between them.
+
+use crate::answer::Failure;
+use crate::json;
+use log::sink::Discard;
+use simplecss::stream::Stream;
+use simplecss::{Rule, Selector, SelectorTokenizer, TextPos};
+use simplecss_faults::Reason;
+use std::alloc::{AllocError, Global};
+
+/// What a text is as a list of selectors.
+#[derive(Drop)]
+enum List<'a> {
+    /// Each part is a selector, here of a rule without declarations.
+    Selectors(Vec<Rule<'a>>),
+    /// The part that begins at the first place is none, and reading stopped at the second.
+    Refused(usize, usize),
+    /// At this place a selector has ended, and no comma follows.
+    NoComma(usize),
+}
+
+/// What stands from a place of the text on.
+fn tail(text: &str, place: usize) -> &str {
+    text.get(place..).unwrap_or("")
+}
+
+/// Reads a list of selectors. A comma within an attribute's value, as in `[a="b,c"]`, ends none.
+fn read_list(alloc: Global, text: &str) -> Result<List<'_>, AllocError> {
+    let mut selectors = Vec::new(alloc);
+    let mut start: usize = 0;
+    for _ in 0..=text.len() {
+        let (selector, len) = Selector::parse_front(&Discard, alloc, tail(text, start))?;
+        let end = start.saturating_add(len);
+        let Some(selector) = selector else {
+            return Ok(List::Refused(start, end));
+        };
+        selectors.push(Rule {
+            selector,
+            declarations: Vec::new(alloc),
+        })?;
+        let behind = tail(text, end);
+        if behind.is_empty() {
+            return Ok(List::Selectors(selectors));
+        }
+        if !behind.starts_with(',') {
+            return Ok(List::NoComma(end));
+        }
+        start = end.saturating_add(1);
+    }
+    Ok(List::NoComma(text.len()))
+}
+
+/// The selectors of a list, each in a rule without declarations, or the refusal.
+pub fn selectors_of(alloc: Global, text: &str) -> Result<Vec<Rule<'_>>, Failure> {
+    match read_list(alloc, text)? {
+        List::Selectors(selectors) => Ok(selectors),
+        _ => Err(Failure::Refused),
+    }
+}
+
+/// The position of a place.
+fn position(text: &str, place: usize) -> TextPos {
+    let front = text.get(..place).unwrap_or(text);
+    Stream::new(front).gen_text_pos_from(front.len())
+}
+
+/// The line of the error in the selector that begins at a place, where reading stopped at another.
+fn error_line(alloc: Global, text: &str, start: usize, end: usize) -> Result<String, Failure> {
+    for token in SelectorTokenizer::from(tail(text, start)) {
+        let Err(error) = token else {
+            continue;
+        };
+        let at = match error.pos() {
+            Some(pos) => position(text, start).in_whole(pos),
+            None => position(text, end),
+        };
+        let reason = format!(in alloc; "{}", Reason::Selector(error))?;
+        return json::place_line(alloc, at.row, at.col, reason.as_str());
+    }
+    let at = position(text, end);
+    json::place_line(alloc, at.row, at.col, "unknown pseudo-class")
+}
+
+/// The line of the first error in a list of selectors, or nothing where there is none.
+pub fn refusal(alloc: Global, text: &str) -> Result<String, Failure> {
+    match read_list(alloc, text)? {
+        List::Selectors(_) => Ok(String::new(alloc)),
+        List::Refused(start, end) => error_line(alloc, text, start, end),
+        List::NoComma(end) => {
+            let at = position(text, end);
+            json::place_line(alloc, at.row, at.col, "a comma or the end was expected")
+        }
+    }
+}

@@ -1,0 +1,119 @@
+"""The C library: where it is, and how it is called."""
+
+from __future__ import annotations
+
+import ctypes
+import ctypes.util
+import functools
+import os
+from pathlib import Path
+from typing import Any, List, NamedTuple, Optional, Sequence, Tuple
+
+DONE = 0
+REFUSED = 1
+TREE_FAULT = 2
+OUT_OF_MEMORY = 3
+NOT_UTF8 = 5
+TOO_SMALL = 6
+
+_NAME = "libsimplecss.so"
+
+
+class LibraryError(OSError):
+    """The library was not found, or is not one that this package can use."""
+
+
+class TreeFault(NamedTuple):
+    """Where the text of a tree has a fault: the number of its kind, and of the line from 1."""
+
+    number: int
+    line: int
+
+
+class Answer(NamedTuple):
+    """The status of a call, what it wrote, and the fault of the tree if that is why it failed."""
+
+    status: int
+    output: bytes
+    fault: Optional[TreeFault]
+
+
+class _Place(ctypes.Structure):
+    _fields_ = [("fault", ctypes.c_uint32), ("line", ctypes.c_size_t)]
+
+
+def library_path() -> str:
+    """Returns the path or name of the library that is used.
+
+    It is that of the environment variable `SIMPLECSS_LIBRARY`, else the one beside this package,
+    in the `out` folder of the checkout, or where the system's loader finds it.
+    """
+    named = os.environ.get("SIMPLECSS_LIBRARY")
+    if named:
+        return named
+    here = Path(__file__).resolve().parent
+    for folder in (here, here.parent.parent / "out"):
+        if (folder / _NAME).is_file():
+            return str(folder / _NAME)
+    found = ctypes.util.find_library("simplecss")
+    if found:
+        return found
+    raise LibraryError(
+        f"{_NAME} not found: build it by tools/build_library, or set SIMPLECSS_LIBRARY"
+    )
+
+
+@functools.lru_cache(maxsize=None)
+def _library() -> ctypes.CDLL:
+    path = library_path()
+    try:
+        return ctypes.CDLL(path)
+    except OSError as error:
+        raise LibraryError(f"{path}: {error}") from None
+
+
+@functools.lru_cache(maxsize=None)
+def _function(name: str) -> Any:
+    try:
+        function = getattr(_library(), name)
+    except AttributeError:
+        raise LibraryError(f"{library_path()} has no {name}") from None
+    function.restype = ctypes.c_uint32
+    return function
+
+
+def ends_of(texts: Sequence[bytes]) -> "ctypes.Array[ctypes.c_size_t]":
+    """Returns where each text ends in the buffer that has them one after another."""
+    ends = (ctypes.c_size_t * len(texts))()
+    end = 0
+    for place, text in enumerate(texts):
+        end += len(text)
+        ends[place] = end
+    return ends
+
+
+def call(name: str, *arguments: Any, room: int, with_place: bool = False) -> Answer:
+    """Calls a function of the library.
+
+    An argument is a text or an array of ends. `room` is the length of the first buffer; a call
+    that needs a longer one is made again.
+    """
+    function = _function(name)
+    words: List[Any] = []
+    for argument in arguments:
+        words.append(argument)
+        words.append(ctypes.c_size_t(len(argument)))
+    place = _Place()
+    length = ctypes.c_size_t(0)
+    tail: Tuple[Any, ...] = (ctypes.byref(place),) if with_place else ()
+    while True:
+        buffer = ctypes.create_string_buffer(room)
+        status = function(*words, buffer, ctypes.c_size_t(room), ctypes.byref(length), *tail)
+        if status != TOO_SMALL:
+            break
+        room = length.value
+    if status == OUT_OF_MEMORY:
+        raise MemoryError(name)
+    fault = TreeFault(place.fault, place.line) if status == TREE_FAULT else None
+    output = ctypes.string_at(buffer, length.value) if status == DONE else b""
+    return Answer(status, output, fault)

@@ -1,0 +1,127 @@
+"""Tests the C library and the Python package: builds the library by tools/build_library, compiles the C example by the
+toolchain's clang and runs it, refuses each of its requests for memory in turn, installs into a folder, and runs the
+package's unit tests. The last line is `N passed, M failed`."""
+
+import os
+import re
+import subprocess
+import sys
+import tempfile
+
+TOP = os.path.dirname(os.path.dirname(os.path.abspath(__file__)))
+OUT = os.path.join(TOP, "out")
+EXPECTED = b"1:\n2: 1 2\n3: 1\n"
+
+passed = failed = 0
+
+
+def check(is_right, name, detail=""):
+    """Counts a test, and shows it where it fails."""
+    global passed, failed
+    if is_right:
+        passed += 1
+    else:
+        failed += 1
+        print(f"FAILED {name} {detail}")
+
+
+def run(words, **options):
+    """Runs a command. Its output is kept."""
+    return subprocess.run(words, capture_output=True, cwd=TOP, **options)
+
+
+def kit():
+    """The folder of the toolchain."""
+    page = subprocess.run(["rt", "doc"], capture_output=True, text=True).stdout.split("\n")[0]
+    return os.environ.get("RATTLE_KIT") or os.path.dirname(page)
+
+
+def test_install(folder):
+    """The prefix has the library, the header and the pkg-config file."""
+    made = run(["tools/build_library", "--prefix", folder])
+    check(made.returncode == 0, "install", made.stderr.decode()[-500:])
+    for name in ("lib/libsimplecss.so", "lib/libsimplecss.a", "include/simplecss.h", "lib/pkgconfig/simplecss.pc"):
+        check(os.path.isfile(os.path.join(folder, name)), "installed", name)
+    check(run(["tools/build_library", "--other"]).returncode == 2, "wrong words")
+
+
+def test_example(clang, folder):
+    """The C example prints what it is to print, linked to either library."""
+    source = os.path.join(TOP, "examples", "c", "page.c")
+    include = "-I" + os.path.join(folder, "include")
+    lib = os.path.join(folder, "lib")
+    program = os.path.join(folder, "page")
+    shared = os.path.join(folder, "page_shared")
+    words = [clang, "-std=c99", "-Wall", "-Wextra", "-Wpedantic", "-Werror", include, source]
+    made = run(words + [os.path.join(lib, "libsimplecss.a"), "-o", program])
+    check(made.returncode == 0, "example with the archive", made.stderr.decode()[-500:])
+    made = run(words + ["-L" + lib, "-lsimplecss", "-Wl,-rpath," + lib, "-o", shared])
+    check(made.returncode == 0, "example with the shared library", made.stderr.decode()[-500:])
+    for name in (program, shared):
+        if os.path.exists(name):
+            made = run([name])
+            check((made.returncode, made.stdout) == (0, EXPECTED), "example", made)
+    header = os.path.join(folder, "header.cc")
+    with open(header, "w") as file:
+        file.write("#include <simplecss.h>\n")
+    made = run([clang, "-fsyntax-only", "-Wall", "-Werror", include, header])
+    check(made.returncode == 0, "the header in C++", made.stderr.decode()[-500:])
+    return program
+
+
+def test_refused(clang, program, folder):
+    """Where a request for memory is refused, the example says so or prints all."""
+    shim = os.path.join(folder, "refuse.so")
+    source = os.path.join(TOP, "tests", "refuse.c")
+    made = run([clang, "-O1", "-shared", "-fPIC", "-nostdlib", "-o", shim, source])
+    check(made.returncode == 0, "refuse.c")
+    statuses = []
+    for number in range(1, 200):
+        made = run([program], env={**os.environ, "LD_PRELOAD": shim, "REFUSE": str(number)})
+        is_whole = (made.returncode, made.stdout) == (0, EXPECTED)
+        is_told = (made.returncode, made.stdout) == (1, b"")
+        check(is_whole or is_told, "refused request", f"{number}: {made}")
+        statuses.append(made.returncode)
+        if statuses[-3:] == [0, 0, 0]:
+            break
+    check(1 in statuses, "a refused request shows")
+    check(statuses[-3:] == [0, 0, 0], "the requests end")
+
+
+def test_package():
+    """The unit tests of the package, whose number counts here."""
+    global passed, failed
+    env = {**os.environ, "PYTHONDONTWRITEBYTECODE": "1"}
+    made = run([sys.executable, "-W", "error", "-m", "unittest", "discover", "-s", "python/tests"], env=env)
+    text = made.stderr.decode()
+    count = re.search(r"Ran (\d+) tests", text)
+    bad = sum(map(int, re.findall(r"(?:failures|errors)=(\d+)", text)))
+    if count is None or int(count.group(1)) == 0:
+        check(False, "unit tests", text[-1000:])
+        return
+    passed += int(count.group(1)) - bad
+    failed += bad
+    if bad or made.returncode:
+        print(text)
+        check(made.returncode == 0 or bad > 0, "unit tests")
+    made = run([sys.executable, "-m", "simplecss", "--help"], env={**env, "PYTHONPATH": "python"})
+    check(made.returncode == 0, "python3 -m simplecss", made.stderr)
+
+
+def main():
+    """Runs all."""
+    made = subprocess.run(["tools/build_library"], cwd=TOP)
+    check(made.returncode == 0, "tools/build_library")
+    if made.returncode == 0:
+        clang = os.path.join(kit(), "toolchain", "bin", "clang")
+        with tempfile.TemporaryDirectory() as folder:
+            test_install(folder)
+            program = test_example(clang, folder)
+            test_refused(clang, program, folder)
+        test_package()
+    print(f"{passed} passed, {failed} failed")
+    return 1 if failed else 0
+
+
+if __name__ == "__main__":
+    sys.exit(main())
