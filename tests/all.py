@@ -1,7 +1,8 @@
 #!/usr/bin/env python3
 """Every check of the repository. First `rt ci`: every proof from nothing, every test, every wrong body that must be refused,
 and the stored runs. Then, over the programs that it has built, each request for memory refused in turn, and the program `cssq`
-with its words, files and streams. So nothing is proved twice. Last what the documents show, and the script `cssq` at the top.
+with its words, files and streams. So nothing is proved twice. Last what the documents show, the scripts `cssq` and `build`, and the
+C library with the Python package over it.
 
 The last line is 'N passed, M failed', of all together.
 """
@@ -16,7 +17,7 @@ TOP = os.path.dirname(os.path.dirname(os.path.abspath(__file__)))
 # Each script of this folder, and the crate of the program that it runs.
 SWEEPS = (("refused.py", "tests_refusals"), ("program.py", "cssq_cli"))
 # The scripts that refuse no request for memory, and the crate of the program that one runs.
-PLAIN = (("docs.py", "cssq_cli"), ("script.py", None))
+PLAIN = (("docs.py", "cssq_cli"), ("script.py", None), ("library.py", None))
 passed = failed = 0
 
 

@@ -96,7 +96,7 @@ pub fn fault_lines(alloc: Global, faults: &[Fault<'_>]) -> Result<String, Failur
         write!(out, "{{\"row\":{row},\"column\":{column},\"reason\":")?;
         push_string(&mut out, reason.as_str())?;
         out.push_str(",\"text\":")?;
-        push_string(&mut out, fault.text)?;
+        push_string(&mut out, fault.quote())?;
         out.push_str("}\n")?;
     }
     Ok(out)
