@@ -83,12 +83,16 @@ class _HtmlParser(HTMLParser):
         super().__init__(convert_charrefs=True)
         self.elements: List[Element] = []
         self.open: List[int] = []
+        # How many elements of each name are open.
+        self.counts: Dict[str, int] = {}
 
     def _name(self, depth: int) -> str:
         return self.elements[self.open[depth]].name
 
     def _end_open(self, ended: frozenset, border: frozenset) -> None:
         """Ends the outermost open element of these within the innermost border."""
+        if not any(self.counts.get(name) for name in ended):
+            return
         found = None
         for depth in range(len(self.open) - 1, -1, -1):
             name = self._name(depth)
@@ -97,16 +101,22 @@ class _HtmlParser(HTMLParser):
             if name in ended:
                 found = depth
         if found is not None:
-            del self.open[found:]
+            self._close(found)
+
+    def _close(self, depth: int) -> None:
+        """Ends the open elements from this depth on."""
+        for place in self.open[depth:]:
+            self.counts[self.elements[place].name] -= 1
+        del self.open[depth:]
 
     def _is_foreign(self) -> bool:
-        return any(self._name(depth) in ("svg", "math") for depth in range(len(self.open)))
+        return bool(self.counts.get("svg") or self.counts.get("math"))
 
     def handle_starttag(self, tag: str, attrs: List[Tuple[str, Optional[str]]]) -> None:
         if tag in _ENDS:
             self._end_open(*_ENDS[tag])
         if self.open and self._name(len(self.open) - 1) == "head" and tag not in _METADATA:
-            self.open.pop()
+            self._close(len(self.open) - 1)
         row, column = self.getpos()
         attributes: Dict[str, str] = {}
         for key, value in attrs:
@@ -115,17 +125,20 @@ class _HtmlParser(HTMLParser):
         self.elements.append(Element(tag, attributes, parent, row, column + 1))
         if tag not in _VOID:
             self.open.append(len(self.elements) - 1)
+            self.counts[tag] = self.counts.get(tag, 0) + 1
 
     def handle_startendtag(self, tag: str, attrs: List[Tuple[str, Optional[str]]]) -> None:
         is_foreign = tag in ("svg", "math") or self._is_foreign()
         self.handle_starttag(tag, attrs)
         if is_foreign and tag not in _VOID:
-            self.open.pop()
+            self._close(len(self.open) - 1)
 
     def handle_endtag(self, tag: str) -> None:
+        if not self.counts.get(tag):
+            return
         for depth in range(len(self.open) - 1, -1, -1):
             if self._name(depth) == tag:
-                del self.open[depth:]
+                self._close(depth)
                 return
             if self._name(depth) in ("td", "th", "table") and tag not in ("table", "tr") and (
                 tag not in _TABLE_PARTS and tag not in ("body", "html")
