@@ -1,4 +1,8 @@
-"""Style sheets written into `style` attributes, as mail is prepared."""
+"""Style sheets written into `style` attributes, as mail is prepared.
+
+Rule sets are cut into selectors and declarations as a browser cuts them (CSS 2.1 section 4.2, so a
+broken declaration is dropped alone); which declarations win on an element is the library's answer.
+"""
 
 from __future__ import annotations
 
@@ -8,10 +12,23 @@ from typing import Dict, List, NamedTuple, Optional, Tuple
 from ._sheet import Declaration, Selector, SelectorError, StyleSheet
 from ._tree import Element, Tree, _HtmlParser
 
-# The pseudo-classes that depend on a state of the page, and all that this library does not know.
+# What a selector may have that the library does not read and that browsers know. A rule set with
+# any other selector that is refused stays whole, since a browser may drop all of it.
+_KNOWN = re.compile(
+    r"::?(?:before|after|first-line|first-letter|placeholder|selection|marker"
+    r"|hover|active|focus|focus-within|focus-visible|link|visited|any-link|target|root|empty|lang"
+    r"|first-child|last-child|only-child|first-of-type|last-of-type|only-of-type"
+    r"|enabled|disabled|checked|required|optional|valid|invalid|read-only|read-write"
+    r"|(?:not|is|where|has|nth-child|nth-last-child|nth-of-type|nth-last-of-type)\([^()]*\))"
+    r"(?![-\w(])"
+)
+# The pseudo-classes that depend on a state of the page.
 _STATE = re.compile(r":(?!first-child\b)")
 _ATTRIBUTE = re.compile(r"""([^\s=>"'/]+)(?:\s*=\s*("[^"]*"|'[^']*'|[^\s>]*))?""")
+_NAME = re.compile(r"--[-\w]*|-?[A-Za-z_][-\w]*")
+_IMPORTANT = re.compile(r"!\s*important\s*$", re.IGNORECASE)
 _HEAD_PARTS = frozenset("head title meta link base style script noscript template".split())
+_SPACES = " \t\n\r\f"
 
 
 class _Tag(NamedTuple):
@@ -79,6 +96,12 @@ def _skip_string(css: str, place: int) -> int:
     return min(place + 1, len(css))
 
 
+def _skip_comment(css: str, place: int) -> int:
+    """Returns the place after the comment that begins at a place."""
+    end = css.find("*/", place + 2)
+    return len(css) if end < 0 else end + 2
+
+
 def _skip_until(css: str, place: int, stops: str) -> int:
     """Returns the next place of one of the stops outside strings, comments and brackets."""
     depth = 0
@@ -90,8 +113,7 @@ def _skip_until(css: str, place: int, stops: str) -> int:
             place = _skip_string(css, place)
             continue
         if css.startswith("/*", place):
-            end = css.find("*/", place + 2)
-            place = len(css) if end < 0 else end + 2
+            place = _skip_comment(css, place)
             continue
         if c in "([{":
             depth += 1
@@ -101,63 +123,188 @@ def _skip_until(css: str, place: int, stops: str) -> int:
     return len(css)
 
 
+def _skip_blank(css: str, place: int) -> int:
+    """Returns the place after spaces, comments, and the marks `<!--` and `-->`."""
+    while place < len(css):
+        if css[place] in _SPACES:
+            place += 1
+        elif css.startswith("/*", place):
+            place = _skip_comment(css, place)
+        elif css.startswith("<!--", place):
+            place += 4
+        elif css.startswith("-->", place):
+            place += 3
+        else:
+            break
+    return place
+
+
 def _statements(css: str) -> List[Tuple[str, str]]:
     """Returns the statements of a sheet, each as what is before its block, and the block."""
     found = []
-    place = 0
+    place = _skip_blank(css, 0)
     while place < len(css):
-        if css[place].isspace():
-            place += 1
-            continue
-        if css.startswith("/*", place):
-            end = css.find("*/", place + 2)
-            place = len(css) if end < 0 else end + 2
-            continue
         head_end = _skip_until(css, place, "{;" if css[place] == "@" else "{")
-        if head_end < len(css) and css[head_end] == "{":
+        if css[head_end : head_end + 1] == "{":
             end = min(_skip_until(css, head_end + 1, "}") + 1, len(css))
         else:
             end = min(head_end + 1, len(css))
         found.append((css[place:head_end], css[head_end:end]))
-        place = end
+        place = _skip_blank(css, end)
     return found
 
 
-def _selectors(head: str) -> List[str]:
-    """Returns the selectors of a rule set."""
+def _pieces(text: str, separator: str) -> List[str]:
+    """Returns the text cut at a separator outside strings, comments and brackets."""
     found = []
     place = 0
-    while place <= len(head):
-        end = _skip_until(head, place, ",")
-        found.append(head[place:end].strip())
+    while place <= len(text):
+        end = _skip_until(text, place, separator)
+        found.append(text[place:end].strip(_SPACES))
         place = end + 1
     return found
 
 
-def _stays(selector: str) -> bool:
-    """Whether a rule of the selector cannot be written into attributes."""
-    try:
-        return _STATE.search(str(Selector(selector))) is not None
-    except SelectorError:
-        return True
+def _without_comments(text: str) -> str:
+    """Returns the text with a space in place of each comment outside strings."""
+    parts = []
+    last = place = 0
+    while place < len(text):
+        if text[place] in "\"'":
+            place = _skip_string(text, place)
+        elif text.startswith("/*", place):
+            parts.append(text[last:place] + " ")
+            last = place = _skip_comment(text, place)
+        else:
+            place += 1
+    parts.append(text[last:])
+    return "".join(parts)
 
 
-def _split(css: str) -> Tuple[str, str]:
-    """Returns the rules of a sheet that can be written into attributes, and those that stay."""
-    inlined = []
-    kept = []
-    for head, block in _statements(css):
-        if head.startswith("@"):
-            kept.append(head + block)
+def _is_balanced(value: str) -> bool:
+    """Whether brackets and strings are closed."""
+    waiting = []
+    place = 0
+    while place < len(value):
+        c = value[place]
+        if c in "\"'":
+            end = _skip_string(value, place)
+            if end - place < 2 or value[end - 1] != c:
+                return False
+            place = end
             continue
-        selectors = _selectors(head)
-        staying = [selector for selector in selectors if _stays(selector)]
-        going = [selector for selector in selectors if selector not in staying]
-        if staying and any(staying):
-            kept.append(f"{', '.join(s for s in staying if s)} {block}")
-        if going:
-            inlined.append(f"{', '.join(going)} {block}")
-    return "\n".join(inlined), "\n".join(kept)
+        if c in "([{":
+            waiting.append(")]}"["([{".index(c)])
+        elif c in ")]}" and (not waiting or waiting.pop() != c):
+            return False
+        place += 1
+    return not waiting
+
+
+def _declarations(block: str) -> List[Declaration]:
+    """Returns the declarations of a block, without those that a browser drops by their form."""
+    found = []
+    for piece in _pieces(_without_comments(block), ";"):
+        name, colon, value = piece.partition(":")
+        name, value = name.strip(_SPACES), value.strip(_SPACES)
+        important = _IMPORTANT.search(value)
+        if important:
+            value = value[: important.start()].strip(_SPACES)
+        if not colon or not value or "!" in value or not _NAME.fullmatch(name):
+            continue
+        if _is_balanced(value):
+            name = name if name.startswith("--") else name.lower()
+            found.append(Declaration(name, value, important is not None))
+    return found
+
+
+def _in_lower_case(printed: str) -> Optional[str]:
+    """Returns a printed selector with its names in lower case, as HTML has them.
+
+    Returns `None` if the text is not one that reads back.
+    """
+    parts = re.split(r"('(?:\\.|[^'])*')", printed, flags=re.DOTALL)
+    text = "".join(part if place % 2 else part.lower() for place, part in enumerate(parts))
+    try:
+        return text if str(Selector(text)) == text else None
+    except SelectorError:
+        return None
+
+
+class _Rules:
+    """The rule sets that are written into attributes, as a sheet for the library, and what stays.
+
+    In the sheet, a declaration's name and value are numbers of this table, so that the library
+    decides between declarations whose values it need not read.
+    """
+
+    def __init__(self) -> None:
+        self.names: Dict[str, int] = {}
+        self.values: List[List[Declaration]] = []
+
+    def _block(self, declarations: List[Declaration]) -> str:
+        """Returns the block of the declarations. Those of one name are one, so that the values
+        which a browser does not know leave the earlier ones."""
+        groups: Dict[Tuple[str, bool], List[Declaration]] = {}
+        for declaration in declarations:
+            key = (declaration.name, declaration.important)
+            group = groups.pop(key, [])
+            group.append(declaration)
+            groups[key] = group
+        words = []
+        for (name, important), group in groups.items():
+            number = self.names.setdefault(name, len(self.names))
+            words.append(f"n{number}:{len(self.values)}{' !important' if important else ''}")
+            self.values.append(group)
+        return "{" + ";".join(words) + "}"
+
+    def split(self, css: str) -> Tuple[str, str]:
+        """Returns the rules of a sheet that are written into attributes, and those that stay."""
+        inlined = []
+        kept = []
+        for head, block in _statements(css):
+            if head.startswith("@"):
+                kept.append(head + block)
+                continue
+            going, staying = _sort_selectors(_pieces(_without_comments(head), ","))
+            if staying:
+                kept.append(f"{', '.join(staying)} {block}")
+            if going and block.endswith("}"):
+                inlined.append(f"{', '.join(going)} {self._block(_declarations(block[1:-1]))}")
+        return "\n".join(inlined), "\n".join(kept)
+
+    def texts(self, winners: List[Declaration]) -> List[str]:
+        """Returns the declarations that the winners stand for, in order."""
+        return [str(each) for winner in winners for each in self.values[int(winner.value)]]
+
+
+def _sort_selectors(selectors: List[str]) -> Tuple[List[str], List[str]]:
+    """Returns the selectors of a rule set that are written into attributes, and those that stay.
+
+    A rule set with an empty selector has neither: browsers drop it.
+    """
+    going = []
+    staying = []
+    for selector in selectors:
+        if not selector:
+            return [], []
+        try:
+            printed = str(Selector(selector))
+        except SelectorError:
+            if not _KNOWN.search(selector) and not _is_modern(selector):
+                return [], selectors
+            staying.append(selector)
+            continue
+        if _STATE.search(printed):
+            staying.append(selector)
+        else:
+            going.append(_in_lower_case(printed) or selector)
+    return going, staying
+
+
+def _is_modern(selector: str) -> bool:
+    """Whether the selector is one of CSS 3 by its combinator `~` or its operators of attributes."""
+    return re.search(r"[\w\])*]\s*~\s*[\w.#\[:*]|\[\s*[-\w]+\s*[$^*|~]?=?", selector) is not None
 
 
 def _escape(text: str, quote: str) -> str:
@@ -179,11 +326,11 @@ def _own_style(tag: str) -> Optional[Tuple[int, int, str, str]]:
     return None
 
 
-def _new_tag(tag: str, winners: List[Declaration]) -> str:
+def _new_tag(tag: str, declarations: List[str]) -> str:
     """Returns the text of a start tag with the declarations in its attribute `style`."""
     own = _own_style(tag)
     quote = own[3] if own else '"'
-    style = _escape("; ".join(map(str, winners)), quote)
+    style = _escape("; ".join(declarations), quote)
     if own is None:
         name = re.match(r"<[^\s/>]+", tag)
         place = len(tag) - (2 if tag.endswith("/>") else 1)
@@ -235,8 +382,9 @@ def inline(html: str, css: str = "") -> str:
     reader = _Reader(html)
     reader.feed(html)
     reader.close()
+    rules = _Rules()
     edits: Dict[Tuple[int, int], str] = {}
-    inlined, kept = _split(css)
+    inlined, kept = rules.split(css)
     sheets = [inlined]
     if kept:
         place = _place_of_style(reader)
@@ -244,7 +392,7 @@ def inline(html: str, css: str = "") -> str:
     for content in reader.styles:
         if not _is_plain(reader.elements[content.element]):
             continue
-        inlined, kept = _split(html[content.inner : content.inner_end])
+        inlined, kept = rules.split(html[content.inner : content.inner_end])
         if not inlined:
             continue
         sheets.append(inlined)
@@ -256,7 +404,8 @@ def inline(html: str, css: str = "") -> str:
     skipped = _in_head(reader.elements)
     for place, tag in enumerate(reader.tags):
         if winners[place] and not skipped[place]:
-            edits[(tag.start, tag.end)] = _new_tag(html[tag.start : tag.end], winners[place])
+            text = html[tag.start : tag.end]
+            edits[(tag.start, tag.end)] = _new_tag(text, rules.texts(winners[place]))
     parts = []
     last = 0
     for (start, end), text in sorted(edits.items()):
