@@ -1,8 +1,8 @@
--- Tests of a text's bytes, and how many bytes pass one.
+-- Tests of a text's bytes, and the run of bytes for which one is true.
 use Rattle.std.specs.Prelude.{◌≡◌, ℕ, ◌<◌, ◌≤◌, List, Bool, true, false, length, slice_index}
 
--- The test, which may give the answers that `post` relates to a byte, may be called at each byte of
--- the text, gives one answer at each, and gives one and the same answer at all bytes past ASCII.
+-- The test, which may return the answers that `post` relates to a byte, may be called on each byte
+-- of the text, always returns the same for a byte, and returns the same for all bytes past ASCII.
 pub record IsByteTest (pre : ℕ → Type 0) (post : ℕ → Bool → Type 0) (text : List ℕ) : Type 0 where
   pub callable : (k : ℕ) → k < length text → pre (slice_index text k)
   pub steady : (k : ℕ) (x y : Bool) → k < length text → post (slice_index text k) x
@@ -11,8 +11,8 @@ pub record IsByteTest (pre : ℕ → Type 0) (post : ℕ → Bool → Type 0) (t
       → 128 ≤ slice_index text k
       → post (slice_index text j) x → post (slice_index text k) y → x ≡ y
 
--- The bytes from the place p to before the place q pass the test, and the one at q, if the text
--- goes on, does not.
+-- The test is true of the bytes from offset `p` to before offset `q`, and false of the byte at `q`
+-- if the text has one.
 pub record PassesUpTo (post : ℕ → Bool → Type 0) (text : List ℕ) (p q : ℕ) : Type 0 where
   pub from : p ≤ q
   pub within : q ≤ length text

@@ -1,4 +1,4 @@
--- Bytes: those at the front of a text, and the same bytes.
+-- Bytes at the start of a text, and equality of bytes.
 use Rattle.std.specs.Prelude.{ℕ, Bool, false, not, ◌&&◌, ◌==◌, nat_eq, nat_le, nat_lt, if◌then◌else◌, List, [], ◌∷◌, drop, Option, Some, None}
 use Rattle.std.specs.List.{prefix_len}
 use Rattle.std.specs.Cmp.Lexicographic.{pointwise}
@@ -8,7 +8,7 @@ use Rattle.simplecss_text.specs.Reading.{Fault, ended, wrong_byte, Reading, got,
 abbrev pub text_eq : List ℕ → List ℕ → Bool
 text_eq = pointwise nat_eq
 
--- what is left after one byte, whichever it is
+-- the rest after any one byte
 abbrev pub past_one : List ℕ → List ℕ
 past_one [] = []
 past_one (b ∷ text) = text
@@ -18,7 +18,7 @@ abbrev pub starts : ℕ → List ℕ → Bool
 starts byte [] = false
 starts byte (b ∷ text) = b == byte
 
--- the text begins with a byte that passes
+-- the text begins with a byte of which the test is true
 abbrev pub starts_by : (ℕ → Bool) → List ℕ → Bool
 starts_by test [] = false
 starts_by test (b ∷ text) = test b
@@ -44,42 +44,41 @@ is_ascii b = nat_lt b 128
 abbrev pub is_digit : ℕ → Bool
 is_digit b = is_within 48 57 b
 
--- what is left after the longest front of bytes that pass
+-- the rest after the longest prefix of bytes of which the test is true
 abbrev pub past : (ℕ → Bool) → List ℕ → List ℕ
 past test text = drop (prefix_len test text) text
 
--- what is left after the byte, where it stands there
+-- the rest after the byte, if it is next
 abbrev pub past_byte : ℕ → List ℕ → List ℕ
 past_byte byte [] = []
 past_byte byte (b ∷ text) = if b == byte then text else b ∷ text
 
--- what is left after the first such byte, if there is one
+-- the rest after the first such byte, if there is one
 abbrev pub after_byte : ℕ → List ℕ → Option (List ℕ)
 after_byte byte [] = None
 after_byte byte (b ∷ text) = if b == byte then Some text else after_byte byte text
 
--- the byte, which must stand there
+-- the byte, which is required
 abbrev pub byte : ℕ → Reader (Unit {0})
 byte expected [] = fails ended []
 byte expected (b ∷ text) =
     if b == expected then got tt text else fails (wrong_byte expected (b ∷ text)) (b ∷ text)
 
--- the byte, if it stands there
+-- the byte, if it is next
 abbrev pub optional : ℕ → Reader (Unit {0})
 optional byte text = got tt (past_byte byte text)
 
--- a byte, whichever it is
+-- any one byte
 abbrev pub any_byte : Reader (Unit {0})
 any_byte text = got tt (past_one text)
 
--- all up to the first such byte, or up to the end of the text
+-- everything up to the first such byte, or up to the end of the text
 abbrev pub all_before : ℕ → Reader (List ℕ)
 all_before byte text =
     let rest = past (λ b. not (b == byte)) text in
     got (before text rest) rest
 
--- What is left after something that must be closed. Where it is not, that is a fault, which uses up
--- the text.
+-- The rest after something that must be closed. If it is not, that is a fault, and nothing is left.
 abbrev pub closed_or : Fault → Option (List ℕ) → Reading (Unit {0})
 closed_or fault None = fails fault []
 closed_or fault (Some rest) = got tt rest

@@ -1,4 +1,4 @@
--- What a `Stream` shows: its text, the place, and what is left to read from there.
+-- What contracts see of a `Stream`: its text, its offset, and the rest from there.
 use Rattle.std.specs.Prelude.{ℕ, List, drop}
 use Rattle.simplecss_text.specs.declared.stream.Stream.{Stream}
 
@@ -6,10 +6,10 @@ use Rattle.simplecss_text.specs.declared.stream.Stream.{Stream}
 abbrev pub text_of : Stream → List ℕ
 text_of s = s.text.now
 
--- the place, counted in bytes
+-- the offset, in bytes
 abbrev pub place_of : Stream → ℕ
 place_of s = s.pos
 
--- what is left to read
+-- the rest: what is left to read
 abbrev pub rest_of : Stream → List ℕ
 rest_of s = drop s.pos s.text.now

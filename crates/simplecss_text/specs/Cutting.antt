@@ -1,4 +1,4 @@
--- Where the statements of a text end, and what it is to read a text in pieces that are cut there.
+-- Where the statements of a text end, and what reading a text in pieces that are cut there means.
 use Rattle.std.specs.Prelude.{◌≡◌, ℕ, List, [], ◌∷◌, ◌++◌, take, drop, map, Option, IsUtf8}
 use Rattle.std.specs.List.{Contains}
 use Rattle.std.specs.Option.{option_map}
@@ -7,31 +7,32 @@ use Rattle.simplecss_text.specs.Characters.{Edition}
 use Rattle.simplecss_text.specs.Statements.{StyleRule, next_statement, kept}
 use Rattle.simplecss_text.specs.Sheets.{sheet}
 
--- what is left behind a blank and a statement, where the statements go on
+-- the rest after a blank and a statement, if the statements continue
 abbrev pub behind_statement : Edition → List ℕ → Option (List ℕ × List ℕ)
 behind_statement edition text =
     option_map (λ statement. (statement.1, statement.1)) (next_statement edition text)
 
--- The text is cut into blanks and statements in turn. What is left behind each of its statements.
+-- The text is cut into blanks and statements, one after another. The rests after each of its
+-- statements.
 unfoldable pub rests_behind : Edition → List ℕ → List (List ℕ)
 rests_behind edition text = (each (behind_statement edition) text).0
 
--- the places at which the statements of a text end
+-- the offsets at which the statements of a text end
 abbrev pub statement_ends : Edition → List ℕ → List ℕ
 statement_ends edition text = map (rest_place text) (rests_behind edition text)
 
--- one of the statements of the text ends at the place
+-- a statement of the text ends at the offset
 abbrev pub StatementEndsAt : Edition → List ℕ → ℕ → Type 0
 StatementEndsAt edition text place = Contains (statement_ends edition text) place
 
--- The text has the rules of what stands before the place, and then those of what stands from there
--- on.
+-- The rules of the text are those of what precedes the offset, followed by those of what follows
+-- it.
 abbrev pub KeepsAcross : Edition → List ℕ → ℕ → Type 0
 KeepsAcross edition text place =
     kept edition text ≡ kept edition (take place text) ++ kept edition (drop place text)
 
 -- A sheet had the rules `old`, then read `text`, and now has the rules `new`. If `old` are the
--- rules of some texts and of the front of a further one up to where one of its statements ends, and
+-- rules of some texts and of a prefix of a further one up to the end of one of its statements, and
 -- `text` is the rest of that one, then `new` are the rules of those texts and of the whole further
 -- one.
 abbrev pub GoesOn : Edition → (old : List StyleRule) → (text : List ℕ) → (new : List StyleRule) → Type 0

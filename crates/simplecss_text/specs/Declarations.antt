@@ -1,4 +1,4 @@
--- Declarations: a name, a colon, a value, and what may stand behind the value.
+-- Declarations: a name, a colon, a value, and what may follow the value.
 use Rattle.std.specs.Prelude.{ℕ, Bool, true, false, ◌==◌, eqb, if◌then◌else◌, List, [], ◌∷◌, length, drop, codes, Option, Some, None}
 use Rattle.std.specs.Str.{trim}
 use Rattle.std.specs.List.{starts_with}
@@ -10,69 +10,67 @@ use Rattle.simplecss_text.specs.Comments.{past_blank, blank}
 use Rattle.simplecss_text.specs.Names.{name}
 use Rattle.simplecss_text.specs.Terms.{term}
 
--- What a declaration says: the name of a property, a value of it, and whether it is important.
+-- A declaration: the name of a property, a value for it, and whether it is important.
 pub record StyleDeclaration : Type 0 where
   pub name : List ℕ
   pub value : List ℕ
   pub important : Bool
 
--- the last of the list, or the other where it is empty
+-- the last item of the list, or the other one if the list is empty
 abbrev pub last_or : {A : Type 0} → A → List A → A
 last_or other [] = other
 last_or other (x ∷ xs) = last_or x xs
 
--- What is left after a term, and what is left after the blank behind it. (A comment that is open
--- there is no fault yet: no term begins at its slash, so the value ends there and passes nothing of
--- it, and the part behind the value tells the fault.)
+-- The rest after a term, and the rest after the blank that follows it. (A comment that is open
+-- there is no fault yet: no term begins at its slash, so the value ends there and consumes nothing
+-- of it, and the part after the value has the fault.)
 abbrev pub after_term : Reading (Unit {0}) → Option (List ℕ × List ℕ)
 after_term (got u rest) = Some (rest, past_blank rest)
 after_term (fails fault rest) = None
 
--- the same of the term at the front of a text
+-- the same of the term at the start of a text
 abbrev pub term_in_value : Edition → List ℕ → Option (List ℕ × List ℕ)
 term_in_value edition text = after_term (term edition text)
 
--- The terms of a value, each with a blank: what is left after each of them, and after the last
--- blank.
+-- The terms of a value, each with a blank: the rest after each of them, and after the last blank.
 abbrev pub terms : Edition → List ℕ → List (List ℕ) × List ℕ
 terms edition text = each (term_in_value edition) text
 
 -- A value: from the first term to the end of the last one, without the white space of Unicode at
--- either end. What is left is that after the term that could not be read: where no term begins it
--- is as before, and of a string or a function that is not closed nothing is left.
+-- either end. The rest is what is left after the term that could not be read: if no term begins it
+-- is unchanged, and after a string or a function that is not closed nothing is left.
 unfoldable pub value : Edition → List ℕ → List ℕ × List ℕ
 value edition text =
     (trim (before text (last_or text (terms edition text).0)), left_after (term edition (terms edition text).1))
 
--- whether the text begins with the word `important`, which is passed then; more letters may follow
--- it
+-- whether the text begins with the word `important`, which is then consumed; more letters may
+-- follow it
 abbrev pub important_word : Reader Bool
 important_word text =
     if starts_with eqb text (codes "important") then got true (drop 9 text) else got false text
 
--- an exclamation mark and a blank, and whether the word `important` stands behind them
+-- an exclamation mark and a blank, and whether the word `important` follows them
 abbrev pub after_mark : Reader Bool
 after_mark = do
   any_byte
   blank
   important_word
 
--- whether an exclamation mark stands there, and behind a blank the word `important`; a mark is
--- passed without the word too
+-- whether an exclamation mark is next, and after a blank the word `important`; a mark is consumed
+-- without the word too
 unfoldable pub importance : Reader Bool
 importance text = if starts exclamation_mark text then after_mark text else got false text
 
--- a semicolon, and the blank behind it
+-- a semicolon, and the blank after it
 abbrev pub semicolon : List ℕ → Option (Unit {0} × List ℕ)
 semicolon text = if starts semicolon_byte text then Some (tt, past_blank (past_one text)) else None
 
--- any number of semicolons, each with the blank behind it
+-- any number of semicolons, each with the blank after it
 abbrev pub semicolons : Reader (Unit {0})
 semicolons text = got tt (each semicolon text).1
 
--- What stands behind a value: the importance and any number of semicolons, with blanks between. It
--- tells the importance. (The last blank is empty, unless a comment is open there, which is a
--- fault.)
+-- What follows a value: the importance and any number of semicolons, with blanks between. Its value
+-- is the importance. (The last blank is empty, unless a comment is open there, which is a fault.)
 unfoldable pub trailing : Reader Bool
 trailing = do
   blank
@@ -105,7 +103,7 @@ declaration edition = do
   important ← trailing
   unless_empty start (record { name = property; value = stated; important = important })
 
--- the same, where the fault is not told
+-- the same, without the fault
 abbrev pub next_declaration : Edition → List ℕ → Option (StyleDeclaration × List ℕ)
 next_declaration edition text = found (declaration edition text)
 

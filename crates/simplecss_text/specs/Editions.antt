@@ -1,14 +1,14 @@
--- Texts that both editions of the rules read alike.
+-- Texts that both editions of the rules read in the same way.
 use Rattle.std.specs.Prelude.{◌≡◌, ℕ, ◌<◌, false, ◌==◌, List}
 use Rattle.std.specs.List.{All}
 use Rattle.simplecss_text.specs.AsciiBytes.{slash}
 use Rattle.simplecss_text.specs.Characters.{first_edition, second_edition}
 use Rattle.simplecss_text.specs.Statements.{kept}
 
--- ASCII bytes, and no slash among them
+-- ASCII bytes without a slash
 abbrev pub IsCommon : List ℕ → Type 0
 IsCommon text = All (λ b. (b < 128) × ((b == slash) ≡ false)) text
 
--- both editions give the same rules
+-- both editions read the same rules
 abbrev pub KeepsInBoth : List ℕ → Type 0
 KeepsInBoth text = kept first_edition text ≡ kept second_edition text

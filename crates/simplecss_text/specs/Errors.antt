@@ -1,4 +1,5 @@
--- The errors that tell faults, and how they print; what a call gives, by a value or an error.
+-- The errors that report faults, and their printed texts; what a call returns, as a value or an
+-- error.
 use Rattle.std.specs.Prelude.{◌≡◌, ℕ, List, [], ◌∷◌, ◌++◌, codes, decimal, encode_utf8, Option, Some, None, Result, Ok, Err}
 use Rattle.simplecss_text.specs.Reading.{Fault, ended, wrong_byte, no_name, no_comment, no_value, no_selector, unexpected_selector, unexpected_combinator, no_attribute_form, no_language, Reading, got, fails, rest_place}
 use Rattle.simplecss_text.specs.Positions.{position}
@@ -6,16 +7,16 @@ use Rattle.simplecss_text.specs.declared.TextPos.{TextPos}
 use Rattle.simplecss_text.specs.declared.Error.{Error}
 use Rattle.simplecss_text.specs.declared.Error.TheVariants.{UnexpectedEndOfStream, InvalidIdent, InvalidComment, InvalidValue, InvalidByte, SelectorMissing, UnexpectedSelector, UnexpectedCombinator, InvalidAttributeSelector, InvalidLanguagePseudoClass}
 
--- the position in the text where this rest begins
+-- the position in the text at which this rest begins
 abbrev pub position_of : List ℕ → List ℕ → TextPos
 position_of text rest = position text (rest_place text rest)
 
--- the error that another byte than the expected one stands there, or that the text has ended there
+-- the error that the expected byte is missing: another byte is there, or the text ends
 abbrev pub byte_error : List ℕ → ℕ → List ℕ → Error
 byte_error text expected [] = UnexpectedEndOfStream
 byte_error text expected (b ∷ rest) = InvalidByte expected b (position_of text (b ∷ rest))
 
--- the error that tells a fault in a text
+-- the error that reports a fault in a text
 abbrev pub error_of : List ℕ → Fault → Error
 error_of text ended = UnexpectedEndOfStream
 error_of text (wrong_byte expected rest) = byte_error text expected rest
@@ -28,7 +29,7 @@ error_of text unexpected_combinator = UnexpectedCombinator
 error_of text no_attribute_form = InvalidAttributeSelector
 error_of text no_language = InvalidLanguagePseudoClass
 
--- the position that the error tells, if it tells one
+-- the position in the error, if it has one
 abbrev pub told_position : Error → Option TextPos
 told_position (InvalidIdent pos) = Some pos
 told_position (InvalidComment pos) = Some pos
@@ -41,27 +42,27 @@ told_position UnexpectedCombinator = None
 told_position InvalidAttributeSelector = None
 told_position InvalidLanguagePseudoClass = None
 
--- the reading has failed, the error tells its fault, and this is left to read
+-- the reading has failed, the error reports its fault, and this is left to read
 abbrev pub FailsBy : {A : Type 0} → List ℕ → Reading A → Error → List ℕ → Type 0
 FailsBy text (got x rest) error left = ⊥
 FailsBy text (fails fault rest) error left = (error ≡ error_of text fault) × (left ≡ rest)
 
--- A call on a text answered `result` and left `left` to read, as the reading says. Of a value the
--- definitions see what `view` tells.
+-- A call on a text returned `result` and left `left` to read, as the reading says. `view` maps a
+-- value to what the definitions see of it.
 abbrev pub Gives : {X A : Type 0} → (X → A) → List ℕ → Reading A → Result X Error → List ℕ → Type 0
 Gives view text reading (Ok x) left = reading ≡ got (view x) left
 Gives view text reading (Err error) left = FailsBy text reading error left
 
--- The same of a call that tells no error: `None` where the reading fails by this fault.
+-- The same of a call that returns no error: `None` if the reading fails by this fault.
 abbrev pub GivesOrNone : {X A : Type 0} → (X → A) → Fault → Reading A → Option X → List ℕ → Type 0
 GivesOrNone view fault reading (Some x) left = reading ≡ got (view x) left
 GivesOrNone view fault reading None left = reading ≡ fails fault left
 
--- what the position prints: row, colon, column
+-- the printed text of the position: row, colon, column
 abbrev pub position_text : TextPos → List ℕ
 position_text pos = decimal pos.row ++ codes ":" ++ decimal pos.col
 
--- what the error prints
+-- the printed text of the error
 abbrev pub error_text : Error → List ℕ
 error_text UnexpectedEndOfStream = codes "unexpected end of stream"
 error_text (InvalidIdent pos) = codes "invalid ident at " ++ position_text pos

@@ -1,5 +1,5 @@
--- Which pieces of a selector may stand next to each other. What a solid, a simple piece, a head and
--- a subselector are is said with the pieces.
+-- Which pieces of a selector may follow each other. Solid pieces, simple pieces, heads and
+-- subselectors are defined in `Pieces`.
 use Rattle.std.specs.Prelude.{ℕ, Bool, true, false, List}
 use Rattle.simplecss_text.specs.Reading.{Fault, no_comment, no_selector, unexpected_selector, unexpected_combinator}
 use Rattle.simplecss_text.specs.declared.next_kind.NextKind.{NextKind}
@@ -11,9 +11,9 @@ pub data Side : Type 0 where
   open_side : Side
   closed_side : Side
 
--- What stands between the left side and what follows the gap.
+-- What is between the left side and what follows the gap.
 pub data Answer : Type 0 where
-  -- nothing: what follows stands there without more; at a stop and at a `/` the tokens end
+  -- nothing: what follows is added as it is; at a stop and at a `/` the tokens end
   nothing : Answer
   -- a descendant combinator
   descends : Answer
@@ -21,29 +21,30 @@ pub data Answer : Type 0 where
   refuses : Fault → (after : List ℕ) → Answer
 
 -- The table of neighbours, by the left side, whether the gap has a space byte, and the kind of what
--- follows it, with what is left where that begins and what is left after it. (A fault in place of a
--- simple piece, and a comment in the gap that is not closed, are told with the endings.)
+-- follows it, with the rest where that begins and the rest after it. (A fault in place of a simple
+-- piece, and a comment in the gap that is not closed, are defined with the endings.)
 abbrev pub between : Side → Bool → NextKind → (start after : List ℕ) → Answer
--- at the start of the text, or behind a combinator: only a simple piece may follow
+-- at the start of the text, or after a combinator: only a simple piece may follow
 between open_side spaced Stop start after = refuses no_selector start
 between open_side spaced Slash start after = refuses no_selector start
 between open_side spaced Child start after = refuses unexpected_combinator start
 between open_side spaced Adjacent start after = refuses unexpected_combinator start
 between open_side spaced kind start after = nothing
--- behind a simple piece, whatever the gap: the end, or a combinator
+-- after a simple piece, whatever the gap: the end, or a combinator
 between closed_side spaced Stop start after = nothing
 between closed_side spaced Child start after = nothing
 between closed_side spaced Adjacent start after = nothing
--- behind a simple piece, without a space byte: a subselector goes on, and another head may not
+-- after a simple piece, without a space byte: a subselector continues the compound; another head
+-- may not follow
 between closed_side false Slash start after = nothing
 between closed_side false Universal start after = refuses unexpected_selector start
 between closed_side false Other start after = refuses unexpected_selector after
 between closed_side false kind start after = nothing
--- behind a simple piece and a space byte: a simple piece has a descendant combinator before it
+-- after a simple piece and a space byte: a simple piece has a descendant combinator before it
 between closed_side true Slash start after = refuses (no_comment start) after
 between closed_side true kind start after = descends
 
--- the left side of the gap behind a piece: open behind a combinator, closed behind a simple piece
+-- the left side of the gap after a piece: open after a combinator, closed after a simple piece
 abbrev pub side_behind : NextKind → Side
 side_behind Child = open_side
 side_behind Adjacent = open_side

@@ -1,8 +1,8 @@
--- A text as the pieces of a selector: a gap and a solid piece in turn, up to a stop, a slash or a
+-- A text as the pieces of a selector: gaps and solid pieces alternate, up to a stop, a slash or a
 -- fault. A gap is a blank, which may be empty. A solid piece is `>` or `+`, or it is simple: a
 -- head, which is `*` or a type name, or a subselector, which is an id, a class, an attribute or a
--- pseudo-class. A head, if there is one, and the subselectors behind it make what CSS 2.1 (section
--- 5.2) calls a simple selector. What a piece is depends on no piece before it.
+-- pseudo-class. A head, if there is one, and the subselectors after it make what CSS 2.1 (section
+-- 5.2) calls a simple selector. What a piece is does not depend on the pieces before it.
 use Rattle.std.specs.Prelude.{ℕ, Bool, ◌==◌, if◌then◌else◌, List, [], ◌∷◌, length, bytes_eq, codes, Option}
 use Rattle.std.specs.Str.{trim}
 use Rattle.simplecss_text.specs.AsciiBytes.{number_sign, asterisk, plus_sign, comma, full_stop, slash, colon, equals_sign, greater_than_sign, vertical_bar, tilde, open_parenthesis, close_parenthesis, open_bracket, close_bracket, open_brace}
@@ -26,9 +26,9 @@ equated edition operator = do
   value ← string_or_name edition
   give (operator value)
 
--- What is asked of an attribute: nothing before a closing bracket, else `=`, `~=` or `|=` and a
--- value. Other bytes are the fault that there is no such form, and the end of the text that it
--- ended.
+-- The test of an attribute: that it is present, before a closing bracket, else `=`, `~=` or `|=`
+-- and a value. For other bytes the fault is that there is no such form, and at the end of the text
+-- that it ended.
 unfoldable pub attribute_operator : Edition → Reader Operator
 attribute_operator edition [] = fails ended []
 attribute_operator edition (b ∷ text) =
@@ -50,7 +50,7 @@ attribute_after edition = do
 abbrev pub lang_of : List ℕ → Reader Token
 lang_of value text = if length value == 0 then fails no_language text else got (lang_pseudo_class value) text
 
--- what follows `:lang`: a language in parentheses, without the white space of Unicode round it
+-- what follows `:lang`: a language in parentheses, without the white space of Unicode at its ends
 unfoldable pub lang_after : Reader Token
 lang_after = do
   byte open_parenthesis
@@ -58,7 +58,7 @@ lang_after = do
   byte close_parenthesis
   lang_of (trim value)
 
--- what follows the name of a pseudo-class: a language behind `lang`, else nothing
+-- what follows the name of a pseudo-class: a language after `lang`, else nothing
 abbrev pub pseudo_class_named : List ℕ → Reader Token
 pseudo_class_named n text =
     if bytes_eq n (codes "lang") then lang_after text else got (named_pseudo_class n) text
@@ -90,8 +90,8 @@ kind_of_byte b =
     else (if b == colon then Colon
     else Other)))))))))
 
--- The kind of what stands next behind a gap, by its first byte. The end of the text is a stop, too.
--- A `/` opens no comment there, since a gap stands before it.
+-- The kind of what follows a gap, by its first byte. The end of the text is a stop, too. A `/`
+-- opens no comment there, since the gap before it ends.
 unfoldable pub next_kind : List ℕ → NextKind
 next_kind [] = Stop
 next_kind (b ∷ text) = kind_of_byte b
@@ -104,8 +104,8 @@ IsSimplePiece Child = ⊥
 IsSimplePiece Adjacent = ⊥
 IsSimplePiece kind = Unit {0}
 
--- A solid piece, where what stands next is of this kind. At a stop and at a `/` stands none; what
--- that comes to, the table of neighbours says.
+-- A solid piece, if what follows is of this kind. At a stop and at a `/` there is none; the table
+-- of neighbours decides about these.
 abbrev pub solid_as : Edition → NextKind → Reader Token
 solid_as edition Stop text = fails no_selector text
 solid_as edition Slash text = fails no_selector text
@@ -122,8 +122,8 @@ solid_as edition Other text = named_token edition type_selector text
 unfoldable pub solid : Edition → Reader Token
 solid edition text = solid_as edition (next_kind text) text
 
--- A gap and a solid piece: whether the gap has a space byte, what is left where the solid piece
--- begins, its kind, its token, and what is left after it.
+-- A gap and a solid piece: whether the gap has a space byte, the rest where the solid piece begins,
+-- its kind, its token, and the rest after it.
 pub record Piece : Type 0 where
   pub spaced : Bool
   pub start : List ℕ
@@ -131,7 +131,7 @@ pub record Piece : Type 0 where
   pub token : Token
   pub after : List ℕ
 
--- a gap and the solid piece behind it
+-- a gap and the solid piece after it
 unfoldable pub piece : Edition → Reader Piece
 piece edition = do
   spaced ← gap
@@ -146,30 +146,29 @@ piece edition = do
     after = after;
   })
 
--- the same, where a fault is not told
+-- the same, without the fault
 abbrev pub next_piece : Edition → List ℕ → Option (Piece × List ℕ)
 next_piece edition text = found (piece edition text)
 
--- the pieces of a text, and what is left where no further one stands
+-- the pieces of a text, and the rest where no further one follows
 abbrev pub pieces : Edition → List ℕ → List Piece × List ℕ
 pieces edition text = each (next_piece edition) text
 
--- What stands where the pieces end.
+-- What ends the pieces.
 pub data Ending : Type 0 where
   -- a stop
   at_stop : (spaced : Bool) → (start : List ℕ) → Ending
   -- a `/`
   at_slash : (spaced : Bool) → (start : List ℕ) → Ending
-  -- a head that is missing, as at `<`, since no name begins there: the fault, and what is left
-  -- after it
+  -- a head that is missing, as at `<`, since no name begins there: the fault, and the rest after it
   without_head : (spaced : Bool) → (start : List ℕ) → Fault → (after : List ℕ) → Ending
-  -- a fault inside a subselector that has begun, and what is left after it
+  -- a fault inside a subselector that has begun, and the rest after it
   within_piece : (spaced : Bool) → (start : List ℕ) → Fault → (after : List ℕ) → Ending
   -- a comment in the gap that is not closed
   within_gap : Fault → (after : List ℕ) → Ending
 
--- what ends the pieces behind a gap, by the kind of what stands there, where reading it as a solid
--- piece is this fault
+-- what ends the pieces after a gap, by the kind of what follows, if reading it as a solid piece is
+-- this fault
 abbrev pub fault_ending : NextKind → Bool → (start : List ℕ) → Fault → (after : List ℕ) → Ending
 fault_ending Stop spaced start fault after = at_stop spaced start
 fault_ending Slash spaced start fault after = at_slash spaced start
@@ -177,17 +176,17 @@ fault_ending Other spaced start fault after = without_head spaced start fault af
 fault_ending kind spaced start fault after = within_piece spaced start fault after
 
 -- The same, from what is read there. (A solid piece that can be read is no ending, so that the
--- second clause is never asked.)
+-- second clause is never used.)
 abbrev pub solid_ending : Bool → (start : List ℕ) → Reading Token → Ending
 solid_ending spaced start (fails fault after) =
     fault_ending (next_kind start) spaced start fault after
 solid_ending spaced start (got token after) = at_stop spaced start
 
--- the same, or what stands in the gap
+-- the same, or the fault in the gap
 abbrev pub gap_ending : Edition → Reading Bool → Ending
 gap_ending edition (fails fault after) = within_gap fault after
 gap_ending edition (got spaced start) = solid_ending spaced start (solid edition start)
 
--- what the pieces of a text end by, from what is left where no further one stands
+-- what ends the pieces of a text, from the rest where no further one follows
 unfoldable pub ending : Edition → List ℕ → Ending
 ending edition text = gap_ending edition (gap text)

@@ -8,16 +8,16 @@ use Rattle.simplecss_text.specs.declared.TextPos.{TextPos}
 abbrev pub greatest : ℕ
 greatest = 0xFFFF_FFFF
 
--- The position in a whole text of what stands at `inner` in a part of it that begins at `start`:
--- rows add up, and so do columns on the part's first row. Both stop at the greatest `u32`.
+-- The position in a whole text of the position `inner` in a part of it that begins at `start`: rows
+-- add up, and so do columns on the part's first row. Both stop at the greatest `u32`.
 abbrev pub in_whole : TextPos → TextPos → TextPos
 in_whole start inner = record {
   row = min greatest (start.row + (inner.row - 1));
   col = if inner.row == 1 then min greatest (start.col + (inner.col - 1)) else inner.col;
 }
 
--- The position of a place: 1 more than the newlines before it, and 1 more than the characters since
--- the last of them. Both stop at the greatest `u32`.
+-- The position of an offset: 1 more than the newlines before it, and 1 more than the characters
+-- since the last of them. Both stop at the greatest `u32`.
 unfoldable pub position : List ℕ → ℕ → TextPos
 position text place = record {
   row = min greatest (1 + count_by (λ b. b == newline) (take place text));

@@ -1,4 +1,4 @@
--- The printed texts of selectors and sheets, as joins of the texts of their parts.
+-- The printed texts of selectors and sheets, each a join of the texts of its parts.
 use Rattle.std.specs.Prelude.{ℕ, Bool, true, not, ◌||◌, ◌&&◌, ◌==◌, if◌then◌else◌, List, [], ◌∷◌, ◌++◌, Option, None, Some, codes, map}
 use Rattle.std.specs.List.{flat_map, join_with_byte, list_all}
 use Rattle.simplecss_text.specs.AsciiBytes.{newline, single_quote, backslash}
@@ -20,19 +20,19 @@ pseudo_class_text active = codes "active"
 pseudo_class_text focus = codes "focus"
 pseudo_class_text (lang language) = codes "lang(" ++ language ++ codes ")"
 
--- an operator and its value, which always stands in apostrophes
+-- an operator and its value, which is always printed in apostrophes
 abbrev pub operator_text : Operator → List ℕ
 operator_text exists = []
 operator_text (equals value) = codes "='" ++ value ++ codes "'"
 operator_text (has_word value) = codes "~='" ++ value ++ codes "'"
 operator_text (begins_with value) = codes "|='" ++ value ++ codes "'"
 
--- an attribute in brackets, or a pseudo-class behind its colon
+-- an attribute in brackets, or a pseudo-class after its colon
 abbrev pub subselector_text : Subselector → List ℕ
 subselector_text (attribute name operator) = codes "[" ++ name ++ operator_text operator ++ codes "]"
 subselector_text (pseudo_class class) = codes ":" ++ pseudo_class_text class
 
--- what stands before a component
+-- what is printed before a component
 abbrev pub combinator_text : Combinator → List ℕ
 combinator_text none = []
 combinator_text descendant = codes " "
@@ -62,7 +62,7 @@ important_text important = if important then codes " !important" else []
 abbrev pub declaration_text : StyleDeclaration → List ℕ
 declaration_text p = p.name ++ codes ":" ++ p.value ++ important_text p.important ++ codes ";"
 
--- the selector, and the declarations between braces
+-- the selector, then the declarations between braces
 abbrev pub rule_text : StyleRule → List ℕ
 rule_text rule =
     selector_text rule.components ++ codes " { " ++ flat_map declaration_text rule.declarations
@@ -72,13 +72,13 @@ rule_text rule =
 abbrev pub sheet_text : List StyleRule → List ℕ
 sheet_text rules = join_with_byte newline (map rule_text rules)
 
--- each apostrophe of the text stands right behind a backslash of it; before the text stands
+-- each apostrophe of the text directly follows a backslash of it; the byte before the text is
 -- `previous`
 abbrev pub escaped_after : ℕ → List ℕ → Bool
 escaped_after previous [] = true
 escaped_after previous (b ∷ text) = (not (b == single_quote) || previous == backslash) && escaped_after b text
 
--- The value of an operator has no bare apostrophe. (It is printed behind an apostrophe, which is no
+-- The value of an operator has no bare apostrophe. (It is printed after an apostrophe, which is no
 -- backslash, as 0 is none.)
 abbrev pub is_clean_operator : Operator → Bool
 is_clean_operator exists = true
@@ -91,7 +91,6 @@ abbrev pub is_clean_subselector : Subselector → Bool
 is_clean_subselector (attribute name operator) = is_clean_operator operator
 is_clean_subselector (pseudo_class class) = true
 
--- every apostrophe in an attribute value of the selector stands right behind a backslash of that
--- value
+-- every apostrophe in an attribute value of the selector directly follows a backslash of that value
 abbrev pub is_clean : List Component → Bool
 is_clean components = list_all (λ c. list_all is_clean_subselector c.compound.subselectors) components

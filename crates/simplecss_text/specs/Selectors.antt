@@ -12,18 +12,18 @@ use Rattle.simplecss_text.specs.Tokens.Token.{universal_selector, type_selector,
 use Rattle.simplecss_text.specs.TokenSequences.{TokenSequence, sequence_of}
 use Rattle.simplecss_text.specs.TokenSequences.TokenSequence.{item, sequence_end}
 
--- What a simple piece says of the component in which it stands.
+-- What a simple piece adds to its component.
 pub data Part : Type 0 where
   any_type : Part
   of_type : List ℕ → Part
   with : Subselector → Part
 
--- What a token is in a selector: a part of a component, or what joins two of them.
+-- The role of a token in a selector: a part of a component, or what joins two of them.
 pub data Role : Type 0 where
   part : Part → Role
   joint : Combinator → Role
 
--- the pseudo-class of a name
+-- the pseudo-class with a name
 abbrev pub known_pseudo_class : List ℕ → Option KnownPseudoClass
 known_pseudo_class n =
     if bytes_eq n (codes "first-child") then Some first_child
@@ -34,7 +34,7 @@ known_pseudo_class n =
     else (if bytes_eq n (codes "focus") then Some focus
     else None)))))
 
--- What a token is in a selector: nothing, if it is a pseudo-class whose name is not known. A class
+-- The role of a token in a selector: none, if it is a pseudo-class whose name is not known. A class
 -- is an attribute `class` with a word, and an id is an attribute `id` that equals a text.
 abbrev pub role_of : Token → Option Role
 role_of universal_selector = Some (part any_type)
@@ -49,23 +49,23 @@ role_of descendant_combinator = Some (joint descendant)
 role_of child_combinator = Some (joint child)
 role_of adjacent_combinator = Some (joint adjacent)
 
--- A sequence is refused at its first fault or unknown pseudo-class, and else gives its tokens'
--- roles. With it what is left there.
+-- A sequence is refused at its first fault or unknown pseudo-class, and else has the roles of its
+-- tokens. With it comes the rest at that point.
 pub data Outcome : Type 0 where
   refused : (left : List ℕ) → Outcome
   accepted : List Role → (left : List ℕ) → Outcome
 
--- the role, and then those that were accepted
+-- the role, before those that were accepted
 abbrev pub with_role : Role → Outcome → Outcome
 with_role role (refused left) = refused left
 with_role role (accepted roles left) = accepted (role ∷ roles) left
 
--- the role and what follows it; a pseudo-class that is not known refuses, right after its name
+-- the role and what follows it; an unknown pseudo-class is refused, right after its name
 abbrev pub after_role : Option Role → (after : List ℕ) → Outcome → Outcome
 after_role (Some role) after rest = with_role role rest
 after_role None after rest = refused after
 
--- what a sequence comes to
+-- the outcome of a sequence
 abbrev pub outcome : TokenSequence → Outcome
 outcome (sequence_end left) = accepted [] left
 outcome (item (Err fault) after rest) = refused after
@@ -77,7 +77,7 @@ cut [] = ([], [])
 cut (joint combinator ∷ roles) = ([], (combinator, (cut roles).0) ∷ (cut roles).1)
 cut (part x ∷ roles) = (x ∷ (cut roles).0, (cut roles).1)
 
--- the type name among the parts of a component, if there is one, else the one known before
+-- the type name among the parts of a component, if there is one, else the one from before
 abbrev pub type_among : Option (List ℕ) → List Part → Option (List ℕ)
 type_among known [] = known
 type_among known (of_type n ∷ parts) = type_among (Some n) parts
@@ -91,22 +91,23 @@ subselectors_among (with subselector ∷ parts) = subselector ∷ subselectors_a
 subselectors_among (any_type ∷ parts) = subselectors_among parts
 subselectors_among (of_type n ∷ parts) = subselectors_among parts
 
--- the component of a combinator and the parts behind it
+-- the component of a combinator and the parts after it
 abbrev pub component_of : Combinator × List Part → Component
 component_of (combinator, parts) = record {
   combinator = combinator;
   compound = record { name = type_among None parts; subselectors = subselectors_among parts };
 }
 
--- one component for what stands before, between and behind the combinators, the first without one
+-- one component for the parts before, between and after the combinators; the first has no
+-- combinator
 abbrev pub components_of : List Role → List Component
 components_of roles = component_of (none, (cut roles).0) ∷ map component_of (cut roles).1
 
--- the selector of an outcome, or none, and what is left
+-- the selector of an outcome, or none, and the rest
 abbrev pub selector_of : Outcome → Option (List Component) × List ℕ
 selector_of (refused left) = (None, left)
 selector_of (accepted roles left) = (Some (components_of roles), left)
 
--- the selector at the front of a text, or none, and what is left where reading ends
+-- the selector at the start of a text, or none, and the rest where reading ends
 unfoldable pub reads : Edition → List ℕ → Option (List Component) × List ℕ
 reads edition text = selector_of (outcome (sequence_of edition text))

@@ -8,15 +8,15 @@ use Rattle.simplecss_text.specs.Ranks.{ordered_by}
 use Rattle.simplecss_text.specs.Specificity.{specificity}
 use Rattle.simplecss_text.specs.Statements.{StyleRule, kept}
 
--- a has a smaller specificity than b: the first count that differs decides
+-- `a` has a smaller specificity than `b`: the first count that differs decides
 abbrev pub is_smaller : StyleRule → StyleRule → Bool
 is_smaller a b = is_lt (slice_cmp nat_cmp (specificity a.components) (specificity b.components))
 
--- Each rule at its rank: as many places from the front as there are rules of smaller specificity
--- and earlier ones of equal specificity.
+-- Each rule at its rank: its index is the number of rules of smaller specificity and of earlier
+-- ones of equal specificity.
 abbrev pub ordered : List StyleRule → List StyleRule
 ordered = ordered_by is_smaller
 
--- the rules of a sheet that these texts were read into, in turn
+-- the rules of a sheet that has read these texts, one after another
 abbrev pub sheet : Edition → List (List ℕ) → List StyleRule
 sheet edition texts = ordered (flat_map (kept edition) texts)

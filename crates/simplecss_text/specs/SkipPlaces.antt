@@ -4,12 +4,12 @@ use Rattle.simplecss_text.specs.declared.Error.{Error}
 use Rattle.simplecss_text.specs.Reading.{Ends}
 use Rattle.simplecss_text.specs.Skipped.{Refusal, faulty, unknown_class, Why, leading_comma, refused_selector, after_selector, missing_block, broken_declaration, extra_brace, open_comment, at_rule, Skip}
 
--- the text in which an error is reported is an end of the text
+-- the text in which an error is reported is a suffix of the text
 abbrev pub IsRefusalWithin : List ℕ → Refusal → Type 0
 IsRefusalWithin text (faulty within error) = Ends text within
 IsRefusalWithin text (unknown_class name) = Unit {0}
 
--- the same of why something is skipped
+-- the same for the reason why something is skipped
 abbrev pub IsWhyWithin : List ℕ → Why → Type 0
 IsWhyWithin text (refused_selector r) = IsRefusalWithin text r
 IsWhyWithin text leading_comma = Unit {0}

@@ -1,4 +1,4 @@
--- What reading a style sheet skips, in order: where it begins, what is left after it, and why.
+-- What reading a style sheet skips, in order: where it begins, the rest after it, and why.
 use Rattle.std.specs.Prelude.{ℕ, Bool, if◌then◌else◌, List, [], ◌∷◌, ◌++◌, length, not, ◌==◌, ◌||◌, Option, Some, None, Ok, Err}
 use Rattle.std.specs.List.{flat_map}
 use Rattle.std.specs.Option.{option_map}
@@ -20,8 +20,8 @@ use Rattle.simplecss_text.specs.Declarations.{StyleDeclaration, declaration}
 use Rattle.simplecss_text.specs.Blocks.{ends_list, from_block_end, declaration_in_block}
 use Rattle.simplecss_text.specs.Statements.{StyleRule, part, part_and_comma, parts, at_rule_rest, next_statement}
 
--- Why a selector is refused: for an error, whose position counts from where the text `within`
--- begins, or for a pseudo-class of no known name.
+-- Why a selector is refused: for an error, whose position counts from the start of the text
+-- `within`, or for a pseudo-class whose name is not known.
 pub data Refusal : Type 0 where
   faulty : (within : List ℕ) → Error → Refusal
   unknown_class : (name : List ℕ) → Refusal
@@ -32,26 +32,26 @@ pub data Why : Type 0 where
   leading_comma : Why
   -- a selector is refused
   refused_selector : Refusal → Why
-  -- text between the last selector, which was read, and the block
+  -- text between the last selector, which was accepted, and the block
   after_selector : Why
-  -- no block follows the last selector, which was read
+  -- no block follows the last selector, which was accepted
   missing_block : Why
   -- a declaration is broken; what follows it in its block is skipped with it
   broken_declaration : Why
-  -- a closing brace after a block that already has one
+  -- a closing brace after a block that is already closed
   extra_brace : Why
   -- a comment is not closed; all that follows is skipped with it
   open_comment : Why
   -- at-rules are not supported; its name, if it has one
   at_rule : (name : Option (List ℕ)) → Why
 
--- Something that is skipped: what is left to read where it begins, what is left after it, and why.
+-- Something that is skipped: the rest where it begins, the rest after it, and why.
 pub record Skip : Type 0 where
   pub from : List ℕ
   pub after : List ℕ
   pub why : Why
 
--- what is left from the next opening brace on
+-- the rest from the next opening brace on
 abbrev pub from_brace : List ℕ → List ℕ
 from_brace text = past (λ b. not (b == open_brace)) text
 
@@ -70,23 +70,23 @@ class_name descendant_combinator = []
 class_name child_combinator = []
 class_name adjacent_combinator = []
 
--- a token that plays no role is a pseudo-class of no known name, which refuses
+-- a token without a role is a pseudo-class whose name is not known, which is refused
 abbrev pub unless_unknown : Option Role → Token → Option Refusal → Option Refusal
 unless_unknown (Some role) token later = later
 unless_unknown None token later = Some (unknown_class (class_name token))
 
--- why the sequence of a text is refused, if it is: for its first fault or unknown pseudo-class
+-- why the sequence of a text is refused, if it is: its first fault or unknown pseudo-class
 abbrev pub refusal_in : (text : List ℕ) → TokenSequence → Option Refusal
 refusal_in text (sequence_end left) = None
 refusal_in text (item (Err fault) after rest) = Some (faulty text (error_of text fault))
 refusal_in text (item (Ok token) after rest) =
     unless_unknown (role_of token) token (refusal_in text rest)
 
--- why the selector at the front of a text is refused, if it is
+-- why the selector at the start of a text is refused, if it is
 unfoldable pub refusal : Edition → List ℕ → Option Refusal
 refusal edition text = refusal_in text (sequence_of edition text)
 
--- What is left after a refused selector and what is skipped with it: the text up to the comma, and
+-- The rest after a refused selector and what is skipped with it: the text up to the comma, or
 -- without one up to the block.
 abbrev pub past_refused : List ℕ → List ℕ
 past_refused rest = if starts comma rest then rest else from_brace rest
@@ -101,23 +101,23 @@ abbrev pub refused_part : (text rest : List ℕ) → Option Refusal → List Ski
 refused_part text rest None = []
 refused_part text rest (Some r) = refused text rest r ∷ []
 
--- what the selector at the front of a text skips: itself, if it is refused
+-- what the selector at the start of a text skips: itself, if it is refused
 unfoldable pub selector_skips : Edition → List ℕ → List Skip
 selector_skips edition text =
     refused_part text (past is_space (reads edition text).1) (refusal edition text)
 
--- Why the text after the last selector is skipped: it is followed by a block, or by none.
+-- Why the text after the last selector is skipped: a block follows it, or none does.
 abbrev pub why_after : List ℕ → Why
 why_after block = if length block == 0 then missing_block else after_selector
 
--- What is skipped after a selector that was read: nothing before a comma or a block, else all up to
--- the block.
+-- What is skipped after a selector that was accepted: nothing before a comma or a block, else
+-- everything up to the block.
 abbrev pub skips_after : (rest : List ℕ) → List Skip
 skips_after rest =
     if starts comma rest || starts open_brace rest then []
     else record { from = rest; after = from_brace rest; why = why_after (from_brace rest) } ∷ []
 
--- the same, if a selector was read
+-- the same, if a selector was accepted
 abbrev pub skips_after_read : Option (List Component) → List ℕ → List Skip
 skips_after_read None rest = []
 skips_after_read (Some selector) rest = skips_after rest
@@ -131,11 +131,11 @@ part_skips edition text =
 
 -- ---- one thing after another
 
--- the skips of a text at whose front `read` finds something
+-- the skips of a text, if `read` finds something at its start
 abbrev pub skips_with : {A B : Type 0} → (List ℕ → B) → (List ℕ → Option (A × List ℕ)) → List ℕ → Option (B × List ℕ)
 skips_with skips read text = option_map (λ x. (skips text, x.1)) (read text)
 
--- What is skipped where `read` finds something, one after another, and then in what is left.
+-- What is skipped wherever `read` finds something, one after another, and then in the rest.
 unfoldable pub skips_along : {A : Type 0} → (skips last : List ℕ → List Skip) → (List ℕ → Option (A × List ℕ)) → List ℕ → List Skip
 skips_along skips last read text =
     let found = each (skips_with skips read) text in
@@ -153,9 +153,8 @@ brace_skips text =
     if starts close_brace text then record { from = text; after = past_one text; why = extra_brace } ∷ []
     else []
 
--- What follows a blank in the place of a declaration, with the rest of its block up to the closing
--- brace: nothing, where the block or the text ends there; a comment that is open; or a declaration
--- that is broken.
+-- What follows a blank in place of a declaration, with the rest of its block up to the closing
+-- brace: nothing, if the block or the text ends there; an open comment; or a broken declaration.
 abbrev pub list_end_skips : (text after : List ℕ) → List Skip
 list_end_skips text after =
     if ends_list (past_blank text) then []
@@ -209,7 +208,7 @@ abbrev pub name_of : Reading (List ℕ) → Option (List ℕ)
 name_of (got n rest) = Some n
 name_of (fails fault rest) = None
 
--- an at-rule, which is skipped as a whole
+-- an at-rule, which is skipped whole
 abbrev pub at_rule_skip : Edition → List ℕ → Skip
 at_rule_skip edition text =
     record {
@@ -237,12 +236,12 @@ skipped edition text =
 
 -- ---- one statement
 
--- the skips of a statement that was read, or of what follows in its place
+-- the skips of a statement that was read, or of what is in its place
 abbrev pub skips_of_next : Edition → List ℕ → Option (List StyleRule × List ℕ) → List Skip
 skips_of_next edition text None = end_skips text
 skips_of_next edition text (Some read) = statement_skips edition (past_blank text)
 
--- What reading the next statement skips: what that statement does, and where there is none, a
+-- What reading the next statement skips: the skips of that statement, or if there is none, a
 -- comment that is open there.
 abbrev pub next_skips : Edition → List ℕ → List Skip
 next_skips edition text = skips_of_next edition text (next_statement edition text)

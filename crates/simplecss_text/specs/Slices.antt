@@ -1,9 +1,9 @@
--- Texts that stand in another, one after the other.
+-- Texts that occur in another, one after the other.
 use Rattle.std.specs.Prelude.{◌≡◌, ℕ, List, [], ◌∷◌}
 use Rattle.simplecss_text.specs.Reading.{before, Ends}
 
--- These texts stand in their order in what reading passes from one rest of a text to a later one:
--- each is what stands before some rest, and the next one is no earlier than that rest.
+-- These texts occur, in order, in what is consumed from one rest of a text to a later one: each is
+-- what precedes some rest, and the next one begins no earlier than that rest.
 abbrev pub StandBetween : (from to : List ℕ) → List (List ℕ) → Type 0
 StandBetween from to [] = Ends from to
 StandBetween from to (s ∷ ss) =

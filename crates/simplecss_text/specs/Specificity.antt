@@ -1,4 +1,4 @@
--- How specific a selector is (CSS 2.1, section 6.4.3).
+-- The specificity of a selector (CSS 2.1, section 6.4.3).
 use Rattle.std.specs.Prelude.{ℕ, Bool, false, not, min, List, [], ◌∷◌, sum_by, count_by, is_some, bytes_eq, codes}
 use Rattle.simplecss_text.specs.Components.{Subselector, Component}
 use Rattle.simplecss_text.specs.Components.Subselector.{attribute, pseudo_class}
@@ -17,8 +17,7 @@ id_count c = count_by is_id c.compound.subselectors
 abbrev pub other_count : Component → ℕ
 other_count c = count_by (λ s. not (is_id s)) c.compound.subselectors
 
--- the number of ids, of other subselectors, and of components with a type name, each 255 where it
--- is greater
+-- the number of ids, of other subselectors, and of components with a type name, each at most 255
 abbrev pub specificity : List Component → List ℕ
 specificity components =
     min 255 (sum_by id_count components)

@@ -1,4 +1,5 @@
--- Terms: what a value is made of. Only where a term ends is asked here; what it means is not read.
+-- Terms, of which a value consists. Only the end of a term is defined here; its meaning is not
+-- read.
 use Rattle.std.specs.Prelude.{ℕ, Bool, false, not, ◌||◌, ◌&&◌, ◌==◌, if◌then◌else◌, List, [], ◌∷◌}
 use Rattle.simplecss_text.specs.AsciiBytes.{number_sign, percent_sign, asterisk, plus_sign, comma, hyphen, full_stop, slash, open_parenthesis, close_parenthesis}
 use Rattle.simplecss_text.specs.Reading.{ended, Reading, got, fails, Reader, ◌>>=◌, left_after}
@@ -11,9 +12,9 @@ use Rattle.simplecss_text.specs.Strings.{is_quote, string_after}
 abbrev pub is_hex_digit : ℕ → Bool
 is_hex_digit b = is_digit b || is_within 97 102 b || is_within 65 70 b
 
--- What is left after a hash, behind its number sign: after the name. Where no name stands it is
--- what is left after hexadecimal digits, and after a hyphen before them, which the name that is
--- missing passes: `rest` stands behind it.
+-- What is left after a hash, from after its number sign: the rest after the name. If there is no
+-- name, it is the rest after hexadecimal digits, and after a hyphen before them, which a missing
+-- name consumes: `rest` follows it.
 abbrev pub past_hash : Reading (List ℕ) → List ℕ
 past_hash (got n rest) = rest
 past_hash (fails fault rest) = past is_hex_digit rest
@@ -22,30 +23,30 @@ past_hash (fails fault rest) = past is_hex_digit rest
 abbrev pub past_decimals : List ℕ → List ℕ
 past_decimals text = if starts full_stop text then past is_digit (past_one text) else text
 
--- What is left after a percent sign, or else a name. Where neither stands, it is what is left after
--- a hyphen, if one stands there: a missing name passes it.
+-- The rest after a percent sign, or else after a name. If neither is there, it is the rest after a
+-- hyphen, if there is one: a missing name consumes it.
 abbrev pub past_unit : Edition → List ℕ → List ℕ
 past_unit edition text = if starts percent_sign text then past_one text else left_after (name edition text)
 
--- What is left after a number, behind its first byte, which is a digit, a sign or a full stop:
--- after digits, a full stop and digits, and a unit, of which each may be absent.
+-- The rest after a number, from after its first byte, which is a digit, a sign or a full stop:
+-- after digits, a full stop and digits, and a unit, each of which may be absent.
 unfoldable pub past_number : Edition → List ℕ → List ℕ
 past_number edition text = past_unit edition (past_decimals (past is_digit text))
 
--- the arguments of a function, if they stand there: all up to the first closing parenthesis, and
--- that parenthesis
+-- the arguments of a function, if there are any: everything up to the first closing parenthesis,
+-- and that parenthesis
 abbrev pub arguments : Reader (Unit {0})
 arguments text =
     if starts open_parenthesis text then closed_or ended (after_byte close_parenthesis text)
     else got tt text
 
--- a name, and where a parenthesis follows directly, the arguments
+-- a name, and if a parenthesis follows directly, the arguments
 unfoldable pub word : Edition → Reader (Unit {0})
 word edition = do
   n ← name edition
   arguments
 
--- a string, behind its opening quote
+-- a string, from after its opening quote
 abbrev pub quoted : ℕ → Reader (Unit {0})
 quoted quote = do
   inside ← string_after quote

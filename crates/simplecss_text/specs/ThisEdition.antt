@@ -1,4 +1,4 @@
--- The edition of the rules that this crate keeps.
+-- The edition of the rules that this crate implements.
 use Rattle.simplecss_text.specs.Characters.{Edition, second_edition}
 
 -- the second edition

@@ -1,4 +1,4 @@
--- What a tokenizer gives on a text: the tokens of its pieces, with what stands between them, up to
+-- What a tokenizer yields on a text: the tokens of its pieces, with what comes between them, up to
 -- the end or a fault.
 use Rattle.std.specs.Prelude.{ℕ, ◌+◌, true, false, List, [], ◌∷◌, map, Result, Ok, Err}
 use Rattle.simplecss_text.specs.declared.Error.{Error}
@@ -15,7 +15,7 @@ use Rattle.simplecss_text.specs.Neighbours.{Side, Answer, between, side_behind}
 use Rattle.simplecss_text.specs.Neighbours.Side.{open_side, closed_side}
 use Rattle.simplecss_text.specs.Neighbours.Answer.{nothing, descends, refuses}
 
--- Each token or fault with what is left to read after it, and at the end what is left there.
+-- Each token or fault with the rest after it, and at the end the rest there.
 pub data TokenSequence : Type 0 where
   item : Result Token Fault → (after : List ℕ) → TokenSequence → TokenSequence
   sequence_end : (left : List ℕ) → TokenSequence
@@ -28,22 +28,22 @@ token_then token after rest = item (Ok token) after rest
 abbrev pub fault_sequence : Fault → List ℕ → TokenSequence
 fault_sequence fault after = item (Err fault) after (sequence_end after)
 
--- a fault, then that no selector was found, and then the end
+-- a fault, then the fault that a selector is missing, and then the end
 abbrev pub two_faults_sequence : Fault → List ℕ → TokenSequence
 two_faults_sequence fault after = item (Err fault) after (fault_sequence no_selector after)
 
--- What the answer puts between two neighbours, at `start`: nothing or a descendant combinator, and
--- behind it `next`, which is what follows; or a fault, and then nothing more.
+-- What is put between two neighbours, at `start`: nothing or a descendant combinator, and then
+-- `next`, which is what follows; or a fault, and then nothing more.
 abbrev pub answered : Answer → (start : List ℕ) → TokenSequence → TokenSequence
 answered nothing start next = next
 answered descends start next = token_then descendant_combinator start next
 answered (refuses fault after) start next = fault_sequence fault after
 
--- The sequence of an ending, behind a left side. At a stop and at a `/` that is what the table of
--- neighbours answers, and the end. Before a fault in place of a simple piece stands what stands
--- before a simple piece: behind a closed left side and a space byte a descendant combinator, else
--- nothing. Behind an open left side, or a descendant combinator, a second fault follows where a
--- head is missing or a comment is open: that no selector was found.
+-- The sequence of an ending, after a left side. At a stop and at a `/` that is the answer of the
+-- table of neighbours, and the end. A fault in place of a simple piece has before it what a simple
+-- piece would have: after a closed left side and a space byte a descendant combinator, else
+-- nothing. After an open left side, or a descendant combinator, a second fault follows a missing
+-- head or an open comment: that a selector is missing.
 abbrev pub ending_sequence : Side → Ending → TokenSequence
 ending_sequence side (at_stop spaced start) =
     answered (between side spaced Stop start start) start (sequence_end start)
@@ -60,14 +60,14 @@ ending_sequence closed_side (within_piece true start fault after) =
     token_then descendant_combinator start (fault_sequence fault after)
 ending_sequence closed_side (within_gap fault after) = fault_sequence fault after
 
--- The sequence over pieces and what ends them, behind a left side.
+-- The sequence of pieces and what ends them, after a left side.
 abbrev pub sequence : Side → List Piece → Ending → TokenSequence
 sequence side [] end = ending_sequence side end
 sequence side (p ∷ ps) end =
     answered (between side p.spaced p.kind p.start p.after) p.start
     (token_then p.token p.after (sequence (side_behind p.kind) ps end))
 
--- the sequence of what is left to read, behind a left side
+-- the sequence of the rest, after a left side
 unfoldable pub sequence_from : Edition → Side → List ℕ → TokenSequence
 sequence_from edition side text =
     sequence side (pieces edition text).0 (ending edition (pieces edition text).1)
@@ -76,27 +76,27 @@ sequence_from edition side text =
 abbrev pub sequence_of : Edition → List ℕ → TokenSequence
 sequence_of edition text = sequence_from edition open_side text
 
--- what a sequence gives
+-- the items of a sequence
 abbrev pub items : TokenSequence → List (Result Token Fault)
 items (item x after rest) = x ∷ items rest
 items (sequence_end left) = []
 
--- a token, or the error that tells a fault in a text
+-- a token, or the error that reports a fault in a text
 abbrev pub told_in : List ℕ → Result Token Fault → Result Token Error
 told_in text (Ok token) = Ok token
 told_in text (Err fault) = Err (error_of text fault)
 
--- what a tokenizer gives on a whole text
+-- what a tokenizer yields on a whole text
 abbrev pub tokens_of : Edition → List ℕ → List (Result Token Error)
 tokens_of edition text = map (told_in text) (items (sequence_of edition text))
 
--- how many faults a sequence gives
+-- the number of faults in a sequence
 abbrev pub fault_count : TokenSequence → ℕ
 fault_count (item (Ok token) after rest) = fault_count rest
 fault_count (item (Err fault) after rest) = 1 + fault_count rest
 fault_count (sequence_end left) = 0
 
--- the names and values that an item of a sequence gives
+-- the names and values in an item of a sequence
 abbrev pub item_texts : Result Token Fault → List (List ℕ)
 item_texts (Ok token) = token_texts token
 item_texts (Err fault) = []

@@ -16,7 +16,7 @@ pub data Token : Type 0 where
   child_combinator : Token
   adjacent_combinator : Token
 
--- the value that an operator holds, if it holds one
+-- the value of an operator, if it has one
 abbrev pub operator_texts : Operator → List (List ℕ)
 operator_texts exists = []
 operator_texts (equals value) = value ∷ []

@@ -1,6 +1,6 @@
-//! Laws, each the contract of a function that does nothing. Those of the grammar say what the
-//! readers of comments and blanks find in words that know of no reading: what a comment is, and
-//! what a blank is. Those of equality say when two values are equal.
+//! Laws: contracts of functions that do nothing. Those of the grammar say what the readers of
+//! comments and blanks find, by definitions of comments and blanks that do not mention reading.
+//! Those of equality say when two values are equal.
 
 ghost use Rattle.std.specs.Prelude.{◌≡◌, ℕ, ◌≤◌, ◌↔◌, List, ◌++◌, length, true, false, IsTrue};
 ghost use Rattle.simplecss_text.specs.Reading.{got, before, Ends};
@@ -12,41 +12,40 @@ ghost use Rattle.simplecss_text.specs.Cursor.{text_of, place_of};
 use crate::stream::Stream;
 use crate::{Error, TextPos};
 
-/// A comment is read exactly where what reading passes is a comment.
+/// A comment is read exactly if the text that reading consumes is a comment.
 pub fn comment_is_closed()
     ensures { (text rest : List ℕ) →
         (comment text ≡ got tt rest) ↔ (Ends text rest × IsComment (before text rest)) }
 {}
 
-/// What a blank at the front of a text passes is cut into space bytes and comments.
+/// The blank at the start of a text is cut into space bytes and comments.
 pub fn blank_is_cut()
     ensures ends { (text : List ℕ) → Ends text (past_blank text) }
     ensures cut { (text : List ℕ) → IsBlank (before text (past_blank text)) }
 {}
 
-/// No longer front of a text is cut into space bytes and comments than the one that the blank at
-/// its front passes.
+/// The blank at the start of a text is the longest prefix made of space bytes and comments.
 pub fn blank_is_longest()
     ensures { (text front rest : List ℕ) → text ≡ front ++ rest → IsBlank front →
         length front ≤ length (before text (past_blank text)) }
 {}
 
-/// The blank at the front of a text has no space byte exactly where it is cut into comments alone.
+/// The blank at the start of a text has no space byte exactly if it is cut into comments only.
 pub fn space_bytes_are_parts()
     ensures { (text : List ℕ) →
         (has_space text ≡ false) ↔ IsComments (before text (past_blank text)) }
 {}
 
-/// A comment that opens behind a blank is not closed, and reading the blank is the fault of reading
-/// that comment.
+/// A comment that opens after a blank is not closed, and reading the blank fails as reading that
+/// comment does.
 pub fn open_comment_breaks_blank()
     ensures { (text : List ℕ) → opens_comment (past_blank text) ≡ true →
         blank text ≡ comment (past_blank text) }
 {}
 
-/// Two positions are equal exactly if their rows and columns are, two errors if they are the same
-/// error with the same position and bytes, and two cursors if they stand at the same place of texts
-/// with the same bytes.
+/// Two positions are equal exactly if their rows and columns are; two errors if they are the same
+/// error with the same position and bytes; two cursors if they have the same offset in texts of the
+/// same bytes.
 pub fn equality_laws()
     ensures positions { (a b : TextPos) → IsTrue (⟦<TextPos as PartialEq>⟧.eq a b) ↔ (a ≡ b) }
     ensures errors { (a b : Error) → IsTrue (⟦<Error as PartialEq>⟧.eq a b) ↔ (a ≡ b) }

@@ -1,4 +1,4 @@
-//! The kinds of what may stand behind a gap of a selector.
+//! The kinds of what may follow a gap in a selector.
 ghost use Rattle.std.specs.Prelude.{◌≡◌};
 ghost use Rattle.simplecss_text.specs.Pieces.{next_kind};
 ghost use Rattle.simplecss_text.specs.Cursor.{rest_of};
@@ -6,12 +6,12 @@ ghost use Rattle.simplecss_text.specs.Cursor.{rest_of};
 use crate::readers;
 use crate::stream::Stream;
 
-/// The kind of what stands behind a gap, by its first byte.
+/// What follows a gap, by its first byte.
 #[derive(Clone, Copy)]
 pub enum NextKind {
     /// The end of the text, `,` or `{`.
     Stop,
-    /// A `/`. It opens no comment, since a gap stands before it.
+    /// A `/`. It opens no comment, since a gap ends before it.
     Slash,
     /// The combinator `>`.
     Child,
@@ -27,11 +27,11 @@ pub enum NextKind {
     Attribute,
     /// The `:` of a pseudo-class.
     Colon,
-    /// Any other byte: where a piece stands, a type.
+    /// Any other byte. If a piece follows, it is a type selector.
     Other,
 }
 
-/// What the byte announces that stands next.
+/// Returns the kind of what follows, by its first byte.
 #[inline(always)]
 #[tactic(auto, unfolding(crate::specs::Pieces::next_kind))]
 pub fn next_kind(stream: &Stream<'_>) -> NextKind

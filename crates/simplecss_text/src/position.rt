@@ -5,7 +5,7 @@ ghost use Rattle.simplecss_text.specs.AsciiBytes.{newline};
 
 use crate::TextPos;
 
-/// The row of the place behind the text.
+/// Returns the row of the position after the text.
 fn row_behind(before: &str) -> u32
     ensures { result ≡ min u32.MAX (1 + count_by (λ b. b == newline) before.now) }
 {
@@ -18,7 +18,7 @@ fn row_behind(before: &str) -> u32
     )
 }
 
-/// The column of the place behind the text.
+/// Returns the column of the position after the text.
 fn column_behind(before: &str) -> u32
     ensures { result ≡ min u32.MAX (1 + length (chars (after_last (λ b. b == newline) before.now))) }
 {
@@ -29,21 +29,21 @@ fn column_behind(before: &str) -> u32
     one_more(char_count(line))
 }
 
-/// How many characters the text has.
+/// Returns the number of characters in the text.
 fn char_count(text: &str) -> usize
     ensures { result ≡ length (chars text.now) }
 {
     text.chars().count()
 }
 
-/// One more than the count, or the greatest `u32`.
+/// Returns `count + 1`, or the greatest `u32` if that is less.
 fn one_more(count: usize) -> u32
     ensures { result ≡ min u32.MAX (1 + count) }
 {
     u32::try_from(count).unwrap_or(u32::MAX).saturating_add(1)
 }
 
-/// The position of the place behind the text.
+/// Returns the position after the text.
 pub(crate) fn position_behind(before: &str) -> TextPos
     ensures row { result.row ≡ min u32.MAX (1 + count_by (λ b. b == newline) before.now) }
     ensures col { result.col

@@ -1,4 +1,4 @@
-//! The printed texts of positions and errors, which no option of the formatter changes.
+//! Prints positions and errors. No option of the formatter changes the text.
 ghost use Rattle.std.specs.Prelude.{◌++◌, IsOk};
 ghost use Rattle.std.specs.Fmt.InlineText.{AppendsIfIntact};
 ghost use Rattle.simplecss_text.specs.Errors.{position_text, error_text};
@@ -7,8 +7,8 @@ use crate::{Error, TextPos};
 use std::fmt;
 use std::fmt::{InlineText, Write};
 
-/// Prints the row, a colon and the column, both in decimal digits. Width, fill and flags of the
-/// formatter change nothing.
+/// Prints the row, a colon and the column, both in decimal digits. The formatter's width, fill and
+/// flags change nothing.
 impl fmt::Display for TextPos {
     ghost use Rattle.std.specs.Prelude.{Some};
     ghost use Rattle.simplecss_text.specs.Errors.{position_text};
@@ -24,8 +24,8 @@ impl fmt::Display for TextPos {
     }
 }
 
-/// Prints the error in a few words, with the position if it tells one. An `InvalidByte` shows its
-/// two bytes as the characters with their numbers. Width, fill and flags of the formatter change
+/// Prints the error in a few words, with its position if it has one. An `InvalidByte` shows its two
+/// bytes as the characters with their numbers. The formatter's width, fill and flags change
 /// nothing.
 impl fmt::Display for Error {
     ghost use Rattle.std.specs.Prelude.{Some};
@@ -42,11 +42,11 @@ impl fmt::Display for Error {
     }
 }
 
-/// What is printed, which is at most 47 bytes: an `InvalidByte` has 22 bytes of words, two
-/// characters of at most two bytes, two numbers of at most ten digits and a colon.
+/// A printed error. It has at most 47 bytes: an `InvalidByte` has 22 bytes of words, two characters
+/// of at most two bytes, two numbers of at most ten digits and a colon.
 type Text = InlineText<47>;
 
-/// Appends what the error prints.
+/// Appends the printed error.
 fn append_error(text: &mut Text, error: Error) -> fmt::Result
     ensures { IsOk result → AppendsIfIntact text.old (error_text error) text.new }
 {
@@ -70,7 +70,7 @@ fn append_error(text: &mut Text, error: Error) -> fmt::Result
     }
 }
 
-/// Appends what an `InvalidByte` prints. Each byte is the character with its number.
+/// Appends a printed `InvalidByte`. Each byte is shown as the character with its number.
 fn append_invalid_byte(text: &mut Text, expected: u8, actual: u8, pos: TextPos) -> fmt::Result
     ensures { IsOk result →
         AppendsIfIntact text.old (error_text (Error.InvalidByte expected actual pos)) text.new }

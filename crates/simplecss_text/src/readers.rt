@@ -1,5 +1,5 @@
-//! What is read from a cursor without telling an error: a caller that tells none has no position
-//! computed.
+//! Readers that return no error value, for callers that report none: no position is computed for an
+//! error that would be dropped.
 ghost use Rattle.std.specs.Prelude.{◌≡◌, ◌<◌, ◌∷◌, true, [], None, Some, MatchOption};
 ghost use Rattle.std.specs.Prelude.{if◌then◌else◌};
 ghost use Rattle.simplecss_text.specs.Reading.{no_name, no_comment, ended};
@@ -15,7 +15,7 @@ ghost use Rattle.simplecss_text.specs.Cursor.{text_of, rest_of};
 use crate::stream::Stream;
 use crate::{Error, scan};
 
-/// The byte at the place, if it is not the end of the text.
+/// Returns the byte at the cursor, or `None` at the end of the text.
 #[inline(always)]
 pub fn peek(s: &Stream<'_>) -> Option<u8>
     ensures { MatchOption result (rest_of s.now ≡ [])
@@ -32,7 +32,7 @@ pub fn starts(text: &str, byte: u8) -> bool
     text.as_bytes().first().copied() == Some(byte)
 }
 
-/// The text from its first opening brace on, or the empty text at its end.
+/// Returns the text from its first opening brace on, or the empty text at its end if there is none.
 pub fn from_brace(text: &str) -> &str
     ensures { result.now ≡ from_brace text.now }
 {
@@ -41,7 +41,7 @@ pub fn from_brace(text: &str) -> &str
     s.slice_tail()
 }
 
-/// Passes the byte at the place, which is ASCII.
+/// Advances past the byte at the cursor, which is ASCII.
 #[tactic(auto, using(crate::proofs::bytes::CutLemmas::boundary_past_ascii))]
 #[inline(always)]
 pub fn pass_ascii(s: &mut Stream<'_>)
@@ -52,7 +52,7 @@ pub fn pass_ascii(s: &mut Stream<'_>)
     s.advance(1);
 }
 
-/// Passes the byte, which is ASCII, if it stands at the place, and says whether it does.
+/// Advances past the byte, which is ASCII, if it is next, and returns whether it was.
 #[inline(always)]
 pub fn pass_byte(s: &mut Stream<'_>, byte: u8) -> bool
     requires { byte < 128 }
@@ -65,7 +65,7 @@ pub fn pass_byte(s: &mut Stream<'_>, byte: u8) -> bool
     stands
 }
 
-/// Passes a name and gives it. Where none begins, a hyphen that stands there is passed.
+/// Consumes a name and returns it. If none begins at the cursor, a hyphen there is consumed.
 #[inline(always)]
 pub fn take_name<'a>(s: &mut Stream<'a>) -> Option<&'a str>
     ensures text { text_of s.new ≡ text_of s.old }
@@ -85,8 +85,8 @@ pub fn take_name<'a>(s: &mut Stream<'a>) -> Option<&'a str>
     }
 }
 
-/// Passes the rest of a string behind its opening quote, and gives what stands before the closing
-/// one. A string that is not closed takes the whole text.
+/// Consumes the rest of a string after its opening quote, and returns the text before the closing
+/// quote. A string that is not closed consumes the whole text.
 #[inline(always)]
 pub fn take_string<'a>(s: &mut Stream<'a>, quote: u8) -> Option<&'a str>
     requires { quote < 128 }
@@ -107,8 +107,8 @@ pub fn take_string<'a>(s: &mut Stream<'a>, quote: u8) -> Option<&'a str>
     }
 }
 
-/// Passes a blank, and says whether no open comment stands behind it; one that does takes the whole
-/// text.
+/// Skips a blank, and returns whether no open comment follows it; an open comment consumes the
+/// whole text.
 #[tactic(auto, unfolding(crate::specs::Comments::blank))]
 #[inline(always)]
 pub fn pass_blank(s: &mut Stream<'_>) -> bool
@@ -124,9 +124,9 @@ pub fn pass_blank(s: &mut Stream<'_>) -> bool
     !gap.unclosed
 }
 
-/// Passes a blank and says whether it has a space byte, as is asked of the gap before a piece of a
-/// selector. An open comment behind it is `InvalidComment` with the position of its start, and then
-/// the place is the end of the text.
+/// Skips a blank and returns whether it has a space byte, which matters in the gap before a piece
+/// of a selector. An open comment after it is `InvalidComment` with the position of its start, and
+/// then the cursor is at the end of the text.
 #[tactic(auto, using(crate::proofs::bytes::GapLaws::gap_is_closed, crate::proofs::bytes::GapLaws::gap_is_open))]
 #[inline(always)]
 pub fn consume_gap(s: &mut Stream<'_>) -> Result<bool, Error>

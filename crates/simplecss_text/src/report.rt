@@ -1,4 +1,4 @@
-//! What reading a style sheet skips, and reporters of it.
+//! What reading a style sheet skips, and the reporters that receive it.
 use crate::Error;
 use std::alloc::AllocError;
 
@@ -7,42 +7,42 @@ use std::alloc::AllocError;
 pub enum Refusal<'a> {
     /// It has an error.
     Faulty {
-        /// The text from whose start a position in the error counts.
+        /// The text that positions in the error count from.
         within: &'a str,
         /// The error.
         error: Error,
     },
-    /// It has a pseudo-class of this name, which is not known.
+    /// It has a pseudo-class with this name, which is not supported.
     UnknownClass(&'a str),
 }
 
 /// Why something is skipped.
 #[derive(Clone, Copy, Debug, PartialEq)]
 pub enum Why<'a> {
-    /// A comma before the first selector of a rule set.
+    /// A comma precedes the first selector of a rule set.
     LeadingComma,
     /// A selector is refused.
     Selector(Refusal<'a>),
-    /// Text between the last selector of a rule set and the block.
+    /// There is text between the last selector of a rule set and the block.
     AfterSelector,
     /// No block follows the last selector of a rule set.
     MissingBlock,
-    /// A declaration is broken. All that follows it in its block is skipped with it.
+    /// A declaration is broken. The rest of its block is skipped with it.
     Declaration,
-    /// A closing brace after a block that already has one.
+    /// A closing brace follows a block that is already closed.
     ExtraBrace,
-    /// A comment is not closed. All that follows it is skipped with it.
+    /// A comment is not closed. The rest of the text is skipped with it.
     Comment,
-    /// At-rules are not supported. This is its name, if it has one.
+    /// At-rules are not supported. The name is absent if it is faulty.
     AtRule(Option<&'a str>),
 }
 
 /// Something that reading a style sheet skips.
 #[derive(Clone, Copy, Debug, PartialEq)]
 pub struct Skipped<'a> {
-    /// The text from where it begins to the end.
+    /// The text from the start of what is skipped.
     pub from: &'a str,
-    /// The text after it.
+    /// The text after what is skipped.
     pub after: &'a str,
     /// Why it is skipped.
     pub why: Why<'a>,
@@ -50,7 +50,7 @@ pub struct Skipped<'a> {
 
 /// Receives reports of what reading a style sheet skips.
 ///
-/// Proofs describe a reporter by its `state`, and by what `add` makes of the state with one more
+/// Contracts describe a reporter by its `state`, and by how `add` changes the state for one more
 /// report.
 pub trait Report<'a> {
     ghost use Rattle.std.specs.Prelude.{◌≡◌, OnOk};
@@ -63,16 +63,16 @@ pub trait Report<'a> {
 
     ghost add: { State → Skip → State };
 
-    /// Is called before the reading of a whole text. The reports of it follow.
+    /// Called before a whole text is read. Its reports follow.
     fn begin(&mut self, text: &'a str)
         ensures { state self.new ≡ state self.old };
 
-    /// Receives a report. Fails only if an allocation fails.
+    /// Receives one report. Fails only if an allocation fails.
     fn report(&mut self, skipped: Skipped<'a>) -> Result<(), AllocError>
         ensures { OnOk result (state self.new ≡ add (state self.old) (skip_of skipped.entry)) };
 }
 
-/// A reporter that drops all reports.
+/// A reporter that ignores all reports.
 #[derive(Clone, Copy, Debug, Drop)]
 pub struct Silent;
 

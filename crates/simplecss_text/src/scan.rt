@@ -1,5 +1,5 @@
-//! Where things end in a text. Each function answers a number of bytes, at which the text may be
-//! cut.
+//! Finds where things end in a text. Each length is a number of bytes that ends on a character
+//! boundary.
 ghost use Rattle.std.specs.Prelude.{◌≡◌, ◌+◌, ◌-◌, ◌<◌, ◌&&◌, ◌||◌, ◌==◌, length, drop, true};
 ghost use Rattle.std.specs.Prelude.{false, None, Some, MatchOption, IfSome, IsTrue, slice_index};
 ghost use Rattle.std.specs.Prelude.{chars};
@@ -27,7 +27,7 @@ pub fn is_space(byte: u8) -> bool
     byte <= b' ' && matches!(byte, b' ' | b'\t' | b'\n' | b'\r' | b'\x0C')
 }
 
-/// How many space bytes stand at the front.
+/// Returns the number of space bytes at the start of the bytes.
 #[inline(always)]
 fn space_count(bytes: &[u8]) -> usize
     ensures { result ≡ prefix_len is_space_byte bytes.now }
@@ -35,7 +35,7 @@ fn space_count(bytes: &[u8]) -> usize
     bytes.iter().take_while(|byte| is_space(**byte)).count()
 }
 
-/// How many space bytes stand at the front.
+/// Returns the number of space bytes at the start of the text.
 #[inline(always)]
 pub fn spaces_len(text: &str) -> usize
     ensures len { result ≡ prefix_len is_space_byte text.now }
@@ -44,7 +44,7 @@ pub fn spaces_len(text: &str) -> usize
     space_count(text.as_bytes())
 }
 
-/// Whether `/*` stands at the front of the bytes.
+/// Whether the bytes begin with `/*`.
 #[inline(always)]
 fn starts_comment(bytes: &[u8]) -> bool
     ensures { result ≡ opens_comment_of bytes.now }
@@ -52,7 +52,7 @@ fn starts_comment(bytes: &[u8]) -> bool
     matches!(bytes, [b'/', b'*', ..])
 }
 
-/// Whether `/*` stands at the front.
+/// Whether the text begins with `/*`.
 #[inline(always)]
 pub fn opens_comment(text: &str) -> bool
     ensures value { result ≡ opens_comment_of text.now }
@@ -61,7 +61,7 @@ pub fn opens_comment(text: &str) -> bool
     starts_comment(text.as_bytes())
 }
 
-/// Behind the first `*/`, if there is one.
+/// Returns the offset after the first `*/`, if there is one.
 #[inline(never)]
 pub fn close_len(text: &str) -> Option<usize>
     ensures found { MatchOption result (after_close text.now ≡ None)
@@ -74,7 +74,7 @@ pub fn close_len(text: &str) -> Option<usize>
     }
 }
 
-/// Where the first such byte stands, if there is one.
+/// Returns the offset of the first such byte, if there is one.
 pub fn find_byte(text: &str, byte: u8) -> Option<usize>
     requires { byte < 128 }
     ensures found { MatchOption result (after_byte byte text.now ≡ None)
@@ -85,8 +85,8 @@ pub fn find_byte(text: &str, byte: u8) -> Option<usize>
     text.find(char::from(byte))
 }
 
-/// Where the first such quote stands that no backslash stands right before, if there is one. Before
-/// the text stands the quote itself.
+/// Returns the offset of the first such quote that does not directly follow a backslash, if there
+/// is one. The byte before the text is the opening quote.
 fn quote_place(bytes: &[u8], quote: u8) -> Option<usize>
     ensures found { MatchOption result (from_quote quote quote bytes.now ≡ None)
         (λ n. from_quote quote quote bytes.now ≡ Some (drop n bytes.now)) }
@@ -103,7 +103,8 @@ fn quote_place(bytes: &[u8], quote: u8) -> Option<usize>
     None
 }
 
-/// How many bytes a string has before its closing quote, behind its opening one, if it is closed.
+/// Returns the number of bytes before the closing quote of a string, after its opening one, if it
+/// is closed.
 pub fn string_len(text: &str, quote: u8) -> Option<usize>
     requires { quote < 128 }
     ensures found { MatchOption result (from_quote quote quote text.now ≡ None)
@@ -115,16 +116,16 @@ pub fn string_len(text: &str, quote: u8) -> Option<usize>
     quote_place(text.as_bytes(), quote)
 }
 
-/// ASCII, and a name may go on with it.
+/// An ASCII byte that may continue a name.
 const NAME_CHAR: u8 = 1;
 
-/// ASCII, and a name may begin with it.
+/// An ASCII byte that may begin a name.
 const NAME_START: u8 = 2;
 
-/// A space byte or a slash, with which a gap may begin.
+/// A space byte or a slash, which may begin a gap.
 const GAP_START: u8 = 4;
 
-/// For each byte a digit, whose low three bits are the flags above.
+/// The flags above for each byte, as the low three bits of a digit.
 static BYTES: [u8; 256] = *b"\
     00000000044044000000000000000000\
     40000000000001041111111111000000\
@@ -135,7 +136,7 @@ static BYTES: [u8; 256] = *b"\
     00000000000000000000000000000000\
     00000000000000000000000000000000";
 
-/// Whether a name may begin with the byte, which is ASCII then.
+/// Whether the byte is ASCII and may begin a name.
 #[inline(always)]
 fn is_ascii_name_start(byte: u8) -> bool
     ensures { result ≡ (is_ascii byte && is_name_start_of this_edition byte) }
@@ -143,7 +144,7 @@ fn is_ascii_name_start(byte: u8) -> bool
     BYTES[usize::from(byte)] & NAME_START != 0
 }
 
-/// Whether an ASCII name start stands at the front.
+/// Whether the text begins with an ASCII byte that may begin a name.
 #[inline(always)]
 fn starts_with_name_start(bytes: &[u8]) -> bool
     ensures { result ≡ starts_by (λ b. is_ascii b && is_name_start_of this_edition b) bytes.now }
@@ -154,7 +155,7 @@ fn starts_with_name_start(bytes: &[u8]) -> bool
     }
 }
 
-/// Whether a name begins the text.
+/// Whether a name begins at the start of the text.
 fn begins_by_characters(text: &str) -> bool
     ensures { result ≡ begins_name_of this_edition (chars text.now) }
 {
@@ -169,7 +170,7 @@ fn begins_by_characters(text: &str) -> bool
     }
 }
 
-/// Whether a name may go on with the byte, which is ASCII then.
+/// Whether the byte is ASCII and may continue a name.
 #[inline(always)]
 fn is_ascii_name_char(byte: u8) -> bool
     ensures { result ≡ (is_ascii byte && is_name_char_of this_edition byte) }
@@ -177,7 +178,7 @@ fn is_ascii_name_char(byte: u8) -> bool
     BYTES[usize::from(byte)] & NAME_CHAR != 0
 }
 
-/// How many ASCII name characters stand at the front.
+/// Returns the number of ASCII name characters at the start of the text.
 #[inline(always)]
 fn ascii_name_len(bytes: &[u8]) -> usize
     ensures { result
@@ -189,7 +190,7 @@ fn ascii_name_len(bytes: &[u8]) -> usize
         .count()
 }
 
-/// How many bytes the longest run of name characters at the front has, a character at a time.
+/// Returns the length of the longest run of name characters at the start, one character at a time.
 #[inline(never)]
 fn wide_name_chars_len(text: &str) -> usize
     ensures len { past_name_chars this_edition text.now ≡ drop result text.now }
@@ -205,7 +206,7 @@ fn wide_name_chars_len(text: &str) -> usize
     len
 }
 
-/// How many bytes the longest run of name characters at the front has.
+/// Returns the length of the longest run of name characters at the start.
 #[inline(always)]
 fn name_chars_len(text: &str) -> usize
     ensures len { past_name_chars this_edition text.now ≡ drop result text.now }
@@ -220,7 +221,7 @@ fn name_chars_len(text: &str) -> usize
     }
 }
 
-/// How many bytes the name at the front has, if one begins there.
+/// Returns the length of the name at the start, if one begins there.
 #[inline(never)]
 pub fn name_len(text: &str) -> Option<usize>
     ensures none { result ≡ None → begins_name_of this_edition (chars text.now) ≡ false }
@@ -235,7 +236,7 @@ pub fn name_len(text: &str) -> Option<usize>
     }
 }
 
-/// How many bytes the name at the front has, if one begins there, by its first one or two
+/// Returns the length of the name at the start, if one begins there, by its first one or two
 /// characters.
 #[inline(never)]
 fn other_name_len(text: &str) -> Option<usize>
@@ -251,18 +252,18 @@ fn other_name_len(text: &str) -> Option<usize>
     }
 }
 
-/// A gap at the front of a text: its space bytes and closed comments.
+/// The gap at the start of a text: its space bytes and closed comments.
 #[derive(Clone, Copy)]
 pub struct Gap {
-    /// How many bytes the space bytes and closed comments have.
+    /// The number of bytes in the gap.
     pub len: usize,
-    /// Whether a space byte is among them, outside the comments.
+    /// Whether it has a space byte outside its comments.
     pub spaced: bool,
-    /// Whether a comment that is not closed stands behind them.
+    /// Whether an open comment follows it.
     pub unclosed: bool,
 }
 
-/// The gap at the front of the text.
+/// Returns the gap at the start of the text.
 #[inline(always)]
 pub fn find_gap(text: &str) -> Gap
     ensures rest { past_blank text.now ≡ drop result.len text.now }
@@ -289,7 +290,7 @@ fn is_gap_start(byte: u8) -> bool
     BYTES[usize::from(byte)] & GAP_START != 0
 }
 
-/// Whether a gap may stand at the front, by the first byte.
+/// Whether a gap may begin at the start of the text, by the first byte.
 #[inline(always)]
 fn may_begin_gap(text: &str) -> bool
     ensures { result ≡ false
@@ -301,7 +302,8 @@ fn may_begin_gap(text: &str) -> bool
     }
 }
 
-/// The gap at the front of the text. Most gaps have no comment, and are a run of space bytes.
+/// Returns the gap at the start of the text. Most gaps have no comment and are a run of space
+/// bytes.
 #[inline(never)]
 fn long_gap(text: &str) -> Gap
     ensures rest { past_blank text.now ≡ drop result.len text.now }
@@ -326,7 +328,7 @@ fn long_gap(text: &str) -> Gap
     }
 }
 
-/// Whether a comment may open at the front, by the first byte.
+/// Whether a comment may begin at the start of the text, by the first byte.
 #[inline(always)]
 fn may_open_comment(text: &str) -> bool
     ensures { result ≡ false → opens_comment_of text.now ≡ false }
@@ -334,7 +336,7 @@ fn may_open_comment(text: &str) -> bool
     matches!(text.as_bytes(), [b'/', ..])
 }
 
-/// The space bytes and closed comments at the front of the text, one after another.
+/// Returns the space bytes and closed comments at the start of the text, one after another.
 #[inline(never)]
 fn closed_part(text: &str) -> Part
     ensures rest { past_blank text.now ≡ drop result.len text.now }
@@ -350,7 +352,7 @@ fn closed_part(text: &str) -> Part
     Part { len, spaced }
 }
 
-/// The first part of a gap, a space byte or a closed comment.
+/// Returns the first part of a gap: a run of space bytes or a closed comment.
 #[inline(always)]
 fn blank_part_len(text: &str) -> Option<Part>
     ensures found { MatchOption result (blank_part text.now ≡ None)
@@ -379,13 +381,13 @@ fn blank_part_len(text: &str) -> Option<Part>
 /// A part of a gap.
 #[derive(Clone, Copy)]
 struct Part {
-    /// How many bytes it has.
+    /// The number of bytes in the part.
     len: usize,
-    /// Whether a space byte is among them, outside the comments.
+    /// Whether it is a run of space bytes.
     spaced: bool,
 }
 
-/// Whether a space byte stands at the front.
+/// Whether the text begins with a space byte.
 #[inline(always)]
 fn starts_with_space(text: &str) -> bool
     ensures { result ≡ starts_by is_space_byte text.now }

@@ -11,9 +11,8 @@ use crate::{Error, TextPos, readers, scan};
 /// The first character past ASCII that a name may have: U+00A0, which is octal 240.
 const FIRST_WIDE: u32 = 0xA0;
 
-/// Whether a name may begin with the character: an underscore, an ASCII letter, or a character from
-/// U+00A0 on. (CSS 2.1 section 4.1.1 counts in octal: past ASCII it has the characters from octal
-/// 240 on.)
+/// Whether the character may begin a name: an underscore, an ASCII letter, or a character from
+/// U+00A0 on. (CSS 2.1 section 4.1.1 writes that limit in octal, as 240.)
 #[inline(always)]
 pub fn is_name_start(c: char) -> bool
     ensures { result ≡ is_name_start this_edition c }
@@ -21,8 +20,8 @@ pub fn is_name_start(c: char) -> bool
     c.is_ascii_alphabetic() || c == '_' || u32::from(c) >= FIRST_WIDE
 }
 
-/// Whether a name may go on with the character: a name start, an ASCII digit or a hyphen (CSS 2.1
-/// section 4.1.1).
+/// Whether the character may continue a name: one that may begin it, an ASCII digit or a hyphen
+/// (CSS 2.1 section 4.1.1).
 #[inline(always)]
 pub fn is_name_char(c: char) -> bool
     ensures { result ≡ is_name_char this_edition c }
@@ -30,13 +29,13 @@ pub fn is_name_char(c: char) -> bool
     is_name_start(c) || c.is_ascii_digit() || c == '-'
 }
 
-/// A text and a place in it, at which the text may be cut: the place is at most the text's length
-/// and stands between two characters. Places count bytes.
+/// A cursor: a text and an offset in bytes, which is at most the text's length and is a character
+/// boundary.
 #[derive(Clone, Copy, PartialEq, Debug)]
 pub struct Stream<'a> {
     /// The text.
     text: &'a str,
-    /// The place.
+    /// The offset.
     pos: usize,
     pub ghost utf8: { ∥ IsUtf8 text.now ∥₁ },
     pub ghost boundary: { IsCharBoundary text.now pos },
@@ -47,7 +46,7 @@ impl<'a> From<&'a str> for Stream<'a> {
 
     ghost from_gives = { λ text s. (text_of s ≡ text.now) × (place_of s ≡ 0) };
 
-    /// The text, at its start.
+    /// Returns a cursor at the start of the text.
     fn from(text: &'a str) -> Stream<'a> {
         Stream::new(text)
     }
@@ -64,7 +63,7 @@ impl<'a> Stream<'a> {
     ghost use Rattle.simplecss_text.specs.Errors.{Gives, position_of};
     ghost use Rattle.simplecss_text.specs.ByteTests.{IsByteTest, PassesUpTo};
 
-    /// The text, at its start.
+    /// Returns a cursor at the start of the text.
     #[tactic(auto, using(crate::proofs::bytes::CutLemmas::boundary_at_start))]
     pub fn new(text: &'a str) -> Stream<'a>
         ensures text { text_of result ≡ text.now }
@@ -73,7 +72,7 @@ impl<'a> Stream<'a> {
         Stream { text, pos: 0 }
     }
 
-    /// The place, in bytes from the start of the text.
+    /// Returns the offset, in bytes from the start of the text.
     pub fn pos(&self) -> usize
         ensures { result ≡ place_of self.now }
     {
@@ -81,7 +80,7 @@ impl<'a> Stream<'a> {
         pos
     }
 
-    /// Goes to the end of the text.
+    /// Advances to the end of the text.
     pub fn jump_to_end(&mut self)
         ensures text { text_of self.new ≡ text_of self.old }
         ensures rest { rest_of self.new ≡ [] }
@@ -89,14 +88,14 @@ impl<'a> Stream<'a> {
         self.pos = self.text.len();
     }
 
-    /// Whether the place is the end of the text.
+    /// Whether the cursor is at the end of the text.
     pub fn at_end(&self) -> bool
         ensures { IsTrue result ↔ (rest_of self.now ≡ []) }
     {
         self.pos == self.text.len()
     }
 
-    /// The byte at the place. At the end of the text that is `UnexpectedEndOfStream`.
+    /// Returns the byte at the cursor, or `UnexpectedEndOfStream` at the end of the text.
     #[inline(always)]
     pub fn curr_byte(&self) -> Result<u8, Error>
         ensures { MatchResult result (λ b. rest_of self.now ≡ b ∷ past_one (rest_of self.now))
@@ -105,7 +104,7 @@ impl<'a> Stream<'a> {
         readers::peek(self).ok_or(Error::UnexpectedEndOfStream)
     }
 
-    /// The byte at the place, which is not the end of the text.
+    /// Returns the byte at the cursor, which is not at the end of the text.
     pub fn curr_byte_unchecked(&self) -> u8
         requires { 0 < length (rest_of self.now) }
         ensures { rest_of self.now ≡ result ∷ past_one (rest_of self.now) }
@@ -113,7 +112,7 @@ impl<'a> Stream<'a> {
         self.text.as_bytes()[self.pos]
     }
 
-    /// The byte behind the one at the place. Where there is none that is `UnexpectedEndOfStream`.
+    /// Returns the byte after the one at the cursor, or `UnexpectedEndOfStream` if there is none.
     pub fn next_byte(&self) -> Result<u8, Error>
         ensures { MatchResult result
             (λ b. past_one (rest_of self.now) ≡ b ∷ past_one (past_one (rest_of self.now)))
@@ -125,7 +124,7 @@ impl<'a> Stream<'a> {
         }
     }
 
-    /// Passes so many bytes, behind which the text goes on with a character or ends.
+    /// Advances `n` bytes, which must end on a character boundary.
     #[inline(always)]
     pub fn advance(&mut self, n: usize)
         requires { IsCharBoundary (rest_of self.old) n }
@@ -135,9 +134,8 @@ impl<'a> Stream<'a> {
         self.pos += n;
     }
 
-    /// Passes the byte, which is ASCII. At the end of the text the error is
-    /// `UnexpectedEndOfStream`, and where another byte stands `InvalidByte` with the position
-    /// there; then the place stays.
+    /// Consumes the byte, which is ASCII. Another byte is `InvalidByte` with the position there,
+    /// and the end of the text `UnexpectedEndOfStream`; both leave the cursor unchanged.
     #[inline(always)]
     pub fn consume_byte(&mut self, c: u8) -> Result<(), Error>
         requires { c < 128 }
@@ -159,7 +157,7 @@ impl<'a> Stream<'a> {
         }
     }
 
-    /// Passes the byte, which is ASCII, if it stands at the place.
+    /// Consumes the byte, which is ASCII, if it is next.
     #[inline(always)]
     pub fn try_consume_byte(&mut self, c: u8)
         requires { c < 128 }
@@ -171,8 +169,8 @@ impl<'a> Stream<'a> {
         }
     }
 
-    /// Passes the longest run of bytes for which the test answers true. The test answers one and
-    /// the same for all bytes past ASCII, so that the run ends between two characters.
+    /// Skips the longest run of bytes for which the test returns true. The test must return the
+    /// same for all bytes past ASCII, so that the run ends on a character boundary.
     pub fn skip_bytes<F: Fn(u8) -> bool>(&mut self, f: F)
         requires { IsByteTest (F.pre f) (F.post f) (text_of self.old) }
         ensures text { text_of self.new ≡ text_of self.old }
@@ -187,8 +185,8 @@ impl<'a> Stream<'a> {
         self.pos = end;
     }
 
-    /// Passes the longest run of bytes for which the test answers true, as `skip_bytes` does, and
-    /// gives that run.
+    /// Consumes the longest run of bytes for which the test returns true, as `skip_bytes` does, and
+    /// returns that run.
     pub fn consume_bytes<F: Fn(u8) -> bool>(&mut self, f: F) -> &'a str
         requires { IsByteTest (F.pre f) (F.post f) (text_of self.old) }
         ensures text { text_of self.new ≡ text_of self.old }
@@ -202,7 +200,7 @@ impl<'a> Stream<'a> {
         self.slice_back(begin)
     }
 
-    /// What stands between the two places.
+    /// Returns the text between two offsets.
     pub fn slice_range(&self, start: usize, end: usize) -> &'a str
         requires ordered { start ≤ end }
         requires start { IsCharBoundary (text_of self.now) start }
@@ -212,7 +210,7 @@ impl<'a> Stream<'a> {
         &self.text[start..end]
     }
 
-    /// What stands between an earlier place and this one.
+    /// Returns the text from an earlier offset to the cursor.
     pub fn slice_back(&self, pos: usize) -> &'a str
         requires ordered { pos ≤ place_of self.now }
         requires start { IsCharBoundary (text_of self.now) pos }
@@ -221,7 +219,7 @@ impl<'a> Stream<'a> {
         &self.text[pos..self.pos]
     }
 
-    /// What stands between the place and the end of the text.
+    /// Returns the text from the cursor to the end.
     #[inline(always)]
     pub fn slice_tail(&self) -> &'a str
         ensures { result.now ≡ rest_of self.now }
@@ -229,7 +227,7 @@ impl<'a> Stream<'a> {
         &self.text[self.pos..]
     }
 
-    /// Passes the longest run of space bytes (CSS 2.1 section 4.1.1): spaces, tabs, newlines,
+    /// Skips the longest run of space bytes (CSS 2.1 section 4.1.1): spaces, tabs, newlines,
     /// carriage returns and form feeds.
     pub fn skip_spaces(&mut self)
         ensures text { text_of self.new ≡ text_of self.old }
@@ -238,9 +236,9 @@ impl<'a> Stream<'a> {
         self.advance(scan::spaces_len(self.slice_tail()));
     }
 
-    /// Passes a blank: the longest run of space bytes and comments (CSS 2.1 sections 4.1.1 and
-    /// 4.1.9). A comment behind it that is not closed is `InvalidComment` with the position of its
-    /// start, and then the place is the end of the text.
+    /// Skips a blank: the longest run of space bytes and comments (CSS 2.1 sections 4.1.1 and
+    /// 4.1.9). An open comment after it is `InvalidComment` with the position of its start, and
+    /// then the cursor is at the end of the text.
     #[tactic(auto, using(crate::proofs::bytes::GapLaws::blank_where_gap_is_got, crate::proofs::bytes::GapLaws::blank_where_gap_fails))]
     pub fn skip_spaces_and_comments(&mut self) -> Result<(), Error>
         ensures text { text_of self.new ≡ text_of self.old }
@@ -250,9 +248,10 @@ impl<'a> Stream<'a> {
         readers::consume_gap(self).and(Ok(()))
     }
 
-    /// Passes a name, and gives it (CSS 2.1 section 4.1.3): an optional hyphen, a name start and
-    /// name characters. A hyphen that ends the text is a name too. Where none begins, the error is
-    /// `InvalidIdent` with the position there, and a hyphen that stands there is passed.
+    /// Consumes a name and returns it (CSS 2.1 section 4.1.3): an optional hyphen, a character that
+    /// may begin a name, and characters that may continue it. A hyphen that ends the text is a name
+    /// too. If none begins at the cursor, the error is `InvalidIdent` with the position there, and
+    /// a hyphen there is consumed.
     #[inline(always)]
     pub fn consume_ident(&mut self) -> Result<&'a str, Error>
         ensures text { text_of self.new ≡ text_of self.old }
@@ -266,11 +265,12 @@ impl<'a> Stream<'a> {
         }
     }
 
-    /// Passes a string or a name, and gives what stands between the quotes or the name. A string
-    /// ends at the first quote like its opening one that no backslash stands right before (CSS 2.1
-    /// section 4.3.7), and its backslashes stay. At the end of the text, and where the string is
-    /// not closed, the error is `UnexpectedEndOfStream` and the place the end of the text. Where
-    /// neither a string nor a name begins, it is that of `consume_ident`.
+    /// Consumes a string or a name, and returns the text between the quotes or the name. A string
+    /// ends at the first quote like its opening one that does not directly follow a backslash (CSS
+    /// 2.1 section 4.3.7), and its backslashes stay. At the end of the text, and for a string that
+    /// is not closed, the error is `UnexpectedEndOfStream` and the cursor is at the end of the
+    /// text. If neither a string nor a name begins at the cursor, the error is that of
+    /// `consume_ident`.
     #[tactic(auto, unfolding(crate::specs::Strings::string_or_name))]
     #[inline(always)]
     pub fn consume_string(&mut self) -> Result<&'a str, Error>
@@ -288,9 +288,9 @@ impl<'a> Stream<'a> {
         }
     }
 
-    /// Passes a comment (CSS 2.1 section 4.1.9). Where none begins, the error is `InvalidComment`
-    /// with the position there, and a `/` that stands there is passed. One that is not closed is
-    /// the same error, and the place is then the end of the text.
+    /// Consumes a comment (CSS 2.1 section 4.1.9). If none begins at the cursor, the error is
+    /// `InvalidComment` with the position there, and a `/` there is consumed. An open comment is
+    /// the same error, and then the cursor is at the end of the text.
     #[tactic(auto, unfolding(crate::specs::Comments::comment))]
     pub fn skip_comment(&mut self) -> Result<(), Error>
         ensures text { text_of self.new ≡ text_of self.old }
@@ -310,7 +310,7 @@ impl<'a> Stream<'a> {
         Err(Error::InvalidComment(start.gen_text_pos()))
     }
 
-    /// The position of the place, whose row and column begin at 1.
+    /// Returns the position of the cursor, as row and column.
     #[cold]
     #[inline(never)]
     pub fn gen_text_pos(&self) -> TextPos
@@ -319,7 +319,7 @@ impl<'a> Stream<'a> {
         self.gen_text_pos_from(self.pos)
     }
 
-    /// The position of another place, or of the end of the text where that is less.
+    /// Returns the position of another offset, or of the end of the text if that is less.
     #[tactic(auto, unfolding(crate::specs::Positions::position))]
     pub fn gen_text_pos_from(&self, pos: usize) -> TextPos
         requires { IsCharBoundary (text_of self.now) (min pos (length (text_of self.now))) }
