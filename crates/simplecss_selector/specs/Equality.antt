@@ -9,7 +9,7 @@ use Rattle.simplecss_text.specs.Components.KnownPseudoClass.{first_child, link, 
 use Rattle.simplecss_text.specs.Components.Subselector.{attribute, pseudo_class}
 use Rattle.simplecss_text.specs.Components.Combinator.{none, descendant, child, adjacent}
 
--- the kind of a thing, and its text where it has one
+-- the kind of a value, and its text if it has one
 abbrev pub operator_key : Operator → ℕ × List ℕ
 operator_key exists = (0, [])
 operator_key (equals value) = (1, value)

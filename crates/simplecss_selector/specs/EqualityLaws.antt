@@ -1,5 +1,5 @@
 -- Selectors are equal exactly if their components are. This is proved here since the trait
--- `PartialEq` asks for `selector_per`: the impl names it, so it is part of what is stated.
+-- `PartialEq` requires `selector_per`: the impl names it, so it is part of what is stated.
 use Rattle.std.specs.Prelude.{◌≡◌, ℕ, zero, suc, List, Bool, true, false, ◌&&◌, Option, Some, None, refl}
 use Rattle.std.proofs.Common.{sym, ap, ◌∙◌, eqb}
 use Rattle.std.specs.Bool.{Decides}
@@ -26,7 +26,7 @@ and_right false b h = absurd (cc)
 pub and_both : (a b : Bool) → a ≡ true → b ≡ true → (a && b) ≡ true
 and_both a b p q = rw (p, q)
 
--- a test of keys decides equality, where the keys give the values back
+-- a test of keys decides equality, if the values can be recovered from their keys
 pub decides_by_key : {A K : Type 0} (E : K → K → Bool) → ((k l : K) → Decides (E k l) (k ≡ l))
     → (key : A → K) (back : K → A) → ((a : A) → back (key a) ≡ a) → (a b : A)
     → Decides (E (key a) (key b)) (a ≡ b)

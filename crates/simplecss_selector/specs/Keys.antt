@@ -1,5 +1,5 @@
--- What the last component of a selector asks at least, and what an element tells of itself: by the
--- two an index finds the selectors that can match an element.
+-- Keys: a condition that the last component of a selector includes, and what an element reports of
+-- itself. By these an index finds the selectors that can match an element.
 use Rattle.std.specs.Prelude.{ℕ, ◌-◌, List, [], ◌∷◌, Option, Some, None, Bool, true, false, IsTrue, bytes_eq, codes, length, if◌then◌else◌}
 use Rattle.std.specs.Option.{option_or, option_map_or}
 use Rattle.simplecss_text.specs.Components.{Operator, Subselector, Compound, Component}
@@ -9,7 +9,7 @@ use Rattle.simplecss_selector.specs.Operators.{is_as_asked}
 use Rattle.simplecss_selector.specs.Shapes.{component_at}
 use Rattle.simplecss_selector.specs.Trees.{Tree}
 
--- an id, a class, a type name, an attribute of a name, or nothing
+-- an id, a class, a type name, an attribute's name, or no condition
 pub data Key : Type 0 where
   by_id : List ℕ → Key
   by_class : List ℕ → Key
@@ -17,41 +17,41 @@ pub data Key : Type 0 where
   by_attribute : List ℕ → Key
   by_nothing : Key
 
--- the text that the value is to equal, if the operator asks this
+-- the text that the value must equal, if the operator requires one
 abbrev pub equal_text : Operator → Option (List ℕ)
 equal_text exists = None
 equal_text (equals text) = Some text
 equal_text (has_word word) = None
 equal_text (begins_with start) = None
 
--- the word that the value is to have, if the operator asks this
+-- the word that the value must have, if the operator requires one
 abbrev pub wanted_word : Operator → Option (List ℕ)
 wanted_word exists = None
 wanted_word (equals text) = None
 wanted_word (has_word word) = Some word
 wanted_word (begins_with start) = None
 
--- the id that a subselector asks: the text that an attribute `id` is to equal
+-- the id that a subselector requires: the text that an attribute `id` must equal
 abbrev pub asked_id : Subselector → Option (List ℕ)
 asked_id (attribute name operator) = if bytes_eq name (codes "id") then equal_text operator else None
 asked_id (pseudo_class class) = None
 
--- the class that a subselector asks: the word that an attribute `class` is to have
+-- the class that a subselector requires: the word that an attribute `class` must have
 abbrev pub asked_class : Subselector → Option (List ℕ)
 asked_class (attribute name operator) = if bytes_eq name (codes "class") then wanted_word operator else None
 asked_class (pseudo_class class) = None
 
--- the name of the attribute that a subselector asks, whatever it asks of its value
+-- the name of the attribute that a subselector tests, whatever its value must be
 abbrev pub asked_attribute : Subselector → Option (List ℕ)
 asked_attribute (attribute name operator) = Some name
 asked_attribute (pseudo_class class) = None
 
--- the first that is asked by one of the subselectors
+-- the first text that one of the subselectors requires
 abbrev pub first_asked : (Subselector → Option (List ℕ)) → List Subselector → Option (List ℕ)
 first_asked asked [] = None
 first_asked asked (s ∷ ss) = option_or (asked s) (first_asked asked ss)
 
--- the id, or else the class, or else the type name, or else the attribute, or else nothing
+-- the id, or else the class, or else the type name, or else the attribute, or else no condition
 abbrev pub key_among : Option (List ℕ) → Option (List ℕ) → Option (List ℕ) → Option (List ℕ) → Key
 key_among (Some text) class name other = by_id text
 key_among None (Some word) name other = by_class word
@@ -59,8 +59,8 @@ key_among None None (Some name) other = by_name name
 key_among None None None (Some other) = by_attribute other
 key_among None None None None = by_nothing
 
--- the first id that a compound asks, or else the first class, or else its type name, or else the
--- first attribute, or else nothing
+-- the first id that a compound requires, or else the first class, or else its type name, or else
+-- the first attribute, or else no condition
 abbrev pub compound_key : Compound → Key
 compound_key compound =
     key_among (first_asked asked_id compound.subselectors) (first_asked asked_class compound.subselectors) compound.name (first_asked asked_attribute compound.subselectors)
@@ -69,7 +69,7 @@ compound_key compound =
 abbrev pub key_of : List Component → Key
 key_of components = compound_key (component_at components (length components - 1)).compound
 
--- the node has what the key asks; of an attribute's value anything may be asked
+-- the node has the key; an attribute may have any value
 abbrev pub HasKey : {Node : Type 0} → Tree Node → Node → Key → Type 0
 HasKey tree n (by_id text) = IsTrue (tree.has_attribute n (codes "id") (equals text))
 HasKey tree n (by_class word) = IsTrue (tree.has_attribute n (codes "class") (has_word word))
@@ -77,19 +77,19 @@ HasKey tree n (by_name name) = IsTrue (tree.is_named n name)
 HasKey tree n (by_attribute name) = (operator : Operator) × IsTrue (tree.has_attribute n name operator)
 HasKey tree n by_nothing = IsTrue true
 
--- whether there is a value, and it is as the operator asks
+-- whether there is a value, and it satisfies the operator
 abbrev pub is_value_as_asked : Operator → Option (List ℕ) → Bool
 is_value_as_asked operator value = option_map_or (is_as_asked operator) value false
 
--- what an element tells of itself: its name, the values of its attributes `id` and `class`, where
--- it has them, and whether it has an attribute of a name
+-- what an element reports of itself: its name, the values of its attributes `id` and `class`, if it
+-- has them, and which attributes it has
 pub record Told : Type 0 where
   pub name : List ℕ
   pub id : Option (List ℕ)
   pub class : Option (List ℕ)
   pub has_attribute : List ℕ → Bool
 
--- whether what is told has what the key asks
+-- whether what is reported includes the key
 abbrev pub tells_key : Told → Key → Bool
 tells_key told (by_id text) = is_value_as_asked (equals text) told.id
 tells_key told (by_class word) = is_value_as_asked (has_word word) told.class
@@ -97,6 +97,6 @@ tells_key told (by_name name) = bytes_eq told.name name
 tells_key told (by_attribute name) = told.has_attribute name
 tells_key told by_nothing = true
 
--- whatever key the node has is told; more may be told
+-- every key that the node has is reported; more may be reported
 abbrev pub TellsKeys : {Node : Type 0} → Tree Node → Node → Told → Type 0
 TellsKeys tree n told = (key : Key) → HasKey tree n key → IsTrue (tells_key told key)

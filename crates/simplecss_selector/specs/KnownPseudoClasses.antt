@@ -1,4 +1,4 @@
--- What contracts see of the pseudo-class of a name.
+-- What contracts see of the pseudo-class with a name.
 use Rattle.std.specs.Prelude.{Option, None, Some}
 use Rattle.simplecss_text.specs.Components.{KnownPseudoClass}
 use Rattle.simplecss_selector.specs.declared.operator.PseudoClass.{PseudoClass}

@@ -1,7 +1,7 @@
--- Trees whose nodes stand in a list, each behind its parent. Whoever keeps elements in a list and
--- says of each place which its parent and its previous sibling are, has the two laws of elements
--- from here. Their proofs stand in this folder since the trait `Element` asks for the laws: an impl
--- names them, so they are part of what is stated.
+-- Trees whose nodes are kept in a list, each after its parent. For elements in a list with the
+-- indices of their parents and previous siblings, the two laws of `Element` are proved here. Their
+-- proofs are in this folder since the trait `Element` requires the laws: an impl names them, so
+-- they are part of what is stated.
 use Rattle.std.proofs.Common.{◌≡◌, ℕ, zero, suc, ◌+◌, ◌<◌, Bool, true, false, cond, List, [], ◌∷◌, length, Option, None, Some, IfSome, MatchOption, refl, ap, ◌∙◌, arith}
 use Rattle.std.specs.Prelude.{nat_lt, nat_eq, if◌then◌else◌}
 use Rattle.std.specs.Option.{option_map, option_eq}
@@ -9,8 +9,8 @@ use Rattle.std.proofs.lemmas.Bool.Decides.{nat_tests}
 use Rattle.simplecss_text.specs.Components.{Operator, KnownPseudoClass}
 use Rattle.simplecss_selector.specs.Trees.{Tree, DepthCountsAncestors, SiblingsShareParent}
 
--- What a list says of a place in it: its parent and its previous sibling, if it names any, and what
--- it answers to a type name, to an attribute's name with an operator, and to a pseudo-class.
+-- What a list says of an index: its parent and its previous sibling, if it names any, and the
+-- answers to a type name, to an attribute's name with an operator, and to a pseudo-class.
 pub record ListOf (Rows : Type 0) : Type 0 where
   pub parent : Rows → ℕ → Option ℕ
   pub previous_sibling : Rows → ℕ → Option ℕ
@@ -18,53 +18,52 @@ pub record ListOf (Rows : Type 0) : Type 0 where
   pub has_attribute : Rows → ℕ → List ℕ → Operator → Bool
   pub is_in_pseudo_class : Rows → ℕ → KnownPseudoClass → Bool
 
--- a place, where it stands before this one
+-- an index, if it is less than this one
 abbrev pub earlier : ℕ → Option ℕ → Option ℕ
 earlier i None = None
 earlier i (Some p) = if nat_lt p i then Some p else None
 
--- The parent of a place: the one that is named, where it stands before.
+-- The parent of an index: the one that is named, if it is less.
 abbrev pub parent_by : (ℕ → Option ℕ) → ℕ → Option ℕ
 parent_by named i = earlier i (named i)
 
--- the parent of a place in a list
+-- the parent of an index in a list
 abbrev pub parent_place : {Rows : Type 0} → ListOf Rows → Rows → ℕ → Option ℕ
 parent_place list rows i = parent_by (list.parent rows) i
 
--- a place, where its parent is this one
+-- an index, if its parent is this one
 abbrev pub with_parent : (ℕ → Option ℕ) → Option ℕ → Option ℕ → Option ℕ
 with_parent named parent None = None
 with_parent named parent (Some s) = if option_eq nat_eq (parent_by named s) parent then Some s else None
 
--- The previous sibling of a place: the one that is named, where it stands before and has the same
--- parent.
+-- The previous sibling of an index: the one that is named, if it is less and has the same parent.
 abbrev pub sibling_by : (ℕ → Option ℕ) → (ℕ → Option ℕ) → ℕ → Option ℕ
 sibling_by named previous i = with_parent named (parent_by named i) (earlier i (previous i))
 
--- the previous sibling of a place in a list
+-- the previous sibling of an index in a list
 abbrev pub sibling_place : {Rows : Type 0} → ListOf Rows → Rows → ℕ → Option ℕ
 sibling_place list rows i = sibling_by (list.parent rows) (list.previous_sibling rows) i
 
--- a parent, if there is one, and what stands above it
+-- a parent, if there is one, and its ancestors
 abbrev pub with_those_above : (ℕ → List ℕ) → Option ℕ → List ℕ
 with_those_above above None = []
 with_those_above above (Some p) = p ∷ above p
 
--- the ancestors of a place, the nearest first, as far as so many steps lead
+-- the ancestors of an index, the nearest first, as far as `n` steps lead
 abbrev pub ancestors_within : (ℕ → Option ℕ) → ℕ → ℕ → List ℕ
 ancestors_within parent zero i = []
 ancestors_within parent (suc steps) i = with_those_above (ancestors_within parent steps) (parent i)
 
--- The ancestors of a place, the nearest first. Each stands before the one below it, so that no more
--- steps lead up than places.
+-- The ancestors of an index, the nearest first. Each has a lesser index than the one below it, so
+-- there are no more steps than the index.
 abbrev pub ancestors : (ℕ → Option ℕ) → ℕ → List ℕ
 ancestors named i = ancestors_within (parent_by named) (suc i) i
 
--- the place among the same rows
+-- the index in the same rows
 abbrev pub spot : {Rows : Type 0} → Rows → ℕ → Rows × ℕ
 spot rows i = (rows, i)
 
--- The tree of all lists of a kind: a node is a list and a place in it.
+-- The tree of all lists of a kind: a node is a list and an index in it.
 abbrev pub list_tree : {Rows : Type 0} → ListOf Rows → Tree (Rows × ℕ)
 list_tree list = record {
   parent = λ n. option_map (spot n.0) (parent_place list n.0 n.1);
@@ -90,7 +89,7 @@ module _ (parent : ℕ → Option ℕ) (before : (i : ℕ) → IfSome (parent i)
   above_same m n i None lt same = refl
   above_same m n i (Some p) lt same = ap (λ ps. p ∷ ps) (same p lt)
 
-  -- more steps than the place find the same ancestors
+  -- more steps than the index find the same ancestors
   enough : (m n i : ℕ) → i < m → i < n → ancestors_within parent m i ≡ ancestors_within parent n i
   enough zero n i lt lt' = absurd (omega arith)
   enough (suc m) zero i lt lt' = absurd (omega arith)

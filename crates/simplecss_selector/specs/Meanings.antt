@@ -1,4 +1,4 @@
--- Nodes of two trees between which no selector can tell.
+-- Nodes of two trees that no selector distinguishes.
 use Rattle.std.specs.Prelude.{◌≡◌, ℕ, List, Option, Some, None}
 use Rattle.std.specs.Option.{option_map}
 use Rattle.simplecss_text.specs.Components.{Operator, KnownPseudoClass}
@@ -11,10 +11,10 @@ AreNoneOrRelated related None (Some n) = ⊥
 AreNoneOrRelated related (Some m) None = ⊥
 AreNoneOrRelated related (Some m) (Some n) = related m n
 
--- A relation between the nodes of two trees under which nothing that a selector can ask differs:
--- related nodes give the same answers, and their parents and their previous siblings, if there are
--- any, are related. It says nothing of nodes that are not related: so descendants and later siblings
--- may be other ones.
+-- A relation between the nodes of two trees that keeps everything a selector can test: related
+-- nodes return the same answers, and their parents and their previous siblings, if there are any,
+-- are related. It says nothing of nodes that are not related: so descendants and later siblings may
+-- differ.
 pub record RelatesMeanings {M N : Type 0} (tree : Tree M) (other : Tree N) (related : M → N → Type 0) : Type 0 where
   pub parents : (m : M) (n : N) → related m n → AreNoneOrRelated related (tree.parent m) (other.parent n)
   pub siblings : (m : M) (n : N) → related m n
@@ -25,9 +25,9 @@ pub record RelatesMeanings {M N : Type 0} (tree : Tree M) (other : Tree N) (rela
   pub pseudo_classes : (m : M) (n : N) → related m n → (class : KnownPseudoClass)
       → tree.is_in_pseudo_class m class ≡ other.is_in_pseudo_class n class
 
--- A map from the nodes of one tree to those of another that keeps all that a selector can ask: the
--- image of a node has the images of its parent and of its previous sibling for its own, and gives
--- the same answers.
+-- A map from the nodes of one tree to those of another that keeps everything a selector can test:
+-- the image of a node has the images of its parent and of its previous sibling as its own, and
+-- returns the same answers.
 pub record KeepsMeanings {M N : Type 0} (tree : Tree M) (other : Tree N) (image : M → N) : Type 0 where
   pub parents : (n : M) → other.parent (image n) ≡ option_map image (tree.parent n)
   pub siblings : (n : M) → other.previous_sibling (image n) ≡ option_map image (tree.previous_sibling n)

@@ -1,16 +1,16 @@
--- What an operator asks of an attribute's value: as a test, and what that test means.
+-- When an attribute's value satisfies an operator: as a test, and as the meaning of that test.
 use Rattle.std.specs.Prelude.{◌≡◌, ◌≢◌, ℕ, Bool, true, List, [], ◌∷◌, ◌++◌, ◌⊎◌, ◌||◌, ◌==◌, All, bytes_eq, nat_eq}
 use Rattle.std.specs.List.{list_any, slice_split, starts_with}
 use Rattle.simplecss_text.specs.AsciiBytes.{space, hyphen}
 use Rattle.simplecss_text.specs.Components.{Operator}
 use Rattle.simplecss_text.specs.Components.Operator.{exists, equals, has_word, begins_with}
 
--- whether the word is one of those that single spaces part the value into
+-- whether the word is one of those that single spaces separate in the value
 abbrev pub is_word_of : List ℕ → List ℕ → Bool
 is_word_of word value = list_any (λ part. bytes_eq part word) (slice_split (λ b. b == space) value)
 
--- whether the value is as the operator asks: any value will do; it has the same bytes; the word is
--- one of its words; it has the same bytes, or begins with them and a hyphen
+-- whether the value satisfies the operator: any value; the same bytes; the word is one of its
+-- words; the same bytes, or these and then a hyphen at its start
 abbrev pub is_as_asked : Operator → List ℕ → Bool
 is_as_asked exists value = true
 is_as_asked (equals text) value = bytes_eq value text
@@ -26,13 +26,13 @@ IsUpToSpace x = (x ≡ []) ⊎ ((z : List ℕ) × (x ≡ z ++ space ∷ []))
 abbrev pub IsFromSpace : List ℕ → Type 0
 IsFromSpace y = (y ≡ []) ⊎ ((z : List ℕ) × (y ≡ space ∷ z))
 
--- the word stands in the text between spaces or ends
+-- the word occurs in the text between spaces or ends
 abbrev pub StandsIn : List ℕ → List ℕ → Type 0
 StandsIn word text =
     (x : List ℕ) × (y : List ℕ) × (text ≡ x ++ (word ++ y)) × IsUpToSpace x × IsFromSpace y
 
--- what the test means: any value will do; it is the text; the word has no space and stands in it
--- between spaces or ends; it is the text, or goes on after it with a hyphen
+-- the meaning of the test: any value; the text itself; the word has no space and occurs in the
+-- value between spaces or ends; the text itself, or the text and then a hyphen
 abbrev pub IsAsAsked : Operator → List ℕ → Type 0
 IsAsAsked exists value = Unit {0}
 IsAsAsked (equals text) value = value ≡ text

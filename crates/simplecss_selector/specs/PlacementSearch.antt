@@ -1,4 +1,5 @@
--- What the search for a placement knows as it goes up a tree, from the last component to the first.
+-- What the search for a placement has established at each node, from the last component to the
+-- first.
 use Rattle.std.specs.Prelude.{◌≡◌, ℕ, List, [], ◌∷◌, Option, Some, None, take}
 use Rattle.simplecss_text.specs.Components.{Component, Combinator}
 use Rattle.simplecss_text.specs.Components.Combinator.{none, descendant, child, adjacent}
@@ -14,7 +15,7 @@ pub data IsAtOrAbove {Node : Type 0} (tree : Tree Node) : Node → Node → Type
 abbrev pub IsWithin : {Node : Type 0} → Tree Node → Node → Node → Type 0
 IsWithin {Node} tree m n = (a : Node) → IsAncestor tree a m → IsAncestor tree a n
 
--- the fact, where there is a component
+-- the fact, if there is a component
 abbrev pub IfMore : List Component → Type 0 → Type 0
 IfMore [] P = Unit {0}
 IfMore (c ∷ cs) P = P
@@ -29,7 +30,7 @@ Reaches {Node} tree (c ∷ cs) n =
 abbrev pub CanPlace : {Node : Type 0} → Tree Node → List Component → Node → Type 0
 CanPlace {Node} tree cs n = (m : Node) × IsAtOrAbove tree m n × Reaches tree cs m
 
--- a list backwards, before another
+-- a list reversed, before another
 abbrev pub backwards : List Component → List Component → List Component
 backwards [] after = after
 backwards (c ∷ cs) after = backwards cs (c ∷ after)
@@ -38,7 +39,7 @@ backwards (c ∷ cs) after = backwards cs (c ∷ after)
 abbrev pub first_of : List Component → ℕ → List Component
 first_of cs n = backwards (take n cs) []
 
--- the node to which a child or adjacent step leads back
+-- the node to which a child or adjacent combinator leads back
 abbrev pub step_from : {Node : Type 0} → Tree Node → Combinator → Node → Option Node
 step_from tree none n = None
 step_from tree descendant n = None

@@ -10,29 +10,30 @@ pub data IsAncestor {Node : Type 0} (tree : Tree Node) : Node → Node → Type 
   is_parent : {m n : Node} → tree.parent n ≡ Some m → IsAncestor tree m n
   is_further : {m p n : Node} → tree.parent n ≡ Some p → IsAncestor tree m p → IsAncestor tree m n
 
--- the node has the type name, or there is none to have
+-- the node has the type name, or no name is required
 abbrev pub HasName : {Node : Type 0} → Tree Node → Node → Option (List ℕ) → Type 0
 HasName tree n None = Unit {0}
 HasName tree n (Some name) = IsTrue (tree.is_named n name)
 
--- the node has an attribute of the name whose value is as asked, or is in the pseudo-class
+-- the node has an attribute with the name whose value satisfies the operator, or is in the
+-- pseudo-class
 abbrev pub Holds : {Node : Type 0} → Tree Node → Node → Subselector → Type 0
 Holds tree n (attribute name operator) = IsTrue (tree.has_attribute n name operator)
 Holds tree n (pseudo_class class) = IsTrue (tree.is_in_pseudo_class n class)
 
--- the node has the type name, if there is one, and every subselector holds of it
+-- the node has the type name, if there is one, and satisfies every subselector
 abbrev pub Meets : {Node : Type 0} → Tree Node → Node → Compound → Type 0
 Meets tree n compound = HasName tree n compound.name × All (Holds tree n) compound.subselectors
 
--- the first node stands to the second as the combinator says
+-- the first node has the relation of the combinator to the second
 abbrev pub Relates : {Node : Type 0} → Tree Node → Combinator → Node → Node → Type 0
 Relates tree none m n = ⊥
 Relates tree descendant m n = IsAncestor tree m n
 Relates tree child m n = tree.parent n ≡ Some m
 Relates tree adjacent m n = tree.previous_sibling n ≡ Some m
 
--- the nodes that go on from one node: each meets its component and is related to the node before
--- it, and the last is `end`
+-- nodes that continue a placement from one node: each meets its component and is related to the
+-- node before it, and the last is `end`
 abbrev pub GoesOn : {Node : Type 0} → Tree Node → Node → List Component → List Node → Node → Type 0
 GoesOn tree before [] [] end = before ≡ end
 GoesOn tree before [] (n ∷ ns) end = ⊥
@@ -51,23 +52,24 @@ IsPlacement tree (c ∷ cs) (n ∷ ns) end = Meets tree n c.compound × GoesOn t
 abbrev pub HasPlacement : {Node : Type 0} → Tree Node → List Component → Node → Type 0
 HasPlacement {Node} tree components end = (nodes : List Node) × IsPlacement tree components nodes end
 
--- whether the combinator leads back to one node at most: to the parent, or to the previous sibling
+-- whether the combinator leads back to at most one node: to the parent, or to the previous sibling
 abbrev pub is_step : Combinator → Bool
 is_step none = false
 is_step descendant = false
 is_step child = true
 is_step adjacent = true
 
--- whether a child or an adjacent step joins a component to the one before it
+-- whether a child or an adjacent combinator joins a component to the one before it
 abbrev pub is_joined : Component → Bool
 is_joined c = is_step c.combinator
 
--- how many components at the front are each joined to the one before
+-- the number of components at the start that are each joined to the one before
 abbrev pub joined_length : List Component → ℕ
 joined_length [] = 0
 joined_length (c ∷ cs) = if is_joined c then joined_length cs + 1 else 0
 
--- the number of components in the longest stretch that child and adjacent steps alone join
+-- the number of components in the longest stretch: components joined by child and adjacent
+-- combinators
 abbrev pub longest_stretch : List Component → ℕ
 longest_stretch [] = 0
 longest_stretch (c ∷ cs) = max (joined_length cs + 1) (longest_stretch cs)

@@ -1,4 +1,4 @@
--- What contracts see of a key: what it means, apart from where its text stands.
+-- What contracts see of a key: its kind and the bytes of its text, wherever that is stored.
 use Rattle.simplecss_selector.specs.Keys.{Key as KeyValue}
 use Rattle.simplecss_selector.specs.Keys.Key.{by_id, by_class, by_name, by_attribute, by_nothing}
 use Rattle.simplecss_selector.specs.declared.key.Key.{Key}

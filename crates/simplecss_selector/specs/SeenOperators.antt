@@ -1,5 +1,5 @@
--- What contracts see of operators and pseudo-classes: what they ask, apart from where their texts
--- stand.
+-- What contracts see of operators and pseudo-classes: their kinds and the bytes of their texts,
+-- wherever these are stored.
 use Rattle.simplecss_text.specs.Components.{Operator, KnownPseudoClass}
 use Rattle.simplecss_text.specs.Components.Operator.{exists, equals, has_word, begins_with}
 use Rattle.simplecss_text.specs.Components.KnownPseudoClass.{first_child, link, visited, hover, active, focus, lang}

@@ -25,31 +25,31 @@ component_of_part p subselectors =
           record { name = option_map (λ n. n.now) p.name; subselectors = map subselector_of subselectors };
     }
 
--- the components, whose subselectors follow one another in the one list from `start` on
+-- the components, whose subselectors follow one another in the one list from index `start` on
 abbrev pub components_from : ℕ → List Part → List SubSelector → List Component
 components_from start [] subselectors = []
 components_from start (p ∷ ps) subselectors =
     component_of_part p (slice_range subselectors start p.end) ∷ components_from p.end ps subselectors
 
--- the ends never fall from `start` on, and the last of them is n
+-- the ends never fall from `start` on, and the last of them is `n`
 abbrev pub Tile : ℕ → List Part → ℕ → Type 0
 Tile start [] n = start ≡ n
 Tile start (p ∷ ps) n = (start ≤ p.end) × Tile p.end ps n
 
--- where the subselectors of the last of these parts end
+-- the end of the subselectors of the last of these parts
 abbrev pub last_end : ℕ → List Part → ℕ
 last_end start [] = start
 last_end start (p ∷ ps) = last_end p.end ps
 
--- a draft of parts that are done, and of one that takes the subselectors after theirs
+-- a draft of finished parts, and of one that has the subselectors after theirs
 abbrev pub drafted : List Part → List SubSelector → Part → Drafted
 drafted ps ss open_part = record {
   done = components_from 0 ps ss;
   last = component_of_part open_part (slice_range ss (last_end 0 ps) open_part.end);
 }
 
--- Flat lists of a selector: its components, whose subselectors tile the n of the one list, and the
--- ends of its stretches but the last.
+-- The flat lists of a selector: its components, whose subselectors tile the `n` of the one list,
+-- and the ends of its stretches but the last.
 pub record IsFlat (ps : List Part) (ss : List SubSelector) (n : ℕ) (kept : List ℕ) : Type 0 where
   pub selector : IsSelector (components_from 0 ps ss)
   pub tiled : Tile 0 ps n

@@ -1,4 +1,4 @@
--- What contracts see of the tokens and errors that a tokenizer gives.
+-- What contracts see of the tokens and errors that a tokenizer yields.
 use Rattle.std.specs.Prelude.{ℕ, List, [], Option, None, Some, Result, Ok, Err}
 use Rattle.simplecss_text.specs.declared.Error.{Error}
 use Rattle.simplecss_text.specs.Tokens.{Token, token_texts}
@@ -7,7 +7,7 @@ use Rattle.simplecss_selector.specs.declared.token.SelectorToken.{SelectorToken}
 use Rattle.simplecss_selector.specs.declared.token.SelectorToken.TheVariants.{UniversalSelector, TypeSelector, ClassSelector, IdSelector, AttributeSelector, PseudoClass, LangPseudoClass, DescendantCombinator, ChildCombinator, AdjacentCombinator}
 use Rattle.simplecss_selector.specs.SeenOperators.{operator_of}
 
--- a token, apart from where its texts stand in memory
+-- a token, wherever its texts are stored
 abbrev pub token_of : SelectorToken → Token
 token_of UniversalSelector = universal_selector
 token_of (TypeSelector n) = type_selector n.now
@@ -25,7 +25,7 @@ abbrev pub item_seen : Result SelectorToken Error → Result Token Error
 item_seen (Ok token) = Ok (token_of token)
 item_seen (Err error) = Err error
 
--- the names and values in what a call of a tokenizer gives
+-- the names and values in what a call of a tokenizer returns
 abbrev pub given_texts : Option (Result SelectorToken Error) → List (List ℕ)
 given_texts None = []
 given_texts (Some (Ok token)) = token_texts (token_of token)

@@ -1,4 +1,4 @@
--- A selector that is being made, one component after the other.
+-- A selector under construction, one component after the other.
 use Rattle.std.specs.Prelude.{ℕ, Bool, true, false, List, [], ◌∷◌, ◌++◌, Option, None, Some}
 use Rattle.simplecss_text.specs.Components.{Subselector, Combinator, Component}
 use Rattle.simplecss_text.specs.Components.Combinator.{none}
@@ -7,12 +7,12 @@ use Rattle.simplecss_text.specs.Selectors.Part.{any_type, of_type, with}
 use Rattle.simplecss_text.specs.Selectors.Role.{part, joint}
 use Rattle.simplecss_text.specs.Selectors.Outcome.{refused, accepted}
 
--- the components that are done, and the one that is being filled
+-- the finished components, and the current one
 pub record Drafted : Type 0 where
   pub done : List Component
   pub last : Component
 
--- any type, and nothing else asked
+-- any type, with no further condition
 abbrev pub bare : Combinator → Component
 bare combinator = record { combinator = combinator; compound = record { name = None; subselectors = [] } }
 
@@ -42,25 +42,25 @@ with_name name d = record { done = d.done; last = component_named name d.last }
 abbrev pub with_subselector : Subselector → Drafted → Drafted
 with_subselector subselector d = record { done = d.done; last = narrowed subselector d.last }
 
--- the last component is done, and the next one is joined to it
+-- the last component is finished, and the next one is joined to it
 abbrev pub joined : Combinator → Drafted → Drafted
 joined combinator d = record { done = d.done ++ d.last ∷ []; last = bare combinator }
 
 abbrev pub finished : Drafted → List Component
 finished d = d.done ++ d.last ∷ []
 
--- what a part does to the last component
+-- what a part adds to the last component
 abbrev pub with_part : Part → Drafted → Drafted
 with_part any_type d = d
 with_part (of_type name) d = with_name name d
 with_part (with subselector) d = with_subselector subselector d
 
--- what a role does to the draft
+-- what a role adds to the draft
 abbrev pub drafted_after : Role → Drafted → Drafted
 drafted_after (part x) d = with_part x d
 drafted_after (joint combinator) d = joined combinator d
 
--- the same of a token, which may have no role, and then does nothing
+-- the same of a token, which may have no role, and then adds nothing
 abbrev pub drafted_if : Option Role → Drafted → Drafted
 drafted_if (Some role) d = drafted_after role d
 drafted_if None d = d
@@ -70,13 +70,13 @@ abbrev pub continued : Drafted → List Role → List Component
 continued d [] = finished d
 continued d (role ∷ roles) = continued (drafted_after role d) roles
 
--- the selector of the draft and of what is still to be read, or none, and what is left where
--- reading ends
+-- the selector of the draft and of what is still to be read, or none, and the rest where reading
+-- ends
 abbrev pub selector_after : Drafted → Outcome → Option (List Component) × List ℕ
 selector_after d (refused left) = (None, left)
 selector_after d (accepted roles left) = (Some (continued d roles), left)
 
--- the selector that was put into the draft, if all of it was read, and what is left
+-- the selector in the draft, if all of it was read, and the rest
 abbrev pub selector_read : Bool → Drafted → (left : List ℕ) → Option (List Component) × List ℕ
 selector_read true d left = (Some (finished d), left)
 selector_read false d left = (None, left)

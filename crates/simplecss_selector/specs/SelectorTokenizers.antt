@@ -1,4 +1,4 @@
--- What is still to come from a tokenizer.
+-- What a tokenizer is still to yield.
 use Rattle.std.specs.Prelude.{◌≡◌, ◌≤◌, ◌+◌, ℕ, List, map, length, Option, Some, None, Result}
 use Rattle.std.specs.Iterator.{YieldsFirstBy}
 use Rattle.std.specs.Iterator.Runs.{EveryRun, ItemsMapTo}
@@ -21,7 +21,7 @@ use Rattle.simplecss_selector.specs.SeenTokens.{item_seen, given_texts}
 abbrev pub whole_text : SelectorTokenizer → List ℕ
 whole_text t = text_of t.stream
 
--- how many bytes of it reading has passed
+-- how many bytes of it have been read
 abbrev pub place_in : SelectorTokenizer → ℕ
 place_in t = place_of t.stream
 
@@ -29,7 +29,7 @@ place_in t = place_of t.stream
 abbrev pub left_of : SelectorTokenizer → List ℕ
 left_of t = rest_of t.stream
 
--- what a tokenizer in a stage gives on what is left to read
+-- what a tokenizer in a state yields on the rest
 abbrev pub sequence_in : Stage → List ℕ → TokenSequence
 sequence_in Open text = sequence_from this_edition open_side text
 sequence_in Closed text = sequence_from this_edition closed_side text
@@ -39,8 +39,8 @@ sequence_in Ended text = sequence_end text
 abbrev pub still_to_come : SelectorTokenizer → TokenSequence
 still_to_come t = sequence_in t.stage (left_of t)
 
--- A call on a text gave the first item of a sequence, left `left` to read, and the sequence `after`
--- to come; or nothing was to come.
+-- A call on a text returned the first item of a sequence, left `left` to read, and the sequence
+-- `after` to come; or nothing was to come.
 abbrev pub GivesFirst : List ℕ → TokenSequence → Option (Result SelectorToken Error) → (left : List ℕ)
     → (after : TokenSequence)
     → Type 0
@@ -52,24 +52,24 @@ GivesFirst text before (Some x) left after =
 unfoldable pub items_left : SelectorTokenizer → List (Result Token Error)
 items_left t = map (told_in (whole_text t)) (items (still_to_come t))
 
--- A call of `next` on the tokenizer `before` gave `result` and left the tokenizer `after`.
+-- A call of `next` on the tokenizer `before` returned `result` and left the tokenizer `after`.
 pub record GivesItem (before : SelectorTokenizer) (result : Option (Result SelectorToken Error))
     (after : SelectorTokenizer) : Type 0 where
   -- the first of the tokens and errors that were to come, and the others still are; or none was to
   -- come, and none is
   pub items : YieldsFirstBy item_seen items_left before result after
-  -- the text stays
+  -- the text is unchanged
   pub text : whole_text after ≡ whole_text before
-  -- it is the first of the sequence, which tells what is left to read behind it
+  -- it is the first of the sequence, which says what is left to read after it
   pub first :
       GivesFirst (whole_text before) (still_to_come before) result (left_of after) (still_to_come after)
-  -- its names and values stand in order in what was passed
+  -- its names and values occur in order in what was consumed
   pub slices : StandBetween (left_of before) (left_of after) (given_texts result)
-  -- the place does not fall
+  -- the offset does not fall
   pub forward : place_in before ≤ place_in after
 
--- What calls of `next` give, from any tokenizer on, is the front of the tokens and errors that are
--- still to come there, and all of them where the calls went on to `None`.
+-- What calls of `next` return, from any tokenizer on, is a prefix of the tokens and errors that are
+-- still to come there, and all of them if the calls continued to `None`.
 abbrev pub GivesInTurn : Type 0
 GivesInTurn = EveryRun GivesItem (λ calls. ItemsMapTo calls item_seen (items_left calls.from))
 

@@ -3,11 +3,11 @@ use Rattle.std.specs.Prelude.{◌≡◌, ℕ, ◌<◌, ◌↔◌, List, [], None
 use Rattle.simplecss_text.specs.Components.{Component}
 use Rattle.simplecss_text.specs.Components.Combinator.{none}
 
--- every type will do
+-- any type matches
 abbrev pub any_component : Component
 any_component = record { combinator = none; compound = record { name = None; subselectors = [] } }
 
--- the component at a place
+-- the component at an index
 abbrev pub component_at : List Component → ℕ → Component
 component_at cs k = slice_index_or cs k any_component
 

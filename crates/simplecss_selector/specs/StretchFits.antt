@@ -1,4 +1,4 @@
--- What trying a stretch of components at one node has found.
+-- The result of trying a stretch of components at a node.
 use Rattle.std.specs.Prelude.{ℕ, ◌+◌, ◌<◌, List}
 use Rattle.simplecss_text.specs.Components.{Component}
 use Rattle.simplecss_selector.specs.Trees.{Tree}
@@ -16,8 +16,8 @@ pub record LeavesRest {Node : Type 0} (tree : Tree Node) (cs : List Component) (
       → CanPlace tree (first_of cs rest) node
   pub enough : CanPlace tree (first_of cs rest) node → Reaches tree (first_of cs left) n
 
--- what the answer says of the components up to the place `last`, tried with that one on `n`, where
--- the stretch begins at `first`
+-- what the result says of the components up to index `last`, tried with that one on `n`, where the
+-- stretch begins at index `first`
 abbrev pub Finds : {Node E : Type 0} → Tree Node → (E → Node) → List Component → (first last : ℕ) → Node
     → Fit E → Type 0
 Finds tree node cs first last n Misfit = Reaches tree (first_of cs (last + 1)) n → ⊥

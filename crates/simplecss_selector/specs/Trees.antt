@@ -1,9 +1,9 @@
--- What elements mean: nodes of a tree, and what each answers.
+-- What elements denote: nodes of a tree, and the answers of each.
 use Rattle.std.specs.Prelude.{◌≡◌, ℕ, ◌+◌, List, Bool, Option, MatchOption, IfSome}
 use Rattle.simplecss_text.specs.Components.{Operator, KnownPseudoClass}
 
--- A tree: of each node the parent and the previous sibling, if there are any, the number of its
--- ancestors, and what it answers to a type name, to an attribute's name with an operator, and to a
+-- A tree: for each node the parent and the previous sibling, if there are any, the number of its
+-- ancestors, and its answers to a type name, to an attribute's name with an operator, and to a
 -- pseudo-class.
 pub record Tree (Node : Type 0) : Type 0 where
   pub parent : Node → Option Node

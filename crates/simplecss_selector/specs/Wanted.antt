@@ -1,6 +1,6 @@
--- What an index finds a selector by: the key of its last component, on the element; or, where that
--- asks nothing and is joined to the component before by one step, the key of that one, on the
--- element's parent or previous sibling.
+-- The key by which an index finds a selector: the key of its last component, on the element; or, if
+-- that is no condition and a child or adjacent combinator precedes it, the key of the component
+-- before, on the element's parent or previous sibling.
 use Rattle.std.specs.Prelude.{◌≡◌, List, [], ◌∷◌, Option, Some, None, Bool, false, IsTrue, length}
 use Rattle.std.specs.Option.{option_map_or}
 use Rattle.simplecss_text.specs.Components.{Component, Combinator}
@@ -10,20 +10,20 @@ use Rattle.simplecss_selector.specs.Keys.Key.{by_id, by_class, by_name, by_attri
 use Rattle.simplecss_selector.specs.PlacementSearch.{first_of}
 use Rattle.simplecss_selector.specs.Trees.{Tree}
 
--- a key, and which node is to have it
+-- a key, and the node that must have it
 pub data Wanted : Type 0 where
   of_element : Key → Wanted
   of_parent : Key → Wanted
   of_previous : Key → Wanted
 
--- the key of the component before, on the node to which a step leads
+-- the key of the component before, on the node to which the combinator leads
 abbrev pub beside : Combinator → Key → Wanted
 beside none before = of_element by_nothing
 beside descendant before = of_element by_nothing
 beside child before = of_parent before
 beside adjacent before = of_previous before
 
--- the key, or that of the component before where it asks nothing
+-- the key, or that of the component before if the key is no condition
 abbrev pub wanted_by : Key → Combinator → Key → Wanted
 wanted_by (by_id text) combinator before = of_element (by_id text)
 wanted_by (by_class word) combinator before = of_element (by_class word)
@@ -31,52 +31,52 @@ wanted_by (by_name name) combinator before = of_element (by_name name)
 wanted_by (by_attribute name) combinator before = of_element (by_attribute name)
 wanted_by by_nothing combinator before = beside combinator before
 
--- what is wanted of components, the last of which is first
+-- what is wanted by components in reverse order
 abbrev pub wanted_among : List Component → Wanted
 wanted_among [] = of_element by_nothing
 wanted_among (c ∷ []) = of_element (compound_key c.compound)
 wanted_among (c ∷ b ∷ cs) = wanted_by (compound_key c.compound) c.combinator (compound_key b.compound)
 
--- what an index finds a selector by
+-- the key by which an index finds a selector
 abbrev pub wanted_of : List Component → Wanted
 wanted_of components = wanted_among (first_of components (length components))
 
--- there is a node, and it has what the key asks
+-- there is a node, and it has the key
 abbrev pub SomeHas : {Node : Type 0} → Tree Node → Option Node → Key → Type 0
 SomeHas tree None key = ⊥
 SomeHas tree (Some m) key = HasKey tree m key
 
--- the node, its parent or its previous sibling has what is wanted of it
+-- the node, its parent or its previous sibling has the wanted key
 abbrev pub HasWanted : {Node : Type 0} → Tree Node → Node → Wanted → Type 0
 HasWanted tree n (of_element key) = HasKey tree n key
 HasWanted tree n (of_parent key) = SomeHas tree (tree.parent n) key
 HasWanted tree n (of_previous key) = SomeHas tree (tree.previous_sibling n) key
 
--- what an element, its parent and its previous sibling tell, where they are
+-- what an element, its parent and its previous sibling report, if they exist
 pub record Near : Type 0 where
   pub own : Told
   pub parent : Option Told
   pub previous : Option Told
 
--- whether what is told has what is wanted
+-- whether what is reported includes the wanted key
 abbrev pub tells_wanted : Near → Wanted → Bool
 tells_wanted near (of_element key) = tells_key near.own key
 tells_wanted near (of_parent key) = option_map_or (λ told. tells_key told key) near.parent false
 tells_wanted near (of_previous key) = option_map_or (λ told. tells_key told key) near.previous false
 
--- whatever the node and its neighbours have is told; more may be told
+-- whatever the node and its neighbours have is reported; more may be reported
 abbrev pub TellsWanted : {Node : Type 0} → Tree Node → Node → Near → Type 0
 TellsWanted tree n near = (wanted : Wanted) → HasWanted tree n wanted → IsTrue (tells_wanted near wanted)
 
--- what is told of a node that may be there, by an element that means it
+-- what an element that denotes the node, if there is one, reports
 abbrev pub IsToldOf : {Node Self : Type 0} → (Self → Node) → (Self → Told) → Option Node → Option Told → Type 0
 IsToldOf node told None None = Unit {0}
 IsToldOf node told None (Some t) = ⊥
 IsToldOf node told (Some m) None = ⊥
 IsToldOf {Self = Self} node told (Some m) (Some t) = (e : Self) × (node e ≡ m) × (told e ≡ t)
 
--- what is told near an element: by itself, and by elements that mean its parent and its previous
--- sibling
+-- what is reported near an element: by the element, and by elements that denote its parent and its
+-- previous sibling
 pub record IsNear {Node Self : Type 0} (tree : Tree Node) (node : Self → Node) (told : Self → Told) (element : Self) (near : Near) : Type 0 where
   pub own : near.own ≡ told element
   pub parent : IsToldOf node told (tree.parent (node element)) near.parent

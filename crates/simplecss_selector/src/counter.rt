@@ -1,4 +1,4 @@
-//! A count of tests, which contracts alone see.
+//! A count of tests that only contracts see.
 ghost use Rattle.std.specs.Prelude.{◌≡◌, ℕ, ◌+◌};
 ghost use Rattle.std.specs.Borrow.{ftrue};
 
@@ -22,7 +22,7 @@ impl Count {
         Count {}
     }
 
-    /// The number that follows.
+    /// The next number.
     fn next(_before: &Count) -> Count
         ensures { result.number ≡ _before.now.number + 1 }
     {
@@ -30,11 +30,11 @@ impl Count {
     }
 }
 
-/// How many tests of a component against an element were made. Contracts see the number, and at run
-/// time there is none: it takes no bytes.
+/// The number of tests of a component against an element. Contracts see the number; at run time it
+/// takes no bytes.
 #[derive(Drop)]
 pub struct Tests {
-    /// The number of the tests.
+    /// The number of tests.
     count: Count,
 }
 
@@ -45,7 +45,7 @@ impl Model for Tests {
 }
 
 impl Tests {
-    /// No test yet.
+    /// Returns the count of no test.
     #[inline(always)]
     pub fn new() -> Tests
         ensures { result ≡ 0 }
@@ -55,7 +55,7 @@ impl Tests {
         }
     }
 
-    /// One more test. The function that asks an element is the only caller.
+    /// Adds one test. Only the function that tests an element calls it.
     #[inline(always)]
     pub(crate) fn tick(&mut self)
         ensures { self.new ≡ self.old + 1 }

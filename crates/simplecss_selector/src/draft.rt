@@ -1,4 +1,4 @@
-//! A selector that is being made.
+//! A selector under construction.
 ghost use Rattle.std.specs.Prelude.{◌≢◌, ◌≡◌, ◌+◌, ◌++◌, ◌∷◌, [], IfOk, OnErr, OnOk, vec_len};
 ghost use Rattle.simplecss_text.specs.Components.Combinator.{none as no_combinator};
 ghost use Rattle.simplecss_selector.specs.SeenCombinators.{combinator_of};
@@ -11,18 +11,18 @@ use crate::selector::{Combinator, Part, Selector, SubSelector};
 use std::alloc::{AllocError, Global};
 use std::marker::Model;
 
-/// A selector that is being made: components that are done, and the one that is being filled.
+/// A selector under construction: the finished components, and the current one.
 #[derive(Drop)]
 pub(crate) struct Draft<'a> {
-    /// The components that are done.
+    /// The finished components.
     parts: Vec<Part<'a>>,
-    /// The subselectors of all components, the one that is being filled included.
+    /// The subselectors of all components, including the current one.
     subselectors: Vec<SubSelector<'a>>,
-    /// Where the stretches end that are done, as a selector keeps it.
+    /// The ends of the finished stretches, as a selector keeps them.
     stretch_ends: Vec<usize>,
-    /// Of the component that is being filled.
+    /// The combinator before the current component.
     combinator: Combinator,
-    /// Of the same component.
+    /// The type name of the current component.
     name: Option<&'a str>,
 }
 
@@ -43,8 +43,8 @@ impl<'a> Model for Draft<'a> {
         d.subselectors.items (vec_len d.subselectors) d.stretch_ends.items };
 }
 
-/// Adds to a list, of which the first growth makes room for two: few components have more
-/// subselectors, and few selectors more stretches.
+/// Appends to a list whose first growth reserves two items: few components have more subselectors,
+/// and few selectors more stretches.
 #[inline(always)]
 fn push_few<T: Drop>(list: &mut Vec<T>, item: T) -> Result<(), AllocError>
     ensures ok { OnOk result (list.new.items ≡ list.old.items ++ item ∷ []) }
@@ -58,7 +58,7 @@ fn push_few<T: Drop>(list: &mut Vec<T>, item: T) -> Result<(), AllocError>
     Ok(())
 }
 
-/// Adds the end of a stretch, where a component that is joined to those before it begins another.
+/// Adds the end of a stretch if the component that the combinator joins begins another.
 #[inline(always)]
 fn push_stretch_end(
     stretch_ends: &mut Vec<usize>,
@@ -76,7 +76,7 @@ fn push_stretch_end(
 }
 
 impl<'a> Draft<'a> {
-    /// One component, of any type, with nothing else asked.
+    /// Creates a draft of one component that matches any element.
     pub(crate) fn new(alloc: Global) -> Draft<'a>
         ensures { result ≡ empty_draft }
     {
@@ -89,7 +89,7 @@ impl<'a> Draft<'a> {
         }
     }
 
-    /// Gives the last component a type name.
+    /// Sets the type name of the last component.
     #[inline(always)]
     pub(crate) fn set_name(&mut self, name: &'a str)
         ensures { self.new ≡ with_name name.now self.old }
@@ -97,7 +97,7 @@ impl<'a> Draft<'a> {
         self.name = Some(name);
     }
 
-    /// Gives the last component one more subselector.
+    /// Adds a subselector to the last component.
     #[inline(always)]
     pub(crate) fn push_subselector(
         &mut self,
@@ -110,7 +110,7 @@ impl<'a> Draft<'a> {
         push_few(&mut self.subselectors, subselector)
     }
 
-    /// Ends the last component, and begins one that is joined to it.
+    /// Finishes the last component, and begins one that is joined to it.
     #[inline(always)]
     pub(crate) fn join(&mut self, combinator: Combinator) -> Result<(), AllocError>
         requires { combinator_of combinator ≢ no_combinator }
@@ -132,7 +132,7 @@ impl<'a> Draft<'a> {
         Ok(())
     }
 
-    /// The selector of all the components.
+    /// Returns the selector of all the components.
     #[inline(always)]
     pub(crate) fn finish(self) -> Selector<'a>
         ensures { result ≡ finished self.entry }

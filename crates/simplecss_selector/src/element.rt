@@ -1,12 +1,13 @@
-//! Elements, which selectors are asked of.
+//! Elements, which selectors are matched against.
 use crate::{AttributeOperator, PseudoClass};
 
-/// An element of a document. Each value means a node of a tree, and what it answers depends on that
-/// node and on the texts of the arguments alone.
+/// An element of a document. Each value denotes a node of a tree, and its answers depend only on
+/// that node and on the texts of the arguments.
 ///
-/// Whoever has no tree takes `simplecss_tree`. To make elements of your own match, keep them in a
-/// list, each with the places of its parent and of its previous sibling, and say in your `specs/`
-/// what a list says of a place. For entries with a name and a class, in the crate `simplecss_uses`:
+/// The crate `simplecss_tree` has a ready tree. To make elements of your own match, keep them in a
+/// list, each with the indices of its parent and of its previous sibling, and write in your
+/// `specs/` what a list says of an index. For entries with a name and a class, in the crate
+/// `simplecss_uses`:
 ///
 /// <!-- from crates/simplecss_uses/specs/OwnTree.antt -->
 /// ```text
@@ -21,9 +22,9 @@ use crate::{AttributeOperator, PseudoClass};
 /// }
 /// ```
 ///
-/// A node is a list and a place in it. `Rattle.simplecss.specs.ListTrees` proves both laws for
-/// every such list: a parent counts where it stands earlier, and a previous sibling where it stands
-/// earlier and has the same parent. So `parent_of` and `previous_of` look both up:
+/// A node is a list and an index in it. `Rattle.simplecss.specs.ListTrees` proves both laws for
+/// every such list: a parent counts only if its index is less, and a previous sibling only if its
+/// index is less and it has the same parent. So `parent_of` and `previous_of` look both up:
 ///
 /// <!-- from crates/simplecss_uses/src/own_tree.rt -->
 /// ```text
@@ -64,9 +65,9 @@ use crate::{AttributeOperator, PseudoClass};
 /// }
 /// ```
 ///
-/// Mark the short functions `#[inline(always)]`, since they are asked often. Where nodes are no
-/// places in lists, write the record of `Rattle.simplecss.specs.Trees` yourself, and prove its two
-/// laws.
+/// Mark the short functions `#[inline(always)]`, since they are called often. If nodes are not
+/// indices of a list, write the record of `Rattle.simplecss.specs.Trees` yourself, and prove its
+/// two laws.
 pub trait Element: Drop {
     ghost use Rattle.std.specs.Prelude.{◌≡◌, Option, option_map};
     ghost use Rattle.simplecss_selector.specs.Trees.{Tree, DepthCountsAncestors};
@@ -79,11 +80,11 @@ pub trait Element: Drop {
 
     ghost node: { Self → Node };
 
-    /// The parent, if there is one.
+    /// Returns the parent, if there is one.
     fn parent_element(&self) -> Option<Self>
         ensures { option_map node result ≡ tree.parent (node self.now) };
 
-    /// The sibling right before this element, if there is one.
+    /// Returns the sibling directly before this element, if there is one.
     fn prev_sibling_element(&self) -> Option<Self>
         ensures { option_map node result ≡ tree.previous_sibling (node self.now) };
 
@@ -91,7 +92,7 @@ pub trait Element: Drop {
     fn has_local_name(&self, name: &str) -> bool
         ensures { result ≡ tree.is_named (node self.now) name.now };
 
-    /// Whether there is an attribute of this name with a value as the operator asks.
+    /// Whether there is an attribute with this name whose value satisfies the operator.
     fn attribute_matches(&self, local_name: &str, operator: AttributeOperator<'_>) -> bool
         ensures { result
             ≡ tree.has_attribute (node self.now) local_name.now (operator_of operator.entry) };

@@ -1,4 +1,4 @@
-//! Laws of elements and of the selectors that they are asked.
+//! Laws of elements and of the selectors that are matched against them.
 ghost use Rattle.std.specs.Prelude.{◌≡◌, ◌<◌, ◌↔◌, ℕ, Bool, IsTrue, List, length};
 ghost use Rattle.simplecss_text.specs.Components.{Component};
 ghost use Rattle.simplecss_text.specs.Components.Combinator.{none as no_combinator};
@@ -8,12 +8,12 @@ ghost use Rattle.simplecss_selector.specs.Shapes.{component_at};
 
 use crate::{Element, Selector};
 
-/// A selector's answer on an element depends only on what the element, its ancestors and the earlier
-/// siblings of these answer. Take a relation between the nodes of two trees that, where it holds of two
-/// nodes, holds of their parents and of their previous siblings, and under which nodes give the same
-/// three answers: a selector then matches both of two related nodes or neither (`related`). So trees
-/// may differ in descendants and in later siblings. The same holds of a map of all nodes that keeps
-/// parents, previous siblings and answers (`mapped`).
+/// A selector's answer on an element depends only on the answers of the element, of its ancestors
+/// and of their earlier siblings. Take a relation between the nodes of two trees such that the
+/// parents of related nodes are related, their previous siblings too, and related nodes return the
+/// same three answers: a selector then matches both of two related nodes or neither (`related`). So
+/// the trees may differ in descendants and in later siblings. The same holds of a map of all nodes
+/// that keeps parents, previous siblings and answers (`mapped`).
 pub fn same_meanings_law<E: Element, F: Element>()
     ensures related { (related : E.Node → F.Node → Bool)
         → RelatesMeanings E.tree F.tree (λ m n. IsTrue (related m n))
@@ -24,7 +24,7 @@ pub fn same_meanings_law<E: Element, F: Element>()
         → HasPlacement E.tree components n ↔ HasPlacement F.tree components (image n) }
 {}
 
-/// A selector has a component, and the first alone has no combinator.
+/// A selector has a component, and only the first has no combinator.
 pub fn components_law(selector: &Selector<'_>)
     ensures some { 0 < length selector.now }
     ensures first_alone { (place : ℕ) → place < length selector.now

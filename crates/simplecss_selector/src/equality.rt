@@ -6,7 +6,7 @@ ghost use Rattle.simplecss_text.specs.PrintingLaws.{PrintAlikeIfEqual};
 
 use crate::selector::Selector;
 
-/// By the components, wherever their texts stand.
+/// Compares the components, wherever their texts are stored.
 impl<'a> PartialEq for Selector<'a> {
     ghost use Rattle.simplecss_selector.specs.Equality.{selector_eq};
     ghost use Rattle.simplecss_selector.specs.EqualityLaws.{selector_per};
@@ -28,7 +28,7 @@ pub fn equality_law()
         ↔ (a ≡ b) }
 {}
 
-/// Two clean selectors that were read print alike exactly if they are equal.
+/// Two clean selectors that were read have the same printed text exactly if they are equal.
 pub fn printing_law()
     ensures { (a b : List Component) → PrintAlikeIfEqual this_edition a b }
 {}

@@ -1,4 +1,4 @@
-//! The key of a selector: what its last component asks at least.
+//! The key of a selector: a condition that its last component includes.
 ghost use Rattle.std.specs.Prelude.{◌≡◌, map};
 ghost use Rattle.std.specs.Option.{option_map};
 ghost use Rattle.simplecss_selector.specs.Keys.{asked_id, asked_class, asked_attribute, first_asked};
@@ -6,8 +6,8 @@ ghost use Rattle.simplecss_selector.specs.SeenSelectors.{subselector_of};
 
 use crate::selector::SubSelector;
 
-/// What the last component of a selector asks at least. An element that has not got it cannot match
-/// the selector.
+/// A condition that the last component of a selector includes. An element that does not satisfy it
+/// cannot match the selector.
 #[derive(Clone, Copy, Debug, PartialEq)]
 pub enum Key<'a> {
     /// `#text` or `[id=text]`: the attribute `id` equals the text.
@@ -16,13 +16,13 @@ pub enum Key<'a> {
     Class(&'a str),
     /// The type name.
     Name(&'a str),
-    /// The name of an attribute, whatever is asked of its value.
+    /// The name of an attribute, whatever its value must be.
     Attribute(&'a str),
     /// None of these: every element has it.
     Any,
 }
 
-/// The first id that is asked.
+/// Returns the first required id.
 pub(crate) fn first_id<'a>(subselectors: &[SubSelector<'a>]) -> Option<&'a str>
     ensures { option_map (λ text. text.now) result
         ≡ first_asked asked_id (map subselector_of subselectors.now) }
@@ -35,7 +35,7 @@ pub(crate) fn first_id<'a>(subselectors: &[SubSelector<'a>]) -> Option<&'a str>
     None
 }
 
-/// The first class that is asked.
+/// Returns the first required class.
 pub(crate) fn first_class<'a>(subselectors: &[SubSelector<'a>]) -> Option<&'a str>
     ensures { option_map (λ word. word.now) result
         ≡ first_asked asked_class (map subselector_of subselectors.now) }
@@ -48,7 +48,7 @@ pub(crate) fn first_class<'a>(subselectors: &[SubSelector<'a>]) -> Option<&'a st
     None
 }
 
-/// The name of the first attribute that is asked.
+/// Returns the name of the first attribute that is tested.
 pub(crate) fn first_attribute<'a>(subselectors: &[SubSelector<'a>]) -> Option<&'a str>
     ensures { option_map (λ name. name.now) result
         ≡ first_asked asked_attribute (map subselector_of subselectors.now) }

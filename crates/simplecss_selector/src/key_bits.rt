@@ -1,4 +1,5 @@
-//! Sets of keys as 64 bits, by which an index leaves out selectors whose ancestors an element lacks.
+//! Sets of keys as 64 bits. By these an index leaves out selectors that need an ancestor which the
+//! element lacks.
 ghost use Rattle.std.specs.Prelude.{◌≡◌, ℕ, List, IsTrue};
 ghost use Rattle.std.specs.Option.{option_map};
 ghost use Rattle.simplecss_text.specs.Components.{Component};
@@ -13,7 +14,7 @@ ghost use Rattle.simplecss_selector.specs.SeenKeys.{key_value};
 
 use crate::{Element, Key};
 
-/// A number of the text, from the number of a kind of key on.
+/// Returns a number for the text, counted from the number of a kind of key.
 #[inline(always)]
 fn number_from(kind: u64, text: &str) -> u64
     ensures { result ≡ number_from kind text.now }
@@ -25,7 +26,7 @@ fn number_from(kind: u64, text: &str) -> u64
     number
 }
 
-/// One of 64 bits, by the number of a key.
+/// Returns one of 64 bits, by the number of a key.
 #[inline(always)]
 fn bit_by(number: u64) -> u64
     ensures { result ≡ bit_by number }
@@ -34,8 +35,8 @@ fn bit_by(number: u64) -> u64
 }
 
 impl Key<'_> {
-    /// The key as a set of keys: one bit of 64 for an id, a class or a name, and none for an
-    /// attribute's name. Equal keys have the same bit, and so may others.
+    /// Returns the key as a set of keys: one bit of 64 for an id, a class or a name, and none for
+    /// an attribute's name. Equal keys have the same bit; different keys may share one.
     #[inline(always)]
     pub fn bits(&self) -> u64
         ensures { result ≡ key_bits (key_value self.now) }
@@ -49,7 +50,7 @@ impl Key<'_> {
     }
 }
 
-/// The bit of an id, if there is one.
+/// Returns the bit of an id, if there is one.
 #[inline(always)]
 fn id_bits(id: Option<&str>) -> u64
     ensures { (text : List ℕ)
@@ -62,7 +63,7 @@ fn id_bits(id: Option<&str>) -> u64
     }
 }
 
-/// The bits of the words of a class value.
+/// Returns the bits of the words of a class value.
 fn word_bits(value: &str) -> u64
     ensures { (word : List ℕ) → IsTrue (is_word_of word value.now)
         → Covers result (key_bits (by_class word)) }
@@ -74,7 +75,7 @@ fn word_bits(value: &str) -> u64
     bits
 }
 
-/// The bits of the words of a class value, if there is one.
+/// Returns the bits of the words of a class value, if there is one.
 #[inline(always)]
 fn class_bits(class: Option<&str>) -> u64
     ensures { (word : List ℕ)
@@ -87,7 +88,7 @@ fn class_bits(class: Option<&str>) -> u64
     }
 }
 
-/// The bits of the keys of an element with this name, id and class. An implementation of
+/// Returns the bits of the keys of an element with this name, id and class. An implementation of
 /// `Keyed::ancestor_bits` combines those of the element's ancestors by `|`.
 pub fn element_bits(name: &str, id: Option<&str>, class: Option<&str>) -> u64
     ensures { (told : Told) → told.name ≡ name.now
@@ -97,16 +98,16 @@ pub fn element_bits(name: &str, id: Option<&str>, class: Option<&str>) -> u64
     Key::Name(name).bits() | id_bits(id) | class_bits(class)
 }
 
-/// The bits of all keys. An implementation of `Keyed::ancestor_bits` may return it for every
-/// element: an index then tests more selectors, and finds the same ones.
+/// Returns the bits of all keys. An implementation of `Keyed::ancestor_bits` may return it for
+/// every element: an index then tests more selectors, and finds the same ones.
 pub fn all_key_bits() -> u64
     ensures { (key : KeyValue) → Covers result (key_bits key) }
 {
     u64::MAX
 }
 
-/// Bits that cover the keys of an element's ancestors cover those that a selector that matches it
-/// asks of them.
+/// Bits that cover the keys of an element's ancestors cover those that a selector requires of them
+/// if it matches the element.
 pub fn ancestors_law<E: Element>()
     ensures { (components : List Component) (n : E.Node) (bits : ℕ)
         → CoversAncestors E.tree n bits → HasPlacement E.tree components n

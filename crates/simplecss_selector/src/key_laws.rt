@@ -13,7 +13,7 @@ pub fn key_equality_law()
         → IsTrue (⟦<Key<'static> as PartialEq>⟧.eq a b) ↔ (key_value a ≡ key_value b) }
 {}
 
-/// An element that a selector matches has what the selector's key asks.
+/// An element that a selector matches has the selector's key.
 pub fn key_law<E: Element>()
     ensures { (components : List Component) (n : E.Node)
         → HasPlacement E.tree components n → HasKey E.tree n (key_of components) }

@@ -1,18 +1,18 @@
-//! Elements that tell what selectors are found by.
+//! Elements that report the name, id and class by which an index finds selectors.
 use crate::Element;
 
-/// An element that tells its name, its id and its class, so that an index finds the selectors that
-/// can match it without asking it for each name, id and class that selectors ask.
+/// An element that reports its name, its id and its class, so that an index finds the selectors
+/// that can match it without testing it for each name, id and class of the selectors.
 ///
-/// The promise goes one way: where the element answers yes to a name, to an id or to a class, it
-/// tells that name, that id, or a class value with that word. It may tell more than it answers yes
-/// to: an index then asks it some selectors more, and finds the same ones. An element whose names
-/// match without case cannot promise this, for it answers yes to names that it does not tell. It
-/// stays an `Element`, and each selector asks it.
+/// The promise goes one way: if the element matches a name, an id or a class, it reports that name,
+/// that id, or a class value with that word. It may report more than it matches: an index then
+/// tests more selectors, and finds the same ones. An element whose names match without case cannot
+/// promise this, since it matches names that it does not report. It implements only `Element`, and
+/// each selector is tested against it.
 ///
-/// To implement it, write `told`, what the element of a value tells, and prove `told_law` in your
-/// `specs/`: case by case on the key, what the node has is told. `Rattle.simplecss.specs.Keys` has
-/// `Told`, `TellsKeys` and the keys.
+/// To implement it, write `told`, what the element of a value reports, and prove `told_law` in your
+/// `specs/`: for each kind of key, every key that the node has is reported.
+/// `Rattle.simplecss.specs.Keys` has `Told`, `TellsKeys` and the keys.
 pub trait Keyed: Element {
     ghost use Rattle.std.specs.Prelude.{◌≡◌, option_map};
     ghost use Rattle.simplecss_selector.specs.Keys.{Told, TellsKeys};
@@ -20,24 +20,25 @@ pub trait Keyed: Element {
 
     ghost told: { Self → Told };
 
-    /// The name, apart from a namespace.
+    /// Returns the name, apart from a namespace.
     fn local_name(&self) -> &str
         ensures { result.now ≡ (told self.now).name };
 
-    /// The value of the attribute `id`, if there is one.
+    /// Returns the value of the attribute `id`, if there is one.
     fn id_value(&self) -> Option<&str>
         ensures { option_map (λ value. value.now) result ≡ (told self.now).id };
 
-    /// The value of the attribute `class`, if there is one.
+    /// Returns the value of the attribute `class`, if there is one.
     fn class_value(&self) -> Option<&str>
         ensures { option_map (λ value. value.now) result ≡ (told self.now).class };
 
-    /// Whether there is an attribute of this name.
+    /// Whether there is an attribute with this name.
     fn has_attribute(&self, name: &str) -> bool
         ensures { result ≡ (told self.now).has_attribute name.now };
 
-    /// Bits that cover the keys (`Key::bits`) of all ancestors. `all_key_bits` returns such bits for
-    /// any element; with fewer, an index tests fewer selectors. It is called once an element.
+    /// Returns bits that cover the keys (`Key::bits`) of all ancestors. `all_key_bits` returns such
+    /// bits for any element; with fewer, an index tests fewer selectors. It is called once for each
+    /// element.
     fn ancestor_bits(&self) -> u64
         ensures { CoversAncestors Self.tree (Self.node self.now) result };
 

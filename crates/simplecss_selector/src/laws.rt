@@ -6,7 +6,7 @@ ghost use Rattle.simplecss_selector.specs.SeenTokens.{token_of};
 
 use crate::SelectorToken;
 
-/// What a tokenizer gives on any text has at most two errors.
+/// What a tokenizer yields on any text has at most two errors.
 pub fn at_most_two_errors()
     ensures { (text : List ℕ) → fault_count (sequence_of this_edition text) ≤ 2 }
 {}

@@ -1,5 +1,4 @@
-//! Selectors of CSS 2.1: their tokens, their text and specificity, and the elements that they
-//! match.
+//! Selectors of CSS 2.1: their tokens, their printed text and specificity, and matching elements.
 #![tactic(auto)]
 
 mod counter;

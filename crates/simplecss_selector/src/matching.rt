@@ -1,4 +1,4 @@
-//! Matching: a search that places each stretch of child and adjacent steps once.
+//! Matching: a search that places each stretch of child and adjacent combinators once.
 ghost use Rattle.std.specs.Prelude.{◌≡◌, ◌+◌, ◌*◌, ◌<◌, ◌≤◌, ◌↔◌, ◌∷◌, IsTrue, length, slice_index};
 ghost use Rattle.std.specs.Option.{option_map};
 ghost use Rattle.simplecss_selector.specs.SeenCombinators.{combinator_of};
@@ -11,29 +11,31 @@ ghost use Rattle.simplecss_selector.specs.Shapes.{component_at};
 use crate::selector::{Combinator, Selector};
 use crate::{Element, Tests};
 
-/// What trying a stretch of child and adjacent steps at one node has found.
+/// The result of trying a stretch at one node.
 #[derive(Drop)]
 enum Fit<E> {
-    /// A component is not met, or has no node.
+    /// A component does not match, or has no node.
     Misfit,
-    /// All are met, and nothing is above them for the components that are left.
+    /// All components match, components remain, and no node is left for them.
     Alone,
-    /// All are met, and no component is left.
+    /// All components match, and none remains.
     Whole,
-    /// All are met, and the components before the stretch are left, to be placed at or above the node.
+    /// All components match, and those before the stretch remain, to be placed at or above the
+    /// node.
     Rest(E),
 }
 
-/// A stretch of child and adjacent steps: the places of its first and of its last component.
+/// A stretch: components joined by child and adjacent combinators, by the indices of its first and
+/// its last component.
 #[derive(Clone, Copy)]
 struct Stretch {
-    /// The place of the first.
+    /// The index of the first component.
     first: usize,
-    /// The place of the last.
+    /// The index of the last component.
     last: usize,
 }
 
-/// Where a stretch begins, before which so many of the stretches with these ends stand.
+/// Returns the index of the first component of stretch `number`, from the ends of the stretches.
 #[inline(always)]
 fn begin_after(ends: &[usize], count: usize) -> usize
     requires { count ≤ length ends.now }
@@ -42,7 +44,7 @@ fn begin_after(ends: &[usize], count: usize) -> usize
     if count == 0 { 0 } else { ends[count - 1] }
 }
 
-/// The stretch of this number, from 0 on, of the stretches with these ends.
+/// Returns stretch `number`, counted from 0, from the ends of the stretches.
 #[inline(always)]
 fn stretch_at(ends: &[usize], number: usize) -> Stretch
     requires within { number < length ends.now }
@@ -56,7 +58,7 @@ fn stretch_at(ends: &[usize], number: usize) -> Stretch
     }
 }
 
-/// The node to which a child or adjacent step leads back.
+/// Returns the node to which a child or adjacent combinator leads back.
 #[inline(always)]
 fn step_from<E: Element>(combinator: Combinator, node: &E) -> Option<E>
     ensures { option_map E.node result
@@ -69,7 +71,7 @@ fn step_from<E: Element>(combinator: Combinator, node: &E) -> Option<E>
     }
 }
 
-/// Whether the element meets the component at this place. This is one test.
+/// Whether the element matches the compound of the component at this index. This is one test.
 #[inline(always)]
 pub(crate) fn is_met_at<E: Element>(
     selector: &Selector<'_>,
@@ -97,7 +99,7 @@ pub(crate) fn is_met_at<E: Element>(
     true
 }
 
-/// Goes up the stretch from `lowest`, which meets its last component.
+/// Follows the stretch back from `lowest`, which matches its last component.
 #[inline(always)]
 fn climb<E: Element>(
     selector: &Selector<'_>,
@@ -155,8 +157,8 @@ fn place_stretch<E: Element>(
     climb(selector, stretch, lowest, tests)
 }
 
-/// Goes on from the element, which meets the last component, through the stretches. Out of line, since
-/// most elements do not meet the last component.
+/// Continues from the element, which matches the last component, through the stretches. Out of
+/// line, since most elements do not match the last component.
 #[inline(never)]
 pub(crate) fn goes_on<E: Element>(
     selector: &Selector<'_>,

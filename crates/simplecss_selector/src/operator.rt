@@ -1,19 +1,19 @@
-//! What selectors ask of an attribute's value, and the pseudo-classes that they ask of an element.
+//! Conditions of selectors on an attribute's value, and pseudo-classes.
 ghost use Rattle.std.specs.Prelude.{◌≡◌, ◌<◌, ◌==◌, ℕ, length, true, false, None, IfSome};
 ghost use Rattle.std.specs.Prelude.{EachIndex, slice_index};
 ghost use Rattle.simplecss_text.specs.AsciiBytes.{space};
 ghost use Rattle.simplecss_selector.specs.Operators.{is_word_of};
 
-/// What an attribute's value is asked.
+/// A condition on an attribute's value.
 #[derive(Clone, Copy, Debug, PartialEq)]
 pub enum AttributeOperator<'a> {
-    /// `[name]`: any value will do.
+    /// `[name]`: any value.
     Exists,
     /// `[name=text]`: the value is the text.
     Matches(&'a str),
-    /// `[name~=word]`: the word is one of those that single spaces part the value into.
+    /// `[name~=word]`: the word is one of those that single spaces separate.
     Contains(&'a str),
-    /// `[name|=text]`: the value is the text, or goes on after it with a hyphen.
+    /// `[name|=text]`: the value is the text, or the text and then a hyphen.
     StartsWith(&'a str),
 }
 
@@ -22,10 +22,10 @@ impl<'a> AttributeOperator<'a> {
     ghost use Rattle.simplecss_selector.specs.SeenOperators.{operator_of};
     ghost use Rattle.simplecss_selector.specs.Operators.{is_as_asked, IsAsAsked};
 
-    /// Whether the value of an attribute is as the operator asks.
+    /// Whether an attribute's value satisfies the operator.
     ///
-    /// Words are parted by the space 0x20 alone, and an empty word stands between two spaces,
-    /// before a leading one, behind a last one and in the empty value.
+    /// Words are separated by the space 0x20 only, and there is an empty word between two spaces,
+    /// before a leading one, after a trailing one and in the empty value.
     pub fn matches(&self, value: &str) -> bool
         ensures answer { result ≡ is_as_asked (operator_of self.now) value.now }
         ensures means { IsTrue result ↔ IsAsAsked (operator_of self.now) value.now }
@@ -42,8 +42,8 @@ impl<'a> AttributeOperator<'a> {
     }
 }
 
-/// Where the first space stands, if there is one. Values are short, and a plain walk is faster than
-/// a search.
+/// Returns the offset of the first space, if there is one. Values are short, and a plain loop is
+/// faster than a search.
 #[inline(always)]
 fn first_space(bytes: &[u8]) -> Option<usize>
     ensures none { result ≡ None
@@ -55,7 +55,7 @@ fn first_space(bytes: &[u8]) -> Option<usize>
     bytes.iter().position(|byte| *byte == b' ')
 }
 
-/// Whether the word is one of those that single spaces part the value into.
+/// Whether the word is one of those that single spaces separate in the value.
 fn has_word(value: &str, word: &str) -> bool
     ensures { result ≡ is_word_of word.now value.now }
 {
@@ -69,7 +69,7 @@ fn has_word(value: &str, word: &str) -> bool
     rest == word.as_bytes()
 }
 
-/// A pseudo-class that a selector may ask of an element.
+/// A pseudo-class in a selector.
 #[derive(Clone, Copy, Debug, PartialEq)]
 pub enum PseudoClass<'a> {
     /// `:first-child`

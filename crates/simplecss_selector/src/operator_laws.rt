@@ -1,11 +1,11 @@
-//! Laws of equality, for what selectors ask.
+//! Laws of equality of operators and pseudo-classes.
 ghost use Rattle.std.specs.Prelude.{◌≡◌, ◌↔◌, IsTrue};
 ghost use Rattle.simplecss_selector.specs.SeenOperators.{operator_of, pseudo_class_of};
 
 use crate::{AttributeOperator, PseudoClass};
 
-/// Two operators are equal exactly if they ask the same, with the same text where they have one;
-/// and so are two pseudo-classes.
+/// Two operators are equal exactly if they are of the same kind, with the same text if they have
+/// one; and so are two pseudo-classes.
 pub fn operator_equality_laws()
     ensures operators { (a b : AttributeOperator)
         → IsTrue (⟦<AttributeOperator<'static> as PartialEq>⟧.eq a b)

@@ -1,5 +1,4 @@
-//! The texts of selectors and of pseudo-classes. They are written as they are, whatever options a
-//! formatter has.
+//! Prints selectors and pseudo-classes. No option of the formatter changes the text.
 ghost use Rattle.std.specs.Prelude.{◌≡◌, ◌++◌, map};
 ghost use Rattle.std.specs.Fmt.{WritesStyledOnOk};
 ghost use Rattle.std.specs.List.{flat_map};
@@ -47,7 +46,7 @@ impl<'a> fmt::Display for Selector<'a> {
     }
 }
 
-/// Writes a component, with what stands before it.
+/// Writes a component, with its combinator before it.
 fn write_component<W: fmt::Write>(
     f: &mut fmt::Formatter<W>,
     part: Part,
@@ -61,7 +60,7 @@ fn write_component<W: fmt::Write>(
     write_subselectors(f, subselectors)
 }
 
-/// What stands before a component.
+/// Returns what is printed before a component.
 fn before(combinator: Combinator) -> &'static str
     ensures { result.now ≡ combinator_text (combinator_of combinator) }
 {
@@ -73,7 +72,7 @@ fn before(combinator: Combinator) -> &'static str
     }
 }
 
-/// The type name, or a star.
+/// Returns the type name, or a star.
 fn name_or_star(name: Option<&str>) -> &str
     ensures { result.now ≡ type_text (option_map (λ n. n.now) name.entry) }
 {
@@ -97,7 +96,7 @@ fn write_subselectors<W: fmt::Write>(
     Ok(())
 }
 
-/// Writes an attribute in brackets, or a pseudo-class behind its colon.
+/// Writes an attribute in brackets, or a pseudo-class after its colon.
 fn write_subselector<W: fmt::Write>(
     f: &mut fmt::Formatter<W>,
     subselector: SubSelector,
@@ -119,7 +118,7 @@ fn write_subselector<W: fmt::Write>(
     }
 }
 
-/// Writes what an attribute is asked, its text in single quotes.
+/// Writes the operator of an attribute, its text in single quotes.
 fn write_operator<W: fmt::Write>(
     f: &mut fmt::Formatter<W>,
     operator: AttributeOperator,

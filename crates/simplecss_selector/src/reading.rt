@@ -1,4 +1,4 @@
-//! Reading a selector from the front of a text.
+//! Reads a selector from the start of a text.
 ghost use Rattle.std.specs.Prelude.{◌≡◌, ◌∷◌, [], drop, is_some, IfOk, IfSome, OnOk};
 ghost use Rattle.std.specs.Str.{IsCharBoundary};
 ghost use Rattle.simplecss_text.specs.PrintingLaws.{SelectorReadsBack};
@@ -22,7 +22,7 @@ use simplecss_text::stream::Stream;
 use simplecss_text::{readers, scan};
 use std::alloc::{AllocError, Global};
 
-/// The pseudo-class of a name, if there is one.
+/// Returns the pseudo-class with a name, if there is one.
 #[inline(always)]
 fn pseudo_class<'a>(name: &str) -> Option<PseudoClass<'a>>
     ensures { pseudo_class_seen result ≡ known_pseudo_class name.now }
@@ -38,7 +38,7 @@ fn pseudo_class<'a>(name: &str) -> Option<PseudoClass<'a>>
     }
 }
 
-/// Puts a token into the selector that is being made, and says whether it is known: a pseudo-class
+/// Adds a token to the selector under construction, and returns whether it is known: a pseudo-class
 /// of another name is not, and changes nothing. A class is an attribute `class` that has a word,
 /// and an id an attribute `id` that equals a text.
 #[inline(always)]
@@ -78,7 +78,7 @@ fn fill<'a>(draft: &mut Draft<'a>, token: SelectorToken<'a>) -> Result<bool, All
     Ok(true)
 }
 
-/// The name of a pseudo-class; any other token has none.
+/// Returns the name of a pseudo-class; any other token has none.
 #[cold]
 fn class_name<'a>(token: SelectorToken<'a>) -> &'a str
     ensures { result.now ≡ class_name (token_of token.entry) }
@@ -89,8 +89,8 @@ fn class_name<'a>(token: SelectorToken<'a>) -> &'a str
     }
 }
 
-/// What is left after a refused selector and what is skipped with it: the text up to the comma, and
-/// without one up to the block.
+/// Returns the rest after a refused selector and what is skipped with it: the text up to the comma,
+/// and without one up to the block.
 fn past_refused(rest: &str) -> &str
     ensures { result.now ≡ past_refused rest.now }
 {
@@ -100,7 +100,7 @@ fn past_refused(rest: &str) -> &str
     readers::from_brace(rest)
 }
 
-/// Reports that the selector at the front of the text is refused. Reading it stopped after `len`
+/// Reports that the selector at the start of the text is refused. Reading it stopped after `len`
 /// bytes.
 #[cold]
 #[inline(never)]
@@ -123,8 +123,8 @@ fn report_refusal<'a, P: Report<'a>>(
     })
 }
 
-/// Puts the tokens that are still to come into the selector that is being made, up to the first
-/// error or unknown pseudo-class, and says whether there was none. One is reported.
+/// Adds the remaining tokens to the selector under construction, up to the first error or unknown
+/// pseudo-class, and returns whether there was none. One is reported.
 #[inline(always)]
 fn fill_all<'a, P: Report<'a>>(
     report: &mut P,
@@ -161,8 +161,8 @@ fn fill_all<'a, P: Report<'a>>(
     Ok(true)
 }
 
-/// The selector that a text begins with, or `None` where it is refused, which is reported, and the
-/// place behind what was read.
+/// Returns the selector at the start of a text, or `None` if it is refused, which is reported, and
+/// the offset after what was read.
 #[inline(always)]
 pub(crate) fn read_front<'a, P: Report<'a>>(
     report: &mut P,

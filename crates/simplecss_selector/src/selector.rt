@@ -1,5 +1,5 @@
-//! A selector: components in flat lists, and what can be done with it. How it is read, matched and
-//! weighed stands in the modules `reading`, `matching`, `specificity` and `key`.
+//! A selector: components in flat lists, and its methods. Reading, matching, specificity and keys
+//! are in the modules `reading`, `matching`, `specificity` and `key`.
 ghost use Rattle.std.specs.Prelude.{◌≡◌, ◌+◌, ◌*◌, ◌<◌, ◌≤◌, ◌↔◌, ◌++◌, ◌∷◌, [], length, is_some};
 ghost use Rattle.std.specs.Prelude.{slice_index_or, IsTrue};
 ghost use Rattle.std.specs.List.{slice_range};
@@ -22,12 +22,12 @@ use simplecss_text::report::Report;
 use std::alloc::{AllocError, Global};
 use std::marker::Model;
 
-/// How a component is related to the one before it.
+/// The relation of a component to the one before it.
 #[derive(Clone, Copy, Debug, PartialEq)]
 pub(crate) enum Combinator {
-    /// To none: it is the first.
+    /// None: it is the first component.
     None,
-    /// Its element descends from the one before.
+    /// Its element is a descendant of the one before.
     Descendant,
     /// Its element is a child of the one before.
     Child,
@@ -35,40 +35,40 @@ pub(crate) enum Combinator {
     Adjacent,
 }
 
-/// What is asked of an element besides its name.
+/// A condition on an element besides its name.
 #[derive(Clone, Copy, Debug, PartialEq)]
 pub(crate) enum SubSelector<'a> {
-    /// An attribute of this name, of which the operator holds.
+    /// An attribute with this name, whose value satisfies the operator.
     Attribute(&'a str, AttributeOperator<'a>),
-    /// That it is in the pseudo-class.
+    /// The element is in the pseudo-class.
     PseudoClass(PseudoClass<'a>),
 }
 
-/// A component: its subselectors end at `end` in the one list of all, and begin where those of the
-/// one before end.
+/// A component: its subselectors end at `end` in the one list of all, and begin at the end of those
+/// of the one before.
 #[derive(Clone, Copy, Debug, PartialEq)]
 pub(crate) struct Part<'a> {
-    /// How it is related to the component before it.
+    /// The relation to the component before it.
     pub(crate) combinator: Combinator,
     /// The type name, or `None` for any type.
     pub(crate) name: Option<&'a str>,
-    /// Where its subselectors end in the list of all.
+    /// The end of its subselectors in the list of all.
     pub(crate) end: usize,
 }
 
-/// A selector: components, each a type name or any type with subselectors, and how it is related to
-/// the one before it. There is at least one, and the first alone has no combinator.
+/// A selector: components, each a type name or any type with subselectors, and the combinator
+/// before it. There is at least one, and only the first has no combinator.
 #[derive(Debug, Drop)]
 pub struct Selector<'a> {
-    /// All components but the last, so that a selector with one component takes no memory for it.
+    /// All components but the last, so that a selector of one component allocates nothing for it.
     pub(crate) parts: Vec<Part<'a>>,
     /// The last component.
     pub(crate) last: Part<'a>,
     /// The subselectors of all components, one component after the other.
     pub(crate) subselectors: Vec<SubSelector<'a>>,
-    /// For each stretch of child and adjacent steps but the last, in order, the number of components up
-    /// to its end. The last stretch ends with the components, so that a selector of one stretch takes no
-    /// memory for it.
+    /// For each stretch of components joined by child and adjacent combinators but the last, in
+    /// order, the number of components up to its end. The last stretch ends with the components, so
+    /// that a selector of one stretch allocates nothing for it.
     pub(crate) stretch_ends: Vec<usize>,
 }
 
@@ -99,7 +99,7 @@ impl<'a> SubSelector<'a> {
         }
     }
 
-    /// Whether it holds of the element.
+    /// Whether the element satisfies it.
     #[inline(always)]
     pub(crate) fn holds<E: Element>(&self, element: &E) -> bool
         ensures { IsTrue result ↔ Holds E.tree (E.node element.now) (subselector_of self.now) }
@@ -110,7 +110,7 @@ impl<'a> SubSelector<'a> {
         }
     }
 
-    /// The id that it asks.
+    /// Returns the id that it requires.
     #[inline(always)]
     pub(crate) fn asked_id(&self) -> Option<&'a str>
         ensures { option_map (λ text. text.now) result ≡ asked_id (subselector_of self.now) }
@@ -123,7 +123,7 @@ impl<'a> SubSelector<'a> {
         }
     }
 
-    /// The class that it asks.
+    /// Returns the class that it requires.
     #[inline(always)]
     pub(crate) fn asked_class(&self) -> Option<&'a str>
         ensures { option_map (λ word. word.now) result ≡ asked_class (subselector_of self.now) }
@@ -136,7 +136,7 @@ impl<'a> SubSelector<'a> {
         }
     }
 
-    /// The name of the attribute that it asks.
+    /// Returns the name of the attribute that it tests.
     #[inline(always)]
     pub(crate) fn asked_attribute(&self) -> Option<&'a str>
         ensures { option_map (λ name. name.now) result
@@ -159,7 +159,7 @@ impl<'a> Part<'a> {
     }
 }
 
-/// The subselectors from one place to before another.
+/// Returns the subselectors from one index to before another.
 #[inline(always)]
 fn between<'s, 'a>(all: &'s [SubSelector<'a>], start: usize, end: usize) -> &'s [SubSelector<'a>]
     requires rising { start ≤ end }
@@ -169,7 +169,7 @@ fn between<'s, 'a>(all: &'s [SubSelector<'a>], start: usize, end: usize) -> &'s 
     &all[start..end]
 }
 
-/// The part at this place, where `last` stands behind the others.
+/// Returns the part at this index, where `last` follows the others.
 #[inline(always)]
 fn part_at<'a>(parts: &[Part<'a>], last: Part<'a>, place: usize) -> Part<'a>
     requires { place ≤ length parts.now }
@@ -182,11 +182,11 @@ fn part_at<'a>(parts: &[Part<'a>], last: Part<'a>, place: usize) -> Part<'a>
     }
 }
 
-/// Its components, for the modules of this crate.
+/// Components, for the modules of this crate.
 impl<'a> Selector<'a> {
     ghost use Rattle.simplecss_selector.specs.Shapes.{component_at};
 
-    /// How many components there are.
+    /// Returns the number of components.
     #[inline(always)]
     pub(crate) fn len(&self) -> usize
         ensures { result ≡ length self.now }
@@ -194,7 +194,7 @@ impl<'a> Selector<'a> {
         self.parts.len() + 1
     }
 
-    /// The place of the last component.
+    /// Returns the index of the last component.
     #[inline(always)]
     pub(crate) fn last_place(&self) -> usize
         ensures { result + 1 ≡ length self.now }
@@ -202,8 +202,8 @@ impl<'a> Selector<'a> {
         self.parts.len()
     }
 
-    /// How the component at this place is related to the one before it. The first alone is related
-    /// to none.
+    /// Returns the relation of the component at this index to the one before it. Only the first has
+    /// none.
     #[inline(always)]
     pub(crate) fn combinator(&self, place: usize) -> Combinator
         requires { place < length self.now }
@@ -214,7 +214,7 @@ impl<'a> Selector<'a> {
         part.combinator
     }
 
-    /// The component at this place: its part, and its subselectors.
+    /// Returns the component at this index: its part and its subselectors.
     #[inline(always)]
     pub(crate) fn component(&self, place: usize) -> (Part<'a>, &[SubSelector<'a>])
         requires { place < length self.now }
@@ -239,12 +239,13 @@ impl<'a> Selector<'a> {
     ghost use Rattle.simplecss_text.specs.Skipped.{selector_skips, add_each};
     ghost use Rattle.simplecss_text.specs.PrintingLaws.{SelectorReadsBack};
 
-    /// The selector that a text begins with, or `None` where it is refused (CSS 2.1 section 5).
+    /// Reads the selector at the start of a text, or returns `None` if it is refused (CSS 2.1
+    /// section 5).
     ///
-    /// It ends where the text ends, before `,` or `{`, or before a `/` that opens no comment and
-    /// stands behind a part of a simple selector with no space byte between. It is refused at the
-    /// first error of its tokens, and at a pseudo-class of no known name; the logger is told so. The
-    /// error is that a growth was refused.
+    /// It ends at the end of the text, before `,` or `{`, or before a `/` that opens no comment and
+    /// follows a part of a simple selector with no space byte between. It is refused at the first
+    /// error of its tokens, and at a pseudo-class whose name is not known; the logger gets a
+    /// warning. Fails only if an allocation fails.
     pub fn parse<R: Log>(
         rt: &R,
         alloc: Global,
@@ -258,11 +259,11 @@ impl<'a> Selector<'a> {
         Ok(selector)
     }
 
-    /// The selector that a text begins with, or `None` where it is refused, and the place where
-    /// reading stopped: before what follows the selector, or behind what it was refused for. The
-    /// place counts bytes from the start of the text.
+    /// Reads the selector at the start of a text as `parse` does, and returns it, or `None` if it
+    /// is refused, with the offset where reading stopped: before what follows the selector, or
+    /// after what it was refused for. The offset counts bytes from the start of the text.
     ///
-    /// It reads as `parse` does. The place tells where to read on, as behind a comma.
+    /// A caller continues from that offset, for example after a comma.
     pub fn parse_front<R: Log>(
         rt: &R,
         alloc: Global,
@@ -277,8 +278,8 @@ impl<'a> Selector<'a> {
         read_front(&mut Warnings::new(rt), alloc, text)
     }
 
-    /// The selector that a text begins with, or `None` where it is refused, and the place where
-    /// reading stopped, as by [`Selector::parse_front`].
+    /// Reads the selector at the start of a text, and returns it, or `None` if it is refused, with
+    /// the offset where reading stopped, as [`Selector::parse_front`] does.
     ///
     /// A refused selector is reported, with what a rule set skips with it: the text up to the next
     /// comma if one follows, and else up to the next `{`.
@@ -304,7 +305,7 @@ impl<'a> Selector<'a> {
 impl<'a> Selector<'a> {
     ghost use Rattle.simplecss_selector.specs.Placements.{HasPlacement, longest_stretch};
 
-    /// Whether the selector matches the element, with a count of the tests that were made.
+    /// Whether the selector matches the element. The tests made are counted.
     pub fn matches_counted<E: Element>(&self, element: &E, tests: &mut Tests) -> bool
         ensures answer { IsTrue result ↔ HasPlacement E.tree self.now (E.node element.now) }
         ensures at_least_one { tests.old < tests.new }
@@ -332,7 +333,7 @@ impl<'a> Selector<'a> {
     }
 }
 
-/// What it asks, and copies.
+/// Specificity, keys and copies.
 impl<'a> Selector<'a> {
     ghost use Rattle.std.specs.Prelude.{IfOk};
     ghost use Rattle.simplecss_text.specs.Specificity.{specificity};
@@ -344,9 +345,9 @@ impl<'a> Selector<'a> {
     ghost use Rattle.simplecss_selector.specs.SeenWanted.{wanted_value};
     ghost use Rattle.simplecss_selector.specs.SeenKeys.{key_value};
 
-    /// How specific the selector is: the number of attributes named `id` with any operator, of all
-    /// other attributes and pseudo-classes, and of type names, each 255 where it is greater. An id
-    /// `#x` is such an attribute, and a class `.x` is another.
+    /// Returns the specificity of the selector: the number of attributes named `id` with any
+    /// operator, of all other attributes and pseudo-classes, and of type names, each at most 255.
+    /// An id `#x` is such an attribute, and a class `.x` is another.
     ///
     /// Specificities compare by their first numbers, then by their second ones, then by their third
     /// ones.
@@ -362,16 +363,16 @@ impl<'a> Selector<'a> {
         ]
     }
 
-    /// What the last component asks at least: the first text that it asks the attribute `id` to
-    /// equal, or else the first word that it asks of the attribute `class`, or else its type name,
-    /// or else the name of the first attribute that it asks anything of.
+    /// Returns a condition that the last component includes: the first text that the attribute `id`
+    /// must equal, or else the first word that the attribute `class` must have, or else the type
+    /// name, or else the name of the first attribute that is tested.
     pub fn key(&self) -> Key<'a>
         ensures { key_value result ≡ key_of self.now }
     {
         self.key_at(self.last_place())
     }
 
-    /// What the component at this place asks at least.
+    /// Returns a condition that the component at this index includes.
     pub(crate) fn key_at(&self, place: usize) -> Key<'a>
         requires { place < length self.now }
         ensures { key_value result ≡ compound_key (component_at self.now place).compound }
@@ -392,9 +393,10 @@ impl<'a> Selector<'a> {
         }
     }
 
-    /// What an index finds the selector by: the key of its last component, which the element must
-    /// have. If that is `Key::Any` and a child or an adjacent combinator joins it to the component
-    /// before, the key of that component, which the element's parent or previous sibling must have.
+    /// Returns the key by which an index finds the selector: the key of its last component, which
+    /// the element must have. If that is `Key::Any` and a child or an adjacent combinator joins it
+    /// to the component before, the key of that component, which the element's parent or previous
+    /// sibling must have.
     pub fn wanted(&self) -> Wanted<'a>
         ensures { wanted_value result ≡ wanted_of self.now }
     {
@@ -407,8 +409,8 @@ impl<'a> Selector<'a> {
         wanted_by(key, self.combinator(last), before)
     }
 
-    /// The bits of the key of the component that the combinator of the one at this place leads back
-    /// to, if it leads to an ancestor.
+    /// Returns the bits of the key of the component that the combinator of the one at this index
+    /// leads back to, if it leads to an ancestor.
     fn step_bits(&self, place: usize) -> u64
         requires { place < length self.now }
         ensures { result
@@ -420,8 +422,9 @@ impl<'a> Selector<'a> {
         }
     }
 
-    /// The bits (`Key::bits`) of the keys that an element's ancestors must have for the selector to
-    /// match it: of each component that a child or a descendant combinator leads back to.
+    /// Returns the bits (`Key::bits`) of the keys that an element's ancestors must have for the
+    /// selector to match it: of each component that a child or a descendant combinator leads back
+    /// to.
     pub fn ancestor_bits(&self) -> u64
         ensures { result ≡ ancestor_bits self.now }
     {
@@ -432,7 +435,7 @@ impl<'a> Selector<'a> {
         bits
     }
 
-    /// An equal selector, in memory of the same allocator.
+    /// Returns an equal selector, in memory of the same allocator.
     pub fn clone(&self) -> Result<Self, AllocError>
         ensures { IfOk result (λ copy. copy ≡ self.now) }
     {

@@ -5,21 +5,21 @@ ghost use Rattle.simplecss_selector.specs.SeenSelectors.{subselector_of};
 
 use crate::selector::{Part, SubSelector};
 
-/// How many of the subselectors are attributes named `id`.
+/// Returns the number of subselectors that are attributes named `id`.
 pub(crate) fn id_count(subselectors: &[SubSelector]) -> usize
     ensures { result ≡ count_by (λ s. is_id (subselector_of s)) subselectors.now }
 {
     subselectors.iter().filter(|s| s.is_id()).count()
 }
 
-/// How many of the parts have a type name.
+/// Returns the number of parts with a type name.
 pub(crate) fn name_count(parts: &[Part]) -> usize
     ensures { result ≡ count_by (λ p. is_some p.name) parts.now }
 {
     parts.iter().filter(|p| p.is_named()).count()
 }
 
-/// The count, or 255 where it is greater.
+/// Returns the count, or 255 if it is greater.
 pub(crate) fn at_most_255(count: usize) -> u8
     ensures { result ≡ min 255 count }
 {

@@ -6,24 +6,24 @@ use crate::AttributeOperator;
 pub enum SelectorToken<'a> {
     /// `*`: any type.
     UniversalSelector,
-    /// `name`: the type of that name.
+    /// `name`: the type with that name.
     TypeSelector(&'a str),
     /// `.name`: a class.
     ClassSelector(&'a str),
     /// `#name`: an id.
     IdSelector(&'a str),
-    /// `[name]`, `[name=value]`, `[name~=value]` or `[name|=value]`: an attribute, and what is
-    /// asked of its value.
+    /// `[name]`, `[name=value]`, `[name~=value]` or `[name|=value]`: an attribute, and a condition
+    /// on its value.
     AttributeSelector(&'a str, AttributeOperator<'a>),
     /// `:name`: a pseudo-class other than `:lang`.
     PseudoClass(&'a str),
-    /// `:lang(language)`: a language, without the white space round it.
+    /// `:lang(language)`: a language, without the white space at its ends.
     LangPseudoClass(&'a str),
-    /// A gap with a space byte between two simple selectors: the second is met by some descendant
-    /// of the first.
+    /// A gap with a space byte between two simple selectors: a descendant of an element that
+    /// matches the first matches the second.
     DescendantCombinator,
-    /// `>`: the second is met by a child of the first.
+    /// `>`: a child of an element that matches the first matches the second.
     ChildCombinator,
-    /// `+`: the second is met by the next sibling of the first.
+    /// `+`: the next sibling of an element that matches the first matches the second.
     AdjacentCombinator,
 }

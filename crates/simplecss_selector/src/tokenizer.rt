@@ -24,33 +24,33 @@ use simplecss_text::stream::Stream;
 use simplecss_text::{Error, readers, scan};
 use std::iter::FusedIterator;
 
-/// Where a tokenizer is.
+/// The state of a tokenizer.
 #[derive(Clone, Copy)]
 enum Stage {
-    /// At the start of the text, or behind a combinator.
+    /// At the start of the text, or after a combinator.
     Open,
-    /// Behind a simple piece: `*`, a type name, an id, a class, an attribute or a pseudo-class.
+    /// After a simple piece: `*`, a type name, an id, a class, an attribute or a pseudo-class.
     Closed,
-    /// Behind a first error: that a selector is missing is still to be told.
+    /// After a first error: the error that a selector is missing is still to come.
     Missing,
-    /// Behind the last token or error.
+    /// After the last token or error.
     Ended,
 }
 
-/// The tokens of a selector's text, in order, up to the first error.
+/// An iterator over the tokens of a selector's text, in order, up to the first error.
 ///
-/// They end where the text ends, or before `,` or `{`, or before a `/` that opens no comment and
-/// stands behind a part of a simple selector with no space byte between. Behind an error at most
-/// one more comes, that a selector is missing. No memory is taken.
+/// They end at the end of the text, before `,` or `{`, or before a `/` that opens no comment and
+/// follows a part of a simple selector with no space byte between. At most one more error follows
+/// the first: that a selector is missing. Nothing is allocated.
 #[derive(Drop)]
 pub struct SelectorTokenizer<'a> {
-    /// The text, and the place up to which it was read.
+    /// The text, and the offset up to which it was read.
     stream: Stream<'a>,
-    /// What may come there.
+    /// What may come next.
     stage: Stage,
 }
 
-/// What is asked of an attribute, behind its name.
+/// Consumes the operator and value after an attribute's name.
 #[inline(always)]
 #[tactic(auto, unfolding(simplecss_text::specs::Pieces::attribute_operator))]
 fn attribute_operator<'a>(stream: &mut Stream<'a>) -> Result<AttributeOperator<'a>, Error>
@@ -76,7 +76,7 @@ fn attribute_operator<'a>(stream: &mut Stream<'a>) -> Result<AttributeOperator<'
     })
 }
 
-/// An attribute's name and what is asked of its value, behind the `[`.
+/// Consumes an attribute's name and the condition on its value, after the `[`.
 #[inline(never)]
 #[tactic(auto, unfolding(simplecss_text::specs::Pieces::attribute_after))]
 fn attribute<'a>(stream: &mut Stream<'a>) -> Result<(&'a str, AttributeOperator<'a>), Error>
@@ -91,7 +91,7 @@ fn attribute<'a>(stream: &mut Stream<'a>) -> Result<(&'a str, AttributeOperator<
     Ok((name, operator))
 }
 
-/// The language of a `:lang`, behind that name.
+/// Consumes the language of a `:lang`, after that name.
 #[inline(always)]
 #[tactic(auto, unfolding(simplecss_text::specs::Pieces::lang_after))]
 fn language<'a>(stream: &mut Stream<'a>) -> Result<&'a str, Error>
@@ -108,8 +108,8 @@ fn language<'a>(stream: &mut Stream<'a>) -> Result<&'a str, Error>
     Ok(language)
 }
 
-/// The name of a pseudo-class behind its `:`, or the language of a `:lang`, and whether it is a
-/// language.
+/// Consumes the name of a pseudo-class after its `:`, or the language of a `:lang`, and returns
+/// whether it is a language.
 #[inline(never)]
 #[tactic(auto, unfolding(simplecss_text::specs::Pieces::pseudo_class_after))]
 fn pseudo_class<'a>(stream: &mut Stream<'a>) -> Result<(&'a str, bool), Error>
@@ -126,7 +126,7 @@ fn pseudo_class<'a>(stream: &mut Stream<'a>) -> Result<(&'a str, bool), Error>
     Ok((name, false))
 }
 
-/// Passes all up to the first such byte, or up to the end of the text, and gives it.
+/// Consumes everything up to the first such byte, or up to the end of the text, and returns it.
 #[inline(always)]
 fn text_before<'a>(stream: &mut Stream<'a>, byte: u8) -> &'a str
     requires { byte < 128 }
@@ -142,7 +142,7 @@ fn text_before<'a>(stream: &mut Stream<'a>, byte: u8) -> &'a str
     &text[..len]
 }
 
-/// A child combinator, which the byte has announced.
+/// Consumes the `>` that the caller has seen.
 #[inline(always)]
 #[tactic(auto, unfolding(simplecss_text::specs::Pieces::next_kind))]
 fn child<'a>(stream: &mut Stream<'a>) -> SelectorToken<'a>
@@ -155,7 +155,7 @@ fn child<'a>(stream: &mut Stream<'a>) -> SelectorToken<'a>
     SelectorToken::ChildCombinator
 }
 
-/// An adjacent combinator, which the byte has announced.
+/// Consumes the `+` that the caller has seen.
 #[inline(always)]
 #[tactic(auto, unfolding(simplecss_text::specs::Pieces::next_kind))]
 fn adjacent<'a>(stream: &mut Stream<'a>) -> SelectorToken<'a>
@@ -168,7 +168,7 @@ fn adjacent<'a>(stream: &mut Stream<'a>) -> SelectorToken<'a>
     SelectorToken::AdjacentCombinator
 }
 
-/// The name of an id or a class behind its sign, or of a type.
+/// Consumes the name of an id or a class after its sign, or of a type.
 #[inline(always)]
 #[tactic(auto, unfolding(simplecss_text::specs::Pieces::next_kind, simplecss_text::specs::Pieces::named_token))]
 fn name<'a>(stream: &mut Stream<'a>, follows: NextKind) -> Result<SelectorToken<'a>, Error>
@@ -191,7 +191,7 @@ fn name<'a>(stream: &mut Stream<'a>, follows: NextKind) -> Result<SelectorToken<
     })
 }
 
-/// A simple piece, which the byte has announced.
+/// Consumes a simple piece of the kind that the caller has seen.
 #[inline(always)]
 #[tactic(auto, unfolding(simplecss_text::specs::Pieces::next_kind))]
 fn simple_piece<'a>(stream: &mut Stream<'a>, follows: NextKind) -> Result<SelectorToken<'a>, Error>
@@ -227,7 +227,7 @@ impl<'a> From<&'a str> for SelectorTokenizer<'a> {
 
     ghost from_gives = { λ text t. Begins text.now t };
 
-    /// The tokens of the selector that the text begins with.
+    /// Returns an iterator over the tokens of the selector at the start of the text.
     fn from(text: &'a str) -> SelectorTokenizer<'a> {
         SelectorTokenizer {
             stream: Stream::from(text),
@@ -244,8 +244,8 @@ impl<'a> SelectorTokenizer<'a> {
     ghost use Rattle.simplecss_selector.specs.SelectorTokenizers.{whole_text, place_in, left_of, sequence_in};
     ghost use Rattle.simplecss_selector.specs.SelectorTokenizers.{still_to_come, GivesFirst};
 
-    /// The place up to which the text was read, in bytes from its start. It is at most the text's
-    /// length and stands between two characters.
+    /// Returns the offset up to which the text was read, in bytes from its start. It is at most the
+    /// text's length and is a character boundary.
     #[inline(always)]
     pub fn pos(&self) -> usize
         ensures place { result ≡ place_in self.now }
@@ -255,8 +255,8 @@ impl<'a> SelectorTokenizer<'a> {
         self.stream.pos()
     }
 
-    /// What comes at the start of the text or behind a combinator: the token of a simple piece, or
-    /// an error.
+    /// Returns what comes at the start of the text or after a combinator: the token of a simple
+    /// piece, or an error.
     #[inline(always)]
     fn next_open(&mut self) -> Result<SelectorToken<'a>, Error>
         ensures whole_text { whole_text self.new ≡ whole_text self.old }
@@ -291,7 +291,7 @@ impl<'a> SelectorTokenizer<'a> {
         }
     }
 
-    /// What comes behind a simple piece.
+    /// Returns what comes after a simple piece.
     #[inline(always)]
     fn next_closed(&mut self) -> Option<Result<SelectorToken<'a>, Error>>
         requires { self.old.stage ≡ Stage.Closed }
@@ -336,7 +336,7 @@ impl<'a> SelectorTokenizer<'a> {
         }
     }
 
-    /// What comes directly behind a simple piece: a subselector goes on the simple selector, and
+    /// Returns what directly follows a simple piece: a subselector continues the compound, and
     /// another head is refused.
     #[inline(always)]
     fn next_joined(&mut self, follows: NextKind) -> Result<SelectorToken<'a>, Error>
@@ -368,8 +368,8 @@ impl<'a> SelectorTokenizer<'a> {
     }
 }
 
-/// Where a tokenizer is behind a fault in place of a simple piece: where no head begins, that a
-/// selector is missing is still to be told.
+/// Returns the state after a fault in place of a simple piece: if no head begins, the error that a
+/// selector is missing is still to come.
 #[inline(always)]
 fn after_fault(follows: NextKind) -> Stage
     ensures { result ≡ stage_after_fault follows }
@@ -380,7 +380,7 @@ fn after_fault(follows: NextKind) -> Stage
     }
 }
 
-/// Passes a `/` that opens no comment, and tells it as an error.
+/// Consumes a `/` that opens no comment, and reports it as an error.
 #[cold]
 #[inline(never)]
 fn slash_error(stream: &mut Stream<'_>) -> Error
@@ -405,7 +405,7 @@ impl<'a> Iterator for SelectorTokenizer<'a> {
 
     ghost remaining = { item_count items_left };
 
-    /// The next token or error. Names and values are slices of the text, each behind the one
+    /// Returns the next token or error. Names and values are slices of the text, each after the one
     /// before.
     #[inline(always)]
     fn next(&mut self) -> Option<Result<SelectorToken<'a>, Error>> {

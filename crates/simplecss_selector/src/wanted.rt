@@ -1,4 +1,4 @@
-//! What an index finds a selector by.
+//! The key by which an index finds a selector, and the node that must have it.
 ghost use Rattle.std.specs.Prelude.{◌≡◌, List};
 ghost use Rattle.simplecss_text.specs.Components.{Component};
 ghost use Rattle.simplecss_selector.specs.Placements.{HasPlacement};
@@ -10,7 +10,7 @@ ghost use Rattle.simplecss_selector.specs.Wanted.{wanted_by, wanted_of, HasWante
 use crate::selector::Combinator;
 use crate::{Element, Key, Keyed};
 
-/// What an index finds a selector by: a key, and which node is to have it.
+/// A key by which an index finds a selector, and the node that must have it.
 #[derive(Clone, Copy, Debug, PartialEq)]
 pub enum Wanted<'a> {
     /// The element itself.
@@ -21,7 +21,8 @@ pub enum Wanted<'a> {
     OfPrevious(Key<'a>),
 }
 
-/// The key, or that of the component before where it asks nothing and a step leads there.
+/// Returns the key, or that of the component before if the key is `Any` and a child or adjacent
+/// combinator leads there.
 pub(crate) fn wanted_by<'a>(key: Key<'a>, combinator: Combinator, before: Key<'a>) -> Wanted<'a>
     ensures { wanted_value result
         ≡ wanted_by (key_value key.entry) (combinator_of combinator) (key_value before.entry) }
@@ -36,13 +37,14 @@ pub(crate) fn wanted_by<'a>(key: Key<'a>, combinator: Combinator, before: Key<'a
     }
 }
 
-/// An element that a selector matches has what is wanted, or its parent or previous sibling has.
+/// If a selector matches an element, the node named by its `wanted` has the wanted key: the
+/// element, its parent or its previous sibling.
 pub fn wanted_law<E: Element>()
     ensures { (components : List Component) (n : E.Node)
         → HasPlacement E.tree components n → HasWanted E.tree n (wanted_of components) }
 {}
 
-/// What an element and its neighbours tell has all that is wanted and that they have.
+/// What an element and its neighbours report includes every wanted key that they have.
 pub fn told_near_law<E: Keyed>()
     ensures { (element : E) (near : Near) → IsNear E.tree E.node E.told element near
         → TellsWanted E.tree (E.node element) near }

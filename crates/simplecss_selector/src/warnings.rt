@@ -1,4 +1,4 @@
-//! A logger as a reporter of what is skipped.
+//! A logger as a reporter of skipped text.
 use log::{Log, warn};
 use simplecss_text::report::{Refusal, Report, Skipped, Why};
 use std::alloc::AllocError;
@@ -11,7 +11,7 @@ pub struct Warnings<'r, R: Log> {
 }
 
 impl<'r, R: Log> Warnings<'r, R> {
-    /// A reporter to this logger.
+    /// Returns a reporter to this logger.
     #[inline(always)]
     pub fn new(rt: &'r R) -> Self {
         Warnings { rt }
