@@ -1,4 +1,4 @@
--- What is still to come from a tokenizer of declarations.
+-- What a tokenizer of declarations is still to yield.
 use Rattle.std.specs.Prelude.{◌≡◌, ℕ, ◌≤◌, List, [], ◌∷◌, length, Option, None, Some}
 use Rattle.std.specs.Iterator.{YieldsFirstBy}
 use Rattle.std.specs.Iterator.Runs.{EveryRun, ItemsMapTo}
@@ -14,7 +14,7 @@ use Rattle.simplecss_declaration.specs.SeenDeclarations.{declaration_of}
 abbrev pub whole_text : DeclarationTokenizer → List ℕ
 whole_text t = text_of t.stream
 
--- how many bytes of it reading has passed
+-- how many bytes of it have been read
 abbrev pub place_in : DeclarationTokenizer → ℕ
 place_in t = place_of t.stream
 
@@ -26,34 +26,34 @@ left_of t = rest_of t.stream
 abbrev pub still_to_come : DeclarationTokenizer → List StyleDeclaration
 still_to_come t = declarations this_edition (left_of t)
 
--- A call read the declaration at the front of a text and left `left`, or there was none, and then
+-- A call read the declaration at the start of a text and left `left`, or there was none, and then
 -- nothing is left.
 abbrev pub GivesNext : List ℕ → Option Declaration → (left : List ℕ) → Type 0
 GivesNext text None left = (next_declaration this_edition text ≡ None) × (left ≡ [])
 GivesNext text (Some d) left = next_declaration this_edition text ≡ Some (declaration_of d, left)
 
--- the name and the value of a declaration, if one is given
+-- the name and the value of a declaration, if one is returned
 abbrev pub given_texts : Option Declaration → List (List ℕ)
 given_texts None = []
 given_texts (Some d) = d.name.now ∷ d.value.now ∷ []
 
--- A call of `next` on the tokenizer `before` gave `result` and left the tokenizer `after`.
+-- A call of `next` on the tokenizer `before` returned `result` and left the tokenizer `after`.
 pub record GivesDeclaration (before : DeclarationTokenizer) (result : Option Declaration)
     (after : DeclarationTokenizer) : Type 0 where
   -- the first of the declarations that were to come, and the others still are; or none was to
   -- come, and none is
   pub items : YieldsFirstBy declaration_of still_to_come before result after
-  -- the text stays
+  -- the text is unchanged
   pub text : whole_text after ≡ whole_text before
-  -- it was read off the front of what was left
+  -- it was read from the start of the rest
   pub reads : GivesNext (left_of before) result (left_of after)
-  -- its name and its value stand in what was passed
+  -- its name and its value occur in what was consumed
   pub slices : StandBetween (left_of before) (left_of after) (given_texts result)
-  -- the place does not fall
+  -- the offset does not fall
   pub forward : place_in before ≤ place_in after
 
--- What calls of `next` give, from any tokenizer on, is the front of the declarations that are
--- still to come there, and all of them where the calls went on to `None`.
+-- What calls of `next` return, from any tokenizer on, is a prefix of the declarations that are
+-- still to come there, and all of them if the calls continued to `None`.
 abbrev pub GivesInTurn : Type 0
 GivesInTurn = EveryRun GivesDeclaration (λ calls. ItemsMapTo calls declaration_of (still_to_come calls.from))
 

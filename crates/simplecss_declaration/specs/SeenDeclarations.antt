@@ -1,4 +1,4 @@
--- What contracts see of declarations: the bytes of their texts, wherever they lie.
+-- What contracts see of declarations: the bytes of their texts, wherever these are stored.
 use Rattle.std.specs.Prelude.{List, map}
 use Rattle.simplecss_text.specs.Declarations.{StyleDeclaration}
 use Rattle.simplecss_declaration.specs.declared.declarations.Declaration.{Declaration}
@@ -6,6 +6,6 @@ use Rattle.simplecss_declaration.specs.declared.declarations.Declaration.{Declar
 abbrev pub declaration_of : Declaration → StyleDeclaration
 declaration_of d = record { name = d.name.now; value = d.value.now; important = d.important }
 
--- what each declaration of a list says, in turn
+-- what contracts see of each declaration of a list, in order
 abbrev pub declarations_of : List Declaration → List StyleDeclaration
 declarations_of declarations = map declaration_of declarations

@@ -1,4 +1,4 @@
-//! Blocks of declarations, and what of a style sheet is passed up to a block and with it.
+//! Blocks of declarations, and what is skipped before and with a block in a style sheet.
 ghost use Rattle.std.specs.Prelude.{◌≡◌, ◌+◌, ◌<◌, ◌^◌, MatchResult, OnOk, IfOk, length, map, option_map};
 ghost use Rattle.std.specs.Str.{IsCharBoundary};
 ghost use Rattle.simplecss_text.specs.Reading.{each};
@@ -22,11 +22,11 @@ use simplecss_text::stream::Stream;
 use simplecss_text::{readers, scan};
 use std::alloc::AllocError;
 
-/// How many bytes are tested at once.
+/// The number of bytes that are tested at once.
 const CHUNK: usize = 32;
 
-/// How many opening and how many closing braces there are. Bytes are enough for these numbers, and
-/// they are added up many at once.
+/// Returns the numbers of opening and closing braces. A byte is enough for each, and many are added
+/// at once.
 #[inline(always)]
 fn brace_counts(chunk: &[u8; CHUNK]) -> (usize, usize)
     ensures opening { result.0 ≡ count_of open_brace chunk.now }
@@ -41,9 +41,9 @@ fn brace_counts(chunk: &[u8; CHUNK]) -> (usize, usize)
     (usize::from(opening), usize::from(closing))
 }
 
-/// Where the first closing brace stands that ends neither a block that begins in these bytes nor
-/// one of the `depth` blocks that are open before them. If there is none, the `Err` says how many
-/// blocks are open behind them.
+/// Returns the offset of the first closing brace that ends neither a block that begins in these
+/// bytes nor one of the `depth` blocks that are open before them. If there is none, the `Err` is
+/// the number of blocks that are open after them.
 fn outer_brace(bytes: &[u8], depth: usize) -> Result<usize, usize>
     requires { depth + length bytes.now < 2 ^ 64 }
     ensures { MatchResult result (ClosesFirst depth bytes.now) (ClosesNowhere depth bytes.now) }
@@ -60,9 +60,9 @@ fn outer_brace(bytes: &[u8], depth: usize) -> Result<usize, usize>
     Err(open)
 }
 
-/// Where the brace stands in a chunk that closes the block, or how many blocks are open behind the
-/// chunk. It is gone through byte by byte only if it has more closing braces than
-/// blocks are open before it.
+/// Returns the offset in a chunk of the brace that closes the block, or the number of blocks that
+/// are open after the chunk. A chunk is examined byte by byte only if it has more closing braces
+/// than blocks are open before it.
 #[inline(always)]
 fn outer_brace_of_chunk(chunk: &[u8; CHUNK], depth: usize) -> Result<usize, usize>
     requires { depth + CHUNK < 2 ^ 64 }
@@ -75,7 +75,7 @@ fn outer_brace_of_chunk(chunk: &[u8; CHUNK], depth: usize) -> Result<usize, usiz
     Err(depth + opening - closing)
 }
 
-/// Where the block ends that the bytes are in.
+/// Returns the offset at which the current block ends.
 fn closing_place(bytes: &[u8]) -> usize
     ensures { result ≡ block_end_of bytes.now }
 {
@@ -94,9 +94,9 @@ fn closing_place(bytes: &[u8]) -> usize
     }
 }
 
-/// How many bytes stand before the end of the block that the text is in: before the first closing
-/// brace that has as many opening as closing ones before it, or all. Quotes and comments are not
-/// looked at.
+/// Returns the number of bytes before the end of the current block: before the first closing brace
+/// that has as many opening as closing ones before it, or all bytes. Quotes and comments are not
+/// considered.
 #[tactic(auto, using(crate::proofs::BlockLemmas::boundary_at_block_end))]
 fn block_end(text: &str) -> usize
     ensures len { result ≡ block_end_of text.now }
@@ -105,7 +105,7 @@ fn block_end(text: &str) -> usize
     closing_place(text.as_bytes())
 }
 
-/// Passes the rest of the block that the place is in, up to the closing brace that ends it.
+/// Skips the rest of the current block, up to the closing brace that ends it.
 fn pass_to_block_end(s: &mut Stream<'_>)
     ensures text { text_of s.new ≡ text_of s.old }
     ensures rest { rest_of s.new ≡ from_block_end (rest_of s.old) }
@@ -113,7 +113,7 @@ fn pass_to_block_end(s: &mut Stream<'_>)
     s.advance(block_end(s.slice_tail()));
 }
 
-/// Passes the rest of the block that the place is in, and the closing brace that ends it.
+/// Skips the rest of the current block, and the closing brace that ends it.
 fn pass_block(s: &mut Stream<'_>)
     ensures text { text_of s.new ≡ text_of s.old }
     ensures rest { rest_of s.new ≡ past_byte close_brace (from_block_end (rest_of s.old)) }
@@ -122,15 +122,15 @@ fn pass_block(s: &mut Stream<'_>)
     s.try_consume_byte(b'}');
 }
 
-/// Whether a list of declarations ends at the front of the text.
+/// Whether a list of declarations ends at the start of the text.
 fn ends_list_at(text: &str) -> bool
     ensures { result ≡ ends_list text.now }
 {
     at_list_end(&Stream::new(text))
 }
 
-/// Reports what follows the declarations of a block, up to where the block ends: nothing where the
-/// block or the text ends, a comment that is not closed, or a declaration that is broken.
+/// Reports what follows the declarations of a block, up to the end of the block: nothing if the
+/// block or the text ends, an open comment, or a broken declaration.
 fn report_list_end<'a, P: Report<'a>>(
     report: &mut P,
     text: &'a str,
@@ -191,7 +191,7 @@ fn skip_broken<'a, P: Report<'a>>(
     skip_brace(report, s)
 }
 
-/// Whether a list of declarations ends here: at a closing brace and at the end of the text.
+/// Whether a list of declarations ends at the cursor: at a closing brace or at the end of the text.
 #[inline(always)]
 fn at_list_end(s: &Stream<'_>) -> bool
     ensures { result ≡ ends_list (rest_of s.now) }
@@ -202,9 +202,8 @@ fn at_list_end(s: &Stream<'_>) -> bool
     }
 }
 
-/// Reads the declarations of a block into the list, in the place of those that it held. A broken
-/// one ends them; the text from where it begins is returned, and the place is where reading it
-/// stopped.
+/// Reads the declarations of a block into the list, in place of those that it held. A broken one
+/// ends them; the text from its start is returned, and the cursor is where reading it stopped.
 fn consume_declarations<'a>(
     s: &mut Stream<'a>,
     declarations: &mut Vec<Declaration<'a>>,
@@ -227,9 +226,9 @@ fn consume_declarations<'a>(
     Ok(None)
 }
 
-/// Reads a block behind its opening brace, and passes one closing brace that stands directly behind
-/// its declarations. So a block that a broken declaration ended takes a further one. The list then
-/// holds the block's declarations alone. What is skipped is reported.
+/// Reads a block after its opening brace, and consumes one closing brace that directly follows its
+/// declarations. So a block that a broken declaration ended consumes a further one. The list then
+/// holds only the block's declarations. What is skipped is reported.
 #[inline(always)]
 fn consume_block<'a, P: Report<'a>>(
     report: &mut P,
@@ -255,9 +254,9 @@ fn consume_block<'a, P: Report<'a>>(
     }
 }
 
-/// Reads the declarations of the block that the next opening brace begins into the list, in the
-/// place of those that it held. Without such a brace there are none, and the text is used up. What
-/// the block skips is reported.
+/// Reads the declarations of the block that the next opening brace begins into the list, in place
+/// of those that it held. Without such a brace there are none, and nothing is left. What the block
+/// skips is reported.
 pub fn consume_next_block<'a, P: Report<'a>>(
     report: &mut P,
     s: &mut Stream<'a>,
@@ -282,7 +281,7 @@ pub fn consume_next_block<'a, P: Report<'a>>(
     }
 }
 
-/// Passes what an at-rule has behind its name: up to a semicolon, and it, or up to a block, and that.
+/// Skips the rest of an at-rule after its name: up to and including a semicolon or a block.
 pub fn pass_semicolon_or_block(s: &mut Stream<'_>)
     ensures text { text_of s.new ≡ text_of s.old }
     ensures rest { rest_of s.new

@@ -1,5 +1,5 @@
-//! Declarations of CSS 2.1, their tokenizer, and the blocks that they stand in. Users depend on the
-//! crate `simplecss`, which gives declarations and tokenizer on.
+//! Declarations of CSS 2.1, their tokenizer, and the blocks that contain them. Users depend on the
+//! crate `simplecss`, which re-exports declarations and tokenizer.
 #![tactic(auto)]
 
 mod blocks;

@@ -1,4 +1,4 @@
-//! The printed text of a declaration.
+//! Prints a declaration.
 ghost use Rattle.std.specs.Prelude.{◌++◌, ◌≡◌, codes};
 ghost use Rattle.std.specs.Fmt.{WritesStyledOnOk};
 ghost use Rattle.simplecss_text.specs.Printing.{important_text};
@@ -7,8 +7,8 @@ use crate::Declaration;
 use std::fmt;
 use std::fmt::Display;
 
-/// Prints the name, a colon, the value, ` !important` if it is, and a semicolon, as the declaration
-/// stands in a printed sheet. Width, fill and flags of the formatter change nothing.
+/// Prints the name, a colon, the value, ` !important` if it is, and a semicolon, as in a printed
+/// sheet. The formatter's width, fill and flags change nothing.
 impl<'a> Display for Declaration<'a> {
     ghost use Rattle.std.specs.Prelude.{Some};
     ghost use Rattle.simplecss_text.specs.Printing.{declaration_text};
@@ -35,7 +35,7 @@ fn write_stated<W: fmt::Write>(f: &mut fmt::Formatter<W>, name: &str, value: &st
     f.write_str(value)
 }
 
-/// What stands behind an important value.
+/// Returns what follows an important value.
 fn important_mark(important: bool) -> &'static str
     ensures { result.now ≡ important_text important }
 {

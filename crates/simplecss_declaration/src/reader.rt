@@ -1,4 +1,4 @@
-//! Declarations, read from a cursor without telling an error.
+//! Reads declarations from a cursor, without reporting errors.
 ghost use Rattle.std.specs.Prelude.{◌≡◌, [], ◌∷◌, IfSome};
 ghost use Rattle.simplecss_text.specs.Reading.{got, each};
 ghost use Rattle.simplecss_text.specs.AsciiBytes.{colon};
@@ -18,7 +18,7 @@ use super::terms::pass_term;
 use simplecss_text::stream::Stream;
 use simplecss_text::{readers, scan};
 
-/// Passes a blank up to a comment that is not closed, if one stands there.
+/// Skips a blank, up to an open comment if there is one.
 #[inline(always)]
 fn pass_gap(s: &mut Stream<'_>)
     ensures text { text_of s.new ≡ text_of s.old }
@@ -27,8 +27,8 @@ fn pass_gap(s: &mut Stream<'_>)
     s.advance(scan::find_gap(s.slice_tail()).len);
 }
 
-/// Passes the terms of a value, and gives what stands from the first to the end of the last,
-/// trimmed. Behind it the first term that could not be read was passed as far as it goes.
+/// Consumes the terms of a value, and returns the text from the first to the end of the last,
+/// trimmed. The first term that could not be read is consumed too, as far as it was read.
 #[inline(always)]
 fn take_value<'a>(s: &mut Stream<'a>) -> &'a str
     ensures text { text_of s.new ≡ text_of s.old }
@@ -44,7 +44,7 @@ fn take_value<'a>(s: &mut Stream<'a>) -> &'a str
     start[..start.len() - end.len()].trim()
 }
 
-/// Passes the word `important`, if the text begins with it, and says whether it does.
+/// Consumes the word `important`, if the text begins with it, and returns whether it did.
 #[inline(always)]
 fn pass_important(s: &mut Stream<'_>) -> bool
     ensures text { text_of s.new ≡ text_of s.old }
@@ -57,8 +57,8 @@ fn pass_important(s: &mut Stream<'_>) -> bool
     stands
 }
 
-/// Passes an exclamation mark with a blank and the word `important` behind it, as far as they stand
-/// there, and says whether the word does.
+/// Consumes an exclamation mark and after it a blank and the word `important`, as far as they are
+/// there, and returns whether the word was.
 #[inline(always)]
 fn take_importance(s: &mut Stream<'_>) -> Option<bool>
     ensures text { text_of s.new ≡ text_of s.old }
@@ -74,7 +74,7 @@ fn take_importance(s: &mut Stream<'_>) -> Option<bool>
     Some(pass_important(s))
 }
 
-/// Passes any number of semicolons, each with the blank behind it.
+/// Skips any number of semicolons, each with the blank after it.
 #[inline(always)]
 fn pass_semicolons(s: &mut Stream<'_>)
     ensures text { text_of s.new ≡ text_of s.old }
@@ -85,7 +85,7 @@ fn pass_semicolons(s: &mut Stream<'_>)
     }
 }
 
-/// Passes what stands behind a value, up to the next declaration, and says whether the value is
+/// Consumes what follows a value, up to the next declaration, and returns whether the value is
 /// important.
 #[inline(always)]
 fn take_trailing(s: &mut Stream<'_>) -> Option<bool>
@@ -107,7 +107,7 @@ fn take_trailing(s: &mut Stream<'_>) -> Option<bool>
     Some(important)
 }
 
-/// Passes a colon, if it stands there, and says whether it does.
+/// Consumes a colon, if it is next, and returns whether it was.
 #[inline(always)]
 fn pass_colon(s: &mut Stream<'_>) -> bool
     ensures text { text_of s.new ≡ text_of s.old }
@@ -116,8 +116,8 @@ fn pass_colon(s: &mut Stream<'_>) -> bool
     readers::pass_byte(s, b':')
 }
 
-/// Reads a declaration: a name, a colon, a value, and what stands behind it up to the next
-/// declaration. Where there is none, the place is where reading stopped.
+/// Reads a declaration: a name, a colon, a value, and what follows it up to the next declaration.
+/// If there is none, the cursor is where reading stopped.
 #[inline(always)]
 pub fn consume_declaration<'a>(s: &mut Stream<'a>) -> Option<Declaration<'a>>
     ensures text { text_of s.new ≡ text_of s.old }

@@ -12,7 +12,7 @@ ghost use Rattle.simplecss_declaration.specs.UntoldFaults.{Passes};
 use simplecss_text::stream::Stream;
 use simplecss_text::{readers, scan};
 
-/// Passes the digits that stand there.
+/// Skips digits.
 #[inline(always)]
 fn pass_digits(s: &mut Stream<'_>)
     ensures text { text_of s.new ≡ text_of s.old }
@@ -21,7 +21,7 @@ fn pass_digits(s: &mut Stream<'_>)
     s.skip_bytes(|byte| byte.is_ascii_digit());
 }
 
-/// Passes the hexadecimal digits that stand there.
+/// Skips hexadecimal digits.
 #[inline(always)]
 fn pass_hex_digits(s: &mut Stream<'_>)
     ensures text { text_of s.new ≡ text_of s.old }
@@ -30,7 +30,7 @@ fn pass_hex_digits(s: &mut Stream<'_>)
     s.skip_bytes(|byte| byte.is_ascii_hexdigit());
 }
 
-/// Passes a hash behind its number sign: a name, or where none stands hexadecimal digits.
+/// Skips a hash after its number sign: a name, or if there is none, hexadecimal digits.
 #[inline(always)]
 fn pass_hash(s: &mut Stream<'_>)
     ensures text { text_of s.new ≡ text_of s.old }
@@ -41,7 +41,7 @@ fn pass_hash(s: &mut Stream<'_>)
     }
 }
 
-/// Passes a number behind its first byte: digits, a point and digits, and a percent sign or a unit.
+/// Skips a number after its first byte: digits, a point and digits, and a percent sign or a unit.
 #[inline(always)]
 fn pass_number(s: &mut Stream<'_>)
     ensures text { text_of s.new ≡ text_of s.old }
@@ -56,7 +56,7 @@ fn pass_number(s: &mut Stream<'_>)
     }
 }
 
-/// Passes all up to the first closing parenthesis, and it. Without one the text is used up.
+/// Skips everything up to and including the first closing parenthesis. Without one nothing is left.
 #[inline(always)]
 fn pass_arguments(s: &mut Stream<'_>) -> bool
     ensures text { text_of s.new ≡ text_of s.old }
@@ -75,7 +75,7 @@ fn pass_arguments(s: &mut Stream<'_>) -> bool
     }
 }
 
-/// Passes a name, and where a parenthesis follows directly, the arguments of the function.
+/// Skips a name, and if a parenthesis follows directly, the arguments of the function.
 #[inline(always)]
 fn pass_word(s: &mut Stream<'_>) -> bool
     ensures text { text_of s.new ≡ text_of s.old }
@@ -90,8 +90,8 @@ fn pass_word(s: &mut Stream<'_>) -> bool
     true
 }
 
-/// Passes a term: a hash, a number, a string, a comma, a slash that opens no comment, a name or a
-/// function. Says whether one stood there.
+/// Skips a term: a hash, a number, a string, a comma, a slash that opens no comment, a name or a
+/// function. Returns whether there was one.
 #[inline(always)]
 pub fn pass_term(s: &mut Stream<'_>) -> bool
     ensures text { text_of s.new ≡ text_of s.old }

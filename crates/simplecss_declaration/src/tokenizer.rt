@@ -4,12 +4,12 @@ use super::reader::consume_declaration;
 use simplecss_text::stream::Stream;
 use std::iter::FusedIterator;
 
-/// The declarations of a text, as that of a block or of a `style` attribute, in order, up to the
-/// first that is broken. After them it gives `None` for ever, and does not tell what is wrong with
-/// the broken one. No memory is taken.
+/// An iterator over the declarations of a text, such as that of a block or of a `style` attribute,
+/// in order, up to the first that is broken. After them it always returns `None`, and does not
+/// report what is wrong with the broken one. Nothing is allocated.
 #[derive(Drop)]
 pub struct DeclarationTokenizer<'a> {
-    /// The text, and the place up to which it was read.
+    /// The text, and the offset up to which it was read.
     stream: Stream<'a>,
 }
 
@@ -18,7 +18,7 @@ impl<'a> From<&'a str> for DeclarationTokenizer<'a> {
 
     ghost from_gives = { λ text t. Begins text.now t };
 
-    /// The tokenizer at the text's start.
+    /// Returns an iterator over the text's declarations.
     fn from(text: &'a str) -> DeclarationTokenizer<'a> {
         DeclarationTokenizer {
             stream: Stream::new(text),
@@ -31,8 +31,8 @@ impl<'a> DeclarationTokenizer<'a> {
     ghost use Rattle.std.specs.Str.{IsCharBoundary};
     ghost use Rattle.simplecss_declaration.specs.DeclarationTokenizers.{whole_text, place_in, left_of};
 
-    /// The place up to which the text was read, in bytes from its start. It is at most the text's
-    /// length and stands between two characters.
+    /// Returns the offset up to which the text was read, in bytes from its start. It is at most the
+    /// text's length and is a character boundary.
     #[inline(always)]
     pub fn pos(&self) -> usize
         ensures place { result ≡ place_in self.now }
@@ -53,7 +53,7 @@ impl<'a> Iterator for DeclarationTokenizer<'a> {
 
     ghost remaining = { item_count still_to_come };
 
-    /// The next declaration. Its name and value are slices of what the call passes.
+    /// Returns the next declaration. Its name and value are slices of what the call consumes.
     #[inline(always)]
     fn next(&mut self) -> Option<Declaration<'a>> {
         match consume_declaration(&mut self.stream) {
