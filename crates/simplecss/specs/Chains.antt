@@ -14,13 +14,13 @@ use Rattle.simplecss.specs.declared.index.link.Link.{Link}
 abbrev pub selectors_of : List Link → List (List Component)
 selectors_of links = map (λ link. link.selector.value) links
 
--- this is the last place before the end whose selector has the key, or there is none
+-- this is the last index before the end whose selector has the key, or there is none
 abbrev pub IsLastBefore : List (List Component) → ℕ → Wanted → Option ℕ → Type 0
 IsLastBefore selectors end key None = (place : ℕ) → place < end → key_at selectors place ≡ key → ⊥
 IsLastBefore selectors end key (Some last) =
     (last < end) × (key_at selectors last ≡ key) × ((place : ℕ) → last < place → place < end → key_at selectors place ≡ key → ⊥)
 
--- where a link leads to
+-- the link before the one at an index
 abbrev pub earlier_at : List Link → ℕ → Option ℕ
 earlier_at links place = option_map_or (λ link. link.earlier) (slice_get links place) None
 

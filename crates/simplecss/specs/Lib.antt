@@ -7,7 +7,7 @@ pub mod Matching
 pub mod Chains
 pub mod Lasts
 pub mod WantedLasts
--- What contracts of the crates below speak of, under the names of this crate.
+-- What contracts of the crates below name, under the names of this crate.
 pub use Rattle.simplecss_declaration.specs.UntoldFaults
 pub use Rattle.simplecss_declaration.specs.DeclarationTokenizers
 pub use Rattle.simplecss_declaration.specs.SeenDeclarations

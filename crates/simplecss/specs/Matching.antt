@@ -8,32 +8,32 @@ use Rattle.simplecss_selector.specs.Placements.{HasPlacement, longest_stretch}
 use Rattle.simplecss_selector.specs.Trees.{Tree}
 use Rattle.simplecss.specs.SelectorPlaces.{selector_at, key_at, AreThePlaces}
 
--- the places are in order, and are exactly those of the selectors that have a placement on the
+-- the indices are in order, and are exactly those of the selectors that have a placement on the
 -- element
 abbrev pub AreMatches : {Node : Type 0} → Tree Node → Node → List (List Component) → List ℕ → Type 0
 AreMatches tree element selectors =
     AreThePlaces (λ place. HasPlacement tree (selector_at selectors place) element) (length selectors)
 
--- the places are in order, and are exactly those of the selectors whose key is told
+-- the indices are in order, and are exactly those of the selectors whose key is reported
 abbrev pub AreKeyed : Near → List (List Component) → List ℕ → Type 0
 AreKeyed told selectors =
     AreThePlaces (λ place. IsTrue (tells_wanted told (key_at selectors place))) (length selectors)
 
--- whether the bits of the ancestors cover those that the selector wants of them
+-- whether the bits of the ancestors cover those that the selector requires of them
 abbrev pub is_covered : ℕ → List Component → Bool
 is_covered above selector = covers above (ancestor_bits selector)
 
--- whether the selector is tested: its key is told, and the bits cover those of its ancestors
+-- whether the selector is tested: its key is reported, and the bits cover those of its ancestors
 abbrev pub is_tested : Near → ℕ → List Component → Bool
 is_tested told above selector = tells_wanted told (wanted_of selector) && is_covered above selector
 
--- the places are in order, and are exactly those of the selectors that are tested
+-- the indices are in order, and are exactly those of the selectors that are tested
 abbrev pub AreCandidates : Near → ℕ → List (List Component) → List ℕ → Type 0
 AreCandidates told above selectors =
     AreThePlaces (λ place. IsTrue (is_tested told above (selector_at selectors place))) (length selectors)
 
--- the most tests that asking whether a selector matches takes: for the element and each of its
--- ancestors one for each component of the longest stretch that child and adjacent steps join
+-- the greatest number of tests to decide whether a selector matches: for the element and each of
+-- its ancestors one for each component of the longest stretch
 abbrev pub most_tests : {Node : Type 0} → Tree Node → Node → List Component → ℕ
 most_tests tree element selector = longest_stretch selector * (tree.depth element + 1)
 
@@ -41,11 +41,11 @@ most_tests tree element selector = longest_stretch selector * (tree.depth elemen
 abbrev pub tested_for : Near → ℕ → List (List Component) → List (List Component)
 tested_for told above selectors = filter (is_tested told above) selectors
 
--- the answers tell of each selector whether it has a placement on the element
+-- for each selector, whether it has a placement on the element
 abbrev pub AreAnswers : {Node : Type 0} → Tree Node → Node → List (List Component) → List Bool → Type 0
 AreAnswers tree element selectors answers =
     AllZip (λ answer selector. (answer ≡ true) ↔ HasPlacement tree selector element) answers selectors
 
--- the places with a yes
+-- the indices of the answers that are true
 abbrev pub places_with_yes : List Bool → List ℕ
 places_with_yes answers = items_where_true answers (range_with_len 0 (length answers))

@@ -1,4 +1,4 @@
--- What the place of a rule in a sheet means: where the rule stands in the source.
+-- Rules in an ordered sheet and their indices in the source.
 use Rattle.std.specs.Prelude.{◌≡◌, ◌⊎◌, ℕ, ◌<◌, List, Some, true}
 use Rattle.std.specs.List.{slice_get}
 use Rattle.simplecss_text.specs.Ranks.{rank_by}
@@ -6,15 +6,14 @@ use Rattle.simplecss_text.specs.Specificity.{specificity}
 use Rattle.simplecss_text.specs.Statements.{StyleRule}
 use Rattle.simplecss_text.specs.Sheets.{is_smaller}
 
--- The rule stands at this place of the source, and its place in the ordered list is the rank that
--- it has there.
+-- The rule has this index in the source, and its index in the ordered list is its rank there.
 pub record IsFrom (source : List StyleRule) (i : ℕ) (a : StyleRule) : Type 0 where
   pub place : ℕ
   pub stands : slice_get source place ≡ Some a
   pub ranked : rank_by is_smaller source place a ≡ i
 
--- Two rules, at places i and j, of which the first has a smaller specificity, or an equal one and
--- stands earlier in the source.
+-- Two rules, at indices `i` and `j`, of which the first has a smaller specificity, or an equal one
+-- and is earlier in the source.
 pub record ComesBefore (source : List StyleRule) (i j : ℕ) (a b : StyleRule) : Type 0 where
   pub first : IsFrom source i a
   pub second : IsFrom source j b

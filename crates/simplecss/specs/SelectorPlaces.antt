@@ -1,23 +1,25 @@
--- Places in a list of selectors.
+-- Indices in a list of selectors.
 use Rattle.std.specs.Prelude.{◌≡◌, ℕ, ◌<◌, ◌↔◌, List, [], ◌++◌, slice_index_or, Contains}
 use Rattle.std.specs.List.Sorted.{IsStrictlyIncreasing}
 use Rattle.simplecss_text.specs.Components.{Component}
 use Rattle.simplecss_selector.specs.Wanted.{Wanted, wanted_of}
 
--- the selector at a place
+-- the selector at an index
 abbrev pub selector_at : List (List Component) → ℕ → List Component
 selector_at selectors place = slice_index_or selectors place []
 
--- the key of the selector at a place
+-- the key of the selector at an index
 abbrev pub key_at : List (List Component) → ℕ → Wanted
 key_at selectors place = wanted_of (selector_at selectors place)
 
--- the places are in order, each once, and are exactly those below the number that are as wanted
+-- the indices are in order, each once, and are exactly those below the number for which `IsWanted`
+-- is true
 pub record AreThePlaces (IsWanted : ℕ → Type 0) (number : ℕ) (places : List ℕ) : Type 0 where
   pub ascending : IsStrictlyIncreasing places
   pub exactly : (place : ℕ) → Contains places place ↔ ((place < number) × IsWanted place)
 
--- some places were appended, in any order and number, and they are those that are as wanted
+-- some indices were appended, in any order and number, and they are those for which the test is
+-- true
 abbrev pub Adds : List ℕ → List ℕ → (ℕ → Type 0) → Type 0
 Adds old new IsWanted =
     (more : List ℕ) × (new ≡ old ++ more) × ((place : ℕ) → Contains more place ↔ IsWanted place)

@@ -1,4 +1,4 @@
--- Where the statements of a style sheet stand in its text.
+-- The offsets of statements in the text of a style sheet.
 use Rattle.std.specs.Prelude.{◌≡◌, ℕ, ◌<◌, ◌≤◌, List, length, drop, Some}
 use Rattle.std.specs.Str.{IsCharBoundary}
 use Rattle.simplecss_text.specs.Comments.{past_blank}
@@ -7,8 +7,8 @@ use Rattle.simplecss_text.specs.ThisEdition.{this_edition}
 use Rattle.simplecss.specs.declared.sheet.statement_reader.Statement.{Statement}
 use Rattle.simplecss.specs.SeenRules.{rules_of}
 
--- The statement is the one that stands next behind a place of the text: it begins behind the blank
--- there, gives the rules of the grammar, and what is left behind it is what the grammar leaves.
+-- The statement is the next one after an offset of the text: it begins after the blank there, has
+-- the rules of the grammar, and the rest after it is the grammar's.
 pub record StandsNext (text : List ℕ) (place : ℕ) (statement : Statement) : Type 0 where
   pub start : drop statement.start text ≡ past_blank (drop place text)
   pub reads : next_statement this_edition (drop place text)

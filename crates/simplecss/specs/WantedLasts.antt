@@ -1,4 +1,4 @@
--- The last place that each selector's key has, on the element, its parent or its previous sibling.
+-- The last index for each selector's key, on the element, its parent or its previous sibling.
 use Rattle.std.specs.Prelude.{◌≡◌, ◌⊎◌, ℕ, Option, None, Some, IsTrue}
 use Rattle.simplecss_selector.specs.Keys.{Told}
 use Rattle.simplecss_selector.specs.Wanted.{Wanted, Near, tells_wanted}
@@ -7,24 +7,24 @@ use Rattle.simplecss.specs.Lasts.{last_for, KeyLeads}
 use Rattle.simplecss.specs.declared.index.lasts.Lasts.{Lasts}
 use Rattle.simplecss.specs.declared.index.wanted_lasts.WantedLasts.{WantedLasts}
 
--- the last place of what is wanted, if it has one
+-- the last index for a wanted key, if it has one
 abbrev pub last_wanted : WantedLasts → Wanted → Option ℕ
 last_wanted lasts (of_element key) = last_for lasts.own key
 last_wanted lasts (of_parent key) = last_for lasts.parent key
 last_wanted lasts (of_previous key) = last_for lasts.previous key
 
--- the place is now the last of what is wanted, and all else has the one that it had
+-- the index is now the last for the wanted key, and every other key has its last index unchanged
 abbrev pub TakesWanted : WantedLasts → WantedLasts → Wanted → ℕ → Type 0
 TakesWanted old new wanted place = (other : Wanted)
     → ((wanted ≡ other) × (last_wanted new other ≡ Some place))
     ⊎ ((wanted ≡ other → ⊥) × (last_wanted new other ≡ last_wanted old other))
 
--- a key that a neighbour tells, if it is there, leads to the place
+-- a key that a neighbour reports, if there is one, leads to the index
 abbrev pub NeighbourLeads : Lasts → Option Told → ℕ → Type 0
 NeighbourLeads lasts None place = ⊥
 NeighbourLeads lasts (Some told) place = KeyLeads told lasts place
 
--- what is wanted and told leads to the place
+-- a wanted key that is reported leads to the index
 abbrev pub WantedLeads : Near → WantedLasts → ℕ → Type 0
 WantedLeads near lasts place =
     (wanted : Wanted) × IsTrue (tells_wanted near wanted) × (last_wanted lasts wanted ≡ Some place)
