@@ -1,11 +1,11 @@
--- The elements of a tree, and how each is tied to others.
+-- The elements of a tree, and their relations.
 use Rattle.std.specs.Prelude.{◌≡◌, ◌≤◌, ◌++◌, ◌-◌, ℕ, suc, false, length, slice_index_or, slice_set, List, [], ◌∷◌, map, Option, None, Some, nat_eq, if◌then◌else◌}
 use Rattle.std.specs.Option.{option_eq}
 use Rattle.std.specs.Borrow.{Bor}
 use Rattle.simplecss_tree.specs.declared.tree.States.{States}
 use Rattle.simplecss_tree.specs.declared.tree.Entry.{Entry}
 
--- An element: its name, its attributes, each a name and a value, the places of its parent and of
+-- An element: its name, its attributes, each a name and a value, the indices of its parent and of
 -- its previous sibling, if it has any, and its states.
 pub record Row : Type 0 where
   pub name : List ℕ
@@ -18,7 +18,7 @@ pub record Row : Type 0 where
 abbrev pub attribute_of : Bor (List ℕ) × Bor (List ℕ) → List ℕ × List ℕ
 attribute_of a = (a.0.now, a.1.now)
 
--- what an entry says
+-- what contracts see of an entry
 abbrev pub row_of : Entry → Row
 row_of e = record {
   name = e.name.now;
@@ -28,7 +28,7 @@ row_of e = record {
   states = e.states;
 }
 
--- the last place of a list that names the parent, or none
+-- the last index of a list that names the parent, or none
 abbrev pub last_naming : List (Option ℕ) → Option ℕ → Option ℕ
 last_naming [] parent = None
 last_naming (named ∷ more) parent = elim (last_naming more parent) [
@@ -54,11 +54,11 @@ new_child rows parent name = record {
   states = no_states;
 }
 
--- an element of no name
+-- an element with an empty name
 abbrev pub nobody : Row
 nobody = record { name = []; attributes = []; parent = None; previous = None; states = no_states }
 
--- the element with one attribute more, behind the others
+-- the element with one more attribute, after the others
 abbrev pub row_with : Row → List ℕ → List ℕ → Row
 row_with row name value = record {
   name = row.name;
@@ -68,7 +68,7 @@ row_with row name value = record {
   states = row.states;
 }
 
--- The elements, of which the last has one attribute more.
+-- The elements, of which the last has one more attribute.
 abbrev pub with_attribute : List Row → List ℕ → List ℕ → List Row
 with_attribute rows name value =
     slice_set rows (length rows - 1) (row_with (slice_index_or rows (length rows - 1) nobody) name value)
@@ -83,17 +83,17 @@ row_in row states = record {
   states = states;
 }
 
--- The elements, of which the one at the place is in these states.
+-- The elements, of which the one at the index is in these states.
 abbrev pub with_states : List Row → ℕ → States → List Row
 with_states rows place states = slice_set rows place (row_in (slice_index_or rows place nobody) states)
 
--- the place is named, and no element stands there
+-- an index is named, and there is no such element
 abbrev pub IsMissing : Option ℕ → ℕ → Type 0
 IsMissing None count = ⊥
 IsMissing (Some place) count = count ≤ place
 
--- Each entry says which child of it is the last, and `last_root` which element without a parent is.
--- No place behind the entries has a child.
+-- Each entry has the index of its last child, and `last_root` is that of the last element without a
+-- parent. No index past the entries has a child.
 pub record KnowsLast (entries : List Entry) (last_root : Option ℕ) : Type 0 where
   pub root : last_root ≡ last_child (map row_of entries) None
   pub each : (i : ℕ)

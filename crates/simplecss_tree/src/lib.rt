@@ -1,4 +1,5 @@
-//! A ready tree for those who have none: elements in one list, which selectors are asked of.
+//! A ready tree for programs that have none: elements in one list, against which selectors are
+//! matched.
 #![tactic(auto)]
 
 mod node;

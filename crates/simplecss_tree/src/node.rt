@@ -1,4 +1,4 @@
-//! The elements of a tree, as selectors ask them.
+//! The elements of a tree, as selectors see them.
 ghost use Rattle.std.specs.Prelude.{◌≡◌, ◌<◌, length, Some, map, false};
 ghost use Rattle.std.specs.Option.{option_map};
 ghost use Rattle.simplecss_tree.specs.Nodes.{is_in_language, value_in};
@@ -11,9 +11,9 @@ use std::marker::Model;
 /// An element of a tree.
 #[derive(Debug, Drop)]
 pub struct Node<'p, 't> {
-    /// The tree that the element is of.
+    /// The tree of the element.
     pub(crate) tree: &'p Tree<'t>,
-    /// Its place among the elements.
+    /// Its index among the elements.
     pub(crate) place: usize,
 }
 
@@ -29,7 +29,7 @@ impl<'p, 't> Model for Node<'p, 't> {
     ghost invariant = { λ node. node.place < length node.tree.now };
 }
 
-/// Whether the language is the tag, or goes on after it with a hyphen.
+/// Whether the language is the tag, or the tag and then a hyphen.
 pub(crate) fn is_in_language(tag: &str, language: &str) -> bool
     ensures { result ≡ is_in_language tag.now language.now }
 {
@@ -41,7 +41,7 @@ pub(crate) fn is_in_language(tag: &str, language: &str) -> bool
     front.eq_ignore_ascii_case(tag) && (rest.is_empty() || rest[0] == b'-')
 }
 
-/// The value of the first attribute of the name, if there is one.
+/// Returns the value of the first attribute with the name, if there is one.
 pub(crate) fn value_in<'t>(attributes: &[(&'t str, &'t str)], name: &str) -> Option<&'t str>
     ensures { option_map (λ value. value.now) result
         ≡ value_in (map attribute_of attributes.now) name.now }
@@ -57,14 +57,14 @@ pub(crate) fn value_in<'t>(attributes: &[(&'t str, &'t str)], name: &str) -> Opt
 impl<'p, 't> Node<'p, 't> {
     ghost use Rattle.simplecss_tree.specs.Nodes.{name_at, attribute_at};
 
-    /// The place among the elements of the tree, in the order in which they were added.
+    /// Returns the index among the elements of the tree, in the order in which they were added.
     pub fn place(&self) -> usize
         ensures { result ≡ self.now.1 }
     {
         self.place
     }
 
-    /// The name.
+    /// Returns the name.
     #[inline(always)]
     pub fn name(&self) -> &'t str
         ensures { result.now ≡ name_at self.now.0 self.now.1 }
@@ -72,7 +72,7 @@ impl<'p, 't> Node<'p, 't> {
         self.tree.name(self.place)
     }
 
-    /// The value of the first attribute of the name, if there is one.
+    /// Returns the value of the first attribute with the name, if there is one.
     pub fn attribute(&self, name: &str) -> Option<&'t str>
         ensures { option_map (λ value. value.now) result
             ≡ attribute_at self.now.0 self.now.1 name.now }
@@ -141,7 +141,7 @@ impl<'p, 't> Element for Node<'p, 't> {
     }
 }
 
-/// By its name and its attributes `id` and `class`.
+/// Reports its name and its attributes `id` and `class`.
 impl<'p, 't> Keyed for Node<'p, 't> {
     ghost use Rattle.simplecss_tree.specs.Nodes.{told_at, keys_told};
 

@@ -1,4 +1,4 @@
-//! A tree that grows: each element stands behind its parent and behind its previous siblings.
+//! A tree that grows: each element comes after its parent and after its previous siblings.
 ghost use Rattle.std.specs.Prelude.{◌≡◌, ◌<◌, ◌≤◌, ◌++◌, ◌∷◌, ◌↔◌, [], length, IfSome, IfOk, IfErr};
 ghost use Rattle.std.specs.Prelude.{MatchOption, MatchResult, Err, OnOk, OnErr, false};
 ghost use Rattle.std.specs.Option.{option_map, option_map_or};
@@ -12,7 +12,7 @@ use std::io::ErrorKind;
 use std::marker::Model;
 use std::{fmt, io};
 
-/// Which of the pseudo-classes that depend on the user, and not on the tree, an element is in (CSS
+/// Which of the pseudo-classes that depend on the user, not on the tree, apply to an element (CSS
 /// 2.1 sections 5.11.2 and 5.11.3).
 #[derive(Clone, Copy, Debug, Default, PartialEq)]
 pub struct States {
@@ -28,16 +28,16 @@ pub struct States {
     pub focus: bool,
 }
 
-/// Why a tree stayed as it was.
+/// Why a tree is unchanged.
 #[derive(Clone, Copy, Debug, PartialEq)]
 pub enum TreeError {
     /// There is no such element.
     NoElement,
-    /// A growth was refused.
+    /// An allocation failed.
     Memory,
 }
 
-/// Prints the fault in a few words. Width, fill and flags of the formatter change nothing.
+/// Prints the error in a few words. The formatter's width, fill and flags change nothing.
 impl fmt::Display for TreeError {
     ghost use Rattle.std.specs.Prelude.{Some};
     ghost use Rattle.simplecss_tree.specs.Messages.{message_of};
@@ -73,7 +73,7 @@ impl<T: Drop> From<AllocFailed<T>> for TreeError {
     }
 }
 
-/// So that `?` takes the error of a tree to an `io::Result`, as it takes want of memory there.
+/// Lets `?` convert `TreeError` into `io::Error`.
 impl From<TreeError> for io::Error {
     ghost use Rattle.std.specs.IoError.{error_kind};
     ghost use Rattle.simplecss_tree.specs.Messages.{kind_of};
@@ -88,31 +88,31 @@ impl From<TreeError> for io::Error {
     }
 }
 
-/// An element's own data, and the places of its relatives.
+/// An element's own data, and the indices of its relatives.
 #[derive(Debug, Drop)]
 pub(crate) struct Entry<'t> {
     /// The element's name.
     pub(crate) name: &'t str,
     /// The name and the value of each attribute.
     pub(crate) attributes: Vec<(&'t str, &'t str)>,
-    /// The place of the parent, if there is one.
+    /// The index of the parent, if there is one.
     pub(crate) parent: Option<usize>,
-    /// The place of the previous sibling, if there is one.
+    /// The index of the previous sibling, if there is one.
     pub(crate) previous: Option<usize>,
     /// The states that the element is in.
     pub(crate) states: States,
-    /// The place of the last child, if there is one: the previous sibling of the next.
+    /// The index of the last child, if there is one: the previous sibling of the next.
     last_child: Option<usize>,
 }
 
-/// Elements in the order in which they were added. Names, attributes and their values are slices of
-/// the document's text and are not copied; an element without attributes takes no memory of its own
-/// beside its place in the list.
+/// A tree: elements in the order in which they were added. Names, attributes and their values are
+/// slices of the document's text and are not copied; an element without attributes allocates
+/// nothing besides its entry in the list.
 #[derive(Debug, Drop)]
 pub struct Tree<'t> {
     /// An entry for each element.
     pub(crate) entries: Vec<Entry<'t>>,
-    /// The place of the last element without a parent, if there is one.
+    /// The index of the last element without a parent, if there is one.
     last_root: Option<usize>,
 }
 
@@ -132,7 +132,7 @@ impl<'t> Tree<'t> {
     ghost use Rattle.simplecss_tree.specs.Rows.{IsMissing, last_child, new_child, with_attribute};
     ghost use Rattle.simplecss_tree.specs.Rows.{with_states};
 
-    /// A tree without elements. It takes no memory.
+    /// Creates a tree without elements. It allocates nothing.
     pub fn new(alloc: Global) -> Tree<'t>
         ensures { result ≡ [] }
     {
@@ -142,14 +142,14 @@ impl<'t> Tree<'t> {
         }
     }
 
-    /// How many elements there are.
+    /// Returns the number of elements.
     pub fn len(&self) -> usize
         ensures { result ≡ length self.now }
     {
         self.entries.len()
     }
 
-    /// The last child of the parent, or the last element without one.
+    /// Returns the last child of the parent, or the last element without one.
     fn last_child(&self, parent: Option<usize>) -> Result<Option<usize>, TreeError>
         ensures ok { IfOk result (λ last. last ≡ last_child self.now parent) }
         ensures there { OnOk result (IfSome parent (λ above. above < length self.now)) }
@@ -165,7 +165,7 @@ impl<'t> Tree<'t> {
         }
     }
 
-    /// Adds an element as the last child of the parent, or without one, and gives its place.
+    /// Adds an element as the last child of the parent, or without one, and returns its index.
     pub fn push(&mut self, parent: Option<usize>, name: &'t str) -> Result<usize, TreeError>
         ensures place { IfOk result (λ place. place ≡ length self.old) }
         ensures added { OnOk result
@@ -191,7 +191,7 @@ impl<'t> Tree<'t> {
         Ok(place)
     }
 
-    /// Adds an attribute to the element that was added last. Of two attributes of one name the
+    /// Adds an attribute to the element that was added last. Of two attributes with one name the
     /// first counts.
     pub fn set_attribute(&mut self, name: &'t str, value: &'t str) -> Result<(), TreeError>
         ensures ok { OnOk result (self.new ≡ with_attribute self.old name.now value.now) }
@@ -205,7 +205,7 @@ impl<'t> Tree<'t> {
         Ok(())
     }
 
-    /// Puts the element at a place into these states, and into no other.
+    /// Sets the states of the element at an index.
     pub fn set_states(&mut self, place: usize, states: States) -> Result<(), TreeError>
         ensures ok { OnOk result (self.new ≡ with_states self.old place states) }
         ensures no_element { MatchResult result (λ _. place < length self.old)
@@ -219,7 +219,7 @@ impl<'t> Tree<'t> {
         Ok(())
     }
 
-    /// The element at a place, if there is one.
+    /// Returns the element at an index, if there is one.
     pub fn node(&self, place: usize) -> Option<Node<'_, 't>>
         ensures { MatchOption result (length self.now ≤ place)
             (λ node. (place < length self.now) × (node ≡ spot self.now place)) }
@@ -232,14 +232,14 @@ impl<'t> Tree<'t> {
     }
 }
 
-/// What its elements are asked.
+/// Answers about its elements.
 impl<'t> Tree<'t> {
     ghost use Rattle.simplecss.specs.ListTrees.{parent_by, sibling_by};
     ghost use Rattle.simplecss_tree.specs.Nodes.{named_parent, named_previous, name_at};
     ghost use Rattle.simplecss_tree.specs.Nodes.{attribute_at, states_at, language_at};
     ghost use Rattle.simplecss_tree.specs.Nodes.{is_in_language};
 
-    /// The place of the parent.
+    /// Returns the index of the parent.
     #[inline(always)]
     pub(crate) fn parent(&self, place: usize) -> Option<usize>
         requires { place < length self.now }
@@ -250,7 +250,7 @@ impl<'t> Tree<'t> {
         if parent < place { Some(parent) } else { None }
     }
 
-    /// The place of the previous sibling.
+    /// Returns the index of the previous sibling.
     #[inline(always)]
     pub(crate) fn previous(&self, place: usize) -> Option<usize>
         requires { place < length self.now }
@@ -266,7 +266,7 @@ impl<'t> Tree<'t> {
         }
     }
 
-    /// The name.
+    /// Returns the name.
     #[inline(always)]
     pub(crate) fn name(&self, place: usize) -> &'t str
         requires { place < length self.now }
@@ -275,7 +275,7 @@ impl<'t> Tree<'t> {
         self.entries[place].name
     }
 
-    /// The value of the first attribute of the name, if there is one.
+    /// Returns the value of the first attribute with the name, if there is one.
     pub(crate) fn attribute(&self, place: usize, name: &str) -> Option<&'t str>
         requires { place < length self.now }
         ensures { option_map (λ value. value.now) result ≡ attribute_at self.now place name.now }
@@ -283,7 +283,7 @@ impl<'t> Tree<'t> {
         value_in(&self.entries[place].attributes, name)
     }
 
-    /// The states.
+    /// Returns the states.
     #[inline(always)]
     pub(crate) fn states(&self, place: usize) -> States
         requires { place < length self.now }
@@ -292,8 +292,8 @@ impl<'t> Tree<'t> {
         self.entries[place].states
     }
 
-    /// The value of the attribute `lang` of the nearest among an element and its ancestors that has
-    /// one.
+    /// Returns the value of the attribute `lang` of the nearest among an element and its ancestors
+    /// that has one.
     pub(crate) fn language(&self, place: usize) -> Option<&'t str>
         requires { place < length self.now }
         ensures { option_map (λ value. value.now) result ≡ language_at self.now place }
