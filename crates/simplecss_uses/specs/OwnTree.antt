@@ -5,7 +5,7 @@ use Rattle.simplecss.specs.ListTrees.{ListOf}
 use Rattle.simplecss.specs.Operators.{is_as_asked}
 use Rattle.simplecss_uses.specs.declared.own_tree.Entry.{Entry}
 
--- What a list of entries says of each place in it.
+-- What a list of entries says of each index.
 abbrev pub entry_list : ListOf (List Entry)
 entry_list = record {
   parent = λ entries i. option_and_then (λ e. e.parent) (slice_get entries i);

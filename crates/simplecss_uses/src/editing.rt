@@ -11,7 +11,7 @@ use log::sink::Discard;
 use simplecss::{Declaration, Rule, Selector, StyleSheet};
 use std::alloc::{AllocError, Global};
 
-/// Adds a rule of one declaration behind the others.
+/// Appends a rule of one declaration.
 pub fn push_rule<'a>(
     alloc: Global,
     sheet: &mut StyleSheet<'a>,
@@ -30,7 +30,7 @@ pub fn push_rule<'a>(
     Ok(())
 }
 
-/// Whether the sheet, printed, reads back as the same rules in the same order, so that it may be
+/// Whether the printed sheet reads back as the same rules in the same order, so that it may be
 /// written out again.
 pub fn reads_back(alloc: Global, sheet: &StyleSheet<'_>) -> Result<bool, AllocError>
     ensures { IfOk result (λ same. IsTrue same

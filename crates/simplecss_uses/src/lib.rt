@@ -1,7 +1,7 @@
-//! What a user writes over `simplecss` alone: loops and chains over the tokenizers, sheets that are
-//! edited, and a tree of the user's own. Nothing here has a measure or an invariant. One function has
-//! a proof file, `editing::reads_back`: it joins what the contracts of printing, of reading and of
-//! `==` say.
+//! Code as a user writes it over `simplecss` only: loops and chains over the tokenizers, sheets
+//! that are edited, and a tree of the user's own. Nothing here has a measure or an invariant. One
+//! function has a proof file, `editing::reads_back`: it joins the contracts of printing, of reading
+//! and of `==`.
 #![tactic(auto)]
 
 pub mod editing;

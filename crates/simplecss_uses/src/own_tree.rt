@@ -1,5 +1,5 @@
-//! A tree of the user's own that selectors are asked of: entries in a list, of which each names its
-//! parent and its previous sibling by their places. Both laws of elements come from `ListTrees`.
+//! A user's own tree, against which selectors are matched: entries in a list, each with the indices
+//! of its parent and its previous sibling. Both laws of elements come from `ListTrees`.
 ghost use Rattle.std.specs.Prelude.{◌<◌, ◌≡◌, ℕ, List, IfSome, length};
 ghost use Rattle.simplecss.specs.ListTrees.{list_tree, list_counts_ancestors, list_shares_parents};
 ghost use Rattle.simplecss.specs.ListTrees.{parent_place, sibling_place};
@@ -8,30 +8,30 @@ ghost use Rattle.simplecss_uses.specs.declared.own_tree.Entry.{Entry};
 
 use simplecss::{AttributeOperator, Element, PseudoClass};
 
-/// An entry: a name, a class, and the places of the parent and of the previous sibling, if any.
+/// An entry: a name, a class, and the indices of the parent and of the previous sibling, if any.
 #[derive(Clone, Copy, Debug)]
 pub struct Entry<'t> {
     /// The element's name.
     pub name: &'t str,
     /// The value of its attribute `class`.
     pub class: &'t str,
-    /// The place of the parent.
+    /// The index of the parent.
     pub parent: Option<usize>,
-    /// The place of the previous sibling.
+    /// The index of the previous sibling.
     pub previous: Option<usize>,
 }
 
-/// The element at a place of a list.
+/// The element at an index of a list.
 #[derive(Drop)]
 pub struct Spot<'t> {
     /// All entries.
     pub entries: &'t [Entry<'t>],
-    /// The place of this one.
+    /// The index of this one.
     pub place: usize,
     pub ghost within: { place < length entries.now },
 }
 
-/// The place of the parent, where that stands earlier.
+/// Returns the index of the parent, if that is less.
 fn parent_of(entries: &[Entry<'_>], place: usize) -> Option<usize>
     requires { place < length entries.now }
     ensures value { result ≡ parent_place entry_list entries.now place }
@@ -41,7 +41,7 @@ fn parent_of(entries: &[Entry<'_>], place: usize) -> Option<usize>
     if parent < place { Some(parent) } else { None }
 }
 
-/// The place of the previous sibling, where that stands earlier and has the same parent.
+/// Returns the index of the previous sibling, if that is less and has the same parent.
 fn previous_of(entries: &[Entry<'_>], place: usize) -> Option<usize>
     requires { place < length entries.now }
     ensures value { result ≡ sibling_place entry_list entries.now place }

@@ -1,5 +1,5 @@
-//! What a user writes with the tokenizers: loops and chains, with no measure, no invariant and no
-//! proof file.
+//! Loops and chains over the tokenizers, as a user writes them, with no measure, no invariant and
+//! no proof file.
 
 ghost use Rattle.std.specs.Prelude.{◌≡◌, length, map, count_by, IfOk, IfSome, IfNone, IsTrue};
 ghost use Rattle.std.specs.Prelude.{IsErr, All, false};
@@ -12,7 +12,7 @@ ghost use Rattle.simplecss.specs.SeenTokens.{item_seen};
 use simplecss::{Declaration, DeclarationTokenizer, Error, SelectorToken, SelectorTokenizer};
 use std::alloc::{AllocError, Global};
 
-/// How many of the text's declarations are important.
+/// Returns the number of the text's important declarations.
 pub fn important_count(text: &str) -> usize {
     let mut count = 0_usize;
     for declaration in DeclarationTokenizer::from(text) {
@@ -23,7 +23,7 @@ pub fn important_count(text: &str) -> usize {
     count
 }
 
-/// The same by a chain.
+/// Returns the same number by a chain.
 pub fn important_count_by_chain(text: &str) -> usize
     ensures { result ≡ count_by (λ p. p.important) (declarations this_edition text.now) }
 {
@@ -32,14 +32,14 @@ pub fn important_count_by_chain(text: &str) -> usize
         .count()
 }
 
-/// How many declarations the text has.
+/// Returns the number of the text's declarations.
 pub fn declaration_count(text: &str) -> usize
     ensures { result ≡ length (declarations this_edition text.now) }
 {
     DeclarationTokenizer::from(text).count()
 }
 
-/// The text's declarations.
+/// Returns the text's declarations.
 pub fn all_declarations<'a>(
     alloc: Global,
     text: &'a str,
@@ -49,7 +49,7 @@ pub fn all_declarations<'a>(
     DeclarationTokenizer::from(text).collect(alloc)
 }
 
-/// The first of the text's declarations that is important.
+/// Returns the first important declaration of the text.
 pub fn first_important<'a>(text: &'a str) -> Option<Declaration<'a>>
     ensures some { IfSome result (λ declaration. IsTrue declaration.important) }
     ensures none { IfNone result
@@ -58,7 +58,7 @@ pub fn first_important<'a>(text: &'a str) -> Option<Declaration<'a>>
     DeclarationTokenizer::from(text).find(|declaration| declaration.important)
 }
 
-/// How many errors the tokens of the text's selector end by.
+/// Returns the number of errors among the tokens of the text's selector.
 pub fn error_count(text: &str) -> usize {
     let mut count = 0_usize;
     for item in SelectorTokenizer::from(text) {
@@ -69,14 +69,14 @@ pub fn error_count(text: &str) -> usize {
     count
 }
 
-/// How many tokens and errors the text's selector has.
+/// Returns the number of tokens and errors of the text's selector.
 pub fn item_count(text: &str) -> usize
     ensures { result ≡ length (tokens_of this_edition text.now) }
 {
     SelectorTokenizer::from(text).count()
 }
 
-/// The tokens and errors of the text's selector.
+/// Returns the tokens and errors of the text's selector.
 pub fn all_items<'a>(
     alloc: Global,
     text: &'a str,
@@ -86,7 +86,7 @@ pub fn all_items<'a>(
     SelectorTokenizer::from(text).collect(alloc)
 }
 
-/// The first error of the text's selector.
+/// Returns the first error of the text's selector.
 pub fn first_error<'a>(text: &'a str) -> Option<Result<SelectorToken<'a>, Error>>
     ensures { IfSome result IsErr }
 {
