@@ -1,6 +1,6 @@
--- The laws of an element: how its depth goes with its parent, and its parent with its sibling's,
--- and that it tells what it answers by. They are proofs, and stand in this folder since the traits
--- `Element` and `Keyed` ask for them: an impl names them, so they are part of what is stated.
+-- The laws of an element: its depth and its parent's, its parent and its sibling's, and that it
+-- reports every key that it has. They are proofs, and are in this folder since the traits `Element`
+-- and `Keyed` require them: an impl names them, so they are part of what is stated.
 use Rattle.std.proofs.Common.{◌≡◌, ℕ, zero, suc, ◌+◌, ◌<◌, ◌≤◌, Bool, true, false, cond, List, take, get_or, refl, sym, ap, ◌∙◌, subst, arith, Option, None, Some, IfSome, MatchOption}
 use Rattle.std.specs.Prelude.{nat_lt, ◌==◌, IsTrue, is_some}
 use Rattle.std.specs.Option.{option_map, option_map_or}
@@ -16,7 +16,7 @@ use Rattle.cssq_tree.specs.ParentsAndSiblings.{depths_of, last_place, parent_pla
 use Rattle.cssq_tree.specs.Nodes.{Spot, spot, parent_of, ancestors_within, ancestor_count, page_tree, told_of, attribute_at}
 use Rattle.cssq_tree.specs.Siblings.{equal_near, equal_at, previous_is, parent_within, nearest_before}
 
--- the ancestors from the parent on
+-- the number of ancestors, from the parent on
 abbrev above : ℕ → List ℕ → Option ℕ → ℕ
 above steps depths None = 0
 above steps depths (Some parent) = ancestors_within steps depths parent + 1
@@ -37,7 +37,7 @@ above_same : (m n : ℕ) (depths : List ℕ) (place : ℕ) (r : Option ℕ) → 
 above_same m n depths place None before same = refl
 above_same m n depths place (Some j) before same = ap (λ k. k + 1) (same j before)
 
--- more steps than the place find the same ancestors
+-- more steps than the index find the same ancestors
 enough : (m n : ℕ) (depths : List ℕ) (place : ℕ) → place < m → place < n
     → ancestors_within m depths place ≡ ancestors_within n depths place
 enough zero n depths place lt lt' = absurd (omega arith)
@@ -92,7 +92,7 @@ shared x (Some j) is = ap (option_map (spot x.rows)) (same_parent (depths_of x.r
 pub siblings_share_parents : SiblingsShareParent page_tree
 siblings_share_parents x = shared x (previous_place (depths_of x.rows) x.place) refl
 
--- a value that is as asked is there
+-- there is a value that satisfies the operator
 value_there : (r : Option (List ℕ)) (o : Operator) → IsTrue (option_map_or (is_as_asked o) r false) → IsTrue (is_some r)
 value_there None o h = absurd (cc)
 value_there (Some v) o h = refl

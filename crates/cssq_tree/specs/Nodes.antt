@@ -1,4 +1,4 @@
--- The elements of a page as nodes of a tree, and what each answers to a selector.
+-- The elements of a page as nodes of a tree, and their answers to a selector.
 use Rattle.std.specs.Prelude.{ℕ, zero, suc, ◌+◌, Bool, false, List, [], ◌∷◌, Option, None, Some, if◌then◌else◌, bytes_eq, codes, is_none, is_some}
 use Rattle.std.specs.List.{slice_get}
 use Rattle.std.specs.Option.{option_map, option_map_or}
@@ -10,12 +10,12 @@ use Rattle.simplecss_selector.specs.Operators.{is_as_asked}
 use Rattle.cssq_tree.specs.TreeText.{Row}
 use Rattle.cssq_tree.specs.ParentsAndSiblings.{depths_of, parent_place, previous_place}
 
--- a place among the rows
+-- an index among the rows
 pub record Spot : Type 0 where
   pub rows : List Row
   pub place : ℕ
 
--- the place among these rows
+-- the index among these rows
 abbrev pub spot : List Row → ℕ → Spot
 spot rows place = record { rows = rows; place = place }
 
@@ -27,7 +27,7 @@ parent_of s = option_map (spot s.rows) (parent_place (depths_of s.rows) s.place)
 abbrev pub previous_of : Spot → Option Spot
 previous_of s = option_map (spot s.rows) (previous_place (depths_of s.rows) s.place)
 
--- the number of the ancestors, none of which is farther than the number of steps
+-- the number of the ancestors that at most `n` steps reach
 abbrev pub ancestors_within : ℕ → List ℕ → ℕ → ℕ
 ancestors_within zero depths place = 0
 ancestors_within (suc steps) depths place =
@@ -37,7 +37,7 @@ ancestors_within (suc steps) depths place =
 abbrev pub ancestor_count : Spot → ℕ
 ancestor_count s = ancestors_within (suc s.place) (depths_of s.rows) s.place
 
--- the name of the element at a place
+-- the name of the element at an index
 abbrev pub name_at : List Row → ℕ → List ℕ
 name_at rows place = option_map_or (λ row. row.name) (slice_get rows place) []
 
@@ -47,7 +47,7 @@ value_in [] key = None
 value_in (attribute ∷ attributes) key =
     if bytes_eq attribute.0 key then Some attribute.1 else value_in attributes key
 
--- the value of an attribute of the element at a place, if it has the attribute
+-- the value of an attribute of the element at an index, if it has the attribute
 abbrev pub attribute_at : List Row → ℕ → List ℕ → Option (List ℕ)
 attribute_at rows place key = option_map_or (λ row. value_in row.attributes key) (slice_get rows place) None
 
@@ -55,7 +55,7 @@ attribute_at rows place key = option_map_or (λ row. value_in row.attributes key
 abbrev pub has_name : Spot → List ℕ → Bool
 has_name s name = bytes_eq (name_at s.rows s.place) name
 
--- an attribute that is there asks the operator
+-- an attribute that the element has satisfies the operator
 abbrev pub meets_operator : Spot → List ℕ → Operator → Bool
 meets_operator s key operator = option_map_or (is_as_asked operator) (attribute_at s.rows s.place key) false
 

@@ -1,4 +1,4 @@
--- Where an element stands among the others, by the depths of all in their order.
+-- The parent and the previous sibling of an element, by the depths of all elements in their order.
 use Rattle.std.specs.Prelude.{ℕ, suc, Bool, List, [], ◌∷◌, map, take, Option, None, Some, ◌==◌, if◌then◌else◌, nat_lt, nat_le, slice_index}
 use Rattle.cssq_tree.specs.TreeText.{Row}
 
@@ -6,7 +6,7 @@ use Rattle.cssq_tree.specs.TreeText.{Row}
 abbrev pub depths_of : List Row → List ℕ
 depths_of rows = map (λ row. row.depth) rows
 
--- the last place of a list at which the test passes
+-- the last index of a list for which the test is true
 abbrev pub last_place : (ℕ → Bool) → List ℕ → Option ℕ
 last_place test [] = None
 last_place test (x ∷ xs) =
@@ -20,7 +20,7 @@ parent_place depths i = last_place (λ d. nat_lt d (slice_index depths i)) (take
 abbrev pub nearest_place : List ℕ → ℕ → Option ℕ
 nearest_place depths i = last_place (λ d. nat_le d (slice_index depths i)) (take i depths)
 
--- that element, where its depth is equal
+-- that element, if its depth is equal
 abbrev pub previous_place : List ℕ → ℕ → Option ℕ
 previous_place depths i = elim (nearest_place depths i) [
   | None ↦ None

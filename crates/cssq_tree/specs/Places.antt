@@ -1,5 +1,5 @@
--- The last place of a list at which a test passes. These are proofs: they stand in this folder
--- since the laws of an element, which a trait asks for, stand on them (`ElementLaws`).
+-- The last index of a list for which a test is true. These are proofs: they are in this folder
+-- since the laws of an element, which a trait requires, use them (`ElementLaws`).
 use Rattle.std.proofs.Common.{◌≡◌, ℕ, zero, suc, ◌+◌, ◌<◌, ◌≤◌, Bool, true, false, cond, List, [], ◌∷◌, length, take, get_or, refl, sym, ap, subst, arith, Option, None, Some, MatchOption, ⊎_elim}
 use Rattle.std.specs.Prelude.{nat_le, nat_lt}
 use Rattle.std.proofs.lemmas.Bool.{cases_order, both_ways}
@@ -7,7 +7,7 @@ use Rattle.std.proofs.lemmas.Bool.Decides.{nat_tests}
 use Rattle.std.proofs.lemmas.List.{get_or-take, length-take-le}
 use Rattle.cssq_tree.specs.ParentsAndSiblings.{last_place, parent_place}
 
--- r is the last place of xs at which the test passes, if there is one
+-- `r` is the last index of `xs` for which the test is true, if there is one
 abbrev pub IsLast : (ℕ → Bool) → List ℕ → Option ℕ → Type 0
 IsLast test xs r = MatchOption r
     ((k : ℕ) → k < length xs → test (get_or xs k 0) ≡ false)
@@ -59,7 +59,7 @@ same_last test xs (Some i) (Some j) p q =
 pub last_place_of : (test : ℕ → Bool) (xs : List ℕ) (r : Option ℕ) → IsLast test xs r → r ≡ last_place test xs
 last_place_of test xs r last = same_last test xs r (last_place test xs) last (last_place_is test xs)
 
--- every element behind the candidate, or every one where there is none, is deeper
+-- every element after the candidate, or every one if there is none, is deeper
 abbrev pub IsCandidate : List ℕ → ℕ → Option ℕ → Type 0
 IsCandidate depths depth candidate = MatchOption candidate
     ((k : ℕ) → k < length depths → depth < get_or depths k 0)
@@ -87,7 +87,7 @@ pub some_last : (depths : List ℕ) (depth i : ℕ) → IsCandidate depths depth
 some_last depths depth i deeper le =
     last_place_of _ depths (Some i) (deeper.0, is_le _ _ le, λ k lt within. not_le _ _ (deeper.1 k lt within))
 
--- of the elements before i, the one at k
+-- of the elements before `i`, the one at `k`
 before_at : (depths : List ℕ) (i k : ℕ) → i < length depths → k < i
     → (k < length (take i depths)) × (get_or (take i depths) k 0 ≡ get_or depths k 0)
 before_at depths i k within before =

@@ -1,5 +1,5 @@
--- The parents and previous siblings in a list of depths that grows. These are proofs: they stand in
--- this folder since the laws of an element, which a trait asks for, stand on them (`ElementLaws`).
+-- The parents and previous siblings in a list of depths that grows. These are proofs: they are in
+-- this folder since the laws of an element, which a trait requires, use them (`ElementLaws`).
 use Rattle.std.proofs.Common.{◌≡◌, ℕ, ◌<◌, ◌≤◌, Bool, true, false, cond, List, [], ◌∷◌, ◌++◌, length, take, get_or, refl, sym, ap, ◌∙◌, subst, arith, Option, None, Some, IfSome, ⊎_elim}
 use Rattle.std.specs.Prelude.{nat_le, nat_lt, ◌==◌}
 use Rattle.std.proofs.lemmas.Bool.{cases_order}
@@ -34,7 +34,7 @@ module _ (ds : List ℕ) (d : ℕ) where
   nearest_new : nearest_place (ds ++ d ∷ []) (length ds) ≡ last_place (λ x. nat_le x d) ds
   nearest_new = λ k. last_place (λ x. nat_le x (at_new k)) (take_new k)
 
--- the nearest, where its depth is equal
+-- the nearest, if its depth is equal
 abbrev pub equal_at : List ℕ → ℕ → Option ℕ → Option ℕ
 equal_at ds depth None = None
 equal_at ds depth (Some j) = cond (get_or ds j 0 == depth) (Some j) None
@@ -110,8 +110,7 @@ inside_front ds i k within before = let le : i ≤ length ds = omega arith in rw
 front_inside : (ds : List ℕ) (i k : ℕ) → i < length ds → k < length (take i ds) → k < i
 front_inside ds i k within before = let le : i ≤ length ds = omega arith in rw (length-take-le i ds) at before
 
--- what the nearest element says of the parent and the previous sibling of an element behind the
--- list
+-- the parent and the previous sibling of an element after the list, by the nearest element
 module _ (ds : List ℕ) (d : ℕ) where
   pub none_near : None ≡ last_place (λ x. nat_le x d) ds
       → (None ≡ last_place (λ x. nat_lt x d) ds) × (None ≡ equal_at ds d (last_place (λ x. nat_le x d) ds))

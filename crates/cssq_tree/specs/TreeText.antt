@@ -12,15 +12,15 @@ use Rattle.cssq_tree.specs.declared.tree.TreeFault.TheVariants.{BadDepth, EmptyN
 abbrev pub is_newline : ℕ → Bool
 is_newline b = b == newline
 
--- a TAB, which stands between fields
+-- a TAB, which separates fields
 abbrev pub is_tab : ℕ → Bool
 is_tab b = b == tab
 
--- `=`, which stands between a key and its value
+-- `=`, which separates a key from its value
 abbrev pub is_equals : ℕ → Bool
 is_equals b = b == equals_sign
 
--- no line stands after the last newline where nothing follows it
+-- there is no line after the last newline if nothing follows it
 abbrev pub without_empty_last : List (List ℕ) → List (List ℕ)
 without_empty_last [] = []
 without_empty_last ([] ∷ []) = []
@@ -35,28 +35,28 @@ lines_of text = without_empty_last (slice_split is_newline text)
 abbrev pub fields_of : List ℕ → List (List ℕ)
 fields_of line = slice_split is_tab line
 
--- the fields of a text of fields, where there is one
+-- the fields of a text of fields, if there is one
 abbrev pub fields_in : Option (Bor (List ℕ)) → List (List ℕ)
 fields_in None = []
 fields_in (Some text) = fields_of text.now
 
--- the first field, which spells the depth
+-- the first field, which is the depth in digits
 abbrev pub depth_text : List (List ℕ) → List ℕ
 depth_text fields = slice_index_or fields 0 []
 
--- the second field, the name; none is as an empty one
+-- the second field, the name; a missing one is like an empty one
 abbrev pub name_text : List (List ℕ) → List ℕ
 name_text fields = slice_index_or fields 1 []
 
--- the fields behind the name
+-- the fields after the name
 abbrev pub attribute_fields : List (List ℕ) → List (List ℕ)
 attribute_fields fields = drop 2 fields
 
--- what stands before the first `=` of a field
+-- what precedes the first `=` of a field
 abbrev pub key_of : List ℕ → List ℕ
 key_of field = before_first is_equals field
 
--- what stands behind the first `=` of a field
+-- what follows the first `=` of a field
 abbrev pub value_of : List ℕ → List ℕ
 value_of field = after_first is_equals field
 
@@ -70,7 +70,7 @@ pub record Row : Type 0 where
   pub name : List ℕ
   pub attributes : List (List ℕ × List ℕ)
 
--- the number that the first field spells
+-- the number in the first field
 abbrev pub depth_in : List (List ℕ) → ℕ
 depth_in fields = digits_value 10 (depth_text fields)
 
@@ -83,14 +83,14 @@ row_of fields =
       attributes = map attribute_of (attribute_fields fields);
     }
 
--- ---- what can be wrong with a line; a fault tells the line's number
+-- ---- the faults of a line, each with the line's number
 
--- `0`, or digits with no zero in front
+-- `0`, or digits that do not begin with zero
 abbrev pub is_depth : List ℕ → Bool
 is_depth [] = false
 is_depth (c ∷ cs) = if c == digit_zero then length cs == 0 else list_all is_ascii_digit (c ∷ cs)
 
--- the depth that a field spells, where that is at most the limit
+-- the depth in a field, if that is at most the limit
 abbrev pub spelled_depth : ℕ → List ℕ → Option ℕ
 spelled_depth limit field =
     if is_depth field && nat_le (digits_value 10 field) limit then Some (digits_value 10 field)
@@ -105,7 +105,7 @@ depth_fault number limit fields =
 abbrev pub name_fault : ℕ → List (List ℕ) → Option TreeFault
 name_fault number fields = if length (name_text fields) == 0 then Some (EmptyName number) else None
 
--- whether a `=` stands in a field
+-- whether a field has a `=`
 abbrev pub has_equals : List ℕ → Bool
 has_equals field = nat_lt (position_or_len is_equals field) (length field)
 
@@ -113,14 +113,14 @@ has_equals field = nat_lt (position_or_len is_equals field) (length field)
 abbrev pub has_key : List (List ℕ) → List ℕ → Bool
 has_key fields key = list_any (λ field. bytes_eq (key_of field) key) fields
 
--- an attribute field has no `=`, or its key stands in an earlier one
+-- an attribute field has no `=`, or an earlier one has its key
 abbrev pub field_fault : ℕ → List (List ℕ) → List ℕ → Option TreeFault
 field_fault number earlier field =
     if not (has_equals field) then Some (NoEquals number)
     else (if has_key earlier (key_of field) then Some (RepeatedKey number)
     else None)
 
--- the fault of the attribute field at a place
+-- the fault of the attribute field at an index
 abbrev pub fault_of_field : ℕ → List (List ℕ) → ℕ → Option TreeFault
 fault_of_field number fields place = field_fault number (take place fields) (slice_index_or fields place [])
 
@@ -146,7 +146,7 @@ lines_in text = map fields_of (lines_of text)
 abbrev pub limits_of : ℕ → List (List (List ℕ)) → List ℕ
 limits_of first lines = first ∷ map (λ fields. depth_in fields + 1) lines
 
--- the faults of each line, the first having a number and a limit
+-- the faults of each line, from the number and the limit of the first
 abbrev pub line_faults : ℕ → ℕ → List (List (List ℕ)) → List (List TreeFault)
 line_faults number limit lines =
     map (λ p. faults_of_line p.0 p.1.0 p.1.1) (enumerate_from number (zip (limits_of limit lines) lines))
@@ -155,7 +155,7 @@ line_faults number limit lines =
 abbrev pub faults_in : List ℕ → List (List TreeFault)
 faults_in text = line_faults 1 0 (lines_in text)
 
--- the first fault, or the rows where there is none
+-- the first fault, or the rows if there is none
 abbrev pub first_or_rows : List TreeFault → List Row → Result (List Row) TreeFault
 first_or_rows [] rows = Ok rows
 first_or_rows (fault ∷ faults) rows = Err fault
@@ -186,7 +186,7 @@ fault_number (NoEquals line) = 3
 fault_number (RepeatedKey line) = 4
 fault_number (Memory line) = 5
 
--- the number of the line that the fault tells
+-- the number of the line in the fault
 abbrev pub fault_line : TreeFault → ℕ
 fault_line (BadDepth line) = line
 fault_line (EmptyName line) = line
