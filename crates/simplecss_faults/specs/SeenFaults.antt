@@ -1,4 +1,4 @@
--- What a linter reports of what is skipped.
+-- What a linter reports of skipped text.
 use Rattle.std.specs.Prelude.{◌≡◌, ℕ, List}
 use Rattle.std.specs.Str.{IsCharBoundary}
 use Rattle.simplecss.specs.declared.TextPos.{TextPos}
@@ -56,6 +56,6 @@ fault_in text skip = record {
   reason = reason_in text skip.why;
 }
 
--- the place is between two characters of the text, and this is its position
+-- the offset is between two characters of the text, and this is its position
 abbrev pub IsKnown : List ℕ → Known → Type 0
 IsKnown text known = IsCharBoundary text known.place × (known.pos ≡ position text known.place)
