@@ -14,8 +14,8 @@ status_of (Tree fault) = 2
 status_of Memory = 3
 status_of NotUtf8 = 5
 
--- The whole text is at the front of the buffer, whose rest is unchanged; or the buffer is too small
--- for it, and is unchanged. The length is that of the whole text.
+-- The whole text is at the start of the buffer, and the rest of the buffer is unchanged; or the
+-- buffer is too small for it, and is unchanged. The length is that of the whole text.
 pub data IsHandedOver (bytes : List ℕ) (status : ℕ) (old new : List ℕ) (len : ℕ) : Type 0 where
   written : length bytes ≤ length old → status ≡ 0 → new ≡ bytes ++ drop (length bytes) old
       → len ≡ length bytes → IsHandedOver bytes status old new len
@@ -32,7 +32,7 @@ Answers (Err failure) status old new len = (status ≡ status_of failure) × (ne
 abbrev pub place_of : TreeFault → TreePlace
 place_of fault = record { fault = fault_number fault; line = fault_line fault }
 
--- where the failure is a fault of the tree this is its place; else it is unchanged
+-- if the failure is a fault of the tree this is its number and line; else it is unchanged
 abbrev pub IsPlaced : Result (List ℕ) Failure → TreePlace → TreePlace → Type 0
 IsPlaced (Ok bytes) old new = new ≡ old
 IsPlaced (Err Refused) old new = new ≡ old
@@ -40,7 +40,7 @@ IsPlaced (Err (Tree fault)) old new = new ≡ place_of fault
 IsPlaced (Err Memory) old new = new ≡ old
 IsPlaced (Err NotUtf8) old new = new ≡ old
 
--- a tree's want of memory is the call's
+-- a tree that runs out of memory is a call that does
 abbrev pub tree_failure : TreeFault → Failure
 tree_failure (told.Memory line) = Memory
 tree_failure (told.BadDepth line) = Tree (told.BadDepth line)

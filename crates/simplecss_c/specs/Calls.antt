@@ -1,4 +1,4 @@
--- What each call is to write, and when it fails.
+-- What each call must write, and when it fails.
 use Rattle.std.specs.Prelude.{◌≡◌, ◌⊎◌, ℕ, List, Option, None, Some, Result, Ok, Err}
 use Rattle.std.specs.List.{All}
 use Rattle.std.specs.Str.{IsUtf8}
@@ -18,7 +18,7 @@ use Rattle.simplecss_c.specs.declared.answer.Failure.{Failure}
 use Rattle.simplecss_c.specs.declared.answer.Failure.TheVariants.{Refused, Tree, Memory, NotUtf8}
 use Rattle.simplecss_c.specs.Texts.{texts_in}
 
--- A failure is due for its own reason. Any call may be out of memory.
+-- A failure has its own reason. Any call may be out of memory.
 abbrev pub FailsFor : Type 0 → (TreeFault → Type 0) → Type 0 → Failure → Type 0
 FailsFor IsRefused IsFaulty IsBroken Refused = IsRefused
 FailsFor IsRefused IsFaulty IsBroken (Tree fault) = IsFaulty fault
@@ -45,7 +45,7 @@ HasBadEnds buffer ends = texts_in buffer ends ≡ None
 abbrev pub IsBrokenUtf8 : List ℕ → List ℕ → Type 0
 IsBrokenUtf8 buffer ends = (texts : List (List ℕ)) → ¬ (HasTexts buffer ends texts)
 
--- what is to be written for the sheet of the texts, or why it is not
+-- what is written for the sheet of the texts, or why nothing is
 abbrev pub IsSheetCall : (List StyleRule → List ℕ → Type 0) → List ℕ → List ℕ
     → Result (List ℕ) Failure → Type 0
 IsSheetCall IsText buffer ends (Ok bytes) =
@@ -53,11 +53,11 @@ IsSheetCall IsText buffer ends (Ok bytes) =
 IsSheetCall IsText buffer ends (Err failure) =
     FailsFor (HasBadEnds buffer ends) (λ fault. ⊥) (IsBrokenUtf8 buffer ends) failure
 
--- the printed sheet, with a newline where it has a rule
+-- the printed sheet, with a newline if it has a rule
 abbrev pub IsPrinted : List StyleRule → List ℕ → Type 0
 IsPrinted rules bytes = bytes ≡ sheet_output rules
 
--- what is to be written for the sheet of the texts and a tree, or why it is not
+-- what is written for the sheet of the texts and a tree, or why nothing is
 abbrev pub IsPageCall : (List StyleRule → List Row → List ℕ → Type 0) → List ℕ → List ℕ → List ℕ
     → Result (List ℕ) Failure → Type 0
 IsPageCall IsText buffer ends tree (Ok bytes) =
@@ -67,7 +67,7 @@ IsPageCall IsText buffer ends tree (Err failure) =
     FailsFor (HasBadEnds buffer ends) (λ fault. tree_of tree ≡ Err fault)
     (IsBrokenUtf8 buffer ends ⊎ ¬ (IsUtf8 tree)) failure
 
--- what is asked of each element
+-- the answer for each element
 abbrev pub IsAskedCall : Asked → List ℕ → List ℕ → List ℕ → Result (List ℕ) Failure → Type 0
 IsAskedCall asked = IsPageCall (IsToldText asked)
 
