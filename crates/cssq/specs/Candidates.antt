@@ -1,4 +1,4 @@
--- What wins within one rule or one list, and what a rule that is passed over says.
+-- What wins within one rule or one list, and what is known of a rule that is skipped.
 use Rattle.std.specs.Prelude.{◌≡◌, ℕ, ◌<◌, ◌≤◌, Bool, true, false, not, ◌&&◌, if◌then◌else◌, List, Option, None, Some}
 use Rattle.std.specs.List.{slice_get}
 use Rattle.simplecss.specs.Declarations.{StyleDeclaration}
@@ -11,16 +11,16 @@ use Rattle.std.specs.Ordering.{nat_cmp}
 use Rattle.std.specs.Cmp.Lexicographic.{slice_cmp}
 use Rattle.cssq.specs.Winners.{Standing, weight, Wins, WinsAt, NoneStands}
 
--- the declarations of one rule, which is at place i
+-- the declarations of one rule, whose index is `i`
 abbrev pub InRule : ℕ → List StyleDeclaration → Standing
 InRule i declarations k l q = (k ≡ i) × (slice_get declarations l ≡ Some q)
 
--- the later, unless the earlier alone is important
+-- the later, unless only the earlier is important
 abbrev pub better_of : Option StyleDeclaration → StyleDeclaration → StyleDeclaration
 better_of None later = later
 better_of (Some earlier) later = if earlier.important && not later.important then earlier else later
 
--- the rule has a placement on the node, and this is what wins in it, whatever the rule's place
+-- the rule has a placement on the node, and this is what wins in it, whatever the rule's index
 pub record IsCandidate {Node : Type 0} (tree : Tree Node) (n : Node) (rule : StyleRule)
     (name : List ℕ) (p : StyleDeclaration) : Type 0 where
   pub takes : HasPlacement tree rule.components n
@@ -38,22 +38,22 @@ abbrev pub IsPassedOver : {Node : Type 0} → Tree Node → Node → StyleRule �
 IsPassedOver tree n rule name is_later_known =
     HasPlacement tree rule.components n → IsOutdone rule name is_later_known
 
--- the place that a map has for a name
+-- the index that a map has for a name
 abbrev pub place_for : BTreeMap (Bor (List ℕ)) ℕ → List ℕ → Option ℕ
 place_for places name = get_by (λ key. slice_cmp nat_cmp name key.now) places
 
--- the place of what wins for the name among the declarations of a list, or none where none has the
+-- the index of what wins for the name among the declarations of a list, or none if none has the
 -- name
 abbrev pub IsBestPlace : List StyleDeclaration → List ℕ → Option ℕ → Type 0
 IsBestPlace declarations name None = NoneStands (InRule 0 declarations) name
 IsBestPlace declarations name (Some k) = (p : StyleDeclaration) × WinsAt (InRule 0 declarations) name 0 k p
 
--- the map has for each name the place of what wins for it
+-- the map has for each name the index of what wins for it
 abbrev pub HasBestPlaces : BTreeMap (Bor (List ℕ)) ℕ → List StyleDeclaration → Type 0
 HasBestPlaces places declarations = (name : List ℕ) → IsBestPlace declarations name (place_for places name)
 
--- whether the later takes over from what stands at the known place, if one is known: it is no
--- lighter
+-- whether the later replaces the one at the known index, if one is known: it is at least as
+-- important
 abbrev pub TellsWhether : Bool → List StyleDeclaration → Option ℕ → StyleDeclaration → Type 0
 TellsWhether takes_over declarations None later = takes_over ≡ true
 TellsWhether true declarations (Some k) later =

@@ -1,9 +1,9 @@
--- What the words after the program's name ask for.
+-- The command that the words after the program's name spell.
 use Rattle.std.specs.Prelude.{ℕ, List, [], ◌∷◌, Option, None, Some, codes, map, if◌then◌else◌, bytes_eq, string_bytes}
 use Rattle.cssq.specs.declared.command.Command.{Command}
 use Rattle.cssq.specs.declared.command.Command.TheVariants.{Input, Selector, Sheet, Match, Style}
 
--- a command without where its words lie in memory
+-- a command, wherever its words are stored
 pub data Request : Type 0 where
   input : Request
   selector : List ℕ → Request
@@ -11,7 +11,7 @@ pub data Request : Type 0 where
   match : List ℕ → List ℕ → Request
   style : List ℕ → List ℕ → List ℕ → Request
 
--- what a command is, wherever its words lie
+-- what contracts see of a command, wherever its words are stored
 abbrev pub request : Command → Request
 request Input = input
 request (Selector text) = selector text.now
@@ -45,8 +45,8 @@ style_of (file ∷ tree ∷ []) = None
 style_of (file ∷ tree ∷ name ∷ []) = Some (style file tree name)
 style_of (file ∷ tree ∷ name ∷ word ∷ words) = None
 
--- no word asks for standard input; else the first word is a command's name, and the others are its
--- operands
+-- no words are the command that reads standard input; else the first word is a command's name, and
+-- the others are its operands
 abbrev pub request_of : List (List ℕ) → Option Request
 request_of [] = Some input
 request_of (name ∷ operands) =

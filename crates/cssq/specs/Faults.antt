@@ -6,7 +6,7 @@ use Rattle.cssq.specs.declared.runs.RunFault.{RunFault}
 use Rattle.cssq.specs.declared.runs.RunFault.TheVariants.{Refused, Tree, Memory, Output}
 use Rattle.cssq_tree.specs.TreeText.{fault_number, fault_line}
 
--- 1 for a text that is refused or faulty, 3 for want of memory, 4 for a writer that failed
+-- 1 for a text that is refused or faulty, 3 if an allocation fails, 4 for a writer that failed
 abbrev pub status_of : RunFault → ℕ
 status_of Refused = 1
 status_of (Tree fault) = 1
@@ -22,7 +22,7 @@ message_of (Tree fault) =
 message_of Memory = codes "cssq: want of memory"
 message_of Output = codes "cssq: cannot write"
 
--- a tree's want of memory is the run's
+-- a tree that runs out of memory is a run that does
 abbrev pub run_fault : TreeFault → RunFault
 run_fault (tree.Memory line) = Memory
 run_fault (tree.BadDepth line) = Tree (tree.BadDepth line)

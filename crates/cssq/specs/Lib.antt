@@ -8,7 +8,7 @@ pub mod Winners
 pub mod Candidates
 pub mod StyleRuns
 pub mod PageRuns
--- What contracts of trees speak of, under the names of this crate.
+-- What contracts of trees name, under the names of this crate.
 pub use Rattle.cssq_tree.specs.TreeText
 pub use Rattle.cssq_tree.specs.ParentsAndSiblings
 pub use Rattle.cssq_tree.specs.Nodes

@@ -1,4 +1,4 @@
--- Which rules of a sheet take an element, and what a run over a sheet and a tree is to write.
+-- Which rules of a sheet match an element, and what a run over a sheet and a tree must write.
 use Rattle.std.specs.Prelude.{◌≡◌, ℕ, ◌+◌, ◌↔◌, length, Bool, true, List, [], ◌∷◌, ◌++◌, decimal, Result, Ok, Err}
 use Rattle.std.specs.List.{AllZip, items_where_true, range_with_len, flat_map, concat}
 use Rattle.simplecss.specs.AsciiBytes.{newline, space, colon}
@@ -15,11 +15,11 @@ use Rattle.cssq_tree.specs.Nodes.{Spot, spot, page_tree}
 abbrev pub Takes : StyleRule → Spot → Type 0
 Takes rule element = HasPlacement page_tree rule.components element
 
--- the answers tell of each rule whether it takes the element
+-- for each rule, whether it matches the element
 abbrev pub AreAnswers : List Bool → List StyleRule → Spot → Type 0
 AreAnswers answers rules element = AllZip (λ answer rule. (answer ≡ true) ↔ Takes rule element) answers rules
 
--- the numbers of the rules with a yes, the first rule having the number 1
+-- the numbers of the rules that match; the first rule has the number 1
 abbrev pub numbers_of : List Bool → List ℕ
 numbers_of answers = items_where_true answers (range_with_len 1 (length answers))
 
@@ -31,22 +31,22 @@ numbers_text numbers = flat_map (λ n. space ∷ decimal n) numbers
 abbrev pub numbers_line : ℕ → List ℕ → List ℕ
 numbers_line number numbers = decimal number ++ (colon ∷ (numbers_text numbers ++ newline ∷ []))
 
--- an element's number, a colon, the numbers of the rules that take it, and a newline
+-- an element's number, a colon, the numbers of the rules that match it, and a newline
 abbrev pub line_text : ℕ → List Bool → List ℕ
 line_text number answers = decimal number ++ (colon ∷ (numbers_text (numbers_of answers) ++ newline ∷ []))
 
--- the line of the element at a place
+-- the line of the element at an index
 abbrev pub IsLineOf : List StyleRule → List Row → ℕ → List ℕ → Type 0
 IsLineOf rules rows place line =
     (answers : List Bool) × AreAnswers answers rules (spot rows place)
     × (line ≡ line_text (place + 1) answers)
 
--- the text is a line for each place below the count, in turn
+-- the text is a line for each index below the count, in order
 abbrev pub AreLines : (ℕ → List ℕ → Type 0) → ℕ → List ℕ → Type 0
 AreLines IsLine count text =
     (lines : List (List ℕ)) × AllZip IsLine (range_with_len 0 count) lines × (text ≡ concat lines)
 
--- the lines of all elements, in turn
+-- the lines of all elements, in order
 abbrev pub IsMatchText : List StyleRule → List Row → List ℕ → Type 0
 IsMatchText rules rows = AreLines (IsLineOf rules rows) (length rows)
 

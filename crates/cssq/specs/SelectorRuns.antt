@@ -1,4 +1,4 @@
--- What a run over the text of a selector is to write.
+-- What a run over the text of a selector must write.
 use Rattle.std.specs.Prelude.{◌≡◌, ℕ, List, [], ◌∷◌, ◌++◌, Option, None, Some, Result, Ok, Err, decimal, map}
 use Rattle.std.specs.List.{join_with_byte}
 use Rattle.simplecss.specs.AsciiBytes.{tab, newline, comma}
@@ -10,7 +10,7 @@ use Rattle.simplecss.specs.Printing.{selector_text}
 use Rattle.cssq.specs.declared.runs.RunFault.{RunFault}
 use Rattle.cssq.specs.declared.runs.RunFault.TheVariants.{Refused}
 
--- the selector of a text, or none where it is refused
+-- the selector of a text, or none if it is refused
 abbrev pub selector_in : List ℕ → Option (List Component)
 selector_in text = (reads this_edition text).0
 
@@ -21,7 +21,7 @@ selector_line selector =
     selector_text selector
     ++ (tab ∷ join_with_byte comma (map decimal (specificity selector)) ++ newline ∷ [])
 
--- the line of a selector, or the fault where there is none
+-- the line of a selector, or the fault if there is none
 abbrev pub line_or_refused : Option (List Component) → Result (List ℕ) RunFault
 line_or_refused None = Err Refused
 line_or_refused (Some selector) = Ok (selector_line selector)

@@ -1,4 +1,4 @@
--- What a run over a sheet, a tree and a name is to write.
+-- What a run over a sheet, a tree and a name must write.
 use Rattle.std.specs.Prelude.{◌≡◌, ℕ, ◌+◌, length, Bool, true, false, List, [], ◌∷◌, ◌++◌, decimal, codes, Option, None, Some, Result, Ok, Err}
 use Rattle.simplecss.specs.AsciiBytes.{newline, space, colon}
 use Rattle.simplecss.specs.ThisEdition.{this_edition}
@@ -12,12 +12,12 @@ use Rattle.cssq_tree.specs.Nodes.{spot, page_tree}
 use Rattle.cssq.specs.MatchRuns.{AreLines}
 use Rattle.cssq.specs.Winners.{Wins, IsStated}
 
--- what stands behind a value
+-- what follows a value
 abbrev pub mark : Bool → List ℕ
 mark true = codes " !important"
 mark false = []
 
--- a space, the value, and the mark of an important one; nothing where none wins
+-- a space, the value, and the mark of an important one; nothing if none wins
 abbrev pub winner_text : Option StyleDeclaration → List ℕ
 winner_text None = []
 winner_text (Some p) = space ∷ (p.value ++ mark p.important)
@@ -26,14 +26,14 @@ winner_text (Some p) = space ∷ (p.value ++ mark p.important)
 abbrev pub style_line : ℕ → Option StyleDeclaration → List ℕ
 style_line number winner = decimal number ++ (colon ∷ (winner_text winner ++ newline ∷ []))
 
--- the line of the element at a place
+-- the line of the element at an index
 abbrev pub IsStyleLineOf : List ℕ → List StyleRule → List Row → ℕ → List ℕ → Type 0
 IsStyleLineOf name rules rows place line =
     (winner : Option StyleDeclaration)
     × Wins (IsStated page_tree (spot rows place) rules) name winner
     × (line ≡ style_line (place + 1) winner)
 
--- the lines of all elements, in turn
+-- the lines of all elements, in order
 abbrev pub IsStyleText : List ℕ → List StyleRule → List Row → List ℕ → Type 0
 IsStyleText name rules rows = AreLines (IsStyleLineOf name rules rows) (length rows)
 

@@ -6,12 +6,13 @@ use Rattle.simplecss.specs.Statements.{StyleRule}
 use Rattle.simplecss.specs.Trees.{Tree}
 use Rattle.simplecss.specs.Placements.{HasPlacement}
 
--- Where declarations stand: of which rule's place and which place in it, and which of them.
+-- A set of declarations: for each index of a rule and index in that rule, whether it has a
+-- declaration there, and which.
 abbrev pub Standing : Type 1
 Standing = ℕ → ℕ → StyleDeclaration → Type 0
 
--- The declaration stands at place j of the rule at place i, and this rule has a placement
--- on the node.
+-- The declaration is at index `j` of the rule at index `i`, and this rule has a placement on the
+-- node.
 pub record IsStated {Node : Type 0} (tree : Tree Node) (n : Node) (rules : List StyleRule)
     (i j : ℕ) (p : StyleDeclaration) : Type 0 where
   pub rule : StyleRule
@@ -24,26 +25,26 @@ abbrev pub weight : Bool → ℕ
 weight true = 1
 weight false = 0
 
--- A declaration x at place j of the rule at place i beats y at place l of the rule at place k: x is
--- more important; or as important and of a later rule; or as important, of the same rule, and later
--- in it.
+-- A declaration `x` at index `j` of the rule at index `i` beats `y` at index `l` of the rule at
+-- index `k`: `x` is more important; or as important and of a later rule; or as important, of the
+-- same rule, and later in it.
 pub data Beats (x : StyleDeclaration) (i j : ℕ) (y : StyleDeclaration) (k l : ℕ) : Type 0 where
   by_importance : weight y.important < weight x.important → Beats x i j y k l
   by_rule : weight x.important ≡ weight y.important → k < i → Beats x i j y k l
   by_place : weight x.important ≡ weight y.important → k ≡ i → l < j → Beats x i j y k l
 
--- The declaration of the name stands at this place, and no other of the name that stands somewhere
--- beats it there.
+-- The declaration of the name is in the set at this index, and no other of the name in the set
+-- beats it.
 pub record WinsAt (stands : Standing) (name : List ℕ) (i j : ℕ) (p : StyleDeclaration) : Type 0 where
   pub stated : stands i j p
   pub named : p.name ≡ name
   pub unbeaten : (k l : ℕ) (q : StyleDeclaration) → stands k l q → q.name ≡ name → Beats q k l p i j → ⊥
 
--- none of the name stands anywhere
+-- none of the name is in the set
 abbrev pub NoneStands : Standing → List ℕ → Type 0
 NoneStands stands name = (i j : ℕ) (p : StyleDeclaration) → stands i j p → p.name ≡ name → ⊥
 
--- what wins, or none where none of the name stands anywhere
+-- what wins, or none if none of the name is in the set
 abbrev pub Wins : Standing → List ℕ → Option StyleDeclaration → Type 0
 Wins stands name None = NoneStands stands name
 Wins stands name (Some p) = (i : ℕ) × (j : ℕ) × WinsAt stands name i j p
@@ -61,18 +62,18 @@ HasNoWinner tree n name rules = NoneStands (IsStated tree n rules) name
 abbrev pub WinsForItsName : {Node : Type 0} → Tree Node → Node → List StyleRule → Standing
 WinsForItsName tree n rules i j p = WinsAt (IsStated tree n rules) p.name i j p
 
--- a declaration and where it stands: the place of its rule, and its place in the rule
+-- a declaration with the index of its rule, and its index in the rule
 pub record Placed : Type 0 where
   pub rule : ℕ
   pub place : ℕ
   pub declaration : StyleDeclaration
 
--- the place k of rule i is before the place l of rule j
+-- index `k` of rule `i` is before index `l` of rule `j`
 abbrev pub IsEarlier : ℕ → ℕ → ℕ → ℕ → Type 0
 IsEarlier i k j l = (i < j) ⊎ ((i ≡ j) × (k < l))
 
--- The declarations are all that stand somewhere, once for each place at which one does, in the
--- order of their places.
+-- The declarations are all those in the set, once for each index at which one is, in the order of
+-- their indices.
 pub record ListsInOrder (stands : Standing) (declarations : List StyleDeclaration) : Type 0 where
   pub placed : List Placed
   pub are : map (λ a. a.declaration) placed ≡ declarations
@@ -82,7 +83,7 @@ pub record ListsInOrder (stands : Standing) (declarations : List StyleDeclaratio
   pub all : (i j : ℕ) (p : StyleDeclaration) → stands i j p
       → (k : ℕ) × (slice_get placed k ≡ Some (record { rule = i; place = j; declaration = p }))
 
--- no two of the declarations have one name
+-- no two of the declarations have the same name
 abbrev pub HaveOwnNames : List StyleDeclaration → Type 0
 HaveOwnNames declarations =
     (k l : ℕ) (p q : StyleDeclaration) → k < l → slice_get declarations k ≡ Some p

@@ -4,20 +4,20 @@ ghost use Rattle.std.specs.Prelude.{◌≡◌, map, option_map, string_bytes};
 ghost use Rattle.cssq.specs.Command.{request, request_of, selector_of, sheet_of, match_of};
 ghost use Rattle.cssq.specs.Command.{style_of};
 
-/// The line that tells which words there are.
+/// The line that shows the commands.
 pub const USAGE: &str =
     "usage: cssq [selector TEXT | sheet FILE... | match FILE TREE | style FILE TREE NAME]";
 
-/// What the words after the program's name ask for.
+/// A command, as the words after the program's name spell it.
 #[derive(Clone, Copy, PartialEq, Debug)]
 pub enum Command<'w> {
-    /// No words: the selector that is all of standard input.
+    /// No words: the text of the selector is all of standard input.
     Input,
-    /// `selector TEXT`: the selector of the text.
+    /// `selector TEXT`: the selector of a text.
     Selector(&'w str),
-    /// `sheet FILE...`: the sheet of the files' texts in turn.
+    /// `sheet FILE...`: the sheet of the files' texts, one after another.
     Sheet(&'w [String]),
-    /// `match FILE TREE`: which rules of the file's sheet take each element of the tree.
+    /// `match FILE TREE`: which rules of the file's sheet match each element of the tree.
     Match(&'w str, &'w str),
     /// `style FILE TREE NAME`: which declaration of the name in the file's sheet wins on each
     /// element of the tree.
@@ -25,8 +25,8 @@ pub enum Command<'w> {
 }
 
 impl<'w> Command<'w> {
-    /// The command that the words after the program's name ask for, or none where they ask for no
-    /// command. It takes no memory.
+    /// Returns the command that the words after the program's name spell, if they spell one. It
+    /// allocates nothing.
     pub fn of(words: &'w [String]) -> Option<Command<'w>>
         ensures { option_map request result ≡ request_of (map string_bytes words.now) }
     {
@@ -43,7 +43,7 @@ impl<'w> Command<'w> {
     }
 }
 
-/// The command `selector`, if there is one operand, the text.
+/// Returns the command `selector` if there is one operand, the text.
 fn selector(operands: &[String]) -> Option<Command<'_>>
     ensures { option_map request result ≡ selector_of (map string_bytes operands.now) }
 {
@@ -53,7 +53,7 @@ fn selector(operands: &[String]) -> Option<Command<'_>>
     }
 }
 
-/// The command `sheet`, if there is an operand: all are names of files.
+/// Returns the command `sheet` if there is an operand: all are names of files.
 fn sheet(operands: &[String]) -> Option<Command<'_>>
     ensures { option_map request result ≡ sheet_of (map string_bytes operands.now) }
 {
@@ -63,7 +63,7 @@ fn sheet(operands: &[String]) -> Option<Command<'_>>
     }
 }
 
-/// The command `match`, if there are two operands: the names of a file and of a tree.
+/// Returns the command `match` if there are two operands: the names of a file and of a tree.
 #[tactic(auto, using(crate::proofs::Operands::match_of_few, crate::proofs::Operands::match_of_many))]
 fn match_tree(operands: &[String]) -> Option<Command<'_>>
     ensures { option_map request result ≡ match_of (map string_bytes operands.now) }
@@ -74,8 +74,8 @@ fn match_tree(operands: &[String]) -> Option<Command<'_>>
     }
 }
 
-/// The command `style`, if there are three operands: the names of a file and of a tree, and that of
-/// a property.
+/// Returns the command `style` if there are three operands: the names of a file and of a tree, and
+/// that of a property.
 #[tactic(auto, using(crate::proofs::Operands::style_of_few, crate::proofs::Operands::style_of_many))]
 fn style_tree(operands: &[String]) -> Option<Command<'_>>
     ensures { option_map request result ≡ style_of (map string_bytes operands.now) }
