@@ -25,7 +25,7 @@ fn edits_a_sheet(rt: HostRuntime) -> Result<(), Fail> {
     let printed = sheet.to_string(rt.alloc())?;
     let want = "a { b:c !important; }\n*[id='i'] { j:k !important; }\nl > *[class~='m'] { n:o; }";
     same(&rt, printed.as_str(), want, text);
-    // A text that is read then takes the rule to its place in the order.
+    // Reading a further text sorts the rule into its order.
     sheet.parse_more(&Discard, rt.alloc(), "p { q:r }")?;
     let printed = sheet.to_string(rt.alloc())?;
     let want =
@@ -38,7 +38,7 @@ fn edits_a_sheet(rt: HostRuntime) -> Result<(), Fail> {
 fn tells_which_sheets_read_back(rt: HostRuntime) -> Result<(), Fail> {
     for (text, value, wanted) in [
         ("a { b:c } #d { e:f !important }", "red", true),
-        // Another rule within a value.
+        // A value that contains another rule.
         ("a { b:c }", "red; } p { q:r", false),
         // An apostrophe, which the printed selector does not escape.
         ("[a=\"b'c\"] { d:e }", "red", false),

@@ -7,10 +7,10 @@ use simplecss_tree::{Node, Tree, TreeError};
 use std::alloc::{AllocError, Global};
 use std::test::Fail;
 
-/// An element's name, and the values of its attributes `id` and `class`, where it has them.
+/// An element's name, and the values of its attributes `id` and `class`, if it has them.
 type Entry<'a> = (&'a str, Option<&'a str>, Option<&'a str>);
 
-/// The tree of a line of elements, each the child of the one before.
+/// Returns the tree of a line of elements, each the child of the one before.
 fn tree_of<'a>(alloc: Global, line: &[Entry<'a>]) -> Result<Tree<'a>, TreeError> {
     let mut tree = Tree::new(alloc);
     let mut parent = None;
@@ -26,7 +26,7 @@ fn tree_of<'a>(alloc: Global, line: &[Entry<'a>]) -> Result<Tree<'a>, TreeError>
     Ok(tree)
 }
 
-/// The last element of the tree.
+/// Returns the last element of the tree.
 fn last<'t, 'a>(tree: &'t Tree<'a>) -> Option<Node<'t, 'a>> {
     tree.node(tree.len().checked_sub(1)?)
 }
@@ -39,7 +39,7 @@ const FOUND: &[(&str, &[Entry<'static>], &str)] = &[
         &[("a", Some("x"), Some("b"))],
         "4 3 2 1",
     ),
-    // The key is of the last component, and the others are asked too.
+    // The key is of the last component, and the others are tested too.
     (
         "p a{n:1} .b .c{n:2} .c .b{n:3}",
         &[("p", None, Some("b")), ("a", None, Some("c"))],
@@ -50,7 +50,7 @@ const FOUND: &[(&str, &[Entry<'static>], &str)] = &[
         &[("p", None, None), ("a", None, None)],
         "1",
     ),
-    // The first id is the key, or else the first class, and all are asked.
+    // The first id is the key, or else the first class, and all are tested.
     (
         "#x#y{n:1} .b.c{n:2} a.b{n:3} a#x.b{n:4}",
         &[("a", Some("x"), Some("b"))],
@@ -70,7 +70,7 @@ const FOUND: &[(&str, &[Entry<'static>], &str)] = &[
     ),
     // A class that the value repeats matches once.
     (".b{n:1} .c{n:2}", &[("a", None, Some("b b c b"))], "1 2"),
-    // Words stand between single spaces 0x20; a tab parts none.
+    // Words are separated by single spaces 0x20; a tab separates none.
     (".b{n:1} .c{n:2}", &[("a", None, Some(" b  c "))], "1 2"),
     (".b{n:1} .c{n:2}", &[("a", None, Some("b\tc"))], ""),
     ("[class~='']{n:1}", &[("a", None, Some("b  c"))], "1"),
@@ -91,12 +91,12 @@ const FOUND: &[(&str, &[Entry<'static>], &str)] = &[
     ("", &[("a", Some("x"), Some("b"))], ""),
 ];
 
-/// The value of the first declaration of the rule at this place.
+/// Returns the value of the first declaration of the rule at this index.
 fn value_at<'a>(rules: &[Rule<'a>], place: usize) -> Option<&'a str> {
     Some(rules.get(place)?.declarations.first()?.value)
 }
 
-/// The values of the first declarations of the rules at these places, with a space between.
+/// Returns the values of the first declarations of the rules at these indices, separated by spaces.
 fn values_at(alloc: Global, rules: &[Rule<'_>], places: &[usize]) -> Result<String, AllocError> {
     let mut text = String::new(alloc);
     for place in places {
@@ -108,7 +108,7 @@ fn values_at(alloc: Global, rules: &[Rule<'_>], places: &[usize]) -> Result<Stri
     Ok(text)
 }
 
-/// The values of the rules that an index finds for the last element of the line, in order.
+/// Returns the values of the rules that an index finds for the last element of the line, in order.
 fn found(alloc: Global, text: &str, line: &[Entry<'_>]) -> Result<String, Fail> {
     let sheet = StyleSheet::parse(&Discard, alloc, text)?;
     let index = RuleIndex::new(alloc, &sheet.rules)?;
@@ -132,14 +132,14 @@ fn what_an_index_finds(rt: HostRuntime) -> Result<(), Fail> {
     Ok(())
 }
 
-/// Rules of all kinds of keys, some with the same key, and some of which ask for a parent or a
-/// class besides.
+/// Rules of all kinds of keys, some with the same key, and some that also require a parent or a
+/// class.
 const SHEET: &str =
     "*{n:1} a{n:2} p{n:3} .b{n:4} .c{n:5} #x{n:6} #y{n:7} p a{n:8} p>a{n:9} .b a{n:10} .b .c{n:11} \
     a.b{n:12} a.c.b{n:13} #x.b{n:14} a#x{n:15} [id=x]{n:16} [class='b c']{n:17} [class~='']{n:18} p *{n:19} \
     *.c{n:20} [class|=b]{n:21} a:first-child{n:22} .c .b{n:23} #x .b{n:24} #x #y{n:25} a+a{n:26} .b.c{n:27}";
 
-/// Lines of elements, the last of which is asked.
+/// Lines of elements, the last of which is matched.
 const LINES: &[&[Entry<'static>]] = &[
     &[("a", None, None)],
     &[("a", Some("x"), Some("b"))],
@@ -156,7 +156,7 @@ const LINES: &[&[Entry<'static>]] = &[
     &[("p", None, Some("c")), ("p", None, Some("b\tc"))],
 ];
 
-/// The places of the rules that match, each rule asked in turn.
+/// Returns the indices of the rules that match, each rule tested in order.
 fn asked_in_turn(
     alloc: Global,
     rules: &[Rule<'_>],
@@ -171,7 +171,7 @@ fn asked_in_turn(
     Ok(places)
 }
 
-/// One vector serves all questions, and what stood in it is dropped.
+/// One vector serves all calls, and its earlier items are dropped.
 #[test]
 fn as_if_each_rule_were_asked(rt: HostRuntime) -> Result<(), Fail> {
     let sheet = StyleSheet::parse(&Discard, rt.alloc(), SHEET)?;
@@ -189,7 +189,7 @@ fn as_if_each_rule_were_asked(rt: HostRuntime) -> Result<(), Fail> {
     Ok(())
 }
 
-/// The text, so many times.
+/// Returns the text, repeated `count` times.
 fn repeated(alloc: Global, text: &str, count: usize) -> Result<String, AllocError> {
     let mut all = String::new(alloc);
     for _ in 0..count {
@@ -198,8 +198,8 @@ fn repeated(alloc: Global, text: &str, count: usize) -> Result<String, AllocErro
     Ok(all)
 }
 
-/// How many rules an index finds for an element of this class, and the room of the places after one
-/// and after two questions.
+/// Returns the number of rules that an index finds for an element of this class, and the capacity
+/// of the vector after one and after two calls.
 fn rooms(alloc: Global, text: &str, class: &str) -> Result<(usize, usize, usize), Fail> {
     let sheet = StyleSheet::parse(&Discard, alloc, text)?;
     let index = RuleIndex::new(alloc, &sheet.rules)?;
@@ -212,8 +212,8 @@ fn rooms(alloc: Global, text: &str, class: &str) -> Result<(usize, usize, usize)
     Ok((places.len(), room, places.capacity()))
 }
 
-/// A hundred times the class of a hundred rules: the places have room for words and rules, and not
-/// for each pair of them. Once there is room, further questions take none.
+/// A hundred times the class of a hundred rules: the vector's capacity is for words and rules, and
+/// not for each pair of them. Once it is large enough, further calls allocate nothing.
 #[test]
 fn a_repeated_class_takes_little_memory(rt: HostRuntime) -> Result<(), Fail> {
     let text = repeated(rt.alloc(), ".b{n:1} ", 100)?;

@@ -1,4 +1,4 @@
-//! Tests of what the library answers on trees: the ready tree, the index of rules, and the loops and
+//! Tests of the library's answers on trees: the ready tree, the index of rules, and the loops and
 //! the tree of `simplecss_uses`. The crate has no item of its own.
 #![tactic(auto)]
 

@@ -1,4 +1,4 @@
-//! What the loops and chains give.
+//! What the loops and chains return.
 use crate::same::same;
 use simplecss::{Declaration, Error, SelectorToken, TextPos};
 use simplecss_uses::tokens::{
@@ -9,7 +9,7 @@ use std::test::Fail;
 
 const STYLE: &str = "color: red; background: url(\"img.png\") !important; a:b!importantly:x";
 
-/// Styles, and how many of their declarations are important.
+/// Styles, and the numbers of their important declarations.
 const IMPORTANT: &[(&str, usize)] = &[
     (STYLE, 2),
     ("color:red !important", 1),
@@ -26,7 +26,7 @@ fn counts_important_declarations(rt: HostRuntime) {
     }
 }
 
-/// Styles, and how many declarations they have.
+/// Styles, and the numbers of their declarations.
 const DECLARATIONS: &[(&str, usize)] = &[
     (STYLE, 4),
     ("color:red", 1),
@@ -84,7 +84,7 @@ fn finds_an_important_declaration(rt: HostRuntime) {
     same(&rt, first_important("color:red"), None, "color:red");
 }
 
-/// Selectors, and how many errors their tokens have.
+/// Selectors, and the numbers of errors among their tokens.
 const ERRORS: &[(&str, usize)] = &[
     ("a > b", 0),
     ("a <", 2),
@@ -102,7 +102,7 @@ fn counts_errors(rt: HostRuntime) {
     }
 }
 
-/// Selectors, and how many tokens and errors they have.
+/// Selectors, and the numbers of their tokens and errors.
 const ITEMS: &[(&str, usize)] = &[
     ("a > b", 3),
     ("a <", 4),

@@ -1,4 +1,4 @@
-//! What the tree of a user's own answers.
+//! The answers of a user's own tree.
 
 use crate::same::same;
 use log::sink::Discard;
@@ -6,7 +6,7 @@ use simplecss::Selector;
 use simplecss_uses::own_tree::{Entry, Spot};
 use std::test::Fail;
 
-/// An entry with this parent and this previous sibling.
+/// Returns an entry with this parent and this previous sibling.
 fn entry(
     name: &'static str,
     class: &'static str,
@@ -28,7 +28,7 @@ fn matches_in_an_own_tree(rt: HostRuntime) -> Result<(), Fail> {
         entry("b", "", Some(0), None),
         entry("c", "y", Some(0), Some(1)),
         entry("b", "z", Some(2), None),
-        // Places that stand later, or have another parent, are none.
+        // An index that is greater, or of an element with another parent, is not used.
         entry("d", "", Some(5), Some(5)),
         entry("d", "", Some(0), Some(3)),
     ];

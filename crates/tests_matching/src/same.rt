@@ -1,9 +1,9 @@
-//! What the tests of the crate have in common.
+//! Helpers of the tests of the crate.
 
 use std::fmt::Debug;
 use std::process::Abort;
 
-/// Fails the test where what was found is not what is wanted.
+/// Fails the test if the value found is not the expected one.
 pub(crate) fn same<T: Copy + Debug + PartialEq>(rt: &impl Abort, found: T, wanted: T, of: &str) {
     assert_eq!(rt; found, wanted, "of {of}");
 }

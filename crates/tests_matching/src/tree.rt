@@ -1,4 +1,4 @@
-//! What the elements of the ready tree answer.
+//! The answers of the elements of the ready tree.
 
 use crate::same::same;
 use log::sink::Discard;
@@ -8,7 +8,7 @@ use std::alloc::{AllocError, Global};
 use std::io;
 use std::test::Fail;
 
-/// Of each element the place of its parent, its name and its attributes.
+/// For each element the index of its parent, its name and its attributes.
 const ELEMENTS: &[(Option<usize>, &str, &[(&str, &str)])] = &[
     (None, "html", &[("lang", "en")]),
     (Some(0), "head", &[]),
@@ -52,7 +52,7 @@ fn two_trees(alloc: Global) -> Result<Tree<'static>, TreeError> {
     Ok(tree)
 }
 
-/// The places of the elements that the selector matches.
+/// Returns the indices of the elements that the selector matches.
 fn matched(alloc: Global, tree: &Tree<'_>, text: &str) -> Result<Vec<usize>, Fail> {
     let selector = Selector::parse(&Discard, alloc, text)?.ok_or("refused")?;
     let mut places = Vec::new(alloc);
@@ -65,9 +65,9 @@ fn matched(alloc: Global, tree: &Tree<'_>, text: &str) -> Result<Vec<usize>, Fai
     Ok(places)
 }
 
-/// Selectors, and the places of the elements that they match. By CSS 2.1: sections 5.2 to 5.9 for
-/// names, steps and attributes, 5.11.1 for `:first-child`, and 5.11.4 for `:lang`, which passes to
-/// children and compares letters of ASCII without their case.
+/// Selectors, and the indices of the elements that they match. By CSS 2.1: sections 5.2 to 5.9 for
+/// names, combinators and attributes, 5.11.1 for `:first-child`, and 5.11.4 for `:lang`, which
+/// children inherit and which compares ASCII letters without their case.
 const MATCHED: &[(&str, &[usize])] = &[
     ("*", &[0, 1, 2, 3, 4, 5, 6, 7, 8, 9, 10]),
     ("b", &[3, 5]),
@@ -124,7 +124,7 @@ fn tells_each_state(rt: HostRuntime) -> Result<(), Fail> {
     Ok(())
 }
 
-/// Elements, their parents and their previous siblings, by place.
+/// Elements, their parents and their previous siblings, by index.
 const RELATIVES: &[(usize, Option<usize>, Option<usize>)] = &[
     (0, None, None),
     (1, Some(0), None),

@@ -1,4 +1,4 @@
-//! Which declarations win on an element, and which of all names.
+//! Which declaration wins on an element, for one name and for all names.
 
 use crate::same::same;
 use cssq::cascade::{winners, winning};
@@ -9,13 +9,13 @@ use std::alloc::{AllocError, Global};
 use std::fmt::Write;
 use std::test::Fail;
 
-/// The sheet of the text.
+/// Returns the sheet of the text.
 fn sheet_of(alloc: Global, text: &str) -> Result<StyleSheet<'_>, Fail> {
     Ok(StyleSheet::parse(&Discard, alloc, text)?)
 }
 
-/// Whether on the one element of the tree this value wins for the name `c`, important or not; or
-/// none.
+/// Whether this value wins for the name `c` on the one element of the tree, important or not; or
+/// none does.
 fn wins(
     alloc: Global,
     sheet: &StyleSheet<'_>,
@@ -74,8 +74,8 @@ fn wins_by_place_in_an_edited_sheet(rt: HostRuntime) -> Result<(), Fail> {
     Ok(())
 }
 
-/// The texts of the declarations that win on the one element of the tree, with spaces between them.
-/// Fails where `winning` gives another for one of their names.
+/// Returns the texts of the declarations that win on the one element of the tree, separated by
+/// spaces. Fails if `winning` returns another for one of their names.
 fn all_that_win(alloc: Global, sheet: &StyleSheet<'_>, tree: &str) -> Result<String, Fail> {
     let page = Page::read(alloc, tree)?;
     let element = page.node(0).ok_or("no element")?;
@@ -121,7 +121,8 @@ fn lists_all_that_win(rt: HostRuntime) -> Result<(), Fail> {
 
 const NAMES: usize = 3000;
 
-/// Two rules, each with declarations of so many names, whose values are the number of the rule.
+/// Returns two rules, each with a declaration for each of many names, whose values are the number
+/// of the rule.
 fn many_names(alloc: Global) -> Result<String, AllocError> {
     let mut text = String::new(alloc);
     for rule in 0..2 {

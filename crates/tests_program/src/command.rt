@@ -1,11 +1,11 @@
-//! What the words of a command line ask for.
+//! The commands that the words of a command line spell.
 
 use crate::same::same;
 use cssq::command::Command;
 use std::alloc::Global;
 use std::test::Fail;
 
-/// The words of a line, between spaces.
+/// Returns the words of a line, between spaces.
 fn words(alloc: Global, line: &str) -> Result<Vec<String>, Fail> {
     let mut words = Vec::new(alloc);
     for word in line.split(' ') {
@@ -14,7 +14,7 @@ fn words(alloc: Global, line: &str) -> Result<Vec<String>, Fail> {
     Ok(words)
 }
 
-/// Lines that ask for nothing.
+/// Lines that are no command.
 const NOTHING: &[&str] = &[
     "selector",
     "selector a b",

@@ -1,4 +1,4 @@
-//! Elements of a page that count the tests that are made of them.
+//! Elements of a page that count the tests made of them.
 
 use crate::same::same;
 use cssq::cascade::{winners, winning};
@@ -11,7 +11,7 @@ use std::alloc::Global;
 use std::cell::Cell;
 use std::test::Fail;
 
-/// How often elements were asked each question.
+/// How often elements were tested, by kind of test.
 #[derive(Drop)]
 struct Asked {
     names: Cell<u64>,
@@ -33,7 +33,7 @@ fn count(cell: &Cell<u64>) {
     cell.set(cell.get().saturating_add(1));
 }
 
-/// An element of a page that counts what it and its relatives are asked.
+/// An element of a page that counts the tests of it and its relatives.
 #[derive(Drop)]
 struct Counted<'a, 'p, 't> {
     node: Node<'p, 't>,
@@ -115,7 +115,7 @@ impl<'a, 'p, 't> Keyed for Counted<'a, 'p, 't> {
     }
 }
 
-/// An answer, and how often names, attributes and classes were asked.
+/// An answer, and how often names, attributes and classes were tested.
 #[derive(Clone, Copy, PartialEq, Debug)]
 struct Run {
     answer: bool,
@@ -124,7 +124,7 @@ struct Run {
     classes: u64,
 }
 
-/// The run of a selector on the last element of a tree, by `matches_counted` or by `matches`.
+/// Runs a selector on the last element of a tree, by `matches_counted` or by `matches`.
 fn asked_on_last(alloc: Global, selector: &str, tree: &str, is_counted: bool) -> Result<Run, Fail> {
     let page = Page::read(alloc, tree)?;
     let selector = Selector::parse(&Discard, alloc, selector)?.ok_or("refused")?;
@@ -147,8 +147,8 @@ fn asked_on_last(alloc: Global, selector: &str, tree: &str, is_counted: bool) ->
     })
 }
 
-/// A tree of elements that carry their names as their classes: each word is the child of the one
-/// before, or its sibling where a `+` stands between them.
+/// Returns a tree of elements that have their names as their classes: each word is the child of the
+/// one before, or its sibling after a `+`.
 fn tree_of(alloc: Global, words: &str) -> Result<String, Fail> {
     use std::fmt::Write;
     let mut text = String::new(alloc);
@@ -164,8 +164,8 @@ fn tree_of(alloc: Global, words: &str) -> Result<String, Fail> {
     Ok(text)
 }
 
-/// A selector by names and one by classes, the words of a tree, the answer, and how many tests are
-/// made.
+/// A selector by names and one by classes, the words of a tree, the answer, and the number of
+/// tests.
 const COUNTS: &[(&str, &str, &str, bool, u64)] = &[
     ("a > b c", ".a > .b .c", "a b x b c", true, 6),
     ("a b + c", ".a .b + .c", "a x b + c", true, 4),
@@ -175,7 +175,7 @@ const COUNTS: &[(&str, &str, &str, bool, u64)] = &[
     ("y a > a b", ".y .a > .a .b", "a a b", false, 3),
 ];
 
-/// What a run tells that has made these tests, of names or of classes.
+/// Returns the run that made these tests, of names or of classes.
 fn run_with(answer: bool, names: u64, attributes: u64) -> Run {
     Run {
         answer,
@@ -238,8 +238,8 @@ fn counts_in_a_deep_tree(rt: HostRuntime) -> Result<(), Fail> {
     Ok(())
 }
 
-/// How often the one element of a tree is asked its name while the winner for the name `c` is
-/// sought, and while all are.
+/// Returns how often the name of the one element of a tree is tested while the winner for the name
+/// `c` is sought, and while all are.
 fn asked_for_winners(alloc: Global, sheet: &str) -> Result<(u64, u64), Fail> {
     let sheet = StyleSheet::parse(&Discard, alloc, sheet)?;
     let page = Page::read(alloc, "0\ta")?;
@@ -255,7 +255,7 @@ fn asked_for_winners(alloc: Global, sheet: &str) -> Result<(u64, u64), Fail> {
     Ok((for_one, for_both.saturating_sub(for_one)))
 }
 
-/// A sheet, and how often an element is asked for one name and for all.
+/// A sheet, and how often an element is tested for one name and for all.
 const ASKED_RULES: &[(&str, (u64, u64))] = &[
     ("a{d:x} a{e:x}", (0, 2)),
     ("a{c:x} a{c:y}", (1, 2)),
@@ -276,11 +276,11 @@ fn asks_few_rules_for_winners(rt: HostRuntime) -> Result<(), Fail> {
     Ok(())
 }
 
-/// A tree for the rules below: what is asked is asked of its last element.
+/// A tree for the rules below, which are tested on its last element.
 const INDEXED: &str = "0\tbody\tclass=n\n1\tb\tclass=s\n1\tp\tclass=a\tq=1\n";
 
-/// How often the last element of the tree and those near it are asked their names and their
-/// attributes while an index finds the rules that match.
+/// Returns how often the names and the attributes of the last element of the tree and of those near
+/// it are tested while an index finds the rules that match.
 fn asked_by_index(alloc: Global, sheet: &str, is_counted: bool) -> Result<(u64, u64), Fail> {
     let sheet = StyleSheet::parse(&Discard, alloc, sheet)?;
     let index = RuleIndex::new(alloc, &sheet.rules)?;
@@ -299,14 +299,14 @@ fn asked_by_index(alloc: Global, sheet: &str, is_counted: bool) -> Result<(u64, 
     Ok((asked.names.get(), asked.attributes.get()))
 }
 
-/// Rules, and how often an index asks names and attributes for them.
+/// Rules, and how often an index tests names and attributes for them.
 const INDEXED_RULES: &[(&str, (u64, u64))] = &[
     // A rule is tested if the element has its id, its class, its name or its attribute.
     (".a{x:y} .b{x:y} #i{x:y} p{x:y} i{x:y}", (1, 1)),
     ("[q]{x:y} [r]{x:y} [q='2']{x:y}", (0, 2)),
-    // Or the parent or the previous sibling what a step before `*` leads to.
+    // A rule `x > *` or `x + *` is tested if the parent or the previous sibling has the key of `x`.
     (".n > *{x:y} .m > *{x:y} .s + *{x:y} .n + *{x:y}", (0, 2)),
-    // And then only if its ancestors may be there.
+    // A rule is tested only if its ancestors may exist.
     (
         ".n p{x:y} .z p{x:y} .z > p{x:y} #n p{x:y} .z b + p{x:y}",
         (1, 1),

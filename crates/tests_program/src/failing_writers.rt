@@ -1,5 +1,5 @@
-//! Runs into writers that have no room for all of the output: at each number of bytes, in pieces of
-//! each size, by an error or by taking nothing.
+//! Runs into writers without room for all of the output: for each number of bytes, in pieces of
+//! each size, with an error or by writing nothing.
 
 use cssq::runs::{RunFault, run_match, run_selector, run_sheet, run_style};
 use cssq::tree::TreeFault;
@@ -9,7 +9,7 @@ use std::io;
 use std::io::{ErrorKind, Write};
 use std::test::Fail;
 
-/// One call of a run, without its writer.
+/// A call of a run, without its writer.
 #[derive(Clone, Copy, Debug)]
 enum Run<'t> {
     Selector(&'t str),
@@ -29,16 +29,16 @@ impl<'t> Run<'t> {
     }
 }
 
-/// What a writer does once its room is taken.
+/// What a writer does once it is full.
 #[derive(Clone, Copy, Debug)]
 enum Ending {
-    /// Each write fails so.
+    /// Each write fails with this error.
     Fails(ErrorKind),
-    /// Each write takes no byte.
+    /// Each write accepts no byte.
     TakesNone,
 }
 
-/// How many bytes a writer takes a call, and what it does once its room is taken.
+/// The most bytes that a writer accepts in a call, and what it does once it is full.
 const WRITERS: [(usize, Ending); 12] = [
     (1, Ending::Fails(ErrorKind::StorageFull)),
     (3, Ending::Fails(ErrorKind::StorageFull)),
@@ -54,8 +54,8 @@ const WRITERS: [(usize, Ending); 12] = [
     (usize::MAX, Ending::TakesNone),
 ];
 
-/// A writer with room for some bytes, of which it takes at most so many a call. It counts the
-/// writes of which it took nothing, and its flushes.
+/// A writer that accepts `room` bytes, at most `most` of them in a call. It counts the
+/// writes of which it accepted nothing, and its flushes.
 #[derive(Drop)]
 struct Narrow {
     taken: Vec<u8>,
@@ -106,7 +106,7 @@ const TREE: &str = "0\ta\n1\tb\n1\tc\n2\tb\n";
 
 const STYLED: &str = "a { c:red !important; c:blue } a { c:green }";
 
-/// Runs, their outcomes where there is room, and what they then write.
+/// Runs, their outcomes if there is room, and what they then write.
 const RUNS: &[(Run<'static>, Result<(), RunFault>, &str)] = &[
     (
         Run::Selector("a > .b"),
@@ -131,8 +131,8 @@ const RUNS: &[(Run<'static>, Result<(), RunFault>, &str)] = &[
         Ok(()),
         "1: \u{E9}\n2: \u{E9}\n",
     ),
-    // With another fault nothing is written. Without room each write would be refused, of no byte
-    // too.
+    // After another fault nothing is written. A full writer would refuse each write, also one of no
+    // byte.
     (Run::Selector(""), Err(RunFault::Refused), ""),
     (Run::Selector("a <"), Err(RunFault::Refused), ""),
     (
@@ -170,9 +170,9 @@ fn goes_as(
     (outcome, out.taken.as_slice(), out.refusals) == wanted && out.flushes == 0
 }
 
-/// The first writer, by its room, its most bytes a call and its ending, into which the run does not
-/// go as it must: where there is room, or more, it has that outcome and output; else it stops at
-/// the first write that is refused, and says so.
+/// Returns the first writer, by its room, its most bytes in a call and its ending, in which the run
+/// goes wrong. If there is enough room, the run has that outcome and output; else it stops at the
+/// first write that is refused, and reports it.
 fn astray(
     alloc: Global,
     run: Run<'_>,

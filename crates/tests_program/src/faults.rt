@@ -6,7 +6,7 @@ use std::alloc::{AllocError, Global};
 use std::fmt::Write as _;
 use std::test::Fail;
 
-/// What is found in each text: row and column, what is quoted, and why, a line each.
+/// The faults in each text: row and column, what is quoted, and why, a line each.
 const FOUND: &[(&str, &str)] = &[
     ("", ""),
     ("a { }", ""),
@@ -15,7 +15,7 @@ const FOUND: &[(&str, &str)] = &[
     ("a < b { c:d }", "1:1: 'a < b': invalid ident\n"),
     (
         "x { y:z }\n\nq, a < b , c { d:e }",
-        // A refused last selector takes all up to the block.
+        // With a refused last selector everything up to the block is skipped.
         "3:4: 'a < b , c': invalid ident\n",
     ),
     (
@@ -38,8 +38,7 @@ const FOUND: &[(&str, &str)] = &[
         "1:19: '/* e': comment not closed\n",
     ),
     (
-        // The comment belongs to what stands behind the declaration, and so the declaration is
-        // broken.
+        // The comment belongs to what follows the declaration, so the declaration is broken.
         "a { b:c; /* d } e",
         "1:5: 'b:c': broken declaration\n",
     ),
@@ -60,7 +59,7 @@ const FOUND: &[(&str, &str)] = &[
     ),
 ];
 
-/// What is found in the text, a line each.
+/// Returns the faults in the text, a line each.
 fn found(alloc: Global, text: &str) -> Result<String, AllocError> {
     let mut lines = String::new(alloc);
     for fault in &find_faults(alloc, text)? {
@@ -89,7 +88,7 @@ fn returns_the_error(rt: HostRuntime) -> Result<(), Fail> {
     Ok(())
 }
 
-/// How many faults the text has, and how many bytes are quoted of it.
+/// Returns the number of faults in the text, and how many of its bytes are quoted.
 fn quoted(alloc: Global, text: &str) -> Result<(usize, usize), AllocError> {
     let faults = find_faults(alloc, text)?;
     let mut bytes = 0usize;

@@ -1,5 +1,5 @@
-//! Tests of what the program `cssq` stands on: its words, tree texts, winners, runs and warnings, and
-//! how often elements are tested. The crate has no item of its own.
+//! Tests of the libraries under the program `cssq`: its words, tree texts, winners, runs and
+//! warnings, and how often elements are tested. The crate has no item of its own.
 #![tactic(auto)]
 
 #[cfg(test)]

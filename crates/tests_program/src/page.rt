@@ -1,4 +1,4 @@
-//! Texts of trees: their faults, their elements, and what these answer.
+//! Texts of trees: their faults, their elements, and the answers of these.
 
 use crate::same::same;
 use cssq::tree::{Node, Page, TreeFault};
@@ -6,7 +6,7 @@ use simplecss::{AttributeOperator, Element, PseudoClass};
 use std::alloc::Global;
 use std::test::Fail;
 
-/// The number of elements, or the fault.
+/// Returns the number of elements, or the fault.
 fn read(alloc: Global, text: &str) -> Result<usize, TreeFault> {
     let page = Page::read(alloc, text)?;
     Ok(page.len())
@@ -46,7 +46,7 @@ fn tells_the_first_faulty_line(rt: HostRuntime) {
     }
 }
 
-/// Texts, and how many elements they have.
+/// Texts, and the numbers of their elements.
 const SOUND: &[(&str, usize)] = &[
     ("", 0),
     ("0\ta", 1),
@@ -90,7 +90,7 @@ fn a_cut_tree_tells_its_fault(rt: HostRuntime) -> Result<(), Fail> {
     Ok(())
 }
 
-/// A line of attributes `k0=` to the one before the count, and then a text.
+/// Returns a line of attributes, from `k0=` to the one before the count, and then a text.
 fn long_line(alloc: Global, count: usize, end: &str) -> Result<String, Fail> {
     use std::fmt::Write;
     let mut text = String::from_str(alloc, "0\ta")?;
@@ -121,7 +121,7 @@ fn checks_many_attributes(rt: HostRuntime) -> Result<(), Fail> {
     Ok(())
 }
 
-/// The place of an element among those that are named by these letters in turn.
+/// Returns the index of an element among those that these letters name, in order.
 fn place_of(element: &Node<'_, '_>) -> Option<usize> {
     for (place, name) in ["a", "b", "c", "d", "e", "f", "g", "h", "i"]
         .iter()
@@ -134,7 +134,8 @@ fn place_of(element: &Node<'_, '_>) -> Option<usize> {
     None
 }
 
-/// Of each element of `ties_elements` in turn, the places of its parent and its previous sibling.
+/// For each element of `ties_elements`, in order, the indices of its parent and its previous
+/// sibling.
 const TIES: &[(Option<usize>, Option<usize>)] = &[
     (None, None),
     (Some(0), None),
@@ -164,10 +165,10 @@ fn ties_elements(rt: HostRuntime) -> Result<(), Fail> {
     Ok(())
 }
 
-/// The tree that is asked below.
+/// The tree of the tests below.
 const THREE: &str = "0\ta\tid=x\tclass=u v\t=e\n1\tb\r\n1\tc\n";
 
-/// An attribute, an operator, and what the first element answers.
+/// An attribute, an operator, and the answer of the first element.
 const ASKED: &[(&str, AttributeOperator<'static>, bool)] = &[
     ("id", AttributeOperator::Exists, true),
     ("id", AttributeOperator::Matches("x"), true),
@@ -191,7 +192,7 @@ fn answers_of_attributes(rt: HostRuntime) -> Result<(), Fail> {
     Ok(())
 }
 
-/// The place of an element of the tree, a name, and whether the element answers to it.
+/// The index of an element of the tree, a name, and whether the element has it.
 const NAMED: &[(usize, &str, bool)] = &[
     (0, "a", true),
     (0, "A", false),
@@ -209,7 +210,7 @@ fn answers_to_names(rt: HostRuntime) -> Result<(), Fail> {
     Ok(())
 }
 
-/// The place of an element of the tree, a pseudo-class, and whether the element is in it.
+/// The index of an element of the tree, a pseudo-class, and whether the element is in it.
 const CLASSED: &[(usize, PseudoClass<'static>, bool)] = &[
     (0, PseudoClass::FirstChild, true),
     (1, PseudoClass::FirstChild, true),

@@ -1,4 +1,4 @@
-//! What each run answers and writes, and what a fault says.
+//! What each run returns and writes, and the lines of its faults.
 
 use crate::same::same;
 use cssq::runs::{RunFault, run_match, run_selector, run_sheet, run_style};

@@ -7,7 +7,7 @@ use simplecss::{Selector, Tests};
 use std::alloc::Global;
 use std::test::Fail;
 
-/// A tree's text with its TABs and newlines written as `,` and `;`.
+/// Returns the text of a tree that is written with `,` and `;` for its TABs and newlines.
 fn tree_text(alloc: Global, short: &str) -> Result<String, Fail> {
     let mut text = String::new(alloc);
     for c in short.chars() {
@@ -20,7 +20,7 @@ fn tree_text(alloc: Global, short: &str) -> Result<String, Fail> {
     Ok(text)
 }
 
-/// The numbers, from 1, of the elements that the selector takes, with spaces between them.
+/// Returns the numbers, from 1, of the elements that the selector matches, separated by spaces.
 fn taken(alloc: Global, selector: &str, tree: &str) -> Result<String, Fail> {
     use std::fmt::Write;
     let text = tree_text(alloc, tree)?;
@@ -51,7 +51,7 @@ const CHAIN: &str = "0,a,class=w;1,b,class=x;2,c,class=w";
 /// A drawing of two rectangles.
 const DRAWING: &str = "0,svg;1,g;2,rect,class=round blue;2,rect,color=red";
 
-/// A tree, a selector, and the numbers of the elements that it takes.
+/// A tree, a selector, and the numbers of the elements that it matches.
 const TAKEN: &[(&str, &str, &str)] = &[
     (TWO_ROOTS, "b + c", ""),
     (TWO_ROOTS, "a + a > c", "4"),

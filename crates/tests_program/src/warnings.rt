@@ -1,4 +1,4 @@
-//! Lines that are written of what is skipped.
+//! The lines that are written for skipped text.
 
 use simplecss::StyleSheet;
 use simplecss_faults::FaultLines;
@@ -7,7 +7,7 @@ use std::io;
 use std::io::{Cursor, Write};
 use std::test::Fail;
 
-/// Texts, and the lines of them, the first text's name being `x.css` and the second's `y.css`.
+/// Texts, and the lines for them; the first text is named `x.css` and the second `y.css`.
 const LINES: &[(&[&str], &str)] = &[
     (&["a { }"], ""),
     (&["a < b { c:d }"], "x.css:1:1: 'a < b': invalid ident\n"),
@@ -21,7 +21,7 @@ const LINES: &[(&[&str], &str)] = &[
     ),
 ];
 
-/// Reads the texts into a sheet, and writes what is skipped.
+/// Reads the texts into a sheet, and writes a line for what is skipped.
 fn read<W: Write + Drop>(alloc: Global, texts: &[&str], out: W) -> io::Result<()> {
     let mut lines = FaultLines::new(out, &["x.css", "y.css"]);
     StyleSheet::parse_all_reporting(&mut lines, alloc, texts)?;

@@ -42,7 +42,8 @@ const TEXTS: [&str; 33] = [
     ":lang(\u{3000}en\u{a0}) + * /*\u{1f600}*/ > .\u{1f600}#-",
 ];
 
-/// Reads the text in each way, and says whether each tokenizer gives nothing twice behind its end.
+/// Reads the text in each way, and returns whether each tokenizer returns `None` twice after its
+/// end.
 fn ends_in_each_way(alloc: Global, text: &str) -> Result<bool, AllocError> {
     let mut tokens = SelectorTokenizer::from(text);
     let _tokens = tokens.by_ref().count();

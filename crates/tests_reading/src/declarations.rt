@@ -1,9 +1,9 @@
-//! What `DeclarationTokenizer` gives, as tables.
+//! What `DeclarationTokenizer` yields, as tables.
 
 use simplecss::{Declaration, DeclarationTokenizer};
 use std::process::Abort;
 
-/// Each text gives these declarations and then nothing, for ever.
+/// Asserts that each text yields these declarations and then always nothing.
 fn assert_gives(rt: &impl Abort, rows: &[(&str, &[(&str, &str, bool)])]) {
     for (text, wanted) in rows {
         let mut declarations = DeclarationTokenizer::from(*text);
@@ -21,7 +21,7 @@ fn assert_gives(rt: &impl Abort, rows: &[(&str, &[(&str, &str, bool)])]) {
     }
 }
 
-/// Texts that give no declaration.
+/// Texts without a declaration.
 const NONE: &[&str] = &[
     "",
     "a:\u{3000}",
@@ -40,9 +40,9 @@ fn gives_none(rt: HostRuntime) {
     }
 }
 
-/// Texts, and the declarations that they give.
+/// Texts, and their declarations.
 const GIVEN: &[(&str, &[(&str, &str, bool)])] = &[
-    // The value is what stands behind the colon.
+    // The value is what follows the colon.
     ("a:b 'x", &[("a", "b", false)]),
     ("a:f('x)y') z", &[("a", "f('x)y", false)]),
     (
@@ -62,7 +62,7 @@ fn gives_declarations_as_they_stand(rt: HostRuntime) {
     assert_gives(&rt, GIVEN);
 }
 
-/// Each text, and the place behind each call of `next`, those that give `None` too.
+/// Each text, and the offset after each call of `next`, including those that return `None`.
 const PLACES: &[(&str, &[usize])] = &[
     ("color: red; a:b", &[12, 15, 15]),
     ("a:b !importantly:x", &[14, 18, 18]),

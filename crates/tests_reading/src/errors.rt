@@ -5,7 +5,7 @@ use simplecss::{Error, TextPos};
 /// The position of the errors below.
 const POS: TextPos = TextPos { row: 2, col: 4 };
 
-/// Errors, and the positions that they tell.
+/// Errors, and the positions in them.
 const PLACED: &[(Error, Option<TextPos>)] = &[
     (Error::UnexpectedEndOfStream, None),
     (Error::InvalidIdent(POS), Some(POS)),

@@ -10,7 +10,7 @@ const KEYS: &[(&str, Key<'static>)] = &[
     ("p", Key::Name("p")),
     (".a", Key::Class("a")),
     ("#x", Key::Id("x")),
-    // The last component alone tells.
+    // Only the last component counts.
     (".a .b", Key::Class("b")),
     ("#x > p", Key::Name("p")),
     ("#x + *", Key::Any),
@@ -24,7 +24,7 @@ const KEYS: &[(&str, Key<'static>)] = &[
     // A name before an attribute, and of the attributes the first.
     ("*[b][a]", Key::Attribute("b")),
     ("[b].a", Key::Class("a")),
-    // As attributes: an id's value as a whole, and a class as one of the words.
+    // As attributes: an id by its whole value, and a class as one of the words.
     ("[id=x]", Key::Id("x")),
     ("[id='']", Key::Id("")),
     ("[class~=a]", Key::Class("a")),

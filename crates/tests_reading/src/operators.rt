@@ -3,7 +3,7 @@
 use crate::same::same;
 use simplecss::AttributeOperator;
 
-/// An operator, a value, and whether the value is as the operator asks.
+/// An operator, a value, and whether the value satisfies the operator.
 const ASKED: &[(AttributeOperator<'static>, &str, bool)] = &[
     (AttributeOperator::Exists, "", true),
     (AttributeOperator::Exists, "a b", true),

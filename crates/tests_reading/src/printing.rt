@@ -1,4 +1,4 @@
-//! What a formatter's options leave alone: each value of the library prints alike under all of them.
+//! A formatter's options: each value of the library prints alike under all of them.
 
 use crate::same::same;
 use log::sink::Discard;
@@ -7,8 +7,8 @@ use std::alloc::{AllocError, Global};
 use std::fmt::{Display, Write as _};
 use std::test::Fail;
 
-/// The text of a value, plain and under options: the alternate form, a width to either side, and a
-/// fill with a precision.
+/// Returns the text of a value, plain and under options: the alternate form, a width to either
+/// side, and a fill with a precision.
 fn under_options<T: Display>(alloc: Global, value: &T) -> Result<String, AllocError> {
     let mut texts = format!(in alloc; "{value}\n{value:#}\n")?;
     write!(texts, "{value:>60}\n{value:<5}\n")?;
@@ -23,7 +23,7 @@ fn prints_alike<T: Display>(alloc: Global, value: &T, text: &str) -> Result<bool
     Ok(printed.as_str() == wanted.as_str())
 }
 
-/// Rows, columns, and how they print.
+/// Rows, columns, and their printed text.
 const POSITIONS: &[(u32, u32, &str)] = &[
     (1, 1, "1:1"),
     (2, 10, "2:10"),
@@ -43,7 +43,7 @@ fn prints_positions_alike_under_all_options(rt: HostRuntime) -> Result<(), Alloc
 /// The position of the errors below.
 const POS: TextPos = TextPos { row: 2, col: 4 };
 
-/// Errors, and how they print.
+/// Errors, and their printed text.
 const PRINTED: &[(Error, &str)] = &[
     (Error::UnexpectedEndOfStream, "unexpected end of stream"),
     (Error::InvalidIdent(POS), "invalid ident at 2:4"),

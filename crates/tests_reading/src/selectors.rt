@@ -1,4 +1,4 @@
-//! Selectors that are read from the front of a text, printed, weighed and compared.
+//! Selectors that are read from the start of a text, printed, compared, and their specificity.
 
 use crate::same::same;
 use log::sink::{Discard, Lines, Memory};
@@ -7,7 +7,7 @@ use std::alloc::{AllocError, Global};
 use std::process::Abort;
 use std::test::Fail;
 
-/// The selector as it prints, or `refused`, and the place where reading ended.
+/// Returns the printed selector, or `refused`, and the offset where reading ended.
 fn read(alloc: Global, text: &str) -> Result<(String, usize), AllocError> {
     let (selector, place) = Selector::parse_front(&Memory::new(alloc), alloc, text)?;
     let printed = match selector {
@@ -84,7 +84,7 @@ fn refuses(rt: HostRuntime) -> Result<(), AllocError> {
     )
 }
 
-/// The selector of a text that is none otherwise.
+/// Returns the selector of a text that has one.
 fn parsed<'a>(alloc: Global, text: &'a str) -> Result<Selector<'a>, Fail> {
     Ok(Selector::parse(&Discard, alloc, text)?.ok_or("refused")?)
 }
@@ -104,7 +104,7 @@ fn weighs(rt: HostRuntime) -> Result<(), Fail> {
     Ok(())
 }
 
-/// Texts, and the lines that the logger gets: one where the selector is refused, and else none.
+/// Texts, and the lines that the logger gets: one if the selector is refused, and else none.
 const TOLD: &[(&str, &[&str])] = &[
     (
         "> {}",
@@ -125,7 +125,7 @@ const TOLD: &[(&str, &[&str])] = &[
     ("a > .b:link", &[]),
 ];
 
-/// The lines that the logger gets, and whether the selector is refused.
+/// Returns the lines that the logger gets, and whether the selector is refused.
 fn told(alloc: Global, text: &str) -> Result<(Lines, bool), AllocError> {
     let sink = Memory::new(alloc);
     let selector = Selector::parse(&sink, alloc, text)?;
@@ -149,7 +149,7 @@ fn tells_the_logger_why_it_refuses(rt: HostRuntime) -> Result<(), AllocError> {
     Ok(())
 }
 
-/// The first text, the second so many times, and the third.
+/// Returns the first text, the second `count` times, and the third.
 fn repeated(
     alloc: Global,
     first: &str,
@@ -161,8 +161,8 @@ fn repeated(
     format!(in alloc; "{first}{middle}{last}")
 }
 
-/// The front of a text, what stands a hundred thousand times behind it, the end, how the selector
-/// prints, and the place behind it.
+/// The start of a text, what follows it a hundred thousand times, the end, the printed selector,
+/// and the offset after it.
 const LONG_GAPS: &[(&str, &str, &str, &str, usize)] = &[
     ("", "/**/", "a", "a", 400_001),
     ("a", "/**/", ".b", "a[class~='b']", 400_003),
@@ -201,7 +201,7 @@ fn weighs_many_subselectors(rt: HostRuntime) -> Result<(), Fail> {
     Ok(())
 }
 
-/// Whether the selectors of two texts are equal, or, of one text twice, whether the selector and
+/// Whether the selectors of two texts are equal, or, for one text twice, whether the selector and
 /// its copy are.
 fn are_equal(alloc: Global, text: &str, other: &str) -> Result<bool, Fail> {
     let selector = parsed(alloc, text)?;
@@ -211,7 +211,7 @@ fn are_equal(alloc: Global, text: &str, other: &str) -> Result<bool, Fail> {
     Ok(selector == parsed(alloc, other)?)
 }
 
-/// Two texts, and whether their selectors are equal; of one text twice, whether the copy is.
+/// Two texts, and whether their selectors are equal; for one text twice, whether the copy is.
 const PAIRS: &[(&str, &str, bool)] = &[
     ("a.b > #c + [d] e:hover", "a.b > #c + [d] e:hover", true),
     ("#b", "[id=b]", true),
@@ -232,9 +232,9 @@ fn copies_are_equal(rt: HostRuntime) -> Result<(), Fail> {
     Ok(())
 }
 
-/// A selector, and its lists as `{:?}` shows them. The last component and the end of the last stretch
-/// are kept apart from the lists: subselectors end at 2 and 3 in the first row, and stretches at 2
-/// and 4, the number of components, in the second.
+/// A selector, and its lists as `{:?}` shows them. The last component and the end of the last
+/// stretch are kept apart from the lists: subselectors end at 2 and 3 in the first row, and
+/// stretches at 2 and 4, the number of components, in the second.
 const LISTS: &[(&str, &str)] = &[
     (
         "a.b.c > #d",

@@ -16,7 +16,7 @@ fn prints(rt: &HostRuntime, sheet: &StyleSheet, want: &str) -> Result<bool, Allo
     Ok(text.as_str() == want)
 }
 
-/// Sheets, and how they print.
+/// Sheets, and their printed text.
 const IN_ORDER: &[(&str, &str)] = &[
     ("", ""),
     (
@@ -42,7 +42,7 @@ fn prints_rules_in_order(rt: HostRuntime) -> Result<(), Fail> {
     Ok(())
 }
 
-/// Texts with what a reader passes over, and the sheets that they are read as.
+/// Texts with what a reader skips, and the sheets that they are read as.
 const MAY_STAND: &[(&str, &str)] = &[
     (" /* x", ""),
     ("a { color:red } /* open", "a { color:red; }"),
@@ -65,7 +65,7 @@ fn reads_what_may_stand(rt: HostRuntime) -> Result<(), Fail> {
     Ok(())
 }
 
-/// Texts, and how the one warning of each ends.
+/// Texts, and the end of the one warning for each.
 const PASSED_OVER: &[(&str, &str)] = &[
     (
         "> {}",
@@ -75,7 +75,7 @@ const PASSED_OVER: &[(&str, &str)] = &[
         "@import 'subs.css';",
         "The @import rule is not supported. Skipped.",
     ),
-    // An at-sign with no name is told nothing of.
+    // An at-sign with no name has no warning.
     (
         "@import 'subs.css'; @ a{}",
         "The @import rule is not supported. Skipped.",
@@ -151,7 +151,7 @@ fn tells_the_logger_of_all_texts_in_turn(rt: HostRuntime) -> Result<(), Fail> {
     Ok(())
 }
 
-/// Lets the two rules change places, and takes the declarations of the one that is then the last.
+/// Swaps the two rules, and takes the declarations from the one that is then the last.
 fn turn(sheet: &mut StyleSheet) {
     if sheet.rules.len() == 2 {
         sheet.rules.swap(0, 1);
@@ -253,8 +253,8 @@ fn sheets_are_made_of_rules(rt: HostRuntime) -> Result<(), Fail> {
     Ok(())
 }
 
-/// Sheets, how they print, and how what they print is printed again. The last two show what the law
-/// of printing leaves out: a bare apostrophe in a value, and white space past ASCII.
+/// Sheets, their printed text, and the printed text of that. The last two show what the law of
+/// printing excludes: a bare apostrophe in a value, and white space past ASCII.
 const PRINTED: &[(&str, &str, &str)] = &[
     (
         "a .b { c:d } .b:lang( en ) { c:d }",
@@ -280,8 +280,8 @@ fn reads_again_what_it_printed(rt: HostRuntime) -> Result<(), Fail> {
     Ok(())
 }
 
-/// A text in two pieces, and how its sheet prints. A statement ends behind the first piece of the
-/// first row, and not behind that of the second.
+/// A text in two pieces, and the printed text of its sheet. A statement ends with the first piece
+/// of the first row, and not with that of the second.
 const IN_PIECES: &[(&str, &str, &str)] = &[
     ("a { }}", " b { c:d }", "b { c:d; }"),
     ("a { }", "} b { c:d }", ""),

@@ -1,4 +1,4 @@
-//! Statements with their places.
+//! Statements with their offsets.
 
 use crate::same::same;
 use log::sink::Discard;

@@ -1,4 +1,4 @@
-//! The calls of the cursor on worked texts.
+//! The calls of the cursor on example texts.
 
 use crate::same::same;
 use simplecss::stream::{Stream, is_name_char, is_name_start};
@@ -8,7 +8,7 @@ fn at(row: u32, col: u32) -> TextPos {
     TextPos::new(row, col)
 }
 
-/// Characters, whether a name may start with them, and whether they may stand in one.
+/// Characters, whether they may begin a name, and whether they may continue one.
 const NAME_CHARACTERS: &[(char, bool, bool)] = &[
     ('_', true, true),
     ('a', true, true),
@@ -41,13 +41,13 @@ fn knows_the_characters_of_names(rt: HostRuntime) {
     }
 }
 
-/// Where each text starts.
+/// The position at which each text begins.
 const START: TextPos = TextPos { row: 1, col: 1 };
 
-/// That no name begins a text.
+/// The error that no name begins a text.
 const NO_NAME: Result<&str, Error> = Err(Error::InvalidIdent(START));
 
-/// Texts, the name at their front or the error, and the place behind.
+/// Texts, the name at their start or the error, and the offset after it.
 const NAMES: &[(&str, Result<&str, Error>, usize)] = &[
     ("a-b_1 c", Ok("a-b_1"), 5),
     ("-x:", Ok("-x"), 2),
@@ -73,7 +73,7 @@ fn reads_names(rt: HostRuntime) {
     }
 }
 
-/// Texts, the string or name at their front or the error, and the place behind.
+/// Texts, the string or name at their start or the error, and the offset after it.
 const STRINGS: &[(&str, Result<&str, Error>, usize)] = &[
     ("'te\\'st'x", Ok("te\\'st"), 8),
     ("\"te\\\"st\"", Ok("te\\\"st"), 8),
@@ -96,10 +96,10 @@ fn reads_strings(rt: HostRuntime) {
     }
 }
 
-/// That no sound comment begins a text.
+/// The error that no closed comment begins a text.
 const NO_COMMENT: Result<(), Error> = Err(Error::InvalidComment(START));
 
-/// Texts, whether a comment stands at their front, and the place behind.
+/// Texts, whether a closed comment is at their start, and the offset after it.
 const COMMENTS: &[(&str, Result<(), Error>, usize)] = &[
     ("/**/x", Ok(()), 4),
     ("/* a */ b */", Ok(()), 7),
@@ -119,7 +119,7 @@ fn reads_comments(rt: HostRuntime) {
     }
 }
 
-/// Texts, whether the blank at their front is sound, and the place behind.
+/// Texts, whether no open comment follows the blank at their start, and the offset after it.
 const BLANKS: &[(&str, Result<(), Error>, usize)] = &[
     ("x", Ok(()), 0),
     (" \t\n\r\u{C}/* a */ /**/x", Ok(()), 17),
@@ -147,7 +147,7 @@ fn reads_blanks(rt: HostRuntime) {
     }
 }
 
-/// The text that the tests below go through.
+/// The text of the tests below.
 const TEXT: &str = "a\u{E9}\n(b)c";
 
 #[test]

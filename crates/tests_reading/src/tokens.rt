@@ -1,5 +1,5 @@
-//! What a tokenizer gives, as tables. An item is written as in a selector, a descendant combinator
-//! as `descendant`, and an error behind a `!`.
+//! What a tokenizer yields, as tables. An item is written as in a selector, a descendant combinator
+//! as `descendant`, and an error after a `!`.
 
 use crate::same::same;
 use simplecss::{AttributeOperator, Error, SelectorToken, SelectorTokenizer};
@@ -37,8 +37,8 @@ fn write_item(out: &mut String, item: Result<SelectorToken<'_>, Error>) -> Resul
     }
 }
 
-/// The items of a text, two a comma apart, and the place at the end. Behind them `None` stands
-/// twice.
+/// Returns the items of a text, separated by commas, and the offset at the end. After them `None`
+/// is returned twice.
 fn given(alloc: Global, text: &str) -> Result<(String, usize), AllocError> {
     let mut out = String::new(alloc);
     let mut tokenizer = SelectorTokenizer::from(text);
@@ -130,8 +130,8 @@ fn gives_what_else_a_piece_may_be(rt: HostRuntime) -> Result<(), AllocError> {
     )
 }
 
-/// Each row of the neighbour table, with the place at the end: the left side, what the gap has, and
-/// what follows.
+/// Each row of the neighbour table, with the offset at the end: the left side, what the gap has,
+/// and what follows.
 #[test]
 fn keeps_the_table_of_neighbours(rt: HostRuntime) -> Result<(), AllocError> {
     assert_ends(
@@ -181,7 +181,7 @@ fn keeps_the_table_of_neighbours(rt: HostRuntime) -> Result<(), AllocError> {
     )
 }
 
-/// Where reading ends behind each fault inside a piece.
+/// The offset where reading ends after each fault inside a piece.
 #[test]
 fn ends_behind_faults(rt: HostRuntime) -> Result<(), AllocError> {
     assert_ends(
@@ -198,7 +198,7 @@ fn ends_behind_faults(rt: HostRuntime) -> Result<(), AllocError> {
     )
 }
 
-/// Each text, and the place behind each call of `next`, those that give `None` too.
+/// Each text, and the offset after each call of `next`, including those that return `None`.
 #[test]
 fn tells_the_place_behind_each_item(rt: HostRuntime) {
     let rows: &[(&str, &[usize])] = &[

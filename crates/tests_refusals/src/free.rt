@@ -1,4 +1,4 @@
-//! The calls that take no memory, on a sheet and a page that were made before.
+//! The calls that allocate nothing, on a sheet and a page that were made before.
 
 use cssq::cascade::winning;
 use cssq::command::Command;
@@ -12,7 +12,7 @@ use simplecss::{
 };
 use std::alloc::Global;
 
-/// The text of the sheet, of which tokens are read, too.
+/// The text of the sheet, from which tokens are read, too.
 const SHEET: &str = "#a .b:first-child + [c] { d:e !important } a > b { d:f }";
 
 /// The text of the page.
@@ -25,31 +25,31 @@ pub(crate) struct Made<'t> {
     page: Page<'t>,
 }
 
-/// What the calls answer.
+/// What the calls return.
 #[derive(Clone, Copy, Debug)]
 pub(crate) struct Answers {
-    /// How many steps of the cursor answer as they must.
+    /// The number of steps of the cursor that are right.
     stream: usize,
-    /// How many tokens and errors, and how many declarations, are read.
+    /// The numbers of tokens and errors, and of declarations, that are read.
     tokens: (usize, usize),
-    /// How many answers of elements, of selectors and of rules are yes.
+    /// How many tests of elements, of selectors and of rules are true.
     elements: usize,
-    /// How many rules match elements, by both calls.
+    /// The number of rules that match elements, by both calls.
     matches: usize,
-    /// How many values of winning declarations are `e`, and how many `f`.
+    /// How many winning declarations have the value `e`, and how many `f`.
     winners: (usize, usize),
-    /// How many equalities hold.
+    /// How many equalities are true.
     equalities: usize,
-    /// What tables answer: the status and the numbers of faults, and whether words ask for something.
+    /// What tables return: the status and the numbers of faults, and whether words are a command.
     tables: (u8, u8, usize, bool),
 }
 
-/// How many of the answers are yes.
+/// Returns how many of the answers are true.
 fn yes(answers: &[bool]) -> usize {
     answers.iter().filter(|answer| **answer).count()
 }
 
-/// The calls that look at what is to be read next.
+/// Makes the calls that look at what is to be read next.
 fn looks(text: &str) -> usize {
     let mut s = Stream::new(text);
     let first = [
@@ -68,7 +68,7 @@ fn looks(text: &str) -> usize {
     yes(&first).saturating_add(yes(&second))
 }
 
-/// The calls that read a piece.
+/// Makes the calls that read a piece.
 fn pieces(text: &str) -> usize {
     let mut s = Stream::from(text);
     let is_named = s.consume_ident() == Ok("ab");
@@ -89,7 +89,7 @@ fn pieces(text: &str) -> usize {
     ])
 }
 
-/// The calls that go by places.
+/// Makes the calls that take offsets.
 fn places() -> usize {
     let mut s = Stream::new("abc");
     s.advance(2);
@@ -103,7 +103,7 @@ fn places() -> usize {
     ])
 }
 
-/// What an element answers, of itself and its relatives.
+/// Returns how many tests of an element and its relatives are true.
 fn element_answers(node: &Node<'_, '_>) -> usize {
     yes(&[
         node.parent_element().is_some(),
@@ -117,7 +117,7 @@ fn element_answers(node: &Node<'_, '_>) -> usize {
     ])
 }
 
-/// How many of two calls say that a rule matches an element.
+/// Returns how many of two calls say that a rule matches an element.
 fn match_count(rule: &Rule<'_>, node: &Node<'_, '_>) -> usize {
     let is_matched = rule.selector.matches(node);
     let is_counted = rule.selector.matches_counted(node, &mut Tests::new());
@@ -132,7 +132,7 @@ fn wins(sheet: &StyleSheet<'_>, node: &Node<'_, '_>, value: &str) -> bool {
     }
 }
 
-/// How many values of a rule are equal to themselves, and weigh something.
+/// Returns how many values of a rule are equal to themselves, and have a specificity.
 fn rule_equalities(rule: &Rule<'_>) -> usize {
     yes(&[
         *rule == *rule,
@@ -143,7 +143,7 @@ fn rule_equalities(rule: &Rule<'_>) -> usize {
     ])
 }
 
-/// How many values of errors, faults and words are equal.
+/// Returns how many values of errors, faults and words are equal.
 fn other_equalities() -> usize {
     let pos = TextPos::new(1, 2);
     yes(&[
@@ -169,7 +169,8 @@ impl<'t> Made<'t> {
         }
     }
 
-    /// What the elements of the page answer: of themselves, to the rules, and what wins on them.
+    /// Returns the answers of the elements of the page: about themselves, to the rules, and what
+    /// wins on them.
     fn page_answers(&self) -> (usize, usize, (usize, usize)) {
         let (mut elements, mut matches, mut e, mut f) = (0_usize, 0_usize, 0_usize, 0_usize);
         for place in 0..self.page.len() {
@@ -186,7 +187,7 @@ impl<'t> Made<'t> {
         (elements, matches, (e, f))
     }
 
-    /// How many values are equal.
+    /// Returns how many values are equal.
     fn equalities(&self) -> usize {
         let mut equal = other_equalities();
         for rule in &self.sheet.rules {

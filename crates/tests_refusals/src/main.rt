@@ -1,7 +1,7 @@
-//! Makes one call of the libraries, between two marks on standard error, and shows what it
-//! answered. The sweep in `tests/` refuses the requests for memory that are made between the marks,
-//! one after the other. Before the second mark come all calls that take no memory (`free`), whose
-//! answers are shown, too.
+//! Makes one call of the libraries, between two marks on standard error, and shows its result. The
+//! sweep in `tests/` refuses the requests for memory that are made between the marks, one after the
+//! other. All calls that allocate nothing (`free`) are made before the second mark, and their
+//! results are shown, too.
 #![tactic(auto)]
 
 mod free;
@@ -19,14 +19,14 @@ use std::alloc::{AllocError, Global};
 use std::process::ExitCode;
 use std::{env, io};
 
-/// A writer that counts what it is given.
+/// A writer that counts the bytes written.
 #[derive(Drop)]
 struct Counted {
-    /// How many bytes it was given.
+    /// The number of bytes written.
     bytes: usize,
 }
 
-/// It takes all that it is given, and keeps nothing.
+/// Accepts everything, and keeps nothing.
 impl io::Write for Counted {
     fn write(&mut self, buf: &[u8]) -> io::Result<usize> {
         self.bytes = self.bytes.saturating_add(buf.len());
@@ -38,12 +38,12 @@ impl io::Write for Counted {
     }
 }
 
-/// Marks that what follows is tried.
+/// Marks the start of what is tried.
 fn begin(rt: &HostRuntime) {
     let _ = eprint!(rt; "begin");
 }
 
-/// Makes the calls that take no memory, marks that what came before was tried, and shows the answers.
+/// Makes the calls that allocate nothing, marks the end of what is tried, and shows their results.
 fn end(rt: &HostRuntime, made: &Made<'_>) {
     let answers = made.answers();
     let _ = eprint!(rt; "end");
@@ -73,8 +73,8 @@ fn show_sheet<R: Log>(rt: &HostRuntime, made: &Made<'_>, log: &R, text: &str) ->
     }
 }
 
-/// Reads a second text into the sheet of a first one. Where that is refused, the sheet is shown as
-/// it is, and the second text is read again.
+/// Reads a second text into the sheet of a first one. If that fails, the sheet is shown unchanged,
+/// and the second text is read again.
 fn show_more<R: Log>(
     rt: &HostRuntime,
     made: &Made<'_>,
@@ -94,7 +94,7 @@ fn show_more<R: Log>(
     println!(rt; "{sheet}")
 }
 
-/// Shows whether a copy equals what was copied, or that the copy was refused.
+/// Shows whether a copy equals the original, or that an allocation for the copy failed.
 fn show_equality(rt: &HostRuntime, equal: Result<bool, AllocError>) -> io::Result<()> {
     match equal {
         Err(_) => println!(rt; "refused"),
@@ -103,7 +103,7 @@ fn show_equality(rt: &HostRuntime, equal: Result<bool, AllocError>) -> io::Resul
     }
 }
 
-/// Copies the sheet of the text, and its rules and their selectors each by itself.
+/// Copies the sheet of the text, and each of its rules and their selectors.
 fn show_copies(rt: &HostRuntime, made: &Made<'_>, text: &str) -> io::Result<()> {
     let sheet = StyleSheet::parse(&Discard, rt.alloc(), text)?;
     for rule in &sheet.rules {
@@ -143,7 +143,7 @@ fn show_page(rt: &HostRuntime, made: &Made<'_>, text: &str) -> io::Result<()> {
     }
 }
 
-/// Shows a number that some calls come to, or that one was refused.
+/// Shows the number that some calls return, or that one failed.
 fn show_number<E: Drop>(rt: &HostRuntime, number: Result<usize, E>) -> io::Result<()> {
     match number {
         Err(_) => println!(rt; "refused"),
@@ -167,7 +167,7 @@ fn show_sheets<R: Log>(
     }
 }
 
-/// The place at which the next statement ends, if there is one.
+/// Returns the offset at which the next statement ends, if there is one.
 fn next_end<R: Log>(
     reader: &mut StatementReader<'_>,
     log: &R,
@@ -179,7 +179,7 @@ fn next_end<R: Log>(
     }
 }
 
-/// The sum of the places at which the statements of the text end.
+/// Returns the sum of the offsets at which the statements of the text end.
 fn statement_ends<R: Log>(log: &R, alloc: Global, text: &str) -> Result<usize, AllocError> {
     let mut reader = StatementReader::new(text);
     let mut sum = 0_usize;
@@ -192,7 +192,7 @@ fn statement_ends<R: Log>(log: &R, alloc: Global, text: &str) -> Result<usize, A
     Ok(sum)
 }
 
-/// The sum of the numbers of the rules that an index finds for each element of the page.
+/// Returns the sum of the numbers of the rules that an index finds for each element of the page.
 fn found_rules(
     alloc: Global,
     sheet: &StyleSheet<'_>,
@@ -213,7 +213,7 @@ fn found_rules(
     Ok(sum)
 }
 
-/// How many declarations win on the elements of the page.
+/// Returns the number of declarations that win on the elements of the page.
 fn winner_count(
     alloc: Global,
     sheet: &StyleSheet<'_>,
@@ -229,7 +229,7 @@ fn winner_count(
     Ok(sum)
 }
 
-/// Makes the calls that are asked of a sheet and a page.
+/// Makes the calls on a sheet and a page.
 fn show_asked(
     rt: &HostRuntime,
     made: &Made<'_>,
@@ -251,8 +251,8 @@ fn show_asked(
     show_number(rt, number)
 }
 
-/// Makes a tree of the names, each the child of the one before, with its name as its class. Gives
-/// how many elements it has.
+/// Makes a tree of the names, each the child of the one before, with its name as its class. Returns
+/// the number of elements.
 fn chain_len(alloc: Global, names: &[&str]) -> Result<usize, TreeError> {
     let mut tree = Tree::new(alloc);
     let mut parent = None;
@@ -330,7 +330,7 @@ fn show<R: Log>(rt: &HostRuntime, made: &Made<'_>, log: &R, words: &[&str]) -> i
     }
 }
 
-/// Takes a logger (`kept` keeps what it is told, `lost` does not), the call, and its texts.
+/// Takes a logger (`kept` keeps what it gets, `lost` does not), the call, and its texts.
 fn main(rt: HostRuntime) -> Result<ExitCode, io::Error> {
     let owned: Vec<String> = env::args(&rt)?.skip(1).collect(rt.alloc())?;
     let words: Vec<&str> = owned.iter().map(|word| word.as_str()).collect(rt.alloc())?;
