@@ -15,13 +15,15 @@ use Rattle.std.proofs.lemmas.Slice.Eq.{bytes_eq-Decides}
 use Rattle.simplecss_text.specs.Components.Operator.{equals, has_word}
 use Rattle.simplecss_selector.specs.Keys.{Key, Told, tells_key, is_value_as_asked}
 use Rattle.simplecss_selector.specs.Keys.Key.{by_id, by_class, by_name, by_attribute, by_nothing}
-use Rattle.simplecss.specs.Lasts.{place_for, last_for, TakesPlace, IdLeads, ClassLeads, AttributeLeads, KeyLeads}
+use Rattle.simplecss.specs.TextPlaces.{place_for}
+use Rattle.simplecss.specs.Lasts.{last_for, TakesPlace, IdLeads, ClassLeads, AttributeLeads, KeyLeads}
 use Rattle.simplecss.specs.SelectorPlaces.{Adds}
 use Rattle.simplecss.specs.declared.index.lasts.Lasts.{Lasts}
+use Rattle.simplecss.specs.declared.index.texts.Texts.{Texts}
 use Rattle.simplecss.proofs.Adding.{contains_none, contains_one, adds_none, adds_then, adds_as}
 
 -- a change at one text is seen at that text, and leaves the others
-changed_text : (m n : BTreeMap (Bor (List ℕ)) ℕ) (place : ℕ) (text other : List ℕ) → UpdatesBy (λ x y. slice_cmp nat_cmp x.now y.now) (λ k. slice_cmp nat_cmp text k.now) m n (Some place)
+pub changed_text : (m n : BTreeMap (Bor (List ℕ)) ℕ) (place : ℕ) (text other : List ℕ) → UpdatesBy (λ x y. slice_cmp nat_cmp x.now y.now) (λ k. slice_cmp nat_cmp text k.now) m n (Some place)
     → ((text ≡ other) × (place_for n other ≡ Some place)) ⊎ ((text ≡ other → ⊥) × (place_for n other ≡ place_for m other))
 changed_text m n place text other updates = at (bytes_eq text other) refl
   where
@@ -39,32 +41,32 @@ kind_of kind back (inr h) = inr (λ e. h.0 (back e), h.1)
 
 -- a place is put under an id, a class, a name or none of them
 module _ (old : Lasts) (place : ℕ) where
-  pub takes_id : (m : BTreeMap (Bor (List ℕ)) ℕ) (text : List ℕ) → UpdatesBy (λ x y. slice_cmp nat_cmp x.now y.now) (λ k. slice_cmp nat_cmp text k.now) old.ids m (Some place) → TakesPlace old (record { ids = m; classes = old.classes; names = old.names; attributes = old.attributes; any = old.any }) (by_id text) place
-  takes_id m text updates (by_id t) = kind_of by_id (λ e. cc) (changed_text old.ids m place text t updates)
+  pub takes_id : (m : Texts) (text : List ℕ) → UpdatesBy (λ x y. slice_cmp nat_cmp x.now y.now) (λ k. slice_cmp nat_cmp text k.now) old.ids.places m.places (Some place) → TakesPlace old (record { ids = m; classes = old.classes; names = old.names; attributes = old.attributes; any = old.any }) (by_id text) place
+  takes_id m text updates (by_id t) = kind_of by_id (λ e. cc) (changed_text old.ids.places m.places place text t updates)
   takes_id m text updates (by_class t) = inr (λ e. cc, refl)
   takes_id m text updates (by_name t) = inr (λ e. cc, refl)
   takes_id m text updates (by_attribute t) = inr (λ e. cc, refl)
   takes_id m text updates by_nothing = inr (λ e. cc, refl)
 
-  pub takes_class : (m : BTreeMap (Bor (List ℕ)) ℕ) (text : List ℕ) → UpdatesBy (λ x y. slice_cmp nat_cmp x.now y.now) (λ k. slice_cmp nat_cmp text k.now) old.classes m (Some place) → TakesPlace old (record { ids = old.ids; classes = m; names = old.names; attributes = old.attributes; any = old.any }) (by_class text) place
+  pub takes_class : (m : Texts) (text : List ℕ) → UpdatesBy (λ x y. slice_cmp nat_cmp x.now y.now) (λ k. slice_cmp nat_cmp text k.now) old.classes.places m.places (Some place) → TakesPlace old (record { ids = old.ids; classes = m; names = old.names; attributes = old.attributes; any = old.any }) (by_class text) place
   takes_class m text updates (by_id t) = inr (λ e. cc, refl)
-  takes_class m text updates (by_class t) = kind_of by_class (λ e. cc) (changed_text old.classes m place text t updates)
+  takes_class m text updates (by_class t) = kind_of by_class (λ e. cc) (changed_text old.classes.places m.places place text t updates)
   takes_class m text updates (by_name t) = inr (λ e. cc, refl)
   takes_class m text updates (by_attribute t) = inr (λ e. cc, refl)
   takes_class m text updates by_nothing = inr (λ e. cc, refl)
 
-  pub takes_name : (m : BTreeMap (Bor (List ℕ)) ℕ) (text : List ℕ) → UpdatesBy (λ x y. slice_cmp nat_cmp x.now y.now) (λ k. slice_cmp nat_cmp text k.now) old.names m (Some place) → TakesPlace old (record { ids = old.ids; classes = old.classes; names = m; attributes = old.attributes; any = old.any }) (by_name text) place
+  pub takes_name : (m : Texts) (text : List ℕ) → UpdatesBy (λ x y. slice_cmp nat_cmp x.now y.now) (λ k. slice_cmp nat_cmp text k.now) old.names.places m.places (Some place) → TakesPlace old (record { ids = old.ids; classes = old.classes; names = m; attributes = old.attributes; any = old.any }) (by_name text) place
   takes_name m text updates (by_id t) = inr (λ e. cc, refl)
   takes_name m text updates (by_class t) = inr (λ e. cc, refl)
-  takes_name m text updates (by_name t) = kind_of by_name (λ e. cc) (changed_text old.names m place text t updates)
+  takes_name m text updates (by_name t) = kind_of by_name (λ e. cc) (changed_text old.names.places m.places place text t updates)
   takes_name m text updates (by_attribute t) = inr (λ e. cc, refl)
   takes_name m text updates by_nothing = inr (λ e. cc, refl)
 
-  pub takes_attribute : (m : BTreeMap (Bor (List ℕ)) ℕ) (text : List ℕ) → UpdatesBy (λ x y. slice_cmp nat_cmp x.now y.now) (λ k. slice_cmp nat_cmp text k.now) old.attributes m (Some place) → TakesPlace old (record { ids = old.ids; classes = old.classes; names = old.names; attributes = m; any = old.any }) (by_attribute text) place
+  pub takes_attribute : (m : Texts) (text : List ℕ) → UpdatesBy (λ x y. slice_cmp nat_cmp x.now y.now) (λ k. slice_cmp nat_cmp text k.now) old.attributes.places m.places (Some place) → TakesPlace old (record { ids = old.ids; classes = old.classes; names = old.names; attributes = m; any = old.any }) (by_attribute text) place
   takes_attribute m text updates (by_id t) = inr (λ e. cc, refl)
   takes_attribute m text updates (by_class t) = inr (λ e. cc, refl)
   takes_attribute m text updates (by_name t) = inr (λ e. cc, refl)
-  takes_attribute m text updates (by_attribute t) = kind_of by_attribute (λ e. cc) (changed_text old.attributes m place text t updates)
+  takes_attribute m text updates (by_attribute t) = kind_of by_attribute (λ e. cc) (changed_text old.attributes.places m.places place text t updates)
   takes_attribute m text updates by_nothing = inr (λ e. cc, refl)
 
   pub takes_any : TakesPlace old (record { ids = old.ids; classes = old.classes; names = old.names; attributes = old.attributes; any = Some place }) by_nothing place

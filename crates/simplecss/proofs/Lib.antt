@@ -9,6 +9,7 @@ pub mod RulePlaces
 pub mod Adding
 pub mod Ascending
 pub mod LastPlaces
+pub mod Filtering
 pub mod ReadPlaces
 pub mod WantedPlaces
 pub mod Following

@@ -12,7 +12,7 @@ use Rattle.std.proofs.lemmas.List.{get_or-map, length-map}
 use Rattle.std.proofs.lemmas.List.Elements.{Contains-append_left, Contains-append_right, Contains-push, Contains-push_cases}
 use Rattle.std.proofs.lemmas.Map.Text.{is_eq-slice_cmp}
 use Rattle.std.proofs.lemmas.Slice.Eq.{bytes_eq-Decides}
-use Rattle.simplecss.specs.Lasts.{place_for}
+use Rattle.simplecss.specs.TextPlaces.{place_for}
 use Rattle.simplecss.specs.SelectorPlaces.{Adds}
 use Rattle.simplecss.proofs.Adding.{contains_none, contains_one, adds_none, adds_one, adds_then, adds_as}
 

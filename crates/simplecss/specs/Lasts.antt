@@ -1,24 +1,17 @@
 -- The last index for each key.
 use Rattle.std.specs.Prelude.{◌≡◌, ◌⊎◌, ℕ, List, Bool, Option, None, Some, IsTrue}
-use Rattle.std.specs.Borrow.{Bor}
-use Rattle.std.specs.BTreeMap.{BTreeMap, get_by}
-use Rattle.std.specs.Ordering.{nat_cmp}
-use Rattle.std.specs.Cmp.Lexicographic.{slice_cmp}
 use Rattle.simplecss_selector.specs.Keys.{Key, Told, tells_key}
 use Rattle.simplecss_selector.specs.Keys.Key.{by_id, by_class, by_name, by_attribute, by_nothing}
 use Rattle.simplecss_selector.specs.Operators.{is_word_of}
+use Rattle.simplecss.specs.TextPlaces.{place_for}
 use Rattle.simplecss.specs.declared.index.lasts.Lasts.{Lasts}
-
--- the index that a map has for a text
-abbrev pub place_for : BTreeMap (Bor (List ℕ)) ℕ → List ℕ → Option ℕ
-place_for places text = get_by (λ key. slice_cmp nat_cmp text key.now) places
 
 -- the last index for a key, if it has one
 abbrev pub last_for : Lasts → Key → Option ℕ
-last_for lasts (by_id text) = place_for lasts.ids text
-last_for lasts (by_class word) = place_for lasts.classes word
-last_for lasts (by_name name) = place_for lasts.names name
-last_for lasts (by_attribute name) = place_for lasts.attributes name
+last_for lasts (by_id text) = place_for lasts.ids.places text
+last_for lasts (by_class word) = place_for lasts.classes.places word
+last_for lasts (by_name name) = place_for lasts.names.places name
+last_for lasts (by_attribute name) = place_for lasts.attributes.places name
 last_for lasts by_nothing = lasts.any
 
 -- the index is now the last for the key, and every other key has its last index unchanged

@@ -5,6 +5,7 @@ pub mod SheetPlaces
 pub mod SelectorPlaces
 pub mod Matching
 pub mod Chains
+pub mod TextPlaces
 pub mod Lasts
 pub mod WantedLasts
 -- What contracts of the crates below name, under the names of this crate.

@@ -6,6 +6,7 @@ mod lasts;
 pub mod laws;
 mod link;
 mod rule_index;
+mod texts;
 mod wanted_lasts;
 
 pub use rule_index::RuleIndex;

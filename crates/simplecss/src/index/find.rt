@@ -54,7 +54,7 @@ fn push_id(lasts: &Lasts<'_>, id: Option<&str>, places: &mut Vec<usize>) -> Resu
 /// the value. So a class value of a thousand words costs no more than testing the rules.
 #[inline(always)]
 fn are_few(lasts: &Lasts<'_>, value: &str) -> bool {
-    lasts.classes.len() <= value.len() / 64
+    lasts.classes.places.len() <= value.len() / 1024
 }
 
 /// Adds the last places of the classes that are words in a value: looks for each class in it.
@@ -66,7 +66,7 @@ fn push_classes_within(
     ensures { OnOk result (Adds places.old.items places.new.items
         (ClassLeads lasts.now (Some value.now))) }
 {
-    for (word, place) in &lasts.classes {
+    for (word, place) in &lasts.classes.places {
         if AttributeOperator::Contains(word).matches(value) {
             places.push(*place)?;
         }
@@ -113,7 +113,7 @@ fn push_attributes<E: Keyed>(
     ensures { OnOk result (Adds places.old.items places.new.items
         (AttributeLeads lasts.now (E.told element.now).has_attribute)) }
 {
-    for (name, place) in &lasts.attributes {
+    for (name, place) in &lasts.attributes.places {
         if element.has_attribute(name) {
             places.push(*place)?;
         }

@@ -4,22 +4,22 @@ ghost use Rattle.simplecss_selector.specs.Keys.{Key as KeyValue};
 ghost use Rattle.simplecss_selector.specs.SeenKeys.{key_value};
 ghost use Rattle.simplecss.specs.Lasts.{last_for, TakesPlace};
 
+use super::texts::Texts;
 use simplecss_selector::Key;
 use std::alloc::{AllocError, Global};
-use std::collections::BTreeMap;
 
 /// For each key the place that was the last to be put under it. Each kind of key has a map from its
 /// texts.
 #[derive(Drop)]
 pub(crate) struct Lasts<'a> {
     /// By the id.
-    ids: BTreeMap<&'a str, usize>,
+    ids: Texts<'a>,
     /// By the class.
-    pub(crate) classes: BTreeMap<&'a str, usize>,
+    pub(crate) classes: Texts<'a>,
     /// By the type name.
-    names: BTreeMap<&'a str, usize>,
+    names: Texts<'a>,
     /// By the name of an attribute.
-    pub(crate) attributes: BTreeMap<&'a str, usize>,
+    pub(crate) attributes: Texts<'a>,
     /// The place under the key that every element has.
     any: Option<usize>,
 }
@@ -30,10 +30,10 @@ impl<'a> Lasts<'a> {
         ensures { (key : KeyValue) → last_for result key ≡ None }
     {
         Lasts {
-            ids: BTreeMap::new(alloc),
-            classes: BTreeMap::new(alloc),
-            names: BTreeMap::new(alloc),
-            attributes: BTreeMap::new(alloc),
+            ids: Texts::new(alloc),
+            classes: Texts::new(alloc),
+            names: Texts::new(alloc),
+            attributes: Texts::new(alloc),
             any: None,
         }
     }
@@ -43,10 +43,10 @@ impl<'a> Lasts<'a> {
         ensures { IsTrue result → (key : KeyValue) → last_for self.now key ≡ None }
     {
         self.any.is_none()
-            && self.names.is_empty()
-            && self.ids.is_empty()
-            && self.classes.is_empty()
-            && self.attributes.is_empty()
+            && self.names.places.is_empty()
+            && self.ids.places.is_empty()
+            && self.classes.places.is_empty()
+            && self.attributes.places.is_empty()
     }
 
     /// The last place of the key, if it has one.
@@ -54,10 +54,10 @@ impl<'a> Lasts<'a> {
         ensures { result ≡ last_for self.now (key_value key.entry) }
     {
         match key {
-            Key::Id(text) => self.ids.get(text).copied(),
-            Key::Class(word) => self.classes.get(word).copied(),
-            Key::Name(name) => self.names.get(name).copied(),
-            Key::Attribute(name) => self.attributes.get(name).copied(),
+            Key::Id(text) => self.ids.get(text),
+            Key::Class(word) => self.classes.get(word),
+            Key::Name(name) => self.names.get(name),
+            Key::Attribute(name) => self.attributes.get(name),
             Key::Any => self.any,
         }
     }

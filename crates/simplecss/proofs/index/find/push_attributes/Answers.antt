@@ -20,5 +20,5 @@ loop-name-preserved g c =
 pub returns : goal.returns
 returns g c =
     let given = c.into_iter-name-iterator.ensures.into_iter_gives in
-    let whole = iter_end deref_pair c.args.lasts.now.attributes.entries c.loop-name.yielded _ _ _ _ given.0 c.loop-name.yielded_by c.in-None.is c.next.ensures.steps in
-    all_read (g.E.Keyed.told c.args.element.now).has_attribute c.args.lasts.now.attributes c.loop-name.yielded c.args.places.now.items c.loop-name.places.items whole.0 given.6 c.loop-name.invariant
+    let whole = iter_end deref_pair c.args.lasts.now.attributes.places.entries c.loop-name.yielded _ _ _ _ given.0 c.loop-name.yielded_by c.in-None.is c.next.ensures.steps in
+    all_read (g.E.Keyed.told c.args.element.now).has_attribute c.args.lasts.now.attributes.places c.loop-name.yielded c.args.places.now.items c.loop-name.places.items whole.0 given.6 c.loop-name.invariant

@@ -21,5 +21,5 @@ loop-word-preserved c =
 pub returns : goal.returns
 returns c =
     let given = c.into_iter-word-iterator.ensures.into_iter_gives in
-    let whole = iter_end deref_pair c.args.lasts.now.classes.entries c.loop-word.yielded _ _ _ _ given.0 c.loop-word.yielded_by c.in-None.is c.next.ensures.steps in
-    all_read (λ word. is_word_of word c.args.value.now) c.args.lasts.now.classes c.loop-word.yielded c.args.places.now.items c.loop-word.places.items whole.0 given.6 c.loop-word.invariant
+    let whole = iter_end deref_pair c.args.lasts.now.classes.places.entries c.loop-word.yielded _ _ _ _ given.0 c.loop-word.yielded_by c.in-None.is c.next.ensures.steps in
+    all_read (λ word. is_word_of word c.args.value.now) c.args.lasts.now.classes.places c.loop-word.yielded c.args.places.now.items c.loop-word.places.items whole.0 given.6 c.loop-word.invariant
