@@ -56,6 +56,16 @@ def match_of(sheet, tree):
     return lambda n: (["match", put("text.css", sheet(n)), put("text.tree", tree(n))], None)
 
 
+def children(words):
+    """A parent with so many words in its class, and n children."""
+    return lambda n: "0\tr\tclass=" + " ".join(f"w{i}" for i in range(words)) + "\n" + "1\ta\n" * n
+
+
+def rules_of(count, selector):
+    """So many rules, each with its number in the selector."""
+    return lambda n: "".join(selector.format(i) + " { b:c }\n" for i in range(count or n))
+
+
 INPUTS = [
     ("a selector behind comments", 10_000, selector_of(lambda n: "/**/" * n + "a")),
     ("comments within a compound", 10_000, selector_of(lambda n: "a" + "/**/" * n + ".b")),
@@ -72,6 +82,13 @@ INPUTS = [
     ("a line of attributes", 40_000, match_of(lambda n: "a { b:c }", lambda n: "0\ta\t" + "\t".join(f"k{i}=v" for i in range(n)))),
     ("a chain of elements, and one step", 10_000, match_of(lambda n: "x > a { b:c }", deep)),
     ("siblings", 50_000, match_of(lambda n: "b + a { b:c }", lambda n: "0\tr\n" + "1\ta\n" * n)),
+    ("attribute keys", 2_000, match_of(rules_of(None, "[k{}]"), lambda n: "0\ta\thref=x\ttitle=y\n" + "1\tb\tk1=v\n" * 100)),
+    ("classes of parents", 2_000, match_of(rules_of(None, ".x{} > *"), lambda n: children(1000)(100))),
+    ("children of a parent of 1,000 words", 30_000, match_of(rules_of(20, ".x{} > *"), children(1000))),
+    ("the same with 200 classes of parents", 30_000, match_of(rules_of(200, ".x{} > *"), children(1000))),
+    ("siblings of 1,000 words", 100, match_of(rules_of(200, ".x{} + *"), lambda n: ("0\tr\n" + ("1\ta\tclass=" + " ".join(f"w{i}" for i in range(1000)) + "\n") * n))),
+    ("rules of one key", 2_000, match_of(rules_of(None, "p{} .a"), lambda n: "0\tb\tclass=a\n" * 100)),
+    ("rules of one key that match", 2_000, match_of(rules_of(None, ".a[t=x{}], .a"), lambda n: "0\tb\tclass=a\tt=y\n" * 100)),
     ("selectors times declarations", 300, sheet_of(lambda n: ",".join(["a"] * n) + "{" + "b:c;" * n + "}")),
 ]
 

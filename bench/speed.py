@@ -1,9 +1,10 @@
-"""Times of the built program on a real style sheet and a real page, beside another program of the same commands.
+"""Times of the built program on a real style sheet and a real page, beside other programs of the same commands.
 
-    speed.py PROGRAM [OTHER] [--out FOLDER] [--runs N] [--quick]
+    speed.py PROGRAM [OTHER] [--matcher MATCHER] [--out FOLDER] [--runs N] [--quick]
 
-PROGRAM is the built `cssq`. OTHER, where it is given, is run in turn with it on the same files; its standard output must be
-the same. The style sheet is bootstrap.css of Debian's libjs-bootstrap4 and the page that of developers-reference, fetched by
+PROGRAM is the built `cssq`. OTHER and MATCHER, where they are given, are run in turn with it on the same files; their standard
+output must be the same. MATCHER is run for the rows of `match` only. OTHER is called the Rust crate, and MATCHER Servo's crates.
+The style sheet is bootstrap.css of Debian's libjs-bootstrap4 and the page that of developers-reference, fetched by
 `apt-get download` into FOLDER (cssq-speed in the temporary folder) once; where that fails, both are made here, and the table
 says so. FOLDER does not lie in the repository: packages have links, which the toolchain refuses there.
 
@@ -15,7 +16,6 @@ import glob
 import html.parser
 import os
 import platform
-import resource
 import subprocess
 import sys
 import tempfile
@@ -24,12 +24,14 @@ import time
 parser = argparse.ArgumentParser()
 parser.add_argument("program")
 parser.add_argument("other", nargs="?")
+parser.add_argument("--matcher")
 parser.add_argument("--out", default=os.path.join(tempfile.gettempdir(), "cssq-speed"))
 parser.add_argument("--runs", type=int, default=7)
 parser.add_argument("--quick", action="store_true", help="small inputs alone")
 words = parser.parse_args()
 program = os.path.abspath(words.program)
-other = os.path.abspath(words.other) if words.other else None
+others = [("the Rust crate", "#c04a17", words.other, ("sheet", "match", "style")), ("Servo's crates", "#2c8a3a", words.matcher, ("match",))]
+others = [(name, colour, os.path.abspath(path), commands) for name, colour, path, commands in others if path]
 os.makedirs(words.out, exist_ok=True)
 
 VOID = {"area", "base", "br", "col", "embed", "hr", "img", "input", "link", "meta", "source", "track", "wbr"}
@@ -103,25 +105,32 @@ def put(name, text):
 
 
 def timed(binary, args):
-    """The least processor time of a run, and its output."""
-    before = resource.getrusage(resource.RUSAGE_CHILDREN)
-    output = subprocess.run([binary, *args], stdin=subprocess.DEVNULL, stdout=subprocess.PIPE, stderr=subprocess.DEVNULL, check=True).stdout
-    after = resource.getrusage(resource.RUSAGE_CHILDREN)
-    return 1000 * (after.ru_utime + after.ru_stime - before.ru_utime - before.ru_stime), output
+    """The processor time of a run, and its output."""
+    with tempfile.TemporaryFile() as output, open(os.devnull, "r+b") as null:
+        child = subprocess.Popen([binary, *args], stdin=null, stdout=output, stderr=null)
+        _, status, usage = os.wait4(child.pid, 0)
+        child.returncode = os.waitstatus_to_exitcode(status)
+        if child.returncode != 0:
+            sys.exit(f"{binary} ends with {child.returncode} at {args}")
+        output.seek(0)
+        return 1000 * (usage.ru_utime + usage.ru_stime), output.read()
 
 
 def compared(args, runs):
-    """The least times of both programs, run in turn."""
-    ours, theirs, answer = float("inf"), None, None
+    """The least time of each program that has the command, run in turn, and none for one that has not."""
+    programs = [program, *(path if args[0] in commands else None for _, _, path, commands in others)]
+    best = [path and float("inf") for path in programs]
     for _ in range(runs):
-        spent, answer = timed(program, args)
-        ours = min(ours, spent)
-        if other:
-            spent, output = timed(other, args)
-            theirs = min(theirs or spent, spent)
-            if output != answer:
-                sys.exit(f"the two programs answer otherwise to {args}")
-    return ours, theirs
+        answer = None
+        for number, path in enumerate(programs):
+            if not path:
+                continue
+            spent, output = timed(path, args)
+            best[number] = min(best[number], spent)
+            if answer not in (None, output):
+                sys.exit(f"{path} answers otherwise to {args}")
+            answer = output
+    return best
 
 
 css = fetched("libjs-bootstrap4", "bootstrap.css")
@@ -140,33 +149,32 @@ curves = {"reading": [], "matching": []}
 
 
 def row(what, args, runs=words.runs):
-    ours, theirs = compared(args, runs)
-    rows.append((what, ours, theirs))
-    print(f"{what:64} {ours:10.1f}" + (f" {theirs:10.1f} {theirs / ours:8.1f}" if theirs is not None else ""), flush=True)
-    return ours, theirs
+    best = compared(args, runs)
+    rows.append((what, best))
+    print(f"{what:44}" + "".join(f" {b:12.1f} ms" if b else " " * 16 for b in best), flush=True)
+    return best
 
 
-print(f"{'':64} {'ms':>10}" + (f" {'other ms':>10} {'times':>8}" if other else ""))
+print(f"{'':44}" + "".join(f" {name:>15}" for name in ["cssq", *(name for name, _, _, _ in others)]))
 sheet = put("sheet.css", css)
 for times in (1, 2, 4) if words.quick else (1, 2, 4, 8, 16):
     path = put(f"sheet{times}.css", css * times)
     size = os.path.getsize(path)
     # A crate that reads in the square of the size is not waited for.
     runs = words.runs if times < 8 else 3
-    ours, theirs = row(f"sheet: {size / 1e6:.1f} MB", ["sheet", path], runs)
-    curves["reading"].append((size, ours, theirs))
+    curves["reading"].append((size, *row(f"sheet: {size / 1e6:.1f} MB", ["sheet", path], runs)))
 for part in (8, 4, 2, 1):
     lines = tree[: len(tree) // part]
     path = put(f"tree{part}.tree", "\n".join(lines) + "\n")
-    ours, theirs = row(f"match: {len(lines):,} elements", ["match", sheet, path])
-    curves["matching"].append((len(lines), ours, theirs))
+    curves["matching"].append((len(lines), *row(f"match: {len(lines):,} elements", ["match", sheet, path])))
 if not words.quick:
     path = put("twice.tree", "\n".join(tree * 4) + "\n")
-    ours, theirs = row(f"match: {4 * len(tree):,} elements", ["match", sheet, path], 3)
-    curves["matching"].append((4 * len(tree), ours, theirs))
+    curves["matching"].append((4 * len(tree), *row(f"match: {4 * len(tree):,} elements", ["match", sheet, path], 3)))
     whole = put("tree1.tree", "\n".join(tree) + "\n")
     row("match: 20,000 rule sets on the page", ["match", put("many.css", made_sheet(20_000)), whole], 3)
-    row("match: 10 rule sets on 300,000 elements", ["match", put("few.css", made_sheet(10)), put("long.tree", "\n".join(made_tree(300_000)) + "\n")], 3)
+    long = put("long.tree", "\n".join(made_tree(300_000)) + "\n")
+    row("match: 10 rule sets on 300,000 elements", ["match", put("few.css", made_sheet(10)), long], 3)
+    row("match: an empty sheet on 300,000 elements", ["match", put("empty.css", ""), long], 3)
     row("style: color on the page", ["style", sheet, whole, "color"], 3)
 
 
@@ -191,7 +199,7 @@ def picture():
             parts.append(f'<line x1="{left}" x2="{left + width}" y1="{y:.1f}" y2="{y:.1f}" stroke="#ddd"/><text x="{left - 6}" y="{y + 4:.1f}" text-anchor="end">{10**power:g}</text>')
         for x in xs:
             parts.append(f'<line x1="{x_of(x):.1f}" x2="{x_of(x):.1f}" y1="{top}" y2="{top + height}" stroke="#eee"/><text x="{x_of(x):.1f}" y="{top + height + 16}" text-anchor="middle">{x / 1e6:.1f}M</text>' if x >= 1e5 else f'<line x1="{x_of(x):.1f}" x2="{x_of(x):.1f}" y1="{top}" y2="{top + height}" stroke="#eee"/><text x="{x_of(x):.1f}" y="{top + height + 16}" text-anchor="middle">{x / 1e3:.0f}k</text>')
-        for which, colour, name in ((1, "#1764c0", "cssq"), (2, "#c04a17", "the Rust crate")):
+        for which, (name, colour) in enumerate([("cssq", "#1764c0"), *((name, colour) for name, colour, _, _ in others)], 1):
             line = [(x_of(p[0]), y_of(p[which])) for p in points if p[which]]
             if line:
                 parts.append(f'<polyline fill="none" stroke="{colour}" stroke-width="2" points="{" ".join(f"{x:.1f},{y:.1f}" for x, y in line)}"/>')
@@ -210,10 +218,12 @@ def processor():
 
 
 table = [f"Machine: {processor()}, {os.cpu_count()} processors. Date: {time.strftime('%Y-%m-%d')}. Texts: {source}.", ""]
-table.append("| | `cssq`, ms |" + (" the Rust crate, ms | times |" if other else ""))
-table.append("|---|---|" + ("---|---|" if other else ""))
-for what, ours, theirs in rows:
-    table.append(f"| {what} | {ours:.1f} |" + (f" {theirs:.1f} | {theirs / ours:.1f} |" if theirs is not None else ""))
+names = [name for name, _, _, _ in others]
+table.append("| | `cssq`, ms |" + "".join(f" {name}, ms | times |" for name in names))
+table.append("|---|---|" + "---|---|" * len(names))
+for what, best in rows:
+    ours = best[0]
+    table.append(f"| {what} | {ours:.1f} |" + "".join(f" {b:.1f} | {b / ours:.2f} |" if b else " | |" for b in best[1:]))
 put("speed.md", "\n".join(table) + "\n")
 put("speed.svg", picture())
 print(f"written: {os.path.join(words.out, 'speed.md')} and speed.svg")

@@ -17,7 +17,7 @@ TOP = os.path.dirname(os.path.dirname(os.path.abspath(__file__)))
 # Each script of this folder, and the crate of the program that it runs.
 SWEEPS = (("refused.py", "tests_refusals"), ("program.py", "cssq_cli"))
 # The scripts that refuse no request for memory, and the crate of the program that one runs.
-PLAIN = (("docs.py", "cssq_cli"), ("script.py", None), ("library.py", None))
+PLAIN = (("docs.py", "cssq_cli"), ("pages.py", "cssq_cli"), ("script.py", None), ("library.py", None))
 passed = failed = 0
 
 

@@ -21,7 +21,7 @@ use Rattle.cssq.proofs.FromLast.{From, KnownFrom, known_none, known_all, known_s
 use Rattle.cssq.proofs.Indexed.{behind, wanted_at, behind_within, none_between}
 
 -- the selector at a place is that of the rule there
-selector_there : (rules : List Rule) (k : ℕ) (rule : StyleRule) → slice_get (rules_of rules) k ≡ Some rule → selector_at (map (λ r. r.selector) rules) k ≡ rule.components
+pub selector_there : (rules : List Rule) (k : ℕ) (rule : StyleRule) → slice_get (rules_of rules) k ≡ Some rule → selector_at (map (λ r. r.selector) rules) k ≡ rule.components
 selector_there rules k rule at =
     ap (λ selectors. get_or selectors k []) (sym (map-map (λ r. r.components) rule_of rules))
     ∙ get_or_from_slice_get (map (λ r. r.components) (rules_of rules)) k rule.components [] (slice_get-map (λ r. r.components) (rules_of rules) k ∙ ap (option_map (λ r. r.components)) at)

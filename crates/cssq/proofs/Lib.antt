@@ -8,3 +8,4 @@ pub mod Listing
 pub mod BestPlaces
 pub mod Indexed
 pub mod Among
+pub mod ListedPlaces

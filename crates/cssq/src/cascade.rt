@@ -1,9 +1,10 @@
 //! Which declarations of a style sheet win on an element: the cascade (CSS 2.1 section 6.4.1).
 
-ghost use Rattle.std.specs.Prelude.{◌≡◌, ◌↔◌, ℕ, ◌<◌, length, map, Contains, IfOk, IfSome, IsNone};
+ghost use Rattle.std.specs.Prelude.{◌≡◌, ◌↔◌, ℕ, List, ◌<◌, length, map, Contains, IfOk, IfSome, IsNone};
 ghost use Rattle.std.specs.Prelude.{All, IsTrue, Some};
 ghost use Rattle.std.specs.Option.{option_map};
 ghost use Rattle.simplecss.specs.Declarations.{StyleDeclaration};
+ghost use Rattle.simplecss.specs.Statements.{StyleRule};
 ghost use Rattle.simplecss.specs.SeenDeclarations.{declaration_of, declarations_of};
 ghost use Rattle.simplecss.specs.SeenRules.{rule_of, rules_of, rules_in};
 ghost use Rattle.simplecss.specs.Matching.{AreMatches};
@@ -13,9 +14,10 @@ ghost use Rattle.cssq.specs.Winners.{ListsInOrder, HaveOwnNames};
 ghost use Rattle.cssq.specs.Candidates.{better_of, InRule, IsCandidate, IsOutdone, IsPassedOver};
 ghost use Rattle.cssq.specs.Candidates.{TellsWhether, HasBestPlaces};
 
-use simplecss::{Declaration, Element, Rule, StyleSheet};
+use simplecss::{Declaration, Element, Keyed, Rule, RuleIndex, StyleSheet};
 use std::alloc::{AllocError, Global};
 use std::collections::BTreeMap;
+use std::marker::Model;
 
 /// The later of two declarations of a rule, unless the earlier alone is important.
 fn better_of<'a>(earlier: Option<Declaration<'a>>, later: Declaration<'a>) -> Declaration<'a>
@@ -192,10 +194,49 @@ pub fn best_places<'a>(
     Ok(places)
 }
 
-/// The declarations that win on the element: for each name the one that `winning` gives, in the
-/// order of their places. The error is that a growth was refused. Each rule is asked once whether
-/// it takes the element, and the time that the rest takes grows as that of sorting the declarations
-/// of the rules that do.
+/// Returns the declarations of the rules with these indices, in order. The rules are those that match
+/// an element of type `E`.
+fn stated_at<'a, E: Element>(
+    alloc: Global,
+    rules: &[Rule<'a>],
+    places: &[usize],
+) -> Result<Vec<Declaration<'a>>, AllocError>
+    requires { All (λ place. place < length rules.now) places.now }
+    ensures { IfOk result (λ all. (element : E.Node)
+        → AreMatches E.tree element (map (λ rule. rule.selector) rules.now) places.now
+        → ListsInOrder (IsStated E.tree element (rules_of rules.now)) (declarations_of all.items)) }
+{
+    let mut all = Vec::new(alloc);
+    for place in places {
+        all.extend_from_slice(&rules[*place].declarations)?;
+    }
+    Ok(all)
+}
+
+/// Returns the declarations of a list that win for their names, in order. The list has those of the
+/// rules that match an element of type `E`.
+fn winners_of<'a, E: Element>(
+    alloc: Global,
+    stated: &[Declaration<'a>],
+) -> Result<Vec<Declaration<'a>>, AllocError>
+    ensures { IfOk result (λ all. (element : E.Node) (rules : List StyleRule)
+        → ListsInOrder (IsStated E.tree element rules) (declarations_of stated.now)
+        → ListsInOrder (WinsForItsName E.tree element rules) (declarations_of all.items)) }
+{
+    let places = best_places(alloc, stated)?;
+    let mut all = Vec::new(alloc);
+    for (place, declaration) in stated.iter().enumerate() {
+        if places.get(declaration.name).copied() == Some(place) {
+            all.push(*declaration)?;
+        }
+    }
+    Ok(all)
+}
+
+/// Returns the declarations that win on the element: for each name the one that `winning` returns,
+/// in the order of rules and of declarations in them. Fails only if an allocation fails. Each rule is tested once against
+/// the element, and the time that the rest takes grows as that of sorting the declarations of the
+/// rules that match. [`Cascade::winners`] finds these rules by an index.
 pub fn winners<'a, E: Element>(
     alloc: Global,
     sheet: &StyleSheet<'a>,
@@ -211,12 +252,81 @@ pub fn winners<'a, E: Element>(
     ensures names { IfOk result (λ all. HaveOwnNames (declarations_of all.items)) }
 {
     let stated = stated_on(alloc, &sheet.rules, element)?;
-    let places = best_places(alloc, &stated)?;
-    let mut all = Vec::new(alloc);
-    for (place, declaration) in stated.iter().enumerate() {
-        if places.get(declaration.name).copied() == Some(place) {
-            all.push(*declaration)?;
-        }
+    winners_of::<E>(alloc, &stated)
+}
+
+/// Finds the declarations that win on each element of a page, by an index of the rules that is made
+/// once.
+///
+/// ```rust
+/// let mut cascade = Cascade::new(alloc, &sheet.rules)?;
+/// for declaration in &cascade.winners(&element)? {
+///     // the declaration that wins for its name
+/// }
+/// ```
+#[derive(Drop)]
+pub struct Cascade<'s, 'a> {
+    /// Allocates the lists that are returned.
+    alloc: Global,
+    /// The rules.
+    rules: &'s [Rule<'a>],
+    /// The index of the rules.
+    index: RuleIndex<'a>,
+    /// The indices of the rules that match the last element. The list is reused.
+    places: Vec<usize>,
+}
+
+impl<'s, 'a> Model for Cascade<'s, 'a> {
+    ghost use Rattle.std.specs.Prelude.{◌≡◌, List, map};
+    ghost use Rattle.simplecss.specs.Statements.{StyleRule};
+    ghost use Rattle.simplecss.specs.SeenRules.{rules_of};
+
+    ghost Value = { List StyleRule };
+
+    ghost view = { λ cascade. rules_of cascade.rules.now };
+
+    ghost invariant = { λ cascade. cascade.index ≡ map (λ rule. rule.selector) cascade.rules.now };
+}
+
+impl<'s, 'a> Cascade<'s, 'a> {
+    /// Makes the index of these rules. Fails only if an allocation fails.
+    pub fn new(alloc: Global, rules: &'s [Rule<'a>]) -> Result<Self, AllocError>
+        ensures { IfOk result (λ cascade. cascade ≡ rules_of rules.now) }
+    {
+        Ok(Cascade {
+            alloc,
+            rules,
+            index: RuleIndex::new(alloc, rules)?,
+            places: Vec::new(alloc),
+        })
     }
-    Ok(all)
+
+    /// Returns the declarations of the rules that match the element, in the order of rules and of
+    /// declarations in them: those that `winners` chooses from. Fails only if an allocation fails.
+    pub fn stated<E: Keyed>(&mut self, element: &E) -> Result<Vec<Declaration<'a>>, AllocError>
+        ensures stated { IfOk result (λ all.
+            ListsInOrder (IsStated E.tree (E.node element.now) self.old) (declarations_of all.items)) }
+        ensures same { self.new ≡ self.old }
+    {
+        self.index.matching(self.rules, element, &mut self.places)?;
+        stated_at::<E>(self.alloc, self.rules, &self.places)
+    }
+
+    /// Returns the declarations that win on the element, as [`winners`] does, and tests only rules
+    /// whose key is reported, as `RuleIndex::matching` does. Fails only if an allocation fails.
+    pub fn winners<E: Keyed>(&mut self, element: &E) -> Result<Vec<Declaration<'a>>, AllocError>
+        ensures order { IfOk result (λ all.
+            ListsInOrder (WinsForItsName E.tree (E.node element.now) self.old)
+            (declarations_of all.items)) }
+
+        // So it has what wins for each name, and each name once.
+        ensures winners { IfOk result (λ all. (p : StyleDeclaration)
+            → Contains (declarations_of all.items) p
+            ↔ IsWinner E.tree (E.node element.now) p.name self.old p) }
+        ensures names { IfOk result (λ all. HaveOwnNames (declarations_of all.items)) }
+        ensures same { self.new ≡ self.old }
+    {
+        let stated = self.stated(element)?;
+        winners_of::<E>(self.alloc, &stated)
+    }
 }

@@ -3,7 +3,7 @@
 //! crate `cssq`.
 #![tactic(auto)]
 
-use cssq::cascade::winners;
+use cssq::cascade::Cascade;
 use cssq::tree::Page;
 use log::sink::Discard;
 use simplecss::{Declaration, DeclarationTokenizer, StyleSheet};
@@ -75,11 +75,12 @@ fn own_style(line: &str) -> &str {
 
 /// Prints each line of the tree with its style.
 fn print(rt: &HostRuntime, sheet: &StyleSheet<'_>, page: &Page<'_>, tree: &str) -> io::Result<()> {
+    let mut cascade = Cascade::new(rt.alloc(), &sheet.rules)?;
     for (place, line) in tree.split('\n').enumerate() {
         let Some(element) = page.node(place) else {
             break;
         };
-        let winners = winners(rt.alloc(), sheet, &element)?;
+        let winners = cascade.winners(&element)?;
         let style = style_of(rt.alloc(), &winners, own_style(line))?;
         let styled = with_style(rt.alloc(), line, style.as_str())?;
         println!(rt; "{styled}")?;

@@ -6,8 +6,9 @@
 //! fields `key=value` with TABs between.
 #![tactic(auto)]
 
+use cssq::cascade::Cascade;
 use log::sink::Discard;
-use simplecss::{Declaration, DeclarationTokenizer, Rule, RuleIndex, StyleSheet};
+use simplecss::{Declaration, DeclarationTokenizer, StyleSheet};
 use simplecss_tree::{Tree, TreeError};
 use std::alloc::{AllocError, Global};
 use std::process::ExitCode;
@@ -44,20 +45,16 @@ fn read_picture(alloc: Global, text: &str) -> Result<Tree<'_>, TreeError> {
     Ok(tree)
 }
 
-/// Adds the declarations of this importance: those of the rules at these places, and then the
-/// element's own ones.
+/// Adds the declarations of this importance: the sheet's, and then the element's own ones.
 fn push_declarations<'a>(
     found: &mut Vec<Declaration<'a>>,
-    rules: &[Rule<'a>],
-    places: &[usize],
+    stated: &[Declaration<'a>],
     own: &'a str,
     important: bool,
 ) -> Result<(), AllocError> {
-    for rule in places.iter().filter_map(|place| rules.get(*place)) {
-        for declaration in &rule.declarations {
-            if declaration.important == important {
-                found.push(*declaration)?;
-            }
+    for declaration in stated {
+        if declaration.important == important {
+            found.push(*declaration)?;
         }
     }
     for declaration in DeclarationTokenizer::from(own) {
@@ -68,32 +65,30 @@ fn push_declarations<'a>(
     Ok(())
 }
 
-/// The declarations that apply to an element, the weakest first: the rules at these places match
-/// it, and its attribute `style` is `own`.
+/// The declarations that apply to an element, the weakest first: `stated` are those of the rules
+/// that match it, and `own` is its attribute `style`.
 fn resolve<'a>(
     alloc: Global,
-    rules: &[Rule<'a>],
-    places: &[usize],
+    stated: &[Declaration<'a>],
     own: &'a str,
 ) -> Result<Vec<Declaration<'a>>, AllocError> {
     let mut found = Vec::new(alloc);
-    push_declarations(&mut found, rules, places, own, false)?;
-    push_declarations(&mut found, rules, places, own, true)?;
+    push_declarations(&mut found, stated, own, false)?;
+    push_declarations(&mut found, stated, own, true)?;
     Ok(found)
 }
 
-/// Prints each element with its declarations. The rules that match are found by an index.
+/// Prints each element with its declarations.
 fn print(rt: &HostRuntime, sheet: &StyleSheet<'_>, tree: &Tree<'_>) -> io::Result<()> {
-    let index = RuleIndex::new(rt.alloc(), &sheet.rules)?;
-    let mut places = Vec::new(rt.alloc());
+    let mut cascade = Cascade::new(rt.alloc(), &sheet.rules)?;
     for place in 0..tree.len() {
         let Some(element) = tree.node(place) else {
             break;
         };
-        index.matching(&sheet.rules, &element, &mut places)?;
+        let stated = cascade.stated(&element)?;
         println!(rt; "{}", element.name())?;
         let own = element.attribute("style").unwrap_or("");
-        for declaration in &resolve(rt.alloc(), &sheet.rules, &places, own)? {
+        for declaration in &resolve(rt.alloc(), &stated, own)? {
             println!(rt; "    {declaration}")?;
         }
     }
