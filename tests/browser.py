@@ -5,8 +5,8 @@
 
 Without files it takes those of `tests/mails`. Headless Chromium (Debian's package `chromium`) loads each document as it is and
 inlined, and `getComputedStyle` must have the same value of each property for each element of the body. The last line is
-`N passed, M failed`, with a document a test; what differs is listed, but for the differences of KNOWN. Run by hand: it is not a
-part of the tests that need the toolchain only. The library is built by `./build library`.
+`N passed, M failed`, with a document a test; what differs is listed. Run by hand: the tests that `.ci/run` makes need no browser.
+The library is built by `./build library`.
 """
 import html
 import json
@@ -21,9 +21,6 @@ TOP = os.path.dirname(os.path.dirname(os.path.abspath(__file__)))
 sys.path.insert(0, os.path.join(TOP, "python"))
 
 import simplecss  # noqa: E402
-
-# The differences that docs/DIFFERENCES.md names: of a document, the number of the element in its body and its properties.
-KNOWN = {}
 
 COMPARE = """
 <script>
@@ -67,7 +64,7 @@ def compare(pages):
 
 def differences(before, after):
     """Returns what differs: the element's number and name, the property, and both values."""
-    found = [] if len(before) == len(after) else [(0, "body", "elements", str(len(before)), str(len(after)))]
+    found = [] if len(before) == len(after) > 0 else [(0, "body", "elements", str(len(before)), str(len(after)))]
     for number, ((name, old), (_, new)) in enumerate(zip(before, after), 1):
         found += [(number, name, each, old[each], new.get(each)) for each in old if old[each] != new.get(each)]
     return found
@@ -83,8 +80,7 @@ def main():
         pages.append((text, simplecss.inline(text)))
     passed = failed = 0
     for name, (before, after) in zip(names, compare(pages)):
-        known = KNOWN.get(os.path.basename(name), {})
-        found = [each for each in differences(before, after) if each[2] not in known.get(each[0], ())]
+        found = differences(before, after)
         for number, element, each, old, new in found:
             print(f"{os.path.basename(name)}: {number} <{element}> {each}: {old!r}, after: {new!r}")
         passed += not found

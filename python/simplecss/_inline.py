@@ -10,7 +10,7 @@ import re
 from typing import Dict, List, NamedTuple, Optional, Tuple
 
 from ._sheet import Declaration, Selector, SelectorError, StyleSheet
-from ._tree import Element, Tree, _HtmlParser
+from ._tree import _ENDS, Element, Tree, _HtmlParser
 
 # What a selector may have that the library does not read and that browsers know. A rule set with
 # any other selector that is refused stays whole, since a browser may drop all of it.
@@ -49,7 +49,10 @@ class _Content(NamedTuple):
 
 
 class _Reader(_HtmlParser):
-    """Collects the elements of a document, the places of their tags, and its `style` elements."""
+    """Collects the elements of a document, the places of their tags, and its `style` elements.
+
+    A `tbody` whose tag is left out is an element without a place, as it is one in a browser.
+    """
 
     def __init__(self, text: str) -> None:
         super().__init__()
@@ -57,7 +60,7 @@ class _Reader(_HtmlParser):
         self.starts = [0]
         for line in re.finditer("\n", text):
             self.starts.append(line.end())
-        self.tags: List[_Tag] = []
+        self.tags: List[Optional[_Tag]] = []
         self.styles: List[_Content] = []
         self.head_end: Optional[int] = None
         self._style: Optional[Tuple[int, int, int]] = None
@@ -66,7 +69,16 @@ class _Reader(_HtmlParser):
         row, column = self.getpos()
         return self.starts[row - 1] + column
 
+    def _add_table_body(self) -> None:
+        """Adds the `tbody` that a row directly within a table is in."""
+        self._end_open(*_ENDS["tr"])
+        if self.open and self._name(len(self.open) - 1) == "table":
+            super().handle_starttag("tbody", [])
+            self.tags.append(None)
+
     def handle_starttag(self, tag: str, attrs: List[Tuple[str, Optional[str]]]) -> None:
+        if tag == "tr":
+            self._add_table_body()
         super().handle_starttag(tag, attrs)
         start = self._offset()
         end = start + len(self.get_starttag_text() or "")
@@ -140,17 +152,20 @@ def _skip_blank(css: str, place: int) -> int:
 
 
 def _statements(css: str) -> List[Tuple[str, str]]:
-    """Returns the statements of a sheet, each as what is before its block, and the block."""
+    """Returns the statements of a sheet, each as what is before its block, and the block.
+
+    A block that the end of the text closes gets its brace.
+    """
     found = []
     place = _skip_blank(css, 0)
     while place < len(css):
         head_end = _skip_until(css, place, "{;" if css[place] == "@" else "{")
+        end = head_end
         if css[head_end : head_end + 1] == "{":
-            end = min(_skip_until(css, head_end + 1, "}") + 1, len(css))
-        else:
-            end = min(head_end + 1, len(css))
-        found.append((css[place:head_end], css[head_end:end]))
-        place = _skip_blank(css, end)
+            end = _skip_until(css, head_end + 1, "}")
+        is_open = end == len(css) and head_end < end
+        found.append((css[place:head_end], css[head_end : end + 1] + "}" * is_open))
+        place = _skip_blank(css, end + 1)
     return found
 
 
@@ -266,10 +281,12 @@ class _Rules:
             if head.startswith("@"):
                 kept.append(head + block)
                 continue
+            if not block:
+                continue
             going, staying = _sort_selectors(_pieces(_without_comments(head), ","))
             if staying:
                 kept.append(f"{', '.join(staying)} {block}")
-            if going and block.endswith("}"):
+            if going:
                 inlined.append(f"{', '.join(going)} {self._block(_declarations(block[1:-1]))}")
         return "\n".join(inlined), "\n".join(kept)
 
@@ -365,7 +382,7 @@ def _place_of_style(reader: _Reader) -> int:
     if reader.head_end is not None:
         return reader.head_end
     for element, tag in zip(reader.elements, reader.tags):
-        if element.name not in ("html", "head"):
+        if tag is not None and element.name not in ("html", "head"):
             return tag.start
     return 0
 
@@ -403,7 +420,7 @@ def inline(html: str, css: str = "") -> str:
     winners = StyleSheet(*sheets).styles(Tree(reader.elements))
     skipped = _in_head(reader.elements)
     for place, tag in enumerate(reader.tags):
-        if winners[place] and not skipped[place]:
+        if tag is not None and winners[place] and not skipped[place]:
             text = html[tag.start : tag.end]
             edits[(tag.start, tag.end)] = _new_tag(text, rules.texts(winners[place]))
     parts = []

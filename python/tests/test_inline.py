@@ -39,6 +39,14 @@ class Declarations(unittest.TestCase):
         self.assertEqual(style_of("p { n/**/: /* a; b */ 1px/**/2px }"), "n: 1px 2px")
         self.assertEqual(style_of("p { n: '/* a */' }"), "n: '/* a */'")
 
+    def test_the_end_of_the_text_closes_a_block(self):
+        self.assertEqual(style_of("p { n: 1; m: 2"), "n: 1; m: 2")
+        self.assertEqual(style_of("p { n: 1; m: f(2; o: 3 } p { q: 4 }"), "n: 1")
+        self.assertEqual(inline("<p>", "p:hover { n: 1"), "<style>\np:hover { n: 1}\n</style><p>")
+        self.assertEqual(inline("<p>", "@media x { p { n: 1 }"), "<style>\n@media x { p { n: 1 }}\n</style><p>")
+        self.assertEqual(inline("<p>", "p"), "<p>")
+        self.assertEqual(inline("<p>", "@import x"), "<style>\n@import x\n</style><p>")
+
     def test_importance(self):
         self.assertEqual(style_of("p { n: 1 ! IMPORTANT } p { n: 2 }"), "n: 1 !important")
         self.assertEqual(style_of("p { n: 1 !important; n: 2 }"), "n: 1 !important")
@@ -73,6 +81,11 @@ class Selectors(unittest.TestCase):
     def test_a_list_with_an_empty_selector_is_dropped(self):
         for selectors in ("p,", ",p", "p,,b"):
             self.assertEqual(inline("<p>", selectors + " { n: 1 }"), "<p>", selectors)
+
+    def test_a_table_has_a_body(self):
+        for page in ("<table><tr><td>", "<table><caption>x<tr><td>", "<table><tbody><tr><td>"):
+            self.assertIn('<td style="n: 1">', inline(page, "table > tbody > tr > td { n: 1 }"), page)
+            self.assertEqual(inline(page, "table > tr { n: 1 }"), page)
 
     def test_words_of_class_are_parted_by_any_space(self):
         self.assertEqual(style_of(".a.b { n: 1 }", "<p class='\ta\n b'>"), "n: 1")
