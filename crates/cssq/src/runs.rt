@@ -15,7 +15,7 @@ ghost use Rattle.cssq.specs.StyleRuns.{style_line, IsStyleRun};
 ghost use Rattle.cssq.specs.PageRuns.{IsLineTold, IsToldText, IsAskedRun};
 ghost use Rattle.cssq.specs.declared.runs.RunFault.TheVariants.{Memory};
 ghost use Rattle.simplecss.specs.SeenDeclarations.{declaration_of};
-ghost use Rattle.simplecss.specs.Sheets.{sheet};
+ghost use Rattle.simplecss.specs.Sheets.{sheet as sheet_of};
 ghost use Rattle.simplecss.specs.Skipped.{add_each, skipped};
 ghost use Rattle.simplecss.specs.ThisEdition.{this_edition};
 ghost use Rattle.simplecss.specs.SeenRules.{rules_of, rules_in};
@@ -201,11 +201,31 @@ pub fn run_sheet_reporting<'a, P: Report<'a>, W: Write>(
     ensures reported { OnOk result (P.state report.new ≡ add_each P.add (P.state report.old)
         (flat_map (skipped this_edition) (map (λ text. text.now) texts.now))) }
 {
-    let sheet = match StyleSheet::parse_all_reporting(report, alloc, texts) {
-        Ok(sheet) => sheet,
+    let mut sheet = StyleSheet::new(alloc);
+    run_sheet_into(report, alloc, texts, &mut sheet, out)
+}
+
+/// Does what [`run_sheet_reporting`] does, and leaves the sheet that was read in `sheet`, so that a
+/// program that then ends need not drop it. After `Memory`, `sheet` may be unchanged.
+pub fn run_sheet_into<'a, P: Report<'a>, W: Write>(
+    report: &mut P,
+    alloc: Global,
+    texts: &[&'a str],
+    sheet: &mut StyleSheet<'a>,
+    out: &mut W,
+) -> Result<(), RunFault>
+    ensures run { Writes (IsSheetRun (map (λ text. text.now) texts.now)) result
+        (W.contents out.old) (W.contents out.new) }
+    ensures read { OnOk result
+        (rules_in sheet.new ≡ sheet_of this_edition (map (λ text. text.now) texts.now)) }
+    ensures reported { OnOk result (P.state report.new ≡ add_each P.add (P.state report.old)
+        (flat_map (skipped this_edition) (map (λ text. text.now) texts.now))) }
+{
+    *sheet = match StyleSheet::parse_all_reporting(report, alloc, texts) {
+        Ok(read) => read,
         Err(_) => return Err(RunFault::Memory),
     };
-    let text = sheet_text(alloc, &sheet)?;
+    let text = sheet_text(alloc, sheet)?;
     write_out(out, text.as_bytes())
 }
 
@@ -308,7 +328,7 @@ fn tree_output(
     rules: &[Rule<'_>],
     tree: &str,
 ) -> Result<String, RunFault>
-    ensures ok { (text : List ℕ) → rules_of rules.now ≡ sheet this_edition (text ∷ [])
+    ensures ok { (text : List ℕ) → rules_of rules.now ≡ sheet_of this_edition (text ∷ [])
         → IfOk result (λ lines. IsAskedRun asked.entry text tree.now (Ok (string_bytes lines))) }
     ensures fault { (text : List ℕ)
         → IfErr result (FailsBeforeWriting (IsAskedRun asked.entry text tree.now)) }

@@ -4,14 +4,16 @@
 
 use cssq::command::{Command, USAGE};
 use cssq::runs::{
-    RunFault, run_match_reporting, run_selector, run_sheet_reporting, run_style_reporting,
+    RunFault, run_match_reporting, run_selector, run_sheet_into, run_style_reporting,
 };
 use log::Log;
 use log::sink::Writer;
+use simplecss::StyleSheet;
 use simplecss_faults::FaultLines;
-use std::io::{BufWriter, Stderr};
+use std::fs::File;
+use std::io::{BufWriter, Read, Stderr};
 use std::process::ExitCode;
-use std::{env, fs, io};
+use std::{env, io, mem};
 
 /// The words of the command line, the program's name the first of them.
 fn all_words(rt: &HostRuntime) -> Option<Vec<String>> {
@@ -23,9 +25,21 @@ fn read_input(rt: &HostRuntime) -> Option<String> {
     io::read_to_string(rt.alloc(), rt.reader()).ok()
 }
 
-/// All of a file, as text.
+/// The length that a file is said to have, or 0 if that is not known.
+fn file_len(file: &File) -> usize {
+    match file.metadata() {
+        Ok(metadata) => usize::try_from(metadata.len()).unwrap_or(0),
+        Err(_) => 0,
+    }
+}
+
+/// All of a file, as text. One allocation has room for the file and for the read that finds its end.
 fn read_file(rt: &HostRuntime, name: &str) -> Option<String> {
-    fs::read_to_string(rt, name).ok()
+    let mut file = File::open(rt, name).ok()?;
+    let room = file_len(&file).saturating_add(1);
+    let mut bytes = Vec::with_capacity(rt.alloc(), room).ok()?;
+    file.read_to_end(&mut bytes).ok()?;
+    String::from_utf8(bytes).ok()
 }
 
 /// Tells what went wrong. A fault of standard error changes nothing.
@@ -90,13 +104,17 @@ fn fault_lines<'n, 'a>(
     Some(FaultLines::new(out, names))
 }
 
-/// Shows the sheet of the texts in turn, which are those of the files.
+/// Prints the sheet that the texts are read into one after another. They are those of the files.
+///
+/// The sheet is not dropped: the process ends, and to free it piece by piece first takes longer.
 fn show_texts(rt: &HostRuntime, names: &[&str], texts: &[&str]) -> ExitCode {
     let Some(mut lines) = fault_lines(rt, names) else {
         return ended(rt, Err(RunFault::Memory));
     };
-    let outcome = run_sheet_reporting(&mut lines, rt.alloc(), texts, &mut rt.stdout());
+    let mut sheet = StyleSheet::new(rt.alloc());
+    let outcome = run_sheet_into(&mut lines, rt.alloc(), texts, &mut sheet, &mut rt.stdout());
     let _ = lines.finish();
+    mem::forget(sheet);
     ended(rt, outcome)
 }
 

@@ -43,16 +43,16 @@ impl<'a> Model for Draft<'a> {
         d.subselectors.items (vec_len d.subselectors) d.stretch_ends.items };
 }
 
-/// Appends to a list whose first growth reserves two items: few components have more subselectors,
-/// and few selectors more stretches.
+/// Appends to a list whose first two growths reserve one item each: most selectors have one
+/// subselector, and few have more than two of anything.
 #[inline(always)]
 fn push_few<T: Drop>(list: &mut Vec<T>, item: T) -> Result<(), AllocError>
     ensures ok { OnOk result (list.new.items ≡ list.old.items ++ item ∷ []) }
     ensures len { OnOk result (vec_len list.new ≡ vec_len list.old + 1) }
     ensures err { OnErr result (list.new.items ≡ list.old.items) }
 {
-    if list.is_empty() {
-        list.reserve_exact(2)?;
+    if list.len() < 2 {
+        list.reserve_exact(1)?;
     }
     list.push(item)?;
     Ok(())
@@ -122,7 +122,7 @@ impl<'a> Draft<'a> {
             name: self.name,
             end: self.subselectors.len(),
         };
-        self.parts.push(part)?;
+        push_few(&mut self.parts, part)?;
         if let Err(error) = push_stretch_end(&mut self.stretch_ends, self.parts.len(), combinator) {
             self.parts.pop();
             return Err(error);

@@ -5,10 +5,10 @@ use Rattle.simplecss_selector.proofs.draft.Draft.join.Goals as goal
 use Rattle.simplecss_selector.proofs.draft.Draft.join.Goals.{After-pop}
 
 pub invariant_of-self : goal.invariant_of-self
-invariant_of-self c = rw c.in_err-push.ensures.items c.self.invariant
+invariant_of-self c = rw c.in_err-push_few.ensures.err c.self.invariant
 
 unpushed : (c : After-pop) → c.pop.new.self.items ≡ c.self.inside.parts.items
-unpushed c = without_last c.self.inside.parts.items c.push.new.self.items c.pop.new.self.items _ (vec_len c.push.new.self) c.in_ok-push.ensures.items c.push.new.self.ok.0 c.pop.ensures.rest
+unpushed c = without_last c.self.inside.parts.items c.push_few.new.list.items c.pop.new.self.items _ (vec_len c.push_few.new.list) c.in_ok-push_few.ensures.ok c.push_few.new.list.ok.0 c.pop.ensures.rest
 
 pub invariant_of-self-in-Err : goal.invariant_of-self-in-Err
 invariant_of-self-in-Err c = rw (unpushed c, c.in-Err.ensures.err) c.self.invariant
@@ -19,12 +19,12 @@ returns-in-Err-clause-err c = rw (unpushed c) c.self.view_is
 pub invariant_of-self-2 : goal.invariant_of-self-2
 invariant_of-self-2 c =
     let s = c.self.inside in
-    let flat : IsFlat c.push.new.self.items s.subselectors.items (vec_len s.subselectors) s.stretch_ends.items = rw (c.in_ok-push.ensures.items, c.len.ensures) c.self.invariant in
-    let done : c.len-2.result ≡ length c.push.new.self.items = omega (arith, c.len-2.ensures, c.push.new.self.ok.0) in
+    let flat : IsFlat c.push_few.new.list.items s.subselectors.items (vec_len s.subselectors) s.stretch_ends.items = rw (c.in_ok-push_few.ensures.ok, c.len.ensures) c.self.invariant in
+    let done : c.len-2.result ≡ length c.push_few.new.list.items = omega (arith, c.len-2.ensures, c.push_few.new.list.ok.0) in
     rw (c.in_default.ensures.ok)
-    (flat_joined c.push.new.self.items _ s.subselectors.items (vec_len s.subselectors) c.len-2.result s.stretch_ends.items flat c.requires refl done)
+    (flat_joined c.push_few.new.list.items _ s.subselectors.items (vec_len s.subselectors) c.len-2.result s.stretch_ends.items flat c.requires refl done)
 
 pub returns-clause-ok : goal.returns-clause-ok
 returns-clause-ok c =
     let s = c.self.inside in
-    rw (c.in_ok-push.ensures.items, c.len.ensures, ← c.self.view_is) (drafted-joined s.parts.items s.subselectors.items _ _ refl refl)
+    rw (c.in_ok-push_few.ensures.ok, c.len.ensures, ← c.self.view_is) (drafted-joined s.parts.items s.subselectors.items _ _ refl refl)

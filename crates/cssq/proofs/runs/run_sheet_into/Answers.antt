@@ -1,8 +1,8 @@
-use Rattle.std.proofs.Common.{Ok, Err, map, ap, ◌∙◌, refl}
+use Rattle.std.proofs.Common.{Ok, map, ap, ◌∙◌}
 use Rattle.cssq.specs.SheetRuns.{IsSheetRun, sheet_output}
 use Rattle.cssq.specs.declared.runs.RunFault.TheVariants.{Memory}
 use Rattle.cssq.proofs.Written.{runs_written, runs_failed}
-use Rattle.cssq.proofs.runs.run_sheet_reporting.Goals as goal
+use Rattle.cssq.proofs.runs.run_sheet_into.Goals as goal
 
 pub returns-in_err-text-clause-run : goal.returns-in_err-text-clause-run
 returns-in_err-text-clause-run g c = runs_failed (IsSheetRun (map (λ text. text.now) c.args.texts.now)) c.from_residual.result Memory (g.W.Write.contents c.args.out.now) c.from_residual.ensures.1 tt
