@@ -6,6 +6,7 @@ pub mod SheetLemmas
 pub mod StatementLemmas
 pub mod StatementPlaces
 pub mod RulePlaces
+pub mod RuleOrders
 pub mod Adding
 pub mod Ascending
 pub mod LastPlaces

@@ -1,5 +1,6 @@
 pub mod SeenRules
 pub mod RulePlaces
+pub mod RuleOrders
 pub mod SharedBlocks
 pub mod SheetPlaces
 pub mod SelectorPlaces

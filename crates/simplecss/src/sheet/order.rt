@@ -1,24 +1,80 @@
 //! The order of rules by specificity.
-ghost use Rattle.std.specs.Prelude.{◌≡◌, ◌++◌, OnErr, OnOk, filter};
-ghost use Rattle.simplecss_text.specs.Specificity.{specificity};
+ghost use Rattle.std.specs.Prelude.{◌≡◌, ◌++◌, OnErr, OnOk, IfOk, filter, length};
+ghost use Rattle.std.specs.List.{range_with_len};
 ghost use Rattle.simplecss_text.specs.Statements.{has_declaration};
 ghost use Rattle.simplecss_text.specs.Sheets.{ordered};
 ghost use Rattle.simplecss.specs.SeenRules.{rule_of, rules_of};
+ghost use Rattle.simplecss.specs.RuleOrders.{weight_at, IsOrder, OrdersRules, IsMovedBy};
 
 use crate::sheet::Rule;
-use std::alloc::AllocError;
+use std::alloc::{AllocError, Global};
+
+/// The numbers from 0 on, `len` of them.
+fn numbers(alloc: Global, len: usize) -> Result<Vec<usize>, AllocError>
+    ensures { IfOk result (λ list. list.items ≡ range_with_len 0 len) }
+{
+    let mut list = Vec::with_capacity(alloc, len)?;
+    for number in 0..len {
+        list.push(number)?;
+    }
+    Ok(list)
+}
+
+/// The specificity of the rule at the place. Past the end it is that of no rule.
+fn weight_at(rules: &[Rule], place: usize) -> [u8; 3]
+    ensures { result ≡ weight_at (rules_of rules.now) place }
+{
+    match rules.get(place) {
+        Some(rule) => rule.selector.specificity(),
+        None => [0; 3],
+    }
+}
+
+/// The places of the rules in the order of specificity, and of those of equal specificity in the
+/// order of the list.
+fn places_in_order(alloc: Global, rules: &[Rule]) -> Result<Vec<usize>, AllocError>
+    ensures { IfOk result (λ places. OrdersRules (rules_of rules.now) places.items) }
+{
+    let mut places = numbers(alloc, rules.len())?;
+    places.sort_by_cached_key(
+        |place: &usize| -> [u8; 3]
+            ensures { result ≡ weight_at (rules_of rules.entry.now) place.now }
+        { weight_at(rules, *place) },
+    )?;
+    Ok(places)
+}
+
+/// Moves the rules to the places that the order gives them, by exchanges only. `who` says which of
+/// the rules is at each place, and `at` where each of them is.
+fn arrange(rules: &mut Vec<Rule>, order: &[usize], mut who: Vec<usize>, mut at: Vec<usize>)
+    requires order { IsOrder (length rules.old.items) order.now }
+    requires who { who.items ≡ range_with_len 0 (length rules.old.items) }
+    requires at { at.items ≡ range_with_len 0 (length rules.old.items) }
+    ensures len { length rules.new.items ≡ length rules.old.items }
+    ensures moved { IsMovedBy order.now rules.old.items rules.new.items }
+{
+    for (place, first) in order.iter().enumerate() {
+        let from = at[*first];
+        let other = who[place];
+        rules.swap(place, from);
+        who.swap(place, from);
+        at.swap(*first, other);
+    }
+}
 
 /// Puts the rules in the order of specificity, and those of equal specificity in the order in which
-/// they stood. An `Err` changes nothing.
+/// they are. They are moved in place, so that there is no second list of them. An `Err` changes
+/// nothing.
 fn sort_rules(rules: &mut Vec<Rule>) -> Result<(), AllocError>
     ensures ok { OnOk result (rules_of rules.new.items ≡ ordered (rules_of rules.old.items)) }
     ensures err { OnErr result (rules.new.items ≡ rules.old.items) }
 {
-    rules.sort_by_cached_key(
-        |rule: &Rule| -> [u8; 3]
-            ensures { result ≡ specificity rule.now.selector }
-        { rule.selector.specificity() },
-    )
+    let alloc = *rules.allocator();
+    let order = places_in_order(alloc, rules)?;
+    let who = numbers(alloc, rules.len())?;
+    let at = numbers(alloc, rules.len())?;
+    arrange(rules, order.as_slice(), who, at);
+    Ok(())
 }
 
 /// Puts the rules behind the others, which may take them as they are where there are no others. An

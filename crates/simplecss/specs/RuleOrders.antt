@@ -1,0 +1,32 @@
+-- Lists of places that say in which order the rules of a list are to stand.
+use Rattle.std.specs.Prelude.{◌≡◌, ℕ, ◌<◌, List, [], length, slice_index, slice_index_or, map}
+use Rattle.simplecss_text.specs.Specificity.{specificity}
+use Rattle.simplecss_text.specs.Statements.{StyleRule}
+use Rattle.simplecss_text.specs.Sheets.{ordered}
+
+-- what stands for a rule at a place past the end
+abbrev pub no_rule : StyleRule
+no_rule = record { components = []; declarations = [] }
+
+abbrev pub rule_at : List StyleRule → ℕ → StyleRule
+rule_at rules place = slice_index_or rules place no_rule
+
+-- the specificity of the rule at a place
+abbrev pub weight_at : List StyleRule → ℕ → List ℕ
+weight_at rules place = specificity (rule_at rules place).components
+
+-- each number below n, once
+pub record IsOrder (n : ℕ) (places : List ℕ) : Type 0 where
+  pub long : length places ≡ n
+  pub below : (k : ℕ) → k < n → slice_index places k < n
+  pub apart : (j k : ℕ) → j < n → k < n → slice_index places j ≡ slice_index places k → j ≡ k
+
+-- the places of the rules of a list, as their specificity orders them
+pub record OrdersRules (rules : List StyleRule) (places : List ℕ) : Type 0 where
+  pub order : IsOrder (length rules) places
+  pub gives : map (rule_at rules) places ≡ ordered rules
+
+-- at each place stands the element from the place that the order names
+abbrev pub IsMovedBy : {X : Type 0} → List ℕ → List X → List X → Type 0
+IsMovedBy {X} places old new =
+    (k : ℕ) (d : X) → k < length old → slice_index_or new k d ≡ slice_index_or old (slice_index places k) d
