@@ -31,15 +31,11 @@ numbers_text numbers = flat_map (λ n. space ∷ decimal n) numbers
 abbrev pub numbers_line : ℕ → List ℕ → List ℕ
 numbers_line number numbers = decimal number ++ (colon ∷ (numbers_text numbers ++ newline ∷ []))
 
--- an element's number, a colon, the numbers of the rules that match it, and a newline
-abbrev pub line_text : ℕ → List Bool → List ℕ
-line_text number answers = decimal number ++ (colon ∷ (numbers_text (numbers_of answers) ++ newline ∷ []))
-
 -- the line of the element at an index
 abbrev pub IsLineOf : List StyleRule → List Row → ℕ → List ℕ → Type 0
 IsLineOf rules rows place line =
     (answers : List Bool) × AreAnswers answers rules (spot rows place)
-    × (line ≡ line_text (place + 1) answers)
+    × (line ≡ numbers_line (place + 1) (numbers_of answers))
 
 -- the text is a line for each index below the count, in order
 abbrev pub AreLines : (ℕ → List ℕ → Type 0) → ℕ → List ℕ → Type 0

@@ -45,6 +45,7 @@ pub use Rattle.simplecss_text.specs.Pieces
 pub use Rattle.simplecss_text.specs.Positions
 pub use Rattle.simplecss_text.specs.Printing
 pub use Rattle.simplecss_text.specs.PrintingLaws
+pub use Rattle.simplecss_text.specs.PseudoClasses
 pub use Rattle.simplecss_text.specs.Ranks
 pub use Rattle.simplecss_text.specs.Reading
 pub use Rattle.simplecss_text.specs.ByteTests

@@ -1,6 +1,6 @@
 -- Blocks, a declaration at a time.
--- Serves `blocks::{brace_counts, closing_place, block_end, consume_declarations, consume_next_block}`
--- (where a block begins and ends).
+-- Serves `blocks::{brace_counts, closing_place, block_end, consume_declarations,
+-- consume_next_block}` (where a block begins and ends).
 use Rattle.std.proofs.Common.{◌≡◌, ℕ, ◌+◌, ◌-◌, ◌<◌, ◌≤◌, ◌==◌, ◌&&◌, List, [], ◌∷◌, Bool, true, false, cond, not, suc, length, take, drop, get_or, slice_index, Option, None, Some, refl, sym, ap, ◌∙◌, arith, eq-eqb, eqb-true, if◌then◌else◌, length-drop, nat_lt, ltb-true, ltb-false}
 use Rattle.std.proofs.lemmas.List.{get_or-drop, get_or-take, take-take, drop-take, length-take, length-take-le, take_rest, take_more}
 use Rattle.std.proofs.lemmas.List.Sums.{sum_by-take-drop, sum_by-append}
@@ -26,7 +26,7 @@ first-true : (a b : Bool) → (a && b) ≡ true → a ≡ true
 first-true true b e = refl
 first-true false b e = e
 
--- so many of the byte stand before a place, and so many more up to a later one
+-- the number of the byte before an offset, and up to a later one
 count_of-take-add : (byte : ℕ) (text : List ℕ) (place len : ℕ) → count_of byte (take (place + len) text) ≡ count_of byte (take place text) + count_of byte (take len (drop place text))
 count_of-take-add byte text place len =
     let front : take place (take (place + len) text) ≡ take place text = take-take place (place + len) text (omega arith) in
@@ -38,7 +38,7 @@ one_byte : (b : Bool) → 0 + cond b 1 0 ≡ bool_byte b
 one_byte true = refl
 one_byte false = refl
 
--- one more of the byte stands before the next place, if it stands here
+-- one more of the byte is before the next offset, if it is at this one
 pub count_of-more : (byte : ℕ) (text : List ℕ) (place : ℕ) → place < length text → count_of byte (take place text) + bool_byte (get_or text place 0 == byte) ≡ count_of byte (take (place + 1) text)
 count_of-more byte text place within = sym (
     ap (count_of byte) (take_more text place 0 within)
@@ -55,13 +55,13 @@ same_test a b c d there back = by (a == b) (c == d) refl refl
     by true false e f = sym (eq-eqb c d (there (eqb-true a b e))) ∙ f
     by false true e f = sym e ∙ eq-eqb a b (back (eqb-true c d f))
 
--- No block ends before the place that the text begins in, and so many of those that begin before it
--- are open there.
+-- The block in which the text begins is not closed before the offset, and `depth` of those that
+-- begin before it are open there.
 pub record IsInside (text : List ℕ) (place depth : ℕ) : Type 0 where
   pub counts : depth + count_of 125 (take place text) ≡ count_of 123 (take place text)
   pub none : (k : ℕ) → k < place → closes_block text k ≡ false
 
--- so many bytes from a place on are a part of the text
+-- `n` bytes from an offset on are a part of the text
 pub part_len : (text part : List ℕ) (place n : ℕ) → part ≡ take n (drop place text) → place + n ≤ length text → (part ≡ take (length part) (drop place text)) × (length part ≡ n)
 part_len text part place n p l =
     let len : length part ≡ n = ap length p ∙ length-take-le n (drop place text) (omega (arith, length-drop place text)) in
@@ -87,7 +87,7 @@ closes_block-part text part place depth k inside p h =
     same_test _ _ _ _ (λ e. omega (arith, inside.counts)) (λ e. omega (arith, inside.counts)) in
     ap (λ b. b == 125 && count_of 123 (take (place + k) text) == count_of 125 (take (place + k) text)) (sym byte) ∙ ap (λ t. get_or part k 0 == 125 && t) even
 
--- behind a part of the text that nothing closes
+-- after a part of the text in which nothing closes the block
 pub inside-passed : (text part : List ℕ) (place depth behind : ℕ) → IsInside text place depth → part ≡ take (length part) (drop place text) → ClosesNowhere depth part behind → IsInside text (place + length part) behind
 inside-passed text part place depth behind inside p nowhere = record {
   counts = omega (arith, inside.counts, nowhere.counts, count_of-take-add 123 text place (length part), count_of-take-add 125 text place (length part), ap (count_of 123) p, ap (count_of 125) p);
@@ -161,7 +161,7 @@ past_list-broken edition text left e h = rw e (by (declaration edition text) h)
 
 -- ---- the block of a rule set
 
--- the block behind the first opening brace, if there is one
+-- the block after the first opening brace, if there is one
 abbrev block_behind : Edition → Option (List ℕ) → List StyleDeclaration × List ℕ
 block_behind edition None = ([], [])
 block_behind edition (Some text) = block edition text
@@ -225,7 +225,7 @@ block_skips-broken edition text begun left h =
     ap (λ (t : List ℕ). broken_part t (from_block_end left)) h.1
     ∙ sym (list_skips-broken edition (each (declaration_in_block edition) text).1 left h.0 h.2)
 
--- the block behind the first opening brace, if there is one
+-- the block after the first opening brace, if there is one
 abbrev skips_behind : Edition → Option (List ℕ) → List Skip
 skips_behind edition None = []
 skips_behind edition (Some text) = block_skips edition text

@@ -22,7 +22,7 @@ terms-some edition text rest e = each-some (term_in_value edition) (term_in_valu
 pub terms-none : (edition : Edition) (text rest : List ℕ) (fault : Fault) → term edition text ≡ fails fault rest → each (term_in_value edition) text ≡ ([], text)
 terms-none edition text rest fault e = each-none (term_in_value edition) text (ap after_term e)
 
--- a term and the blank behind it take a byte or more
+-- a term and the blank after it consume a byte or more
 pub term-takes : (edition : Edition) (text rest : List ℕ) → term edition text ≡ got tt rest → length (past_blank rest) < length text
 term-takes edition text rest e = took (term_in_value edition) (term_in_value-takes edition) text (past_blank rest) rest (ap after_term e)
 
@@ -54,11 +54,11 @@ boundary_at_end text rest e u =
 pub before-range : (text rest : List ℕ) → slice_range text 0 (length text - length rest) ≡ before text rest
 before-range text rest = ap (λ n. take n text) (omega arith)
 
--- what is trimmed stands before the end
+-- what is trimmed is before the end
 pub trimmed : (text rest ranged result : List ℕ) → ranged ≡ slice_range text 0 (length text - length rest) → result ≡ trim ranged → result ≡ trim (before text rest)
 trimmed text rest ranged result r t = t ∙ ap (λ (v : List ℕ). trim v) (r ∙ before-range text rest)
 
--- A declaration's name and value stand in order, where each of its parts was read from what the one
+-- A declaration's name and value occur in order, if each of its parts was read from what the one
 -- before left.
 pub declaration-slices : (edition : Edition) (text a b n c d start g h v : List ℕ) (important : Bool) → blank text ≡ got tt a → b ≡ past_byte 42 a → name edition b ≡ got n c → blank c ≡ got tt d → byte 58 d ≡ got tt start
     → (e : List ℕ) → blank start ≡ got tt e → StandBetween e g (v ∷ []) → trailing g ≡ got important h → StandBetween text h (n ∷ v ∷ [])

@@ -6,7 +6,7 @@ use Rattle.std.proofs.lemmas.List.{drop-drop, map-append, take_more, get_or-map,
 use Rattle.std.proofs.lemmas.Str.{chars-nil, IsUtf8-take, IsCharBoundary-from_drop}
 use Rattle.std.proofs.Math.Seq.{take-length}
 use Rattle.std.specs.Str.{IsUtf8}
-use Rattle.simplecss_text.specs.declared.TextPos.{TextPos}
+use Rattle.simplecss_text.specs.declared.text_pos.TextPos.{TextPos}
 use Rattle.simplecss_text.specs.Reading.{Ends, rest_place}
 use Rattle.simplecss_text.specs.Positions.{in_whole, position}
 use Rattle.simplecss_text.specs.declared.report.Skipped.{Skipped}

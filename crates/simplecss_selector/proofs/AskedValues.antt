@@ -1,5 +1,5 @@
--- What the test of an operator means.
--- Serves `AttributeOperator::matches` (what each operator asks).
+-- The meaning of an operator's test.
+-- Serves `AttributeOperator::matches` (what each operator means).
 use Rattle.std.proofs.Common.{◌≡◌, ℕ, ◌↔◌, Bool, true, false, IsTrue, List, [], ◌∷◌, ◌++◌, inl, inr, length, take, drop, refl, sym, ap, ◌∙◌, append_assoc, append-nil, take-append-drop}
 use Rattle.std.specs.Prelude.{bytes_eq, nat_eq}
 use Rattle.std.specs.List.{starts_with}
@@ -24,7 +24,7 @@ begins start value =
       λ h. same.1 (front start h.0 ∙ ap (take n) (sym h.1)),
     )
 
--- the test tells what the operator asks
+-- the test is true exactly if the value satisfies the operator
 pub is_as_asked-IsAsAsked : (o : Operator) (value : List ℕ) → (is_as_asked o value ≡ true) ↔ IsAsAsked o value
 is_as_asked-IsAsAsked exists value = (λ e. tt, λ h. refl)
 is_as_asked-IsAsAsked (equals text) value = bytes_eq-Decides value text
@@ -42,7 +42,7 @@ same_test true b f g = sym (f refl)
 same_test false true f g = g refl
 same_test false false f g = refl
 
--- an answer that tells what the operator asks is the test's
+-- an answer that is true exactly if the value satisfies the operator is the test's
 pub asked_by : (o : Operator) (value : List ℕ) (answer : Bool) → IsTrue answer ↔ IsAsAsked o value → answer ≡ is_as_asked o value
 asked_by o value answer tells =
     let test = is_as_asked-IsAsAsked o value in

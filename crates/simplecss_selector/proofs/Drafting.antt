@@ -1,8 +1,8 @@
--- Filling a draft role by role gives the selector of the roles.
--- Serves `Selector::{parse, parse_front}` (the tokens of a text give its selector).
+-- Filling a draft role by role makes the selector of the roles.
+-- Serves `Selector::{parse, parse_front}` (the selector of the tokens of a text).
 use Rattle.std.proofs.Common.{◌≡◌, ◌<◌, ℕ, Bool, true, false, Option, Some, None, Ok, Err, is_some, List, [], ◌∷◌, ◌++◌, length, refl, sym, ap, ◌∙◌, append_assoc, append-nil, map, arith}
 use Rattle.simplecss_text.specs.Components.{Component}
-use Rattle.simplecss_text.specs.declared.Error.{Error}
+use Rattle.simplecss_text.specs.declared.error.Error.{Error}
 use Rattle.simplecss_text.specs.TokenSequences.{TokenSequence, sequence_of, items}
 use Rattle.simplecss_text.specs.Bytes.{past}
 use Rattle.simplecss_text.specs.Characters.{is_space}
@@ -19,7 +19,7 @@ use Rattle.simplecss_selector.specs.SeenTokens.{token_of}
 use Rattle.simplecss_selector.specs.SelectorDrafts.{Drafted, empty_draft, drafted_after, drafted_if, continued, finished, selector_after, selector_read}
 use Rattle.simplecss_selector.specs.SelectorTokenizers.{GivesFirst}
 
--- the component with what the parts ask besides
+-- the component with the further conditions of the parts
 abbrev pub extended : Component → List Part → Component
 extended c parts = record { combinator = c.combinator; compound = record { name = type_among c.compound.name parts; subselectors = c.compound.subselectors ++ subselectors_among parts } }
 
@@ -55,7 +55,7 @@ selector_after-with_role : (role : Role) (d : Drafted) (rest : Outcome) → sele
 selector_after-with_role role d (refused left) = refl
 selector_after-with_role role d (accepted roles left) = refl
 
--- a token that has a role goes into the draft
+-- a token that has a role is added to the draft
 selector_after_role : (role : Option Role) (d : Drafted) (after : List ℕ) (rest : Outcome) → is_some role ≡ true → selector_after (drafted_if role d) rest ≡ selector_after d (after_role role after rest)
 selector_after_role (Some role) d after rest h = sym (selector_after-with_role role d rest)
 selector_after_role None d after rest h = absurd (cc)
@@ -110,7 +110,7 @@ refusal-error text error before after left (Err fault, e, b) = let same : error 
 pub refusal-end : (text : List ℕ) (before after : TokenSequence) (left : List ℕ) → GivesFirst text before None left after → None ≡ refusal_in text before
 refusal-end text before after left (b, e) = rw b refl
 
--- what the selector at the front of a text skips, from where reading it ends
+-- what the selector at the start of a text skips, from where reading it ends
 pub selector_skips-is : (text left : List ℕ) (all : TokenSequence) → all ≡ sequence_of this_edition text → (reads this_edition text).1 ≡ left → selector_skips this_edition text ≡ refused_part text (past is_space left) (refusal_in text all)
 unfolding selector_skips refusal
 selector_skips-is text left all s e = rw (e, s) refl

@@ -36,7 +36,7 @@ pub Tile-push : (start : ℕ) (ps : List Part) (p : Part) (n m : ℕ) → Tile s
 Tile-push start [] p n m t h e = (omega arith, e)
 Tile-push start (q ∷ ps) p n m t h e = (t.0, Tile-push q.end ps p n m t.1 h e)
 
--- what stands behind a part of a list does not change the part
+-- what follows a part of a list does not change the part
 slice_range-append : {X : Type 0} (xs ys : List X) (i j : ℕ) → j ≤ length xs → slice_range (xs ++ ys) i j ≡ slice_range xs i j
 slice_range-append xs ys i j h = between_is (xs ++ ys) i j ∙ ap (drop i) (take-append-le j xs ys h) ∙ sym (between_is xs i j)
 
@@ -78,7 +78,7 @@ length-joints : (cs : List Component) → length (joints cs) ≡ length cs
 length-joints [] = refl
 length-joints (c ∷ cs) = ap suc (length-joints cs)
 
--- the order of the components depends on the combinators alone
+-- the order of the components depends only on the combinators
 pub IsSelector-joints : (cs ds : List Component) → joints cs ≡ joints ds → IsSelector cs → IsSelector ds
 IsSelector-joints cs ds e s =
     let same : length cs ≡ length ds = sym (length-joints cs) ∙ ap length e ∙ length-joints ds in (
@@ -142,12 +142,12 @@ pub both_on_ok : {T E A B C : Type 0} (r : Result T E) → (A → B → C) → O
 both_on_ok (Ok x) f a b = f a b
 both_on_ok (Err e) f a b = tt
 
--- a list does not get shorter where one more element may be put behind it
+-- a list does not become shorter if one more element may be appended
 pub pushed_len : {T E X : Type 0} (r : Result T E) (xs ys : List X) (x : X) (n m : ℕ) → n ≡ length xs → m ≡ length ys → OnOk r (ys ≡ xs ++ x ∷ []) → OnErr r (ys ≡ xs) → n ≤ m
 pushed_len (Ok t) xs ys x n m a b ok err = omega (arith, a, b, ap length ok, length-append xs (x ∷ []))
 pushed_len (Err e) xs ys x n m a b ok err = omega (arith, a, b, ap length err)
 
--- a list without the element that was put behind it
+-- a list without the element that was appended
 pub without_last : {X : Type 0} (xs ys zs : List X) (x : X) (n : ℕ) → ys ≡ xs ++ x ∷ [] → n ≡ length ys → zs ≡ take (n - 1) ys → zs ≡ xs
 without_last xs ys zs x n e m t =
     let length_is : n - 1 ≡ length xs = omega (arith, m, ap length e, length-append xs (x ∷ [])) in

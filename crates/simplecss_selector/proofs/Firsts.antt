@@ -1,5 +1,5 @@
--- What a call of a tokenizer gives is the first item of its sequence.
--- Serves `next` of `SelectorTokenizer` (what is given, and what is still to come).
+-- A call of a tokenizer returns the first item of its sequence.
+-- Serves `next` of `SelectorTokenizer` (what is returned, and what is still to come).
 use Rattle.std.proofs.Common.{◌≡◌, ℕ, List, ◌∷◌, Bool, true, false, Option, Some, None, Result, Ok, Err, ◌⊎◌, inl, inr, refl, sym, ap, ◌∙◌, subst, map, IsUtf8, length, arith}
 use Rattle.std.specs.Prelude.{⊤}
 use Rattle.std.specs.Iterator.{YieldsFirstBy, MakesProgress, item_count}
@@ -17,8 +17,8 @@ use Rattle.simplecss_text.specs.Pieces.{IsSimplePiece, next_kind, solid_as}
 use Rattle.simplecss_text.specs.Neighbours.Side.{open_side, closed_side}
 use Rattle.simplecss_text.specs.TokenSequences.{TokenSequence, fault_sequence, items, told_in}
 use Rattle.simplecss_text.specs.TokenSequences.TokenSequence.{item}
-use Rattle.simplecss_text.specs.declared.Error.{Error}
-use Rattle.simplecss_text.specs.declared.Error.TheVariants.{InvalidComment, SelectorMissing, UnexpectedSelector, UnexpectedCombinator}
+use Rattle.simplecss_text.specs.declared.error.Error.{Error}
+use Rattle.simplecss_text.specs.declared.error.Error.TheVariants.{InvalidComment, SelectorMissing, UnexpectedSelector, UnexpectedCombinator}
 use Rattle.simplecss_text.proofs.reading.EndsLaws.{ends-same, stand-ends}
 use Rattle.simplecss_text.proofs.reading.PlaceLaws.{place-ends}
 use Rattle.simplecss_text.proofs.reading.SequenceStandLaws.{FirstStands, sequence_from-first}
@@ -51,15 +51,15 @@ first-token text left before after token is = (Ok (token_of token), refl, is)
 first-fault : (text left : List ℕ) (before after : TokenSequence) (fault : Fault) (e : Error) → e ≡ error_of text fault → before ≡ item (Err fault) left after → GivesFirst text before (Some (Err e)) left after
 first-fault text left before after fault e told is = (Err fault, ap Err told, is)
 
--- nothing comes behind the end
+-- nothing follows the end
 pub ended-first : (text left : List ℕ) → GivesFirst text (sequence_in stages.Ended left) None left (sequence_in stages.Ended left)
 ended-first text left = (refl, refl)
 
--- that a selector is missing, where it is still to be told
+-- the error that a selector is missing, if it is still to come
 pub missing-first : (text left : List ℕ) → GivesFirst text (sequence_in stages.Missing left) (Some (Err SelectorMissing)) left (sequence_in stages.Ended left)
 missing-first text left = first-fault text left _ _ no_selector SelectorMissing refl refl
 
--- ---- behind an open left side
+-- ---- after an open left side
 
 pub open_gap-first : (text rest left : List ℕ) (e : Error) → FailsBy text (gap rest) e left → GivesFirst text (sequence_in stages.Open rest) (Some (Err e)) left (sequence_in stages.Missing left)
 open_gap-first text rest left e h =
@@ -107,7 +107,7 @@ open_fault-first text rest start after spaced f e g k s h =
     let told = fails_by-fault text (solid_as this_edition f start) e after h in
     first-fault text after _ _ told.0 e told.2 (sequence_from-kind this_edition open_side rest start spaced f _ g (sym k) told.1 ∙ open-fault f spaced start after told.0 s)
 
--- ---- behind a closed left side
+-- ---- after a closed left side
 
 pub closed_gap-first : (text rest left : List ℕ) (e : Error) → FailsBy text (gap rest) e left → GivesFirst text (sequence_in stages.Closed rest) (Some (Err e)) left (sequence_in stages.Ended left)
 closed_gap-first text rest left e h =
@@ -139,7 +139,7 @@ pub closed_spaced-first : (text rest start : List ℕ) (spaced : Bool) (f : Next
 closed_spaced-first text rest start true f g with_space k s = first-token text start _ _ DescendantCombinator (sequence_from-descends this_edition rest start f g (sym k) s)
 closed_spaced-first text rest start false f g with_space k s = absurd (cc)
 
--- ---- directly behind a simple piece
+-- ---- directly after a simple piece
 
 pub joined_universal-first : (text rest start : List ℕ) (f : NextKind) → gap rest ≡ got false start → next_kind start ≡ f → f ≡ Universal → GivesFirst text (sequence_in stages.Closed rest) (Some (Err UnexpectedSelector)) start (sequence_in stages.Ended start)
 joined_universal-first text rest start f g k is = first-fault text start _ _ unexpected_selector UnexpectedSelector refl (sequence_from-kind this_edition closed_side rest start false Universal _ g (k ∙ is) refl)
@@ -182,7 +182,7 @@ joined_fault-first text rest start after f error g k s h =
 
 -- ---- the whole call
 
--- what was given first is no longer to come
+-- what was returned first is no longer to come
 pub gives_steps : (old new : SelectorTokenizer) (r : Option (Result SelectorToken Error)) (left : List ℕ) → whole_text new ≡ whole_text old → GivesFirst (whole_text old) (still_to_come old) r left (still_to_come new) → YieldsFirstBy item_seen items_left old r new
 unfolding items_left
 gives_steps old new None left s h =
@@ -192,7 +192,7 @@ gives_steps old new (Some x) left s (told, seen, before) =
     ∙ ap (λ item. item ∷ map (told_in (whole_text old)) (items (still_to_come new))) (sym seen)
     ∙ ap (λ text. item_seen x ∷ map (told_in text) (items (still_to_come new))) (sym s)
 
--- what is given first stands between what was left before and what is left then
+-- what is returned first is between what was left before and what is left then
 given-first : (old : SelectorTokenizer) (r : Option (Result SelectorToken Error)) (left : List ℕ) (after : TokenSequence) → FirstStands (left_of old) (still_to_come old) → GivesFirst (whole_text old) (still_to_come old) r left after → StandBetween (left_of old) left (given_texts r)
 given-first old None left after stands first = subst (FirstStands (left_of old)) first.0 stands
 given-first old (Some (Ok token)) left after stands (Ok told, seen, before) =
@@ -220,7 +220,7 @@ given-stands old r left after first = given-first old r left after (stage-stands
 pub first-in : (old : SelectorTokenizer) (s : Stage) (r : Option (Result SelectorToken Error)) (left : List ℕ) (after : TokenSequence) → old.stage ≡ s → GivesFirst (whole_text old) (sequence_in s (left_of old)) r left after → GivesFirst (whole_text old) (still_to_come old) r left after
 first-in old s r left after e h = subst (λ (s : Stage). GivesFirst (whole_text old) (sequence_in s (left_of old)) r left after) (sym e) h
 
--- All that a call of `next` gives, from the first item of what comes in its stage.
+-- All that a call of `next` returns, from the first item of what comes in its state.
 pub gives-item : (old new : SelectorTokenizer) (s : Stage) (r : Option (Result SelectorToken Error)) → old.stage ≡ s → whole_text new ≡ whole_text old → GivesFirst (whole_text old) (sequence_in s (left_of old)) r (left_of new) (still_to_come new) → GivesItem old r new
 gives-item old new s r is same h =
     let first = first-in old s r (left_of new) (still_to_come new) is h in
@@ -233,7 +233,7 @@ gives-item old new s r is same h =
       forward = place-ends old.stream new.stream same (stand-ends (left_of old) (left_of new) (given_texts r) stands);
     }
 
--- an item that was given is no longer to come
+-- an item that was returned is no longer to come
 pub given-fewer : (old new : SelectorTokenizer) (r : Option (Result SelectorToken Error)) → GivesItem old r new → MakesProgress {A = Result SelectorToken Error} (λ t. ⊤) (item_count items_left) old r new
 given-fewer old new None h = record { on = λ f. tt; keeps = tt; rests = λ f. tt }
 given-fewer old new (Some x) h = record { on = λ f. (tt, tt, omega (arith, ap (λ (l : List (Result Token Error)). length l) h.items)); keeps = tt; rests = λ f. tt }

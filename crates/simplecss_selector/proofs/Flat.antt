@@ -1,4 +1,4 @@
--- The components that the lists of a selector stand for.
+-- The components that the lists of a selector represent.
 -- Serves `draft::Draft`, `==` of selectors, and `Selector::{combinator, component, last_place,
 -- len}` (lists seen as components).
 use Rattle.std.proofs.Common.{◌≡◌, ℕ, zero, suc, ◌+◌, ◌-◌, sub-one, ◌<◌, ◌≤◌, List, [], ◌∷◌, ◌++◌, length, get_or, refl, ap, sym, ◌∙◌, subst, arith}

@@ -36,8 +36,8 @@ module _ {Node : Type 0} (tree : Tree Node) (cs : List Component) where
   pub placement_is : (n : Node) → HasPlacement tree cs n ↔ Reaches tree (first_of cs (length cs)) n
   placement_is n = rw (take-length) (reaches_from tree cs n, placement_from tree cs n)
 
-  -- the components before `p`, tried with the last of them on `u`, stand for those before `left` on
-  -- `n`
+  -- placing the components before `p`, with the last of them on `u`, is equivalent to placing those
+  -- before `left` on `n`
   pub record Tracks (left p : ℕ) (n u : Node) : Type 0 where
     pub onward : Reaches tree (first_of cs left) n → Reaches tree (first_of cs p) u
     pub back : Reaches tree (first_of cs p) u → Reaches tree (first_of cs left) n
@@ -140,7 +140,7 @@ first_rest tree cs k rest n v e l =
     let p = placement_of tree cs k n e in
     (λ h. l.nothing_lost n (λ a q. q) (p.0 h), λ h. p.1 (l.enough h))
 
--- a component that stands alone
+-- a single component
 pub alone_reached : {Node : Type 0} (tree : Tree Node) (cs : List Component) (n : Node) (k : ℕ) → length cs ≡ 1 → k ≡ 0 → Meets tree n (component_at cs k).compound → Reaches tree (first_of cs (length cs)) n
 alone_reached tree [] n k one e m = absurd (omega arith)
 alone_reached tree (c ∷ d ∷ cs) n k one e m = absurd (omega arith)

@@ -1,4 +1,5 @@
--- An element that a selector matches has ancestors with the keys that the selector asks of them.
+-- An element that a selector matches has ancestors with the keys that the selector requires of
+-- them.
 -- Serves `key_bits::{class_bits, element_bits, ancestors_law}`, `Selector::ancestor_bits` and
 -- `AncestorBits`.
 use Rattle.std.proofs.Common.{◌≡◌, ℕ, zero, suc, ◌+◌, ◌*◌, ◌/◌, ◌%◌, ◌^◌, ◌-◌, ◌<◌, ◌≤◌, ◌⊎◌, ◌↔◌, List, [], ◌∷◌, ◌++◌, Option, Some, Bool, true, false, IsTrue, length, eqb, refl, sym, ◌∙◌, ap, subst, arith, inl, inr}
@@ -46,7 +47,7 @@ covers_both bits a b p q i = let e = bit_at_or a b i in let x = p i in let y = q
 pub covers_more : (a b c : ℕ) → Covers a b → Covers b c → Covers a c
 covers_more a b c p q i = let x = p i in let y = q i in omega (arith, x, y)
 
--- what covers bits passes the test
+-- the test is true of bits that cover others
 pub covers_test : (a b : ℕ) → Covers a b → IsTrue (covers a b)
 covers_test a b h = let same : bit_or a b ≡ a = same_from_bits (bit_or a b) a (λ i. let e = bit_at_or a b i in let x = h i in omega (arith, e, x)) in grind (arith, nat_tests, same)
 
@@ -72,7 +73,7 @@ among_covered tree shared (c ∷ b ∷ cs) n bits all (met, (m, r, reached)) =
     let above : CoversAncestors tree m bits = λ a key is has. all a key (within_related tree shared c.combinator m n r a is) has in
     covers_both bits (bits_among (b ∷ cs)) (step_bits c.combinator (b ∷ cs)) (among_covered tree shared (b ∷ cs) m bits above reached) (step_covered tree c.combinator (b ∷ cs) m n bits all r reached)
 
--- a placement needs ancestors with the keys that the selector asks of them
+-- a placement needs ancestors with the keys that the selector requires of them
 pub ancestors_needed : {Node : Type 0} (tree : Tree Node) → SiblingsShareParent tree → (cs : List Component) (n : Node) (bits : ℕ) → CoversAncestors tree n bits → HasPlacement tree cs n → IsTrue (covers bits (ancestor_bits cs))
 ancestors_needed tree shared cs n bits all h =
     covers_test bits (ancestor_bits cs) (among_covered tree shared (first_of cs (length cs)) n bits all ((placement_of tree cs (length cs) n refl).0 h))
@@ -81,7 +82,7 @@ ancestors_needed tree shared cs n bits all h =
 pub bits_more : (cs : List Component) (place : ℕ) → place < length cs → bits_among (first_of cs (place + 1)) ≡ bit_or (bits_among (first_of cs place)) (step_bits (component_at cs place).combinator (first_of cs place))
 bits_more cs place within = let next : place + 1 ≡ suc place = omega arith in ap (λ k. bits_among (first_of cs k)) next ∙ ap bits_among (first_of-suc cs place within)
 
--- ---- what an element tells
+-- ---- what an element reports
 
 pub covers_word_more : (bits : ℕ) (words : List (List ℕ)) (word : List ℕ) → ((w : List ℕ) → Contains words w → Covers bits (key_bits (by_class w))) → (w : List ℕ) → Contains (words ++ word ∷ []) w → Covers (bit_or bits (key_bits (by_class word))) (key_bits (by_class w))
 covers_word_more bits words word before w c = elim (Contains-push_cases words word w c) [

@@ -16,7 +16,8 @@ use Rattle.simplecss_selector.specs.Keys.{equal_text, wanted_word, asked_id, ask
 use Rattle.simplecss_selector.proofs.Reaching.{first_of-suc}
 use Rattle.simplecss_selector.proofs.Greedy.{placement_of}
 
--- the first that is asked is asked by one of the subselectors, and so it is of all that hold
+-- the first required text is required by one of the subselectors, so a node that satisfies them all
+-- satisfies it
 first_held : (asked : Subselector → Option (List ℕ)) (P : Subselector → Type 0) (Q : List ℕ → Type 0) (ss : List Subselector) (v : List ℕ) → ((s : Subselector) → asked s ≡ Some v → P s → Q v) → first_asked asked ss ≡ Some v → All P ss → Q v
 first_held asked P Q [] v gives e h = absurd (cc)
 first_held asked P Q (s ∷ ss) v gives e h =
@@ -26,7 +27,7 @@ first_held asked P Q (s ∷ ss) v gives e h =
     at None is f later = later f
     at (Some w) is f later = gives s (is ∙ f) (All-head P s ss h)
 
--- what an attribute of this name is asked is asked of the node
+-- a node that satisfies a subselector on an attribute satisfies its operator
 attribute_held : {Node : Type 0} (tree : Tree Node) (n : Node) (name key : List ℕ) (asked : Operator → Option (List ℕ)) (back : List ℕ → Operator) (v : List ℕ) (o : Operator) → (asked o ≡ Some v → o ≡ back v) → (if bytes_eq name key then asked o else None) ≡ Some v → IsTrue (tree.has_attribute n name o) → IsTrue (tree.has_attribute n key (back v))
 attribute_held tree n name key asked back v o undone e h = at (bytes_eq name key) refl e
   where
@@ -54,7 +55,7 @@ class_held : {Node : Type 0} (tree : Tree Node) (n : Node) (v : List ℕ) (s : S
 class_held tree n v (pseudo_class class) e h = absurd (cc)
 class_held tree n v (attribute name o) e h = attribute_held tree n name (codes "class") wanted_word has_word v o (word_back o v) e h
 
--- the node answers yes to something that is asked of an attribute of the name
+-- the node satisfies some operator on an attribute with the name
 abbrev HasAttribute : {Node : Type 0} → Tree Node → Node → List ℕ → Type 0
 HasAttribute tree n name = (operator : Operator) × IsTrue (tree.has_attribute n name operator)
 

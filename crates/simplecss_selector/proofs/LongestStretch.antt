@@ -7,7 +7,7 @@ use Rattle.simplecss_text.specs.Components.{Component}
 use Rattle.simplecss_selector.specs.Placements.{is_joined, joined_length, longest_stretch}
 use Rattle.simplecss_selector.specs.Shapes.{component_at}
 
--- the components from one place to before another are each joined to the one before
+-- the components from one index to before another are each joined to the one before
 abbrev pub AreJoined : List Component → ℕ → ℕ → Type 0
 AreJoined cs from to = (k : ℕ) → from ≤ k → k < to → IsTrue (is_joined (component_at cs k))
 
@@ -31,8 +31,8 @@ longest_stretch-bound (c ∷ cs) (suc p) (suc l) h w j =
     let b : l ≤ p + longest_stretch cs = longest_stretch-bound cs p l (omega arith) (omega arith) (λ k a b. j (suc k) (omega arith) (omega arith)) in
     omega arith
 
--- A stretch that was gone up from the place `last` to `place`, with one test at each, took no more
--- tests than the longest has components.
+-- A stretch that was followed back from index `last` to `place`, with one test at each, made no
+-- more tests than the longest has components.
 pub stretch_tests-bound : (cs : List Component) (place last before after : ℕ) → place ≤ last → last < length cs → AreJoined cs (place + 1) (last + 1) → after + place ≡ before + last → after + 1 ≤ before + longest_stretch cs
 stretch_tests-bound cs place last before after h w j counted =
     omega (arith, counted, longest_stretch-bound cs place (last + 1) (omega (arith, h)) (omega (arith, w)) j)
@@ -63,11 +63,11 @@ stretch_times-le cs d = mul-le-mul_right d (longest_stretch-le cs)
 pub falls : (l a b : ℕ) → a < b → l + l * (a + 1) ≤ l * (b + 1)
 falls l a b h = let p : l * (a + 1) ≤ l * b = mul-le-mul_left l (omega arith) in omega arith
 
--- what is spent on one stretch alone
+-- the tests of one stretch
 pub spent_once : (l d before after : ℕ) → after + 1 ≤ before + l → after + 1 ≤ before + l * (d + 1)
 spent_once l d before after h = let p : l * 1 ≤ l * (d + 1) = mul-le-mul_left l (omega arith) in omega arith
 
--- what is spent on a last stretch, behind those before it
+-- the tests of a last stretch, after those before it
 pub spent_last : (l d before now after bound : ℕ) → now + 1 + l * (d + 1) ≤ before + bound → after ≤ now + l → after + 1 ≤ before + bound
 spent_last l d before now after bound s h = let p : l * 1 ≤ l * (d + 1) = mul-le-mul_left l (omega arith) in omega arith
 
@@ -86,7 +86,7 @@ longest_stretch-some (c ∷ cs) some = omega arith
 once_le : (l d : ℕ) → 0 < l → 1 ≤ l * (d + 1)
 once_le l d some = let h : 1 * (d + 1) ≤ l * (d + 1) = mul-le-mul_right (d + 1) (omega arith) in omega arith
 
--- one test alone
+-- one test
 pub once_within : (l d before after : ℕ) → 0 < l → after ≡ before + 1 → after ≤ before + l * (d + 1)
 once_within l d before after some one = let h = once_le l d some in omega arith
 

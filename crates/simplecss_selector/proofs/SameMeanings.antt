@@ -1,4 +1,4 @@
--- Between related nodes of two trees no selector can tell: it has a placement on both or on neither.
+-- No selector distinguishes related nodes of two trees: it has a placement on both or on neither.
 -- Serves `laws::same_meanings_law`.
 use Rattle.std.proofs.Common.{◌≡◌, ℕ, ◌↔◌, List, [], ◌∷◌, Option, Some, None, refl, sym, ap, ◌∙◌, subst, get_or}
 use Rattle.std.specs.Option.{option_map}

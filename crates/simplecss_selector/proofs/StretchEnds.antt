@@ -31,7 +31,7 @@ rises_push xs y h below k within =
       | no there ↦ omega (arith, below k (omega (arith, length-append xs (y ∷ []))), here, get_or_at xs y [] 0 (k + 1) (omega (arith, length-append xs (y ∷ []))))
     ]
 
--- what stands before a number is below it
+-- what precedes a number is below it
 below_last : (xs : List ℕ) (x k : ℕ) → IsStrictlyIncreasing (xs ++ x ∷ []) → k < length xs → get_or xs k 0 < x
 below_last xs x k h within =
     omega (arith, rises (xs ++ x ∷ []) k (length xs) h within (omega (arith, length-append xs (x ∷ []))), get_or_append_left xs (x ∷ []) 0 k within, get_or_at xs x [] 0 (length xs) refl)
@@ -46,7 +46,7 @@ last_or-push o (y ∷ xs) x = last_or-push (Some y) xs x
 
 -- ---- as a selector is filled
 
--- the stretches depend on the combinators alone
+-- the stretches depend only on the combinators
 pub AreStretchEnds-same : (cs ds : List Component) (kept : List ℕ) → length cs ≡ length ds → ((k : ℕ) → (component_at cs k).combinator ≡ (component_at ds k).combinator) → AreStretchEnds cs (all_stretch_ends cs kept) → AreStretchEnds ds (all_stretch_ends ds kept)
 AreStretchEnds-same cs ds kept same joint r =
     rw (← same)
@@ -56,12 +56,12 @@ AreStretchEnds-same cs ds kept same joint r =
       begins = λ k within. rw (← joint k) (r.begins k (omega arith));
     })
 
--- a place is among the ends, or the new end comes after it
+-- an index is among the ends, or the new end comes after it
 contains_kept : (kept : List ℕ) (n k : ℕ) → k < n → Contains (0 ∷ (kept ++ n ∷ [])) k → Contains (0 ∷ kept) k
 contains_kept kept n k before h =
     elim (Contains-push_cases (0 ∷ kept) n k h) [ inl there ↦ there | inr e ↦ absurd (omega arith) ]
 
--- no end stands at the number of components but the last
+-- only the last end is the number of components
 contains_none : (kept : List ℕ) (n : ℕ) → IsStrictlyIncreasing (0 ∷ (kept ++ n ∷ [])) → Contains (0 ∷ kept) n → ⊥
 contains_none kept n h c =
     let below : n < n = All-contains (λ x. x < n) (0 ∷ kept) n (All-from_get_or (λ x. x < n) (0 ∷ kept) 0 (λ k within. below_last (0 ∷ kept) n k h within)) c in
@@ -99,7 +99,7 @@ ends_begun cs c kept e r =
       ];
     }
 
--- one more component goes on with the last stretch
+-- one more component continues the last stretch
 ends_joined : (cs : List Component) (c : Component) (kept : List ℕ) → 0 < length cs → (c.combinator ≡ descendant → ⊥) → AreStretchEnds cs (all_stretch_ends cs kept) → AreStretchEnds (cs ++ c ∷ []) (all_stretch_ends (cs ++ c ∷ []) kept)
 ends_joined cs c kept some step r =
     let more : length (cs ++ c ∷ []) ≡ length cs + 1 = length-append cs (c ∷ []) in
@@ -132,7 +132,7 @@ AreStretchEnds-push cs c kept some j r = by c.combinator refl
 
 -- ---- as it is searched
 
--- nothing stands between two neighbours
+-- nothing is between two neighbours
 none_between : (xs : List ℕ) (r k : ℕ) → IsStrictlyIncreasing xs → r + 1 < length xs → get_or xs r 0 < k → k < get_or xs (r + 1) 0 → Contains xs k → ⊥
 none_between xs r k h within above below (i, inside, is) =
     let at : get_or xs i 0 ≡ k = get_or_default xs i 0 k inside ∙ is in
@@ -182,7 +182,7 @@ IsStretch-step cs first last k joint stretch above below e start = rw (← e) (b
     by child e start = refl
     by adjacent e start = refl
 
--- a stretch that is not the first of all begins behind a gap
+-- a stretch that is not the first of all begins after a gap
 pub IsStretch-gap : (cs : List Component) (first last : ℕ) → IsStretch cs first last → 0 < first → (component_at cs first).combinator ≡ descendant
 IsStretch-gap cs first last stretch some = elim stretch.begun [ inl z ↦ absurd (omega arith) | inr d ↦ d ]
 

@@ -1,4 +1,5 @@
--- An element that a selector matches has what an index finds the selector by, and it is told.
+-- An element that a selector matches, or its parent or previous sibling, has the wanted key, and
+-- reports it.
 -- Serves `wanted::{wanted_law, told_near_law}` and `Selector::wanted`.
 use Rattle.std.proofs.Common.{◌≡◌, ℕ, suc, ◌+◌, ◌-◌, ◌<◌, List, [], ◌∷◌, Option, Some, None, false, IsTrue, length, refl, sym, ◌∙◌, ap, subst, arith}
 use Rattle.std.specs.Option.{option_map_or}
@@ -42,7 +43,7 @@ among_held tree (c ∷ b ∷ cs) n (met, (m, related, reached)) =
 pub wanted_needed : {Node : Type 0} (tree : Tree Node) (cs : List Component) (n : Node) → HasPlacement tree cs n → HasWanted tree n (wanted_of cs)
 wanted_needed tree cs n h = among_held tree (first_of cs (length cs)) n ((placement_of tree cs (length cs) n refl).0 h)
 
--- what is told of the nodes near is told of what is wanted
+-- what the nodes near the element report includes the wanted key
 module _ {Node Self : Type 0} (tree : Tree Node) (node : Self → Node) (told : Self → Told) (law : (e : Self) → TellsKeys tree (node e) (told e)) where
   some_told : (r : Option Node) (t : Option Told) (key : Key) → IsToldOf node told r t → SomeHas tree r key → IsTrue (option_map_or (λ told. tells_key told key) t false)
   some_told None t key is h = absurd h
@@ -84,7 +85,7 @@ wanted_is cs last key before c n some k j b =
     ∙ ap (wanted_by (compound_key (component_at cs last).compound) (component_at cs last).combinator) b
     ∙ sym (wanted_two cs last (last - 1) n behind)
 
--- a key that asks something is wanted of the element
+-- a key that is a condition is wanted of the element
 pub wanted_own : (key before : Key) (c : Combinator) → (key ≡ by_nothing → ⊥) → wanted_by key c before ≡ of_element key
 wanted_own (by_id text) before c some = refl
 wanted_own (by_class word) before c some = refl

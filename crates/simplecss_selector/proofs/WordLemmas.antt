@@ -1,4 +1,4 @@
--- The words of a text: what stands between its spaces, and the test for one of them.
+-- The words of a text, which are what its spaces separate, and the test for one of them.
 -- Serves `AttributeOperator::matches` (the test for a word).
 use Rattle.std.proofs.Common.{◌≡◌, ◌≢◌, ℕ, zero, suc, ◌+◌, ◌<◌, ◌≤◌, ◌==◌, ◌↔◌, List, [], ◌∷◌, ◌++◌, take, drop, add-one, eqb-true, eq-eqb, ◌⊎◌, inl, inr, length, get_or, refl, sym, ap, ◌∙◌, subst, arith, append_assoc, append-nil, Bool, true, false}
 use Rattle.std.proofs.Math.Seq.{drop-cons}
@@ -60,7 +60,7 @@ cut_first (b ∷ f) (a ∷ z) t r s e =
       | inr h ↦ inr (h.0, cons_same (head_of e) h.1, h.2)
     ]
 
--- where a space stands the text is parted
+-- a text is separated at a space
 pub at_space : (r : List ℕ) (n : ℕ) → n < length r → (get_or r n 0 == 32) ≡ true → r ≡ take n r ++ 32 ∷ drop (n + 1) r
 at_space r n h e =
     sym (take-append-drop n r) ∙ ap (λ t. take n r ++ t) (rw add-one (drop-cons r n 0 h ∙ ap (λ b. b ∷ drop (suc n) r) (eqb-true _ _ e)))
@@ -133,7 +133,7 @@ pub or-false : (t : Bool) → (t || false) ≡ t
 or-false true = refl
 or-false false = refl
 
--- behind the first word stand the others
+-- the others follow the first word
 pub is_word_of-first : (w f r : List ℕ) → Spaceless f → is_word_of w (f ++ 32 ∷ r) ≡ (bytes_eq f w || is_word_of w r)
 is_word_of-first w f r s =
     ap (list_any (λ part. bytes_eq part w)) (slice_split_at (λ b. b == 32) f 32 r (is_space-Spaceless f s) refl)
@@ -143,7 +143,7 @@ pub is_word_of-last : (w v : List ℕ) → Spaceless v → is_word_of w v ≡ by
 is_word_of-last w v s =
     ap (list_any (λ part. bytes_eq part w)) (slice_split_none (λ b. b == 32) v (is_space-Spaceless v s)) ∙ or-false (bytes_eq v w)
 
--- the same of a text whose first space stands at a place
+-- the same of a text with its first space at an offset
 pub is_word_of-at : (w r : List ℕ) (n : ℕ) → n < length r → (get_or r n 0 == 32) ≡ true → ((k : ℕ) → k < n → (get_or r k 0 == 32) ≡ false) → is_word_of w r ≡ (bytes_eq (take n r) w || is_word_of w (drop (n + 1) r))
 is_word_of-at w r n within space none =
     ap (is_word_of w) (at_space r n within space) ∙ is_word_of-first w (take n r) (drop (n + 1) r) (spaceless_from (take n r) (before_space r n none))
@@ -152,7 +152,7 @@ is_word_of-at w r n within space none =
 pub is_word_of-none : (w r : List ℕ) → ((k : ℕ) → k < length r → (get_or r k 0 == 32) ≡ false) → is_word_of w r ≡ bytes_eq r w
 is_word_of-none w r none = is_word_of-last w r (spaceless_from r (no_space r none))
 
--- a text is one word, or a word and what stands behind the space after it
+-- a text is one word, or a word and what follows the space after it
 data Cut (text : List ℕ) : Type 0 where
   whole : Spaceless text → Cut text
   parted : (word rest : List ℕ) → Spaceless word → text ≡ word ++ 32 ∷ rest → Cut text

@@ -5,7 +5,7 @@ use Rattle.std.specs.Option.{option_eq}
 use Rattle.simplecss_text.specs.Bytes.{text_eq}
 use Rattle.simplecss_text.specs.Components.{Operator, KnownPseudoClass, Subselector, Combinator, Component}
 use Rattle.simplecss_text.specs.Components.Operator.{exists, equals, has_word, begins_with}
-use Rattle.simplecss_text.specs.Components.KnownPseudoClass.{first_child, link, visited, hover, active, focus, lang}
+use Rattle.simplecss_text.specs.PseudoClasses.{pseudo_class_name, pseudo_class_argument}
 use Rattle.simplecss_text.specs.Components.Subselector.{attribute, pseudo_class}
 use Rattle.simplecss_text.specs.Components.Combinator.{none, descendant, child, adjacent}
 
@@ -16,14 +16,9 @@ operator_key (equals value) = (1, value)
 operator_key (has_word value) = (2, value)
 operator_key (begins_with value) = (3, value)
 
-abbrev pub pseudo_class_key : KnownPseudoClass → ℕ × List ℕ
-pseudo_class_key first_child = (0, [])
-pseudo_class_key link = (1, [])
-pseudo_class_key visited = (2, [])
-pseudo_class_key hover = (3, [])
-pseudo_class_key active = (4, [])
-pseudo_class_key focus = (5, [])
-pseudo_class_key (lang language) = (6, language)
+-- the name of a pseudo-class, and its argument
+abbrev pub pseudo_class_key : KnownPseudoClass → List ℕ × List ℕ
+pseudo_class_key class = (pseudo_class_name class, pseudo_class_argument class)
 
 abbrev pub combinator_key : Combinator → ℕ
 combinator_key none = 0
@@ -38,8 +33,12 @@ key_eq a b = (a.0 == b.0) && text_eq a.1 b.1
 abbrev pub operator_eq : Operator → Operator → Bool
 operator_eq a b = key_eq (operator_key a) (operator_key b)
 
+-- the same name and the same argument
+abbrev pub text_key_eq : List ℕ × List ℕ → List ℕ × List ℕ → Bool
+text_key_eq a b = text_eq a.0 b.0 && text_eq a.1 b.1
+
 abbrev pub pseudo_class_eq : KnownPseudoClass → KnownPseudoClass → Bool
-pseudo_class_eq a b = key_eq (pseudo_class_key a) (pseudo_class_key b)
+pseudo_class_eq a b = text_key_eq (pseudo_class_key a) (pseudo_class_key b)
 
 abbrev pub combinator_eq : Combinator → Combinator → Bool
 combinator_eq a b = combinator_key a == combinator_key b

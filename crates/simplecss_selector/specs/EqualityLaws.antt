@@ -12,8 +12,9 @@ use Rattle.simplecss_text.specs.Components.Operator.{exists, equals, has_word, b
 use Rattle.simplecss_text.specs.Components.KnownPseudoClass.{first_child, link, visited, hover, active, focus, lang}
 use Rattle.simplecss_text.specs.Components.Subselector.{attribute, pseudo_class}
 use Rattle.simplecss_text.specs.Components.Combinator.{none, descendant, child, adjacent}
+use Rattle.simplecss_text.specs.PseudoClasses.{known_pseudo_class}
 use Rattle.simplecss_text.specs.Bytes.{text_eq}
-use Rattle.simplecss_selector.specs.Equality.{operator_key, pseudo_class_key, combinator_key, key_eq, operator_eq, pseudo_class_eq, combinator_eq, subselector_eq, component_eq, selector_eq}
+use Rattle.simplecss_selector.specs.Equality.{operator_key, pseudo_class_key, combinator_key, key_eq, text_key_eq, operator_eq, pseudo_class_eq, combinator_eq, subselector_eq, component_eq, selector_eq}
 
 pub and_left : (a b : Bool) → (a && b) ≡ true → a ≡ true
 and_left true b h = refl
@@ -63,17 +64,30 @@ operator_decides = decides_by_key key_eq key_decides operator_key operator_back 
     undone (has_word text) = refl
     undone (begins_with text) = refl
 
-abbrev pseudo_class_back : ℕ × List ℕ → KnownPseudoClass
-pseudo_class_back (zero, text) = first_child
-pseudo_class_back (suc zero, text) = link
-pseudo_class_back (suc (suc zero), text) = visited
-pseudo_class_back (suc (suc (suc zero)), text) = hover
-pseudo_class_back (suc (suc (suc (suc zero))), text) = active
-pseudo_class_back (suc (suc (suc (suc (suc zero)))), text) = focus
-pseudo_class_back (suc (suc (suc (suc (suc (suc n))))), text) = lang text
+text_key_decides : (a b : List ℕ × List ℕ) → Decides (text_key_eq a b) (a ≡ b)
+text_key_decides a b =
+    let x = text_eq a.0 b.0 in
+    let y = text_eq a.1 b.1 in
+    let n = bytes_decides a.0 b.0 in
+    let t = bytes_decides a.1 b.1 in (
+      (λ h.
+          let p : a.0 ≡ b.0 = n.0 (and_left x y h) in
+          let q : a.1 ≡ b.1 = t.0 (and_right x y h) in
+          λ i. (p i, q i)),
+      (λ e. and_both x y (n.1 (λ i. (e i).0)) (t.1 (λ i. (e i).1))),
+    )
+
+-- the pseudo-class that was found by its name, else `:lang` with its argument
+abbrev found_or_lang : Option KnownPseudoClass → List ℕ → KnownPseudoClass
+found_or_lang (Some class) text = class
+found_or_lang None text = lang text
+
+abbrev pseudo_class_back : List ℕ × List ℕ → KnownPseudoClass
+pseudo_class_back key = found_or_lang (known_pseudo_class key.0) key.1
 
 pub pseudo_class_decides : (a b : KnownPseudoClass) → Decides (pseudo_class_eq a b) (a ≡ b)
-pseudo_class_decides = decides_by_key key_eq key_decides pseudo_class_key pseudo_class_back undone
+pseudo_class_decides =
+    decides_by_key text_key_eq text_key_decides pseudo_class_key pseudo_class_back undone
   where
     undone : (c : KnownPseudoClass) → pseudo_class_back (pseudo_class_key c) ≡ c
     undone first_child = refl

@@ -1,7 +1,7 @@
 -- What contracts see of the pseudo-class with a name.
 use Rattle.std.specs.Prelude.{Option, None, Some}
 use Rattle.simplecss_text.specs.Components.{KnownPseudoClass}
-use Rattle.simplecss_selector.specs.declared.operator.PseudoClass.{PseudoClass}
+use Rattle.simplecss_selector.specs.declared.pseudo_class.PseudoClass.{PseudoClass}
 use Rattle.simplecss_selector.specs.SeenOperators.{pseudo_class_of}
 
 abbrev pub pseudo_class_seen : Option PseudoClass → Option KnownPseudoClass

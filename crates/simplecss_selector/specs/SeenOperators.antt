@@ -5,8 +5,8 @@ use Rattle.simplecss_text.specs.Components.Operator.{exists, equals, has_word, b
 use Rattle.simplecss_text.specs.Components.KnownPseudoClass.{first_child, link, visited, hover, active, focus, lang}
 use Rattle.simplecss_selector.specs.declared.operator.AttributeOperator.{AttributeOperator}
 use Rattle.simplecss_selector.specs.declared.operator.AttributeOperator.TheVariants.{Exists, Matches, Contains, StartsWith}
-use Rattle.simplecss_selector.specs.declared.operator.PseudoClass.{PseudoClass}
-use Rattle.simplecss_selector.specs.declared.operator.PseudoClass.TheVariants.{FirstChild, Link, Visited, Hover, Active, Focus, Lang}
+use Rattle.simplecss_selector.specs.declared.pseudo_class.PseudoClass.{PseudoClass}
+use Rattle.simplecss_selector.specs.declared.pseudo_class.PseudoClass.TheVariants.{FirstChild, Link, Visited, Hover, Active, Focus, Lang}
 
 -- the operator, with the bytes of its text
 abbrev pub operator_of : AttributeOperator → Operator

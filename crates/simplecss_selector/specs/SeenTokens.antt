@@ -1,6 +1,6 @@
 -- What contracts see of the tokens and errors that a tokenizer yields.
 use Rattle.std.specs.Prelude.{ℕ, List, [], Option, None, Some, Result, Ok, Err}
-use Rattle.simplecss_text.specs.declared.Error.{Error}
+use Rattle.simplecss_text.specs.declared.error.Error.{Error}
 use Rattle.simplecss_text.specs.Tokens.{Token, token_texts}
 use Rattle.simplecss_text.specs.Tokens.Token.{universal_selector, type_selector, id_selector, class_selector, attribute_selector, named_pseudo_class, lang_pseudo_class, descendant_combinator, child_combinator, adjacent_combinator}
 use Rattle.simplecss_selector.specs.declared.token.SelectorToken.{SelectorToken}

@@ -1,4 +1,4 @@
-//! Conditions of selectors on an attribute's value, and pseudo-classes.
+//! Conditions of selectors on an attribute's value.
 ghost use Rattle.std.specs.Prelude.{◌≡◌, ◌<◌, ◌==◌, ℕ, length, true, false, None, IfSome};
 ghost use Rattle.std.specs.Prelude.{EachIndex, slice_index};
 ghost use Rattle.simplecss_text.specs.AsciiBytes.{space};
@@ -67,23 +67,4 @@ fn has_word(value: &str, word: &str) -> bool
         rest = &rest[end + 1..];
     }
     rest == word.as_bytes()
-}
-
-/// A pseudo-class in a selector.
-#[derive(Clone, Copy, Debug, PartialEq)]
-pub enum PseudoClass<'a> {
-    /// `:first-child`
-    FirstChild,
-    /// `:link`
-    Link,
-    /// `:visited`
-    Visited,
-    /// `:hover`
-    Hover,
-    /// `:active`
-    Active,
-    /// `:focus`
-    Focus,
-    /// `:lang(language)`
-    Lang(&'a str),
 }

@@ -3,9 +3,9 @@
 use Rattle.std.specs.Prelude.{◌≡◌, ℕ, List, [], ◌∷◌, ◌++◌, codes, decimal, encode_utf8, Option, Some, None, Result, Ok, Err}
 use Rattle.simplecss_text.specs.Reading.{Fault, ended, wrong_byte, no_name, no_comment, no_value, no_selector, unexpected_selector, unexpected_combinator, no_attribute_form, no_language, Reading, got, fails, rest_place}
 use Rattle.simplecss_text.specs.Positions.{position}
-use Rattle.simplecss_text.specs.declared.TextPos.{TextPos}
-use Rattle.simplecss_text.specs.declared.Error.{Error}
-use Rattle.simplecss_text.specs.declared.Error.TheVariants.{UnexpectedEndOfStream, InvalidIdent, InvalidComment, InvalidValue, InvalidByte, SelectorMissing, UnexpectedSelector, UnexpectedCombinator, InvalidAttributeSelector, InvalidLanguagePseudoClass}
+use Rattle.simplecss_text.specs.declared.text_pos.TextPos.{TextPos}
+use Rattle.simplecss_text.specs.declared.error.Error.{Error}
+use Rattle.simplecss_text.specs.declared.error.Error.TheVariants.{UnexpectedEndOfStream, InvalidIdent, InvalidComment, InvalidValue, InvalidByte, SelectorMissing, UnexpectedSelector, UnexpectedCombinator, InvalidAttributeSelector, InvalidLanguagePseudoClass}
 
 -- the position in the text at which this rest begins
 abbrev pub position_of : List ℕ → List ℕ → TextPos

@@ -3,7 +3,8 @@
 use Rattle.std.specs.Prelude.{ℕ, Bool, true, false, List}
 use Rattle.simplecss_text.specs.Reading.{Fault, no_comment, no_selector, unexpected_selector, unexpected_combinator}
 use Rattle.simplecss_text.specs.declared.next_kind.NextKind.{NextKind}
-use Rattle.simplecss_text.specs.declared.next_kind.NextKind.TheVariants.{Stop, Slash, Child, Adjacent, Universal, Other}
+use Rattle.simplecss_text.specs.declared.next_kind.NextKind.TheVariants.{Stop, Slash, Child, Adjacent}
+use Rattle.simplecss_text.specs.declared.next_kind.NextKind.TheVariants.{Universal, Id, Class, Attribute, Colon, Other}
 
 -- The left side of a gap: open at the start of the text and after a combinator, closed after a
 -- simple piece.
@@ -29,7 +30,12 @@ between open_side spaced Stop start after = refuses no_selector start
 between open_side spaced Slash start after = refuses no_selector start
 between open_side spaced Child start after = refuses unexpected_combinator start
 between open_side spaced Adjacent start after = refuses unexpected_combinator start
-between open_side spaced kind start after = nothing
+between open_side spaced Universal start after = nothing
+between open_side spaced Id start after = nothing
+between open_side spaced Class start after = nothing
+between open_side spaced Attribute start after = nothing
+between open_side spaced Colon start after = nothing
+between open_side spaced Other start after = nothing
 -- after a simple piece, whatever the gap: the end, or a combinator
 between closed_side spaced Stop start after = nothing
 between closed_side spaced Child start after = nothing
@@ -39,13 +45,28 @@ between closed_side spaced Adjacent start after = nothing
 between closed_side false Slash start after = nothing
 between closed_side false Universal start after = refuses unexpected_selector start
 between closed_side false Other start after = refuses unexpected_selector after
-between closed_side false kind start after = nothing
+between closed_side false Id start after = nothing
+between closed_side false Class start after = nothing
+between closed_side false Attribute start after = nothing
+between closed_side false Colon start after = nothing
 -- after a simple piece and a space byte: a simple piece has a descendant combinator before it
 between closed_side true Slash start after = refuses (no_comment start) after
-between closed_side true kind start after = descends
+between closed_side true Universal start after = descends
+between closed_side true Id start after = descends
+between closed_side true Class start after = descends
+between closed_side true Attribute start after = descends
+between closed_side true Colon start after = descends
+between closed_side true Other start after = descends
 
 -- the left side of the gap after a piece: open after a combinator, closed after a simple piece
 abbrev pub side_behind : NextKind → Side
 side_behind Child = open_side
 side_behind Adjacent = open_side
-side_behind kind = closed_side
+side_behind Stop = closed_side
+side_behind Slash = closed_side
+side_behind Universal = closed_side
+side_behind Id = closed_side
+side_behind Class = closed_side
+side_behind Attribute = closed_side
+side_behind Colon = closed_side
+side_behind Other = closed_side

@@ -102,7 +102,12 @@ IsSimplePiece Stop = ⊥
 IsSimplePiece Slash = ⊥
 IsSimplePiece Child = ⊥
 IsSimplePiece Adjacent = ⊥
-IsSimplePiece kind = Unit {0}
+IsSimplePiece Universal = Unit {0}
+IsSimplePiece Id = Unit {0}
+IsSimplePiece Class = Unit {0}
+IsSimplePiece Attribute = Unit {0}
+IsSimplePiece Colon = Unit {0}
+IsSimplePiece Other = Unit {0}
 
 -- A solid piece, if what follows is of this kind. At a stop and at a `/` there is none; the table
 -- of neighbours decides about these.
@@ -173,7 +178,13 @@ abbrev pub fault_ending : NextKind → Bool → (start : List ℕ) → Fault →
 fault_ending Stop spaced start fault after = at_stop spaced start
 fault_ending Slash spaced start fault after = at_slash spaced start
 fault_ending Other spaced start fault after = without_head spaced start fault after
-fault_ending kind spaced start fault after = within_piece spaced start fault after
+fault_ending Child spaced start fault after = within_piece spaced start fault after
+fault_ending Adjacent spaced start fault after = within_piece spaced start fault after
+fault_ending Universal spaced start fault after = within_piece spaced start fault after
+fault_ending Id spaced start fault after = within_piece spaced start fault after
+fault_ending Class spaced start fault after = within_piece spaced start fault after
+fault_ending Attribute spaced start fault after = within_piece spaced start fault after
+fault_ending Colon spaced start fault after = within_piece spaced start fault after
 
 -- The same, from what is read there. (A solid piece that can be read is no ending, so that the
 -- second clause is never used.)

@@ -2,7 +2,7 @@
 use Rattle.std.specs.Prelude.{ℕ, ◌+◌, ◌-◌, List, ◌==◌, if◌then◌else◌, length, take, min, count_by, chars}
 use Rattle.std.specs.List.{after_last}
 use Rattle.simplecss_text.specs.AsciiBytes.{newline}
-use Rattle.simplecss_text.specs.declared.TextPos.{TextPos}
+use Rattle.simplecss_text.specs.declared.text_pos.TextPos.{TextPos}
 
 -- the greatest `u32`
 abbrev pub greatest : ℕ

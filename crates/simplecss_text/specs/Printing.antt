@@ -4,21 +4,17 @@ use Rattle.std.specs.List.{flat_map, join_with_byte, list_all}
 use Rattle.simplecss_text.specs.AsciiBytes.{newline, single_quote, backslash}
 use Rattle.simplecss_text.specs.Components.{Operator, KnownPseudoClass, Subselector, Combinator, Component}
 use Rattle.simplecss_text.specs.Components.Operator.{exists, equals, has_word, begins_with}
-use Rattle.simplecss_text.specs.Components.KnownPseudoClass.{first_child, link, visited, hover, active, focus, lang}
+use Rattle.simplecss_text.specs.Components.KnownPseudoClass.{lang}
 use Rattle.simplecss_text.specs.Components.Subselector.{attribute, pseudo_class}
 use Rattle.simplecss_text.specs.Components.Combinator.{none, descendant, child, adjacent}
 use Rattle.simplecss_text.specs.Declarations.{StyleDeclaration}
+use Rattle.simplecss_text.specs.PseudoClasses.{pseudo_class_name}
 use Rattle.simplecss_text.specs.Statements.{StyleRule}
 
 -- a pseudo-class without its colon
 abbrev pub pseudo_class_text : KnownPseudoClass → List ℕ
-pseudo_class_text first_child = codes "first-child"
-pseudo_class_text link = codes "link"
-pseudo_class_text visited = codes "visited"
-pseudo_class_text hover = codes "hover"
-pseudo_class_text active = codes "active"
-pseudo_class_text focus = codes "focus"
 pseudo_class_text (lang language) = codes "lang(" ++ language ++ codes ")"
+pseudo_class_text class = pseudo_class_name class
 
 -- an operator and its value, which is always printed in apostrophes
 abbrev pub operator_text : Operator → List ℕ

@@ -1,12 +1,13 @@
 -- The selector of a text.
-use Rattle.std.specs.Prelude.{ℕ, if◌then◌else◌, List, [], ◌∷◌, map, bytes_eq, codes, Option, None, Some, Ok, Err}
+use Rattle.std.specs.Prelude.{ℕ, List, [], ◌∷◌, map, codes, Option, None, Some, Ok, Err}
 use Rattle.std.specs.Option.{option_map}
 use Rattle.simplecss_text.specs.Characters.{Edition}
-use Rattle.simplecss_text.specs.Components.{KnownPseudoClass, Subselector, Combinator, Component}
+use Rattle.simplecss_text.specs.Components.{Subselector, Combinator, Component}
 use Rattle.simplecss_text.specs.Components.Operator.{equals, has_word}
-use Rattle.simplecss_text.specs.Components.KnownPseudoClass.{first_child, link, visited, hover, active, focus, lang}
+use Rattle.simplecss_text.specs.Components.KnownPseudoClass.{lang}
 use Rattle.simplecss_text.specs.Components.Subselector.{attribute, pseudo_class}
 use Rattle.simplecss_text.specs.Components.Combinator.{none, descendant, child, adjacent}
+pub use Rattle.simplecss_text.specs.PseudoClasses.{known_pseudo_class}
 use Rattle.simplecss_text.specs.Tokens.{Token}
 use Rattle.simplecss_text.specs.Tokens.Token.{universal_selector, type_selector, id_selector, class_selector, attribute_selector, named_pseudo_class, lang_pseudo_class, descendant_combinator, child_combinator, adjacent_combinator}
 use Rattle.simplecss_text.specs.TokenSequences.{TokenSequence, sequence_of}
@@ -22,17 +23,6 @@ pub data Part : Type 0 where
 pub data Role : Type 0 where
   part : Part → Role
   joint : Combinator → Role
-
--- the pseudo-class with a name
-abbrev pub known_pseudo_class : List ℕ → Option KnownPseudoClass
-known_pseudo_class n =
-    if bytes_eq n (codes "first-child") then Some first_child
-    else (if bytes_eq n (codes "link") then Some link
-    else (if bytes_eq n (codes "visited") then Some visited
-    else (if bytes_eq n (codes "hover") then Some hover
-    else (if bytes_eq n (codes "active") then Some active
-    else (if bytes_eq n (codes "focus") then Some focus
-    else None)))))
 
 -- The role of a token in a selector: none, if it is a pseudo-class whose name is not known. A class
 -- is an attribute `class` with a word, and an id is an attribute `id` that equals a text.

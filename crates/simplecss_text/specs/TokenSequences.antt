@@ -1,7 +1,7 @@
 -- What a tokenizer yields on a text: the tokens of its pieces, with what comes between them, up to
 -- the end or a fault.
 use Rattle.std.specs.Prelude.{ℕ, ◌+◌, true, false, List, [], ◌∷◌, map, Result, Ok, Err}
-use Rattle.simplecss_text.specs.declared.Error.{Error}
+use Rattle.simplecss_text.specs.declared.error.Error.{Error}
 use Rattle.simplecss_text.specs.Reading.{Fault, no_selector}
 use Rattle.simplecss_text.specs.Errors.{error_of}
 use Rattle.simplecss_text.specs.Bytes.{past_one}

@@ -1,5 +1,5 @@
--- What entries say of last children, where one more stands behind them.
--- Serves `Tree::{push, set_attribute, set_states}` (what an entry more makes of the tree).
+-- What entries say of last children, after one more is appended.
+-- Serves `Tree::{push, set_attribute, set_states}` (what one more entry makes of the tree).
 use Rattle.std.proofs.Common.{◌≡◌, ◌≢◌, ℕ, zero, suc, ◌<◌, Bool, true, false, List, [], ◌∷◌, ◌++◌, length, map, get_or, set, Option, None, Some, refl, sym, ap, ◌∙◌, arith}
 use Rattle.std.specs.Prelude.{nat_eq, if◌then◌else◌}
 use Rattle.std.specs.Option.{option_eq}
@@ -27,7 +27,7 @@ last_child-append rows row parent =
     ∙ last_naming-append (map (λ row. row.parent) rows) row.parent parent
     ∙ ap (λ n. if option_eq nat_eq row.parent parent then Some n else last_child rows parent) (length-map rows (λ row. row.parent))
 
--- nothing behind a list is as nothing
+-- past the end of a list the default is nothing
 get_or-append_default : {X : Type 0} (xs : List (Option X)) (i : ℕ) → get_or (xs ++ None ∷ []) i None ≡ get_or xs i None
 get_or-append_default [] zero = refl
 get_or-append_default [] (suc i) = refl
@@ -66,7 +66,7 @@ module _ (entries : List Entry) (last_root : Option ℕ) (e : Entry) (knows : Kn
       each = λ i. ap (λ es. get_or (map (λ e. e.last_child) es) i None) are ∙ kept_each i ∙ sym (known None (Some i) false is refl);
     }
 
-    -- to tell an element of its last child changes no row
+    -- to set an element's last child changes no row
     pub rows_told : (k : ℕ) (told d : Entry) → row_of told ≡ row_of (get_or all k d) → map row_of (set all k told) ≡ map row_of entries ++ row_of e ∷ []
     rows_told k told d same = map-set_same row_of all k told d same ∙ ap (map row_of) are ∙ rows_after
 
@@ -97,7 +97,7 @@ module _ (entries : List Entry) (last_root : Option ℕ) (e : Entry) (knows : Kn
             each = λ i. told_each i (nat_eq k i) refl ∙ ap (λ rows. last_child rows (Some i)) rows;
           }
 
--- an entry in whose place one with the same parent and the same last child stands
+-- replacing an entry by one with the same parent and the same last child
 module _ (entries : List Entry) (last_root : Option ℕ) (knows : KnowsLast entries last_root) (k : ℕ) (told d : Entry) (parent : told.parent ≡ (get_or entries k d).parent) (last : told.last_child ≡ (get_or entries k d).last_child) where
   same_children : (parent : Option ℕ) → last_child (map row_of (set entries k told)) parent ≡ last_child (map row_of entries) parent
   same_children asked =

@@ -9,7 +9,7 @@ use Rattle.std.proofs.Math.Seq.{drop-append-add}
 use Rattle.std.proofs.lemmas.List.Sums.{sum_by-append, sum_by-cons}
 use Rattle.std.proofs.lemmas.List.Sorted.{sum_by-IsPermutation, IsPermutation-reverse}
 use Rattle.std.proofs.lemmas.Str.{chars-append}
-use Rattle.simplecss_text.specs.declared.TextPos.{TextPos}
+use Rattle.simplecss_text.specs.declared.text_pos.TextPos.{TextPos}
 use Rattle.simplecss_text.specs.Reading.{Ends}
 use Rattle.simplecss_text.specs.Positions.{greatest, in_whole, position}
 use Rattle.simplecss_text.proofs.reading.EndsLaws.{ends-same, ends-cons}

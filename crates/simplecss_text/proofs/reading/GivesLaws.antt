@@ -3,7 +3,7 @@
 use Rattle.std.proofs.Common.{◌≡◌, List, ℕ, ap, sym}
 use Rattle.simplecss_text.specs.Reading.{Fault, Reading, got, fails}
 use Rattle.simplecss_text.specs.Errors.{error_of, FailsBy}
-use Rattle.simplecss_text.specs.declared.Error.{Error}
+use Rattle.simplecss_text.specs.declared.error.Error.{Error}
 
 -- a call that answers an error has read a fault
 pub fails_by-fault : {A : Type 0} (text : List ℕ) (r : Reading A) (error : Error) (left : List ℕ) → FailsBy text r error left → (fault : Fault) × (r ≡ fails fault left) × (error ≡ error_of text fault)

@@ -4,7 +4,7 @@
 use Rattle.std.specs.Prelude.{◌≡◌, refl, [], ◌∷◌, ◌++◌, codes, true, false, encode_utf8_all}
 use Rattle.std.specs.Str.{chars}
 use lib.Utf8.{encode}
-use Rattle.simplecss_text.specs.declared.Error.TheVariants.{UnexpectedEndOfStream, InvalidIdent, InvalidComment, InvalidByte, InvalidValue, SelectorMissing, UnexpectedSelector, UnexpectedCombinator, InvalidAttributeSelector, InvalidLanguagePseudoClass}
+use Rattle.simplecss_text.specs.declared.error.Error.TheVariants.{UnexpectedEndOfStream, InvalidIdent, InvalidComment, InvalidByte, InvalidValue, SelectorMissing, UnexpectedSelector, UnexpectedCombinator, InvalidAttributeSelector, InvalidLanguagePseudoClass}
 use Rattle.simplecss_text.specs.Reading.{each, got, fails, no_name, no_comment, ended, wrong_byte}
 use Rattle.simplecss_text.specs.Positions.{position}
 use Rattle.simplecss_text.specs.Errors.{error_of, error_text, position_text}

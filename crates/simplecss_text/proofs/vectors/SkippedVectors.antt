@@ -4,7 +4,7 @@
 use Rattle.std.specs.Prelude.{ℕ, ◌≡◌, refl, [], ◌∷◌, codes, true, false, map, Some, None}
 use Rattle.std.specs.Str.{trim_start, trim_end, chars}
 use lib.Utf8.{encode}
-use Rattle.simplecss_text.specs.declared.Error.TheVariants.{InvalidIdent, SelectorMissing}
+use Rattle.simplecss_text.specs.declared.error.Error.TheVariants.{InvalidIdent, SelectorMissing}
 use Rattle.simplecss_text.specs.Reading.{each}
 use Rattle.simplecss_text.specs.Positions.{position}
 use Rattle.simplecss_text.specs.Comments.{comment, blank, gap}

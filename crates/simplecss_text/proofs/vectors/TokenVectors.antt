@@ -3,7 +3,7 @@
 use Rattle.std.specs.Prelude.{◌≡◌, refl, [], ◌∷◌, codes, Ok, Err, encode_utf8_all}
 use Rattle.std.specs.Str.{trim_start, trim_end, chars}
 use lib.Utf8.{encode}
-use Rattle.simplecss_text.specs.declared.Error.TheVariants.{InvalidIdent, InvalidComment, InvalidByte, SelectorMissing, UnexpectedSelector, UnexpectedCombinator, InvalidAttributeSelector, InvalidLanguagePseudoClass, UnexpectedEndOfStream}
+use Rattle.simplecss_text.specs.declared.error.Error.TheVariants.{InvalidIdent, InvalidComment, InvalidByte, SelectorMissing, UnexpectedSelector, UnexpectedCombinator, InvalidAttributeSelector, InvalidLanguagePseudoClass, UnexpectedEndOfStream}
 use Rattle.simplecss_text.specs.Reading.{each, ended, wrong_byte, no_name, no_comment, no_selector, unexpected_selector, unexpected_combinator, no_attribute_form, no_language}
 use Rattle.simplecss_text.specs.Positions.{position}
 use Rattle.simplecss_text.specs.Comments.{comment, blank, gap}

@@ -6,7 +6,7 @@ use Rattle.simplecss_text.specs.ThisEdition.{this_edition}
 use Rattle.simplecss_text.specs.Cursor.{text_of, rest_of}
 use Rattle.simplecss_declaration.proofs.reader.take_value.Given as goal
 
--- The terms from here on and the end of the last one so far give the end of the last of all.
+-- The terms from here on and the end of the last one so far determine the end of the last of all.
 abbrev pub invariant-terms : goal.invariant-terms
 invariant-terms l = record {
   same : text_of l.s ≡ text_of l.initial.s;

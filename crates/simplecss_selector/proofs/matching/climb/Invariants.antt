@@ -6,7 +6,7 @@ use Rattle.simplecss_selector.proofs.Greedy.{Tracks}
 use Rattle.simplecss_selector.proofs.LongestStretch.{AreJoined}
 use Rattle.simplecss_selector.proofs.matching.climb.Given as goal
 
--- the components from `place` on are met, from `lowest` up to `top`
+-- the components from `place` on match, from `lowest` up to `top`
 abbrev pub invariant-steps : goal.invariant-steps
 invariant-steps g l =
     let tree = g.E.Element.tree in

@@ -5,7 +5,7 @@ use Rattle.simplecss_text.specs.Printing.{operator_text, pseudo_class_text, subs
 use Rattle.simplecss_selector.specs.SeenOperators.{operator_of, pseudo_class_of}
 use Rattle.simplecss_selector.specs.SeenSelectors.{subselector_of}
 use Rattle.simplecss_selector.specs.declared.operator.AttributeOperator.{AttributeOperator}
-use Rattle.simplecss_selector.specs.declared.operator.PseudoClass.{PseudoClass as AskedClass}
+use Rattle.simplecss_selector.specs.declared.pseudo_class.PseudoClass.{PseudoClass as AskedClass}
 use Rattle.simplecss_selector.specs.declared.selector.SubSelector.{SubSelector}
 use Rattle.simplecss_selector.specs.declared.selector.SubSelector.TheVariants.{Attribute, PseudoClass}
 use Rattle.simplecss_selector.proofs.Refused.{not_done}

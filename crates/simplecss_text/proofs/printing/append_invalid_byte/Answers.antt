@@ -1,6 +1,6 @@
 use Rattle.std.proofs.Common.{List, ℕ, ◌≡◌, ◌++◌, ap, ◌∙◌, append_assoc, decimal, encode_utf8}
 use lib.Chars.{codes}
-use Rattle.simplecss_text.specs.declared.Error.TheVariants.{InvalidByte}
+use Rattle.simplecss_text.specs.declared.error.Error.TheVariants.{InvalidByte}
 use Rattle.simplecss_text.specs.Errors.{error_text}
 use Rattle.simplecss_text.proofs.printed.StyledWrites.{appends_on_ok}
 use Rattle.simplecss_text.proofs.printing.append_invalid_byte.Goals as goal

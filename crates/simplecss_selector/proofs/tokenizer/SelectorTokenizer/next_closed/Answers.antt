@@ -1,6 +1,6 @@
 use Rattle.std.proofs.Common.{ℕ, List, ap, sym, ◌∙◌, inl, inr}
 use Rattle.simplecss_text.specs.Errors.{position_of}
-use Rattle.simplecss_text.specs.declared.Error.TheVariants.{InvalidComment}
+use Rattle.simplecss_text.specs.declared.error.Error.TheVariants.{InvalidComment}
 use Rattle.simplecss_text.specs.Cursor.{rest_of}
 use Rattle.simplecss_text.proofs.reading.KindLaws.{slash-starts}
 use Rattle.simplecss_selector.specs.SelectorTokenizers.{whole_text, left_of}
