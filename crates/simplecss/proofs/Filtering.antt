@@ -1,15 +1,18 @@
 -- The bits of texts in a filter.
--- Serves `index::texts::Texts::insert`.
-use Rattle.std.proofs.Common.{◌≡◌, ◌≢◌, ℕ, ◌<◌, ◌⊎◌, inl, inr, List, Bool, true, false, IsTrue, Some, get_or, length, refl, sym, ap, ◌∙◌, subst, arith, Bor}
+-- Serves `index::texts::Texts`.
+use Rattle.std.proofs.Common.{◌≡◌, ◌≢◌, ℕ, ◌*◌, ◌/◌, ◌%◌, ◌^◌, ◌<◌, ◌⊎◌, inl, inr, List, IsTrue, Option, None, Some, get_or, length, refl, sym, ap, ◌∙◌, subst, arith, lit<, w64, Bor}
 use Rattle.std.specs.BTreeMap.{BTreeMap, UpdatesBy}
+use Rattle.std.specs.Int.{bit_at}
 use Rattle.std.specs.Cmp.Lexicographic.{slice_cmp}
 use Rattle.std.specs.Int.Bits.{bit_or}
 use Rattle.std.specs.Ordering.{nat_cmp}
 use Rattle.std.proofs.Math.ListN.{set}
+use Rattle.std.proofs.Math.Nat.{mod-lt, div-lt_iff_lt-mul}
 use Rattle.std.proofs.lemmas.Bool.Decides.{nat_tests}
 use Rattle.std.proofs.lemmas.List.{get_or-set_same, get_or-set_other}
+use Rattle.std.proofs.lemmas.Nat.Bits.{bit_at_set_same, bit_at_or, bit_at-zero, same_from_bits}
 use Rattle.simplecss_selector.specs.Keys.Key.{by_class}
-use Rattle.simplecss_selector.specs.KeyBits.{key_bits, Covers, covers}
+use Rattle.simplecss_selector.specs.KeyBits.{key_bits, bit_by, number_from, Covers, covers}
 use Rattle.simplecss_selector.proofs.KeyBitLemmas.{covers_left, covers_right, covers_more, covers_test}
 use Rattle.simplecss.specs.TextPlaces.{place_for, word_of, may_have}
 use Rattle.simplecss.proofs.LastPlaces.{changed_text}
@@ -52,3 +55,26 @@ module _ (words : List ℕ) (text : List ℕ) (bits : ℕ) (is : bits ≡ key_bi
     | inl h ↦ subst (λ t. IsTrue (may_have after t)) h.0 text_kept
     | inr h ↦ other_kept other (kept other p (sym h.1 ∙ found))
   ]
+
+-- the bit of a key is one of 64
+bit_there : (number : ℕ) → bit_by number ≡ 0 → ⊥
+bit_there number none =
+    let k : ℕ = number * 11400714819323198485 % 2 ^ 64 / 2 ^ 58 in
+    let below : number * 11400714819323198485 % 2 ^ 64 < 2 ^ 64 = mod-lt (number * 11400714819323198485) (lit< tt) in
+    let within : k < 64 = (div-lt_iff_lt-mul (lit< tt)).1 below in
+    let set = bit_at_set_same w64 0 k within in
+    let or = bit_at_or 0 (bit_by number) k in
+    let zero = bit_at-zero k in
+    let gone = ap (λ n. bit_at n k) none in
+    omega (arith, set, or, zero, gone)
+
+-- a text has no bit in a word without bits
+pub none_there : (words : List ℕ) (text : List ℕ) → get_or words (word_of text) 0 ≡ 0 → IsTrue (may_have words text) → ⊥
+none_there words text none has =
+    let all = subst (λ w. Covers w (key_bits (by_class text))) none (test_covers _ _ has) in
+    bit_there (number_from 2 text) (same_from_bits (key_bits (by_class text)) 0 (λ i. let e = all i in let z = bit_at-zero i in omega (arith, e, z)))
+
+-- so it has no index
+pub none_found : (words : List ℕ) (text : List ℕ) (found : Option ℕ) → get_or words (word_of text) 0 ≡ 0 → ((place : ℕ) → found ≡ Some place → IsTrue (may_have words text)) → None ≡ found
+none_found words text None none kept = refl
+none_found words text (Some place) none kept = absurd (none_there words text none (kept place refl))

@@ -51,6 +51,9 @@ impl<'a> Texts<'a> {
         ensures { result ≡ place_for self.now.places text.now }
     {
         let word = self.filter[word_of(text)];
+        if word == 0 {
+            return None;
+        }
         if word | Key::Class(text).bits() != word {
             return None;
         }
