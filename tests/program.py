@@ -1,5 +1,5 @@
-"""The built program: each request for memory refused in turn, what it answers to words and files, and its three streams closed,
-full, or a pipe that nobody reads.
+"""The built program: each request for memory refused in turn, what it answers to words, files and mistakes, and its three streams
+closed, full, or a pipe that nobody reads.
 
     program.py PROGRAM SHIM     PROGRAM is the built `cssq`, SHIM the built tests/refuse.c
 
@@ -173,35 +173,216 @@ before = checks.passed
 for words, stdin, *wanted in ANSWERS:
     answers(words, stdin, {}, *wanted)
 
-# ---- warnings: each tells the file, the row, the column, the text and why
+# ---- mistakes: what each says. A row has what the program prints, and its lines on standard error before the one of the status
 
-warned = put("warned.css", b"x { y:z; q }\n\nq, a < b { c:d }\n@import 'e';\n:foo {}\na > { f:g }")
-WARNINGS = [
-    f"{warned}:1:10: 'q': broken declaration",
-    f"{warned}:3:4: 'a < b': invalid ident",
-    f"{warned}:4:1: '@import 'e'': at-rule not supported",
-    f"{warned}:5:1: ':foo': unknown pseudo-class",
-    f"{warned}:6:1: 'a >': selector missing",
-]
-for words, out in (
-    (["sheet", warned, other], "x { y:z; }\nq { c:d; }\n*[id='x'] { c:d !important; }\n"),
-    (["match", warned, tree], None),
-    (["style", warned, tree, "y"], None),
-):
-    child = start(words, {})
-    got, err = child.communicate()
-    expect(child.returncode == 0 and out in (None, got.decode()), f"{words}: status {child.returncode}, {got}")
-    expect(err.decode().splitlines() == WARNINGS, f"{words} warns {err}")
 
-for words, stdin, warning in (
-    (["selector", "a <"], b"", "invalid ident at 1:3."),
-    ([], b"a > > b", "unexpected combinator."),
-):
+def says(words, stdin, status, out, lines):
+    """Whether the program, started in the folder, answers so: its status, its output, and all that is on standard error."""
     with open(put("stdin", stdin), "rb") as file:
-        child = start(words, {}, stdin=file)
+        child = start(words, {}, stdin=file, cwd=folder)
         got, err = child.communicate()
-    wanted = [f"[WARN  simplecss_selector::warnings] Selector parsing failed cause {warning}", REFUSED]
-    expect((child.returncode, got, err.decode().splitlines()) == (1, b"", wanted), f"{words} warns {err}")
+    wanted = (status, out, "".join(line + "\n" for line in lines))
+    expect((child.returncode, got.decode(), err.decode()) == wanted, f"{words} of {stdin}: {child.returncode}, {got}, {err.decode()!r}, not {wanted}")
+
+
+# The text of a selector, what is printed, and the warning. Nothing is printed where the selector is refused.
+SELECTORS = [
+    # No selector.
+    ("", "", ":1:1: '': selector missing"),
+    (" ", "", ":1:2: '': selector missing"),
+    ("/**/", "", ":1:5: '': selector missing"),
+    (", a", "", ":1:1: '': selector missing"),
+    # A character that begins no part of one: later CSS, other languages, a name that begins as none.
+    ("a < b", "", ":1:3: 'a < b': invalid ident"),
+    ("a<b", "", ":1:2: 'a<b': invalid ident"),
+    ("a ~ b", "", ":1:3: 'a ~ b': invalid ident"),
+    ("ns|a", "", ":1:3: 'ns|a': invalid ident"),
+    ("*|a", "", ":1:2: '*|a': invalid ident"),
+    ("\\26 a", "", ":1:1: '\\26 a': invalid ident"),
+    ('"a"', "", ":1:1: '\"a\"': invalid ident"),
+    ("@media", "", ":1:1: '@media': invalid ident"),
+    ("a;", "", ":1:2: 'a;': invalid ident"),
+    ("//div", "", ":1:1: '//div': selector missing"),
+    ("1a", "", ":1:1: '1a': invalid ident"),
+    (".1a", "", ":1:2: '.1a': invalid ident"),
+    ("#", "", ":1:2: '#': invalid ident"),
+    ("a.", "", ":1:3: 'a.': invalid ident"),
+    ("a..b", "", ":1:3: 'a..b': invalid ident"),
+    ("a::before", "", ":1:3: 'a::before': invalid ident"),
+    ("a: hover", "", ":1:3: 'a: hover': invalid ident"),
+    ("a\n\n  < b", "", ":3:3: 'a': invalid ident"),
+    # Combinators.
+    ("> a", "", ":1:1: '> a': unexpected combinator"),
+    ("a >", "", ":1:1: 'a >': selector missing"),
+    ("a > > b", "", ":1:1: 'a > > b': unexpected combinator"),
+    ("a/**/b", "", ":1:1: 'a/**/b': unexpected selector"),
+    # Attributes.
+    ("a[b", "", ":1:1: 'a[b': unexpected end of stream"),
+    ("a[ b]", "", ":1:3: 'a[ b]': invalid ident"),
+    ("a[b ]", "", ":1:1: 'a[b ]': invalid attribute selector"),
+    ("a[b^=c]", "", ":1:1: 'a[b^=c]': invalid attribute selector"),
+    ("a[b=]", "", ":1:5: 'a[b=]': invalid ident"),
+    ("a[b=1]", "", ":1:5: 'a[b=1]': invalid ident"),
+    ("a[b='c]", "", ":1:1: 'a[b='c]': unexpected end of stream"),
+    ("a[b=c i]", "", ":1:6: 'a[b=c i]': invalid byte"),
+    ("a[b~c]", "", ":1:5: 'a[b~c]': invalid byte"),
+    # Pseudo-classes.
+    ("a:foo", "", ":1:1: 'a:foo': unknown pseudo-class"),
+    ("a:HOVER", "", ":1:1: 'a:HOVER': unknown pseudo-class"),
+    ("a:before", "", ":1:1: 'a:before': unknown pseudo-class"),
+    ("a:nth-child(2)", "", ":1:1: 'a:nth-child(2)': unknown pseudo-class"),
+    ("a:lang", "", ":1:1: 'a:lang': unexpected end of stream"),
+    ("a:lang()", "", ":1:1: 'a:lang()': invalid language pseudo-class"),
+    # Comments.
+    ("a /* b", "", ":1:3: 'a /* b': invalid comment"),
+    ("a / b", "", ":1:3: 'a / b': invalid comment"),
+    # What follows a selector.
+    ("a, b", "a\t0,0,1", ": ', b' was not read"),
+    ("a,", "a\t0,0,1", ": ',' was not read"),
+    ("a { b:c }", "a\t0,0,1", ": '{ b:c }' was not read"),
+    ("a/b", "a\t0,0,1", ": '/b' was not read"),
+    ("a,\nb", "a\t0,0,1", ": ',' was not read"),
+    # A byte order mark.
+    ("\ufeffa", "\ufeffa\t0,0,1", ":1:1: a byte order mark is part of the first name"),
+]
+# A style sheet, what of it is printed, and the warnings.
+SHEETS = [
+    # Declarations. What is broken takes the rest of its block with it.
+    ("a { b:c; color red; d:e }", "a { b:c; }\n", [":1:10: 'color red': broken declaration"]),
+    ("a { b:c d:e }", "a { b:c d; }\n", [":1:10: ':e': broken declaration"]),
+    ("a { b:c !IMPORTANT; d:e }", "a { b:c; }\n", [":1:10: 'IMPORTANT': broken declaration"]),
+    ("a { b:calc(1px + (2px)); c:d }", "a { b:calc(1px + (2px); }\n", [
+        ":1:7: 'calc(1px + (2px)': a parenthesis of the value is left open", ":1:23: ')': broken declaration"]),
+    ("a { b:-webkit-calc(1px); c:d }", "a { b:-webkit-calc; }\n", [":1:19: '(1px)': broken declaration"]),
+    ("a { b:linear-gradient(to right, rgb(1,2,3), red; c:d }", "a { b:linear-gradient(to right, rgb(1,2,3), red;c:d; }\n", [
+        ":1:7: 'linear-gradient(to right, rgb(1,2,3), red': a parenthesis of the value is left open"]),
+    ("a { b:url(\"c)d\"); e:f }", "a { b:url(\"c)d; }\n", [":1:7: 'url(\"c)d': a parenthesis of the value is left open"]),
+    ("a { b:rgb(1, 2; c:d } e { f:g }", "", [":1:5: 'b:rgb(1, 2': broken declaration"]),
+    ("a { b:; c:d }", "", [":1:5: 'b:': broken declaration"]),
+    ("a { :b }", "", [":1:5: ':b': broken declaration"]),
+    ("a { --b:c }", "", [":1:5: '--b:c': broken declaration"]),
+    ("a { $b:c }", "", [":1:5: '$b:c': broken declaration"]),
+    ("a { b:c; // d:e\n f:g }", "a { b:c; }\n", [":1:10: '// d:e': broken declaration"]),
+    ("a { b:c\\9; d:e }", "a { b:c; }\n", [":1:8: '\\9': broken declaration"]),
+    ("a { b { c:d } }", "", [":1:5: 'b { c:d': broken declaration"]),
+    # Selectors.
+    ("a < b { c:d }", "", [":1:1: 'a < b': invalid ident"]),
+    ("a,\nb <\nc { d:e }", "a { d:e; }\n", [":2:1: 'b <': invalid ident"]),
+    ("a, , b { c:d }", "a { c:d; }\nb { c:d; }\n", [":1:4: '': selector missing"]),
+    (", a { b:c }", "a { b:c; }\n", [":1:1: ',': comma before a selector"]),
+    ("a::before, b { c:d }", "", [":1:1: 'a::before, b': invalid ident"]),
+    ("a:root, b { c:d }", "b { c:d; }\n", [":1:1: 'a:root': unknown pseudo-class"]),
+    ("{ a:b }", "", [":1:1: '': selector missing"]),
+    ("a/b { c:d }", "a { c:d; }\n", [":1:2: '/b': unexpected text after a selector"]),
+    ("a { b:c };\nd { e:f }", "a { b:c; }\n", [":1:10: ';': invalid ident"]),
+    # Blocks, comments and at-rules.
+    ("a { b:c }\nd", "a { b:c; }\n", [":2:2: '': block missing"]),
+    ("a { b:c d", "a { b:c d; }\n", []),
+    ("a { b }} c { d:e }", "c { d:e; }\n", [":1:5: 'b': broken declaration", ":1:8: '}': unexpected closing brace"]),
+    ("<!-- a { b:c } -->", "", [":1:1: '<!-- a': invalid ident", ":1:16: '-->': invalid ident"]),
+    ("a { b:c } /* d { e:f }", "a { b:c; }\n", [":1:11: '/* d { e:f }': comment not closed"]),
+    ("a { b:c; /* d } e { f:g }", "", [":1:5: 'b:c': broken declaration"]),
+    ("@import 'b.css';\na { c:d }", "a { c:d; }\n", [":1:1: '@import 'b.css'': at-rule not supported"]),
+    ("@media print { a { b:c } }\nd { e:f }", "d { e:f; }\n", [":1:1: '@media print': at-rule not supported"]),
+    # Bytes.
+    ("\ufeffa { b:c }", "\ufeffa { b:c; }\n", [":1:1: a byte order mark is part of the first name"]),
+    ("a < b { c:d }\r\ne { f }\r\n", "", [":1:1: 'a < b': invalid ident", ":2:5: 'f': broken declaration"]),
+]
+# A tree, the number of its fault and of the line, and the warning. Without a fault its elements have no rule.
+TREES = [
+    # The depth.
+    ("div\n", 1, 1, ":1: the depth 'div' is no number (a TAB belongs after it)"),
+    ("0 div\n", 1, 1, ":1: the depth '0 div' is no number (a TAB belongs after it)"),
+    ("\tdiv\n", 1, 1, ":1: the depth '' is no number (a TAB belongs after it)"),
+    ("-1\tdiv\n", 1, 1, ":1: the depth '-1' is no number (a TAB belongs after it)"),
+    ("00\tdiv\n", 1, 1, ":1: the depth '00' begins with a zero"),
+    ("1\tdiv\n", 1, 1, ":1: the depth '1' is not 0, as that of the first line is"),
+    ("0\tdiv\n2\tp\n", 1, 2, ":2: the depth '2' is more than one deeper than '0'"),
+    ("0\tdiv\n99999999999999999999\tp\n", 1, 2, ":2: the depth '99999999999999999999' is more than one deeper than '0'"),
+    ("0\tdiv\n\n0\tdiv\n", 1, 2, ":2: the line is empty"),
+    ("0\tdiv\n\n", 1, 2, ":2: the line is empty"),
+    ("\ufeff0\tdiv\n", 1, 1, ":1: a byte order mark is before the depth"),
+    # The name.
+    ("0\n", 2, 1, ":1: no name follows the depth '0' (a TAB belongs between them)"),
+    ("0\tdiv\n1\t\n", 2, 2, ":2: the name is empty"),
+    ("0\tdiv\n1\t\tclass=note\n", 2, 2, ":2: the name is empty"),
+    # Attributes.
+    ("0\tp\tchecked\n", 3, 1, ":1: the attribute 'checked' has no '='"),
+    ("0\tp\tclass=a\tb c\n", 3, 1, ":1: the attribute 'b c' has no '='"),
+    ("0\tp\t\tclass=a\n", 3, 1, ":1: an attribute is empty (two TABs, or one at the end)"),
+    ("0\tp\tclass=a\t\n", 3, 1, ":1: an attribute is empty (two TABs, or one at the end)"),
+    ("0\tp\tclass=a\tid=b\tclass=c\n", 4, 1, ":1: the key 'class' comes a second time"),
+    ("0\tp\t=a\t=b\n", 4, 1, ":1: the key '' comes a second time"),
+    # A field that ends in a carriage return.
+    ("0\tdiv\r\n1\tp\r\n", 0, 2, ": lines end in CR LF; the CR belongs to the last field"),
+]
+# Words, and what the status and the lines are.
+UNKNOWN = [["select", "a"], ["--help"], ["-h"], ["selector"], ["selector", "a", "b"], ["sheet"], ["match", "page.css"], ["match"], ["match", "page.css", "page.tree", "a"], ["style", "page.css", "page.tree"], ["style", "page.css", "page.tree", "a", "b"], ["Sheet", "page.css"], [""]]
+# A file, its bytes if it is one, and why it cannot be read.
+put("page.css", b"p { a:b }")
+put("page.tree", b"0\tdiv\n")
+os.mkdir(os.path.join(folder, "folder"))
+put("latin.css", b"p { content: '\xe9' }")
+put("utf16.css", "p { a:b }".encode("utf-16"))
+put("cut.css", "p { content: '\u20ac".encode()[:-1])
+put("locked.css", b"p { a:b }", 0)
+FILES = [
+    ("missing.css", "missing.css: no such file"),
+    ("missing/page.css", "missing/page.css: no such file"),
+    ("", ": no such file"),
+    ("folder", "folder: a folder"),
+    ("page.css/page.css", "page.css/page.css: not a directory"),
+    ("locked.css", "locked.css: permission denied"),
+    ("latin.css", "latin.css: not UTF-8 at byte offset 14"),
+    ("utf16.css", "utf16.css: not UTF-8 at byte offset 0"),
+    ("cut.css", "cut.css: not UTF-8 at byte offset 14"),
+]
+began = checks.passed
+for text, printed, warning in SELECTORS:
+    wanted = (0, printed + "\n") if printed else (1, "")
+    last = [] if printed else [REFUSED]
+    says(["selector", text], b"", *wanted, ["selector" + warning] + last)
+    says([], text.encode(), *wanted, ["standard input" + warning] + last)
+for text, printed, warnings in SHEETS:
+    put("text.css", text.encode())
+    says(["sheet", "text.css"], b"", 0, printed, ["text.css" + line for line in warnings])
+    says(["match", "text.css", "empty"], b"", 0, "", ["text.css" + line for line in warnings])
+for text, fault, line, warning in TREES:
+    put("text.tree", text.encode())
+    wanted = (1, "") if fault else (0, "".join(f"{number}:\n" for number in range(1, line + 1)))
+    last = [f"cssq: tree fault {fault} at line {line}"] if fault else []
+    says(["match", "page.css", "text.tree"], b"", *wanted, ["text.tree" + warning] + last)
+    says(["style", "page.css", "text.tree", "c"], b"", *wanted, ["text.tree" + warning] + last)
+for words in UNKNOWN:
+    says(words, b"", 2, "", [USAGE])
+for name, reason in FILES:
+    for words in (["sheet", "page.css", name], ["match", name, "page.tree"], ["style", "page.css", name, "a"]):
+        says(words, b"", 4, "", [reason, f"cssq: cannot read {name}"])
+says([], b"a\xff", 4, "", ["standard input: not UTF-8 at byte offset 1", CANNOT_READ_INPUT])
+# Warnings of several texts and of a tree, in order.
+put("first.css", b"a { b:c(d(e) } f < g { }")
+put("second.css", b"@h; i { j:k(l(m)); n:o(p(q) }")
+put("crlf.tree", b"0\tdiv\r\n2\tp\r\n")
+says(["sheet", "first.css", "second.css"], b"", 0, "a { b:c(d(e); }\ni { j:k(l(m); }\n", [
+    "first.css:1:7: 'c(d(e)': a parenthesis of the value is left open",
+    "first.css:1:16: 'f < g': invalid ident",
+    "second.css:1:1: '@h': at-rule not supported",
+    "second.css:1:11: 'k(l(m)': a parenthesis of the value is left open",
+    "second.css:1:17: ')': broken declaration",
+])
+says(["match", "second.css", "crlf.tree"], b"", 1, "", [
+    "second.css:1:1: '@h': at-rule not supported",
+    "second.css:1:11: 'k(l(m)': a parenthesis of the value is left open",
+    "second.css:1:17: ')': broken declaration",
+    "crlf.tree: lines end in CR LF; the CR belongs to the last field",
+    "crlf.tree:2: the depth '2' is more than one deeper than '0'",
+    "cssq: tree fault 1 at line 2",
+])
+# Parentheses that are closed, or in a string or a comment.
+put("closed.css", b"a { b:url('c(d'); e:'f(' g; h:i /* ( */; j:k(l) m(n) } o[p='q(r'] { s:t('u\\'(') }")
+says(["sheet", "closed.css"], b"", 0, "a { b:url('c(d');e:'f(' g;h:i;j:k(l) m(n); }\no[p='q(r'] { s:t('u\\'('); }\n", [])
+mistakes = len(SELECTORS) + len(SHEETS) + len(TREES) + len(UNKNOWN) + len(FILES) + 1
+print(f"the program: {mistakes} mistakes, {checks.passed - began} answers to them")
 
 # ---- files that cannot be read: the first in the words' order is told, and nothing is written
 

@@ -36,25 +36,29 @@ pub enum Reason {
     AtRule,
 }
 
-/// The text before the first of the two characters, or all, without white space around it.
+/// The text before the first of the two characters, or all.
 fn before(text: &str, one: char, two: char) -> &str {
     match text.split_once([one, two]) {
-        Some((front, _)) => front.trim(),
-        None => text.trim(),
+        Some((front, _)) => front,
+        None => text,
     }
+}
+
+/// The first line of a text, without white space around it.
+fn first_line(text: &str) -> &str {
+    before(text.trim(), '\n', '\r').trim_end()
 }
 
 impl<'a> Fault<'a> {
     /// The part of the text that a message quotes: an at-rule up to its block or semicolon, a
-    /// declaration up to its semicolon, a comment's first line, and anything else as it is. White
-    /// space around it is left out.
+    /// declaration up to its semicolon, and anything else as it is; of these the first line,
+    /// without white space around it.
     pub fn quote(&self) -> &'a str {
-        match self.reason {
+        first_line(match self.reason {
             Reason::AtRule => before(self.text, '{', ';'),
             Reason::Declaration => before(self.text, ';', '}'),
-            Reason::Comment => before(self.text, '\n', '\r'),
-            _ => self.text.trim(),
-        }
+            _ => self.text,
+        })
     }
 }
 

@@ -30,6 +30,13 @@ impl Known {
         place: 0,
         pos: TextPos { row: 1, col: 1 },
     };
+
+    /// Its position.
+    pub(crate) fn pos(&self) -> TextPos
+        ensures { result ≡ self.now.pos }
+    {
+        self.pos
+    }
 }
 
 /// The position of a place, from that of an earlier one.
@@ -47,7 +54,7 @@ fn position_from(text: &str, known: Known, place: usize) -> TextPos
 
 /// The place where the rest of the text begins. It is counted from the known place, or from the
 /// start of the text where it is before that.
-fn find(text: &str, known: Known, rest: &str) -> Known
+pub(crate) fn find(text: &str, known: Known, rest: &str) -> Known
     ensures { IsKnown text.now known → Ends text.now rest.now
         → IsKnown text.now result × (result.place ≡ rest_place text.now rest.now) }
 {

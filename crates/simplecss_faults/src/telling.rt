@@ -1,7 +1,8 @@
 //! Warnings of what is skipped, a line each.
-use crate::finding::{Known, fault};
+use crate::finding::{Known, fault, find};
 use simplecss::{Report, Skipped};
 use std::alloc::AllocError;
+use std::fmt::Display;
 use std::io;
 use std::io::Write;
 
@@ -51,6 +52,27 @@ impl<'n, 'a, W: Write + Drop> FaultLines<'n, 'a, W> {
     }
 }
 
+impl<'n, 'a, W: Write> FaultLines<'n, 'a, W> {
+    /// The name of the text that is read.
+    fn name(&self) -> &'n str {
+        match self.names.get(self.begun.saturating_sub(1)) {
+            Some(name) => *name,
+            None => "",
+        }
+    }
+
+    /// Writes a line with other words: the name of the text that is read, the row and the column
+    /// where the rest of it begins, and the words.
+    pub fn write_line<D: Display>(&mut self, rest: &'a str, words: &D) {
+        self.known = find(self.text, self.known, rest);
+        let name = self.name();
+        let pos = self.known.pos();
+        if self.outcome.is_ok() {
+            self.outcome = writeln!(self.out, "{name}:{pos}: {words}");
+        }
+    }
+}
+
 impl<'n, 'a, W: Write> Report<'a> for FaultLines<'n, 'a, W> {
     ghost State = { Unit {0} };
 
@@ -66,10 +88,7 @@ impl<'n, 'a, W: Write> Report<'a> for FaultLines<'n, 'a, W> {
 
     fn report(&mut self, skipped: Skipped<'a>) -> Result<(), AllocError> {
         let fault = fault(self.text, &mut self.known, skipped);
-        let name = match self.names.get(self.begun.saturating_sub(1)) {
-            Some(name) => *name,
-            None => "",
-        };
+        let name = self.name();
         if self.outcome.is_ok() {
             self.outcome = writeln!(self.out, "{name}:{fault}");
         }

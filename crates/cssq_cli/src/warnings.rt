@@ -1,0 +1,125 @@
+//! Warnings on standard error: a line each, with the name of the text, the row and the column.
+use crate::notes::{Noted, find_notes, first_line};
+use simplecss::stream::Stream;
+use simplecss::{Kept, Refusal, Report, Selector, Skipped, TextPos, Why};
+use simplecss_faults::{FaultLines, Reason};
+use std::alloc::{AllocError, Global};
+use std::io;
+use std::io::{BufWriter, Stderr, Write};
+
+/// A reporter that writes a line for each part of the files' texts that is skipped, and for each
+/// note on what is kept, in the order of the text.
+#[derive(Debug, Drop)]
+pub struct SheetWarnings<'n, 'a, W: Write> {
+    /// Writes the lines.
+    lines: FaultLines<'n, 'a, W>,
+    /// The allocator of the notes.
+    alloc: Global,
+    /// The notes on the text that is read.
+    notes: Vec<Noted<'a>>,
+    /// How many of them are written.
+    written: usize,
+}
+
+impl<'n, 'a> SheetWarnings<'n, 'a, BufWriter<Stderr>> {
+    /// Returns a reporter to standard error, for texts with these names.
+    pub fn new(rt: &HostRuntime, names: &'n [&'n str]) -> io::Result<Self> {
+        let out = BufWriter::new(rt.alloc(), rt.stderr())?;
+        Ok(SheetWarnings {
+            lines: FaultLines::new(out, names),
+            alloc: rt.alloc(),
+            notes: Vec::new(rt.alloc()),
+            written: 0,
+        })
+    }
+}
+
+impl<'n, 'a, W: Write + Drop> SheetWarnings<'n, 'a, W> {
+    /// Writes the notes that are left, and what is in the writer's buffers.
+    pub fn finish(self) -> io::Result<()> {
+        let mut warnings = self;
+        warnings.write_notes(0);
+        let SheetWarnings { lines, .. } = warnings;
+        lines.finish()
+    }
+}
+
+impl<'n, 'a, W: Write> SheetWarnings<'n, 'a, W> {
+    /// Writes the notes on parts before the last `len` bytes of the text.
+    fn write_notes(&mut self, len: usize) {
+        for (from, note) in self.notes.iter().skip(self.written) {
+            if from.len() <= len {
+                break;
+            }
+            self.lines.write_line(from, note);
+            self.written = self.written.saturating_add(1);
+        }
+    }
+}
+
+impl<'n, 'a, W: Write> Report<'a> for SheetWarnings<'n, 'a, W> {
+    ghost State = { Unit {0} };
+
+    ghost state = { λ _. tt };
+
+    ghost add = { λ _ _. tt };
+
+    fn begin(&mut self, text: &'a str) {
+        self.write_notes(0);
+        self.lines.begin(text);
+        self.written = 0;
+        // Without memory for the notes there are none.
+        self.notes = find_notes(self.alloc, text).unwrap_or(Vec::new(self.alloc));
+    }
+
+    fn report(&mut self, skipped: Skipped<'a>) -> Result<(), AllocError> {
+        self.write_notes(skipped.from.len());
+        self.lines.report(skipped)
+    }
+}
+
+/// Returns the position in a text at which the rest of it begins.
+fn position_of(text: &str, rest: &str) -> TextPos {
+    match text.get(..text.len().saturating_sub(rest.len())) {
+        Some(front) => Stream::new(front).gen_text_pos_from(front.len()),
+        None => TextPos::new(1, 1),
+    }
+}
+
+/// Writes why a selector is refused, at the position of the error if it has one.
+fn write_refusal(rt: &HostRuntime, name: &str, text: &str, skipped: &Skipped<'_>) {
+    let (reason, pos) = match skipped.why {
+        Why::Selector(Refusal::Faulty { within, error }) => (
+            Reason::Selector(error),
+            error
+                .pos()
+                .map(|pos| position_of(text, within).in_whole(pos)),
+        ),
+        _ => (Reason::PseudoClass, None),
+    };
+    let pos = pos.unwrap_or(position_of(text, skipped.from));
+    let end = skipped.from.len().saturating_sub(skipped.after.len());
+    let quote = first_line(skipped.from.get(..end).unwrap_or(""));
+    let _ = eprintln!(rt; "{name}:{pos}: '{quote}': {reason}");
+}
+
+/// Writes the warnings of a selector: why it is refused, or what follows it and is not read.
+pub fn warn_of_selector(rt: &HostRuntime, name: &str, text: &str) {
+    if text.starts_with('\u{feff}') {
+        let _ = eprintln!(rt; "{name}:1:1: {}", crate::notes::Note::ByteOrderMark);
+    }
+    let mut kept = Kept {
+        skips: Vec::new(rt.alloc()),
+    };
+    let Ok((selector, len)) = Selector::parse_front_reporting(&mut kept, rt.alloc(), text) else {
+        return;
+    };
+    for skipped in &kept.skips {
+        write_refusal(rt, name, text, skipped);
+    }
+    let rest = text.get(len..).unwrap_or("");
+    if selector.is_some() && !rest.is_empty() {
+        let quote = first_line(rest);
+        let _ = eprintln!(rt; "{name}: '{quote}' was not read");
+    }
+}
