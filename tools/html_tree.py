@@ -1,0 +1,93 @@
+#!/usr/bin/env python3
+"""Writes the tree of an HTML, XML or SVG document in the form that the program `cssq` reads.
+
+    html_tree.py [FILE] > page.tree     without FILE, or with `-`, the document is read from standard input
+
+XML is told by the extension (.svg, .xml, .xhtml) or by its first bytes, and everything else is HTML. Python's standard library
+reads both; nothing has to be built. A value that has a TAB, a newline or a carriage return is written with a space for each, and
+a warning says so. The status is 1 where the document is no tree, and 4 where it cannot be read or the output cannot be written.
+"""
+import os
+import re
+import sys
+
+sys.path.insert(0, os.path.join(os.path.dirname(os.path.dirname(os.path.abspath(__file__))), "python"))
+from simplecss import Tree, TreeError  # noqa: E402
+
+REFUSED, USAGE, UNREADABLE = 1, 2, 4
+# What would end a field or a line, or belong to the end of one.
+SPECIAL = re.compile("[\t\r\n]")
+
+
+def warn(name, row, column, words):
+    """Writes a warning with its place, as far as it is known."""
+    place = "" if row is None else f"{row}:{column}:"
+    print(f"{name}:{place} {words}", file=sys.stderr)
+
+
+def read(name):
+    """Returns the text of a file, or of standard input for `-`."""
+    if name == "-":
+        data = sys.stdin.buffer.read()
+    else:
+        with open(name, "rb") as file:
+            data = file.read()
+    return data.decode("utf-8-sig")
+
+
+def parse(name, text):
+    """Returns the tree of a document."""
+    start = text.lstrip()
+    is_xml = name.endswith((".svg", ".xml", ".xhtml")) or start.startswith(("<?xml", "<svg"))
+    return Tree.from_xml(text) if is_xml else Tree.from_html(text)
+
+
+def fields_of(name, element):
+    """Yields the fields of an element after its depth."""
+    yield element.name
+    for key, value in element.attributes.items():
+        if SPECIAL.search(value):
+            warn(name, element.row, element.column, f"'{element.name}': a TAB or newline in '{key}' is written as a space")
+        yield f"{key}={SPECIAL.sub(' ', value)}"
+
+
+def lines_of(name, tree):
+    """Yields the line of each element."""
+    depths = []
+    for element in tree.elements:
+        depths.append(0 if element.parent is None else depths[element.parent] + 1)
+        yield "\t".join([str(depths[-1]), *fields_of(name, element)]) + "\n"
+
+
+def main(words):
+    """Writes the tree of the document that the words name, and returns the status."""
+    if len(words) > 1 or words[:1] in (["-h"], ["--help"]):
+        print("usage: html_tree.py [FILE]", file=sys.stderr)
+        return USAGE
+    name = words[0] if words else "-"
+    shown = "standard input" if name == "-" else name
+    try:
+        text = "".join(lines_of(shown, parse(name, read(name))))
+        sys.stdout.buffer.write(text.encode("utf-8"))
+        sys.stdout.buffer.flush()
+    except TreeError as error:
+        warn(shown, error.row, error.column, error.reason)
+        return REFUSED
+    except UnicodeEncodeError:
+        print(f"{shown}: a character reference names no character", file=sys.stderr)
+        return REFUSED
+    except UnicodeDecodeError as error:
+        print(f"{shown}: not UTF-8 at byte offset {error.start}", file=sys.stderr)
+        return UNREADABLE
+    except BrokenPipeError:
+        # The reader has what it wants. Python is not to try again at its end.
+        os.dup2(os.open(os.devnull, os.O_WRONLY), sys.stdout.fileno())
+        return UNREADABLE
+    except OSError as error:
+        print(f"{shown}: {error.strerror}", file=sys.stderr)
+        return UNREADABLE
+    return 0
+
+
+if __name__ == "__main__":
+    sys.exit(main(sys.argv[1:]))
