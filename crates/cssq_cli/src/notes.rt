@@ -55,7 +55,7 @@ fn may_leave_open(text: &str) -> bool {
     text.split('(')
         .skip(1)
         .any(|inside| match inside.split_once(')') {
-            Some((inside, _)) => inside.contains(['"', '\'', '*']),
+            Some((inside, _)) => inside.contains(['"', '\'', '*']) && is_text_left_open(inside),
             None => true,
         })
 }
@@ -108,31 +108,41 @@ enum Within {
     Comment,
 }
 
-/// Whether a value leaves a parenthesis open. Those in strings and comments do not count, and a
-/// string or comment that is left open closes none (CSS 2.1 sections 4.1.6, 4.1.9 and 4.3.7).
+/// Returns what the character after `c` is part of, and `c`, or a space where `c` ends a mark or is
+/// escaped. A string or comment that is left open closes none (CSS 2.1 sections 4.1.9 and 4.3.7).
+fn next_within(within: Within, before: char, c: char) -> (Within, char) {
+    match (within, c) {
+        (Within::Value, '"' | '\'') => (Within::String(c), c),
+        (Within::Value, '*') if before == '/' => (Within::Comment, ' '),
+        (Within::String(_), _) if before == '\\' => (within, ' '),
+        (Within::String(quote), _) if c == quote => (Within::Value, c),
+        (Within::Comment, '/') if before == '*' => (Within::Value, ' '),
+        _ => (within, c),
+    }
+}
+
+/// Whether a part of a value ends within a string or a comment.
+fn is_text_left_open(part: &str) -> bool {
+    let mut within = Within::Value;
+    let mut before = ' ';
+    for c in part.chars() {
+        (within, before) = next_within(within, before, c);
+    }
+    within != Within::Value
+}
+
+/// Whether a value leaves a parenthesis open. Those in strings and comments do not count.
 pub fn is_left_open(value: &str) -> bool {
     let mut open = 0_usize;
     let mut within = Within::Value;
     let mut before = ' ';
     for c in value.chars() {
-        let mut this = c;
         match (within, c) {
             (Within::Value, '(') => open = open.saturating_add(1),
             (Within::Value, ')') => open = open.saturating_sub(1),
-            (Within::Value, '"' | '\'') => within = Within::String(c),
-            (Within::Value, '*') if before == '/' => {
-                within = Within::Comment;
-                this = ' ';
-            }
-            (Within::String(_), _) if before == '\\' => this = ' ',
-            (Within::String(quote), _) if c == quote => within = Within::Value,
-            (Within::Comment, '/') if before == '*' => {
-                within = Within::Value;
-                this = ' ';
-            }
             _ => {}
         }
-        before = this;
+        (within, before) = next_within(within, before, c);
     }
     open > 0
 }
