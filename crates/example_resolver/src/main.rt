@@ -10,7 +10,7 @@ use cssq::cascade::Cascade;
 use log::sink::Discard;
 use simplecss::{Declaration, DeclarationTokenizer, StyleSheet};
 use simplecss_tree::{Tree, TreeError};
-use std::alloc::{AllocError, Global};
+use std::alloc::Global;
 use std::process::ExitCode;
 use std::{env, fs, io};
 
@@ -45,40 +45,28 @@ fn read_picture(alloc: Global, text: &str) -> Result<Tree<'_>, TreeError> {
     Ok(tree)
 }
 
-/// Adds the declarations of this importance: the sheet's, and then the element's own ones.
-fn push_declarations<'a>(
-    found: &mut Vec<Declaration<'a>>,
-    stated: &[Declaration<'a>],
-    own: &'a str,
+/// Prints the declarations of this importance: those of the rules that match an element, and then
+/// those of its attribute `style`.
+fn print_declarations(
+    rt: &HostRuntime,
+    stated: &[Declaration<'_>],
+    own: &str,
     important: bool,
-) -> Result<(), AllocError> {
+) -> io::Result<()> {
     for declaration in stated {
         if declaration.important == important {
-            found.push(*declaration)?;
+            println!(rt; "    {declaration}")?;
         }
     }
     for declaration in DeclarationTokenizer::from(own) {
         if declaration.important == important {
-            found.push(declaration)?;
+            println!(rt; "    {declaration}")?;
         }
     }
     Ok(())
 }
 
-/// The declarations that apply to an element, the weakest first: `stated` are those of the rules
-/// that match it, and `own` is its attribute `style`.
-fn resolve<'a>(
-    alloc: Global,
-    stated: &[Declaration<'a>],
-    own: &'a str,
-) -> Result<Vec<Declaration<'a>>, AllocError> {
-    let mut found = Vec::new(alloc);
-    push_declarations(&mut found, stated, own, false)?;
-    push_declarations(&mut found, stated, own, true)?;
-    Ok(found)
-}
-
-/// Prints each element with its declarations.
+/// Prints each element with its declarations, the weakest first.
 fn print(rt: &HostRuntime, sheet: &StyleSheet<'_>, tree: &Tree<'_>) -> io::Result<()> {
     let mut cascade = Cascade::new(rt.alloc(), &sheet.rules)?;
     for place in 0..tree.len() {
@@ -88,9 +76,8 @@ fn print(rt: &HostRuntime, sheet: &StyleSheet<'_>, tree: &Tree<'_>) -> io::Resul
         let stated = cascade.stated(&element)?;
         println!(rt; "{}", element.name())?;
         let own = element.attribute("style").unwrap_or("");
-        for declaration in &resolve(rt.alloc(), &stated, own)? {
-            println!(rt; "    {declaration}")?;
-        }
+        print_declarations(rt, &stated, own, false)?;
+        print_declarations(rt, &stated, own, true)?;
     }
     Ok(())
 }
