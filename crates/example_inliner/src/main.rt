@@ -88,7 +88,7 @@ fn print(rt: &HostRuntime, sheet: &StyleSheet<'_>, page: &Page<'_>, tree: &str) 
     Ok(())
 }
 
-/// Reads both files, and prints the tree with its styles, or tells the fault of the tree.
+/// Reads both files, and prints the tree with its styles, or the fault of the tree.
 fn run(rt: &HostRuntime, sheet: &str, tree: &str) -> io::Result<ExitCode> {
     let sheet_text = fs::read_to_string(rt, sheet)?;
     let tree_text = fs::read_to_string(rt, tree)?;

@@ -44,7 +44,7 @@ fn is_matched<E: Element>(selectors: &[Selector<'_>], element: &E) -> bool {
     selectors.iter().any(|selector| selector.matches(element))
 }
 
-/// Prints the lines that match, and tells whether there are any.
+/// Prints the lines that match, and returns whether there are any.
 fn print_matches(
     rt: &HostRuntime,
     selectors: &[Selector<'_>],

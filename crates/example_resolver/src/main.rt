@@ -14,7 +14,7 @@ use std::alloc::Global;
 use std::process::ExitCode;
 use std::{env, fs, io};
 
-/// Adds the element of a line, and gives its place.
+/// Adds the element of a line, and returns its index.
 fn push_line<'t>(
     tree: &mut Tree<'t>,
     parent: Option<usize>,

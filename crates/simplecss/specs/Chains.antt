@@ -10,7 +10,7 @@ use Rattle.simplecss.specs.WantedLasts.{last_wanted}
 use Rattle.simplecss.specs.declared.index.wanted_lasts.WantedLasts.{WantedLasts}
 use Rattle.simplecss.specs.declared.index.link.Link.{Link}
 
--- the selectors that links stand for, in order
+-- the selectors of links, in order
 abbrev pub selectors_of : List Link → List (List Component)
 selectors_of links = map (λ link. link.selector.value) links
 
