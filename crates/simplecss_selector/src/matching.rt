@@ -35,7 +35,7 @@ struct Stretch {
     last: usize,
 }
 
-/// Returns the index of the first component of stretch `number`, from the ends of the stretches.
+/// Returns the index of the first component after `count` stretches, from the ends of the stretches.
 #[inline(always)]
 fn begin_after(ends: &[usize], count: usize) -> usize
     requires { count ≤ length ends.now }

@@ -108,7 +108,7 @@ fn language<'a>(stream: &mut Stream<'a>) -> Result<&'a str, Error>
     Ok(language)
 }
 
-/// Consumes the name of a pseudo-class after its `:`, or the language of a `:lang`, and returns
+/// Consumes the name of a pseudo-class after its `:`, or the language of a `:lang`. Returns it, and
 /// whether it is a language.
 #[inline(never)]
 #[tactic(auto, unfolding(simplecss_text::specs::Pieces::pseudo_class_after))]

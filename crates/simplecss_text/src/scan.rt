@@ -352,7 +352,7 @@ fn closed_part(text: &str) -> Part
     Part { len, spaced }
 }
 
-/// Returns the first part of a gap: a run of space bytes or a closed comment.
+/// Returns the first part of a gap: a space byte or a closed comment.
 #[inline(always)]
 fn blank_part_len(text: &str) -> Option<Part>
     ensures found { MatchOption result (blank_part text.now ≡ None)
@@ -378,12 +378,12 @@ fn blank_part_len(text: &str) -> Option<Part>
     }
 }
 
-/// A part of a gap.
+/// One or more parts of a gap, each a space byte or a closed comment.
 #[derive(Clone, Copy)]
 struct Part {
-    /// The number of bytes in the part.
+    /// The number of bytes.
     len: usize,
-    /// Whether it is a run of space bytes.
+    /// Whether a space byte is among them, outside the comments.
     spaced: bool,
 }
 
