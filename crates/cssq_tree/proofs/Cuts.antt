@@ -1,12 +1,44 @@
 -- A text cut at its first newline or TAB.
 -- Serves `tree::{cut_line, cut_field}` (lines and fields of a text).
-use Rattle.std.proofs.Common.{◌≡◌, ℕ, ◌+◌, ◌<◌, ◌≤◌, Bool, false, List, [], ◌∷◌, length, refl, sym, ap, ◌∙◌, arith}
-use Rattle.std.specs.List.{slice_split, before_first, after_first, position_or_len}
+use Rattle.std.proofs.Common.{◌≡◌, ℕ, ◌+◌, ◌<◌, ◌≤◌, Bool, false, List, [], ◌∷◌, length, take, drop, get_or, refl, sym, ap, ◌∙◌, arith, eqb-true, ◌==◌}
+use Rattle.std.specs.Prelude.{not}
+use Rattle.std.specs.Str.{IsUtf8, IsCharBoundary}
+use Rattle.std.specs.List.{slice_split, slice_range, before_first, after_first, position_or_len}
 use Rattle.std.proofs.lemmas.List.{length-take, length-drop}
 use Rattle.std.proofs.lemmas.List.Splits.{slice_split_first, slice_split_none, length-slice_split}
-use Rattle.std.proofs.lemmas.List.Sums.{fails_before_first}
+use Rattle.std.proofs.lemmas.List.Sums.{fails_before_first, passes_at_first, prefix_len-le-length}
+use Rattle.std.proofs.lemmas.Grind.{common_steps}
+use Rattle.std.proofs.lemmas.Str.{IsCharBoundary-after_ascii}
 use Rattle.std.proofs.lemmas.List.Elements.{All-from_get_or}
 use Rattle.cssq_tree.specs.TreeText.{is_newline, is_tab, without_empty_last, lines_of, fields_of}
+
+-- what precedes the first such byte of a text
+module _ (text : List ℕ) (byte n : ℕ) (is : n ≡ position_or_len (λ b. b == byte) text) where
+  pub place_within : n ≤ length text
+  place_within = omega (arith, is, prefix_len-le-length (λ b. not (b == byte)) text)
+
+  byte_there : byte < 128 → n < length text → get_or text n 0 < 128
+  byte_there ascii lt =
+      let found = passes_at_first (λ b. b == byte) text 0 (omega (arith, is)) in
+      omega (arith, eqb-true (get_or text (position_or_len (λ b. b == byte) text) 0) byte found, ap (λ k. get_or text k 0) is)
+
+  pub place_boundary : byte < 128 → IsCharBoundary text n
+  place_boundary ascii = (place_within, λ lt wide. absurd (omega (arith, byte_there ascii lt)))
+
+  pub place_after : IsUtf8 text → byte < 128 → n < length text → IsCharBoundary text (n + 1)
+  place_after u ascii lt = IsCharBoundary-after_ascii text n u lt (byte_there ascii lt)
+
+range_front : (text : List ℕ) (n : ℕ) → slice_range text 0 n ≡ take n text
+range_front text n = grind (arith, common_steps)
+
+-- a text cut at that byte
+pub cut_at : (text : List ℕ) (byte n : ℕ) → n ≡ position_or_len (λ b. b == byte) text → (front others : List ℕ) → front ≡ slice_range text 0 n → others ≡ drop (n + 1) text → n < length text
+    → (front ≡ before_first (λ b. b == byte) text) × (others ≡ after_first (λ b. b == byte) text) × (position_or_len (λ b. b == byte) text < length text)
+cut_at text byte n is front others front_is others_is lt = (
+  front_is ∙ range_front text n ∙ ap (λ k. take k text) is,
+  others_is ∙ ap (λ k. drop (k + 1) text) is,
+  omega (arith, is),
+)
 
 first_kept : (line : List ℕ) (lines : List (List ℕ)) → 0 < length lines → without_empty_last (line ∷ lines) ≡ line ∷ without_empty_last lines
 first_kept line [] some = absurd (omega arith)

@@ -1,8 +1,7 @@
 -- The attribute fields of a line, one after the other.
 -- Serves `Page::read` (the first fault of a line) and the answers of `Node` (the value of a key).
-use Rattle.std.proofs.Common.{◌≡◌, ℕ, suc, ◌+◌, ◌<◌, ◌≤◌, Bool, true, false, cond, List, [], ◌∷◌, ◌++◌, length, take, get_or, refl, sym, ap, ◌∙◌, subst, arith, Option, None, Some, IfSome, MatchOption, Bor, append_assoc}
+use Rattle.std.proofs.Common.{◌≡◌, ℕ, suc, ◌+◌, ◌<◌, ◌≤◌, Bool, true, false, cond, List, [], ◌∷◌, ◌++◌, length, take, get_or, refl, sym, ap, ◌∙◌, subst, arith, Option, None, Some, IfSome, Bor, append_assoc, Result, Ok, Err, IfErr}
 use Rattle.std.specs.Prelude.{bytes_eq, ◌||◌, not}
-use Rattle.std.specs.Option.{unwrap_or}
 use Rattle.std.specs.List.{slice_get, filter_map, cons_option, range_with_len}
 use Rattle.std.proofs.lemmas.Grind.{common_steps}
 use Rattle.std.proofs.lemmas.List.{length-append}
@@ -123,12 +122,7 @@ pub no_first : (faults : List TreeFault) → None ≡ slice_get faults 0 → fau
 no_first [] is = refl
 no_first (fault ∷ faults) is = absurd (cc)
 
--- the first fault is told where there is one
-pub first_told : (number : ℕ) (fields : List (List ℕ)) (first : Option TreeFault) → first ≡ slice_get (field_faults number fields) 0 → MatchOption first (field_faults number fields ≡ []) (IsToldOf number (field_faults number fields))
-first_told number fields None is = no_first (field_faults number fields) is
-first_told number fields (Some fault) is = fields_told number fields fault is
-
--- the first fault, or else want of memory
-pub first_or_memory : (number : ℕ) (fields : List (List ℕ)) (first : Option TreeFault) → first ≡ slice_get (field_faults number fields) 0 → IsToldOf number (field_faults number fields) (unwrap_or first (Memory number))
-first_or_memory number fields None is = (refl, no_first (field_faults number fields) is)
-first_or_memory number fields (Some fault) is = fields_told number fields fault is
+-- the fault of a reader of the fields is told as such
+pub each_told : {A : Type 0} (number : ℕ) (fields : List (List ℕ)) (r : Result A TreeFault) → IfErr r (λ fault. Some fault ≡ slice_get (field_faults number fields) 0) → IfErr r (IsToldOf number (field_faults number fields))
+each_told number fields (Ok a) is = tt
+each_told number fields (Err fault) is = fields_told number fields fault is

@@ -1,19 +1,22 @@
--- The lines that a page keeps, and their relations.
-use Rattle.std.specs.Prelude.{◌≡◌, ℕ, ◌+◌, ◌≤◌, List, [], ◌∷◌, ◌++◌, length, map, Some}
+-- The lines that a page keeps, and how each is tied to others.
+use Rattle.std.specs.Prelude.{◌≡◌, ℕ, ◌+◌, ◌≤◌, List, [], ◌∷◌, ◌++◌, length, map, Option, None, Some, if◌then◌else◌, bytes_eq, codes}
+use Rattle.std.specs.Option.{option_map}
 use Rattle.std.specs.List.{slice_get}
 use Rattle.simplecss_selector.specs.KeyBits.{Covers}
 use Rattle.cssq_tree.specs.declared.tree.entry.Entry.{Entry}
 use Rattle.cssq_tree.specs.declared.tree.Line.{Line}
+use Rattle.cssq_tree.specs.declared.tree.Values.{Values}
 use Rattle.cssq_tree.specs.declared.tree.TreeFault.{TreeFault}
 use Rattle.cssq_tree.specs.declared.tree.TreeFault.TheVariants.{BadDepth, EmptyName, NoEquals, RepeatedKey, Memory}
 use Rattle.cssq_tree.specs.TreeText.{Row, fields_of, fields_in, attribute_of, row_of, faults_of_line}
+use Rattle.cssq_tree.specs.Nodes.{value_in}
 use Rattle.cssq_tree.specs.ParentsAndSiblings.{parent_place, previous_place}
 
--- what contracts see of a line
+-- what a line says
 abbrev pub row : Entry → Row
 row e = record { depth = e.depth; name = e.name.now; attributes = map attribute_of (fields_in e.attributes) }
 
--- what contracts see of all lines
+-- what all lines say
 abbrev pub rows : List Line → List Row
 rows lines = map (λ l. row l.entry) lines
 
@@ -21,22 +24,33 @@ rows lines = map (λ l. row l.entry) lines
 abbrev pub depths : List Line → List ℕ
 depths lines = map (λ l. l.entry.depth) lines
 
--- the bits that a line keeps for its ancestors cover those of its parent's ancestors, and the
+-- the first value of a key, among earlier fields and one that follows
+abbrev pub value_after : Option (List ℕ) → List ℕ → List ℕ → List ℕ → Option (List ℕ)
+value_after (Some earlier) wanted key value = Some earlier
+value_after None wanted key value = if bytes_eq key wanted then Some value else None
+
+-- the values of `class` and `id` among the fields
+abbrev pub AreValues : List (List ℕ) → Values → Type 0
+AreValues fields v =
+    (option_map (λ text. text.now) v.class ≡ value_in (map attribute_of fields) (codes "class"))
+    × (option_map (λ text. text.now) v.id ≡ value_in (map attribute_of fields) (codes "id"))
+
+-- the bits that a line keeps of its ancestors cover those of its parent's ancestors, and the
 -- parent's own
 abbrev pub CoversParent : List Line → Line → Type 0
 CoversParent lines l = (parent : ℕ) → l.parent ≡ Some parent
     → (p : Line) × (slice_get lines parent ≡ Some p) × Covers l.above p.above × Covers l.above p.entry.bits
 
--- each line keeps the indices of its parent and of its previous sibling, and the bits of its
+-- each line keeps the places of its parent and of its previous sibling, and the bits of its
 -- ancestors
 abbrev pub AreLinked : List Line → Type 0
 AreLinked lines =
     (i : ℕ) (l : Line) → slice_get lines i ≡ Some l
     → (l.parent ≡ parent_place (depths lines) i) × (l.previous ≡ previous_place (depths lines) i) × CoversParent lines l
 
--- ---- what the reader of a line reports
+-- ---- what the reader of a line tells
 
--- the first of a line's faults, or out of memory at the line if it has none
+-- the first of a line's faults, or want of memory at the line where it has none
 abbrev pub IsToldOf : ℕ → List TreeFault → TreeFault → Type 0
 IsToldOf number faults (Memory line) = (line ≡ number) × (faults ≡ [])
 IsToldOf number faults (BadDepth line) = slice_get faults 0 ≡ Some (BadDepth line)
@@ -44,13 +58,13 @@ IsToldOf number faults (EmptyName line) = slice_get faults 0 ≡ Some (EmptyName
 IsToldOf number faults (NoEquals line) = slice_get faults 0 ≡ Some (NoEquals line)
 IsToldOf number faults (RepeatedKey line) = slice_get faults 0 ≡ Some (RepeatedKey line)
 
--- the line has no fault, and is read as this entry
+-- the line has no fault, and says this
 abbrev pub Says : ℕ → ℕ → List ℕ → Entry → Type 0
 Says number limit line e =
     (faults_of_line number limit (fields_of line) ≡ []) × (row_of (fields_of line) ≡ row e)
 
--- A line was appended to others: it keeps what the text says, at a depth that is allowed. The next
--- line's depth is at most one more.
+-- A line was added behind others: it keeps what the text says, at a depth that may stand there. The
+-- next line's depth is at most one more.
 pub record IsAdded (old : List Line) (limit : ℕ) (text : List ℕ) (new : List Line) (next : ℕ)
     : Type 0 where
   pub line : Line

@@ -1,9 +1,10 @@
 //! A tree of elements from its text.
 
-ghost use Rattle.std.specs.Prelude.{◌≡◌, ◌∷◌, ◌++◌, ◌+◌, ◌<◌, ◌≤◌, [], length, take, nat_le, map};
-ghost use Rattle.std.specs.Prelude.{IfSome, IfOk, IfErr, Ok, MatchOption, MatchResult, is_some};
-ghost use Rattle.std.specs.Prelude.{option_map};
-ghost use Rattle.std.specs.List.{list_all, slice_get};
+ghost use Rattle.std.specs.Prelude.{◌≡◌, ◌∷◌, ◌++◌, ◌+◌, ◌<◌, ◌≤◌, ◌==◌, [], length, take, nat_le, map};
+ghost use Rattle.std.specs.Prelude.{IfSome, IfOk, IfErr, Ok, MatchOption, MatchResult, is_some, Some};
+ghost use Rattle.std.specs.Prelude.{option_map, codes};
+ghost use Rattle.std.specs.List.{list_all, slice_get, position_or_len};
+ghost use Rattle.std.specs.Str.{IsCharBoundary};
 ghost use Rattle.std.specs.Char.{is_ascii_digit};
 ghost use Rattle.cssq_tree.specs.TreeText.{attribute_of, fields_in, fields_of, has_equals, key_of};
 ghost use Rattle.cssq_tree.specs.TreeText.{value_of, lines_of, is_depth, spelled_depth, has_key};
@@ -13,6 +14,7 @@ ghost use Rattle.cssq_tree.specs.ParentsAndSiblings.{depths_of, last_place, pare
 ghost use Rattle.cssq_tree.specs.Nodes.{spot, name_at, attribute_at, value_in, page_tree};
 ghost use Rattle.simplecss_selector.specs.KeyBits.{CoversAncestors};
 ghost use Rattle.cssq_tree.specs.Lines.{depths, AreLinked, IsToldOf, Says, IsAdded};
+ghost use Rattle.cssq_tree.specs.Lines.{value_after, AreValues};
 
 mod entry;
 
@@ -83,27 +85,54 @@ struct Line<'t> {
 /// How many attribute fields are compared in pairs.
 const FEW: usize = 16;
 
+/// How many bytes precede the first such byte. All of them do where there is none.
+#[inline(always)]
+fn count_before(bytes: &[u8], byte: u8) -> usize
+    ensures { result ≡ position_or_len (λ b. b == byte) bytes.now }
+{
+    bytes.iter().take_while(|b| **b != byte).count()
+}
+
+/// How many bytes of a text precede the first such byte. All of them do where there is none. Fields
+/// are short: a loop finds their ends sooner than `str::find`.
+#[inline(always)]
+fn len_before(text: &str, byte: u8) -> usize
+    requires { byte < 128 }
+    ensures len { result ≡ position_or_len (λ b. b == byte) text.now }
+    ensures within { result ≤ length text.now }
+    ensures boundary { IsCharBoundary text.now result }
+    ensures after { result < length text.now → IsCharBoundary text.now (result + 1) }
+{
+    count_before(text.as_bytes(), byte)
+}
+
 /// The first line of a text that is not empty, and the text behind it.
+#[inline(always)]
 fn cut_line(text: &str) -> (&str, &str)
     requires { 0 < length text.now }
     ensures lines { lines_of text.now ≡ result.0.now ∷ lines_of result.1.now }
     ensures shorter { length result.1.now < length text.now }
 {
-    match text.split_once('\n') {
-        Some((line, others)) => (line, others),
-        None => (text, ""),
+    let len = len_before(text, b'\n');
+    if len < text.len() {
+        (&text[..len], &text[len + 1..])
+    } else {
+        (text, "")
     }
 }
 
 /// The first field of a text, and the text of the others.
+#[inline(always)]
 fn cut_field(text: &str) -> (&str, Option<&str>)
     ensures fields { fields_of text.now ≡ result.0.now ∷ fields_in result.1 }
     ensures within { length result.0.now ≤ length text.now }
     ensures shorter { IfSome result.1 (λ others. length others.now < length text.now) }
 {
-    match text.split_once('\t') {
-        Some((field, others)) => (field, Some(others)),
-        None => (text, None),
+    let len = len_before(text, b'\t');
+    if len < text.len() {
+        (&text[..len], Some(&text[len + 1..]))
+    } else {
+        (text, None)
     }
 }
 
@@ -161,12 +190,18 @@ fn has_key(fields: Option<&str>, count: usize, key: &str) -> bool
 }
 
 /// The key and the value of a field, where it has a `=`.
+#[inline(always)]
 fn cut_attribute(field: &str) -> Option<(&str, &str)>
     ensures found { is_some result ≡ has_equals field.now }
     ensures key { IfSome result (λ a. a.0.now ≡ key_of field.now) }
     ensures value { IfSome result (λ a. a.1.now ≡ value_of field.now) }
 {
-    field.split_once('=')
+    let len = len_before(field, b'=');
+    if len < field.len() {
+        Some((&field[..len], &field[len + 1..]))
+    } else {
+        None
+    }
 }
 
 /// What stands before the first `=`, and what stands behind it.
@@ -174,34 +209,73 @@ fn attribute_of(field: &str) -> (&str, &str)
     ensures key { result.0.now ≡ key_of field.now }
     ensures value { result.1.now ≡ value_of field.now }
 {
-    match field.split_once('=') {
-        Some((key, value)) => (key, value),
-        None => (field, ""),
+    cut_attribute(field).unwrap_or((field, ""))
+}
+
+/// The values of the attributes `class` and `id`, which are asked most.
+#[derive(Clone, Copy, Debug)]
+pub(crate) struct Values<'t> {
+    /// The value of the attribute `class`.
+    class: Option<&'t str>,
+    /// The value of the attribute `id`.
+    id: Option<&'t str>,
+}
+
+impl<'t> Values<'t> {
+    /// These values with that of an attribute that follows. The first value of a key counts.
+    #[inline(always)]
+    fn with(self, key: &str, value: &'t str) -> Values<'t>
+        ensures class { option_map (λ text. text.now) result.class
+            ≡ value_after (option_map (λ text. text.now) self.entry.class) (codes "class") key.now
+            value.now }
+        ensures id { option_map (λ text. text.now) result.id
+            ≡ value_after (option_map (λ text. text.now) self.entry.id) (codes "id") key.now
+            value.now }
+    {
+        match key {
+            "class" => Values {
+                class: Some(self.class.unwrap_or(value)),
+                id: self.id,
+            },
+            "id" => Values {
+                class: self.class,
+                id: Some(self.id.unwrap_or(value)),
+            },
+            _ => self,
+        }
     }
 }
 
-/// The first fault of the attribute fields of a line, where each key is compared with those before
-/// it.
-fn first_fault(number: usize, fields: Option<&str>) -> Option<TreeFault>
-    ensures { result ≡ slice_get (field_faults number (fields_in fields.entry)) 0 }
+/// Reads the attribute fields of a line, and compares each key with those before it.
+fn read_in_pairs(number: usize, fields: Option<&str>) -> Result<Values<'_>, TreeFault>
+    ensures sound { IfOk result (λ values. (field_faults number (fields_in fields.entry) ≡ [])
+        × AreValues (fields_in fields.entry) values) }
+    ensures fault { IfErr result
+        (λ fault. Some fault ≡ slice_get (field_faults number (fields_in fields.entry)) 0) }
 {
+    let mut values = Values {
+        class: None,
+        id: None,
+    };
     let mut rest = fields;
     let mut count = 0;
     while let Some(text) = rest {
         let (field, others) = cut_field(text);
-        let Some((key, _)) = cut_attribute(field) else {
-            return Some(TreeFault::NoEquals(number));
+        let Some((key, value)) = cut_attribute(field) else {
+            return Err(TreeFault::NoEquals(number));
         };
         if has_key(fields, count, key) {
-            return Some(TreeFault::RepeatedKey(number));
+            return Err(TreeFault::RepeatedKey(number));
         }
+        values = values.with(key, value);
         count += 1;
         rest = others;
     }
-    None
+    Ok(values)
 }
 
-/// The same with the keys in a set, whose time grows with the length of the line and little more.
+/// The first fault of the attribute fields of a line, with the keys in a set. Its time grows with
+/// the length of the line and little more.
 fn first_fault_by_set(
     alloc: Global,
     number: usize,
@@ -225,26 +299,42 @@ fn first_fault_by_set(
     Ok(None)
 }
 
+/// How many TABs the bytes have.
+#[inline(always)]
+fn tab_count(bytes: &[u8]) -> usize {
+    bytes.iter().filter(|b| **b == b'\t').count()
+}
+
 /// Whether there are too many fields for comparing their keys in pairs.
+#[inline(always)]
 fn are_many(fields: Option<&str>) -> bool {
     match fields {
-        Some(text) => text.matches('\t').nth(FEW - 1).is_some(),
+        Some(text) => text.len() > 2 * FEW && tab_count(text.as_bytes()) >= FEW,
         None => false,
     }
 }
 
-/// What is told of the attribute fields of a line. Where memory for a set of many keys is refused,
-/// the fields are compared in pairs, so that want of memory is told of a sound line alone.
-fn fault_of_fields(alloc: Global, number: usize, fields: Option<&str>) -> Option<TreeFault>
-    ensures { MatchOption result (field_faults number (fields_in fields.entry) ≡ [])
-        (λ fault. IsToldOf number (field_faults number (fields_in fields.entry)) fault) }
+/// Reads the attribute fields of a line. Where memory for a set of many keys is refused, the fields
+/// are compared in pairs, so that want of memory is told of a sound line alone.
+fn read_fields(alloc: Global, number: usize, fields: Option<&str>) -> Result<Values<'_>, TreeFault>
+    ensures sound { IfOk result (λ values. (field_faults number (fields_in fields.entry) ≡ [])
+        × AreValues (fields_in fields.entry) values) }
+    ensures fault { IfErr result (λ fault. IsToldOf number
+        (field_faults number (fields_in fields.entry)) fault) }
 {
     if !are_many(fields) {
-        return first_fault(number, fields);
+        return read_in_pairs(number, fields);
     }
     match first_fault_by_set(alloc, number, fields) {
-        Ok(fault) => fault,
-        Err(_) => Some(first_fault(number, fields).unwrap_or(TreeFault::Memory(number))),
+        Ok(Some(fault)) => Err(fault),
+        Ok(None) => Ok(Values {
+            class: value_at(fields, "class"),
+            id: value_at(fields, "id"),
+        }),
+        Err(_) => match read_in_pairs(number, fields) {
+            Ok(_) => Err(TreeFault::Memory(number)),
+            Err(fault) => Err(fault),
+        },
     }
 }
 
@@ -282,11 +372,7 @@ fn read_line(alloc: Global, number: usize, limit: usize, line: &str) -> Result<E
     if name.is_empty() {
         return Err(TreeFault::EmptyName(number));
     }
-    if let Some(fault) = fault_of_fields(alloc, number, attributes) {
-        return Err(fault);
-    }
-    let class = value_at(attributes, "class");
-    let id = value_at(attributes, "id");
+    let Values { class, id } = read_fields(alloc, number, attributes)?;
     Ok(Entry {
         depth,
         name,
