@@ -1,5 +1,5 @@
 -- The lines that a page keeps, and how each is tied to others.
-use Rattle.std.specs.Prelude.{◌≡◌, ℕ, ◌+◌, ◌≤◌, List, [], ◌∷◌, ◌++◌, length, map, Option, None, Some, if◌then◌else◌, bytes_eq, codes}
+use Rattle.std.specs.Prelude.{◌≡◌, ℕ, ◌+◌, ◌≤◌, List, [], ◌∷◌, ◌++◌, length, map, Bool, false, not, ◌||◌, Option, None, Some, if◌then◌else◌, bytes_eq, codes}
 use Rattle.std.specs.Option.{option_map}
 use Rattle.std.specs.List.{slice_get}
 use Rattle.simplecss_selector.specs.KeyBits.{Covers}
@@ -29,11 +29,17 @@ abbrev pub value_after : Option (List ℕ) → List ℕ → List ℕ → List �
 value_after (Some earlier) wanted key value = Some earlier
 value_after None wanted key value = if bytes_eq key wanted then Some value else None
 
--- the values of `class` and `id` among the fields
+-- the key is neither `class` nor `id`
+abbrev pub is_other : List ℕ → Bool
+is_other key = not (bytes_eq key (codes "class") || bytes_eq key (codes "id"))
+
+-- the values of `class` and `id` among the fields, and that there are others, if there are
 abbrev pub AreValues : List (List ℕ) → Values → Type 0
 AreValues fields v =
     (option_map (λ text. text.now) v.class ≡ value_in (map attribute_of fields) (codes "class"))
     × (option_map (λ text. text.now) v.id ≡ value_in (map attribute_of fields) (codes "id"))
+    × ((key : List ℕ) → v.others ≡ false → (key ≡ codes "class" → ⊥) → (key ≡ codes "id" → ⊥)
+    → value_in (map attribute_of fields) key ≡ None)
 
 -- the bits that a line keeps of its ancestors cover those of its parent's ancestors, and the
 -- parent's own

@@ -1,6 +1,6 @@
 //! A tree of elements from its text.
 
-ghost use Rattle.std.specs.Prelude.{◌≡◌, ◌∷◌, ◌++◌, ◌+◌, ◌<◌, ◌≤◌, ◌==◌, [], length, take, nat_le, map};
+ghost use Rattle.std.specs.Prelude.{◌≡◌, ◌∷◌, ◌++◌, ◌+◌, ◌<◌, ◌≤◌, ◌==◌, ◌||◌, [], length, take, nat_le, map};
 ghost use Rattle.std.specs.Prelude.{IfSome, IfOk, IfErr, Ok, MatchOption, MatchResult, is_some, Some};
 ghost use Rattle.std.specs.Prelude.{option_map, codes};
 ghost use Rattle.std.specs.List.{list_all, slice_get, position_or_len};
@@ -14,7 +14,7 @@ ghost use Rattle.cssq_tree.specs.ParentsAndSiblings.{depths_of, last_place, pare
 ghost use Rattle.cssq_tree.specs.Nodes.{spot, name_at, attribute_at, value_in, page_tree};
 ghost use Rattle.simplecss_selector.specs.KeyBits.{CoversAncestors};
 ghost use Rattle.cssq_tree.specs.Lines.{depths, AreLinked, IsToldOf, Says, IsAdded};
-ghost use Rattle.cssq_tree.specs.Lines.{value_after, AreValues};
+ghost use Rattle.cssq_tree.specs.Lines.{is_other, value_after, AreValues};
 
 mod entry;
 
@@ -212,13 +212,16 @@ fn attribute_of(field: &str) -> (&str, &str)
     cut_attribute(field).unwrap_or((field, ""))
 }
 
-/// The values of the attributes `class` and `id`, which are asked most.
+/// The values of the attributes `class` and `id`, which are asked most, and whether there are others.
 #[derive(Clone, Copy, Debug)]
 pub(crate) struct Values<'t> {
     /// The value of the attribute `class`.
     class: Option<&'t str>,
     /// The value of the attribute `id`.
     id: Option<&'t str>,
+    /// Whether there is an attribute that is neither of them. Where there is none, no key but these
+    /// is looked for.
+    others: bool,
 }
 
 impl<'t> Values<'t> {
@@ -231,17 +234,24 @@ impl<'t> Values<'t> {
         ensures id { option_map (λ text. text.now) result.id
             ≡ value_after (option_map (λ text. text.now) self.entry.id) (codes "id") key.now
             value.now }
+        ensures others { result.others ≡ (self.entry.others || is_other key.now) }
     {
         match key {
             "class" => Values {
                 class: Some(self.class.unwrap_or(value)),
                 id: self.id,
+                others: self.others,
             },
             "id" => Values {
                 class: self.class,
                 id: Some(self.id.unwrap_or(value)),
+                others: self.others,
             },
-            _ => self,
+            _ => Values {
+                class: self.class,
+                id: self.id,
+                others: true,
+            },
         }
     }
 }
@@ -256,6 +266,7 @@ fn read_in_pairs(number: usize, fields: Option<&str>) -> Result<Values<'_>, Tree
     let mut values = Values {
         class: None,
         id: None,
+        others: false,
     };
     let mut rest = fields;
     let mut count = 0;
@@ -330,6 +341,7 @@ fn read_fields(alloc: Global, number: usize, fields: Option<&str>) -> Result<Val
         Ok(None) => Ok(Values {
             class: value_at(fields, "class"),
             id: value_at(fields, "id"),
+            others: true,
         }),
         Err(_) => match read_in_pairs(number, fields) {
             Ok(_) => Err(TreeFault::Memory(number)),
@@ -372,13 +384,14 @@ fn read_line(alloc: Global, number: usize, limit: usize, line: &str) -> Result<E
     if name.is_empty() {
         return Err(TreeFault::EmptyName(number));
     }
-    let Values { class, id } = read_fields(alloc, number, attributes)?;
+    let Values { class, id, others } = read_fields(alloc, number, attributes)?;
     Ok(Entry {
         depth,
         name,
         attributes,
         class,
         id,
+        others,
         bits: element_bits(name, id, class),
     })
 }
@@ -561,7 +574,8 @@ impl<'t> Page<'t> {
         match key {
             "class" => entry.class,
             "id" => entry.id,
-            _ => value_at(entry.attributes, key),
+            _ if entry.others => value_at(entry.attributes, key),
+            _ => None,
         }
     }
 }

@@ -1,5 +1,5 @@
 //! What a line says.
-ghost use Rattle.std.specs.Prelude.{◌≡◌, map, codes};
+ghost use Rattle.std.specs.Prelude.{◌≡◌, ℕ, List, None, false, map, codes};
 ghost use Rattle.std.specs.Option.{option_map};
 ghost use Rattle.simplecss_selector.specs.Keys.{Told};
 ghost use Rattle.simplecss_selector.specs.KeyBits.{CoversTold};
@@ -19,12 +19,17 @@ pub(crate) struct Entry<'t> {
     pub(crate) class: Option<&'t str>,
     /// The value of the attribute `id`.
     pub(crate) id: Option<&'t str>,
+    /// Whether there is an attribute that is neither of them.
+    pub(crate) others: bool,
     /// The bits of its keys (`simplecss_selector::element_bits`).
     pub(crate) bits: u64,
     ghost class_kept: { option_map (λ value. value.now) class
         ≡ value_in (map attribute_of (fields_in attributes)) (codes "class") },
     ghost id_kept: { option_map (λ value. value.now) id
         ≡ value_in (map attribute_of (fields_in attributes)) (codes "id") },
+    ghost none_other: { (key : List ℕ) → others ≡ false
+        → (key ≡ codes "class" → ⊥) → (key ≡ codes "id" → ⊥)
+        → value_in (map attribute_of (fields_in attributes)) key ≡ None },
     ghost bits_kept: { (told : Told) → told.name ≡ name.now
         → told.id ≡ option_map (λ value. value.now) id
         → told.class ≡ option_map (λ value. value.now) class → CoversTold bits told },

@@ -10,7 +10,7 @@ pub returns-in-Ok-Some-clause-fault : goal.returns-in-Ok-Some-clause-fault
 returns-in-Ok-Some-clause-fault c = fields_told c.args.number (fields_in c.args.fields) c.in-Ok-Some.fault (sym c.in-Ok-Some.field-0-is ∙ c.in-Ok-Some.ensures)
 
 pub returns-in-Ok-None-clause-sound : goal.returns-in-Ok-None-clause-sound
-returns-in-Ok-None-clause-sound c = (no_first _ (sym c.in-Ok-None.field-0-is ∙ c.in-Ok-None.ensures), (c.value_at.ensures, c.value_at-in-Ok-None.ensures))
+returns-in-Ok-None-clause-sound c = (no_first _ (sym c.in-Ok-None.field-0-is ∙ c.in-Ok-None.ensures), (c.value_at.ensures, c.value_at-in-Ok-None.ensures, λ key only class id. absurd (cc)))
 
 pub returns-in-Err-read_in_pairs-clause-fault : goal.returns-in-Err-read_in_pairs-clause-fault
 returns-in-Err-read_in_pairs-clause-fault c = fields_told c.args.number (fields_in c.args.fields) c.in-Err-read_in_pairs.fault c.in-Err-read_in_pairs.ensures.fault

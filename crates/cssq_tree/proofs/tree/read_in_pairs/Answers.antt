@@ -2,7 +2,7 @@ use Rattle.std.proofs.Common.{take, sym, ap, ◌∙◌, arith}
 use Rattle.std.specs.Prelude.{codes}
 use Rattle.cssq_tree.specs.TreeText.{fields_in, has_key}
 use Rattle.cssq_tree.proofs.Fields.{counted_none, counted_more, repeated_at, left, left_less, fields_told}
-use Rattle.cssq_tree.proofs.FirstValues.{first_none, first_more, first_all}
+use Rattle.cssq_tree.proofs.FirstValues.{first_none, first_more, others_none, others_more}
 use Rattle.cssq_tree.proofs.tree.read_in_pairs.Goals as goal
 
 pub loop-rest-init : goal.loop-rest-init
@@ -11,6 +11,7 @@ loop-rest-init c = record {
   few = omega arith;
   class = first_none (codes "class") (fields_in c.args.fields);
   id = first_none (codes "id") (fields_in c.args.fields);
+  others = others_none (fields_in c.args.fields);
 }
 
 pub loop-rest-preserved : goal.loop-rest-preserved
@@ -24,6 +25,7 @@ loop-rest-preserved c =
       few = omega (arith, c.loop-rest.invariant.few, ap left c.in-Some.is, left_less c.in-Some.text c.cut_field.result.1 c.cut_field.ensures.shorter);
       class = first_more c.loop-rest.invariant.class field others is c.in-Some-cut_attribute.key.now c.in-Some-cut_attribute.value.now c.in-Some-cut_attribute.ensures.key c.in-Some-cut_attribute.ensures.value _ c.with-values.ensures.class;
       id = first_more c.loop-rest.invariant.id field others is c.in-Some-cut_attribute.key.now c.in-Some-cut_attribute.value.now c.in-Some-cut_attribute.ensures.key c.in-Some-cut_attribute.ensures.value _ c.with-values.ensures.id;
+      others = others_more c.loop-rest.invariant.others field others is c.in-Some-cut_attribute.key.now c.in-Some-cut_attribute.ensures.key _ c.with-values.ensures.others;
     }
 
 pub returns-then-has_key-clause-fault : goal.returns-then-has_key-clause-fault

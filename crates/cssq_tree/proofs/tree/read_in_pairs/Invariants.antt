@@ -3,7 +3,7 @@ use Rattle.std.specs.Option.{option_map}
 use Rattle.std.specs.Prelude.{codes}
 use Rattle.cssq_tree.specs.TreeText.{fields_in}
 use Rattle.cssq_tree.proofs.Fields.{Counted, left}
-use Rattle.cssq_tree.proofs.FirstValues.{IsFirstValue}
+use Rattle.cssq_tree.proofs.FirstValues.{IsFirstValue, OthersAre}
 use Rattle.cssq_tree.proofs.tree.read_in_pairs.Given as goal
 
 abbrev pub invariant-loop-rest : goal.invariant-loop-rest
@@ -12,6 +12,7 @@ invariant-loop-rest l = record {
   few : l.count + left l.rest ≤ left l.fields;
   class : IsFirstValue (codes "class") (fields_in l.fields) (fields_in l.rest) (option_map (λ text. text.now) l.values.class);
   id : IsFirstValue (codes "id") (fields_in l.fields) (fields_in l.rest) (option_map (λ text. text.now) l.values.id);
+  others : OthersAre (fields_in l.fields) (fields_in l.rest) l.values.others;
 }
 
 abbrev pub decreases-loop-rest : goal.decreases-loop-rest
