@@ -13,36 +13,36 @@ use Rattle.cssq_tree.specs.declared.tree.Line.{Line}
 use Rattle.cssq_tree.specs.ElementLaws.{keys_told}
 use Rattle.cssq_tree.specs.TreeText.{Row}
 use Rattle.cssq_tree.specs.ParentsAndSiblings.{depths_of, parent_place}
-use Rattle.cssq_tree.specs.Lines.{rows, AreLinked}
+use Rattle.cssq_tree.specs.Lines.{rows, AreLinked, CoversElement}
 use Rattle.cssq_tree.specs.Nodes.{Spot, spot, page_tree, parent_of, told_of}
 use Rattle.cssq_tree.proofs.Attributes.{got_line, name_of_line, attribute_of_line, depths_rows}
 
 module _ (lines : List Line) (page : List Row) (view : rows lines ≡ page) (linked : AreLinked lines) where
-  -- the bits of a line cover the keys of its element
-  own_covered : (place : ℕ) (l : Line) → slice_get lines place ≡ Some l → (key : Key) → HasKey page_tree (spot page place) key → Covers l.entry.bits (key_bits key)
-  own_covered place l is key has =
-      l.entry.bits_kept (told_of (spot page place)) (sym (name_of_line lines page place l view is))
+  -- bits that cover the keys of a line's element
+  own_covered : (place : ℕ) (l : Line) → slice_get lines place ≡ Some l → (bits : ℕ) → CoversElement bits l.entry → (key : Key) → HasKey page_tree (spot page place) key → Covers bits (key_bits key)
+  own_covered place l is bits covers key has =
+      covers (told_of (spot page place)) (sym (name_of_line lines page place l view is))
       (attribute_of_line lines page place l view is (codes "id") ∙ sym l.entry.id_kept)
       (attribute_of_line lines page place l view is (codes "class") ∙ sym l.entry.class_kept)
       key (keys_told (spot page place) key has)
 
   -- a parent has a line
   parent_line : (place : ℕ) (l : Line) → slice_get lines place ≡ Some l → (a : Spot) → parent_of (spot page place) ≡ Some a
-      → (j : ℕ) × (p : Line) × (a ≡ spot page j) × (slice_get lines j ≡ Some p) × Covers l.above p.above × Covers l.above p.entry.bits
+      → (j : ℕ) × (p : Line) × (a ≡ spot page j) × (slice_get lines j ≡ Some p) × Covers l.above p.above × CoversElement l.above p.entry
   parent_line place l is a e = at l.parent refl (ap (option_map (spot page)) same ∙ e)
     where
       same : l.parent ≡ parent_place (depths_of page) place
       same = (linked place l is).0 ∙ ap (λ ds. parent_place ds place) (sym (depths_rows lines) ∙ ap depths_of view)
 
       at : (r : Option ℕ) → l.parent ≡ r → option_map (spot page) r ≡ Some a
-          → (j : ℕ) × (p : Line) × (a ≡ spot page j) × (slice_get lines j ≡ Some p) × Covers l.above p.above × Covers l.above p.entry.bits
+          → (j : ℕ) × (p : Line) × (a ≡ spot page j) × (slice_get lines j ≡ Some p) × Covers l.above p.above × CoversElement l.above p.entry
       at None f h = absurd (cc)
       at (Some j) f h = let up = (linked place l is).2 j f in let same_spot : a ≡ spot page j = cc in (j, up.0, same_spot, up.1, up.2, up.3)
 
   ancestors_covered : (place : ℕ) (l : Line) → slice_get lines place ≡ Some l → (a n : Spot) → n ≡ spot page place → (key : Key) → IsAncestor page_tree a n → HasKey page_tree a key → Covers l.above (key_bits key)
   ancestors_covered place l is a n same key (is_parent e) has =
       let up = parent_line place l is a (sym (ap parent_of same) ∙ e) in
-      covers_more l.above up.1.entry.bits (key_bits key) up.5 (own_covered up.0 up.1 up.3 key (subst (λ x. HasKey page_tree x key) up.2 has))
+      own_covered up.0 up.1 up.3 l.above up.5 key (subst (λ x. HasKey page_tree x key) up.2 has)
   ancestors_covered place l is a n same key (is_further {p = p} e h) has =
       let up = parent_line place l is p (sym (ap parent_of same) ∙ e) in
       covers_more l.above up.1.above (key_bits key) up.4 (ancestors_covered up.0 up.1 up.3 a p up.2 key h has)

@@ -7,11 +7,12 @@ use Rattle.std.proofs.lemmas.Bool.{cases_lt}
 use Rattle.std.proofs.lemmas.List.{length-map, map-append}
 use Rattle.std.proofs.lemmas.Option.{slice_get_within, slice_get-get_or}
 use Rattle.std.specs.Int.Bits.{bit_or}
-use Rattle.simplecss_selector.proofs.KeyBitLemmas.{covers_left, covers_right}
+use Rattle.simplecss_selector.proofs.KeyBitLemmas.{covers_left, covers_right, covers_more}
+use Rattle.simplecss_selector.specs.KeyBits.{key_bits}
 use Rattle.cssq_tree.specs.declared.tree.entry.Entry.{Entry}
 use Rattle.cssq_tree.specs.declared.tree.Line.{Line}
 use Rattle.cssq_tree.specs.ParentsAndSiblings.{last_place, parent_place, previous_place}
-use Rattle.cssq_tree.specs.Lines.{depths, CoversParent, AreLinked}
+use Rattle.cssq_tree.specs.Lines.{depths, CoversElement, CoversParent, AreLinked}
 use Rattle.cssq_tree.proofs.Linked.{depth_at}
 use Rattle.cssq_tree.specs.Siblings.{equal_at, parent_old, parent_new, previous_old, previous_new, none_near, lesser_near, equal_near}
 
@@ -75,14 +76,19 @@ link_none lines e linked is =
     let near = none_near (depths lines) e.depth is in
     joined lines (record { entry = e; parent = None; previous = None; above = 0 }) linked (record { parent = near.0; previous = near.1; above = λ parent h. absurd (cc) })
 
-pub link_lesser : (lines : List Line) (e : Entry) (i : ℕ) (d : Line) → AreLinked lines → i < length lines → Some i ≡ last_place (λ x. nat_le x e.depth) (depths lines) → ((get_or lines i d).entry.depth ≡ e.depth → ⊥)
-    → AreLinked (lines ++ record { entry = e; parent = Some i; previous = None; above = bit_or (get_or lines i d).above (get_or lines i d).entry.bits } ∷ [])
-link_lesser lines e i d linked within is ne =
+-- the bits of two sets cover what one of them does
+joined_cover : (above bits : ℕ) (e : Entry) → CoversElement bits e → CoversElement (bit_or above bits) e
+joined_cover above bits e covers told name id class key has =
+    covers_more (bit_or above bits) bits (key_bits key) (covers_right above bits) (covers told name id class key has)
+
+pub link_lesser : (lines : List Line) (e : Entry) (i : ℕ) (d : Line) (bits : ℕ) → AreLinked lines → i < length lines → Some i ≡ last_place (λ x. nat_le x e.depth) (depths lines) → ((get_or lines i d).entry.depth ≡ e.depth → ⊥) → CoversElement bits (get_or lines i d).entry
+    → AreLinked (lines ++ record { entry = e; parent = Some i; previous = None; above = bit_or (get_or lines i d).above bits } ∷ [])
+link_lesser lines e i d bits linked within is ne covers =
     let near = lesser_near (depths lines) e.depth i is (λ same. ne (sym (depth_at lines i d within) ∙ same)) in
-    joined lines (record { entry = e; parent = Some i; previous = None; above = bit_or (get_or lines i d).above (get_or lines i d).entry.bits }) linked (record {
+    joined lines (record { entry = e; parent = Some i; previous = None; above = bit_or (get_or lines i d).above bits }) linked (record {
       parent = near.0;
       previous = near.1;
-      above = λ parent h. let same : i ≡ parent = cc in (get_or lines i d, subst (λ k. slice_get lines k ≡ Some (get_or lines i d)) same (slice_get-get_or lines i d within), covers_left (get_or lines i d).above (get_or lines i d).entry.bits, covers_right (get_or lines i d).above (get_or lines i d).entry.bits);
+      above = λ parent h. let same : i ≡ parent = cc in (get_or lines i d, subst (λ k. slice_get lines k ≡ Some (get_or lines i d)) same (slice_get-get_or lines i d within), covers_left (get_or lines i d).above bits, joined_cover (get_or lines i d).above bits (get_or lines i d).entry covers);
     })
 
 pub link_equal : (lines : List Line) (e : Entry) (i : ℕ) (d : Line) → AreLinked lines → i < length lines → Some i ≡ last_place (λ x. nat_le x e.depth) (depths lines) → (get_or lines i d).entry.depth ≡ e.depth

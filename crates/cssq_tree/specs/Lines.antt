@@ -2,7 +2,8 @@
 use Rattle.std.specs.Prelude.{◌≡◌, ℕ, ◌+◌, ◌≤◌, List, [], ◌∷◌, ◌++◌, length, map, Bool, false, not, ◌||◌, Option, None, Some, if◌then◌else◌, bytes_eq, codes}
 use Rattle.std.specs.Option.{option_map}
 use Rattle.std.specs.List.{slice_get}
-use Rattle.simplecss_selector.specs.KeyBits.{Covers}
+use Rattle.simplecss_selector.specs.KeyBits.{Covers, CoversTold}
+use Rattle.simplecss_selector.specs.Keys.{Told}
 use Rattle.cssq_tree.specs.declared.tree.entry.Entry.{Entry}
 use Rattle.cssq_tree.specs.declared.tree.Line.{Line}
 use Rattle.cssq_tree.specs.declared.tree.Values.{Values}
@@ -41,11 +42,17 @@ AreValues fields v =
     × ((key : List ℕ) → v.others ≡ false → (key ≡ codes "class" → ⊥) → (key ≡ codes "id" → ⊥)
     → value_in (map attribute_of fields) key ≡ None)
 
--- the bits that a line keeps of its ancestors cover those of its parent's ancestors, and the
--- parent's own
+-- the bits cover the keys of the element of an entry
+abbrev pub CoversElement : ℕ → Entry → Type 0
+CoversElement bits e =
+    (told : Told) → told.name ≡ e.name.now → told.id ≡ option_map (λ text. text.now) e.id
+    → told.class ≡ option_map (λ text. text.now) e.class → CoversTold bits told
+
+-- the bits that a line keeps of its ancestors cover those of its parent's ancestors, and the keys of
+-- the parent
 abbrev pub CoversParent : List Line → Line → Type 0
 CoversParent lines l = (parent : ℕ) → l.parent ≡ Some parent
-    → (p : Line) × (slice_get lines parent ≡ Some p) × Covers l.above p.above × Covers l.above p.entry.bits
+    → (p : Line) × (slice_get lines parent ≡ Some p) × Covers l.above p.above × CoversElement l.above p.entry
 
 -- each line keeps the places of its parent and of its previous sibling, and the bits of its
 -- ancestors

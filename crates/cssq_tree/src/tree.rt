@@ -19,7 +19,7 @@ ghost use Rattle.cssq_tree.specs.Lines.{is_other, value_after, AreValues};
 mod entry;
 
 use entry::Entry;
-use simplecss_selector::{AttributeOperator, Element, Keyed, PseudoClass, element_bits};
+use simplecss_selector::{AttributeOperator, Element, Keyed, PseudoClass};
 use std::alloc::{AllocError, Global};
 use std::collections::BTreeSet;
 use std::marker::Model;
@@ -316,11 +316,12 @@ fn tab_count(bytes: &[u8]) -> usize {
     bytes.iter().filter(|b| **b == b'\t').count()
 }
 
-/// Whether there are too many fields for comparing their keys in pairs.
+/// Whether there are too many fields for comparing their keys in pairs. A text that is shorter than
+/// three bytes for each has fewer of them, or a key twice.
 #[inline(always)]
 fn are_many(fields: Option<&str>) -> bool {
     match fields {
-        Some(text) => text.len() > 2 * FEW && tab_count(text.as_bytes()) >= FEW,
+        Some(text) => text.len() >= 3 * FEW && tab_count(text.as_bytes()) >= FEW,
         None => false,
     }
 }
@@ -392,7 +393,6 @@ fn read_line(alloc: Global, number: usize, limit: usize, line: &str) -> Result<E
         class,
         id,
         others,
-        bits: element_bits(name, id, class),
     })
 }
 
@@ -440,7 +440,7 @@ fn link<'t>(lines: &[Line<'t>], entry: Entry<'t>) -> Line<'t>
                     entry,
                     parent: Some(i),
                     previous: None,
-                    above: near.above | near.entry.bits,
+                    above: near.above | near.entry.bits(),
                 }
             }
         }

@@ -1,10 +1,10 @@
 //! What a line says.
 ghost use Rattle.std.specs.Prelude.{◌≡◌, ℕ, List, None, false, map, codes};
 ghost use Rattle.std.specs.Option.{option_map};
-ghost use Rattle.simplecss_selector.specs.Keys.{Told};
-ghost use Rattle.simplecss_selector.specs.KeyBits.{CoversTold};
 ghost use Rattle.cssq_tree.specs.TreeText.{attribute_of, fields_in};
 ghost use Rattle.cssq_tree.specs.Nodes.{value_in};
+
+use simplecss_selector::element_bits;
 
 /// What a line says.
 #[derive(Clone, Copy, Debug)]
@@ -21,8 +21,6 @@ pub(crate) struct Entry<'t> {
     pub(crate) id: Option<&'t str>,
     /// Whether there is an attribute that is neither of them.
     pub(crate) others: bool,
-    /// The bits of its keys (`simplecss_selector::element_bits`).
-    pub(crate) bits: u64,
     ghost class_kept: { option_map (λ value. value.now) class
         ≡ value_in (map attribute_of (fields_in attributes)) (codes "class") },
     ghost id_kept: { option_map (λ value. value.now) id
@@ -30,7 +28,16 @@ pub(crate) struct Entry<'t> {
     ghost none_other: { (key : List ℕ) → others ≡ false
         → (key ≡ codes "class" → ⊥) → (key ≡ codes "id" → ⊥)
         → value_in (map attribute_of (fields_in attributes)) key ≡ None },
-    ghost bits_kept: { (told : Told) → told.name ≡ name.now
-        → told.id ≡ option_map (λ value. value.now) id
-        → told.class ≡ option_map (λ value. value.now) class → CoversTold bits told },
+}
+
+impl Entry<'_> {
+    ghost use Rattle.cssq_tree.specs.Lines.{CoversElement};
+
+    /// The bits of its keys.
+    #[inline(always)]
+    pub(crate) fn bits(&self) -> u64
+        ensures { CoversElement result self.now }
+    {
+        element_bits(self.name, self.id, self.class)
+    }
 }

@@ -1,6 +1,6 @@
 use Rattle.std.proofs.Common.{◌≡◌, ◌++◌, ◌∷◌, [], None, Some, sym, subst}
 use Rattle.std.specs.Int.Bits.{bit_or}
-use Rattle.cssq_tree.specs.Lines.{AreLinked}
+use Rattle.cssq_tree.specs.Lines.{AreLinked, CoversElement}
 use Rattle.cssq_tree.proofs.Joins.{link_none, link_lesser, link_equal}
 use Rattle.cssq_tree.proofs.tree.link.Goals as goal
 
@@ -16,5 +16,6 @@ returns-then-near-entry-clause-linked c =
 pub returns-else-near-entry-clause-linked : goal.returns-else-near-entry-clause-linked
 returns-else-near-entry-clause-linked c =
     let is = c.index-lines-i.is in
-    subst (λ m. AreLinked (c.args.lines.now ++ record { entry = c.args.entry; parent = Some c.in-Some.i; previous = None; above = bit_or m.above m.entry.bits } ∷ [])) (sym is)
-    (link_lesser c.args.lines.now c.args.entry c.in-Some.i c.index-lines-i.result c.requires c.in-Some.ensures.within c.in-Some.ensures.value (subst (λ m. m.entry.depth ≡ c.args.entry.depth → ⊥) is c.if-near-entry.false))
+    let bits = c.bits.result in
+    subst (λ m. AreLinked (c.args.lines.now ++ record { entry = c.args.entry; parent = Some c.in-Some.i; previous = None; above = bit_or m.above bits } ∷ [])) (sym is)
+    (link_lesser c.args.lines.now c.args.entry c.in-Some.i c.index-lines-i.result bits c.requires c.in-Some.ensures.within c.in-Some.ensures.value (subst (λ m. m.entry.depth ≡ c.args.entry.depth → ⊥) is c.if-near-entry.false) (subst (λ m. CoversElement bits m.entry) is c.bits.ensures))
