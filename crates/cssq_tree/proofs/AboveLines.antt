@@ -22,8 +22,8 @@ module _ (lines : List Line) (page : List Row) (view : rows lines ≡ page) (lin
   own_covered : (place : ℕ) (l : Line) → slice_get lines place ≡ Some l → (bits : ℕ) → CoversElement bits l.entry → (key : Key) → HasKey page_tree (spot page place) key → Covers bits (key_bits key)
   own_covered place l is bits covers key has =
       covers (told_of (spot page place)) (sym (name_of_line lines page place l view is))
-      (attribute_of_line lines page place l view is (codes "id") ∙ sym l.entry.id_kept)
-      (attribute_of_line lines page place l view is (codes "class") ∙ sym l.entry.class_kept)
+      (attribute_of_line lines page place l view is (codes "id"))
+      (attribute_of_line lines page place l view is (codes "class"))
       key (keys_told (spot page place) key has)
 
   -- a parent has a line

@@ -1,15 +1,16 @@
 -- The attribute with a key.
 -- Serves `Page::{parent, previous}` and the answers of `Node` (the value of a key).
-use Rattle.std.proofs.Common.{◌≡◌, ℕ, ◌+◌, ◌<◌, List, [], ◌∷◌, length, take, get_or, refl, sym, ap, ◌∙◌, subst, arith, None, Some, map, IfSome}
+use Rattle.std.proofs.Common.{◌≡◌, ℕ, ◌+◌, ◌<◌, List, [], ◌∷◌, length, take, get_or, refl, sym, ap, ◌∙◌, subst, arith, None, Some, IfSome}
 use Rattle.std.specs.List.{position_or_len, slice_get}
 use Rattle.std.proofs.lemmas.List.{take_all, drop_all, length-map}
 use Rattle.std.proofs.lemmas.Option.{slice_get-map, slice_get-get_or}
 use Rattle.cssq_tree.specs.declared.tree.Line.{Line}
 use Rattle.std.specs.Option.{option_map_or}
-use Rattle.cssq_tree.specs.TreeText.{fields_in, Row, is_equals, key_of, value_of, attribute_of}
+use Rattle.cssq_tree.specs.TreeText.{Row, is_equals, key_of, value_of}
 use Rattle.cssq_tree.specs.ParentsAndSiblings.{depths_of, parent_place, previous_place}
 use Rattle.cssq_tree.specs.Lines.{row, rows, depths, AreLinked}
 use Rattle.cssq_tree.specs.Nodes.{value_in, attribute_at, name_at}
+use Rattle.cssq_tree.specs.Spans.{name_in, attributes_in}
 use Rattle.cssq_tree.specs.Siblings.{parent_within, previous_within, within_longer}
 
 -- a field without a `=` is its key
@@ -28,10 +29,10 @@ module _ (lines : List Line) (page : List Row) (place : ℕ) (l : Line) (view : 
   row_of_line : slice_get page place ≡ Some (row l.entry)
   row_of_line = ap (λ p. slice_get p place) (sym view) ∙ slice_get-map (λ l. row l.entry) lines place ∙ ap (λ o. elim o [ None ↦ None | Some x ↦ Some (row x.entry) ]) is
 
-  pub attribute_of_line : (key : List ℕ) → attribute_at page place key ≡ value_in (map attribute_of (fields_in l.entry.attributes)) key
+  pub attribute_of_line : (key : List ℕ) → attribute_at page place key ≡ value_in (attributes_in l.entry.fields.now) key
   attribute_of_line key = ap (λ o. option_map_or (λ row. value_in row.attributes key) o None) row_of_line
 
-  pub name_of_line : l.entry.name.now ≡ name_at page place
+  pub name_of_line : name_in l.entry.fields.now ≡ name_at page place
   name_of_line = sym (ap (λ o. option_map_or (λ row. row.name) o []) row_of_line)
 
 module _ (lines : List Line) (page : List Row) (place : ℕ) (l : Line) (view : rows lines ≡ page) (within : place < length page) (is : l ≡ get_or lines place l) where
@@ -56,8 +57,8 @@ module _ (lines : List Line) (page : List Row) (place : ℕ) (l : Line) (view : 
   pub previous_in : AreLinked lines → IfSome l.previous (λ j. j < length page)
   previous_in linked = subst (λ r. IfSome r (λ j. j < length page)) (sym (previous_kept linked)) (within_longer (previous_place (depths_of page) place) place (length page) (omega arith) (previous_within (depths_of page) place))
 
-  pub attribute_first : (key : List ℕ) → attribute_at page place key ≡ value_in (map attribute_of (fields_in l.entry.attributes)) key
+  pub attribute_first : (key : List ℕ) → attribute_at page place key ≡ value_in (attributes_in l.entry.fields.now) key
   attribute_first = attribute_of_line lines page place l view got_line
 
-  pub name_kept : l.entry.name.now ≡ name_at page place
+  pub name_kept : name_in l.entry.fields.now ≡ name_at page place
   name_kept = name_of_line lines page place l view got_line

@@ -1,16 +1,18 @@
 -- A text cut at its first newline or TAB.
 -- Serves `tree::{cut_line, cut_field}` (lines and fields of a text).
-use Rattle.std.proofs.Common.{◌≡◌, ℕ, ◌+◌, ◌<◌, ◌≤◌, Bool, false, List, [], ◌∷◌, length, take, drop, get_or, refl, sym, ap, ◌∙◌, arith, eqb-true, ◌==◌}
+use Rattle.std.proofs.Common.{◌≡◌, ℕ, ◌+◌, ◌<◌, ◌≤◌, Bool, false, List, [], ◌∷◌, length, take, drop, get_or, refl, sym, ap, ◌∙◌, arith, eqb-true, ◌==◌, ⊎_elim}
 use Rattle.std.specs.Prelude.{not}
 use Rattle.std.specs.Str.{IsUtf8, IsCharBoundary}
 use Rattle.std.specs.List.{slice_split, slice_range, before_first, after_first, position_or_len}
-use Rattle.std.proofs.lemmas.List.{length-take, length-drop}
+use Rattle.std.proofs.lemmas.List.{length-take, length-drop, take_all, drop_all}
+use Rattle.std.proofs.lemmas.Bool.{cases_lt}
 use Rattle.std.proofs.lemmas.List.Splits.{slice_split_first, slice_split_none, length-slice_split}
 use Rattle.std.proofs.lemmas.List.Sums.{fails_before_first, passes_at_first, prefix_len-le-length}
 use Rattle.std.proofs.lemmas.Grind.{common_steps}
 use Rattle.std.proofs.lemmas.Str.{IsCharBoundary-after_ascii}
 use Rattle.std.proofs.lemmas.List.Elements.{All-from_get_or}
 use Rattle.cssq_tree.specs.TreeText.{is_newline, is_tab, without_empty_last, lines_of, fields_of}
+use Rattle.cssq_tree.specs.Spans.{name_in, attribute_text}
 
 -- what precedes the first such byte of a text
 module _ (text : List ℕ) (byte n : ℕ) (is : n ≡ position_or_len (λ b. b == byte) text) where
@@ -79,3 +81,32 @@ module _ (text field others : List ℕ) (cut : (field ≡ before_first is_tab te
 
 pub fields_whole : (text : List ℕ) → position_or_len is_tab text ≡ length text → fields_of text ≡ text ∷ []
 fields_whole text none = split_whole is_tab text none
+
+-- ---- the text from the name on, cut where the name ends
+
+module _ (text : List ℕ) (n : ℕ) (is : n ≡ position_or_len is_tab text) where
+  cut_fields : n < length text → fields_of text ≡ take n text ∷ fields_of (drop (n + 1) text)
+  cut_fields lt = field_cut text (take n text) (drop (n + 1) text) (ap (λ k. take k text) is, ap (λ k. drop (k + 1) text) is, omega (arith, is))
+
+  whole_fields : length text ≤ n → fields_of text ≡ text ∷ []
+  whole_fields le = fields_whole text (omega (arith, is, le, prefix_len-le-length (λ b. not (is_tab b)) text))
+
+  pub name_front : slice_range text 0 n ≡ name_in text
+  name_front =
+      range_front text n
+      ∙ ⊎_elim
+      (λ lt. sym (ap (λ fs. get_or fs 0 []) (cut_fields lt)))
+      (λ le. take_all n text le ∙ sym (ap (λ fs. get_or fs 0 []) (whole_fields le)))
+      (cases_lt n (length text))
+
+  pub text_after : drop (n + 1) text ≡ attribute_text text
+  text_after = ap (λ k. drop (k + 1) text) is
+
+  pub fields_after : n < length text → fields_of (drop (n + 1) text) ≡ drop 1 (fields_of text)
+  fields_after lt = sym (ap (drop 1) (cut_fields lt))
+
+  pub text_none : length text ≤ n → [] ≡ attribute_text text
+  text_none le = sym (drop_all (n + 1) text (omega (arith, le))) ∙ text_after
+
+  pub fields_none : length text ≤ n → [] ≡ drop 1 (fields_of text)
+  fields_none le = sym (ap (drop 1) (whole_fields le))

@@ -87,6 +87,14 @@ module _ {number : ℕ} {all rest : List (List ℕ)} {count : ℕ} (c : Counted 
   pub repeated_at : has_equals field ≡ true → has_key (take count all) (key_of field) ≡ true → Some (RepeatedKey number) ≡ slice_get (field_faults number all) 0
   repeated_at some there = repeated c.passed field others is some (ap (λ l. has_key l (key_of field)) (sym (front_is c)) ∙ there)
 
+  -- no fault, so no key twice
+  pub new_if_sound : has_equals field ≡ true → field_faults number all ≡ [] → has_key (take count all) (key_of field) ≡ false
+  new_if_sound some sound = by_answer (has_key (take count all) (key_of field)) refl
+    where
+      by_answer : (b : Bool) → has_key (take count all) (key_of field) ≡ b → b ≡ false
+      by_answer false e = refl
+      by_answer true e = let there : Some (RepeatedKey number) ≡ None = repeated_at some e ∙ ap (λ l. slice_get l 0) sound in absurd (cc)
+
   pub counted_more : has_equals field ≡ true → has_key (take count all) (key_of field) ≡ false → Counted number all others (count + 1)
   counted_more some new = record {
     before = c.before ++ field ∷ [];

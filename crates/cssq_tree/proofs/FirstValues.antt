@@ -1,11 +1,12 @@
 -- The first value of a key among fields that are read one after the other.
--- Serves `tree::read_in_pairs` (the values of `class` and `id`, and whether there are others).
-use Rattle.std.proofs.Common.{◌≡◌, ℕ, Bool, true, false, cond, List, [], ◌∷◌, refl, sym, ap, ◌∙◌, Option, None, Some, map, ◌⊎◌, inl, inr, ⊎_elim}
-use Rattle.std.specs.Prelude.{bytes_eq, codes, not, ◌||◌}
+-- Serves `tree::read_each` (the values of `class` and `id`, and whether there are others).
+use Rattle.std.proofs.Common.{◌≡◌, ℕ, zero, suc, ◌<◌, Bool, subst, arith, true, false, cond, List, [], ◌∷◌, refl, sym, ap, ◌∙◌, Option, None, Some, map, ◌⊎◌, inl, inr, ⊎_elim}
+use Rattle.std.specs.Prelude.{bytes_eq, codes, not, ◌||◌, is_some}
 use Rattle.std.proofs.lemmas.Slice.Eq.{bytes_eq-Decides}
 use Rattle.cssq_tree.specs.TreeText.{key_of, value_of, attribute_of}
 use Rattle.cssq_tree.specs.Nodes.{value_in}
-use Rattle.cssq_tree.specs.Lines.{value_after, is_other}
+use Rattle.cssq_tree.specs.Spans.{value_after, is_other, IsAt, IsSpanOf, IsNew, IsAfter}
+use Rattle.cssq_tree.specs.declared.tree.entry.Span.{Span}
 
 -- the earlier value, or else the later one
 abbrev pub or_later : Option (List ℕ) → Option (List ℕ) → Option (List ℕ)
@@ -85,3 +86,66 @@ others_more {all} {rest} {others} are field later is name name_is next next_is =
 
 pub others_all : {all rest : List (List ℕ)} {others : Bool} → OthersAre all rest others → rest ≡ [] → (key : List ℕ) → others ≡ false → (key ≡ codes "class" → ⊥) → (key ≡ codes "id" → ⊥) → value_in (map attribute_of all) key ≡ None
 others_all are empty key only class id = are.none key only class id ∙ ap (λ fs. value_in (map attribute_of fs) key) empty
+
+-- ---- where the values are
+
+fresh_span : (all : List ℕ) (old new : Span) (found value : Option (List ℕ)) (at len : ℕ) → IsSpanOf all old found → IsNew new at len → IsAt all at len value → IsSpanOf all new value
+fresh_span all old new found value at len span is here = record {
+  none = λ empty. absurd (omega (arith, is.there, empty));
+  some = λ there. ap is_some here.is;
+  kept = λ there near. subst (λ p. IsAt all p new.len value) (sym (is.near near).0) (subst (λ l. IsAt all at l value) (sym (is.near near).1) here);
+}
+
+zero_or : (n : ℕ) → (n ≡ 0) ⊎ (0 < n)
+zero_or zero = inl refl
+zero_or (suc n) = inr (omega arith)
+
+kept_span : (all : List ℕ) (old new : Span) (found : Option (List ℕ)) → IsSpanOf all old found → new ≡ old → IsSpanOf all new found
+kept_span all old new found span same = subst (λ s. IsSpanOf all s found) (sym same) span
+
+after_found : (found : Option (List ℕ)) (wanted key value : List ℕ) → is_some found ≡ true → found ≡ value_after found wanted key value
+after_found None wanted key value some = absurd (cc)
+after_found (Some v) wanted key value some = refl
+
+after_none : (found : Option (List ℕ)) (wanted key value : List ℕ) → found ≡ None → bytes_eq key wanted ≡ true → Some value ≡ value_after found wanted key value
+after_none None wanted key value none same = sym (ap (λ b. cond b (Some value) None) same)
+after_none (Some v) wanted key value none same = absurd (cc)
+
+after_other : (found : Option (List ℕ)) (wanted key value : List ℕ) → bytes_eq key wanted ≡ false → found ≡ value_after found wanted key value
+after_other None wanted key value apart = sym (ap (λ b. cond b (Some value) None) apart)
+after_other (Some v) wanted key value apart = refl
+
+module _ (all : List ℕ) (old new : Span) (found : Option (List ℕ)) (wanted key value : List ℕ) (at len : ℕ) (span : IsSpanOf all old found) (is : IsAfter old new wanted key at len) (here : IsAt all at len (Some value)) where
+  by_key : (b : Bool) → bytes_eq key wanted ≡ b → IsSpanOf all new (value_after found wanted key value)
+  by_key false e = subst (IsSpanOf all new) (after_other found wanted key value e) (kept_span all old new found span (is.other e))
+  by_key true e =
+      ⊎_elim
+      (λ empty. subst (IsSpanOf all new) (after_none found wanted key value (span.none empty) e) (fresh_span all old new found (Some value) at len span ((is.mine e).fresh empty) here))
+      (λ there. subst (IsSpanOf all new) (after_found found wanted key value (span.some there)) (kept_span all old new found span ((is.mine e).same there)))
+      (zero_or old.at)
+
+  pub span_more : IsSpanOf all new (value_after found wanted key value)
+  span_more = by_key (bytes_eq key wanted) refl
+
+-- the value of a key of fields that were read, and where it is
+pub record SpanSoFar (text key : List ℕ) (all rest : List (List ℕ)) (s : Span) : Type 0 where
+  pub found : Option (List ℕ)
+  pub first : IsFirstValue key all rest found
+  pub span : IsSpanOf text s found
+
+pub span_none : (text key : List ℕ) (all : List (List ℕ)) (s : Span) → s.at ≡ 0 → SpanSoFar text key all all s
+span_none text key all s empty = record {
+  found = None;
+  first = first_none key all;
+  span = record { none = λ _. refl; some = λ there. absurd (omega (arith, empty, there)); kept = λ there near. absurd (omega (arith, empty, there)) };
+}
+
+pub span_next : {text key : List ℕ} {all rest : List (List ℕ)} {s : Span} → SpanSoFar text key all rest s → (field : List ℕ) (others : List (List ℕ)) → rest ≡ field ∷ others → (name value : List ℕ) → name ≡ key_of field → value ≡ value_of field → (new : Span) (at len : ℕ) → IsAfter s new key name at len → IsAt text at len (Some value) → SpanSoFar text key all others new
+span_next {text} {key} {all} {rest} {s} so_far field others is name value name_is value_is new at len after_it here = record {
+  found = value_after so_far.found key name value;
+  first = first_more so_far.first field others is name value name_is value_is (value_after so_far.found key name value) refl;
+  span = span_more text s new so_far.found key name value at len so_far.span after_it here;
+}
+
+pub span_all : {text key : List ℕ} {all rest : List (List ℕ)} {s : Span} → SpanSoFar text key all rest s → rest ≡ [] → IsSpanOf text s (value_in (map attribute_of all) key)
+span_all {text} {key} {all} {rest} {s} so_far none = subst (IsSpanOf text s) (first_all so_far.first none) so_far.span

@@ -2,6 +2,7 @@ pub mod Cuts
 pub mod Depths
 pub mod Fields
 pub mod FirstValues
+pub mod ValuePlaces
 pub mod KeySets
 pub mod Linked
 pub mod Joins

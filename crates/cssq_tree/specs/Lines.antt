@@ -1,21 +1,20 @@
 -- The lines that a page keeps, and how each is tied to others.
-use Rattle.std.specs.Prelude.{◌≡◌, ℕ, ◌+◌, ◌≤◌, List, [], ◌∷◌, ◌++◌, length, map, Bool, false, not, ◌||◌, Option, None, Some, if◌then◌else◌, bytes_eq, codes}
-use Rattle.std.specs.Option.{option_map}
+use Rattle.std.specs.Prelude.{◌≡◌, ℕ, ◌+◌, ◌≤◌, List, [], ◌∷◌, ◌++◌, length, map, Some, codes}
 use Rattle.std.specs.List.{slice_get}
 use Rattle.simplecss_selector.specs.KeyBits.{Covers, CoversTold}
 use Rattle.simplecss_selector.specs.Keys.{Told}
 use Rattle.cssq_tree.specs.declared.tree.entry.Entry.{Entry}
 use Rattle.cssq_tree.specs.declared.tree.Line.{Line}
-use Rattle.cssq_tree.specs.declared.tree.Values.{Values}
 use Rattle.cssq_tree.specs.declared.tree.TreeFault.{TreeFault}
 use Rattle.cssq_tree.specs.declared.tree.TreeFault.TheVariants.{BadDepth, EmptyName, NoEquals, RepeatedKey, Memory}
-use Rattle.cssq_tree.specs.TreeText.{Row, fields_of, fields_in, attribute_of, row_of, faults_of_line}
+use Rattle.cssq_tree.specs.TreeText.{Row, fields_of, row_of, faults_of_line}
 use Rattle.cssq_tree.specs.Nodes.{value_in}
+use Rattle.cssq_tree.specs.Spans.{name_in, attributes_in}
 use Rattle.cssq_tree.specs.ParentsAndSiblings.{parent_place, previous_place}
 
 -- what a line says
 abbrev pub row : Entry → Row
-row e = record { depth = e.depth; name = e.name.now; attributes = map attribute_of (fields_in e.attributes) }
+row e = record { depth = e.depth; name = name_in e.fields.now; attributes = attributes_in e.fields.now }
 
 -- what all lines say
 abbrev pub rows : List Line → List Row
@@ -25,28 +24,12 @@ rows lines = map (λ l. row l.entry) lines
 abbrev pub depths : List Line → List ℕ
 depths lines = map (λ l. l.entry.depth) lines
 
--- the first value of a key, among earlier fields and one that follows
-abbrev pub value_after : Option (List ℕ) → List ℕ → List ℕ → List ℕ → Option (List ℕ)
-value_after (Some earlier) wanted key value = Some earlier
-value_after None wanted key value = if bytes_eq key wanted then Some value else None
-
--- the key is neither `class` nor `id`
-abbrev pub is_other : List ℕ → Bool
-is_other key = not (bytes_eq key (codes "class") || bytes_eq key (codes "id"))
-
--- the values of `class` and `id` among the fields, and that there are others, if there are
-abbrev pub AreValues : List (List ℕ) → Values → Type 0
-AreValues fields v =
-    (option_map (λ text. text.now) v.class ≡ value_in (map attribute_of fields) (codes "class"))
-    × (option_map (λ text. text.now) v.id ≡ value_in (map attribute_of fields) (codes "id"))
-    × ((key : List ℕ) → v.others ≡ false → (key ≡ codes "class" → ⊥) → (key ≡ codes "id" → ⊥)
-    → value_in (map attribute_of fields) key ≡ None)
-
 -- the bits cover the keys of the element of an entry
 abbrev pub CoversElement : ℕ → Entry → Type 0
 CoversElement bits e =
-    (told : Told) → told.name ≡ e.name.now → told.id ≡ option_map (λ text. text.now) e.id
-    → told.class ≡ option_map (λ text. text.now) e.class → CoversTold bits told
+    (told : Told) → told.name ≡ name_in e.fields.now
+    → told.id ≡ value_in (attributes_in e.fields.now) (codes "id")
+    → told.class ≡ value_in (attributes_in e.fields.now) (codes "class") → CoversTold bits told
 
 -- the bits that a line keeps of its ancestors cover those of its parent's ancestors, and the keys of
 -- the parent

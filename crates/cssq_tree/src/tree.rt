@@ -1,7 +1,7 @@
 //! A tree of elements from its text.
 
-ghost use Rattle.std.specs.Prelude.{◌≡◌, ◌∷◌, ◌++◌, ◌+◌, ◌<◌, ◌≤◌, ◌==◌, ◌||◌, [], length, take, nat_le, map};
-ghost use Rattle.std.specs.Prelude.{IfSome, IfOk, IfErr, Ok, MatchOption, MatchResult, is_some, Some};
+ghost use Rattle.std.specs.Prelude.{◌≡◌, ◌∷◌, ◌++◌, ◌+◌, ◌<◌, ◌≤◌, ◌==◌, [], length, take, nat_le, map};
+ghost use Rattle.std.specs.Prelude.{IfSome, IfOk, IfErr, Ok, MatchOption, MatchResult, is_some, Some, IsTrue};
 ghost use Rattle.std.specs.Prelude.{option_map, codes};
 ghost use Rattle.std.specs.List.{list_all, slice_get, position_or_len};
 ghost use Rattle.std.specs.Str.{IsCharBoundary};
@@ -14,11 +14,11 @@ ghost use Rattle.cssq_tree.specs.ParentsAndSiblings.{depths_of, last_place, pare
 ghost use Rattle.cssq_tree.specs.Nodes.{spot, name_at, attribute_at, value_in, page_tree};
 ghost use Rattle.simplecss_selector.specs.KeyBits.{CoversAncestors};
 ghost use Rattle.cssq_tree.specs.Lines.{depths, AreLinked, IsToldOf, Says, IsAdded};
-ghost use Rattle.cssq_tree.specs.Lines.{is_other, value_after, AreValues};
+ghost use Rattle.cssq_tree.specs.Spans.{AreValues, IsCut, text_in};
 
 mod entry;
 
-use entry::Entry;
+use entry::{Entry, Values};
 use simplecss_selector::{AttributeOperator, Element, Keyed, PseudoClass};
 use std::alloc::{AllocError, Global};
 use std::collections::BTreeSet;
@@ -127,6 +127,7 @@ fn cut_field(text: &str) -> (&str, Option<&str>)
     ensures fields { fields_of text.now ≡ result.0.now ∷ fields_in result.1 }
     ensures within { length result.0.now ≤ length text.now }
     ensures shorter { IfSome result.1 (λ others. length others.now < length text.now) }
+    ensures cut { IsCut text.now result.0.now result.1 }
 {
     let len = len_before(text, b'\t');
     if len < text.len() {
@@ -212,73 +213,28 @@ fn attribute_of(field: &str) -> (&str, &str)
     cut_attribute(field).unwrap_or((field, ""))
 }
 
-/// The values of the attributes `class` and `id`, which are asked most, and whether there are others.
-#[derive(Clone, Copy, Debug)]
-pub(crate) struct Values<'t> {
-    /// The value of the attribute `class`.
-    class: Option<&'t str>,
-    /// The value of the attribute `id`.
-    id: Option<&'t str>,
-    /// Whether there is an attribute that is neither of them. Where there is none, no key but these
-    /// is looked for.
-    others: bool,
-}
-
-impl<'t> Values<'t> {
-    /// These values with that of an attribute that follows. The first value of a key counts.
-    #[inline(always)]
-    fn with(self, key: &str, value: &'t str) -> Values<'t>
-        ensures class { option_map (λ text. text.now) result.class
-            ≡ value_after (option_map (λ text. text.now) self.entry.class) (codes "class") key.now
-            value.now }
-        ensures id { option_map (λ text. text.now) result.id
-            ≡ value_after (option_map (λ text. text.now) self.entry.id) (codes "id") key.now
-            value.now }
-        ensures others { result.others ≡ (self.entry.others || is_other key.now) }
-    {
-        match key {
-            "class" => Values {
-                class: Some(self.class.unwrap_or(value)),
-                id: self.id,
-                others: self.others,
-            },
-            "id" => Values {
-                class: self.class,
-                id: Some(self.id.unwrap_or(value)),
-                others: self.others,
-            },
-            _ => Values {
-                class: self.class,
-                id: self.id,
-                others: true,
-            },
-        }
-    }
-}
-
-/// Reads the attribute fields of a line, and compares each key with those before it.
-fn read_in_pairs(number: usize, fields: Option<&str>) -> Result<Values<'_>, TreeFault>
-    ensures sound { IfOk result (λ values. (field_faults number (fields_in fields.entry) ≡ [])
-        × AreValues (fields_in fields.entry) values) }
+/// Reads the attribute fields of a line, and compares each key with those before it, unless the
+/// fields are known to be sound.
+fn read_each(number: usize, all: &str, are_sound: bool) -> Result<Values, TreeFault>
+    requires { IsTrue are_sound → field_faults number (fields_of all.now) ≡ [] }
+    ensures sound { IfOk result (λ values. (field_faults number (fields_of all.now) ≡ [])
+        × AreValues all.now (fields_of all.now) values) }
     ensures fault { IfErr result
-        (λ fault. Some fault ≡ slice_get (field_faults number (fields_in fields.entry)) 0) }
+        (λ fault. Some fault ≡ slice_get (field_faults number (fields_of all.now)) 0) }
 {
-    let mut values = Values {
-        class: None,
-        id: None,
-        others: false,
-    };
-    let mut rest = fields;
+    let mut values = Values::none();
+    let mut rest = Some(all);
     let mut count = 0;
     while let Some(text) = rest {
         let (field, others) = cut_field(text);
         let Some((key, value)) = cut_attribute(field) else {
             return Err(TreeFault::NoEquals(number));
         };
-        if has_key(fields, count, key) {
+        if !are_sound && has_key(Some(all), count, key) {
             return Err(TreeFault::RepeatedKey(number));
         }
-        values = values.with(key, value);
+        let at = all.len() - text.len() + key.len() + 1;
+        values = values.with(key, at, value.len());
         count += 1;
         rest = others;
     }
@@ -290,13 +246,13 @@ fn read_in_pairs(number: usize, fields: Option<&str>) -> Result<Values<'_>, Tree
 fn first_fault_by_set(
     alloc: Global,
     number: usize,
-    fields: Option<&str>,
+    all: &str,
 ) -> Result<Option<TreeFault>, AllocError>
     ensures { IfOk result
-        (λ fault. fault ≡ slice_get (field_faults number (fields_in fields.entry)) 0) }
+        (λ fault. fault ≡ slice_get (field_faults number (fields_of all.now)) 0) }
 {
     let mut keys = BTreeSet::new(alloc);
-    let mut rest = fields;
+    let mut rest = Some(all);
     while let Some(text) = rest {
         let (field, others) = cut_field(text);
         let Some((key, _)) = cut_attribute(field) else {
@@ -319,35 +275,39 @@ fn tab_count(bytes: &[u8]) -> usize {
 /// Whether there are too many fields for comparing their keys in pairs. A text that is shorter than
 /// three bytes for each has fewer of them, or a key twice.
 #[inline(always)]
-fn are_many(fields: Option<&str>) -> bool {
-    match fields {
-        Some(text) => text.len() >= 3 * FEW && tab_count(text.as_bytes()) >= FEW,
-        None => false,
-    }
+fn are_many(all: &str) -> bool {
+    all.len() >= 3 * FEW && tab_count(all.as_bytes()) >= FEW
 }
 
-/// Reads the attribute fields of a line. Where memory for a set of many keys is refused, the fields
-/// are compared in pairs, so that want of memory is told of a sound line alone.
-fn read_fields(alloc: Global, number: usize, fields: Option<&str>) -> Result<Values<'_>, TreeFault>
-    ensures sound { IfOk result (λ values. (field_faults number (fields_in fields.entry) ≡ [])
-        × AreValues (fields_in fields.entry) values) }
-    ensures fault { IfErr result (λ fault. IsToldOf number
-        (field_faults number (fields_in fields.entry)) fault) }
+/// Reads many attribute fields of a line. Where memory for a set of their keys is refused, they are
+/// compared in pairs, so that want of memory is told of a sound line alone.
+fn read_many(alloc: Global, number: usize, all: &str) -> Result<Values, TreeFault>
+    ensures sound { IfOk result (λ values. (field_faults number (fields_of all.now) ≡ [])
+        × AreValues all.now (fields_of all.now) values) }
+    ensures fault { IfErr result
+        (λ fault. IsToldOf number (field_faults number (fields_of all.now)) fault) }
 {
-    if !are_many(fields) {
-        return read_in_pairs(number, fields);
-    }
-    match first_fault_by_set(alloc, number, fields) {
+    match first_fault_by_set(alloc, number, all) {
         Ok(Some(fault)) => Err(fault),
-        Ok(None) => Ok(Values {
-            class: value_at(fields, "class"),
-            id: value_at(fields, "id"),
-            others: true,
-        }),
-        Err(_) => match read_in_pairs(number, fields) {
+        Ok(None) => read_each(number, all, true),
+        Err(_) => match read_each(number, all, false) {
             Ok(_) => Err(TreeFault::Memory(number)),
             Err(fault) => Err(fault),
         },
+    }
+}
+
+/// Reads the attribute fields of a line, if there are some.
+fn read_fields(alloc: Global, number: usize, fields: Option<&str>) -> Result<Values, TreeFault>
+    ensures sound { IfOk result (λ values. (field_faults number (fields_in fields.entry) ≡ [])
+        × AreValues (text_in fields.entry) (fields_in fields.entry) values) }
+    ensures fault { IfErr result (λ fault. IsToldOf number
+        (field_faults number (fields_in fields.entry)) fault) }
+{
+    match fields {
+        None => Ok(Values::none()),
+        Some(all) if are_many(all) => read_many(alloc, number, all),
+        Some(all) => read_each(number, all, false),
     }
 }
 
@@ -378,22 +338,15 @@ fn read_line(alloc: Global, number: usize, limit: usize, line: &str) -> Result<E
     let Some(depth) = spelled_depth(depth, limit) else {
         return Err(TreeFault::BadDepth(number));
     };
-    let Some(rest) = rest else {
+    let Some(fields) = rest else {
         return Err(TreeFault::EmptyName(number));
     };
-    let (name, attributes) = cut_field(rest);
+    let (name, attributes) = cut_field(fields);
     if name.is_empty() {
         return Err(TreeFault::EmptyName(number));
     }
-    let Values { class, id, others } = read_fields(alloc, number, attributes)?;
-    Ok(Entry {
-        depth,
-        name,
-        attributes,
-        class,
-        id,
-        others,
-    })
+    let values = read_fields(alloc, number, attributes)?;
+    Ok(Entry::new(depth, fields, name.len(), values))
 }
 
 /// The last line whose depth is at most the one that is given.
@@ -562,7 +515,7 @@ impl<'t> Page<'t> {
         requires { place < length self.now }
         ensures { result.now ≡ name_at self.now place }
     {
-        self.lines[place].entry.name
+        self.lines[place].entry.name()
     }
 
     /// The value of the first attribute with the key, of the element at a place.
@@ -570,13 +523,7 @@ impl<'t> Page<'t> {
         requires { place < length self.now }
         ensures { option_map (λ value. value.now) result ≡ attribute_at self.now place key.now }
     {
-        let entry = self.lines[place].entry;
-        match key {
-            "class" => entry.class,
-            "id" => entry.id,
-            _ if entry.others => value_at(entry.attributes, key),
-            _ => None,
-        }
+        self.lines[place].entry.attribute(key)
     }
 }
 

@@ -1,5 +1,5 @@
 use Rattle.std.proofs.Common.{arith}
-use Rattle.cssq_tree.proofs.Cuts.{cut_at, line_cut, lines_shorter, lines_whole}
+use Rattle.cssq_tree.proofs.Cuts.{cut_at, line_cut, lines_whole}
 use Rattle.cssq_tree.proofs.tree.cut_line.Goals as goal
 
 pub returns-then-len-text-clause-lines : goal.returns-then-len-text-clause-lines

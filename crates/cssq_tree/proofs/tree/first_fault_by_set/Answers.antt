@@ -1,11 +1,11 @@
 use Rattle.std.proofs.Common.{sym, ap, ◌∙◌}
-use Rattle.cssq_tree.specs.TreeText.{fields_in}
+use Rattle.cssq_tree.specs.TreeText.{fields_in, fields_of}
 use Rattle.cssq_tree.proofs.Fields.{repeated}
 use Rattle.cssq_tree.proofs.KeySets.{keys_none, had, had_not, keys_more}
 use Rattle.cssq_tree.proofs.tree.first_fault_by_set.Goals as goal
 
 pub loop-rest-init : goal.loop-rest-init
-loop-rest-init c = keys_none c.args.number (fields_in c.args.fields) c.new-keys.result c.new-keys.ensures.empty
+loop-rest-init c = keys_none c.args.number (fields_of c.args.all.now) c.new-keys.result c.new-keys.ensures.empty
 
 pub returns-then-not-branch : goal.returns-then-not-branch
 returns-then-not-branch c =

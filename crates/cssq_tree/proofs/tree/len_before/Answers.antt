@@ -1,4 +1,4 @@
-use Rattle.std.proofs.Common.{◌≡◌, ◌==◌, ◌∙◌, ap}
+use Rattle.std.proofs.Common.{◌==◌, ◌∙◌, ap}
 use Rattle.std.specs.List.{position_or_len}
 use Rattle.cssq_tree.proofs.Cuts.{place_within, place_boundary, place_after}
 use Rattle.cssq_tree.proofs.tree.len_before.Goals as goal
