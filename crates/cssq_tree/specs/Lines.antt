@@ -1,4 +1,4 @@
--- The lines that a page keeps, and how each is tied to others.
+-- The lines that a page keeps, and their relations.
 use Rattle.std.specs.Prelude.{◌≡◌, ℕ, ◌+◌, ◌≤◌, List, [], ◌∷◌, ◌++◌, length, map, Some, codes}
 use Rattle.std.specs.List.{slice_get}
 use Rattle.simplecss_selector.specs.KeyBits.{Covers, CoversTold}
@@ -12,11 +12,11 @@ use Rattle.cssq_tree.specs.Nodes.{value_in}
 use Rattle.cssq_tree.specs.Spans.{name_in, attributes_in}
 use Rattle.cssq_tree.specs.ParentsAndSiblings.{parent_place, previous_place}
 
--- what a line says
+-- what contracts see of a line
 abbrev pub row : Entry → Row
 row e = record { depth = e.depth; name = name_in e.fields.now; attributes = attributes_in e.fields.now }
 
--- what all lines say
+-- what contracts see of all lines
 abbrev pub rows : List Line → List Row
 rows lines = map (λ l. row l.entry) lines
 
@@ -31,22 +31,22 @@ CoversElement bits e =
     → told.id ≡ value_in (attributes_in e.fields.now) (codes "id")
     → told.class ≡ value_in (attributes_in e.fields.now) (codes "class") → CoversTold bits told
 
--- the bits that a line keeps of its ancestors cover those of its parent's ancestors, and the keys of
+-- the bits that a line keeps for its ancestors cover those of its parent's ancestors, and the keys of
 -- the parent
 abbrev pub CoversParent : List Line → Line → Type 0
 CoversParent lines l = (parent : ℕ) → l.parent ≡ Some parent
     → (p : Line) × (slice_get lines parent ≡ Some p) × Covers l.above p.above × CoversElement l.above p.entry
 
--- each line keeps the places of its parent and of its previous sibling, and the bits of its
+-- each line keeps the indices of its parent and of its previous sibling, and the bits of its
 -- ancestors
 abbrev pub AreLinked : List Line → Type 0
 AreLinked lines =
     (i : ℕ) (l : Line) → slice_get lines i ≡ Some l
     → (l.parent ≡ parent_place (depths lines) i) × (l.previous ≡ previous_place (depths lines) i) × CoversParent lines l
 
--- ---- what the reader of a line tells
+-- ---- what the reader of a line reports
 
--- the first of a line's faults, or want of memory at the line where it has none
+-- the first of a line's faults, or out of memory at the line if it has none
 abbrev pub IsToldOf : ℕ → List TreeFault → TreeFault → Type 0
 IsToldOf number faults (Memory line) = (line ≡ number) × (faults ≡ [])
 IsToldOf number faults (BadDepth line) = slice_get faults 0 ≡ Some (BadDepth line)
@@ -54,13 +54,13 @@ IsToldOf number faults (EmptyName line) = slice_get faults 0 ≡ Some (EmptyName
 IsToldOf number faults (NoEquals line) = slice_get faults 0 ≡ Some (NoEquals line)
 IsToldOf number faults (RepeatedKey line) = slice_get faults 0 ≡ Some (RepeatedKey line)
 
--- the line has no fault, and says this
+-- the line has no fault, and is read as this entry
 abbrev pub Says : ℕ → ℕ → List ℕ → Entry → Type 0
 Says number limit line e =
     (faults_of_line number limit (fields_of line) ≡ []) × (row_of (fields_of line) ≡ row e)
 
--- A line was added behind others: it keeps what the text says, at a depth that may stand there. The
--- next line's depth is at most one more.
+-- A line was appended to others: it keeps what the text says, at a depth that is allowed. The next
+-- line's depth is at most one more.
 pub record IsAdded (old : List Line) (limit : ℕ) (text : List ℕ) (new : List Line) (next : ℕ)
     : Type 0 where
   pub line : Line
