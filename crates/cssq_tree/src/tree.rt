@@ -518,6 +518,35 @@ impl<'t> Page<'t> {
         self.lines[place].entry.name()
     }
 
+    /// The value of the attribute `id` of the element at a place.
+    #[inline(always)]
+    fn id(&self, place: usize) -> Option<&'t str>
+        requires { place < length self.now }
+        ensures { option_map (λ value. value.now) result
+            ≡ attribute_at self.now place (codes "id") }
+    {
+        self.lines[place].entry.id()
+    }
+
+    /// The value of the attribute `class` of the element at a place.
+    #[inline(always)]
+    fn class(&self, place: usize) -> Option<&'t str>
+        requires { place < length self.now }
+        ensures { option_map (λ value. value.now) result
+            ≡ attribute_at self.now place (codes "class") }
+    {
+        self.lines[place].entry.class()
+    }
+
+    /// Whether the element at a place has an attribute with the key.
+    #[inline(always)]
+    fn has_attribute(&self, place: usize, key: &str) -> bool
+        requires { place < length self.now }
+        ensures { result ≡ is_some (attribute_at self.now place key.now) }
+    {
+        self.lines[place].entry.has(key)
+    }
+
     /// The value of the first attribute with the key, of the element at a place.
     fn attribute(&self, place: usize, key: &str) -> Option<&'t str>
         requires { place < length self.now }
@@ -614,12 +643,12 @@ impl<'p, 't> Keyed for Node<'p, 't> {
 
     #[inline(always)]
     fn id_value(&self) -> Option<&str> {
-        self.page.attribute(self.place, "id")
+        self.page.id(self.place)
     }
 
     #[inline(always)]
     fn class_value(&self) -> Option<&str> {
-        self.page.attribute(self.place, "class")
+        self.page.class(self.place)
     }
 
     #[inline(always)]
@@ -628,6 +657,6 @@ impl<'p, 't> Keyed for Node<'p, 't> {
     }
 
     fn has_attribute(&self, name: &str) -> bool {
-        self.page.attribute(self.place, name).is_some()
+        self.page.has_attribute(self.place, name)
     }
 }

@@ -1,5 +1,5 @@
 //! What a line says.
-ghost use Rattle.std.specs.Prelude.{◌≡◌, ◌<◌, ◌+◌, ℕ, List, None, false, length, drop, codes};
+ghost use Rattle.std.specs.Prelude.{◌≡◌, ◌<◌, ◌+◌, ℕ, List, None, is_some, false, length, drop, codes};
 ghost use Rattle.std.specs.Option.{option_map};
 ghost use Rattle.std.specs.List.{position_or_len};
 ghost use Rattle.std.specs.Str.{IsCharBoundary};
@@ -252,6 +252,18 @@ impl<'t> Entry<'t> {
             "id" => self.id(),
             _ if self.others => value_at(self.attributes(), key),
             _ => None,
+        }
+    }
+
+    /// Whether it has an attribute with the key.
+    #[inline(always)]
+    pub(crate) fn has(&self, key: &str) -> bool
+        ensures { result ≡ is_some (value_in (attributes_in self.now.fields.now) key.now) }
+    {
+        match key {
+            "class" => self.class.at != 0,
+            "id" => self.id.at != 0,
+            _ => self.others && value_at(self.attributes(), key).is_some(),
         }
     }
 
