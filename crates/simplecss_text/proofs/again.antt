@@ -1,5 +1,4 @@
 -- Declarations, rules and sheets that were read, printed and read again.
-pub mod ReadDeclarations
 pub mod KeptRules
 pub mod KeptSelectors
 pub mod TermTails

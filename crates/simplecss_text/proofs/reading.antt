@@ -12,6 +12,7 @@ pub mod StandLaws
 pub mod SequenceStandLaws
 pub mod BeforeLaws
 pub mod GivesLaws
+pub mod WellLaws
 pub mod Lawful
 pub mod DeclarationsLawful
 pub mod PiecesLawful

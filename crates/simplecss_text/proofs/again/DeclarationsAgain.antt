@@ -5,7 +5,7 @@ use Rattle.std.proofs.Common.{◌≡◌, ℕ, inl, inr, List, [], ◌∷◌, ◌
 use Rattle.std.specs.Option.{option_map}
 use Rattle.std.proofs.lemmas.Bool.Decides.{nat_tests}
 use Rattle.std.specs.Str.{chars, trim, trim_start, trim_end}
-use Rattle.simplecss_text.specs.Reading.{no_name, no_value, Reading, got, fails, Reader, follow, before, each, Ends}
+use Rattle.simplecss_text.specs.Reading.{no_name, no_value, Reading, got, fails, Reader, follow, before, each, left_after, Ends}
 use Rattle.simplecss_text.specs.Bytes.{past_byte, byte, starts}
 use Rattle.simplecss_text.specs.Characters.{Edition, first_edition, second_edition, is_space}
 use Rattle.simplecss_text.specs.Comments.{opens_comment, after_comment, blank_part, past_blank, blank}
@@ -15,8 +15,7 @@ use Rattle.simplecss_text.specs.Declarations.{StyleDeclaration, last_or, terms, 
 use Rattle.simplecss_text.specs.Printing.{important_text, declaration_text}
 use Rattle.simplecss_text.specs.PrintingLaws.{IsNarrow, DeclarationReadsBack}
 use Rattle.simplecss_text.proofs.reading.DeclarationsLawful.{semicolon-takes}
-use Rattle.simplecss_text.proofs.reading.EndsLaws.{before-append, ends-past_byte, Stands, no_texts}
-use Rattle.simplecss_text.proofs.reading.StandLaws.{blank-stands, byte-stands, name_unseen-stands}
+use Rattle.simplecss_text.proofs.reading.EndsLaws.{before-append, ends-past_byte}
 use Rattle.simplecss_text.proofs.printed.PrintedNames.{IsName, name-reads, ends_names}
 use Rattle.simplecss_text.proofs.printed.PrintedSelectors.{ends_low}
 use Rattle.simplecss_text.proofs.reading.EachLaws.{each-none, each-some}
@@ -29,7 +28,7 @@ use Rattle.simplecss_text.proofs.again.TermEnds.{is_bare, FirstBare}
 use Rattle.simplecss_text.proofs.printed.GotLaws.{IfGot, if_got, if_got-follow, if_got-if, got-holds}
 use Rattle.simplecss_text.proofs.bytes.Utf8Laws.{utf8-past_byte_if}
 use Rattle.simplecss_text.proofs.printed.ReadNames.{ReadName, name-is}
-use Rattle.simplecss_text.proofs.again.ReadDeclarations.{LeavesText, name-text, blank-text, byte-text}
+use Rattle.simplecss_text.proofs.reading.WellLaws.{EndsWell, well-blank, well-byte, well-name}
 use Rattle.simplecss_text.proofs.again.ValuesAgain.{valued-closed, valued-again, value-reads, IsValueText, narrow-parts, terms-end, TermsEnd, value_text-is}
 
 -- what a declaration satisfies that was read from a text without white space past ASCII
@@ -42,14 +41,14 @@ pub record IsDeclaration (edition : Edition) (p : StyleDeclaration) : Type 0 whe
 pub narrow-end : (text rest : List ℕ) → IsNarrow text → Ends text rest → IsUtf8 rest → IsNarrow rest
 narrow-end text rest n end u = (narrow-parts (before text rest) rest (subst IsNarrow (sym end) n) u).1
 
-narrow-got : {A : Type 0} (text : List ℕ) (r : Reading A) → IsNarrow text → Stands text no_texts r → LeavesText r → IfGot (λ x rest. IsNarrow rest) r
-narrow-got text (got x rest) n h u = narrow-end text rest n h.at u
-narrow-got text (fails fault rest) n h u = tt
+narrow-got : {A : Type 0} (text : List ℕ) (r : Reading A) → IsNarrow text → EndsWell text (left_after r) → IfGot (λ x rest. IsNarrow rest) r
+narrow-got text (got x rest) n h = narrow-end text rest n h.0 (h.1 n.0)
+narrow-got text (fails fault rest) n h = tt
 
 name-narrow : (edition : Edition) (text : List ℕ) → IsNarrow text → IfGot (λ n rest. ReadName edition text n rest × IsNarrow rest) (name edition text)
 name-narrow edition text n =
     if_got (λ m rest. ReadName edition text m rest × IsNarrow rest) (name edition text) (λ m rest e.
-    (name-is edition text m rest n.0 e, got-holds (λ m rest. IsNarrow rest) (name edition text) m rest (narrow-got text (name edition text) n (name_unseen-stands edition text) (name-text edition text n.0)) e))
+    (name-is edition text m rest n.0 e, got-holds (λ m rest. IsNarrow rest) (name edition text) m rest (narrow-got text (name edition text) n (well-name edition text)) e))
 
 -- the declaration, from its value
 abbrev stated_as : Edition → List ℕ → List ℕ → List ℕ → Bool → Reader StyleDeclaration
@@ -87,9 +86,9 @@ named-is : (edition : Edition) (name c : List ℕ) → IsName edition name → I
 named-is edition name c w n =
     let P : StyleDeclaration → List ℕ → Type 0 = λ p rest. IsDeclaration edition p in
     let Q : Unit {0} → List ℕ → Type 0 = λ x rest. IsNarrow rest in
-    if_got-follow Q P (blank c) _ (narrow-got c (blank c) n (blank-stands c) (blank-text c n.0)) (λ x d nd.
-    if_got-follow Q P (byte 58 d) _ (narrow-got d (byte 58 d) nd (byte-stands 58 d) (byte-text 58 d (omega arith) nd.0)) (λ x e ne.
-    if_got-follow Q P (blank e) _ (narrow-got e (blank e) ne (blank-stands e) (blank-text e ne.0)) (λ x start ns.
+    if_got-follow Q P (blank c) _ (narrow-got c (blank c) n (well-blank c)) (λ x d nd.
+    if_got-follow Q P (byte 58 d) _ (narrow-got d (byte 58 d) nd (well-byte 58 d (omega arith))) (λ x e ne.
+    if_got-follow Q P (blank e) _ (narrow-got e (blank e) ne (well-blank e)) (λ x start ns.
     if_got-follow (λ important rest. Unit {0}) P (trailing (value edition start).1) _ (if_got (λ important rest. Unit {0}) (trailing (value edition start).1) (λ important rest g. tt)) (λ important h t.
     stated-is edition name start important h w ns))))
 
@@ -103,7 +102,7 @@ pub declaration-is : (edition : Edition) (text : List ℕ) → IsNarrow text →
 unfolding declaration
 declaration-is edition text n =
     let P : StyleDeclaration → List ℕ → Type 0 = λ p rest. IsDeclaration edition p in
-    if_got-follow (λ x rest. IsNarrow rest) P (blank text) _ (narrow-got text (blank text) n (blank-stands text) (blank-text text n.0)) (λ x a na.
+    if_got-follow (λ x rest. IsNarrow rest) P (blank text) _ (narrow-got text (blank text) n (well-blank text)) (λ x a na.
     let b = past_byte 42 a in
     let nb = narrow-end a b na (ends-past_byte 42 a) (utf8-past_byte_if 42 a (omega arith) na.0) in
     if_got-follow (λ m rest. ReadName edition b m rest × IsNarrow rest) P (name edition b) (λ m. behind_name edition m) (name-narrow edition b nb) (λ m c w.

@@ -4,7 +4,7 @@
 use Rattle.std.proofs.Common.{◌≡◌, ℕ, ◌+◌, List, [], ◌∷◌, ◌++◌, Bool, true, false, cond, if◌then◌else◌, not, ◌==◌, length, map, filter, Option, Some, None, IfSome, arith, refl, sym, ap, ◌∙◌, IsUtf8}
 use Rattle.std.specs.List.{flat_map, filter_map, find, cons_option, enumerate_from, range_with_len, AllByRecursion}
 use Rattle.std.specs.Option.{option_map}
-use Rattle.simplecss_text.specs.Reading.{Reading, got, fails, each, found, Ends}
+use Rattle.simplecss_text.specs.Reading.{Reading, got, fails, each, found, left_after, Ends}
 use Rattle.simplecss_text.specs.Bytes.{past, past_one, past_byte, starts}
 use Rattle.simplecss_text.specs.Characters.{Edition, is_space}
 use Rattle.simplecss_text.specs.Comments.{past_blank}
@@ -17,15 +17,16 @@ use Rattle.simplecss_text.specs.Ranks.{rank_by, of_rank, ordered_by}
 use Rattle.simplecss_text.specs.Sheets.{is_smaller, sheet}
 use Rattle.simplecss_text.proofs.reading.EndsLaws.{ends-ends, ends-past, ends-past_one, ends-past_byte, Stands, no_texts}
 use Rattle.simplecss_text.proofs.reading.StandLaws.{ends-past_blank}
-use Rattle.simplecss_text.proofs.reading.DeclarationsLawful.{declaration-stands}
+use Rattle.simplecss_text.proofs.reading.DeclarationsLawful.{declaration-lawful, declaration-stands}
 use Rattle.simplecss_text.proofs.printed.PrintedSelectors.{IsSelector}
 use Rattle.simplecss_text.proofs.printed.GotLaws.{utf8-past_one, IfGot, IfTaken, each-all}
 use Rattle.simplecss_text.proofs.bytes.Utf8Laws.{utf8-past_byte_if}
 use Rattle.simplecss_text.proofs.printed.ReadBlanks.{past_blank-utf8}
-use Rattle.simplecss_text.proofs.again.ReadDeclarations.{LeavesText, declaration-text}
 use Rattle.simplecss_text.proofs.printed.ReadSelectors.{reads-is, selector-behind}
 use Rattle.simplecss_text.proofs.cutting.StatementEnds.{part-ends, parts-ends}
-use Rattle.simplecss_text.proofs.cutting.StatementCuts.{EndsWell, next_statement-well}
+use Rattle.simplecss_text.proofs.reading.WellLaws.{EndsWell}
+use Rattle.simplecss_text.proofs.reading.Lawful.{lawful-text}
+use Rattle.simplecss_text.proofs.cutting.StatementCuts.{next_statement-well}
 
 -- What is known of the texts, and of the declarations that are read from them. It is known of each
 -- end that is a text.
@@ -94,7 +95,7 @@ parts-are edition text u some =
 
 -- declarations
 
-declared : (edition : Edition) (Q : List ℕ → Type 0) (R : StyleDeclaration → Type 0) → Known edition Q R → (text : List ℕ) → Q text → (r : Reading StyleDeclaration) → IfGot (λ p rest. R p) r → Stands text no_texts r → LeavesText r → IfTaken R Q (found r)
+declared : (edition : Edition) (Q : List ℕ → Type 0) (R : StyleDeclaration → Type 0) → Known edition Q R → (text : List ℕ) → Q text → (r : Reading StyleDeclaration) → IfGot (λ p rest. R p) r → Stands text no_texts r → IsUtf8 (left_after r) → IfTaken R Q (found r)
 declared edition Q R known text q (got p rest) h k l = (h, known.of_end text rest q k.at l)
 declared edition Q R known text q (fails fault rest) h k l = tt
 
@@ -103,7 +104,7 @@ in_block edition Q R known text q = by (ends_list text)
   where
     by : (t : Bool) → IfTaken R Q (if t then None else found (declaration edition text))
     by true = tt
-    by false = declared edition Q R known text q (declaration edition text) (known.declares text q) (declaration-stands edition text) (declaration-text edition text (known.is_text text q))
+    by false = declared edition Q R known text q (declaration edition text) (known.declares text q) (declaration-stands edition text) (lawful-text declaration declaration declaration-lawful edition text (known.is_text text q))
 
 block-declares : (edition : Edition) (Q : List ℕ → Type 0) (R : StyleDeclaration → Type 0) → Known edition Q R → (text : List ℕ) → Q text → AllByRecursion R (block edition text).0
 unfolding block

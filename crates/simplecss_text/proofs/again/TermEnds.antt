@@ -13,7 +13,7 @@ use Rattle.simplecss_text.specs.Characters.{Edition, first_edition, second_editi
 use Rattle.simplecss_text.specs.Names.{name}
 use Rattle.simplecss_text.specs.Strings.{is_quote, from_quote, string_up_to}
 use Rattle.simplecss_text.specs.Terms.{is_hex_digit, past_hash, past_decimals, past_unit, past_number, arguments, word, quoted, is_slash_term, begins_number, term}
-use Rattle.simplecss_text.proofs.reading.DeclarationsLawful.{term-cuts}
+use Rattle.simplecss_text.proofs.reading.DeclarationsLawful.{digit_low, number_low, past_decimals-lawful, term-cuts}
 use Rattle.simplecss_text.proofs.printed.PrintedNames.{begins_any_name, both_true}
 use Rattle.simplecss_text.proofs.printed.PrintedHeads.{same_byte}
 use Rattle.simplecss_text.proofs.reading.TakesLaws.{Cuts}
@@ -21,7 +21,6 @@ use Rattle.simplecss_text.proofs.printed.ReadStrings.{IfCloses, from_quote-close
 use Rattle.simplecss_text.proofs.printed.ReadNames.{ReadName, name-is, name-fails}
 use Rattle.simplecss_text.proofs.printed.GotLaws.{IfGot, if_got, if_got-if, if_got-follow, if_got-weaker, got-holds, IfBehind, after_byte-behind}
 use Rattle.simplecss_text.proofs.bytes.Utf8Laws.{past-yes, past-no, utf8-past_byte, utf8-past}
-use Rattle.simplecss_text.proofs.again.TermTails.{digit_low, number_low}
 
 -- a byte that is no white space of ASCII
 abbrev pub is_bare : ℕ → Bool
@@ -141,22 +140,13 @@ bare-unit edition (b ∷ text) u = by (b == 37) refl
     by true e = bare-cons b text text (ap is_bare (same_byte b 37 e)) (nothing refl)
     by false e = bare-name edition (b ∷ text) u (name edition (b ∷ text)) refl
 
--- behind a point and digits a text is left
-pub utf8-decimals : (text : List ℕ) → IsUtf8 text → IsUtf8 (past_decimals text)
-utf8-decimals [] u = u
-utf8-decimals (b ∷ text) u = by (b == 46) refl
-  where
-    by : (t : Bool) → (b == 46) ≡ t → IsUtf8 (if t then past is_digit text else b ∷ text)
-    by true e = utf8-past is_digit text digit_low (utf8-past_byte b text (let point = same_byte b 46 e in omega arith) u)
-    by false e = u
-
 bare-number : (edition : Edition) (text : List ℕ) → IsUtf8 text → EndsBare text (past_number edition text)
 unfolding past_number
 bare-number edition text u =
     let digits = past is_digit text in
     let v = utf8-past is_digit text digit_low u in
     bare-then text digits (past_number edition text) (bare-past is_digit text digit_bare)
-    (bare-then digits (past_decimals digits) (past_number edition text) (bare-decimals digits) (bare-unit edition (past_decimals digits) (utf8-decimals digits v)))
+    (bare-then digits (past_decimals digits) (past_number edition text) (bare-decimals digits) (bare-unit edition (past_decimals digits) (((past_decimals-lawful digits digits).left edition).1 v)))
 
 bare-hash : (edition : Edition) (text : List ℕ) → IsUtf8 text → (r : Reading (List ℕ)) → name edition text ≡ r → EndsBare text (past_hash r)
 bare-hash edition text u (got n rest) e = bare-name edition text u (got n rest) e

@@ -3,7 +3,6 @@
 -- printed and read again).
 use Rattle.std.proofs.Common.{◌≡◌, ℕ, ◌<◌, ◌≤◌, List, [], ◌∷◌, ◌++◌, Bool, true, false, if◌then◌else◌, ◌||◌, ◌&&◌, not, ◌==◌, length, Option, Some, None, IfSome, arith, refl, sym, ap, ◌∙◌, subst, length-append, IsUtf8}
 use Rattle.std.specs.Str.{chars}
-use Rattle.std.proofs.lemmas.Bool.Decides.{nat_tests}
 use Rattle.simplecss_text.specs.Reading.{Fault, ended, Reading, got, fails, follow, left_after, no_name, before, Ends}
 use Rattle.simplecss_text.specs.Bytes.{past, past_one, past_byte, starts, is_digit, after_byte, closed_or}
 use Rattle.simplecss_text.specs.Characters.{Edition, first_edition, second_edition}
@@ -15,7 +14,7 @@ use Rattle.simplecss_text.proofs.printed.PrintedHeads.{same_byte}
 use Rattle.simplecss_text.proofs.bytes.Utf8Laws.{past-no, utf8-past_byte, utf8-behind_byte}
 use Rattle.simplecss_text.proofs.reading.EndsLaws.{length-ends, ends-past, ends-got, no_texts}
 use Rattle.simplecss_text.proofs.reading.TakesLaws.{Cuts, Leaves, from_quote-leaves}
-use Rattle.simplecss_text.proofs.reading.DeclarationsLawful.{arguments-stands, ends-past_decimals, ends-past_unit, term-cuts}
+use Rattle.simplecss_text.proofs.reading.DeclarationsLawful.{arguments-stands, digit_low, past_decimals-lawful, past_unit-lawful, hex_low, number_low, single-low, term-cuts}
 use Rattle.simplecss_text.proofs.printed.ReadStrings.{IfCloses, from_quote-closes}
 use Rattle.simplecss_text.proofs.printed.ReadValues.{quote_low}
 use Rattle.simplecss_text.proofs.printed.GotLaws.{IfGot, if_got, got-holds, IfBehind, after_byte-behind}
@@ -29,18 +28,10 @@ alike-nil r s f end quiet h =
     let all = whole-left r (f r) (before r (f r)) end h in
     rw (all, quiet) (tails-none r s)
 
--- digits are ASCII
-pub digit_low : (b : ℕ) → is_digit b ≡ true → b < 128
-digit_low b e = grind (arith, nat_tests)
-
--- hexadecimal digits are ASCII
-pub hex_low : (b : ℕ) → is_hex_digit b ≡ true → b < 128
-hex_low b e = grind (arith, nat_tests)
-
 past_decimals-alike : (edition : Edition) (r : List ℕ) (q : ℕ) (more : List ℕ) → Quiet edition q → LeavesAlike r (q ∷ more) past_decimals
 past_decimals-alike edition r q more quiet [] u h =
     let other : past_decimals (q ∷ more) ≡ q ∷ more = let p = quiet.no_point in rw p refl in
-    alike-nil r (q ∷ more) past_decimals (ends-past_decimals r) other h
+    alike-nil r (q ∷ more) past_decimals ((past_decimals-lawful r r).left edition).0 other h
 past_decimals-alike edition r q more quiet (b ∷ front) u h = by (b == 46) refl h
   where
     by : (t : Bool) → (b == 46) ≡ t → length r ≤ length (if t then past is_digit (front ++ r) else b ∷ (front ++ r))
@@ -67,7 +58,7 @@ past_unit-alike : (edition : Edition) (r : List ℕ) (q : ℕ) (more : List ℕ)
 past_unit-alike edition r q more quiet v [] u h =
     let named = name_quiet edition q more quiet in
     let other : past_unit edition (q ∷ more) ≡ q ∷ more = let p = quiet.no_percent in rw (p, named) refl in
-    alike-nil r (q ∷ more) (past_unit edition) (ends-past_unit edition r) other h
+    alike-nil r (q ∷ more) (past_unit edition) ((past_unit-lawful r r).left edition).0 other h
 past_unit-alike edition r q more quiet v (b ∷ front) u h = by (b == 37) refl h
   where
     by : (t : Bool) → (b == 37) ≡ t → length r ≤ length (if t then front ++ r else left_after (name edition (b ∷ (front ++ r))))
@@ -79,8 +70,8 @@ past_number-alike : (edition : Edition) (r : List ℕ) (q : ℕ) (more : List �
 unfolding past_number
 past_number-alike edition r q more quiet v =
     alike-then r (q ∷ more) (λ t. past_decimals (past is_digit t)) (past_unit edition)
-    (alike-then r (q ∷ more) (past is_digit) past_decimals (past-alike r q more is_digit digit_low quiet.no_digit) (past_decimals-alike edition r q more quiet) (λ t. length-ends t (past_decimals t) (ends-past_decimals t)))
-    (past_unit-alike edition r q more quiet v) (λ t. length-ends t (past_unit edition t) (ends-past_unit edition t))
+    (alike-then r (q ∷ more) (past is_digit) past_decimals (past-alike r q more is_digit digit_low quiet.no_digit) (past_decimals-alike edition r q more quiet) (λ t. length-ends t (past_decimals t) ((past_decimals-lawful t t).left edition).0))
+    (past_unit-alike edition r q more quiet v) (λ t. length-ends t (past_unit edition t) ((past_unit-lawful t t).left edition).0)
 
 past_hash-alike : (edition : Edition) (r : List ℕ) (q : ℕ) (more : List ℕ) → Quiet edition q → IsUtf8 r → LeavesAlike r (q ∷ more) (λ t. past_hash (name edition t))
 past_hash-alike edition r q more quiet v front u h =
@@ -252,16 +243,6 @@ single-slash second_edition b text other e f = by (b == 44) (b == 47) (starts 42
     by false true z w h k = refl
     by false false z w h k = k
 
--- a comma and a slash are ASCII
-pub single-low : (edition : Edition) (b : ℕ) (text : List ℕ) → is_single edition b text ≡ true → b < 128
-single-low first_edition b text e = grind (arith, nat_tests)
-single-low second_edition b text e = by (b == 44) (b == 47) refl refl e
-  where
-    by : (x y : Bool) → (b == 44) ≡ x → (b == 47) ≡ y → (x || (y && not (starts 42 text))) ≡ true → b < 128
-    by true y h k e = let same = same_byte b 44 h in omega arith
-    by false true h k e = let same = same_byte b 47 k in omega arith
-    by false false h k e = absurd (cc)
-
 single-term : (edition : Edition) (b : ℕ) (front r : List ℕ) (q : ℕ) (more : List ℕ) → Quiet edition q → IsUtf8 r → IsUtf8 (b ∷ front) → (b == 45) ≡ false
     → IfGot (Again r (q ∷ more) (if is_single edition b (front ++ (q ∷ more)) then got tt (front ++ (q ∷ more)) else word edition (b ∷ (front ++ (q ∷ more))))) (if is_single edition b (front ++ r) then got tt (front ++ r) else word edition (b ∷ (front ++ r)))
 single-term edition b front r q more quiet v u hyphen = by (is_single edition b (front ++ r)) (is_single edition b (front ++ s)) refl refl
@@ -276,10 +257,6 @@ single-term edition b front r q more quiet v u hyphen = by (is_single edition b 
         if_got (Again r s (got tt (front ++ s))) (word edition (b ∷ (front ++ r))) (λ x rest g.
         absurd (no_slash-word edition (front ++ r) x rest (ap (λ c. word edition (c ∷ (front ++ r))) (sym (same_byte b 47 (single-slash edition b (front ++ r) (front ++ s) e f))) ∙ g)))
     by false false e f = word-again edition r q more b front quiet v u hyphen
-
--- what begins a number is ASCII
-pub number_low : (b : ℕ) → begins_number b ≡ true → b < 128
-number_low b e = grind (arith, nat_tests)
 
 number_hyphen : (b : ℕ) → begins_number b ≡ false → (b == 45) ≡ false
 number_hyphen b e = by (b == 43) (b == 45) (b == 46) (is_digit b) e

@@ -17,10 +17,10 @@ use Rattle.simplecss_text.proofs.reading.EachLaws.{each-none, each-some}
 use Rattle.simplecss_text.proofs.reading.TakesLaws.{Cuts, length-past_blank}
 use Rattle.simplecss_text.proofs.reading.EndsLaws.{before-append, ends-ends, ends-got, no_texts}
 use Rattle.simplecss_text.proofs.reading.StandLaws.{ends-past_blank}
-use Rattle.simplecss_text.proofs.reading.DeclarationsLawful.{term-cuts, term-stands, term_in_value-takes}
+use Rattle.simplecss_text.proofs.reading.DeclarationsLawful.{term-cuts, term-lawful, term-stands, term_in_value-takes}
 use Rattle.simplecss_text.proofs.printed.GotLaws.{got-holds}
 use Rattle.simplecss_text.proofs.printed.ReadBlanks.{opens_comment-two, past_blank-utf8}
-use Rattle.simplecss_text.proofs.again.ReadDeclarations.{LeavesText, term-text}
+use Rattle.simplecss_text.proofs.reading.Lawful.{lawful-text}
 use Rattle.simplecss_text.proofs.bytes.Utf8Laws.{utf8-first}
 use Rattle.simplecss_text.proofs.printed.TailLaws.{Quiet, Tails}
 use Rattle.simplecss_text.proofs.again.TermTails.{Again, no_slash-word, term-again}
@@ -139,15 +139,15 @@ terms-end edition text = terms-within edition (suc (length text)) text (omega ar
 -- where the terms end, a text is left, and the byte in front of it is no white space of ASCII
 
 valued-left : (edition : Edition) (r text : List ℕ) → IsUtf8 text → Valued edition r text → IsUtf8 r
-valued-left edition r text u (last _ x e) = subst (λ (y : Reading (Unit {0})). LeavesText y) e (term-text edition text u)
+valued-left edition r text u (last _ x e) = subst (λ (y : Reading (Unit {0})). IsUtf8 (left_after y)) e (lawful-text term term term-lawful edition text u)
 valued-left edition r text u (more _ rest x e w) =
-    let left : IsUtf8 rest = subst (λ (y : Reading (Unit {0})). LeavesText y) e (term-text edition text u) in
+    let left : IsUtf8 rest = subst (λ (y : Reading (Unit {0})). IsUtf8 (left_after y)) e (lawful-text term term term-lawful edition text u) in
     valued-left edition r (past_blank rest) (past_blank-utf8 rest left) w
 
 valued-final : (edition : Edition) (r text : List ℕ) → IsUtf8 text → Valued edition r text → (passed : List ℕ) × (b : ℕ) × (text ≡ passed ++ (b ∷ r)) × (is_bare b ≡ true)
 valued-final edition r text u (last _ x e) = term-ends_bare edition text r x u e
 valued-final edition r text u (more _ rest x e w) =
-    let left : IsUtf8 rest = subst (λ (y : Reading (Unit {0})). LeavesText y) e (term-text edition text u) in
+    let left : IsUtf8 rest = subst (λ (y : Reading (Unit {0})). IsUtf8 (left_after y)) e (lawful-text term term term-lawful edition text u) in
     let next = past_blank rest in
     let end : Ends text next = ends-ends text rest next (ends-got text no_texts (term edition text) x rest (term-stands edition text) e) (ends-past_blank rest) in
     let inner = valued-final edition r next (past_blank-utf8 rest left) w in

@@ -1,6 +1,6 @@
 -- The position of a place, from that of an earlier one.
 -- Serves `find_faults` of simplecss_faults (positions that are counted along).
-use Rattle.std.proofs.Common.{◌≡◌, ℕ, suc, zero, ◌+◌, ◌-◌, ◌<◌, ◌≤◌, List, [], ◌∷◌, ◌++◌, Bool, true, false, if◌then◌else◌, cond, not, ◌==◌, length, take, drop, reverse, min, refl, sym, ap, ◌∙◌, subst, arith, take-add, inl, inr, ◌⊎◌, IsUtf8, eqb, eqb-true, eq-eqb}
+use Rattle.std.proofs.Common.{◌≡◌, ℕ, ◌+◌, ◌-◌, ◌<◌, List, [], ◌∷◌, ◌++◌, Bool, true, false, cond, not, ◌==◌, length, take, drop, reverse, min, refl, sym, ap, ◌∙◌, subst, arith, take-add, inl, inr, ◌⊎◌, IsUtf8, eqb, eqb-true, eq-eqb}
 use Rattle.std.specs.Prelude.{chars, count_by}
 use Rattle.std.specs.List.{after_last, prefix_len, suffix_len}
 use Rattle.std.proofs.lemmas.List.{reverse-append, length-reverse, length-append, drop-append-le}

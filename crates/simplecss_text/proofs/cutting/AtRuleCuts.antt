@@ -5,7 +5,7 @@ use Rattle.std.proofs.lemmas.List.{append_cancel_right}
 use Rattle.std.proofs.lemmas.Str.{byte_from_char, chars-append, chars-nil, encodes-chars}
 use Rattle.std.specs.Str.{chars}
 use lib.Utf8.{encode}
-use Rattle.simplecss_text.specs.Reading.{Fault, Reading, before, fails, got, no_name}
+use Rattle.simplecss_text.specs.Reading.{Fault, Reading, fails, got}
 use Rattle.simplecss_text.specs.Bytes.{is_neither, past, past_byte}
 use Rattle.simplecss_text.specs.Characters.{Edition, first_edition, is_name_start, second_edition}
 use Rattle.simplecss_text.specs.Names.{begins_name, name, past_name_chars}
@@ -15,6 +15,7 @@ use Rattle.simplecss_text.proofs.reading.TakesLaws.{length-past, length-past_byt
 use Rattle.simplecss_text.proofs.reading.DeclarationLaws.{length-from_block_end}
 use Rattle.simplecss_text.proofs.reading.EndsLaws.{ends-same}
 use Rattle.simplecss_text.proofs.reading.StandLaws.{utf8-behind}
+use Rattle.simplecss_text.proofs.printed.ReadNames.{name-fails}
 use Rattle.simplecss_text.proofs.cutting.GuardLaws.{Along, Equal, Guard, To, at, longer-along, on, past-along, past-to}
 use Rattle.simplecss_text.proofs.cutting.NameGuards.{name-guarded, name-guarded_by_semicolon}
 use Rattle.simplecss_text.proofs.cutting.BlockEndGuards.{from_block_end-to}
@@ -81,15 +82,6 @@ at_rule-block edition u v r s n rest inner h e f g = by (name edition r) (name e
         opened (past (is_neither 59 123) x) (past (is_neither 59 123) y) (ap (past (is_neither 59 123)) same ∙ f) (past-to 125 (u ++ v) u (is_neither 59 123) x y along.1)
 
 -- ---- a faulty name
-
--- a fault of a name leaves what stands behind a hyphen
-pub name_fault-left : (edition : Edition) (text left : List ℕ) (fault : Fault) → name edition text ≡ fails fault left → (begins_name edition (chars text) ≡ false) × (left ≡ past_byte 45 text)
-unfolding name
-name_fault-left edition text left fault e = by (begins_name edition (chars text)) refl e
-  where
-    by : (k : Bool) → begins_name edition (chars text) ≡ k → (if k then got (before text (past_name_chars edition text)) (past_name_chars edition text) else fails (no_name text) (past_byte 45 text)) ≡ fails fault left → (begins_name edition (chars text) ≡ false) × (left ≡ past_byte 45 text)
-    by true f h = absurd (cc)
-    by false f h = (f, cc)
 
 at_rule-no_name : (edition : Edition) (text : List ℕ) → begins_name edition (chars text) ≡ false → at_rule_rest edition text ≡ past_byte 45 text
 unfolding at_rule_rest name
@@ -162,7 +154,7 @@ nothing_in_front (b ∷ w) v l = absurd (omega (arith, l, length-append w v))
 
 -- an at-rule that ends at the fault of its name
 pub at_rule-fault : (edition : Edition) (s v w : List ℕ) (fault : Fault) → IsUtf8 s → name edition (s ++ v) ≡ fails fault (w ++ v) → at_rule_rest edition s ≡ w
-at_rule-fault edition s v w fault u e = by s u (name_fault-left edition (s ++ v) (w ++ v) fault e).0 (name_fault-left edition (s ++ v) (w ++ v) fault e).1
+at_rule-fault edition s v w fault u e = by s u (name-fails edition (s ++ v) (w ++ v) fault e).0 (name-fails edition (s ++ v) (w ++ v) fault e).1
   where
     by : (s : List ℕ) → IsUtf8 s → begins_name edition (chars (s ++ v)) ≡ false → w ++ v ≡ past_byte 45 (s ++ v) → at_rule_rest edition s ≡ w
     by [] i f g =

@@ -16,7 +16,8 @@ use Rattle.simplecss_text.proofs.reading.EachLaws.{Shrinks, Takes, each-none, ea
 use Rattle.simplecss_text.proofs.reading.EndsLaws.{ends-same}
 use Rattle.simplecss_text.proofs.reading.StatementLaws.{next_statement-takes}
 use Rattle.simplecss_text.proofs.cutting.AtRuleCuts.{nothing_in_front}
-use Rattle.simplecss_text.proofs.cutting.StatementCuts.{EndsWell, next_statement-cut, next_statement-well, well-then}
+use Rattle.simplecss_text.proofs.cutting.StatementCuts.{next_statement-cut, next_statement-well}
+use Rattle.simplecss_text.proofs.reading.WellLaws.{EndsWell, well-then}
 
 -- a piece of the text ends where rest is left, or the text begins there
 data Reaches {X : Type 0} (read : List ℕ → Option (X × List ℕ)) (rest : List ℕ) : List ℕ → Type 0 where

@@ -11,14 +11,13 @@ use Rattle.simplecss_text.specs.Names.{name}
 use Rattle.simplecss_text.specs.Characters.{Edition, is_space}
 use Rattle.simplecss_text.specs.Comments.{past_blank, opens_comment}
 use Rattle.simplecss_text.specs.Components.{Component}
-use Rattle.simplecss_text.specs.Tokens.{Token}
 use Rattle.simplecss_text.specs.TokenSequences.{TokenSequence, sequence_of}
 use Rattle.simplecss_text.specs.TokenSequences.TokenSequence.{item, sequence_end}
 use Rattle.simplecss_text.specs.Selectors.{Role, role_of, reads}
 use Rattle.simplecss_text.specs.Declarations.{StyleDeclaration, declaration}
 use Rattle.simplecss_text.specs.Blocks.{from_block_end, ends_list, declaration_in_block}
 use Rattle.simplecss_text.specs.Statements.{StyleRule, part, part_and_comma, parts, past_semicolon_or_block, at_rule_rest_by_name, at_rule_rest, next_statement}
-use Rattle.simplecss_text.specs.Skipped.{Refusal, faulty, unknown_class, Why, Skip, unless_unknown, class_name, refusal_in, refusal, from_brace, past_refused, refused_part, selector_skips, why_after, skips_after, skips_after_read, part_skips, skips_with, skips_along, parts_skips, brace_skips, list_end_skips, broken_part, if_broken, list_skips, block_skips, next_block_skips, comma_skips, rule_set_skips, at_rule_skip, statement_skips, end_skips, skipped}
+use Rattle.simplecss_text.specs.Skipped.{Refusal, faulty, unknown_class, Why, Skip, unless_unknown, class_name, refusal_in, refusal, from_brace, past_refused, refused_part, selector_skips, why_after, skips_after, skips_after_read, part_skips, skips_with, skips_along, parts_skips, brace_skips, list_end_skips, if_broken, list_skips, block_skips, next_block_skips, comma_skips, rule_set_skips, at_rule_skip, statement_skips, end_skips, skipped}
 use Rattle.simplecss_text.specs.SkipPlaces.{IsRefusalWithin, IsWhyWithin, IsWithin}
 use Rattle.simplecss_text.proofs.reading.EndsLaws.{ends-same, ends-nil, ends-ends, ends-past_one, ends-past_byte, ends-past, EndsFound, each-ends, stands-ends, no_texts, itself}
 use Rattle.simplecss_text.proofs.reading.StandLaws.{ends-past_blank, name-stands}

@@ -4,23 +4,24 @@
 use Rattle.std.proofs.Common.{Bool, IsUtf8, List, None, Some, [], ap, arith, eqb-true, false, if◌then◌else◌, inl, inr, refl, subst, sym, true, ℕ, ◌<◌, ◌==◌, ◌∙◌, ◌∷◌, ◌≡◌, append_assoc, length, ◌++◌, ◌⊎◌, append-nil, length-append}
 use Rattle.std.proofs.Math.Seq.{take-append_seam}
 use Rattle.std.proofs.lemmas.List.{append_cancel_right}
-use Rattle.std.proofs.lemmas.Str.{IsUtf8-nil, IsUtf8-take, IsCharBoundary-at_seam}
-use Rattle.simplecss_text.specs.Reading.{Ends, got, before, fails}
-use Rattle.simplecss_text.specs.Bytes.{is_neither, past, past_byte, starts}
+use Rattle.std.proofs.lemmas.Str.{IsUtf8-take, IsCharBoundary-at_seam}
+use Rattle.simplecss_text.specs.Reading.{Ends, got, before, fails, left_after}
+use Rattle.simplecss_text.specs.Bytes.{is_neither, past, starts}
 use Rattle.simplecss_text.specs.Characters.{Edition}
 use Rattle.simplecss_text.specs.Comments.{past_blank}
 use Rattle.simplecss_text.specs.Names.{name}
 use Rattle.simplecss_text.specs.Blocks.{from_block_end}
 use Rattle.simplecss_text.specs.Statements.{StyleRule, ends_statements, next_statement, at_rule_rest, rule_set, statement}
-use Rattle.simplecss_text.proofs.reading.EndsLaws.{ends-ends, ends-got, ends-nil, ends-past, ends-same, ends-tail, itself, length-ends}
+use Rattle.simplecss_text.proofs.reading.EndsLaws.{ends-ends, ends-got, ends-past, ends-same, ends-tail, itself, length-ends}
 use Rattle.simplecss_text.proofs.reading.StandLaws.{name-stands, utf8-behind, ends-past_blank}
+use Rattle.simplecss_text.proofs.reading.WellLaws.{EndsWell, well-behind, well-name, well-nil, well-then}
 use Rattle.simplecss_text.proofs.cutting.GuardLaws.{Along, To, at, longer-along, not_empty, on, starts-along}
 use Rattle.simplecss_text.proofs.cutting.SearchLaws.{Plain, brace_plain, opens_comment-along, past_blank-to}
 use Rattle.simplecss_text.proofs.reading.DeclarationsLawful.{ends-from_block_end}
 use Rattle.simplecss_text.proofs.cutting.BlockEndGuards.{Exact, before_it, behind_it}
 use Rattle.simplecss_text.proofs.cutting.RuleSetCuts.{RulesSame, rule_set-same}
-use Rattle.simplecss_text.proofs.cutting.AtRuleCuts.{name_fault-left, at_rule-block, at_rule-fault, at_rule-semicolon, along-at}
-use Rattle.simplecss_text.proofs.cutting.StatementEnds.{AtRuleEnds, BehindBrace, at_block, at_fault, at_rule-ends, at_semicolon, rule_set-behind, starts-is, uses_up}
+use Rattle.simplecss_text.proofs.cutting.AtRuleCuts.{at_rule-block, at_rule-fault, at_rule-semicolon, along-at}
+use Rattle.simplecss_text.proofs.cutting.StatementEnds.{AtRuleEnds, BehindBrace, at_block, at_fault, at_rule-ends, at_semicolon, rule_set-behind, uses_up}
 use Rattle.simplecss_text.proofs.cutting.RoomLaws.{along-from}
 
 -- ---- how a blank and a statement end
@@ -71,33 +72,9 @@ block-front edition text n rest inner left e f g =
     let opened : Ends text (123 ∷ inner) = ends-ends text rest (123 ∷ inner) (ends-got text itself (name edition text) n rest (name-stands edition text) e) (subst (Ends rest) f (ends-past (is_neither 59 123) rest)) in
     ends-ends text inner (125 ∷ left) (ends-ends text (123 ∷ inner) inner opened (ends-tail 123 inner)) (subst (Ends inner) g (ends-from_block_end inner))
 
--- what stands behind an end of a text: an end of it that is UTF-8 if the text is
-abbrev pub EndsWell : List ℕ → List ℕ → Type 0
-EndsWell text rest = Ends text rest × (IsUtf8 text → IsUtf8 rest)
-
-well-nil : (text : List ℕ) → EndsWell text []
-well-nil text = (ends-nil text, λ u. IsUtf8-nil)
-
-well-behind : (g : ℕ) (text rest : List ℕ) → g < 128 → Ends text (g ∷ rest) → EndsWell text rest
-well-behind g text rest l h = (ends-ends text (g ∷ rest) rest h (ends-tail g rest), λ u. utf8-behind text rest g l u h)
-
-well-past_byte : (c : ℕ) (text : List ℕ) → c < 128 → EndsWell text (past_byte c text)
-well-past_byte c text l = by (starts c text) refl
-  where
-    no_byte : (text : List ℕ) → starts c text ≡ false → past_byte c text ≡ text
-    no_byte [] e = refl
-    no_byte (b ∷ text) e = rw e refl
-
-    by : (k : Bool) → starts c text ≡ k → EndsWell text (past_byte c text)
-    by true e = well-behind c text (past_byte c text) l (subst (Ends text) (starts-is c text e) (ends-same text))
-    by false e = rw (no_byte text e) (ends-same text, λ u. u)
-
-pub well-then : (text middle rest : List ℕ) → EndsWell text middle → EndsWell middle rest → EndsWell text rest
-well-then text middle rest h k = (ends-ends text middle rest h.0 k.0, λ u. k.1 (h.1 u))
-
 at_rule-well : (edition : Edition) (text rest : List ℕ) → AtRuleEnds edition text rest → EndsWell text rest
 at_rule-well edition text rest uses_up = well-nil text
-at_rule-well edition text rest (at_fault fault left e) = subst (EndsWell text) (sym (name_fault-left edition text rest fault e).1) (well-past_byte 45 text (omega arith))
+at_rule-well edition text rest (at_fault fault left e) = subst (λ r. EndsWell text (left_after r)) e (well-name edition text)
 at_rule-well edition text rest (at_semicolon n x left e f) = well-behind 59 text rest (omega arith) (semicolon-front edition text n x rest e f)
 at_rule-well edition text rest (at_block n x inner left e f g) = well-behind 125 text rest (omega arith) (block-front edition text n x inner rest e f g)
 

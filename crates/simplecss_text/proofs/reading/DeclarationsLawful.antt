@@ -1,45 +1,65 @@
 -- Terms, values and declarations owe what every reader owes, and take bytes.
 -- Serves `DeclarationTokenizer`, `take_value`, `StyleSheet::{parse, parse_more}` and
 -- `laws::{cutting_law, edition_law}`.
-use Rattle.std.proofs.Common.{◌≡◌, ◌⊎◌, ◌≤◌, Bool, List, None, Option, Some, [], ap, arith, codes, drop, eqb, false, if◌then◌else◌, inl, inr, length, not, refl, true, ℕ, ◌&&◌, ◌++◌, ◌==◌, ◌||◌, ◌∙◌, ◌∷◌}
+use Rattle.std.proofs.Common.{◌≡◌, ◌⊎◌, ◌≤◌, Bool, List, None, Some, [], ap, arith, codes, drop, IsUtf8, ◌<◌, subst, sym, take, eqb, false, if◌then◌else◌, inl, inr, length, not, refl, true, ℕ, ◌&&◌, ◌++◌, ◌==◌, ◌||◌, ◌∙◌, ◌∷◌}
 use Rattle.std.specs.List.{starts_with}
 use Rattle.std.specs.Str.{trim}
-use Rattle.simplecss_text.specs.Reading.{Reader, Ends, Fault, Reading, before, each, ended, fails, found, got, here, left_after, ◌>>=◌, ◌>>◌}
-use Rattle.simplecss_text.specs.Bytes.{after_byte, byte, closed_or, is_digit, optional, past}
+use lib.Utf8.{encode}
+use Rattle.std.proofs.lemmas.Bool.Decides.{nat_tests}
+use Rattle.std.proofs.lemmas.List.{take-append-drop}
+use Rattle.std.proofs.lemmas.Slice.Eq.{bytes_eq-Decides}
+use Rattle.simplecss_text.specs.Reading.{Reader, Ends, Reading, before, each, ended, fails, found, got, here, left_after, ◌>>=◌, ◌>>◌}
+use Rattle.simplecss_text.specs.Bytes.{after_byte, byte, is_digit, optional, past, past_one, starts}
 use Rattle.simplecss_text.specs.Characters.{Edition, first_edition, second_edition}
 use Rattle.simplecss_text.specs.Comments.{blank, past_blank}
 use Rattle.simplecss_text.specs.Strings.{from_quote, is_quote, string_after}
 use Rattle.simplecss_text.specs.Terms.{arguments, begins_number, is_hex_digit, is_slash_term, past_decimals, past_hash, past_number, past_unit, quoted, term, word}
-use Rattle.simplecss_text.specs.Declarations.{StyleDeclaration, after_mark, after_term, declaration, importance, important_word, last_or, semicolon, semicolons, term_in_value, terms, trailing, unless_empty, value, value_reader}
+use Rattle.simplecss_text.specs.Declarations.{StyleDeclaration, after_term, declaration, importance, important_word, last_or, semicolon, semicolons, term_in_value, terms, trailing, unless_empty, value, value_reader}
 use Rattle.simplecss_text.specs.Blocks.{block_end, declaration_in_block, ends_list, from_block_end}
 use Rattle.simplecss_text.specs.Names.{name}
-use Rattle.simplecss_text.proofs.reading.EndsLaws.{EndsFound, EndsSome, Stands, each-ends, ends-cons, ends-drop, ends-ends, ends-nil, ends-past, ends-tail, ends_some-ends, ends_some-if, length-ends, no_texts}
-use Rattle.simplecss_text.proofs.reading.StandLaws.{ends-past_blank}
+use Rattle.simplecss_text.proofs.reading.EndsLaws.{EndsFound, Stands, ends-drop, length-ends, no_texts}
+use Rattle.simplecss_text.proofs.reading.WellLaws.{EndsWell, WellFound, each-well, found-ends, well-closed, well-past, well-past_blank, well-tail, well-then}
+use Rattle.simplecss_text.proofs.bytes.Utf8Laws.{utf8-second}
+use Rattle.simplecss_text.proofs.printed.GotLaws.{after_byte-behind}
+use Rattle.simplecss_text.proofs.printed.PrintedHeads.{same_byte}
+use Rattle.simplecss_text.proofs.printed.ReadValues.{quote_low}
 use Rattle.simplecss_text.proofs.reading.TakesLaws.{Cuts, Keeps, blank-keeps, cuts-follow, cuts-if, follow-cuts, from_quote-leaves, keeps-cuts, keeps-follow, length-past, length-past_blank, length-past_byte, name-cuts, string_up_to-keeps}
 use Rattle.simplecss_text.proofs.reading.EachLaws.{Shrinks, Takes}
 use Rattle.simplecss_text.proofs.cutting.GuardLaws.{Along, Equal, Guard, Guarded, Never, Pairs, Repeats, Step, To, at, before-along, each-repeats, guard-got, left-to, on, past-along, starts-along}
 use Rattle.simplecss_text.proofs.cutting.NameGuards.{drop-to}
 use Rattle.simplecss_text.proofs.cutting.SearchLaws.{brace_plain, byte-finds, closed_or-guard, past_blank-to}
 use Rattle.simplecss_text.proofs.editions.EditionLaws.{Shared, each-editions, shared-ends}
-use Rattle.simplecss_text.proofs.reading.Lawful.{Lawful, Owes, blank-lawful, byte-lawful, lawful-cases, lawful-keeps, lawful-stands, name-lawful, optional-lawful, owes-choice, owes-cuts, owes-fails, owes-follow, owes-give, owes-if, owes-left, owes-past, owes-so, owes-starts, passes-starts, past-lawful, past_one-lawful, string_after-lawful}
+use Rattle.simplecss_text.proofs.reading.Lawful.{Lawful, Owes, blank-lawful, byte-lawful, lawful-cases, lawful-keeps, lawful-stands, name-lawful, optional-lawful, owes-choice, owes-cuts, owes-fails, owes-follow, owes-give, owes-if, owes-left, owes-past, owes-sign, owes-so, owes-starts, passes-sign, past-lawful, string_after-lawful}
 
 -- ---- terms
 
-after_byte-ends : (c : ℕ) (text : List ℕ) → EndsSome text (after_byte c text)
-after_byte-ends c [] = tt
-after_byte-ends c (b ∷ text) =
-    ends_some-if (b ∷ text) (b == c) (Some text) (after_byte c text) (ends-tail b text)
-    (ends_some-ends (b ∷ text) text (after_byte c text) (ends-tail b text) (after_byte-ends c text))
+-- digits are ASCII
+pub digit_low : (b : ℕ) → is_digit b ≡ true → b < 128
+digit_low b e = grind (arith, nat_tests)
 
-closed_or-ends : (text : List ℕ) (fault : Fault) (o : Option (List ℕ)) → EndsSome text o → Ends text (left_after (closed_or fault o))
-closed_or-ends text fault None h = ends-nil text
-closed_or-ends text fault (Some rest) h = h
+-- hexadecimal digits are ASCII
+pub hex_low : (b : ℕ) → is_hex_digit b ≡ true → b < 128
+hex_low b e = grind (arith, nat_tests)
+
+-- what begins a number is ASCII
+pub number_low : (b : ℕ) → begins_number b ≡ true → b < 128
+number_low b e = grind (arith, nat_tests)
+
+-- a comma and a slash are ASCII
+pub single-low : (edition : Edition) (b : ℕ) (text : List ℕ) → (b == 44 || is_slash_term edition b text) ≡ true → b < 128
+single-low first_edition b text e = grind (arith, nat_tests)
+single-low second_edition b text e = by (b == 44) (b == 47) refl refl e
+  where
+    by : (x y : Bool) → (b == 44) ≡ x → (b == 47) ≡ y → (x || (y && not (starts 42 text))) ≡ true → b < 128
+    by true y h k e = let same = same_byte b 44 h in omega arith
+    by false true h k e = let same = same_byte b 47 k in omega arith
+    by false false h k e = absurd (cc)
 
 arguments-lawful : Lawful (λ edition. arguments) (λ edition. arguments)
 arguments-lawful r s =
     owes-starts 40
-    (record {
-      ends = λ edition. closed_or-ends r ended (after_byte 41 r) (after_byte-ends 41 r);
+    (λ e. record {
+      left = λ edition. well-closed 41 r ended (after_byte 41 r) (omega arith) (after_byte-behind 41 r);
       same = λ h. refl;
       guard = λ edition u v h. closed_or-guard 125 (u ++ v) u ended ended (after_byte 41 r) (after_byte 41 s) (byte-finds 41 u v refl r s h);
     })
@@ -58,31 +78,25 @@ past_hash-to t u (fails f r) (fails e s) (inr h) = inr (past-along 125 t u is_he
 
 past_hash-owes : (r s : List ℕ) (a b : Edition → Reading (List ℕ)) → Owes r s a b → Owes r s (λ edition. got (tt {0}) (past_hash (a edition))) (λ edition. got tt (past_hash (b edition)))
 past_hash-owes r s a b p = record {
-  ends = λ edition. by (a edition) (p.ends edition);
+  left = λ edition. by (a edition) (p.left edition);
   same = λ h. ap (λ o. got tt (past_hash o)) (p.same h);
   guard = λ edition u v h. guard-got Equal 125 (u ++ v) u tt tt _ _ refl (past_hash-to (u ++ v) u (a edition) (b edition) (p.guard edition u v h));
 }
   where
-    by : (o : Reading (List ℕ)) → Ends r (left_after o) → Ends r (past_hash o)
+    by : (o : Reading (List ℕ)) → EndsWell r (left_after o) → EndsWell r (past_hash o)
     by (got n rest) h = h
-    by (fails fault rest) h = ends-ends r rest (past is_hex_digit rest) h (ends-past is_hex_digit rest)
+    by (fails fault rest) h = well-then r rest (past is_hex_digit rest) h (well-past is_hex_digit hex_low rest)
 
-past_decimals-lawful : Lawful (λ edition text. got (tt {0}) (past_decimals text)) (λ edition text. got tt (past_decimals text))
-past_decimals-lawful r s = passes-starts 46 _ _ _ _ (owes-follow (λ u edition t. got tt (past is_digit t)) (λ u edition t. got tt (past is_digit t)) (past_one-lawful r s) (λ u. past-lawful is_digit)) (owes-give tt r s)
+pub past_decimals-lawful : Lawful (λ edition text. got (tt {0}) (past_decimals text)) (λ edition text. got tt (past_decimals text))
+past_decimals-lawful r s = passes-sign 46 (omega arith) _ _ _ _ (past-lawful is_digit digit_low (past_one r) (past_one s)) (owes-give tt r s)
 
-pub ends-past_decimals : (text : List ℕ) → Ends text (past_decimals text)
-ends-past_decimals text = (past_decimals-lawful text text).ends first_edition
-
-past_unit-lawful : Lawful (λ edition text. got (tt {0}) (past_unit edition text)) (λ edition text. got tt (past_unit edition text))
-past_unit-lawful r s = passes-starts 37 _ _ _ _ (past_one-lawful r s) (owes-left (name-lawful r s))
-
-pub ends-past_unit : (edition : Edition) (text : List ℕ) → Ends text (past_unit edition text)
-ends-past_unit edition text = (past_unit-lawful text text).ends edition
+pub past_unit-lawful : Lawful (λ edition text. got (tt {0}) (past_unit edition text)) (λ edition text. got tt (past_unit edition text))
+past_unit-lawful r s = passes-sign 37 (omega arith) _ _ _ _ (owes-give tt (past_one r) (past_one s)) (owes-left (name-lawful r s))
 
 past_number-lawful : Lawful (λ edition text. got (tt {0}) (past_number edition text)) (λ edition text. got tt (past_number edition text))
 unfolding past_number
 past_number-lawful r s =
-    owes-follow (λ u edition t. got tt (past_unit edition (past_decimals t))) (λ u edition t. got tt (past_unit edition (past_decimals t))) (past-lawful is_digit r s) (λ u t w.
+    owes-follow (λ u edition t. got tt (past_unit edition (past_decimals t))) (λ u edition t. got tt (past_unit edition (past_decimals t))) (past-lawful is_digit digit_low r s) (λ u t w.
     owes-follow (λ x edition y. got tt (past_unit edition y)) (λ x edition y. got tt (past_unit edition y)) (past_decimals-lawful t w) (λ x. past_unit-lawful))
 
 word-lawful : Lawful word word
@@ -107,16 +121,16 @@ slash-along second_edition t u r s at = refl
 slash-along first_edition t u r s (on b r1 s1 room h) = refl
 slash-along second_edition t u r s (on b r1 s1 room h) = ap (λ (k : Bool). b == 47 && not k) (starts-along 125 t u 42 r1 s1 h)
 
-term-lawful : Lawful term term
+pub term-lawful : Lawful term term
 unfolding term
 term-lawful = lawful-cases term term (owes-fails ended ended [] []) (λ b r s.
-    owes-if (b == 35) (owes-past b (past_hash-owes r s _ _ (name-lawful r s)))
-    (owes-if (begins_number b) (owes-past b (past_number-lawful r s))
-    (owes-so (is_quote b) _ _ (λ e. owes-past b (quoted-lawful b e r s))
+    owes-so (b == 35) _ _ (λ e. owes-past b (omega (arith, same_byte b 35 e)) (past_hash-owes r s _ _ (name-lawful r s)))
+    (owes-so (begins_number b) _ _ (λ e. owes-past b (number_low b e) (past_number-lawful r s))
+    (owes-so (is_quote b) _ _ (λ e. owes-past b (quote_low b e) (quoted-lawful b e r s))
     (owes-choice (b ∷ r) (b ∷ s) (λ edition. b == 44 || is_slash_term edition b r) (λ edition. b == 44 || is_slash_term edition b s) _ _ _ _
     (λ h. ap (λ (k : Bool). b == 44 || k) (slash-editions b r h.0.1))
     (λ edition u v h. ap (λ (k : Bool). b == 44 || k) (slash-along edition (u ++ v) u (b ∷ r) (b ∷ s) h))
-    (owes-past b (owes-give tt r s)) (word-lawful (b ∷ r) (b ∷ s))))))
+    (λ edition e. owes-past b (single-low edition b r e) (owes-give tt r s)) (word-lawful (b ∷ r) (b ∷ s))))))
 
 pub term-stands : (edition : Edition) (text : List ℕ) → Stands text no_texts (term edition text)
 term-stands edition text = lawful-stands term term term-lawful edition text
@@ -141,11 +155,11 @@ term-cuts edition (b ∷ text) =
 
 -- ---- values
 
-term_in_value-ends : (edition : Edition) (text : List ℕ) → EndsFound text (term_in_value edition text)
-term_in_value-ends edition text = by (term edition text) ((term-lawful text text).ends edition)
+term_in_value-well : (edition : Edition) (text : List ℕ) → WellFound text (term_in_value edition text)
+term_in_value-well edition text = by (term edition text) ((term-lawful text text).left edition)
   where
-    by : (r : Reading (Unit {0})) → Ends text (left_after r) → EndsFound text (after_term r)
-    by (got x rest) h = ends-ends text rest (past_blank rest) h (ends-past_blank rest)
+    by : (r : Reading (Unit {0})) → EndsWell text (left_after r) → WellFound text (after_term r)
+    by (got x rest) h = well-then text rest (past_blank rest) h (well-past_blank rest)
     by (fails fault rest) h = tt
 
 after_term-shrinks : (text : List ℕ) (r : Reading (Unit {0})) → Cuts text r → Shrinks text (after_term r)
@@ -156,11 +170,11 @@ pub term_in_value-takes : (edition : Edition) → Takes (term_in_value edition)
 term_in_value-takes edition text = after_term-shrinks text (term edition text) (term-cuts edition text)
 
 -- what is left after the terms of a value
-ends-terms : (edition : Edition) (text : List ℕ) → Ends text (terms edition text).1
-ends-terms edition text = each-ends (term_in_value edition) (term_in_value-ends edition) text
+terms-well : (edition : Edition) (text : List ℕ) → EndsWell text (terms edition text).1
+terms-well edition text = each-well (term_in_value edition) (term_in_value-well edition) text
 
 terms-editions : (text : List ℕ) → Shared text → terms first_edition text ≡ terms second_edition text
-terms-editions text h = each-editions (term_in_value first_edition) (term_in_value second_edition) (λ t k. ap after_term ((term-lawful t t).same k)) (term_in_value-ends first_edition) text h
+terms-editions text h = each-editions (term_in_value first_edition) (term_in_value second_edition) (λ t k. ap after_term ((term-lawful t t).same k)) (λ t. found-ends t (term_in_value first_edition t) (term_in_value-well first_edition t)) text h
 
 -- reading a term would pass the brace
 abbrev TermPasses : Edition → List ℕ → List ℕ → Type 0
@@ -199,7 +213,7 @@ value_by edition text a = got (trim (before text (last_or text a.0))) (left_afte
 value-lawful : Lawful value_reader value_reader
 unfolding value
 value-lawful r s = record {
-  ends = λ edition. ends-ends r (terms edition r).1 _ (ends-terms edition r) ((term-lawful (terms edition r).1 []).ends edition);
+  left = λ edition. well-then r (terms edition r).1 _ (terms-well edition r) ((term-lawful (terms edition r).1 []).left edition);
   same = λ h. both h;
   guard = λ edition u v h. by edition u v h (terms edition r) (terms edition s) (terms-repeats edition u v r s h);
 }
@@ -207,12 +221,12 @@ value-lawful r s = record {
     both : Shared r → value_by first_edition r (terms first_edition r) ≡ value_by second_edition r (terms second_edition r)
     both h =
         let rest : List ℕ = (terms first_edition r).1 in
-        let shared : Shared rest = shared-ends r rest (ends-terms first_edition r) h in
+        let shared : Shared rest = shared-ends r rest (terms-well first_edition r).0 h in
         ap (λ (o : Reading (Unit {0})). got (trim (before r (last_or r (terms first_edition r).0))) (left_after o)) ((term-lawful rest rest).same shared)
         ∙ ap (value_by second_edition r) (terms-editions r h)
 
     by : (edition : Edition) (u v : List ℕ) → Along 125 (u ++ v) u r s → (a b : List (List ℕ) × List ℕ) → Repeats (Along 125 (u ++ v) u) (TermPasses edition (u ++ v)) 125 (u ++ v) u a b → Guard Equal 125 (u ++ v) u (value_by edition r a) (value_by edition s b)
-    by edition u v h a b (inl k) = inl (omega (arith, length-ends a.1 (left_after (term edition a.1)) ((term-lawful a.1 a.1).ends edition)))
+    by edition u v h a b (inl k) = inl (omega (arith, length-ends a.1 (left_after (term edition a.1)) ((term-lawful a.1 a.1).left edition).0))
     by edition u v h a b (inr (inl k)) = inl k
     by edition u v h a b (inr (inr k)) =
         let same : before r (last_or r a.0) ≡ before s (last_or s b.0) = before-along 125 (u ++ v) u r s _ _ h (last_or-along (u ++ v) u r s a.0 b.0 h k.0) in
@@ -220,13 +234,13 @@ value-lawful r s = record {
 
 -- ---- what stands behind a value
 
-semicolon-ends : (text : List ℕ) → EndsFound text (semicolon text)
-semicolon-ends [] = tt
-semicolon-ends (b ∷ text) = by (b == 59)
+semicolon-well : (text : List ℕ) → WellFound text (semicolon text)
+semicolon-well [] = tt
+semicolon-well (b ∷ text) = by (b == 59) refl
   where
-    by : (k : Bool) → EndsFound {A = Unit {0}} (b ∷ text) (if k then Some (tt, past_blank text) else None)
-    by true = ends-cons b text (past_blank text) (ends-past_blank text)
-    by false = tt
+    by : (k : Bool) → (b == 59) ≡ k → WellFound {A = Unit {0}} (b ∷ text) (if k then Some (tt, past_blank text) else None)
+    by true e = well-then (b ∷ text) text (past_blank text) (well-tail b text (omega (arith, same_byte b 59 e))) (well-past_blank text)
+    by false e = tt
 
 pub semicolon-takes : Takes semicolon
 semicolon-takes [] = tt
@@ -250,7 +264,7 @@ semicolon-step u v r s (on b r1 s1 room h) = by (b == 59)
 
 semicolons-lawful : Lawful (λ edition. semicolons) (λ edition. semicolons)
 semicolons-lawful r s = record {
-  ends = λ edition. each-ends semicolon semicolon-ends r;
+  left = λ edition. each-well semicolon semicolon-well r;
   same = λ h. refl;
   guard = λ edition u v h. by u v (each semicolon r) (each semicolon s) (each-repeats Equal Never 125 (u ++ v) u semicolon semicolon-takes (semicolon-step u v) (length r) r s (omega arith) h);
 }
@@ -271,19 +285,23 @@ begins-along t u [] n r s h = refl
 begins-along t u (c ∷ word) n r s at = let e : eqb c 125 ≡ false = n.0 in rw e refl
 begins-along t u (c ∷ word) n r s (on b r1 s1 room h) = ap (λ (k : Bool). eqb c b && k) (begins-along t u word n.1 r1 s1 h)
 
+important_word-well : (text : List ℕ) → starts_with eqb text (codes "important") ≡ true → EndsWell text (drop 9 text)
+unfolding encode
+important_word-well text e =
+    let same = (bytes_eq-Decides (codes "important") (take 9 text)).0 e in
+    let whole : text ≡ codes "important" ++ drop 9 text = sym (take-append-drop 9 text) ∙ ap (λ l. l ++ drop 9 text) (sym same) in
+    (ends-drop 9 text, λ u. utf8-second (codes "important") (drop 9 text) (subst IsUtf8 whole u) (codes "important", (refl, refl)))
+
 important_word-lawful : Lawful (λ edition. important_word) (λ edition. important_word)
 important_word-lawful r s =
     owes-choice r s (λ edition. starts_with eqb r (codes "important")) (λ edition. starts_with eqb s (codes "important")) _ _ _ _ (λ h. refl)
     (λ edition u v h. begins-along (u ++ v) u (codes "important") (refl, (refl, (refl, (refl, (refl, (refl, (refl, (refl, (refl, tt))))))))) r s h)
-    (record { ends = λ edition. ends-drop 9 r; same = λ h. refl; guard = λ edition u v h. guard-got Equal 125 (u ++ v) u true true (drop 9 r) (drop 9 s) refl (drop-to 125 (u ++ v) u 9 r s h) })
+    (λ edition e. record { left = λ edition. important_word-well r e; same = λ h. refl; guard = λ edition u v h. guard-got Equal 125 (u ++ v) u true true (drop 9 r) (drop 9 s) refl (drop-to 125 (u ++ v) u 9 r s h) })
     (owes-give false r s)
-
-after_mark-lawful : Lawful (λ edition. after_mark) (λ edition. after_mark)
-after_mark-lawful r s = owes-follow _ _ (past_one-lawful r s) (λ u r s. owes-follow _ _ (blank-lawful r s) (λ u. important_word-lawful))
 
 importance-lawful : Lawful (λ edition. importance) (λ edition. importance)
 unfolding importance
-importance-lawful r s = owes-starts 33 (after_mark-lawful r s) (owes-give false r s)
+importance-lawful r s = owes-sign 33 (omega arith) (owes-follow _ _ (blank-lawful (past_one r) (past_one s)) (λ u. important_word-lawful)) (owes-give false r s)
 
 trailing-lawful : Lawful (λ edition. trailing) (λ edition. trailing)
 unfolding trailing
@@ -316,7 +334,7 @@ behind_name property edition = do
 behind_name-lawful : (property : List ℕ) → Lawful (behind_name property) (behind_name property)
 behind_name-lawful property r s =
     owes-follow _ _ (blank-lawful r s) (λ u r s.
-    owes-follow _ _ (byte-lawful 58 r s) (λ u r s.
+    owes-follow _ _ (byte-lawful 58 (omega arith) r s) (λ u r s.
     owes-follow _ _ (blank-lawful r s) (λ u start other.
     owes-follow _ _ (value-lawful start other) (λ stated r s.
     owes-follow _ _ (trailing-lawful r s) (λ important.
@@ -326,7 +344,7 @@ pub declaration-lawful : Lawful declaration declaration
 unfolding declaration
 declaration-lawful r s =
     owes-follow _ _ (blank-lawful r s) (λ u r s.
-    owes-follow _ _ (optional-lawful 42 r s) (λ u r s.
+    owes-follow _ _ (optional-lawful 42 (omega arith) r s) (λ u r s.
     owes-follow _ _ (name-lawful r s) behind_name-lawful))
 
 -- it takes a byte or more
@@ -346,7 +364,7 @@ declaration-guarded edition u v r s h = (declaration-lawful r s).guard edition u
 -- ---- blocks
 
 pub declaration_in_block-ends : (edition : Edition) (text : List ℕ) → EndsFound text (declaration_in_block edition text)
-declaration_in_block-ends edition text = by (ends_list text) (declaration edition text) ((declaration-lawful text text).ends edition)
+declaration_in_block-ends edition text = by (ends_list text) (declaration edition text) ((declaration-lawful text text).left edition).0
   where
     by : (k : Bool) (r : Reading StyleDeclaration) → Ends text (left_after r) → EndsFound text (if k then None else found r)
     by true r h = tt

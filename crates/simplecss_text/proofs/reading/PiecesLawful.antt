@@ -1,10 +1,10 @@
 -- The pieces of a selector owe what every reader owes, and take bytes.
 -- Serves `SelectorTokenizer`, `StyleSheet::{parse, parse_more}` and `laws::{cutting_law,
 -- edition_law}`.
-use Rattle.std.proofs.Common.{◌≡◌, ◌≤◌, Bool, List, [], ap, arith, bytes_eq, codes, false, if◌then◌else◌, inl, inr, length, not, refl, subst, true, ℕ, ◌++◌, ◌==◌, ◌∷◌}
+use Rattle.std.proofs.Common.{◌≡◌, ◌≤◌, Bool, List, [], ap, arith, bytes_eq, codes, false, if◌then◌else◌, inl, inr, length, not, refl, subst, true, ℕ, ◌++◌, ◌==◌, ◌∷◌, ◌<◌}
 use Rattle.std.specs.List.{list_any}
 use Rattle.std.specs.Str.{trim}
-use Rattle.simplecss_text.specs.Reading.{Reading, before, each, ended, fails, follow, got, left_after, no_attribute_form, no_comment, no_language, no_selector}
+use Rattle.simplecss_text.specs.Reading.{Ends, Reading, before, each, ended, fails, follow, got, left_after, no_attribute_form, no_comment, no_language, no_selector}
 use Rattle.simplecss_text.specs.Bytes.{all_before, past, past_one}
 use Rattle.simplecss_text.specs.declared.next_kind.NextKind.{NextKind}
 use Rattle.simplecss_text.specs.declared.next_kind.NextKind.TheVariants.{Stop, Slash, Child, Adjacent, Universal, Id, Class, Attribute, Colon, Other}
@@ -19,15 +19,19 @@ use Rattle.simplecss_text.specs.Tokens.Token.{adjacent_combinator, attribute_sel
 use Rattle.simplecss_text.specs.Pieces.{attribute_after, attribute_operator, next_kind, solid_as, equated, lang_after, lang_of, named_token, next_piece, piece, pseudo_class_after, pseudo_class_named, solid}
 use Rattle.simplecss_text.proofs.reading.EachLaws.{Takes}
 use Rattle.simplecss_text.proofs.reading.TakesLaws.{Cuts, cuts-follow, follow-cuts, found-shrinks, gap-keeps, name-cuts}
-use Rattle.simplecss_text.proofs.reading.EndsLaws.{ends-past}
-use Rattle.simplecss_text.proofs.reading.Lawful.{Lawful, byte-lawful, lawful-cases, name-lawful, owes-cuts, owes-fails, owes-follow, owes-give, owes-if, owes-past, owes-past_one, owes-so, string_after-lawful}
+use Rattle.simplecss_text.proofs.reading.EndsLaws.{ends-same}
+use Rattle.simplecss_text.proofs.reading.KindLaws.{HasSign, sign-begins}
+use Rattle.simplecss_text.proofs.reading.WellLaws.{well-behind, well-until}
+use Rattle.simplecss_text.proofs.printed.PrintedHeads.{same_byte}
+use Rattle.simplecss_text.proofs.printed.ReadValues.{quote_low}
+use Rattle.simplecss_text.proofs.reading.Lawful.{Lawful, Owes, byte-lawful, lawful-cases, name-lawful, owes-alike, owes-cuts, owes-fails, owes-follow, owes-give, owes-if, owes-past, owes-past_one, owes-so, string_after-lawful}
 use Rattle.simplecss_text.proofs.cutting.GuardLaws.{Along, Equal, Guard, Guarded, Never, Repeats, To, at, before-along, on, pairs-equal, past-to}
 use Rattle.simplecss_text.proofs.cutting.SearchLaws.{blank-repeats, brace_plain, opens_comment-along}
 
 string_or_name-lawful : Lawful string_or_name string_or_name
 unfolding string_or_name
 string_or_name-lawful = lawful-cases string_or_name string_or_name (owes-fails ended ended [] []) (λ b r s.
-    owes-so (is_quote b) _ _ (λ e. owes-past b (string_after-lawful b e r s)) (name-lawful (b ∷ r) (b ∷ s)))
+    owes-so (is_quote b) _ _ (λ e. owes-past b (quote_low b e) (string_after-lawful b e r s)) (name-lawful (b ∷ r) (b ∷ s)))
 
 named_token-lawful : (token : List ℕ → Token) → Lawful (λ edition. named_token edition token) (λ edition. named_token edition token)
 unfolding named_token
@@ -37,7 +41,7 @@ named_token-lawful token r s = owes-follow _ _ (name-lawful r s) (λ n. owes-giv
 
 equated-lawful : (operator : List ℕ → Operator) → Lawful (λ edition. equated edition operator) (λ edition. equated edition operator)
 equated-lawful operator r s =
-    owes-follow _ _ (byte-lawful 61 r s) (λ u r s.
+    owes-follow _ _ (byte-lawful 61 (omega arith) r s) (λ u r s.
     owes-follow _ _ (string_or_name-lawful r s) (λ value. owes-give (operator value)))
 
 attribute_operator-lawful : Lawful attribute_operator attribute_operator
@@ -45,8 +49,8 @@ unfolding attribute_operator
 attribute_operator-lawful = lawful-cases attribute_operator attribute_operator (owes-fails ended ended [] []) (λ b r s.
     owes-if (b == 93) (owes-give exists (b ∷ r) (b ∷ s))
     (owes-if (b == 61) (equated-lawful equals (b ∷ r) (b ∷ s))
-    (owes-if (b == 126) (owes-past b (equated-lawful has_word r s))
-    (owes-if (b == 124) (owes-past b (equated-lawful begins_with r s))
+    (owes-so (b == 126) _ _ (λ e. owes-past b (omega (arith, same_byte b 126 e)) (equated-lawful has_word r s))
+    (owes-so (b == 124) _ _ (λ e. owes-past b (omega (arith, same_byte b 124 e)) (equated-lawful begins_with r s))
     (owes-fails no_attribute_form no_attribute_form (b ∷ r) (b ∷ s))))))
 
 attribute_after-lawful : Lawful attribute_after attribute_after
@@ -54,13 +58,13 @@ unfolding attribute_after
 attribute_after-lawful r s =
     owes-follow _ _ (name-lawful r s) (λ n r s.
     owes-follow _ _ (attribute_operator-lawful r s) (λ operator r s.
-    owes-follow _ _ (byte-lawful 93 r s) (λ u. owes-give (attribute_selector n operator))))
+    owes-follow _ _ (byte-lawful 93 (omega arith) r s) (λ u. owes-give (attribute_selector n operator))))
 
 -- ---- pseudo-classes
 
-all_before-lawful : (c : ℕ) → Lawful (λ edition. all_before c) (λ edition. all_before c)
-all_before-lawful c r s = record {
-  ends = λ edition. ends-past (λ b. not (b == c)) r;
+all_before-lawful : (c : ℕ) → c < 128 → Lawful (λ edition. all_before c) (λ edition. all_before c)
+all_before-lawful c low r s = record {
+  left = λ edition. well-until c low r;
   same = λ h. refl;
   guard = λ edition u v h. by u v h (past (λ b. not (b == c)) r) (past (λ b. not (b == c)) s) (past-to 125 (u ++ v) u (λ b. not (b == c)) r s h);
 }
@@ -75,9 +79,9 @@ lang_of-lawful value r s = owes-if (length value == 0) (owes-fails no_language n
 lang_after-lawful : Lawful (λ edition. lang_after) (λ edition. lang_after)
 unfolding lang_after
 lang_after-lawful r s =
-    owes-follow _ _ (byte-lawful 40 r s) (λ u r s.
-    owes-follow _ _ (all_before-lawful 41 r s) (λ value r s.
-    owes-follow _ _ (byte-lawful 41 r s) (λ u. lang_of-lawful (trim value))))
+    owes-follow _ _ (byte-lawful 40 (omega arith) r s) (λ u r s.
+    owes-follow _ _ (all_before-lawful 41 (omega arith) r s) (λ value r s.
+    owes-follow _ _ (byte-lawful 41 (omega arith) r s) (λ u. lang_of-lawful (trim value))))
 
 pseudo_class_after-lawful : Lawful pseudo_class_after pseudo_class_after
 unfolding pseudo_class_after
@@ -85,17 +89,23 @@ pseudo_class_after-lawful r s = owes-follow (λ n edition. pseudo_class_named n)
 
 -- ---- solid pieces
 
-solid_as-lawful : (kind : NextKind) → Lawful (λ edition. solid_as edition kind) (λ edition. solid_as edition kind)
-solid_as-lawful Stop r s = owes-fails no_selector no_selector r s
-solid_as-lawful Slash r s = owes-fails no_selector no_selector r s
-solid_as-lawful Child r s = owes-past_one r s (owes-give child_combinator (past_one r) (past_one s))
-solid_as-lawful Adjacent r s = owes-past_one r s (owes-give adjacent_combinator (past_one r) (past_one s))
-solid_as-lawful Universal r s = owes-past_one r s (owes-give universal_selector (past_one r) (past_one s))
-solid_as-lawful Id r s = owes-past_one r s (named_token-lawful id_selector (past_one r) (past_one s))
-solid_as-lawful Class r s = owes-past_one r s (named_token-lawful class_selector (past_one r) (past_one s))
-solid_as-lawful Attribute r s = owes-past_one r s (attribute_after-lawful (past_one r) (past_one s))
-solid_as-lawful Colon r s = owes-past_one r s (pseudo_class_after-lawful (past_one r) (past_one s))
-solid_as-lawful Other r s = named_token-lawful type_selector r s
+-- what stands behind the sign that a kind begins with
+owes-sign_of : {A : Type 0} {a b : Edition → Reading A} (kind : NextKind) (r s : List ℕ) → HasSign kind → next_kind r ≡ kind → Owes (past_one r) (past_one s) a b → Owes r s a b
+owes-sign_of kind r s h k p =
+    let sign = sign-begins kind r h k in
+    owes-past_one r s (well-behind sign.byte r (past_one r) sign.ascii (subst (Ends r) sign.is (ends-same r))) p
+
+solid_as-lawful : (r s : List ℕ) (kind : NextKind) → next_kind r ≡ kind → Owes r s (λ edition. solid_as edition kind r) (λ edition. solid_as edition kind s)
+solid_as-lawful r s Stop k = owes-fails no_selector no_selector r s
+solid_as-lawful r s Slash k = owes-fails no_selector no_selector r s
+solid_as-lawful r s Child k = owes-sign_of Child r s tt k (owes-give child_combinator (past_one r) (past_one s))
+solid_as-lawful r s Adjacent k = owes-sign_of Adjacent r s tt k (owes-give adjacent_combinator (past_one r) (past_one s))
+solid_as-lawful r s Universal k = owes-sign_of Universal r s tt k (owes-give universal_selector (past_one r) (past_one s))
+solid_as-lawful r s Id k = owes-sign_of Id r s tt k (named_token-lawful id_selector (past_one r) (past_one s))
+solid_as-lawful r s Class k = owes-sign_of Class r s tt k (named_token-lawful class_selector (past_one r) (past_one s))
+solid_as-lawful r s Attribute k = owes-sign_of Attribute r s tt k (attribute_after-lawful (past_one r) (past_one s))
+solid_as-lawful r s Colon k = owes-sign_of Colon r s tt k (pseudo_class_after-lawful (past_one r) (past_one s))
+solid_as-lawful r s Other k = named_token-lawful type_selector r s
 
 pub next_kind-along : (g : ℕ) (t u r s : List ℕ) → Along g t u r s → next_kind r ≡ next_kind s
 unfolding next_kind
@@ -105,12 +115,7 @@ next_kind-along g t u r s (on b r1 s1 room h) = refl
 pub solid-lawful : Lawful solid solid
 unfolding solid
 solid-lawful r s =
-    let p = solid_as-lawful (next_kind r) r s in
-    record {
-      ends = p.ends;
-      same = p.same;
-      guard = λ edition u v h. subst (λ k. Guard Equal 125 (u ++ v) u (solid_as edition (next_kind r) r) (solid_as edition k s)) (next_kind-along 125 (u ++ v) u r s h) (p.guard edition u v h);
-    }
+    owes-alike (λ edition u v h. ap (λ k. solid_as edition k s) (next_kind-along 125 (u ++ v) u r s h)) (solid_as-lawful r s (next_kind r) refl)
 
 pub solid-guarded : (edition : Edition) (u v : List ℕ) → Guarded Equal 125 (u ++ v) u (solid edition) (solid edition)
 solid-guarded edition u v r s h = (solid-lawful r s).guard edition u v h

@@ -141,9 +141,9 @@ utf8-behind text rest b ascii u e =
     let cut : IsCharBoundary text (length front + 1) = IsCharBoundary-after_ascii text (length front) u (omega arith) (omega arith) in
     subst IsUtf8 left (IsUtf8-drop text (length front + 1) u cut)
 
--- so does what stands before the first such byte
-utf8-before : (text : List ℕ) (c : ℕ) → c < 128 → IsUtf8 text → IsUtf8 (take (prefix_len (λ b. not (b == c)) text) text)
-utf8-before text c ascii u = IsUtf8-take text k u (by (eq-or-lt_of_le (prefix_len-le-length other text)))
+-- the first such byte is at the boundary of a character
+pub until-boundary : (text : List ℕ) (c : ℕ) → c < 128 → IsUtf8 text → IsCharBoundary text (prefix_len (λ b. not (b == c)) text)
+until-boundary text c ascii u = by (eq-or-lt_of_le (prefix_len-le-length other text))
   where
     other : ℕ → Bool
     other b = not (b == c)
@@ -156,6 +156,10 @@ utf8-before text c ascii u = IsUtf8-take text k u (by (eq-or-lt_of_le (prefix_le
     by (inr some) =
         let closing : get_or text k 0 ≡ c = eqb-true (get_or text k 0) c (not-false (get_or text k 0 == c) (prefix_len_stops other text 0 some)) in
         IsCharBoundary-before_ascii text k some (omega arith)
+
+-- what stands before the first such byte is the UTF-8 of some characters
+utf8-before : (text : List ℕ) (c : ℕ) → c < 128 → IsUtf8 text → IsUtf8 (take (prefix_len (λ b. not (b == c)) text) text)
+utf8-before text c ascii u = IsUtf8-take text (prefix_len (λ b. not (b == c)) text) u (until-boundary text c ascii u)
 
 -- what trim leaves stands between the white space at both ends
 skip-case : (c : ℕ) (cs k w : List ℕ) (t : Bool) → cs ≡ w ++ k → (v : List ℕ) × (c ∷ cs ≡ v ++ cond t k (c ∷ cs))

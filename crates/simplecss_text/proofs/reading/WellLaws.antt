@@ -1,0 +1,118 @@
+-- What is left after reading: an end of the text, and UTF-8 if the text is.
+-- Serves `StyleSheet::{parse, parse_more}` and `laws::{cutting_law, edition_law}`.
+use Rattle.std.proofs.Common.{◌≡◌, ℕ, ◌<◌, List, [], ◌∷◌, Bool, true, false, if◌then◌else◌, ◌==◌, not, arith, Option, Some, None, zero, suc, length, refl, sym, subst, IsUtf8}
+use Rattle.std.specs.List.{prefix_len}
+use Rattle.std.proofs.lemmas.Str.{IsUtf8-nil, IsUtf8-drop}
+use Rattle.simplecss_text.specs.Reading.{Fault, Ends, Reading, and_then, each, fails, got, left_after, no_comment, up_to, wrong_byte}
+use Rattle.simplecss_text.specs.Bytes.{byte, closed_or, past, past_byte, past_one, starts}
+use Rattle.simplecss_text.specs.Characters.{Edition}
+use Rattle.simplecss_text.specs.Comments.{blank, opens_comment, past_blank}
+use Rattle.simplecss_text.specs.Names.{name}
+use Rattle.simplecss_text.specs.Strings.{from_quote, string_after, string_up_to}
+use Rattle.simplecss_text.proofs.reading.EndsLaws.{EndsFound, ends-by, ends-ends, ends-nil, ends-past, ends-past_byte, ends-same, ends-tail, itself, stands-ends}
+use Rattle.simplecss_text.proofs.reading.StandLaws.{ends-past_blank, name-stands, until-boundary, utf8-behind}
+use Rattle.simplecss_text.proofs.bytes.Utf8Laws.{utf8-past, utf8-past_byte_if}
+use Rattle.simplecss_text.proofs.printed.GotLaws.{IfBehind, starts-cons}
+use Rattle.simplecss_text.proofs.printed.PrintedHeads.{same_byte}
+use Rattle.simplecss_text.proofs.printed.ReadBlanks.{past_blank-utf8}
+use Rattle.simplecss_text.proofs.printed.ReadNames.{name-fails, name-is}
+use Rattle.simplecss_text.proofs.printed.ReadStrings.{IfCloses, from_quote-closes}
+
+-- an end of the text, and UTF-8 if the text is
+abbrev pub EndsWell : List ℕ → List ℕ → Type 0
+EndsWell text rest = Ends text rest × (IsUtf8 text → IsUtf8 rest)
+
+pub well-same : (text : List ℕ) → EndsWell text text
+well-same text = (ends-same text, λ u. u)
+
+pub well-nil : (text : List ℕ) → EndsWell text []
+well-nil text = (ends-nil text, λ u. IsUtf8-nil)
+
+pub well-then : (text middle rest : List ℕ) → EndsWell text middle → EndsWell middle rest → EndsWell text rest
+well-then text middle rest h k = (ends-ends text middle rest h.0 k.0, λ u. k.1 (h.1 u))
+
+-- ---- bytes
+
+pub well-behind : (c : ℕ) (text rest : List ℕ) → c < 128 → Ends text (c ∷ rest) → EndsWell text rest
+well-behind c text rest low h = (ends-ends text (c ∷ rest) rest h (ends-tail c rest), λ u. utf8-behind text rest c low u h)
+
+-- the byte that begins a text
+pub well-tail : (c : ℕ) (text : List ℕ) → c < 128 → EndsWell (c ∷ text) text
+well-tail c text low = well-behind c (c ∷ text) text low (ends-same (c ∷ text))
+
+pub well-sign : (c : ℕ) (text : List ℕ) → c < 128 → starts c text ≡ true → EndsWell text (past_one text)
+well-sign c text low e = well-behind c text (past_one text) low (ends-by text [] (c ∷ past_one text) (sym (starts-cons c text e)))
+
+pub well-past_byte : (c : ℕ) (text : List ℕ) → c < 128 → EndsWell text (past_byte c text)
+well-past_byte c text low = (ends-past_byte c text, utf8-past_byte_if c text low)
+
+pub well-byte : (c : ℕ) (text : List ℕ) → c < 128 → EndsWell text (left_after (byte c text))
+well-byte c [] low = well-same []
+well-byte c (b ∷ text) low = by (b == c) refl
+  where
+    by : (k : Bool) → (b == c) ≡ k → EndsWell (b ∷ text) (left_after (if k then got (tt {0}) text else fails (wrong_byte c (b ∷ text)) (b ∷ text)))
+    by true e = well-tail b text (omega (arith, same_byte b c e))
+    by false e = well-same (b ∷ text)
+
+-- a run of ASCII bytes
+pub well-past : (test : ℕ → Bool) → ((b : ℕ) → test b ≡ true → b < 128) → (text : List ℕ) → EndsWell text (past test text)
+well-past test low text = (ends-past test text, utf8-past test text low)
+
+-- all up to an ASCII byte
+pub well-until : (c : ℕ) → c < 128 → (text : List ℕ) → EndsWell text (past (λ b. not (b == c)) text)
+well-until c low text = (ends-past (λ b. not (b == c)) text, λ u. IsUtf8-drop text (prefix_len (λ b. not (b == c)) text) u (until-boundary text c low u))
+
+-- what is closed by an ASCII byte
+pub well-closed : (c : ℕ) (text : List ℕ) (fault : Fault) (o : Option (List ℕ)) → c < 128 → IfBehind c text o → EndsWell text (left_after (closed_or fault o))
+well-closed c text fault None low h = well-nil text
+well-closed c text fault (Some rest) low h = well-behind c text rest low (ends-by text h.0 (c ∷ rest) (sym h.1))
+
+-- ---- blanks, names, strings
+
+pub well-past_blank : (text : List ℕ) → EndsWell text (past_blank text)
+well-past_blank text = (ends-past_blank text, past_blank-utf8 text)
+
+pub well-blank : (text : List ℕ) → EndsWell text (left_after (blank text))
+unfolding blank
+well-blank text = by (opens_comment (past_blank text))
+  where
+    by : (k : Bool) → EndsWell text (left_after (if k then fails (no_comment (past_blank text)) [] else got (tt {0}) (past_blank text)))
+    by true = well-nil text
+    by false = well-past_blank text
+
+pub well-name : (edition : Edition) (text : List ℕ) → EndsWell text (left_after (name edition text))
+well-name edition text = (stands-ends text itself (name edition text) (name-stands edition text), λ u. by u (name edition text) refl)
+  where
+    by : IsUtf8 text → (r : Reading (List ℕ)) → name edition text ≡ r → IsUtf8 (left_after r)
+    by u (got n rest) e = (name-is edition text n rest u e).rest_is
+    by u (fails fault rest) e = subst IsUtf8 (sym (name-fails edition text rest fault e).1) (utf8-past_byte_if 45 text (omega arith) u)
+
+pub well-string : (quote : ℕ) (text : List ℕ) → quote < 128 → EndsWell text (left_after (string_after quote text))
+well-string quote text low = by (from_quote quote quote text) (from_quote-closes quote quote text)
+  where
+    by : (o : Option (List ℕ)) → IfCloses quote quote text o → EndsWell text (left_after (string_up_to text o))
+    by None c = well-nil text
+    by (Some closing) c = rw c.closing_is (well-behind quote text c.behind low (ends-by text c.front (quote ∷ c.behind) (sym c.is)))
+
+-- ---- what repeats
+
+-- what is left after something that was found
+abbrev pub WellFound : {A : Type 0} → List ℕ → Option (A × List ℕ) → Type 0
+WellFound text None = Unit {0}
+WellFound text (Some x) = EndsWell text x.1
+
+pub found-ends : {A : Type 0} (text : List ℕ) (o : Option (A × List ℕ)) → WellFound text o → EndsFound text o
+found-ends text None h = tt
+found-ends text (Some x) h = h.0
+
+up_to-well : {A : Type 0} (read : List ℕ → Option (A × List ℕ)) → ((text : List ℕ) → WellFound text (read text)) → (n : ℕ) (text : List ℕ) → EndsWell text (up_to n read text).1
+up_to-well read well zero text = well-same text
+up_to-well {A = A} read well (suc n) text = by (λ t. up_to-well read well n t) (read text) (well text)
+  where
+    by : ((t : List ℕ) → EndsWell t (up_to n read t).1) → (o : Option (A × List ℕ)) → WellFound text o → EndsWell text (and_then text o (up_to n read)).1
+    by more None h = well-same text
+    by more (Some x) h = well-then text x.1 (up_to n read x.1).1 h (more x.1)
+
+pub each-well : {A : Type 0} (read : List ℕ → Option (A × List ℕ)) → ((text : List ℕ) → WellFound text (read text)) → (text : List ℕ) → EndsWell text (each read text).1
+unfolding each
+each-well read well text = up_to-well read well (length text) text
