@@ -1,7 +1,6 @@
 -- Declarations, rules and sheets that were read, printed and read again.
 pub mod KeptRules
 pub mod KeptSelectors
-pub mod TermTails
 pub mod BlankTails
 pub mod TermEnds
 pub mod TrimBare

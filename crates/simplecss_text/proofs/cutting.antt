@@ -1,7 +1,4 @@
 -- Texts that are read in pieces.
-pub mod GuardLaws
-pub mod SearchLaws
-pub mod NameGuards
 pub mod BlockGuards
 pub mod BlockEndGuards
 pub mod BlockCuts
@@ -10,7 +7,6 @@ pub mod SelectorGuards
 pub mod RuleSetCuts
 pub mod AtRuleCuts
 pub mod StatementEnds
-pub mod RoomLaws
 pub mod StatementCuts
 pub mod CuttingLaws
 pub mod SkipEnds

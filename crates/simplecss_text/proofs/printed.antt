@@ -15,5 +15,4 @@ pub mod ReadBlanks
 pub mod ReadPieces
 pub mod ReadSequences
 pub mod ReadSelectors
-pub mod TailLaws
 pub mod StyledWrites

@@ -13,6 +13,9 @@ pub mod SequenceStandLaws
 pub mod BeforeLaws
 pub mod GivesLaws
 pub mod WellLaws
+pub mod LocalLaws
+pub mod SearchLaws
+pub mod NameLocal
 pub mod Lawful
 pub mod DeclarationsLawful
 pub mod PiecesLawful

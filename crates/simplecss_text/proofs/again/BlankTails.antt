@@ -1,38 +1,15 @@
 -- A blank is read alike in texts that differ only in a tail that it does not reach.
 -- Serves `prints_back` of `StyleSheet::{parse, parse_all, parse_more}` (a sheet printed and read
 -- again).
-use Rattle.std.proofs.Common.{◌≡◌, ℕ, zero, suc, ◌<◌, List, [], ◌∷◌, ◌++◌, Bool, true, false, if◌then◌else◌, ◌&&◌, ◌==◌, length, Option, Some, None, IfSome, arith, refl, sym, ap, ◌∙◌, subst, length-append, IsUtf8}
+use Rattle.std.proofs.Common.{◌≡◌, ℕ, zero, suc, ◌<◌, List, ◌∷◌, Bool, true, false, if◌then◌else◌, ◌&&◌, ◌==◌, length, Option, Some, None, arith, refl, sym, ap, ◌∙◌, subst, inl, inr}
 use Rattle.std.specs.Option.{option_map}
-use Rattle.simplecss_text.specs.Bytes.{past_one, starts, starts_two}
-use Rattle.simplecss_text.specs.Characters.{Edition, is_space}
+use Rattle.simplecss_text.specs.Bytes.{starts}
+use Rattle.simplecss_text.specs.Characters.{is_space}
 use Rattle.simplecss_text.specs.Comments.{opens_comment, after_close, after_comment, blank_part, past_blank}
 use Rattle.simplecss_text.proofs.reading.EachLaws.{each-none, each-some}
-use Rattle.simplecss_text.proofs.reading.TakesLaws.{Leaves, after_comment-leaves, blank_part-takes, length-past_blank}
-use Rattle.simplecss_text.proofs.printed.PrintedNames.{both_true}
-use Rattle.simplecss_text.proofs.bytes.Utf8Laws.{utf8-past_byte, utf8-behind_byte}
-use Rattle.simplecss_text.proofs.printed.GotLaws.{IfBehind, starts-cons, after_close-behind}
-use Rattle.simplecss_text.proofs.bytes.CutLemmas.{is_space-ascii}
-use Rattle.simplecss_text.proofs.printed.ReadBlanks.{opens_comment-two}
-use Rattle.simplecss_text.proofs.printed.TailLaws.{Quiet, Tails}
-use Rattle.simplecss_text.proofs.again.TermTails.{FoundAgain, found-later}
-
-found-nil : (c : ℕ) (r s : List ℕ) (o other : Option (List ℕ)) → IfBehind c r o → IfSome o (FoundAgain c [] r s other)
-found-nil c r s None other h = tt
-found-nil c r s (Some rest) other h = λ l. absurd (omega (arith, l, ap length h.1, length-append h.0 (c ∷ rest)))
-
-after_close-again : (front r s : List ℕ) → IfSome (after_close (front ++ r)) (FoundAgain 47 front r s (after_close (front ++ s)))
-after_close-again [] r s = found-nil 47 r s (after_close r) (after_close s) (after_close-behind r)
-after_close-again (b ∷ []) r s = by (starts_two 42 47 (b ∷ r)) refl
-  where
-    by : (t : Bool) → starts_two 42 47 (b ∷ r) ≡ t → IfSome (if t then Some (past_one r) else after_close r) (FoundAgain 47 (b ∷ []) r s (after_close (b ∷ s)))
-    by true e = λ l. absurd (let there = starts-cons 47 r (both_true (b == 42) (starts 47 r) e).1 in omega (arith, l, ap length there))
-    by false e = found-later 47 b [] r s (after_close r) (after_close (b ∷ s)) (found-nil 47 r s (after_close r) (after_close (b ∷ s)) (after_close-behind r))
-after_close-again (b ∷ c ∷ front) r s = by (starts_two 42 47 (b ∷ c ∷ (front ++ r))) refl (after_close-again (c ∷ front) r s)
-  where
-    by : (t : Bool) → starts_two 42 47 (b ∷ c ∷ (front ++ r)) ≡ t → IfSome (after_close (c ∷ (front ++ r))) (FoundAgain 47 (c ∷ front) r s (after_close (c ∷ (front ++ s))))
-        → IfSome (if t then Some (front ++ r) else after_close (c ∷ (front ++ r))) (FoundAgain 47 (b ∷ c ∷ front) r s (if t then Some (front ++ s) else after_close (c ∷ (front ++ s))))
-    by true e more = λ l. (front, b ∷ [], refl, refl, ap (λ t. b ∷ t) (starts-cons 47 (c ∷ front) (both_true (b == 42) (c == 47) e).1))
-    by false e more = found-later 47 b (c ∷ front) r s (after_close (c ∷ (front ++ r))) (after_close (c ∷ (front ++ s))) more
+use Rattle.simplecss_text.proofs.reading.TakesLaws.{Leaves, after_close-leaves, after_comment-leaves, blank_part-takes, length-past_blank}
+use Rattle.simplecss_text.proofs.reading.LocalLaws.{Along, at, on}
+use Rattle.simplecss_text.proofs.reading.SearchLaws.{FindsAlike, close-along}
 
 -- a space byte in front of a blank belongs to it
 pub past_blank-space : (b : ℕ) (text : List ℕ) → is_space b ≡ true → past_blank (b ∷ text) ≡ past_blank text
@@ -64,65 +41,52 @@ past_blank-open b text e f g =
     part_is : (s o : Bool) (c : Option (List ℕ)) → s ≡ false → o ≡ true → c ≡ None → Path (Option (Bool × List ℕ)) (if s then Some (true, text) else (if o then option_map (λ rest. (false, rest)) c else None)) None
     part_is s o c e f g = rw (e, f, g) refl
 
--- the blank in both texts, where more than the tail is left
-abbrev BlankAgain : (r s front : List ℕ) → Type 0
-BlankAgain r s front = length r < length (past_blank (front ++ r)) → opens_comment (past_blank (front ++ r)) ≡ false → Tails r s (past_blank (front ++ r)) (past_blank (front ++ s))
+-- the blank in both texts, where more than the tail is left and no comment is open
+abbrev BlankAgain : (t u r s : List ℕ) → Type 0
+BlankAgain t u r s = length t < length (past_blank r) → opens_comment (past_blank r) ≡ false → Along t u (past_blank r) (past_blank s)
 
-comment-again : (r : List ℕ) (q : ℕ) (more : List ℕ) (b : ℕ) (front : List ℕ) → IsUtf8 (b ∷ front) → is_space b ≡ false → opens_comment (b ∷ (front ++ r)) ≡ true → ((left : List ℕ) → length left < length front → IsUtf8 left → BlankAgain r (q ∷ more) left) → BlankAgain r (q ∷ more) (b ∷ front)
-comment-again r q more b [] u e f again l o = absurd (let two = opens_comment-two b r f in by (after_comment (b ∷ r)) refl)
+comment-again : (t u : List ℕ) (b : ℕ) (r s : List ℕ) → is_space b ≡ false → opens_comment (b ∷ r) ≡ true → Along t u r s → ((left other : List ℕ) → length left < length r → Along t u left other → BlankAgain t u left other) → BlankAgain t u (b ∷ r) (b ∷ s)
+comment-again t u b r s e f at again l o = by (after_comment (b ∷ t)) refl
   where
-    by : (c : Option (List ℕ)) → after_comment (b ∷ r) ≡ c → ⊥
-    by None g = let bare : opens_comment (b ∷ r) ≡ false = ap opens_comment (sym (past_blank-open b r e f g)) ∙ o in cc
+    by : (k : Option (List ℕ)) → after_comment (b ∷ t) ≡ k → Along t u (past_blank (b ∷ t)) (past_blank (b ∷ u))
+    by None g = absurd (let bare : opens_comment (b ∷ t) ≡ false = ap opens_comment (sym (past_blank-open b t e f g)) ∙ o in cc)
     by (Some rest) g =
-        let two = opens_comment-two b r f in
-        let less = after_comment-leaves b r in
-        omega (arith, l, ap length (past_blank-comment b r rest e f g), length-past_blank rest, subst (λ (k : Option (List ℕ)). Leaves r k) g less)
-comment-again r q more b (c ∷ front) u e f again l o = by (after_comment (b ∷ c ∷ (front ++ r))) refl (after_close-again front r (q ∷ more))
+        let less = after_comment-leaves b t in
+        absurd (omega (arith, l, ap length (past_blank-comment b t rest e f g), length-past_blank rest, subst (λ (k : Option (List ℕ)). Leaves t k) g less))
+comment-again t u b r s e f (on c r1 s1 h) again l o = by (after_close r1) refl (close-along t u r1 s1 h) (after_close-leaves r1)
   where
-    s : List ℕ
-    s = q ∷ more
+    by : (k : Option (List ℕ)) → after_close r1 ≡ k → FindsAlike t u k (after_close s1) → Leaves r1 k → Along t u (past_blank (b ∷ c ∷ r1)) (past_blank (b ∷ c ∷ s1))
+    by None g k less = absurd (let bare : opens_comment (b ∷ c ∷ r1) ≡ false = ap opens_comment (sym (past_blank-open b (c ∷ r1) e f g)) ∙ o in cc)
+    by (Some rest) g (inl k) less = absurd (omega (arith, l, ap length (past_blank-comment b (c ∷ r1) rest e f g), length-past_blank rest))
+    by (Some rest) g (inr k) less =
+        let first : past_blank (b ∷ c ∷ r1) ≡ past_blank rest = past_blank-comment b (c ∷ r1) rest e f g in
+        let second : past_blank (b ∷ c ∷ s1) ≡ past_blank k.0 = past_blank-comment b (c ∷ s1) k.0 e f k.1 in
+        rw (first, second) (again rest k.0 (omega arith) k.2 (omega (arith, l, ap length first)) (ap opens_comment (sym first) ∙ o))
 
-    by : (k : Option (List ℕ)) → after_comment (b ∷ c ∷ (front ++ r)) ≡ k → IfSome k (FoundAgain 47 front r s (after_close (front ++ s))) → Tails r s (past_blank (b ∷ c ∷ (front ++ r))) (past_blank (b ∷ c ∷ (front ++ s)))
-    by None g h = absurd (let bare : opens_comment (b ∷ c ∷ (front ++ r)) ≡ false = ap opens_comment (sym (past_blank-open b (c ∷ (front ++ r)) e f g)) ∙ o in cc)
-    by (Some rest) g h =
-        let first = past_blank-comment b (c ∷ (front ++ r)) rest e f g in
-        let found = h (omega (arith, l, ap length first, length-past_blank rest)) in
-        let left = found.0 in
-        let known = opens_comment-two b (c ∷ front) f in
-        let v : IsUtf8 front = utf8-past_byte 42 front (omega arith) (subst IsUtf8 known.1 (utf8-past_byte b (c ∷ front) (omega arith) u)) in
-        let w : IsUtf8 left = utf8-behind_byte found.1 47 left (omega arith) (subst IsUtf8 found.4 v) in
-        let second : past_blank (b ∷ c ∷ (front ++ s)) ≡ past_blank (left ++ s) = past_blank-comment b (c ∷ (front ++ s)) (left ++ s) e f found.3 in
-        let here : past_blank (b ∷ c ∷ (front ++ r)) ≡ past_blank (left ++ r) = first ∙ ap past_blank found.2 in
-        let shorter : length left < length (c ∷ front) = omega (arith, ap length found.4, length-append found.1 (47 ∷ left)) in
-        rw (here, second) (again left shorter w (omega (arith, l, ap length here)) (ap opens_comment (sym here) ∙ o))
-
-blank-within : (edition : Edition) (n : ℕ) (r : List ℕ) (q : ℕ) (more front : List ℕ) → Quiet edition q → length front < n → IsUtf8 front → BlankAgain r (q ∷ more) front
-blank-within edition zero r q more front quiet less u l o = absurd (omega arith)
-blank-within edition (suc n) r q more [] quiet less u l o = absurd (omega (arith, l, length-past_blank r))
-blank-within edition (suc n) r q more (b ∷ front) quiet less u l o = by (is_space b) (opens_comment (b ∷ (front ++ r))) refl refl (λ left k v. blank-within edition n r q more left quiet k v)
+blank-within : (n : ℕ) (t u : List ℕ) → starts 42 u ≡ false → (r s : List ℕ) → length r < n → Along t u r s → BlankAgain t u r s
+blank-within zero t u star r s less h l o = absurd (omega arith)
+blank-within (suc n) t u star r s less at l o = absurd (omega (arith, l, length-past_blank t))
+blank-within (suc n) t u star r s less (on b r1 s1 h) l o = by (is_space b) (opens_comment (b ∷ r1)) refl refl (λ x y k j. blank-within n t u star x y k j)
   where
-    s : List ℕ
-    s = q ∷ more
-
-    closed : (front : List ℕ) → opens_comment (b ∷ (front ++ r)) ≡ false → opens_comment (b ∷ (front ++ s)) ≡ false
-    closed [] e = let star = quiet.no_star in rw star (no_second (b == 47))
+    closed : (x y : List ℕ) → Along t u x y → opens_comment (b ∷ x) ≡ false → opens_comment (b ∷ y) ≡ false
+    closed x y at k = rw star (no_second (b == 47))
       where
         no_second : (t : Bool) → (t && false) ≡ false
         no_second true = refl
         no_second false = refl
-    closed (c ∷ front) e = e
+    closed x y (on c x1 y1 j) k = k
 
-    by : (t k : Bool) → is_space b ≡ t → opens_comment (b ∷ (front ++ r)) ≡ k → ((left : List ℕ) → length left < n → IsUtf8 left → BlankAgain r s left) → Tails r s (past_blank (b ∷ (front ++ r))) (past_blank (b ∷ (front ++ s)))
+    by : (i k : Bool) → is_space b ≡ i → opens_comment (b ∷ r1) ≡ k → ((x y : List ℕ) → length x < n → Along t u x y → BlankAgain t u x y) → Along t u (past_blank (b ∷ r1)) (past_blank (b ∷ s1))
     by true k e f again =
-        let first = past_blank-space b (front ++ r) e in
-        let second = past_blank-space b (front ++ s) e in
-        rw (first, second) (again front (omega arith) (utf8-past_byte b front (is_space-ascii b e) u) (omega (arith, l, ap length first)) (ap opens_comment (sym first) ∙ o))
-    by false true e f again = comment-again r q more b front u e f (λ left k v. again left (omega arith) v) l o
+        let first = past_blank-space b r1 e in
+        let second = past_blank-space b s1 e in
+        rw (first, second) (again r1 s1 (omega arith) h (omega (arith, l, ap length first)) (ap opens_comment (sym first) ∙ o))
+    by false true e f again = comment-again t u b r1 s1 e f h (λ x y k j. again x y (omega arith) j) l o
     by false false e f again =
-        let first = past_blank-none b (front ++ r) e f in
-        let second = past_blank-none b (front ++ s) e (closed front f) in
-        rw (first, second) (record { front = b ∷ front; front_is = u; is = refl; also = refl })
+        let first = past_blank-none b r1 e f in
+        let second = past_blank-none b s1 e (closed r1 s1 h f) in
+        rw (first, second) (on b r1 s1 h)
 
 -- a blank is read alike where more than the tail is left
-pub past_blank-alike : (edition : Edition) (r : List ℕ) (q : ℕ) (more front : List ℕ) → Quiet edition q → IsUtf8 front → length r < length (past_blank (front ++ r)) → opens_comment (past_blank (front ++ r)) ≡ false → Tails r (q ∷ more) (past_blank (front ++ r)) (past_blank (front ++ (q ∷ more)))
-past_blank-alike edition r q more front quiet u l o = blank-within edition (suc (length front)) r q more front quiet (omega arith) u l o
+pub past_blank-alike : (t u : List ℕ) → starts 42 u ≡ false → (r s : List ℕ) → Along t u r s → length t < length (past_blank r) → opens_comment (past_blank r) ≡ false → Along t u (past_blank r) (past_blank s)
+past_blank-alike t u star r s h l o = blank-within (suc (length r)) t u star r s (omega arith) h l o

@@ -5,6 +5,7 @@ use Rattle.std.proofs.Common.{◌≡◌, ℕ, inl, inr, List, [], ◌∷◌, ◌
 use Rattle.std.specs.Option.{option_map}
 use Rattle.std.proofs.lemmas.Bool.Decides.{nat_tests}
 use Rattle.std.specs.Str.{chars, trim, trim_start, trim_end}
+use Rattle.std.proofs.lemmas.Str.{IsUtf8-append}
 use Rattle.simplecss_text.specs.Reading.{no_name, no_value, Reading, got, fails, Reader, follow, before, each, left_after, Ends}
 use Rattle.simplecss_text.specs.Bytes.{past_byte, byte, starts}
 use Rattle.simplecss_text.specs.Characters.{Edition, first_edition, second_edition, is_space}
@@ -21,8 +22,8 @@ use Rattle.simplecss_text.proofs.printed.PrintedSelectors.{ends_low}
 use Rattle.simplecss_text.proofs.reading.EachLaws.{each-none, each-some}
 use Rattle.simplecss_text.proofs.bytes.GapLaws.{past_blank-again}
 use Rattle.simplecss_text.proofs.printed.PrintedHeads.{NoGap, IsNameByte, no_gap-byte, no_gap-name, blank-at, name-first, other_byte}
-use Rattle.simplecss_text.proofs.printed.TailLaws.{Quiet, Tails, quiet-semicolon, quiet-space}
-use Rattle.simplecss_text.proofs.again.TermTails.{name_quiet}
+use Rattle.simplecss_text.proofs.reading.LocalLaws.{Quiet, along-front, quiet-semicolon, quiet-space}
+use Rattle.simplecss_text.proofs.reading.NameLocal.{name-quiet}
 use Rattle.simplecss_text.proofs.again.BlankTails.{past_blank-space}
 use Rattle.simplecss_text.proofs.again.TermEnds.{is_bare, FirstBare}
 use Rattle.simplecss_text.proofs.printed.GotLaws.{IfGot, if_got, if_got-follow, if_got-if, got-holds}
@@ -123,7 +124,7 @@ blank-none text w = blank-at text text (ap (λ r. r.1) w.none) w.closed
 -- no term begins with a semicolon or an exclamation mark
 no_word : (edition : Edition) (q : ℕ) (text : List ℕ) → Quiet edition q → word edition (q ∷ text) ≡ fails (no_name (q ∷ text)) (q ∷ text)
 unfolding word
-no_word edition q text quiet = ap (λ y. follow y (λ n. arguments)) (name_quiet edition q text quiet)
+no_word edition q text quiet = ap (λ y. follow y (λ n. arguments)) (name-quiet edition q text quiet)
 
 semicolon_term : (edition : Edition) (text : List ℕ) → term edition (59 ∷ text) ≡ fails (no_name (59 ∷ text)) (59 ∷ text)
 unfolding term
@@ -175,11 +176,8 @@ bare_no_space b e = grind (arith, nat_tests)
 value-no_gap : (edition : Edition) (v : List ℕ) (q : ℕ) (tail : List ℕ) → IsValueText edition v → Quiet edition q → NoGap (v ++ (q ∷ tail))
 value-no_gap edition v q tail w quiet = by v w.first closed
   where
-    tails : Tails w.r (q ∷ tail) (v ++ w.r) (v ++ (q ∷ tail))
-    tails = record { front = v; front_is = w.value_is; is = refl; also = refl }
-
     closed : opens_comment (v ++ (q ∷ tail)) ≡ false
-    closed = valued-closed edition (q ∷ tail) (v ++ (q ∷ tail)) (valued-again edition w.r q tail (v ++ w.r) (v ++ (q ∷ tail)) quiet w.r_is w.valued tails)
+    closed = valued-closed edition (q ∷ tail) (v ++ (q ∷ tail)) (valued-again edition w.r q tail (v ++ w.r) (v ++ (q ∷ tail)) quiet w.r_is (IsUtf8-append v w.r w.value_is w.r_is) w.valued (along-front w.r (q ∷ tail) v))
 
     by : (v : List ℕ) → FirstBare v → opens_comment (v ++ (q ∷ tail)) ≡ false → NoGap (v ++ (q ∷ tail))
     by [] first o = absurd first

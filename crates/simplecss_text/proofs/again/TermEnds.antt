@@ -146,7 +146,7 @@ bare-number edition text u =
     let digits = past is_digit text in
     let v = utf8-past is_digit text digit_low u in
     bare-then text digits (past_number edition text) (bare-past is_digit text digit_bare)
-    (bare-then digits (past_decimals digits) (past_number edition text) (bare-decimals digits) (bare-unit edition (past_decimals digits) (((past_decimals-lawful digits digits).left edition).1 v)))
+    (bare-then digits (past_decimals digits) (past_number edition text) (bare-decimals digits) (bare-unit edition (past_decimals digits) (((past_decimals-lawful true digits digits).left edition).1 v)))
 
 bare-hash : (edition : Edition) (text : List ℕ) → IsUtf8 text → (r : Reading (List ℕ)) → name edition text ≡ r → EndsBare text (past_hash r)
 bare-hash edition text u (got n rest) e = bare-name edition text u (got n rest) e

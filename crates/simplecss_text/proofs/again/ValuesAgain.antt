@@ -1,12 +1,12 @@
 -- A value that was read is read again before another tail.
 -- Serves `prints_back` of `StyleSheet::{parse, parse_all, parse_more}` (a sheet printed and read
 -- again).
-use Rattle.std.proofs.Common.{◌≡◌, ℕ, zero, suc, ◌<◌, ◌≤◌, ◌⊎◌, inl, inr, List, [], ◌∷◌, ◌++◌, Bool, true, false, length, arith, refl, sym, ap, ◌∙◌, subst, length-append, append_assoc, IsUtf8}
+use Rattle.std.proofs.Common.{◌≡◌, ℕ, zero, suc, ◌<◌, ◌≤◌, ◌⊎◌, inl, inr, List, [], ◌∷◌, ◌++◌, Bool, true, false, length, arith, refl, sym, ap, ◌∙◌, subst, append_assoc, IsUtf8}
 use Rattle.std.specs.Str.{chars, trim}
 use Rattle.std.specs.List.{list_any}
-use Rattle.std.proofs.lemmas.Str.{chars-append}
+use Rattle.std.proofs.lemmas.Str.{IsUtf8-append, chars-append}
 use Rattle.simplecss_text.specs.Reading.{Fault, Reading, got, fails, left_after, before, followed_by, Ends}
-use Rattle.simplecss_text.specs.Bytes.{past_one}
+use Rattle.simplecss_text.specs.Bytes.{past_one, starts}
 use Rattle.simplecss_text.specs.Characters.{Edition, first_edition, second_edition}
 use Rattle.simplecss_text.specs.Comments.{opens_comment, past_blank}
 use Rattle.simplecss_text.specs.Terms.{term}
@@ -17,13 +17,13 @@ use Rattle.simplecss_text.proofs.reading.EachLaws.{each-none, each-some}
 use Rattle.simplecss_text.proofs.reading.TakesLaws.{Cuts, length-past_blank}
 use Rattle.simplecss_text.proofs.reading.EndsLaws.{before-append, ends-ends, ends-got, no_texts}
 use Rattle.simplecss_text.proofs.reading.StandLaws.{ends-past_blank}
-use Rattle.simplecss_text.proofs.reading.DeclarationsLawful.{term-cuts, term-lawful, term-stands, term_in_value-takes}
+use Rattle.simplecss_text.proofs.reading.DeclarationsLawful.{slash_word, term-cuts, term-lawful, term-stands, term_in_value-takes}
 use Rattle.simplecss_text.proofs.printed.GotLaws.{got-holds}
 use Rattle.simplecss_text.proofs.printed.ReadBlanks.{opens_comment-two, past_blank-utf8}
 use Rattle.simplecss_text.proofs.reading.Lawful.{lawful-text}
 use Rattle.simplecss_text.proofs.bytes.Utf8Laws.{utf8-first}
-use Rattle.simplecss_text.proofs.printed.TailLaws.{Quiet, Tails}
-use Rattle.simplecss_text.proofs.again.TermTails.{Again, no_slash-word, term-again}
+use Rattle.simplecss_text.proofs.reading.LocalLaws.{Along, Equal, Guard, Quiet, along-end, along-front}
+use Rattle.simplecss_text.proofs.reading.LocalLaws.Seam.{at_quiet}
 use Rattle.simplecss_text.proofs.again.BlankTails.{past_blank-alike}
 use Rattle.simplecss_text.proofs.again.TermEnds.{is_bare, FirstBare, term-ends_bare, term-begins_bare}
 use Rattle.simplecss_text.proofs.again.TrimBare.{last-append, trim-bare}
@@ -42,8 +42,8 @@ valued-less edition r text (more _ rest x e w) = omega (arith, valued-less editi
 
 comment_term : (edition : Edition) (text rest : List ℕ) (x : Unit {0}) → term edition (47 ∷ 42 ∷ text) ≡ got x rest → ⊥
 unfolding term
-comment_term first_edition text rest x e = no_slash-word first_edition (42 ∷ text) x rest e
-comment_term second_edition text rest x e = no_slash-word second_edition (42 ∷ text) x rest e
+comment_term first_edition text rest x e = absurd (let none_there = sym (slash_word first_edition (42 ∷ text)) ∙ e in cc)
+comment_term second_edition text rest x e = absurd (let none_there = sym (slash_word second_edition (42 ∷ text)) ∙ e in cc)
 
 -- no term begins with a comment
 term-closed : (edition : Edition) (text rest : List ℕ) (x : Unit {0}) → term edition text ≡ got x rest → opens_comment text ≡ false
@@ -64,35 +64,28 @@ valued-closed edition r text (more _ rest x e w) = term-closed edition text rest
 
 -- before another tail
 
-term-tails : (edition : Edition) (r : List ℕ) (q : ℕ) (tail text other rest : List ℕ) (x : Unit {0}) → Quiet edition q → IsUtf8 r → Tails r (q ∷ tail) text other → term edition text ≡ got x rest → length r ≤ length rest → (left : List ℕ) × (term edition other ≡ got x left) × Tails r (q ∷ tail) rest left
-term-tails edition r q tail text other rest x quiet v t e l =
-    let again = term-again edition r q tail t.front quiet v t.front_is in
-    let found = got-holds (Again r (q ∷ tail) (term edition (t.front ++ (q ∷ tail)))) (term edition (t.front ++ r)) x rest again (ap (term edition) (sym t.is) ∙ e) l in
-    (found.0, ap (term edition) t.also ∙ found.1, found.2)
-
-blank-tails : (edition : Edition) (r : List ℕ) (q : ℕ) (tail text other : List ℕ) → Quiet edition q → Tails r (q ∷ tail) text other → length r < length (past_blank text) → opens_comment (past_blank text) ≡ false → Tails r (q ∷ tail) (past_blank text) (past_blank other)
-blank-tails edition r q tail text other quiet t l o =
-    let here : past_blank text ≡ past_blank (t.front ++ r) = ap past_blank t.is in
-    let there : past_blank other ≡ past_blank (t.front ++ (q ∷ tail)) = ap past_blank t.also in
-    rw (here, there) (past_blank-alike edition r q tail t.front quiet t.front_is (omega (arith, l, ap length here)) (ap opens_comment (sym here) ∙ o))
-
-tails-end : (r s left : List ℕ) → Tails r s r left → left ≡ s
-tails-end r s left t = t.also ∙ by t.front t.is
+term-again : (edition : Edition) (r : List ℕ) (q : ℕ) (tail text other rest : List ℕ) (x : Unit {0}) → Quiet edition q → IsUtf8 r → IsUtf8 text → Along r (q ∷ tail) text other → term edition text ≡ got x rest → length r ≤ length rest → (left : List ℕ) × (term edition other ≡ got x left) × Along r (q ∷ tail) rest left
+term-again edition r q tail text other rest x quiet v u h e l =
+    by (term edition text) (term edition other) e refl ((term-lawful false text other).guard edition r (q ∷ tail) (at_quiet r q tail quiet v) u h)
   where
-    by : (front : List ℕ) → r ≡ front ++ r → front ++ s ≡ s
-    by [] e = refl
-    by (b ∷ front) e = absurd (omega (arith, ap length e, length-append front r))
+    by : (a b : Reading (Unit {0})) → a ≡ got x rest → term edition other ≡ b → Guard Equal false r (q ∷ tail) a b → (left : List ℕ) × (term edition other ≡ got x left) × Along r (q ∷ tail) rest left
+    by (got y p) b f g (inl k) = absurd (let same : p ≡ rest = cc in omega (arith, ap length same))
+    by (got y p) (got z o) f g (inr k) = let same : p ≡ rest = cc in (o, cc (k.0), subst (λ (t : List ℕ). Along r (q ∷ tail) t o) same k.1)
+    by (got y p) (fails i o) f g (inr k) = absurd k
+    by (fails i p) b f g k = absurd (cc)
 
 -- before another tail the terms end at that tail
-pub valued-again : (edition : Edition) (r : List ℕ) (q : ℕ) (tail text other : List ℕ) → Quiet edition q → IsUtf8 r → Valued edition r text → Tails r (q ∷ tail) text other → Valued edition (q ∷ tail) other
-valued-again edition r q tail text other quiet v (last _ x e) t =
-    let found = term-tails edition r q tail text other r x quiet v t e (omega arith) in
-    last other x (found.1 ∙ ap (got x) (tails-end r (q ∷ tail) found.0 found.2))
-valued-again edition r q tail text other quiet v (more _ rest x e w) t =
+pub valued-again : (edition : Edition) (r : List ℕ) (q : ℕ) (tail text other : List ℕ) → Quiet edition q → IsUtf8 r → IsUtf8 text → Valued edition r text → Along r (q ∷ tail) text other → Valued edition (q ∷ tail) other
+valued-again edition r q tail text other quiet v u (last _ x e) h =
+    let found = term-again edition r q tail text other r x quiet v u h e (omega arith) in
+    last other x (found.1 ∙ ap (got x) (along-end r (q ∷ tail) found.0 found.2))
+valued-again edition r q tail text other quiet v u (more _ rest x e w) h =
     let less = valued-less edition r (past_blank rest) w in
-    let found = term-tails edition r q tail text other rest x quiet v t e (omega (arith, less, length-past_blank rest)) in
-    let behind = blank-tails edition r q tail rest found.0 quiet found.2 less (valued-closed edition r (past_blank rest) w) in
-    more other found.0 x found.1 (valued-again edition r q tail (past_blank rest) (past_blank found.0) quiet v w behind)
+    let found = term-again edition r q tail text other rest x quiet v u h e (omega (arith, less, length-past_blank rest)) in
+    let star : starts 42 (q ∷ tail) ≡ false = quiet.no_star in
+    let behind = past_blank-alike r (q ∷ tail) star rest found.0 found.2 less (valued-closed edition r (past_blank rest) w) in
+    let left : IsUtf8 rest = subst (λ (y : Reading (Unit {0})). IsUtf8 (left_after y)) e (lawful-text term term (term-lawful false) edition text u) in
+    more other found.0 x found.1 (valued-again edition r q tail (past_blank rest) (past_blank found.0) quiet v (past_blank-utf8 rest left) w behind)
 
 -- what is read of such a text
 
@@ -139,15 +132,15 @@ terms-end edition text = terms-within edition (suc (length text)) text (omega ar
 -- where the terms end, a text is left, and the byte in front of it is no white space of ASCII
 
 valued-left : (edition : Edition) (r text : List ℕ) → IsUtf8 text → Valued edition r text → IsUtf8 r
-valued-left edition r text u (last _ x e) = subst (λ (y : Reading (Unit {0})). IsUtf8 (left_after y)) e (lawful-text term term term-lawful edition text u)
+valued-left edition r text u (last _ x e) = subst (λ (y : Reading (Unit {0})). IsUtf8 (left_after y)) e (lawful-text term term (term-lawful true) edition text u)
 valued-left edition r text u (more _ rest x e w) =
-    let left : IsUtf8 rest = subst (λ (y : Reading (Unit {0})). IsUtf8 (left_after y)) e (lawful-text term term term-lawful edition text u) in
+    let left : IsUtf8 rest = subst (λ (y : Reading (Unit {0})). IsUtf8 (left_after y)) e (lawful-text term term (term-lawful true) edition text u) in
     valued-left edition r (past_blank rest) (past_blank-utf8 rest left) w
 
 valued-final : (edition : Edition) (r text : List ℕ) → IsUtf8 text → Valued edition r text → (passed : List ℕ) × (b : ℕ) × (text ≡ passed ++ (b ∷ r)) × (is_bare b ≡ true)
 valued-final edition r text u (last _ x e) = term-ends_bare edition text r x u e
 valued-final edition r text u (more _ rest x e w) =
-    let left : IsUtf8 rest = subst (λ (y : Reading (Unit {0})). IsUtf8 (left_after y)) e (lawful-text term term term-lawful edition text u) in
+    let left : IsUtf8 rest = subst (λ (y : Reading (Unit {0})). IsUtf8 (left_after y)) e (lawful-text term term (term-lawful true) edition text u) in
     let next = past_blank rest in
     let end : Ends text next = ends-ends text rest next (ends-got text no_texts (term edition text) x rest (term-stands edition text) e) (ends-past_blank rest) in
     let inner = valued-final edition r next (past_blank-utf8 rest left) w in
@@ -204,8 +197,7 @@ unfolding value
 value-reads edition v q tail left fault w quiet e =
     let s = q ∷ tail in
     let text = v ++ (q ∷ tail) in
-    let tails : Tails w.r s (v ++ w.r) text = record { front = v; front_is = w.value_is; is = refl; also = refl } in
-    let again = valued-again edition w.r q tail (v ++ w.r) text quiet w.r_is w.valued tails in
+    let again = valued-again edition w.r q tail (v ++ w.r) text quiet w.r_is (IsUtf8-append v w.r w.value_is w.r_is) w.valued (along-front w.r s v) in
     let read = valued-terms edition s text left fault again e in
     let stated : trim (before text (last_or text (terms edition text).0)) ≡ v = ap (λ r. trim (before text r)) (read.1 text) ∙ ap trim (before-append v s) ∙ w.trimmed in
     let behind : left_after (term edition (terms edition text).1) ≡ left = ap (λ t. left_after (term edition t)) read.0 ∙ ap left_after e in

@@ -16,29 +16,30 @@ use Rattle.simplecss_text.proofs.reading.DeclarationLaws.{length-from_block_end}
 use Rattle.simplecss_text.proofs.reading.EndsLaws.{ends-same}
 use Rattle.simplecss_text.proofs.reading.StandLaws.{utf8-behind}
 use Rattle.simplecss_text.proofs.printed.ReadNames.{name-fails}
-use Rattle.simplecss_text.proofs.cutting.GuardLaws.{Along, Equal, Guard, To, at, longer-along, on, past-along, past-to}
-use Rattle.simplecss_text.proofs.cutting.NameGuards.{name-guarded, name-guarded_by_semicolon}
+use Rattle.simplecss_text.proofs.reading.LocalLaws.{Along, Equal, Guard, To, at, longer-along, on, past-along, past-both}
+use Rattle.simplecss_text.proofs.reading.LocalLaws.{quiet-brace, quiet-semicolon}
+use Rattle.simplecss_text.proofs.reading.NameLocal.{name-same}
 use Rattle.simplecss_text.proofs.cutting.BlockEndGuards.{from_block_end-to}
 
 -- where the first text has come to the byte g, so has the second
-pub along-at : (g : ℕ) (t u r s : List ℕ) → Along g t u r s → r ≡ g ∷ t → s ≡ g ∷ u
+pub along-at : (g : ℕ) (t u r s : List ℕ) → Along (g ∷ t) (g ∷ u) r s → r ≡ g ∷ t → s ≡ g ∷ u
 along-at g t u r s at e = refl
-along-at g t u r s (on b r1 s1 room h) e = absurd (omega (arith, longer-along g t u r1 s1 h, ap length e))
+along-at g t u r s (on b r1 s1 h) e = absurd (omega (arith, longer-along (g ∷ t) (g ∷ u) r1 s1 h, ap length e))
 
 -- where a byte stands before it in the first text, that byte stands in the second
-along-next : (g : ℕ) (t u : List ℕ) (c : ℕ) (x r s : List ℕ) → Along g t u r s → r ≡ c ∷ x → length t < length x → (y : List ℕ) × ((s ≡ c ∷ y) × Along g t u x y)
+along-next : (g : ℕ) (t u : List ℕ) (c : ℕ) (x r s : List ℕ) → Along (g ∷ t) (g ∷ u) r s → r ≡ c ∷ x → length t < length x → (y : List ℕ) × ((s ≡ c ∷ y) × Along (g ∷ t) (g ∷ u) x y)
 along-next g t u c x r s at e l = absurd (omega (arith, ap length e, l))
-along-next g t u c x r s (on b r1 s1 room h) e l =
+along-next g t u c x r s (on b r1 s1 h) e l =
     let first : b ≡ c = cc in
     let rest : r1 ≡ x = cc in
-    (s1, (ap (λ (d : ℕ). d ∷ s1) first, subst (λ (z : List ℕ). Along g t u z s1) rest h))
+    (s1, (ap (λ (d : ℕ). d ∷ s1) first, subst (λ (z : List ℕ). Along (g ∷ t) (g ∷ u) z s1) rest h))
 
 -- an at-rule that ends behind a semicolon
-pub at_rule-semicolon : (edition : Edition) (t u r s n rest : List ℕ) → Along 59 t u r s → name edition r ≡ got n rest → past (is_neither 59 123) rest ≡ 59 ∷ t → at_rule_rest edition s ≡ u
+pub at_rule-semicolon : (edition : Edition) (t u r s n rest : List ℕ) → IsUtf8 r → Along (59 ∷ t) (59 ∷ u) r s → name edition r ≡ got n rest → past (is_neither 59 123) rest ≡ 59 ∷ t → at_rule_rest edition s ≡ u
 unfolding at_rule_rest
-at_rule-semicolon edition t u r s n rest h e f = by (name edition r) (name edition s) e (name-guarded_by_semicolon edition t u r s h)
+at_rule-semicolon edition t u r s n rest w h e f = by (name edition r) (name edition s) e (name-same edition 59 t u (quiet-semicolon edition) r s w h)
   where
-    by : (a b : Reading (List ℕ)) → a ≡ got n rest → Guard Equal 59 t u a b → at_rule_rest_by_name b ≡ u
+    by : (a b : Reading (List ℕ)) → a ≡ got n rest → Guard Equal true (59 ∷ t) (59 ∷ u) a b → at_rule_rest_by_name b ≡ u
     by (fails q x) b g k = absurd (cc)
     by (got m x) b g (inl l) =
         let same : x ≡ rest = cc in
@@ -50,28 +51,28 @@ at_rule-semicolon edition t u r s n rest h e f = by (name edition r) (name editi
         ap past_semicolon_or_block (along-at 59 t u (past (is_neither 59 123) x) (past (is_neither 59 123) y) (past-along 59 t u (is_neither 59 123) refl x y k.1) there)
 
 -- a block that ends behind the brace
-block_end-at : (u v inner y : List ℕ) → Along 125 (u ++ v) u inner y → from_block_end inner ≡ 125 ∷ (u ++ v) → past_byte 125 (from_block_end y) ≡ u
+block_end-at : (u v inner y : List ℕ) → Along (125 ∷ (u ++ v)) (125 ∷ u) inner y → from_block_end inner ≡ 125 ∷ (u ++ v) → past_byte 125 (from_block_end y) ≡ u
 block_end-at u v inner y h e = by (from_block_end-to u v inner y h)
   where
-    by : To 125 (u ++ v) u (from_block_end inner) (from_block_end y) → past_byte 125 (from_block_end y) ≡ u
+    by : To true (125 ∷ (u ++ v)) (125 ∷ u) (from_block_end inner) (from_block_end y) → past_byte 125 (from_block_end y) ≡ u
     by (inl l) = absurd (omega (arith, l, ap length e))
     by (inr k) = ap (past_byte 125) (along-at 125 (u ++ v) u (from_block_end inner) (from_block_end y) k e)
 
 -- an at-rule that ends behind a block
-pub at_rule-block : (edition : Edition) (u v r s n rest inner : List ℕ) → Along 125 (u ++ v) u r s → name edition r ≡ got n rest → past (is_neither 59 123) rest ≡ 123 ∷ inner → from_block_end inner ≡ 125 ∷ (u ++ v) → at_rule_rest edition s ≡ u
+pub at_rule-block : (edition : Edition) (u v r s n rest inner : List ℕ) → IsUtf8 r → Along (125 ∷ (u ++ v)) (125 ∷ u) r s → name edition r ≡ got n rest → past (is_neither 59 123) rest ≡ 123 ∷ inner → from_block_end inner ≡ 125 ∷ (u ++ v) → at_rule_rest edition s ≡ u
 unfolding at_rule_rest
-at_rule-block edition u v r s n rest inner h e f g = by (name edition r) (name edition s) e (name-guarded edition (u ++ v) u r s h)
+at_rule-block edition u v r s n rest inner w h e f g = by (name edition r) (name edition s) e (name-same edition 125 (u ++ v) u (quiet-brace edition) r s w h)
   where
     long : length (u ++ v) < length inner
     long = omega (arith, ap length g, length-from_block_end inner)
 
-    opened : (x y : List ℕ) → x ≡ 123 ∷ inner → To 125 (u ++ v) u x y → past_semicolon_or_block y ≡ u
+    opened : (x y : List ℕ) → x ≡ 123 ∷ inner → To true (125 ∷ (u ++ v)) (125 ∷ u) x y → past_semicolon_or_block y ≡ u
     opened x y k (inl l) = absurd (omega (arith, l, ap length k, long))
     opened x y k (inr along) =
         let found = along-next 125 (u ++ v) u 123 inner x y along k long in
         ap past_semicolon_or_block found.1.0 ∙ block_end-at u v inner found.0 found.1.1 g
 
-    by : (a b : Reading (List ℕ)) → a ≡ got n rest → Guard Equal 125 (u ++ v) u a b → at_rule_rest_by_name b ≡ u
+    by : (a b : Reading (List ℕ)) → a ≡ got n rest → Guard Equal true (125 ∷ (u ++ v)) (125 ∷ u) a b → at_rule_rest_by_name b ≡ u
     by (fails q x) b k along = absurd (cc)
     by (got m x) b k (inl l) =
         let same : x ≡ rest = cc in
@@ -79,7 +80,7 @@ at_rule-block edition u v r s n rest inner h e f g = by (name edition r) (name e
     by (got m x) (fails q y) k (inr along) = absurd along
     by (got m x) (got o y) k (inr along) =
         let same : x ≡ rest = cc in
-        opened (past (is_neither 59 123) x) (past (is_neither 59 123) y) (ap (past (is_neither 59 123)) same ∙ f) (past-to 125 (u ++ v) u (is_neither 59 123) x y along.1)
+        opened (past (is_neither 59 123) x) (past (is_neither 59 123) y) (ap (past (is_neither 59 123)) same ∙ f) (past-both 125 (u ++ v) u (is_neither 59 123) x y along.1)
 
 -- ---- a faulty name
 

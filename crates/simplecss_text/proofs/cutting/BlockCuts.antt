@@ -1,6 +1,6 @@
 -- A block reads the same where the text is cut behind it or later.
 -- Serves `StyleSheet::parse_more` and `laws::cutting_law` (a text read in pieces).
-use Rattle.std.proofs.Common.{◌≡◌, ℕ, zero, suc, ◌<◌, ◌≤◌, List, [], ◌∷◌, ◌++◌, Bool, true, false, if◌then◌else◌, ◌==◌, ◌&&◌, length, drop, slice_index, None, arith, refl, ap, ◌∙◌, ◌⊎◌, inl, inr, drop_of_length-le}
+use Rattle.std.proofs.Common.{◌≡◌, ℕ, zero, suc, ◌<◌, ◌≤◌, List, [], ◌∷◌, ◌++◌, Bool, true, false, if◌then◌else◌, ◌==◌, ◌&&◌, length, drop, slice_index, None, arith, refl, ap, ◌∙◌, ◌⊎◌, inl, inr, drop_of_length-le, IsUtf8}
 use Rattle.simplecss_text.specs.Reading.{Reading, got, fails, each, found, left_after}
 use Rattle.simplecss_text.specs.Bytes.{past_byte, starts}
 use Rattle.simplecss_text.specs.Characters.{Edition}
@@ -9,9 +9,11 @@ use Rattle.simplecss_text.specs.Blocks.{closes_block, block_end, from_block_end,
 use Rattle.simplecss_text.proofs.reading.EachLaws.{each-stops}
 use Rattle.simplecss_text.proofs.reading.TakesLaws.{Cuts, length-past_byte}
 use Rattle.simplecss_text.proofs.reading.DeclarationLaws.{declaration_in_block-takes, length-from_block_end}
-use Rattle.simplecss_text.proofs.cutting.GuardLaws.{Along, To, Guard, Equal, Repeats, pairs-equal, not_empty}
+use Rattle.simplecss_text.proofs.reading.LocalLaws.{Along, To, Guard, Equal, Repeats, pairs-equal, not_empty}
 use Rattle.simplecss_text.proofs.reading.LeastLaws.{least-passes}
-use Rattle.simplecss_text.proofs.reading.DeclarationsLawful.{declaration-cuts, declaration-guarded}
+use Rattle.simplecss_text.proofs.reading.DeclarationsLawful.{declaration-cuts, declaration-lawful, declaration_in_block-well}
+use Rattle.simplecss_text.proofs.reading.Lawful.{lawful-guarded}
+use Rattle.simplecss_text.proofs.reading.WellLaws.{each-well}
 use Rattle.simplecss_text.proofs.cutting.BlockGuards.{DeclarationPasses, passes, listed-repeats, ends_list-along}
 use Rattle.simplecss_text.proofs.cutting.BlockEndGuards.{le_or_less, from_block_end-to, Exact, past_brace-exact, past_further-exact, less_of_brace}
 
@@ -85,7 +87,7 @@ stuck-lost : (t : List ℕ) (d : Reading StyleDeclaration) → found d ≡ None 
 stuck-lost t (got p rest) e l = absurd (cc)
 stuck-lost t (fails f rest) e l = broken-lost t rest l
 
-broken-same : (u v : List ℕ) (d e : Reading StyleDeclaration) → found d ≡ None → Guard Equal 125 (u ++ v) u d e → Lost (u ++ v) (past_byte 125 (past_broken d)) ⊎ Exact 125 (u ++ v) u (past_byte 125 (past_broken d)) (past_byte 125 (past_broken e))
+broken-same : (u v : List ℕ) (d e : Reading StyleDeclaration) → found d ≡ None → Guard Equal true (125 ∷ (u ++ v)) (125 ∷ u) d e → Lost (u ++ v) (past_byte 125 (past_broken d)) ⊎ Exact 125 (u ++ v) u (past_byte 125 (past_broken d)) (past_byte 125 (past_broken e))
 broken-same u v d e n (inl h) = inl (brace-lost (u ++ v) (past_broken d) (stuck-lost (u ++ v) d n h))
 broken-same u v (got p r) e n (inr h) = absurd (cc)
 broken-same u v (fails f r) (got q s) n (inr h) = absurd h
@@ -95,18 +97,20 @@ broken-same u v (fails f r) (fails g s) n (inr h) = by (from_block_end-to u v r 
     further (inl l) = inl (inl l)
     further (inr x) = inr x
 
-    by : To 125 (u ++ v) u (from_block_end r) (from_block_end s) → Lost (u ++ v) (past_byte 125 (past_byte 125 (from_block_end r))) ⊎ Exact 125 (u ++ v) u (past_byte 125 (past_byte 125 (from_block_end r))) (past_byte 125 (past_byte 125 (from_block_end s)))
+    by : To true (125 ∷ (u ++ v)) (125 ∷ u) (from_block_end r) (from_block_end s) → Lost (u ++ v) (past_byte 125 (past_byte 125 (from_block_end r))) ⊎ Exact 125 (u ++ v) u (past_byte 125 (past_byte 125 (from_block_end r))) (past_byte 125 (past_byte 125 (from_block_end s)))
     by (inl l) = inl (brace-lost (u ++ v) (past_byte 125 (from_block_end r)) (taken-lost (u ++ v) (from_block_end r) (at_brace r) l))
     by (inr k) = further (past_further-exact u v _ _ (past_brace-exact (u ++ v) u (from_block_end r) (from_block_end s) k))
 
-pub block-same : (edition : Edition) (u v r s : List ℕ) → Along 125 (u ++ v) u r s → BlockSame (u ++ v) u (block edition r) (block edition s)
+pub block-same : (edition : Edition) (u v r s : List ℕ) → IsUtf8 r → Along (125 ∷ (u ++ v)) (125 ∷ u) r s → BlockSame (u ++ v) u (block edition r) (block edition s)
 unfolding block
-block-same edition u v r s h = by (each (declaration_in_block edition) r) (each (declaration_in_block edition) s) (each-stops (declaration_in_block edition) (declaration_in_block-takes edition) r) (listed-repeats edition u v r s h)
+block-same edition u v r s w h =
+    by (each (declaration_in_block edition) r) (each (declaration_in_block edition) s) (each-stops (declaration_in_block edition) (declaration_in_block-takes edition) r)
+    ((each-well (declaration_in_block edition) (declaration_in_block-well edition) r).1 w) (listed-repeats edition u v r s w h)
   where
-    by : (a b : List StyleDeclaration × List ℕ) → declaration_in_block edition a.1 ≡ None → Repeats Equal (DeclarationPasses edition (u ++ v)) 125 (u ++ v) u a b → BlockSame (u ++ v) u (a.0, past_byte 125 (past_list edition a.1)) (b.0, past_byte 125 (past_list edition b.1))
-    by a b n (inl l) = inl (list-lost edition (u ++ v) a.1 l)
-    by a b n (inr (inl (passes e l))) = inl (rw e (brace-lost (u ++ v) (past_broken (declaration edition a.1)) (stuck-lost (u ++ v) (declaration edition a.1) (none_broken edition a.1 e n) l)))
-    by a b n (inr (inr k)) = ends (ends_list a.1) (ends_list b.1) refl (ends_list-along (u ++ v) u a.1 b.1 k.1)
+    by : (a b : List StyleDeclaration × List ℕ) → declaration_in_block edition a.1 ≡ None → IsUtf8 a.1 → Repeats Equal (DeclarationPasses edition (u ++ v)) 125 (u ++ v) u a b → BlockSame (u ++ v) u (a.0, past_byte 125 (past_list edition a.1)) (b.0, past_byte 125 (past_list edition b.1))
+    by a b n z (inl l) = inl (list-lost edition (u ++ v) a.1 l)
+    by a b n z (inr (inl (passes e l))) = inl (rw e (brace-lost (u ++ v) (past_broken (declaration edition a.1)) (stuck-lost (u ++ v) (declaration edition a.1) (none_broken edition a.1 e n) l)))
+    by a b n z (inr (inr k)) = ends (ends_list a.1) (ends_list b.1) refl (ends_list-along (u ++ v) u a.1 b.1 k.1)
       where
         same : Lost (u ++ v) (past_byte 125 (past_broken (declaration edition a.1))) ⊎ Exact 125 (u ++ v) u (past_byte 125 (past_broken (declaration edition a.1))) (past_byte 125 (past_broken (declaration edition b.1))) → BlockSame (u ++ v) u (a.0, past_byte 125 (past_broken (declaration edition a.1))) (b.0, past_byte 125 (past_broken (declaration edition b.1)))
         same (inl l) = inl l
@@ -116,4 +120,4 @@ block-same edition u v r s h = by (each (declaration_in_block edition) r) (each 
         ends true true e f = inr (pairs-equal a.0 b.0 k.0, past_brace-exact (u ++ v) u a.1 b.1 k.1)
         ends true false e f = absurd (cc)
         ends false true e f = absurd (cc)
-        ends false false e f = same (broken-same u v (declaration edition a.1) (declaration edition b.1) (none_broken edition a.1 e n) (declaration-guarded edition u v a.1 b.1 k.1))
+        ends false false e f = same (broken-same u v (declaration edition a.1) (declaration edition b.1) (none_broken edition a.1 e n) (lawful-guarded declaration declaration declaration-lawful edition u v a.1 b.1 z k.1))

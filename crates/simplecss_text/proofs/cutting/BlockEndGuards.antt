@@ -6,14 +6,8 @@ use Rattle.std.proofs.Math.ListN.{get_or-append}
 use Rattle.std.proofs.lemmas.List.{take-append-le}
 use Rattle.simplecss_text.specs.Bytes.{past_byte, starts}
 use Rattle.simplecss_text.specs.Blocks.{block_end, from_block_end, closes_block}
-use Rattle.simplecss_text.proofs.cutting.GuardLaws.{Along, at, on, To, longer-along, length-along}
+use Rattle.simplecss_text.proofs.reading.LocalLaws.{Along, along-append, drop-to, at, on, To, longer-along, length-along}
 use Rattle.simplecss_text.proofs.reading.LeastLaws.{least-before, least-is, least-passes}
-use Rattle.simplecss_text.proofs.cutting.NameGuards.{drop-to}
-
--- the second text and what is cut off make the first
-along-append : (g : ℕ) (u v r s : List ℕ) → Along g (u ++ v) u r s → r ≡ s ++ v
-along-append g u v r s at = refl
-along-append g u v r s (on b r1 s1 room h) = ap (λ (x : List ℕ). b ∷ x) (along-append g u v r1 s1 h)
 
 pub le_or_less : (m n : ℕ) → (m ≤ n) ⊎ (n < m)
 le_or_less zero n = inl (omega arith)
@@ -40,16 +34,16 @@ block_end_local u v h =
     (λ j l. sym (closes_block_local u v j (omega arith)) ∙ least-before (closes_block (u ++ v)) (length (u ++ v)) j l)
 
 -- from the end of a block on
-pub from_block_end-to : (u v r s : List ℕ) → Along 125 (u ++ v) u r s → To 125 (u ++ v) u (from_block_end r) (from_block_end s)
+pub from_block_end-to : (u v r s : List ℕ) → Along (125 ∷ (u ++ v)) (125 ∷ u) r s → To true (125 ∷ (u ++ v)) (125 ∷ u) (from_block_end r) (from_block_end s)
 from_block_end-to u v r s h = by (le_or_less (length s) (block_end (s ++ v)))
   where
     whole : r ≡ s ++ v
     whole = along-append 125 u v r s h
 
-    by : (length s ≤ block_end (s ++ v)) ⊎ (block_end (s ++ v) < length s) → To 125 (u ++ v) u (from_block_end r) (from_block_end s)
+    by : (length s ≤ block_end (s ++ v)) ⊎ (block_end (s ++ v) < length s) → To true (125 ∷ (u ++ v)) (125 ∷ u) (from_block_end r) (from_block_end s)
     by (inl l) =
         let e : block_end r ≡ block_end (s ++ v) = ap block_end whole in
-        inl (omega (arith, e, length-drop (block_end r) r, length-along 125 (u ++ v) u r s h, length-append u v, longer-along 125 (u ++ v) u r s h))
+        inl (omega (arith, e, length-drop (block_end r) r, length-along (125 ∷ (u ++ v)) (125 ∷ u) r s h, length-append u v, longer-along (125 ∷ (u ++ v)) (125 ∷ u) r s h))
     by (inr l) =
         let e : block_end s ≡ block_end r = block_end_local s v l ∙ ap block_end (sym whole) in
         rw e (drop-to 125 (u ++ v) u (block_end r) r s h)
@@ -57,16 +51,16 @@ from_block_end-to u v r s h = by (le_or_less (length s) (block_end (s ++ v)))
 -- Both readings end where the brace stands or before it, with the same behind it.
 pub data Exact (g : ℕ) (t u : List ℕ) : List ℕ → List ℕ → Type 0 where
   behind_it : Exact g t u t u
-  before_it : (r s : List ℕ) → Along g t u r s → Exact g t u r s
+  before_it : (r s : List ℕ) → Along (g ∷ t) (g ∷ u) r s → Exact g t u r s
 
 -- a brace is taken
-pub past_brace-exact : (t u r s : List ℕ) → Along 125 t u r s → Exact 125 t u (past_byte 125 r) (past_byte 125 s)
+pub past_brace-exact : (t u r s : List ℕ) → Along (125 ∷ t) (125 ∷ u) r s → Exact 125 t u (past_byte 125 r) (past_byte 125 s)
 past_brace-exact t u r s at = behind_it
-past_brace-exact t u r s (on b r1 s1 room h) = by (b == 125)
+past_brace-exact t u r s (on b r1 s1 h) = by (b == 125)
   where
     by : (k : Bool) → Exact 125 t u (if k then r1 else b ∷ r1) (if k then s1 else b ∷ s1)
     by true = before_it r1 s1 h
-    by false = before_it (b ∷ r1) (b ∷ s1) (on b r1 s1 room h)
+    by false = before_it (b ∷ r1) (b ∷ s1) (on b r1 s1 h)
 
 no_brace_front : (u v : List ℕ) → starts 125 (u ++ v) ≡ false → past_byte 125 u ≡ u
 no_brace_front [] v e = refl

@@ -19,7 +19,7 @@ use Rattle.simplecss_text.specs.Selectors.Role.{joint}
 use Rattle.simplecss_text.proofs.reading.EndsLaws.{length-ends, no_texts}
 use Rattle.simplecss_text.proofs.reading.StandLaws.{sees_nothing}
 use Rattle.simplecss_text.proofs.reading.SequenceStandLaws.{SequenceStands, sequence_from-stands}
-use Rattle.simplecss_text.proofs.cutting.GuardLaws.{Along, To}
+use Rattle.simplecss_text.proofs.reading.LocalLaws.{Along, To}
 use Rattle.simplecss_text.proofs.reading.TakesLaws.{length-past_one}
 use Rattle.simplecss_text.proofs.reading.KindLaws.{NamesStart, between-both, between-case, fault_ending-case}
 
@@ -30,14 +30,14 @@ left_of (accepted roles left) = left
 
 -- the same has come out, and the byte g was not passed
 pub data OutcomesAlike (g : ℕ) (t u : List ℕ) : Outcome → Outcome → Type 0 where
-  both_refused : (a b : List ℕ) → Along g t u a b → OutcomesAlike g t u (refused a) (refused b)
-  both_accepted : (roles : List Role) (a b : List ℕ) → Along g t u a b → OutcomesAlike g t u (accepted roles a) (accepted roles b)
+  both_refused : (a b : List ℕ) → Along (g ∷ t) (g ∷ u) a b → OutcomesAlike g t u (refused a) (refused b)
+  both_accepted : (roles : List Role) (a b : List ℕ) → Along (g ∷ t) (g ∷ u) a b → OutcomesAlike g t u (accepted roles a) (accepted roles b)
 
 -- of two outcomes, the first has passed the byte g, or both are alike
 abbrev pub OutcomeGuard : ℕ → List ℕ → List ℕ → Outcome → Outcome → Type 0
 OutcomeGuard g t u a b = (length (left_of a) ≤ length t) ⊎ OutcomesAlike g t u a b
 
-pub refused-guard : (g : ℕ) (t u a b : List ℕ) → To g t u a b → OutcomeGuard g t u (refused a) (refused b)
+pub refused-guard : (g : ℕ) (t u a b : List ℕ) → To true (g ∷ t) (g ∷ u) a b → OutcomeGuard g t u (refused a) (refused b)
 refused-guard g t u a b (inl l) = inl l
 refused-guard g t u a b (inr k) = inr (both_refused a b k)
 
@@ -50,12 +50,12 @@ with_role-guard g t u role a b (inl l) = inl (rw (left_of-with_role role a) l)
 with_role-guard g t u role a b (inr (both_refused x y k)) = inr (both_refused x y k)
 with_role-guard g t u role a b (inr (both_accepted roles x y k)) = inr (both_accepted (role ∷ roles) x y k)
 
-pub after_role-guard : (g : ℕ) (t u : List ℕ) (role : Option Role) (x y : List ℕ) (a b : Outcome) → Along g t u x y → OutcomeGuard g t u a b → OutcomeGuard g t u (after_role role x a) (after_role role y b)
+pub after_role-guard : (g : ℕ) (t u : List ℕ) (role : Option Role) (x y : List ℕ) (a b : Outcome) → Along (g ∷ t) (g ∷ u) x y → OutcomeGuard g t u a b → OutcomeGuard g t u (after_role role x a) (after_role role y b)
 after_role-guard g t u (Some role) x y a b k h = with_role-guard g t u role a b h
 after_role-guard g t u None x y a b k h = inr (both_refused x y k)
 
 -- what stands before what follows, and then what comes
-pub answered-guard : (g : ℕ) (t u : List ℕ) (side : Side) (spaced : Bool) (kind : NextKind) (a x b y : List ℕ) (p q : TokenSequence) → Along g t u a b → To g t u x y → OutcomeGuard g t u (outcome p) (outcome q) → OutcomeGuard g t u (outcome (answered (between side spaced kind a x) a p)) (outcome (answered (between side spaced kind b y) b q))
+pub answered-guard : (g : ℕ) (t u : List ℕ) (side : Side) (spaced : Bool) (kind : NextKind) (a x b y : List ℕ) (p q : TokenSequence) → Along (g ∷ t) (g ∷ u) a b → To true (g ∷ t) (g ∷ u) x y → OutcomeGuard g t u (outcome p) (outcome q) → OutcomeGuard g t u (outcome (answered (between side spaced kind a x) a p)) (outcome (answered (between side spaced kind b y) b q))
 answered-guard g t u side spaced kind a x b y p q h k c =
     between-both (λ one other. OutcomeGuard g t u (outcome (answered one a p)) (outcome (answered other b q))) side spaced kind a x b y
     c (λ e. with_role-guard g t u (joint descendant) (outcome p) (outcome q) c) (λ f e n. inr (both_refused a b h)) (λ f e. refused-guard g t u x y k)

@@ -1,8 +1,8 @@
 -- A rule set reads the same where the text is cut behind it or later.
 -- Serves `StyleSheet::parse_more` and `laws::cutting_law` (a text read in pieces).
-use Rattle.std.proofs.Common.{◌≡◌, ℕ, ◌≤◌, List, [], ◌∷◌, ◌++◌, Bool, true, false, if◌then◌else◌, ◌==◌, not, length, map, Option, Some, None, arith, refl, ◌⊎◌, inl, inr}
+use Rattle.std.proofs.Common.{◌≡◌, ℕ, ◌≤◌, List, [], ◌∷◌, ◌++◌, Bool, true, false, if◌then◌else◌, ◌==◌, not, length, map, Option, Some, None, arith, refl, ◌⊎◌, inl, inr, IsUtf8, ◌<◌}
 use Rattle.std.specs.List.{filter_map}
-use Rattle.simplecss_text.specs.Reading.{each}
+use Rattle.simplecss_text.specs.Reading.{Ends, each}
 use Rattle.simplecss_text.specs.Bytes.{past, past_one, past_byte, starts}
 use Rattle.simplecss_text.specs.Characters.{Edition, is_space}
 use Rattle.simplecss_text.specs.Components.{Component}
@@ -13,7 +13,13 @@ use Rattle.simplecss_text.specs.Statements.{StyleRule, part, part_and_comma, par
 use Rattle.simplecss_text.proofs.reading.TakesLaws.{length-past}
 use Rattle.simplecss_text.proofs.reading.DeclarationLaws.{length-block}
 use Rattle.simplecss_text.proofs.reading.StatementLaws.{length-part, length-parts, part_and_comma-takes}
-use Rattle.simplecss_text.proofs.cutting.GuardLaws.{Along, at, on, To, Equal, Step, Repeats, each-repeats, past-along, past-to, past_byte-along, pairs-equal, Same}
+use Rattle.simplecss_text.proofs.reading.LocalLaws.{Along, at, on, To, Equal, Step, Repeats, each-repeats, past-along, past-both, past_byte-to, pairs-equal, Same}
+use Rattle.simplecss_text.proofs.reading.EndsLaws.{ends-ends, ends-past}
+use Rattle.simplecss_text.proofs.reading.StandLaws.{utf8-behind}
+use Rattle.simplecss_text.proofs.reading.WellLaws.{each-well, found-text}
+use Rattle.simplecss_text.proofs.bytes.Utf8Laws.{utf8-past_byte_if}
+use Rattle.simplecss_text.proofs.printed.PrintedHeads.{same_byte}
+use Rattle.simplecss_text.proofs.cutting.StatementEnds.{part_and_comma-well, parts-ends}
 use Rattle.simplecss_text.proofs.cutting.BlockEndGuards.{Exact}
 use Rattle.simplecss_text.proofs.cutting.BlockCuts.{Lost, BlockSame, block-same}
 use Rattle.simplecss_text.proofs.cutting.SelectorGuards.{selectors-guarded}
@@ -31,25 +37,25 @@ next_block-lost : (edition : Edition) (t x : List ℕ) → length x ≤ length t
 unfolding next_block
 next_block-lost edition t x l = opened-lost edition t (past (λ b. not (b == 123)) x) (omega (arith, length-past (λ b. not (b == 123)) x))
 
-opened-same : (edition : Edition) (u v x y : List ℕ) → Along 125 (u ++ v) u x y → BlockSame (u ++ v) u (if starts 123 x then block edition (past_one x) else ([], [])) (if starts 123 y then block edition (past_one y) else ([], []))
-opened-same edition u v x y at = inl (inr refl)
-opened-same edition u v x y (on b x1 y1 room h) = by (b == 123)
+opened-same : (edition : Edition) (u v whole x y : List ℕ) → IsUtf8 whole → Ends whole x → Along (125 ∷ (u ++ v)) (125 ∷ u) x y → BlockSame (u ++ v) u (if starts 123 x then block edition (past_one x) else ([], [])) (if starts 123 y then block edition (past_one y) else ([], []))
+opened-same edition u v whole x y w e at = inl (inr refl)
+opened-same edition u v whole x y w e (on b x1 y1 h) = by (b == 123) refl
   where
-    by : (k : Bool) → BlockSame (u ++ v) u (if k then block edition x1 else ([], [])) (if k then block edition y1 else ([], []))
-    by true = block-same edition u v x1 y1 h
-    by false = inl (inr refl)
+    by : (k : Bool) → (b == 123) ≡ k → BlockSame (u ++ v) u (if k then block edition x1 else ([], [])) (if k then block edition y1 else ([], []))
+    by true f = block-same edition u v x1 y1 (utf8-behind whole x1 b (omega (arith, same_byte b 123 f)) w e) h
+    by false f = inl (inr refl)
 
-next_block-same : (edition : Edition) (u v r s : List ℕ) → Along 125 (u ++ v) u r s → BlockSame (u ++ v) u (next_block edition r) (next_block edition s)
+next_block-same : (edition : Edition) (u v whole r s : List ℕ) → IsUtf8 whole → Ends whole r → Along (125 ∷ (u ++ v)) (125 ∷ u) r s → BlockSame (u ++ v) u (next_block edition r) (next_block edition s)
 unfolding next_block
-next_block-same edition u v r s h = by (past (λ b. not (b == 123)) r) (past (λ b. not (b == 123)) s) (past-to 125 (u ++ v) u (λ b. not (b == 123)) r s h)
+next_block-same edition u v whole r s w e h = by (past (λ b. not (b == 123)) r) (past (λ b. not (b == 123)) s) (ends-ends whole r (past (λ b. not (b == 123)) r) e (ends-past (λ b. not (b == 123)) r)) (past-both 125 (u ++ v) u (λ b. not (b == 123)) r s h)
   where
-    by : (x y : List ℕ) → To 125 (u ++ v) u x y → BlockSame (u ++ v) u (if starts 123 x then block edition (past_one x) else ([], [])) (if starts 123 y then block edition (past_one y) else ([], []))
-    by x y (inl l) = inl (opened-lost edition (u ++ v) x l)
-    by x y (inr k) = opened-same edition u v x y k
+    by : (x y : List ℕ) → Ends whole x → To true (125 ∷ (u ++ v)) (125 ∷ u) x y → BlockSame (u ++ v) u (if starts 123 x then block edition (past_one x) else ([], [])) (if starts 123 y then block edition (past_one y) else ([], []))
+    by x y f (inl l) = inl (opened-lost edition (u ++ v) x l)
+    by x y f (inr k) = opened-same edition u v whole x y w f k
 
-part-same : (edition : Edition) (u v r s : List ℕ) → Along 125 (u ++ v) u r s → Same (u ++ v) u (part edition r) (part edition s)
+part-same : (edition : Edition) (u v r s : List ℕ) → IsUtf8 r → Along (125 ∷ (u ++ v)) (125 ∷ u) r s → Same (u ++ v) u (part edition r) (part edition s)
 unfolding part
-part-same edition u v r s h = by (reads edition r) (reads edition s) (selectors-guarded edition u v r s h)
+part-same edition u v r s w h = by (reads edition r) (reads edition s) (selectors-guarded edition u v r s w h)
   where
     by : (a b : Option (List Component) × List ℕ) → Same (u ++ v) u a b → Same (u ++ v) u (a.0, past is_space a.1) (b.0, past is_space b.1)
     by a b (inl l) = inl (omega (arith, length-past is_space a.1))
@@ -72,17 +78,20 @@ comma-step edition t u r s (a, x) (b, y) (inl l) stuck = by (starts 44 x) (start
     by false false = tt
 comma-step edition t u r s (a, x) (b, y) (inr (e, k)) stuck = one x y k
   where
-    one : (c d : List ℕ) → Along 125 t u c d → Step Equal (PartPasses edition t) 125 t u r (if starts 44 c then Some (a, past_one c) else None) (if starts 44 d then Some (b, past_one d) else None)
+    one : (c d : List ℕ) → Along (125 ∷ t) (125 ∷ u) c d → Step Equal (PartPasses edition t) 125 t u r (if starts 44 c then Some (a, past_one c) else None) (if starts 44 d then Some (b, past_one d) else None)
     one c d at = tt
-    one c d (on z c1 d1 room h) = by (z == 44)
+    one c d (on z c1 d1 h) = by (z == 44)
       where
         by : (j : Bool) → Step Equal (PartPasses edition t) 125 t u r (if j then Some (a, c1) else None) (if j then Some (b, d1) else None)
         by true = inr (e, h)
         by false = tt
 
-parts-same : (edition : Edition) (u v r s : List ℕ) → Along 125 (u ++ v) u r s → Same (u ++ v) u (parts edition r) (parts edition s)
+parts-same : (edition : Edition) (u v r s : List ℕ) → IsUtf8 r → Along (125 ∷ (u ++ v)) (125 ∷ u) r s → Same (u ++ v) u (parts edition r) (parts edition s)
 unfolding parts
-parts-same edition u v r s h = by (each (part_and_comma edition) r) (each (part_and_comma edition) s) (each-repeats Equal (PartPasses edition (u ++ v)) 125 (u ++ v) u (part_and_comma edition) (part_and_comma-takes edition) (λ a b k. comma-step edition (u ++ v) u a b (part edition a) (part edition b) (part-same edition u v a b k) (λ l. l)) (length r) r s (omega arith) h)
+parts-same edition u v r s w h =
+    by (each (part_and_comma edition) r) (each (part_and_comma edition) s) ((each-well (part_and_comma edition) (part_and_comma-well edition) r).1 w)
+    (each-repeats IsUtf8 Equal (PartPasses edition (u ++ v)) 125 (u ++ v) u (part_and_comma edition) (part_and_comma-takes edition) (found-text (part_and_comma edition) (part_and_comma-well edition))
+    (λ a b x k. comma-step edition (u ++ v) u a b (part edition a) (part edition b) (part-same edition u v a b x k) (λ l. l)) (length r) r s (omega arith) w h)
   where
     chosen : List (Option (List Component)) → List (List Component)
     chosen xs = filter_map (λ selector. selector) xs
@@ -91,27 +100,27 @@ parts-same edition u v r s h = by (each (part_and_comma edition) r) (each (part_
     last xs ys c d e (inl l) = inl l
     last xs ys c d e (inr (f, k)) = inr (rw (e, f) refl, k)
 
-    by : (a b : List (Option (List Component)) × List ℕ) → Repeats Equal (PartPasses edition (u ++ v)) 125 (u ++ v) u a b → Same (u ++ v) u (filter_map (λ selector. selector) (a.0 ++ (part edition a.1).0 ∷ []), (part edition a.1).1) (filter_map (λ selector. selector) (b.0 ++ (part edition b.1).0 ∷ []), (part edition b.1).1)
-    by a b (inl l) = inl (omega (arith, length-part edition a.1))
-    by a b (inr (inl l)) = inl l
-    by a b (inr (inr k)) = last a.0 b.0 (part edition a.1) (part edition b.1) (pairs-equal a.0 b.0 k.0) (part-same edition u v a.1 b.1 k.1)
+    by : (a b : List (Option (List Component)) × List ℕ) → IsUtf8 a.1 → Repeats Equal (PartPasses edition (u ++ v)) 125 (u ++ v) u a b → Same (u ++ v) u (filter_map (λ selector. selector) (a.0 ++ (part edition a.1).0 ∷ []), (part edition a.1).1) (filter_map (λ selector. selector) (b.0 ++ (part edition b.1).0 ∷ []), (part edition b.1).1)
+    by a b z (inl l) = inl (omega (arith, length-part edition a.1))
+    by a b z (inr (inl l)) = inl l
+    by a b z (inr (inr k)) = last a.0 b.0 (part edition a.1) (part edition b.1) (pairs-equal a.0 b.0 k.0) (part-same edition u v a.1 b.1 z k.1)
 
 -- a rule set, up to its block's end
 abbrev pub RulesSame : List ℕ → List ℕ → List StyleRule × List ℕ → List StyleRule × List ℕ → Type 0
 RulesSame t u a b = Lost t a.1 ⊎ ((a.0 ≡ b.0) × Exact 125 t u a.1 b.1)
 
-pub rule_set-same : (edition : Edition) (u v r s : List ℕ) → Along 125 (u ++ v) u r s → RulesSame (u ++ v) u (rule_set edition r) (rule_set edition s)
+pub rule_set-same : (edition : Edition) (u v r s : List ℕ) → IsUtf8 r → Along (125 ∷ (u ++ v)) (125 ∷ u) r s → RulesSame (u ++ v) u (rule_set edition r) (rule_set edition s)
 unfolding rule_set
-rule_set-same edition u v r s h = comma (past_byte 44 r) (past_byte 44 s) (past_byte-along 125 (u ++ v) u 44 r s h)
+rule_set-same edition u v r s w h = comma (past_byte 44 r) (past_byte 44 s) (utf8-past_byte_if 44 r (omega arith) w) (past_byte-to (125 ∷ (u ++ v)) (125 ∷ u) 44 refl r s h)
   where
     body : (xs ys : List (List Component)) (c d : List StyleDeclaration × List ℕ) → xs ≡ ys → BlockSame (u ++ v) u c d → RulesSame (u ++ v) u (map (λ selector. record { components = selector; declarations = c.0 }) xs, c.1) (map (λ selector. record { components = selector; declarations = d.0 }) ys, d.1)
     body xs ys c d e (inl l) = inl l
     body xs ys c d e (inr (f, k)) = inr (rw (e, f) refl, k)
 
-    head : (a b : List (List Component) × List ℕ) → Same (u ++ v) u a b → RulesSame (u ++ v) u (map (λ selector. record { components = selector; declarations = (next_block edition a.1).0 }) a.0, (next_block edition a.1).1) (map (λ selector. record { components = selector; declarations = (next_block edition b.1).0 }) b.0, (next_block edition b.1).1)
-    head a b (inl l) = inl (next_block-lost edition (u ++ v) a.1 l)
-    head a b (inr (e, k)) = body a.0 b.0 (next_block edition a.1) (next_block edition b.1) e (next_block-same edition u v a.1 b.1 k)
+    head : (x : List ℕ) (a b : List (List Component) × List ℕ) → IsUtf8 x → Ends x a.1 → Same (u ++ v) u a b → RulesSame (u ++ v) u (map (λ selector. record { components = selector; declarations = (next_block edition a.1).0 }) a.0, (next_block edition a.1).1) (map (λ selector. record { components = selector; declarations = (next_block edition b.1).0 }) b.0, (next_block edition b.1).1)
+    head x a b z f (inl l) = inl (next_block-lost edition (u ++ v) a.1 l)
+    head x a b z f (inr (e, k)) = body a.0 b.0 (next_block edition a.1) (next_block edition b.1) e (next_block-same edition u v x a.1 b.1 z f k)
 
-    comma : (x y : List ℕ) → To 125 (u ++ v) u x y → RulesSame (u ++ v) u (map (λ selector. record { components = selector; declarations = (next_block edition (parts edition x).1).0 }) (parts edition x).0, (next_block edition (parts edition x).1).1) (map (λ selector. record { components = selector; declarations = (next_block edition (parts edition y).1).0 }) (parts edition y).0, (next_block edition (parts edition y).1).1)
-    comma x y (inl l) = inl (next_block-lost edition (u ++ v) (parts edition x).1 (omega (arith, length-parts edition x)))
-    comma x y (inr k) = head (parts edition x) (parts edition y) (parts-same edition u v x y k)
+    comma : (x y : List ℕ) → IsUtf8 x → (length x < length (125 ∷ (u ++ v))) ⊎ Along (125 ∷ (u ++ v)) (125 ∷ u) x y → RulesSame (u ++ v) u (map (λ selector. record { components = selector; declarations = (next_block edition (parts edition x).1).0 }) (parts edition x).0, (next_block edition (parts edition x).1).1) (map (λ selector. record { components = selector; declarations = (next_block edition (parts edition y).1).0 }) (parts edition y).0, (next_block edition (parts edition y).1).1)
+    comma x y z (inl l) = inl (next_block-lost edition (u ++ v) (parts edition x).1 (omega (arith, length-parts edition x)))
+    comma x y z (inr k) = head x (parts edition x) (parts edition y) z (parts-ends edition x) (parts-same edition u v x y z k)

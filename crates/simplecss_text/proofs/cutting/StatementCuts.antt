@@ -1,7 +1,7 @@
 -- A statement reads the same where the text is cut behind it or later.
 -- Serves `StyleSheet::parse_more` and `laws::cutting_law` (a text read in pieces),
 -- `StyleSheet::parse` and `laws::edition_law`.
-use Rattle.std.proofs.Common.{Bool, IsUtf8, List, None, Some, [], ap, arith, eqb-true, false, if◌then◌else◌, inl, inr, refl, subst, sym, true, ℕ, ◌<◌, ◌==◌, ◌∙◌, ◌∷◌, ◌≡◌, append_assoc, length, ◌++◌, ◌⊎◌, append-nil, length-append}
+use Rattle.std.proofs.Common.{Bool, IsUtf8, List, None, Some, [], ap, arith, eqb-true, false, if◌then◌else◌, inl, inr, refl, subst, sym, true, ℕ, ◌==◌, ◌∙◌, ◌∷◌, ◌≡◌, append_assoc, length, ◌++◌, ◌⊎◌, append-nil, length-append}
 use Rattle.std.proofs.Math.Seq.{take-append_seam}
 use Rattle.std.proofs.lemmas.List.{append_cancel_right}
 use Rattle.std.proofs.lemmas.Str.{IsUtf8-take, IsCharBoundary-at_seam}
@@ -15,14 +15,14 @@ use Rattle.simplecss_text.specs.Statements.{StyleRule, ends_statements, next_sta
 use Rattle.simplecss_text.proofs.reading.EndsLaws.{ends-ends, ends-got, ends-past, ends-same, ends-tail, itself, length-ends}
 use Rattle.simplecss_text.proofs.reading.StandLaws.{name-stands, utf8-behind, ends-past_blank}
 use Rattle.simplecss_text.proofs.reading.WellLaws.{EndsWell, well-behind, well-name, well-nil, well-then}
-use Rattle.simplecss_text.proofs.cutting.GuardLaws.{Along, To, at, longer-along, not_empty, on, starts-along}
-use Rattle.simplecss_text.proofs.cutting.SearchLaws.{Plain, brace_plain, opens_comment-along, past_blank-to}
+use Rattle.simplecss_text.proofs.reading.LocalLaws.{Along, To, along-front, at, longer-along, not_empty, on, starts-along}
+use Rattle.simplecss_text.proofs.reading.SearchLaws.{Plain, brace_plain, opens_comment-along, past_blank-to}
 use Rattle.simplecss_text.proofs.reading.DeclarationsLawful.{ends-from_block_end}
 use Rattle.simplecss_text.proofs.cutting.BlockEndGuards.{Exact, before_it, behind_it}
 use Rattle.simplecss_text.proofs.cutting.RuleSetCuts.{RulesSame, rule_set-same}
 use Rattle.simplecss_text.proofs.cutting.AtRuleCuts.{at_rule-block, at_rule-fault, at_rule-semicolon, along-at}
 use Rattle.simplecss_text.proofs.cutting.StatementEnds.{AtRuleEnds, BehindBrace, at_block, at_fault, at_rule-ends, at_semicolon, rule_set-behind, uses_up}
-use Rattle.simplecss_text.proofs.cutting.RoomLaws.{along-from}
+use Rattle.simplecss_text.proofs.printed.ReadBlanks.{past_blank-utf8}
 
 -- ---- how a blank and a statement end
 
@@ -94,19 +94,19 @@ utf8-front : (u v : List ℕ) → IsUtf8 (u ++ v) → IsUtf8 v → IsUtf8 u
 utf8-front u v whole rest = subst IsUtf8 (take-append_seam u v) (IsUtf8-take (u ++ v) (length u) whole (IsCharBoundary-at_seam (u ++ v) u v refl rest))
 
 -- a text and its front, from behind an ASCII byte on
-along-of : (g : ℕ) (u v w : List ℕ) → g < 128 → IsUtf8 (u ++ v) → Ends (u ++ v) (g ∷ (w ++ v)) → Along g (w ++ v) w (u ++ v) u
-along-of g u v w l whole e =
+along-of : (g : ℕ) (u v w : List ℕ) → Ends (u ++ v) (g ∷ (w ++ v)) → Along (g ∷ (w ++ v)) (g ∷ w) (u ++ v) u
+along-of g u v w e =
     let front : List ℕ = before (u ++ v) (g ∷ (w ++ v)) in
     let parts : front ++ g ∷ (w ++ v) ≡ u ++ v = e in
     let same : front ++ g ∷ w ≡ u = append_cancel_right (front ++ g ∷ w) u v (append_assoc front (g ∷ w) v ∙ parts) in
-    let along : Along g (w ++ v) w (front ++ g ∷ (w ++ v)) (front ++ g ∷ w) = along-from g (w ++ v) w front l (subst IsUtf8 (sym parts) whole) in
-    subst (λ (s : List ℕ). Along g (w ++ v) w (u ++ v) s) same (subst (λ (r : List ℕ). Along g (w ++ v) w r (front ++ g ∷ w)) parts along)
+    let along : Along (g ∷ (w ++ v)) (g ∷ w) (front ++ g ∷ (w ++ v)) (front ++ g ∷ w) = along-front (g ∷ (w ++ v)) (g ∷ w) front in
+    subst (λ (s : List ℕ). Along (g ∷ (w ++ v)) (g ∷ w) (u ++ v) s) same (subst (λ (r : List ℕ). Along (g ∷ (w ++ v)) (g ∷ w) r (front ++ g ∷ w)) parts along)
 
 -- behind the blanks at their fronts
-past_blank-along : (g : ℕ) (u v w : List ℕ) → Plain g → g < 128 → IsUtf8 (u ++ v) → Ends (past_blank (u ++ v)) (g ∷ (w ++ v)) → Along g (w ++ v) w (past_blank (u ++ v)) (past_blank u)
-past_blank-along g u v w plain l whole e = by (past_blank-to g w v plain (u ++ v) u (along-of g u v w l whole (ends-ends (u ++ v) (past_blank (u ++ v)) (g ∷ (w ++ v)) (ends-past_blank (u ++ v)) e)))
+past_blank-along : (g : ℕ) (u v w : List ℕ) → Plain g → Ends (past_blank (u ++ v)) (g ∷ (w ++ v)) → Along (g ∷ (w ++ v)) (g ∷ w) (past_blank (u ++ v)) (past_blank u)
+past_blank-along g u v w plain e = by (past_blank-to g w v plain (u ++ v) u (along-of g u v w (ends-ends (u ++ v) (past_blank (u ++ v)) (g ∷ (w ++ v)) (ends-past_blank (u ++ v)) e)))
   where
-    by : To g (w ++ v) w (past_blank (u ++ v)) (past_blank u) → Along g (w ++ v) w (past_blank (u ++ v)) (past_blank u)
+    by : To true (g ∷ (w ++ v)) (g ∷ w) (past_blank (u ++ v)) (past_blank u) → Along (g ∷ (w ++ v)) (g ∷ w) (past_blank (u ++ v)) (past_blank u)
     by (inl less) = absurd (omega (arith, less, length-ends (past_blank (u ++ v)) (g ∷ (w ++ v)) e))
     by (inr along) = along
 
@@ -117,15 +117,15 @@ sign_plain = record { space = refl; slash = refl; star = refl }
 
 exact-second : (g : ℕ) (t u r s : List ℕ) → Exact g t u r s → r ≡ t → s ≡ u
 exact-second g t u r s behind_it e = refl
-exact-second g t u r s (before_it a b h) e = absurd (omega (arith, longer-along g t u r s h, ap length e))
+exact-second g t u r s (before_it a b h) e = absurd (omega (arith, longer-along (g ∷ t) (g ∷ u) r s h, ap length e))
 
-ends_statements-along : (t u r s : List ℕ) → Along 125 t u r s → ends_statements r ≡ ends_statements s
+ends_statements-along : (t u r s : List ℕ) → Along (125 ∷ t) (125 ∷ u) r s → ends_statements r ≡ ends_statements s
 ends_statements-along t u r s at = rw (not_empty 125 t, not_empty 125 u) refl
-ends_statements-along t u r s (on b r1 s1 room h) = rw (not_empty b r1, not_empty b s1) (opens_comment-along 125 t u brace_plain (b ∷ r1) (b ∷ s1) (on b r1 s1 room h))
+ends_statements-along t u r s (on b r1 s1 h) = rw (not_empty b r1, not_empty b s1) (opens_comment-along 125 t u brace_plain (b ∷ r1) (b ∷ s1) (on b r1 s1 h))
 
 -- a rule set that ends behind a brace
-rule_set-cut : (edition : Edition) (w v r s : List ℕ) (rules : List StyleRule) → Along 125 (w ++ v) w r s → rule_set edition r ≡ (rules, w ++ v) → (w ++ v ≡ []) ⊎ (rule_set edition s ≡ (rules, w))
-rule_set-cut edition w v r s rules h e = by (rule_set edition r) (rule_set edition s) e (rule_set-same edition w v r s h)
+rule_set-cut : (edition : Edition) (w v r s : List ℕ) (rules : List StyleRule) → IsUtf8 r → Along (125 ∷ (w ++ v)) (125 ∷ w) r s → rule_set edition r ≡ (rules, w ++ v) → (w ++ v ≡ []) ⊎ (rule_set edition s ≡ (rules, w))
+rule_set-cut edition w v r s rules z h e = by (rule_set edition r) (rule_set edition s) e (rule_set-same edition w v r s z h)
   where
     by : (a b : List StyleRule × List ℕ) → a ≡ (rules, w ++ v) → RulesSame (w ++ v) w a b → (w ++ v ≡ []) ⊎ (b ≡ (rules, w))
     by (x, p) b f (inl (inl l)) = absurd (omega (arith, l, ap (λ (c : List StyleRule × List ℕ). length c.1) f))
@@ -142,10 +142,10 @@ at_rule-cut edition s v w rest whole cut e uses_up = inl (sym e)
 at_rule-cut edition s v w rest whole cut e (at_fault fault left f) = inr (at_rule-fault edition s v w fault (utf8-front s v whole cut) (f ∙ ap (fails fault) e))
 at_rule-cut edition s v w rest whole cut e (at_semicolon n x left f g) =
     let behind : past (is_neither 59 123) x ≡ 59 ∷ (w ++ v) = g ∙ ap (λ (t : List ℕ). 59 ∷ t) e in
-    inr (at_rule-semicolon edition (w ++ v) w (s ++ v) s n x (along-of 59 s v w (omega arith) whole (semicolon-front edition (s ++ v) n x (w ++ v) f behind)) f behind)
+    inr (at_rule-semicolon edition (w ++ v) w (s ++ v) s n x whole (along-of 59 s v w (semicolon-front edition (s ++ v) n x (w ++ v) f behind)) f behind)
 at_rule-cut edition s v w rest whole cut e (at_block n x inner left f g h) =
     let behind : from_block_end inner ≡ 125 ∷ (w ++ v) = h ∙ ap (λ (t : List ℕ). 125 ∷ t) e in
-    inr (at_rule-block edition w v (s ++ v) s n x inner (along-of 125 s v w (omega arith) whole (block-front edition (s ++ v) n x inner (w ++ v) f g behind)) f g behind)
+    inr (at_rule-block edition w v (s ++ v) s n x inner whole (along-of 125 s v w (block-front edition (s ++ v) n x inner (w ++ v) f g behind)) f g behind)
 
 -- ---- the next statement
 
@@ -164,7 +164,7 @@ next_statement-cut edition u v w rules whole cut e = by (next_statement-ends edi
     nil : w ++ v ≡ [] → next_statement edition u ≡ Some (rules, w)
     nil n = next-nil edition u v w rules n e
 
-    ruled : Along 125 (w ++ v) w (past_blank (u ++ v)) (past_blank u) → ends_statements (past_blank (u ++ v)) ≡ false → starts 64 (past_blank (u ++ v)) ≡ false → (w ++ v ≡ []) ⊎ (rule_set edition (past_blank u) ≡ (rules, w)) → next_statement edition u ≡ Some (rules, w)
+    ruled : Along (125 ∷ (w ++ v)) (125 ∷ w) (past_blank (u ++ v)) (past_blank u) → ends_statements (past_blank (u ++ v)) ≡ false → starts 64 (past_blank (u ++ v)) ≡ false → (w ++ v ≡ []) ⊎ (rule_set edition (past_blank u) ≡ (rules, w)) → next_statement edition u ≡ Some (rules, w)
     ruled along more other (inl n) = nil n
     ruled along more other (inr r) =
         let sign : starts 64 (past_blank u) ≡ false = sym (starts-along 125 (w ++ v) w 64 (past_blank (u ++ v)) (past_blank u) along) ∙ other in
@@ -181,14 +181,14 @@ next_statement-cut edition u v w rules whole cut e = by (next_statement-ends edi
     by : ends_statements (past_blank (u ++ v)) ≡ false → NextEnds edition (past_blank (u ++ v)) rules (w ++ v) → next_statement edition u ≡ Some (rules, w)
     by more (text_ends n) = nil n
     by more (rules_end other r h) =
-        let along : Along 125 (w ++ v) w (past_blank (u ++ v)) (past_blank u) = past_blank-along 125 u v w brace_plain (omega arith) whole h in
-        ruled along more other (rule_set-cut edition w v (past_blank (u ++ v)) (past_blank u) rules along r)
+        let along : Along (125 ∷ (w ++ v)) (125 ∷ w) (past_blank (u ++ v)) (past_blank u) = past_blank-along 125 u v w brace_plain h in
+        ruled along more other (rule_set-cut edition w v (past_blank (u ++ v)) (past_blank u) rules (past_blank-utf8 (u ++ v) whole) along r)
     by more (at_rule_ends after is none h) =
         let s : List ℕ = before after (w ++ v) ++ w in
         let parts : after ≡ s ++ v = sym (append_assoc (before after (w ++ v)) w v ∙ (at_rule-well edition after (w ++ v) h).0) in
         let start : past_blank (u ++ v) ≡ 64 ∷ (s ++ v) = is ∙ ap (λ (t : List ℕ). 64 ∷ t) parts in
         let behind : Ends (past_blank (u ++ v)) (64 ∷ (s ++ v)) = subst (Ends (past_blank (u ++ v))) start (ends-same (past_blank (u ++ v))) in
-        let along : Along 64 (s ++ v) s (past_blank (u ++ v)) (past_blank u) = past_blank-along 64 u v s sign_plain (omega arith) whole behind in
+        let along : Along (64 ∷ (s ++ v)) (64 ∷ s) (past_blank (u ++ v)) (past_blank u) = past_blank-along 64 u v s sign_plain behind in
         let whole_after : IsUtf8 (s ++ v) = utf8-behind (u ++ v) (s ++ v) 64 (omega arith) whole (ends-ends (u ++ v) (past_blank (u ++ v)) (64 ∷ (s ++ v)) (ends-past_blank (u ++ v)) behind) in
         at_sign s (along-at 64 (s ++ v) s (past_blank (u ++ v)) (past_blank u) along start) none
         (at_rule-cut edition s v w (w ++ v) whole_after cut refl (subst (λ (t : List ℕ). AtRuleEnds edition t (w ++ v)) parts h))

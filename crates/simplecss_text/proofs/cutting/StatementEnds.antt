@@ -1,7 +1,7 @@
 -- Where blocks, rule sets and at-rules end.
 -- Serves `StyleSheet::parse_more` and `laws::cutting_law` (a text read in pieces),
 -- `StyleSheet::parse` and `laws::edition_law`.
-use Rattle.std.proofs.Common.{Bool, List, None, Some, [], ap, eqb-true, false, if◌then◌else◌, inl, inr, not, one-add, refl, subst, sym, true, ℕ, ◌&&◌, ◌==◌, ◌∙◌, ◌∷◌, ◌≡◌, ◌⊎◌}
+use Rattle.std.proofs.Common.{Bool, List, arith, None, Some, [], ap, eqb-true, false, if◌then◌else◌, inl, inr, not, one-add, refl, subst, sym, true, ℕ, ◌&&◌, ◌==◌, ◌∙◌, ◌∷◌, ◌≡◌, ◌⊎◌}
 use Rattle.std.specs.List.{prefix_len}
 use Rattle.simplecss_text.specs.Reading.{Ends, Fault, Reading, each, fails, found, got}
 use Rattle.simplecss_text.specs.Bytes.{is_neither, past, past_byte, past_one, starts}
@@ -14,8 +14,10 @@ use Rattle.simplecss_text.specs.Statements.{next_block, part, part_and_comma, pa
 use Rattle.simplecss_text.proofs.reading.EachLaws.{each-stops}
 use Rattle.simplecss_text.proofs.reading.DeclarationLaws.{declaration_in_block-takes}
 use Rattle.simplecss_text.proofs.reading.EndsLaws.{EndsFound, Stands, each-ends, ends-ends, ends-past, ends-past_byte, ends-past_one, ends-tail, no_texts}
+use Rattle.simplecss_text.proofs.reading.WellLaws.{WellFound, found-ends, well-behind}
+use Rattle.simplecss_text.proofs.printed.GotLaws.{starts-cons}
 use Rattle.simplecss_text.proofs.reading.SequenceStandLaws.{reads-ends}
-use Rattle.simplecss_text.proofs.cutting.GuardLaws.{not_empty}
+use Rattle.simplecss_text.proofs.reading.LocalLaws.{not_empty}
 use Rattle.simplecss_text.proofs.reading.DeclarationsLawful.{declaration-stands, declaration_in_block-ends, ends-from_block_end}
 use Rattle.simplecss_text.proofs.cutting.BlockEndGuards.{no_brace}
 use Rattle.simplecss_text.proofs.cutting.BlockCuts.{at_brace, none_broken}
@@ -101,12 +103,18 @@ pub part-ends : (edition : Edition) (text : List ℕ) → Ends text (part editio
 unfolding part
 part-ends edition text = ends-ends text (reads edition text).1 (past is_space (reads edition text).1) (reads-ends edition text) (ends-past is_space (reads edition text).1)
 
-pub part_and_comma-ends : (edition : Edition) (text : List ℕ) → EndsFound text (part_and_comma edition text)
-part_and_comma-ends edition text = by (starts 44 (part edition text).1)
+pub part_and_comma-well : (edition : Edition) (text : List ℕ) → WellFound text (part_and_comma edition text)
+part_and_comma-well edition text = by (starts 44 rest) refl
   where
-    by : (k : Bool) → EndsFound text (if k then Some ((part edition text).0, past_one (part edition text).1) else None)
-    by true = ends-ends text (part edition text).1 (past_one (part edition text).1) (part-ends edition text) (ends-past_one (part edition text).1)
-    by false = tt
+    rest : List ℕ
+    rest = (part edition text).1
+
+    by : (k : Bool) → starts 44 rest ≡ k → WellFound text (if k then Some ((part edition text).0, past_one rest) else None)
+    by true e = well-behind 44 text (past_one rest) (omega arith) (subst (Ends text) (starts-cons 44 rest e) (part-ends edition text))
+    by false e = tt
+
+pub part_and_comma-ends : (edition : Edition) (text : List ℕ) → EndsFound text (part_and_comma edition text)
+part_and_comma-ends edition text = found-ends text (part_and_comma edition text) (part_and_comma-well edition text)
 
 pub parts-ends : (edition : Edition) (text : List ℕ) → Ends text (parts edition text).1
 unfolding parts

@@ -3,14 +3,13 @@
 -- again).
 use Rattle.std.proofs.Common.{◌≡◌, ℕ, List, [], ◌∷◌, Bool, true, false, if◌then◌else◌, ◌&&◌, ◌==◌, drop, Option, Some, None, arith, refl, sym, ap, subst, IsUtf8}
 use Rattle.std.specs.Option.{option_map}
-use Rattle.simplecss_text.specs.Reading.{no_comment, got, fails}
 use Rattle.simplecss_text.specs.Bytes.{past_one, starts}
 use Rattle.simplecss_text.specs.Characters.{is_space}
-use Rattle.simplecss_text.specs.Comments.{opens_comment, after_close, after_comment, blank_part, past_blank, blank, has_space, gap}
+use Rattle.simplecss_text.specs.Comments.{opens_comment, after_close, after_comment, blank_part, past_blank}
 use Rattle.simplecss_text.proofs.bytes.CutLemmas.{is_space-ascii}
 use Rattle.simplecss_text.proofs.bytes.Utf8Laws.{utf8-past_byte, utf8-behind_byte}
 use Rattle.simplecss_text.proofs.printed.PrintedHeads.{same_byte}
-use Rattle.simplecss_text.proofs.printed.GotLaws.{IfGot, if_got-if, if_got-follow, IfBehind, starts-cons, after_close-behind, IfTaken, Anything, each-all}
+use Rattle.simplecss_text.proofs.printed.GotLaws.{IfBehind, starts-cons, after_close-behind, IfTaken, Anything, each-all}
 
 -- the two bytes that open a comment
 pub opens_comment-two : (b : ℕ) (text : List ℕ) → opens_comment (b ∷ text) ≡ true → (b ≡ 47) × (text ≡ 42 ∷ past_one text)
@@ -44,13 +43,3 @@ blank_part-utf8 (b ∷ text) u = by (is_space b) (opens_comment (b ∷ text)) re
 -- behind a blank a text is left
 pub past_blank-utf8 : (text : List ℕ) → IsUtf8 text → IsUtf8 (past_blank text)
 past_blank-utf8 text u = (each-all Anything IsUtf8 blank_part blank_part-utf8 text u).1
-
--- the same of a reading
-blank-utf8 : (text : List ℕ) → IsUtf8 text → IfGot (λ x rest. IsUtf8 rest) (blank text)
-unfolding blank
-blank-utf8 text u = if_got-if (λ x rest. IsUtf8 rest) (opens_comment (past_blank text)) (fails (no_comment (past_blank text)) []) (got tt (past_blank text)) (λ e. tt) (λ e. past_blank-utf8 text u)
-
--- and of a gap
-pub gap-utf8 : (text : List ℕ) → IsUtf8 text → IfGot (λ spaced rest. IsUtf8 rest) (gap text)
-unfolding gap
-gap-utf8 text u = if_got-follow (λ x rest. IsUtf8 rest) (λ spaced rest. IsUtf8 rest) (blank text) (λ x. got (has_space text)) (blank-utf8 text u) (λ x rest h. h)

@@ -5,7 +5,7 @@ use Rattle.std.proofs.Common.{◌≡◌, ℕ, zero, suc, ◌<◌, inl, inr, List
 use Rattle.std.specs.Option.{option_map}
 use Rattle.std.specs.List.{flat_map}
 use lib.Utf8.{encode}
-use Rattle.simplecss_text.specs.Reading.{Reading, got, fails}
+use Rattle.simplecss_text.specs.Reading.{left_after, Reading, got, fails}
 use Rattle.simplecss_text.specs.Characters.{Edition, first_edition, second_edition}
 use Rattle.simplecss_text.specs.Comments.{gap}
 use Rattle.simplecss_text.specs.Components.{KnownPseudoClass, Subselector, Combinator, Component}
@@ -34,7 +34,7 @@ use Rattle.simplecss_text.proofs.printed.PrintedPieces.{IsClass, IsSubselector, 
 use Rattle.simplecss_text.proofs.printed.PrintedHeads.{IsTypeName}
 use Rattle.simplecss_text.proofs.printed.PrintedSelectors.{EachIs, IsCompound, Joins, EachJoined, goes-end}
 use Rattle.simplecss_text.proofs.printed.GotLaws.{got-holds}
-use Rattle.simplecss_text.proofs.printed.ReadBlanks.{gap-utf8}
+use Rattle.simplecss_text.proofs.reading.WellLaws.{well-gap}
 use Rattle.simplecss_text.proofs.printed.ReadPieces.{GoodToken, ReadToken, solid-gives}
 
 -- the components that stand behind the one that roles begin with
@@ -270,7 +270,7 @@ sequence-within edition (suc n) text less u = by (gap text) refl (λ after k v. 
     inside spaced start g v (fails fault after) s more = sequence-ending edition text (fault_ending (next_kind start) spaced start fault after) (λ side. sequence_from-solid edition side text start spaced (fails fault after) g s)
 
     by : (r : Reading Bool) → gap text ≡ r → ((after : List ℕ) → length after < n → IsUtf8 after → SequenceIs edition after) → SequenceIs edition text
-    by (got spaced start) g more = inside spaced start g (got-holds (λ spaced rest. IsUtf8 rest) (gap text) spaced start (gap-utf8 text u) g) (solid edition start) refl more
+    by (got spaced start) g more = inside spaced start g (subst (λ (r : Reading Bool). IsUtf8 (left_after r)) g ((well-gap text).1 u)) (solid edition start) refl more
     by (fails fault after) g more = sequence-ending edition text (within_gap fault after) (λ side. sequence_from-open_gap edition side text after fault g)
 
 -- the outcome of a text, behind either left side

@@ -1,35 +1,38 @@
 -- Terms, values and declarations owe what every reader owes, and take bytes.
 -- Serves `DeclarationTokenizer`, `take_value`, `StyleSheet::{parse, parse_more}` and
 -- `laws::{cutting_law, edition_law}`.
-use Rattle.std.proofs.Common.{◌≡◌, ◌⊎◌, ◌≤◌, Bool, List, None, Some, [], ap, arith, codes, drop, IsUtf8, ◌<◌, subst, sym, take, eqb, false, if◌then◌else◌, inl, inr, length, not, refl, true, ℕ, ◌&&◌, ◌++◌, ◌==◌, ◌||◌, ◌∙◌, ◌∷◌}
+use Rattle.std.proofs.Common.{◌≡◌, ◌⊎◌, ◌≤◌, Bool, List, None, Option, Some, [], ap, arith, codes, drop, IsUtf8, ◌<◌, subst, sym, take, eqb, false, if◌then◌else◌, inl, inr, length, length-append, not, refl, true, ℕ, ◌&&◌, ◌++◌, ◌==◌, ◌||◌, ◌∙◌, ◌∷◌}
 use Rattle.std.specs.List.{starts_with}
-use Rattle.std.specs.Str.{trim}
+use Rattle.std.specs.Str.{chars, trim}
 use lib.Utf8.{encode}
 use Rattle.std.proofs.lemmas.Bool.Decides.{nat_tests}
 use Rattle.std.proofs.lemmas.List.{take-append-drop}
 use Rattle.std.proofs.lemmas.Slice.Eq.{bytes_eq-Decides}
-use Rattle.simplecss_text.specs.Reading.{Reader, Ends, Reading, before, each, ended, fails, found, got, here, left_after, ◌>>=◌, ◌>>◌}
-use Rattle.simplecss_text.specs.Bytes.{after_byte, byte, is_digit, optional, past, past_one, starts}
+use Rattle.simplecss_text.specs.Reading.{Reader, Ends, Reading, before, each, ended, fails, found, no_name, got, here, left_after, ◌>>=◌, ◌>>◌}
+use Rattle.simplecss_text.specs.Bytes.{after_byte, byte, closed_or, is_digit, optional, past, past_one, starts}
 use Rattle.simplecss_text.specs.Characters.{Edition, first_edition, second_edition}
 use Rattle.simplecss_text.specs.Comments.{blank, past_blank}
 use Rattle.simplecss_text.specs.Strings.{from_quote, is_quote, string_after}
 use Rattle.simplecss_text.specs.Terms.{arguments, begins_number, is_hex_digit, is_slash_term, past_decimals, past_hash, past_number, past_unit, quoted, term, word}
 use Rattle.simplecss_text.specs.Declarations.{StyleDeclaration, after_term, declaration, importance, important_word, last_or, semicolon, semicolons, term_in_value, terms, trailing, unless_empty, value, value_reader}
 use Rattle.simplecss_text.specs.Blocks.{block_end, declaration_in_block, ends_list, from_block_end}
-use Rattle.simplecss_text.specs.Names.{name}
+use Rattle.simplecss_text.specs.Names.{begins_name, name}
 use Rattle.simplecss_text.proofs.reading.EndsLaws.{EndsFound, Stands, ends-drop, length-ends, no_texts}
-use Rattle.simplecss_text.proofs.reading.WellLaws.{EndsWell, WellFound, each-well, found-ends, well-closed, well-past, well-past_blank, well-tail, well-then}
+use Rattle.simplecss_text.proofs.reading.WellLaws.{EndsWell, WellFound, each-well, found-ends, found-text, well-closed, well-name, well-past, well-past_blank, well-tail, well-then}
 use Rattle.simplecss_text.proofs.bytes.Utf8Laws.{utf8-second}
-use Rattle.simplecss_text.proofs.printed.GotLaws.{after_byte-behind}
+use Rattle.simplecss_text.proofs.printed.GotLaws.{IfBehind, after_byte-behind, starts-cons}
 use Rattle.simplecss_text.proofs.printed.PrintedHeads.{same_byte}
 use Rattle.simplecss_text.proofs.printed.ReadValues.{quote_low}
-use Rattle.simplecss_text.proofs.reading.TakesLaws.{Cuts, Keeps, blank-keeps, cuts-follow, cuts-if, follow-cuts, from_quote-leaves, keeps-cuts, keeps-follow, length-past, length-past_blank, length-past_byte, name-cuts, string_up_to-keeps}
+use Rattle.simplecss_text.proofs.reading.TakesLaws.{Cuts, Keeps, blank-keeps, cuts-follow, cuts-if, follow-cuts, from_quote-leaves, keeps-cuts, keeps-follow, length-past_blank, length-past_byte, name-cuts, string_up_to-keeps}
 use Rattle.simplecss_text.proofs.reading.EachLaws.{Shrinks, Takes}
-use Rattle.simplecss_text.proofs.cutting.GuardLaws.{Along, Equal, Guard, Guarded, Never, Pairs, Repeats, Step, To, at, before-along, each-repeats, guard-got, left-to, on, past-along, starts-along}
-use Rattle.simplecss_text.proofs.cutting.NameGuards.{drop-to}
-use Rattle.simplecss_text.proofs.cutting.SearchLaws.{brace_plain, byte-finds, closed_or-guard, past_blank-to}
-use Rattle.simplecss_text.proofs.editions.EditionLaws.{Shared, each-editions, shared-ends}
-use Rattle.simplecss_text.proofs.reading.Lawful.{Lawful, Owes, blank-lawful, byte-lawful, lawful-cases, lawful-keeps, lawful-stands, name-lawful, optional-lawful, owes-choice, owes-cuts, owes-fails, owes-follow, owes-give, owes-if, owes-left, owes-past, owes-sign, owes-so, owes-starts, passes-sign, past-lawful, string_after-lawful}
+use Rattle.simplecss_text.proofs.reading.LocalLaws.{Along, Equal, Guard, Never, Pairs, Passed, Repeats, Seam, Step, To, at, at-brace, before-along, drop-to, each-repeats, guard-got, left-to, on, starts-seam}
+use Rattle.simplecss_text.proofs.reading.LocalLaws.Seam.{at_brace, at_quiet}
+use Rattle.simplecss_text.proofs.reading.NameLocal.{past_hash-seam}
+use Rattle.simplecss_text.proofs.reading.SearchLaws.{brace_plain, closed-along, past_blank-to}
+use Rattle.simplecss_text.proofs.printed.PrintedNames.{chars-byte}
+use Rattle.simplecss_text.proofs.printed.ReadNames.{name-none_begins}
+use Rattle.simplecss_text.proofs.editions.EditionLaws.{Shared, each-editions, name-editions, shared-ends}
+use Rattle.simplecss_text.proofs.reading.Lawful.{Lawful, Owes, blank-lawful, byte-lawful, lawful-cases, lawful-guarded, lawful-keeps, lawful-stands, name-lawful, name-owes, optional-lawful, owes-choice, owes-cuts, owes-fails, owes-follow, owes-give, owes-if, owes-past, owes-sign, owes-so, owes-starts, passes-sign, past-lawful, past_name-lawful, string_after-lawful, takes-passed}
 
 -- ---- terms
 
@@ -55,89 +58,61 @@ single-low second_edition b text e = by (b == 44) (b == 47) refl refl e
     by false true h k e = let same = same_byte b 47 k in omega arith
     by false false h k e = absurd (cc)
 
-arguments-lawful : Lawful (λ edition. arguments) (λ edition. arguments)
-arguments-lawful r s =
-    owes-starts 40
+arguments-lawful : (c : Bool) → Lawful c (λ edition. arguments) (λ edition. arguments)
+arguments-lawful c r s =
+    owes-starts 40 (λ edition q e w. w.no_opening) (λ e edition. shorter (after_byte 41 r) (after_byte-behind 41 r) (starts-cons 40 r e))
     (λ e. record {
       left = λ edition. well-closed 41 r ended (after_byte 41 r) (omega arith) (after_byte-behind 41 r);
       same = λ h. refl;
-      guard = λ edition u v h. closed_or-guard 125 (u ++ v) u ended ended (after_byte 41 r) (after_byte 41 s) (byte-finds 41 u v refl r s h);
+      guard = λ edition t u m v h. closed-along c t u 41 ended ended r s h;
     })
     (owes-give tt r s)
+  where
+    shorter : (o : Option (List ℕ)) → IfBehind 41 r o → r ≡ 40 ∷ past_one r → length (left_after (closed_or ended o)) < length r
+    shorter None h e = omega (arith, ap length e)
+    shorter (Some rest) h e = omega (arith, ap length h.1, length-append h.0 (41 ∷ rest))
 
 pub arguments-stands : (text : List ℕ) → Stands text no_texts (arguments text)
-arguments-stands text = lawful-stands (λ edition. arguments) (λ edition. arguments) arguments-lawful first_edition text
+arguments-stands text = lawful-stands (λ edition. arguments) (λ edition. arguments) (arguments-lawful true) first_edition text
 
-past_hash-to : (t u : List ℕ) (a b : Reading (List ℕ)) → Guard Equal 125 t u a b → To 125 t u (past_hash a) (past_hash b)
-past_hash-to t u (got n r) b (inl h) = inl h
-past_hash-to t u (fails f r) b (inl h) = inl (omega (arith, length-past is_hex_digit r))
-past_hash-to t u (got n r) (got m s) (inr h) = inr h.1
-past_hash-to t u (got n r) (fails e s) (inr h) = absurd h
-past_hash-to t u (fails f r) (got m s) (inr h) = absurd h
-past_hash-to t u (fails f r) (fails e s) (inr h) = inr (past-along 125 t u is_hex_digit refl r s h)
-
-past_hash-owes : (r s : List ℕ) (a b : Edition → Reading (List ℕ)) → Owes r s a b → Owes r s (λ edition. got (tt {0}) (past_hash (a edition))) (λ edition. got tt (past_hash (b edition)))
-past_hash-owes r s a b p = record {
-  left = λ edition. by (a edition) (p.left edition);
-  same = λ h. ap (λ o. got tt (past_hash o)) (p.same h);
-  guard = λ edition u v h. guard-got Equal 125 (u ++ v) u tt tt _ _ refl (past_hash-to (u ++ v) u (a edition) (b edition) (p.guard edition u v h));
+past_hash-lawful : (c : Bool) → Lawful c (λ edition text. got (tt {0}) (past_hash (name edition text))) (λ edition text. got tt (past_hash (name edition text)))
+past_hash-lawful c r s = record {
+  left = λ edition. by (name edition r) (well-name edition r);
+  same = λ h. ap (λ o. got tt (past_hash o)) (name-editions r h);
+  guard = λ edition t u m v h. guard-got Equal c t u tt tt _ _ refl (past_hash-seam c t u m r s v h);
 }
   where
     by : (o : Reading (List ℕ)) → EndsWell r (left_after o) → EndsWell r (past_hash o)
     by (got n rest) h = h
     by (fails fault rest) h = well-then r rest (past is_hex_digit rest) h (well-past is_hex_digit hex_low rest)
 
-pub past_decimals-lawful : Lawful (λ edition text. got (tt {0}) (past_decimals text)) (λ edition text. got tt (past_decimals text))
-past_decimals-lawful r s = passes-sign 46 (omega arith) _ _ _ _ (past-lawful is_digit digit_low (past_one r) (past_one s)) (owes-give tt r s)
+pub past_decimals-lawful : (c : Bool) → Lawful c (λ edition text. got (tt {0}) (past_decimals text)) (λ edition text. got tt (past_decimals text))
+past_decimals-lawful c r s = passes-sign 46 (omega arith) (λ edition q e w. w.no_point) _ _ _ _ (past-lawful c is_digit digit_low (λ edition q w. w.no_digit) (past_one r) (past_one s)) (owes-give tt r s)
 
-pub past_unit-lawful : Lawful (λ edition text. got (tt {0}) (past_unit edition text)) (λ edition text. got tt (past_unit edition text))
-past_unit-lawful r s = passes-sign 37 (omega arith) _ _ _ _ (owes-give tt (past_one r) (past_one s)) (owes-left (name-lawful r s))
+pub past_unit-lawful : (c : Bool) → Lawful c (λ edition text. got (tt {0}) (past_unit edition text)) (λ edition text. got tt (past_unit edition text))
+past_unit-lawful c r s = passes-sign 37 (omega arith) (λ edition q e w. w.no_percent) _ _ _ _ (owes-give tt (past_one r) (past_one s)) (past_name-lawful c r s)
 
-past_number-lawful : Lawful (λ edition text. got (tt {0}) (past_number edition text)) (λ edition text. got tt (past_number edition text))
+past_number-lawful : (c : Bool) → Lawful c (λ edition text. got (tt {0}) (past_number edition text)) (λ edition text. got tt (past_number edition text))
 unfolding past_number
-past_number-lawful r s =
-    owes-follow (λ u edition t. got tt (past_unit edition (past_decimals t))) (λ u edition t. got tt (past_unit edition (past_decimals t))) (past-lawful is_digit digit_low r s) (λ u t w.
-    owes-follow (λ x edition y. got tt (past_unit edition y)) (λ x edition y. got tt (past_unit edition y)) (past_decimals-lawful t w) (λ x. past_unit-lawful))
+past_number-lawful c r s =
+    owes-follow (λ u edition t. got tt (past_unit edition (past_decimals t))) (λ u edition t. got tt (past_unit edition (past_decimals t))) (past-lawful c is_digit digit_low (λ edition q w. w.no_digit) r s) (λ u t w.
+    owes-follow (λ x edition y. got tt (past_unit edition y)) (λ x edition y. got tt (past_unit edition y)) (past_decimals-lawful c t w) (λ x. past_unit-lawful c))
 
-word-lawful : Lawful word word
+-- a word, where the text is no lone hyphen
+word-owes : (c : Bool) (r s : List ℕ) → (c ≡ false → r ≡ 45 ∷ [] → ⊥) → Owes c r s (λ edition. word edition r) (λ edition. word edition s)
 unfolding word
-word-lawful r s = owes-follow _ _ (name-lawful r s) (λ n. arguments-lawful)
+word-owes c r s some = owes-follow _ _ (name-owes c r s some) (λ n. arguments-lawful c)
 
-quoted-lawful : (quote : ℕ) → is_quote quote ≡ true → Lawful (λ edition. quoted quote) (λ edition. quoted quote)
-quoted-lawful quote e r s = owes-follow _ _ (string_after-lawful quote e r s) (λ inside. owes-give tt)
+quoted-lawful : (c : Bool) (quote : ℕ) → is_quote quote ≡ true → Lawful c (λ edition. quoted quote) (λ edition. quoted quote)
+quoted-lawful c quote e r s = owes-follow _ _ (string_after-lawful c quote e r s) (λ inside. owes-give tt)
 
 -- no slash begins a term
 slash-editions : (b : ℕ) (text : List ℕ) → (b == 47) ≡ false → is_slash_term first_edition b text ≡ is_slash_term second_edition b text
 slash-editions b text e = rw e refl
 
--- whether a slash stands next that is a term
-abbrev slash_next : Edition → List ℕ → Bool
-slash_next edition [] = false
-slash_next edition (b ∷ text) = is_slash_term edition b text
-
-slash-along : (edition : Edition) (t u r s : List ℕ) → Along 125 t u r s → slash_next edition r ≡ slash_next edition s
-slash-along first_edition t u r s at = refl
-slash-along second_edition t u r s at = refl
-slash-along first_edition t u r s (on b r1 s1 room h) = refl
-slash-along second_edition t u r s (on b r1 s1 room h) = ap (λ (k : Bool). b == 47 && not k) (starts-along 125 t u 42 r1 s1 h)
-
-pub term-lawful : Lawful term term
-unfolding term
-term-lawful = lawful-cases term term (owes-fails ended ended [] []) (λ b r s.
-    owes-so (b == 35) _ _ (λ e. owes-past b (omega (arith, same_byte b 35 e)) (past_hash-owes r s _ _ (name-lawful r s)))
-    (owes-so (begins_number b) _ _ (λ e. owes-past b (number_low b e) (past_number-lawful r s))
-    (owes-so (is_quote b) _ _ (λ e. owes-past b (quote_low b e) (quoted-lawful b e r s))
-    (owes-choice (b ∷ r) (b ∷ s) (λ edition. b == 44 || is_slash_term edition b r) (λ edition. b == 44 || is_slash_term edition b s) _ _ _ _
-    (λ h. ap (λ (k : Bool). b == 44 || k) (slash-editions b r h.0.1))
-    (λ edition u v h. ap (λ (k : Bool). b == 44 || k) (slash-along edition (u ++ v) u (b ∷ r) (b ∷ s) h))
-    (λ edition e. owes-past b (single-low edition b r e) (owes-give tt r s)) (word-lawful (b ∷ r) (b ∷ s))))))
-
-pub term-stands : (edition : Edition) (text : List ℕ) → Stands text no_texts (term edition text)
-term-stands edition text = lawful-stands term term term-lawful edition text
-
 word-cuts : (edition : Edition) (text : List ℕ) → Cuts text (word edition text)
 unfolding word
-word-cuts edition text = cuts-follow text (name edition text) (λ n. arguments) (name-cuts edition text) (λ n rest. lawful-keeps _ _ arguments-lawful edition rest)
+word-cuts edition text = cuts-follow text (name edition text) (λ n. arguments) (name-cuts edition text) (λ n rest. lawful-keeps _ _ (arguments-lawful true) edition rest)
 
 quoted-keeps : (quote : ℕ) (text : List ℕ) → Keeps text (quoted quote text)
 quoted-keeps quote text = keeps-follow text (string_after quote text) _ (string_up_to-keeps text (from_quote quote quote text) (from_quote-leaves quote quote text)) (λ inside rest. omega arith)
@@ -147,16 +122,78 @@ pub term-cuts : (edition : Edition) (text : List ℕ) → Cuts text (term editio
 unfolding term
 term-cuts edition [] = omega arith
 term-cuts edition (b ∷ text) =
-    cuts-if (b ∷ text) (b == 35) _ _ (owes-cuts b (past_hash-owes text text _ _ (name-lawful text text)) edition)
-    (cuts-if (b ∷ text) (begins_number b) _ _ (owes-cuts b (past_number-lawful text text) edition)
+    cuts-if (b ∷ text) (b == 35) _ _ (owes-cuts b (past_hash-lawful true text text) edition)
+    (cuts-if (b ∷ text) (begins_number b) _ _ (owes-cuts b (past_number-lawful true text text) edition)
     (cuts-if (b ∷ text) (is_quote b) _ _ (keeps-cuts text (b ∷ text) (quoted b text) (omega arith) (quoted-keeps b text))
     (cuts-if (b ∷ text) (b == 44 || is_slash_term edition b text) _ _ (omega arith)
     (word-cuts edition (b ∷ text)))))
 
+-- what begins no number is no hyphen
+number_hyphen : (b : ℕ) → begins_number b ≡ false → b ≡ 45 → ⊥
+number_hyphen b e is = let here : begins_number b ≡ true = ap begins_number is in cc
+
+-- a slash that is no term begins none
+pub slash_word : (edition : Edition) (text : List ℕ) → word edition (47 ∷ text) ≡ fails (no_name (47 ∷ text)) (47 ∷ text)
+unfolding word
+slash_word edition text = rw (name-none_begins edition (47 ∷ text) (ap (begins_name edition) (chars-byte 47 text (omega arith)) ∙ by edition (chars text))) refl
+  where
+    by : (edition : Edition) (cs : List ℕ) → begins_name edition (47 ∷ cs) ≡ false
+    by first_edition [] = refl
+    by first_edition (c ∷ cs) = refl
+    by second_edition [] = refl
+    by second_edition (c ∷ cs) = refl
+
+-- a comma, or a slash that opens no comment
+abbrev is_single : Edition → ℕ → List ℕ → Bool
+is_single edition b text = b == 44 || is_slash_term edition b text
+
+abbrev single : Edition → ℕ → List ℕ → Reading (Unit {0})
+single edition b text = if is_single edition b text then got tt text else word edition (b ∷ text)
+
+single-cuts : (edition : Edition) (b : ℕ) (text : List ℕ) → Cuts (b ∷ text) (single edition b text)
+single-cuts edition b text = cuts-if (b ∷ text) (is_single edition b text) (got tt text) (word edition (b ∷ text)) (omega arith) (word-cuts edition (b ∷ text))
+
+slash_passed : (t text : List ℕ) (b : ℕ) → (b == 47) ≡ true → Passed false t (word second_edition (b ∷ text))
+slash_passed t text b e =
+    subst (Passed false t) (sym (slash_word second_edition text) ∙ ap (λ (k : ℕ). word second_edition (k ∷ text)) (sym (same_byte b 47 e))) tt
+
+-- The test comes out the same. Or a comment opens in the first tail: then the slash begins no term.
+single-behind : (edition : Edition) (c : Bool) (t : List ℕ) (b : ℕ) (r s : List ℕ) → (starts 42 r ≡ starts 42 s) ⊎ ((c ≡ false) × (r ≡ t) × (starts 42 r ≡ true)) → (is_single edition b r ≡ is_single edition b s) ⊎ Passed c t (single edition b r)
+single-behind first_edition c t b r s h = inl refl
+single-behind second_edition c t b r s (inl e) = inl (ap (λ (k : Bool). b == 44 || (b == 47 && not k)) e)
+single-behind second_edition true t b r s (inr h) = absurd (let e : true ≡ false = h.0 in cc)
+single-behind second_edition false t b r s (inr h) = rw h.2 (by (b == 44) (b == 47) refl)
+  where
+    by : (j k : Bool) → (b == 47) ≡ k → ((j || (k && false)) ≡ (j || (k && not (starts 42 s)))) ⊎ Passed false t (if j || (k && false) then got (tt {0}) r else word second_edition (b ∷ r))
+    by true k f = inl refl
+    by false false f = inl refl
+    by false true f = inr (slash_passed t r b f)
+
+single-seam : (edition : Edition) (c : Bool) (t u : List ℕ) → Seam edition c t u → (b d : ℕ) (r s : List ℕ) → Along t u (b ∷ r) (d ∷ s) → (is_single edition b r ≡ is_single edition d s) ⊎ Passed c t (single edition b r)
+single-seam edition c t u m b d r s (on _ _ _ h) = single-behind edition c t b r s (starts-seam c t u 42 (λ q e w. w.no_star) m r s h)
+single-seam first_edition c t u (at_brace x y) b d r s at = inl refl
+single-seam second_edition c t u (at_brace x y) b d r s at = inl refl
+single-seam edition c t u (at_quiet _ q more w z) b d r s at = inr (takes-passed (b ∷ r) (single edition b r) (single-cuts edition b r))
+
+pub term-lawful : (c : Bool) → Lawful c term term
+unfolding term
+term-lawful c = lawful-cases term term (λ e. term-cuts) (owes-fails ended ended [] []) (λ b r s.
+    owes-so (b == 35) _ _ (λ e. owes-past b (omega (arith, same_byte b 35 e)) (past_hash-lawful c r s)) (λ e0.
+    owes-so (begins_number b) _ _ (λ e. owes-past b (number_low b e) (past_number-lawful c r s)) (λ e1.
+    owes-so (is_quote b) _ _ (λ e. owes-past b (quote_low b e) (quoted-lawful c b e r s)) (λ e2.
+    owes-choice (b ∷ r) (b ∷ s) (λ edition. is_single edition b r) (λ edition. is_single edition b s) _ _ _ _
+    (λ h. ap (λ (k : Bool). b == 44 || k) (slash-editions b r h.0.1))
+    (λ edition t u m h. single-seam edition c t u m b b r s h)
+    (λ edition e. owes-past b (single-low edition b r e) (owes-give tt r s))
+    (word-owes c (b ∷ r) (b ∷ s) (λ e is. number_hyphen b e1 (cc)))))))
+
+pub term-stands : (edition : Edition) (text : List ℕ) → Stands text no_texts (term edition text)
+term-stands edition text = lawful-stands term term (term-lawful true) edition text
+
 -- ---- values
 
 term_in_value-well : (edition : Edition) (text : List ℕ) → WellFound text (term_in_value edition text)
-term_in_value-well edition text = by (term edition text) ((term-lawful text text).left edition)
+term_in_value-well edition text = by (term edition text) ((term-lawful true text text).left edition)
   where
     by : (r : Reading (Unit {0})) → EndsWell text (left_after r) → WellFound text (after_term r)
     by (got x rest) h = well-then text rest (past_blank rest) h (well-past_blank rest)
@@ -174,33 +211,33 @@ terms-well : (edition : Edition) (text : List ℕ) → EndsWell text (terms edit
 terms-well edition text = each-well (term_in_value edition) (term_in_value-well edition) text
 
 terms-editions : (text : List ℕ) → Shared text → terms first_edition text ≡ terms second_edition text
-terms-editions text h = each-editions (term_in_value first_edition) (term_in_value second_edition) (λ t k. ap after_term ((term-lawful t t).same k)) (λ t. found-ends t (term_in_value first_edition t) (term_in_value-well first_edition t)) text h
+terms-editions text h = each-editions (term_in_value first_edition) (term_in_value second_edition) (λ t k. ap after_term ((term-lawful true t t).same k)) (λ t. found-ends t (term_in_value first_edition t) (term_in_value-well first_edition t)) text h
 
 -- reading a term would pass the brace
 abbrev TermPasses : Edition → List ℕ → List ℕ → Type 0
 TermPasses edition t a = length (left_after (term edition a)) ≤ length t
 
-after_term-step : (u v r : List ℕ) (Stuck : List ℕ → Type 0) (a b : Reading (Unit {0})) → Guard Equal 125 (u ++ v) u a b → (length (left_after a) ≤ length (u ++ v) → Stuck r) → Step (Along 125 (u ++ v) u) Stuck 125 (u ++ v) u r (after_term a) (after_term b)
+after_term-step : (u v r : List ℕ) (Stuck : List ℕ → Type 0) (a b : Reading (Unit {0})) → Guard Equal true (125 ∷ (u ++ v)) (125 ∷ u) a b → (length (left_after a) ≤ length (u ++ v) → Stuck r) → Step (Along (125 ∷ (u ++ v)) (125 ∷ u)) Stuck 125 (u ++ v) u r (after_term a) (after_term b)
 after_term-step u v r Stuck (got x p) (got y q) (inl h) stuck = inl (omega (arith, length-past_blank p))
 after_term-step u v r Stuck (got x p) (fails f q) (inl h) stuck = omega (arith, length-past_blank p)
 after_term-step u v r Stuck (fails f p) (got y q) (inl h) stuck = stuck h
 after_term-step u v r Stuck (fails f p) (fails e q) (inl h) stuck = tt
 after_term-step u v r Stuck (got x p) (got y q) (inr h) stuck = by (past_blank p) (past_blank q) (past_blank-to 125 u v brace_plain p q h.1)
   where
-    by : (c d : List ℕ) → To 125 (u ++ v) u c d → (length c ≤ length (u ++ v)) ⊎ (Along 125 (u ++ v) u p q × Along 125 (u ++ v) u c d)
+    by : (c d : List ℕ) → To true (125 ∷ (u ++ v)) (125 ∷ u) c d → (length c ≤ length (u ++ v)) ⊎ (Along (125 ∷ (u ++ v)) (125 ∷ u) p q × Along (125 ∷ (u ++ v)) (125 ∷ u) c d)
     by c d (inl k) = inl k
     by c d (inr k) = inr (h.1, k)
 after_term-step u v r Stuck (got x p) (fails f q) (inr h) stuck = absurd h
 after_term-step u v r Stuck (fails f p) (got y q) (inr h) stuck = absurd h
 after_term-step u v r Stuck (fails f p) (fails e q) (inr h) stuck = tt
 
-terms-repeats : (edition : Edition) (u v r s : List ℕ) → Along 125 (u ++ v) u r s → Repeats (Along 125 (u ++ v) u) (TermPasses edition (u ++ v)) 125 (u ++ v) u (terms edition r) (terms edition s)
-terms-repeats edition u v r s h =
-    each-repeats (Along 125 (u ++ v) u) (TermPasses edition (u ++ v)) 125 (u ++ v) u (term_in_value edition) (term_in_value-takes edition)
-    (λ a b k. after_term-step u v a (TermPasses edition (u ++ v)) (term edition a) (term edition b) ((term-lawful a b).guard edition u v k) (λ l. l))
-    (length r) r s (omega arith) h
+terms-repeats : (edition : Edition) (u v r s : List ℕ) → IsUtf8 r → Along (125 ∷ (u ++ v)) (125 ∷ u) r s → Repeats (Along (125 ∷ (u ++ v)) (125 ∷ u)) (TermPasses edition (u ++ v)) 125 (u ++ v) u (terms edition r) (terms edition s)
+terms-repeats edition u v r s w h =
+    each-repeats IsUtf8 (Along (125 ∷ (u ++ v)) (125 ∷ u)) (TermPasses edition (u ++ v)) 125 (u ++ v) u (term_in_value edition) (term_in_value-takes edition) (found-text (term_in_value edition) (term_in_value-well edition))
+    (λ a b x k. after_term-step u v a (TermPasses edition (u ++ v)) (term edition a) (term edition b) (lawful-guarded term term (term-lawful true) edition u v a b x k) (λ l. l))
+    (length r) r s (omega arith) w h
 
-last_or-along : (t u r s : List ℕ) (xs ys : List (List ℕ)) → Along 125 t u r s → Pairs (Along 125 t u) xs ys → Along 125 t u (last_or r xs) (last_or s ys)
+last_or-along : (t u r s : List ℕ) (xs ys : List (List ℕ)) → Along (125 ∷ t) (125 ∷ u) r s → Pairs (Along (125 ∷ t) (125 ∷ u)) xs ys → Along (125 ∷ t) (125 ∷ u) (last_or r xs) (last_or s ys)
 last_or-along t u r s [] [] h p = h
 last_or-along t u r s [] (y ∷ ys) h p = absurd p
 last_or-along t u r s (x ∷ xs) [] h p = absurd p
@@ -210,27 +247,27 @@ last_or-along t u r s (x ∷ xs) (y ∷ ys) h p = last_or-along t u x y xs ys p.
 abbrev value_by : Edition → List ℕ → List (List ℕ) × List ℕ → Reading (List ℕ)
 value_by edition text a = got (trim (before text (last_or text a.0))) (left_after (term edition a.1))
 
-value-lawful : Lawful value_reader value_reader
+value-lawful : Lawful true value_reader value_reader
 unfolding value
 value-lawful r s = record {
-  left = λ edition. well-then r (terms edition r).1 _ (terms-well edition r) ((term-lawful (terms edition r).1 []).left edition);
+  left = λ edition. well-then r (terms edition r).1 _ (terms-well edition r) ((term-lawful true (terms edition r).1 []).left edition);
   same = λ h. both h;
-  guard = λ edition u v h. by edition u v h (terms edition r) (terms edition s) (terms-repeats edition u v r s h);
+  guard = λ edition t u m w h. at-brace (λ t u. Along t u r s → Guard Equal true t u (value_reader edition r) (value_reader edition s)) (λ u v h. by edition u v w h (terms edition r) (terms edition s) ((terms-well edition r).1 w) (terms-repeats edition u v r s w h)) t u m h;
 }
   where
     both : Shared r → value_by first_edition r (terms first_edition r) ≡ value_by second_edition r (terms second_edition r)
     both h =
         let rest : List ℕ = (terms first_edition r).1 in
         let shared : Shared rest = shared-ends r rest (terms-well first_edition r).0 h in
-        ap (λ (o : Reading (Unit {0})). got (trim (before r (last_or r (terms first_edition r).0))) (left_after o)) ((term-lawful rest rest).same shared)
+        ap (λ (o : Reading (Unit {0})). got (trim (before r (last_or r (terms first_edition r).0))) (left_after o)) ((term-lawful true rest rest).same shared)
         ∙ ap (value_by second_edition r) (terms-editions r h)
 
-    by : (edition : Edition) (u v : List ℕ) → Along 125 (u ++ v) u r s → (a b : List (List ℕ) × List ℕ) → Repeats (Along 125 (u ++ v) u) (TermPasses edition (u ++ v)) 125 (u ++ v) u a b → Guard Equal 125 (u ++ v) u (value_by edition r a) (value_by edition s b)
-    by edition u v h a b (inl k) = inl (omega (arith, length-ends a.1 (left_after (term edition a.1)) ((term-lawful a.1 a.1).left edition).0))
-    by edition u v h a b (inr (inl k)) = inl k
-    by edition u v h a b (inr (inr k)) =
-        let same : before r (last_or r a.0) ≡ before s (last_or s b.0) = before-along 125 (u ++ v) u r s _ _ h (last_or-along (u ++ v) u r s a.0 b.0 h k.0) in
-        guard-got Equal 125 (u ++ v) u _ _ _ _ (ap trim same) (left-to Equal 125 (u ++ v) u (term edition a.1) (term edition b.1) ((term-lawful a.1 b.1).guard edition u v k.1))
+    by : (edition : Edition) (u v : List ℕ) → IsUtf8 r → Along (125 ∷ (u ++ v)) (125 ∷ u) r s → (a b : List (List ℕ) × List ℕ) → IsUtf8 a.1 → Repeats (Along (125 ∷ (u ++ v)) (125 ∷ u)) (TermPasses edition (u ++ v)) 125 (u ++ v) u a b → Guard Equal true (125 ∷ (u ++ v)) (125 ∷ u) (value_by edition r a) (value_by edition s b)
+    by edition u v w h a b z (inl k) = inl (omega (arith, length-ends a.1 (left_after (term edition a.1)) ((term-lawful true a.1 a.1).left edition).0))
+    by edition u v w h a b z (inr (inl k)) = inl k
+    by edition u v w h a b z (inr (inr k)) =
+        let same : before r (last_or r a.0) ≡ before s (last_or s b.0) = before-along (125 ∷ (u ++ v)) (125 ∷ u) r s _ _ h (last_or-along (u ++ v) u r s a.0 b.0 h k.0) in
+        guard-got Equal true (125 ∷ (u ++ v)) (125 ∷ u) _ _ _ _ (ap trim same) (left-to Equal (125 ∷ (u ++ v)) (125 ∷ u) (term edition a.1) (term edition b.1) (lawful-guarded term term (term-lawful true) edition u v a.1 b.1 z k.1))
 
 -- ---- what stands behind a value
 
@@ -250,11 +287,11 @@ semicolon-takes (b ∷ text) = by (b == 59)
     by true = omega (arith, length-past_blank text)
     by false = tt
 
-semicolon-step : (u v r s : List ℕ) → Along 125 (u ++ v) u r s → Step Equal Never 125 (u ++ v) u r (semicolon r) (semicolon s)
+semicolon-step : (u v r s : List ℕ) → Along (125 ∷ (u ++ v)) (125 ∷ u) r s → Step Equal Never 125 (u ++ v) u r (semicolon r) (semicolon s)
 semicolon-step u v r s at = tt
-semicolon-step u v r s (on b r1 s1 room h) = by (b == 59)
+semicolon-step u v r s (on b r1 s1 h) = by (b == 59)
   where
-    inner : (c d : List ℕ) → To 125 (u ++ v) u c d → Step {A = Unit {0}} Equal Never 125 (u ++ v) u (b ∷ r1) (Some (tt, c)) (Some (tt, d))
+    inner : (c d : List ℕ) → To true (125 ∷ (u ++ v)) (125 ∷ u) c d → Step {A = Unit {0}} Equal Never 125 (u ++ v) u (b ∷ r1) (Some (tt, c)) (Some (tt, d))
     inner c d (inl k) = inl k
     inner c d (inr k) = inr (refl, k)
 
@@ -262,17 +299,22 @@ semicolon-step u v r s (on b r1 s1 room h) = by (b == 59)
     by true = inner (past_blank r1) (past_blank s1) (past_blank-to 125 u v brace_plain r1 s1 h)
     by false = tt
 
-semicolons-lawful : Lawful (λ edition. semicolons) (λ edition. semicolons)
+semicolons-guarded : (u v r s : List ℕ) → IsUtf8 r → Along (125 ∷ (u ++ v)) (125 ∷ u) r s → Guard Equal true (125 ∷ (u ++ v)) (125 ∷ u) (semicolons r) (semicolons s)
+semicolons-guarded u v r s w h =
+    by (each semicolon r) (each semicolon s)
+    (each-repeats IsUtf8 Equal Never 125 (u ++ v) u semicolon semicolon-takes (found-text semicolon semicolon-well) (λ a b x. semicolon-step u v a b) (length r) r s (omega arith) w h)
+  where
+    by : (a b : List (Unit {0}) × List ℕ) → Repeats Equal Never 125 (u ++ v) u a b → Guard {A = Unit {0}} Equal true (125 ∷ (u ++ v)) (125 ∷ u) (got tt a.1) (got tt b.1)
+    by a b (inl k) = inl k
+    by a b (inr (inl k)) = absurd k
+    by a b (inr (inr k)) = inr (refl, k.1)
+
+semicolons-lawful : Lawful true (λ edition. semicolons) (λ edition. semicolons)
 semicolons-lawful r s = record {
   left = λ edition. each-well semicolon semicolon-well r;
   same = λ h. refl;
-  guard = λ edition u v h. by u v (each semicolon r) (each semicolon s) (each-repeats Equal Never 125 (u ++ v) u semicolon semicolon-takes (semicolon-step u v) (length r) r s (omega arith) h);
+  guard = λ edition t u m w h. at-brace (λ t u. Along t u r s → Guard Equal true t u (semicolons r) (semicolons s)) (λ u v. semicolons-guarded u v r s w) t u m h;
 }
-  where
-    by : (u v : List ℕ) (a b : List (Unit {0}) × List ℕ) → Repeats Equal Never 125 (u ++ v) u a b → Guard {A = Unit {0}} Equal 125 (u ++ v) u (got tt a.1) (got tt b.1)
-    by u v a b (inl k) = inl k
-    by u v a b (inr (inl k)) = absurd k
-    by u v a b (inr (inr k)) = inr (refl, k.1)
 
 -- no byte of the word is a closing brace
 abbrev NoBrace : List ℕ → Type 0
@@ -280,10 +322,10 @@ NoBrace [] = Unit {0}
 NoBrace (c ∷ word) = (eqb c 125 ≡ false) × NoBrace word
 
 -- a word without a brace stands at both or at neither
-begins-along : (t u word : List ℕ) → NoBrace word → (r s : List ℕ) → Along 125 t u r s → starts_with eqb r word ≡ starts_with eqb s word
+begins-along : (t u word : List ℕ) → NoBrace word → (r s : List ℕ) → Along (125 ∷ t) (125 ∷ u) r s → starts_with eqb r word ≡ starts_with eqb s word
 begins-along t u [] n r s h = refl
 begins-along t u (c ∷ word) n r s at = let e : eqb c 125 ≡ false = n.0 in rw e refl
-begins-along t u (c ∷ word) n r s (on b r1 s1 room h) = ap (λ (k : Bool). eqb c b && k) (begins-along t u word n.1 r1 s1 h)
+begins-along t u (c ∷ word) n r s (on b r1 s1 h) = ap (λ (k : Bool). eqb c b && k) (begins-along t u word n.1 r1 s1 h)
 
 important_word-well : (text : List ℕ) → starts_with eqb text (codes "important") ≡ true → EndsWell text (drop 9 text)
 unfolding encode
@@ -292,18 +334,22 @@ important_word-well text e =
     let whole : text ≡ codes "important" ++ drop 9 text = sym (take-append-drop 9 text) ∙ ap (λ l. l ++ drop 9 text) (sym same) in
     (ends-drop 9 text, λ u. utf8-second (codes "important") (drop 9 text) (subst IsUtf8 whole u) (codes "important", (refl, refl)))
 
-important_word-lawful : Lawful (λ edition. important_word) (λ edition. important_word)
+important_word-lawful : Lawful true (λ edition. important_word) (λ edition. important_word)
 important_word-lawful r s =
     owes-choice r s (λ edition. starts_with eqb r (codes "important")) (λ edition. starts_with eqb s (codes "important")) _ _ _ _ (λ h. refl)
-    (λ edition u v h. begins-along (u ++ v) u (codes "important") (refl, (refl, (refl, (refl, (refl, (refl, (refl, (refl, (refl, tt))))))))) r s h)
-    (λ edition e. record { left = λ edition. important_word-well r e; same = λ h. refl; guard = λ edition u v h. guard-got Equal 125 (u ++ v) u true true (drop 9 r) (drop 9 s) refl (drop-to 125 (u ++ v) u 9 r s h) })
+    (λ edition t u m h. inl (at-brace (λ t u. Along t u r s → starts_with eqb r (codes "important") ≡ starts_with eqb s (codes "important")) (λ u v. begins-along (u ++ v) u (codes "important") (refl, (refl, (refl, (refl, (refl, (refl, (refl, (refl, (refl, tt))))))))) r s) t u m h))
+    (λ edition e. record {
+      left = λ edition. important_word-well r e;
+      same = λ h. refl;
+      guard = λ edition t u m v h. guard-got Equal true t u true true (drop 9 r) (drop 9 s) refl (at-brace (λ t u. Along t u r s → To true t u (drop 9 r) (drop 9 s)) (λ u v. drop-to 125 (u ++ v) u 9 r s) t u m h);
+    })
     (owes-give false r s)
 
-importance-lawful : Lawful (λ edition. importance) (λ edition. importance)
+importance-lawful : Lawful true (λ edition. importance) (λ edition. importance)
 unfolding importance
-importance-lawful r s = owes-sign 33 (omega arith) (owes-follow _ _ (blank-lawful (past_one r) (past_one s)) (λ u. important_word-lawful)) (owes-give false r s)
+importance-lawful r s = owes-sign 33 (omega arith) (λ edition q e w. absurd (cc)) (owes-follow _ _ (blank-lawful (past_one r) (past_one s)) (λ u. important_word-lawful)) (owes-give false r s)
 
-trailing-lawful : Lawful (λ edition. trailing) (λ edition. trailing)
+trailing-lawful : Lawful true (λ edition. trailing) (λ edition. trailing)
 unfolding trailing
 trailing-lawful r s =
     owes-follow _ _ (blank-lawful r s) (λ u r s.
@@ -317,7 +363,7 @@ trailing-stands text = lawful-stands (λ edition. trailing) (λ edition. trailin
 
 -- ---- declarations
 
-unless_empty-lawful : (start other : List ℕ) (declared : StyleDeclaration) → Lawful (λ edition. unless_empty start declared) (λ edition. unless_empty other declared)
+unless_empty-lawful : (start other : List ℕ) (declared : StyleDeclaration) → Lawful true (λ edition. unless_empty start declared) (λ edition. unless_empty other declared)
 unless_empty-lawful start other declared r s = owes-if (length declared.value == 0) (owes-fails _ _ r s) (owes-give declared r s)
 
 -- a declaration behind its name
@@ -331,7 +377,7 @@ behind_name property edition = do
   important ← trailing
   unless_empty start (record { name = property; value = stated; important = important })
 
-behind_name-lawful : (property : List ℕ) → Lawful (behind_name property) (behind_name property)
+behind_name-lawful : (property : List ℕ) → Lawful true (behind_name property) (behind_name property)
 behind_name-lawful property r s =
     owes-follow _ _ (blank-lawful r s) (λ u r s.
     owes-follow _ _ (byte-lawful 58 (omega arith) r s) (λ u r s.
@@ -340,11 +386,11 @@ behind_name-lawful property r s =
     owes-follow _ _ (trailing-lawful r s) (λ important.
     unless_empty-lawful start other (record { name = property; value = stated; important = important }))))))
 
-pub declaration-lawful : Lawful declaration declaration
+pub declaration-lawful : Lawful true declaration declaration
 unfolding declaration
 declaration-lawful r s =
     owes-follow _ _ (blank-lawful r s) (λ u r s.
-    owes-follow _ _ (optional-lawful 42 (omega arith) r s) (λ u r s.
+    owes-follow _ _ (optional-lawful 42 (omega arith) refl r s) (λ u r s.
     owes-follow _ _ (name-lawful r s) behind_name-lawful))
 
 -- it takes a byte or more
@@ -358,18 +404,18 @@ declaration-cuts edition text =
 pub declaration-stands : (edition : Edition) (text : List ℕ) → Stands text no_texts (declaration edition text)
 declaration-stands edition text = lawful-stands declaration declaration declaration-lawful edition text
 
-pub declaration-guarded : (edition : Edition) (u v : List ℕ) → Guarded Equal 125 (u ++ v) u (declaration edition) (declaration edition)
-declaration-guarded edition u v r s h = (declaration-lawful r s).guard edition u v h
-
 -- ---- blocks
 
-pub declaration_in_block-ends : (edition : Edition) (text : List ℕ) → EndsFound text (declaration_in_block edition text)
-declaration_in_block-ends edition text = by (ends_list text) (declaration edition text) ((declaration-lawful text text).left edition).0
+pub declaration_in_block-well : (edition : Edition) (text : List ℕ) → WellFound text (declaration_in_block edition text)
+declaration_in_block-well edition text = by (ends_list text) (declaration edition text) ((declaration-lawful text text).left edition)
   where
-    by : (k : Bool) (r : Reading StyleDeclaration) → Ends text (left_after r) → EndsFound text (if k then None else found r)
+    by : (k : Bool) (r : Reading StyleDeclaration) → EndsWell text (left_after r) → WellFound text (if k then None else found r)
     by true r h = tt
     by false (got declared rest) h = h
     by false (fails fault rest) h = tt
+
+pub declaration_in_block-ends : (edition : Edition) (text : List ℕ) → EndsFound text (declaration_in_block edition text)
+declaration_in_block-ends edition text = found-ends text (declaration_in_block edition text) (declaration_in_block-well edition text)
 
 pub ends-from_block_end : (text : List ℕ) → Ends text (from_block_end text)
 ends-from_block_end text = ends-drop (block_end text) text

@@ -3,10 +3,10 @@
 use Rattle.std.proofs.Common.{◌≡◌, ℕ, ◌<◌, List, [], ◌∷◌, Bool, true, false, if◌then◌else◌, ◌==◌, not, arith, Option, Some, None, zero, suc, length, refl, sym, subst, IsUtf8}
 use Rattle.std.specs.List.{prefix_len}
 use Rattle.std.proofs.lemmas.Str.{IsUtf8-nil, IsUtf8-drop}
-use Rattle.simplecss_text.specs.Reading.{Fault, Ends, Reading, and_then, each, fails, got, left_after, no_comment, up_to, wrong_byte}
+use Rattle.simplecss_text.specs.Reading.{Fault, Ends, Reading, and_then, each, fails, follow, got, left_after, no_comment, up_to, wrong_byte}
 use Rattle.simplecss_text.specs.Bytes.{byte, closed_or, past, past_byte, past_one, starts}
 use Rattle.simplecss_text.specs.Characters.{Edition}
-use Rattle.simplecss_text.specs.Comments.{blank, opens_comment, past_blank}
+use Rattle.simplecss_text.specs.Comments.{blank, gap, has_space, opens_comment, past_blank}
 use Rattle.simplecss_text.specs.Names.{name}
 use Rattle.simplecss_text.specs.Strings.{from_quote, string_after, string_up_to}
 use Rattle.simplecss_text.proofs.reading.EndsLaws.{EndsFound, ends-by, ends-ends, ends-nil, ends-past, ends-past_byte, ends-same, ends-tail, itself, stands-ends}
@@ -80,6 +80,14 @@ well-blank text = by (opens_comment (past_blank text))
     by true = well-nil text
     by false = well-past_blank text
 
+pub well-gap : (text : List ℕ) → EndsWell text (left_after (gap text))
+unfolding gap
+well-gap text = by (blank text) (well-blank text)
+  where
+    by : (r : Reading (Unit {0})) → EndsWell text (left_after r) → EndsWell text (left_after (follow r (λ x. got (has_space text))))
+    by (got x rest) h = h
+    by (fails fault rest) h = h
+
 pub well-name : (edition : Edition) (text : List ℕ) → EndsWell text (left_after (name edition text))
 well-name edition text = (stands-ends text itself (name edition text) (name-stands edition text), λ u. by u (name edition text) refl)
   where
@@ -104,6 +112,9 @@ WellFound text (Some x) = EndsWell text x.1
 pub found-ends : {A : Type 0} (text : List ℕ) (o : Option (A × List ℕ)) → WellFound text o → EndsFound text o
 found-ends text None h = tt
 found-ends text (Some x) h = h.0
+
+pub found-text : {A : Type 0} (read : List ℕ → Option (A × List ℕ)) → ((text : List ℕ) → WellFound text (read text)) → (text rest : List ℕ) (x : A) → IsUtf8 text → read text ≡ Some (x, rest) → IsUtf8 rest
+found-text read well text rest x u e = (subst (WellFound text) e (well text)).1 u
 
 up_to-well : {A : Type 0} (read : List ℕ → Option (A × List ℕ)) → ((text : List ℕ) → WellFound text (read text)) → (n : ℕ) (text : List ℕ) → EndsWell text (up_to n read text).1
 up_to-well read well zero text = well-same text
