@@ -10,7 +10,8 @@ use Rattle.simplecss_text.specs.Statements.{has_declaration, kept, statement, st
 use Rattle.simplecss_text.specs.Sheets.{is_smaller, ordered, sheet}
 use Rattle.simplecss_text.proofs.reading.EachLaws.{each-none}
 use Rattle.simplecss_text.proofs.order.OrderLemmas.{smaller_order}
-use Rattle.simplecss_text.proofs.order.RankLemmas.{ordered_filter, ordered_front, filter_and}
+use Rattle.simplecss_text.proofs.order.ListFacts.{filter_and}
+use Rattle.simplecss_text.proofs.order.RankLemmas.{ordered_filter, ordered_front}
 
 ends_open : (a b : Bool) → b ≡ true → (a || b) ≡ true
 ends_open true b e = refl

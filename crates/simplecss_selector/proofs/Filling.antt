@@ -17,7 +17,7 @@ use Rattle.simplecss_selector.specs.SeenSelectors.{subselector_of, component_of_
 use Rattle.simplecss_selector.specs.SelectorDrafts.{with_subselector, joined, finished}
 use Rattle.simplecss_selector.specs.declared.selector.Part.{Part}
 use Rattle.simplecss_selector.specs.declared.selector.SubSelector.{SubSelector}
-use Rattle.simplecss_selector.proofs.Flat.{components_from-length}
+use Rattle.simplecss_selector.proofs.Flat.{Tile-le, components_from-length}
 use Rattle.simplecss_selector.proofs.StretchEnds.{AreStretchEnds-same, AreStretchEnds-push}
 
 pub components_from-append : (start : ℕ) (ps qs : List Part) (ss : List SubSelector) → components_from start (ps ++ qs) ss ≡ components_from start ps ss ++ components_from (last_end start ps) qs ss
@@ -46,14 +46,10 @@ slice_range-push xs x i n h e =
     ∙ drop-append-le i xs (x ∷ []) h
     ∙ ap (λ l. l ++ x ∷ []) (sym (between_to_end xs i n (omega arith)))
 
-Tile-below : (start : ℕ) (ps : List Part) (n : ℕ) → Tile start ps n → start ≤ n
-Tile-below start [] n t = omega arith
-Tile-below start (p ∷ ps) n t = let h = Tile-below p.end ps n t.1 in let e = t.0 in omega arith
-
 pub components_from-more : (start : ℕ) (ps : List Part) (ss ts : List SubSelector) (n : ℕ) → Tile start ps n → n ≤ length ss → components_from start ps (ss ++ ts) ≡ components_from start ps ss
 components_from-more start [] ss ts n t h = refl
 components_from-more start (p ∷ ps) ss ts n t h =
-    let below = Tile-below p.end ps n t.1 in
+    let below = Tile-le p.end ps n t.1 in
     let here : slice_range (ss ++ ts) start p.end ≡ slice_range ss start p.end = slice_range-append ss ts start p.end (omega arith) in
     ap (λ l. component_of_part p l ∷ components_from p.end ps (ss ++ ts)) here
     ∙ ap (λ cs. component_of_part p (slice_range ss start p.end) ∷ cs) (components_from-more p.end ps ss ts n t.1 h)

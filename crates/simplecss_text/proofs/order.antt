@@ -1,3 +1,4 @@
 -- The order of rules.
+pub mod ListFacts
 pub mod RankLemmas
 pub mod OrderLemmas

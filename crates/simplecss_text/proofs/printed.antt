@@ -11,7 +11,6 @@ pub mod ReadNames
 pub mod ReadStrings
 pub mod ReadValues
 pub mod ReadOperators
-pub mod ReadBlanks
 pub mod ReadPieces
 pub mod ReadSequences
 pub mod ReadSelectors

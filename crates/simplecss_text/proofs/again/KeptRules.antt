@@ -21,7 +21,7 @@ use Rattle.simplecss_text.proofs.reading.DeclarationsLawful.{declaration-lawful,
 use Rattle.simplecss_text.proofs.printed.PrintedSelectors.{IsSelector}
 use Rattle.simplecss_text.proofs.printed.GotLaws.{utf8-past_one, IfGot, IfTaken, each-all}
 use Rattle.simplecss_text.proofs.bytes.Utf8Laws.{utf8-past_byte_if}
-use Rattle.simplecss_text.proofs.printed.ReadBlanks.{past_blank-utf8}
+use Rattle.simplecss_text.proofs.reading.WellLaws.{well-past_blank}
 use Rattle.simplecss_text.proofs.printed.ReadSelectors.{reads-is, selector-behind}
 use Rattle.simplecss_text.proofs.cutting.StatementEnds.{part-ends, parts-ends}
 use Rattle.simplecss_text.proofs.reading.WellLaws.{EndsWell}
@@ -183,7 +183,7 @@ next_statement-are edition Q R known text q = by (ends_statements (past_blank te
         let u = known.is_text text q in
         let there : next_statement edition text ≡ Some (statement edition start) = rw e refl in
         let well : EndsWell text left = next_statement-well edition text left (statement edition start).0 there in
-        (statement-are edition Q R known start (known.of_end text start q (ends-past_blank text) (past_blank-utf8 text u)), known.of_end text left q well.0 (well.1 u))
+        (statement-are edition Q R known start (known.of_end text start q (ends-past_blank text) ((well-past_blank text).1 u)), known.of_end text left q well.0 (well.1 u))
 
 all-flat_map : {A : Type 0} (P : A → Type 0) (xss : List (List A)) → AllByRecursion (AllByRecursion P) xss → AllByRecursion P (flat_map (λ xs. xs) xss)
 all-flat_map P [] h = tt

@@ -17,7 +17,7 @@ use Rattle.simplecss_text.specs.PrintingLaws.{RuleReadsBack}
 use Rattle.simplecss_text.proofs.reading.EachLaws.{each-none, each-some}
 use Rattle.simplecss_text.proofs.reading.DeclarationLaws.{declaration_in_block-takes}
 use Rattle.simplecss_text.proofs.printed.PrintedNames.{IsName}
-use Rattle.simplecss_text.proofs.printed.PrintedPieces.{some-length}
+use Rattle.simplecss_text.proofs.reading.EachLaws.{not_empty}
 use Rattle.simplecss_text.proofs.printed.PrintedHeads.{NoGap, IsNameByte, no_gap-byte, no_gap-name, name-first, other_byte, IsTypeName}
 use Rattle.simplecss_text.proofs.printed.PrintedSelectors.{IsSelector}
 use Rattle.simplecss_text.proofs.printed.ReadSelectors.{selector-reads_back_before}
@@ -93,7 +93,7 @@ declaration-begins edition p text w = subst (BeginsPart edition) (sym (declarati
 list_goes_on : (edition : Edition) (text : List ℕ) → BeginsPart edition text → ends_list text ≡ false
 list_goes_on edition text w =
     let no = part_other edition 125 w.first (omega arith) refl refl refl w.fit in
-    let some = some-length w.first w.others in
+    let some = not_empty w.first w.others in
     ap ends_list w.is ∙ rw (some, no) refl
 
 -- where the list of declarations goes on
@@ -107,7 +107,7 @@ one-declaration edition p text w o e =
     ∙ ap found (printed_declaration-reads_back edition p w text o e)
 
 closing-none : (edition : Edition) (text : List ℕ) → declaration_in_block edition (125 ∷ text) ≡ None
-closing-none edition text = let some = some-length 125 text in rw some refl
+closing-none edition text = let some = not_empty 125 text in rw some refl
 
 closing-blank : (text : List ℕ) → past_blank (32 ∷ 125 ∷ text) ≡ 125 ∷ text
 closing-blank text = past_blank-space 32 (125 ∷ text) refl ∙ calm-blank (125 ∷ text) (no_gap-byte 125 text refl refl)
@@ -145,7 +145,7 @@ declaration-space edition text = let same = blank-space text in rw same refl
 
 spaced-list : (edition : Edition) (text rest : List ℕ) (p : StyleDeclaration) → declaration_in_block edition text ≡ Some (p, rest) → ends_list text ≡ false → each (declaration_in_block edition) (32 ∷ text) ≡ each (declaration_in_block edition) text
 spaced-list edition text rest p e goes =
-    let some = some-length 32 text in
+    let some = not_empty 32 text in
     let open_list : ends_list (32 ∷ text) ≡ false = rw some refl in
     let same : declaration_in_block edition (32 ∷ text) ≡ declaration_in_block edition text =
     ap (λ t. in_list edition t (32 ∷ text)) open_list ∙ ap found (declaration-space edition text) ∙ ap (λ t. in_list edition t text) (sym goes) in
@@ -168,7 +168,7 @@ block-again edition p ps text w ws =
     let there = first-found edition inside p ps (125 ∷ text) listed (declaration_in_block edition inside) refl in
     let spaced = spaced-list edition inside there.1 there.0 there.2 (list_goes_on edition inside (declaration-begins edition p (flat_map declaration_text ps ++ (32 ∷ 125 ∷ text)) w)) in
     let all : each (declaration_in_block edition) (32 ∷ (flat_map declaration_text (p ∷ ps) ++ (32 ∷ 125 ∷ text))) ≡ (p ∷ ps, 125 ∷ text) = ap (λ t. each (declaration_in_block edition) (32 ∷ t)) same ∙ spaced ∙ listed in
-    let some = some-length 125 text in
+    let some = not_empty 125 text in
     ap (λ (r : List StyleDeclaration × List ℕ). (r.0, past_byte 125 (past_list edition r.1))) all ∙ rw some refl
 
 -- the rule

@@ -14,7 +14,7 @@ use Rattle.simplecss_text.specs.PrintingLaws.{IsNarrow, DeclarationReadsBack, Ru
 use Rattle.simplecss_text.proofs.reading.EachLaws.{each-none, each-some}
 use Rattle.simplecss_text.proofs.reading.StatementLaws.{next_statement-takes}
 use Rattle.simplecss_text.proofs.printed.PrintedNames.{both_true}
-use Rattle.simplecss_text.proofs.printed.PrintedPieces.{some-length}
+use Rattle.simplecss_text.proofs.reading.EachLaws.{not_empty}
 use Rattle.simplecss_text.proofs.again.BlankTails.{past_blank-space}
 use Rattle.simplecss_text.proofs.again.DeclarationsAgain.{printed_declaration-reads_back, IsDeclaration, narrow-end, declaration-is}
 use Rattle.simplecss_text.proofs.again.KeptRules.{Known, IsKept, sheet-are}
@@ -45,7 +45,7 @@ goes_on edition t text = if t then None else Some (statement edition text)
 statement-there : (edition : Edition) (text : List ℕ) → BeginsPart edition text → next_statement edition text ≡ Some (statement edition text)
 statement-there edition text w =
     let calm = part_calm edition text w in
-    let some : (length text == 0) ≡ false = ap (λ t. length t == 0) w.is ∙ some-length w.first w.others in
+    let some : (length text == 0) ≡ false = ap (λ t. length t == 0) w.is ∙ not_empty w.first w.others in
     let closed = calm.closed in
     let goes : ends_statements text ≡ false = rw (some, closed) refl in
     ap (λ t. goes_on edition (ends_statements t) t) (calm-blank text calm) ∙ ap (λ t. goes_on edition t text) goes

@@ -1,7 +1,7 @@
 -- A term neither begins nor ends with white space of ASCII.
 -- Serves `selectors` and `prints_back` of `StyleSheet::{parse, parse_all, parse_more}` (a sheet
 -- printed and read again).
-use Rattle.std.proofs.Common.{◌≡◌, ℕ, suc, ◌<◌, ◌≤◌, ◌⊎◌, inl, inr, List, [], ◌∷◌, ◌++◌, Bool, true, false, if◌then◌else◌, ◌||◌, ◌&&◌, not, ◌==◌, nat_lt, length, get_or, Option, Some, None, arith, refl, sym, ap, ◌∙◌, subst, length-append, append_assoc, append-nil, encode_utf8, encode_utf8_all, IsUtf8}
+use Rattle.std.proofs.Common.{◌≡◌, ℕ, suc, ◌<◌, ◌≤◌, ◌⊎◌, inl, inr, List, [], ◌∷◌, ◌++◌, Bool, true, false, if◌then◌else◌, ◌||◌, ◌&&◌, not, ◌==◌, nat_lt, length, get_or, Option, Some, None, arith, refl, sym, ap, ◌∙◌, subst, length-append, append_assoc, append-nil, encode_utf8, encode_utf8_all, IsUtf8, eqb-true}
 use Rattle.std.specs.List.{list_all}
 use Rattle.std.proofs.lemmas.Str.{inside_one, encode_ascii, length-encode, len_utf8_bounds}
 use Rattle.std.proofs.lemmas.Bool.{cases_lt}
@@ -15,7 +15,6 @@ use Rattle.simplecss_text.specs.Strings.{is_quote, from_quote, string_up_to}
 use Rattle.simplecss_text.specs.Terms.{is_hex_digit, past_hash, past_decimals, past_unit, past_number, arguments, word, quoted, is_slash_term, begins_number, term}
 use Rattle.simplecss_text.proofs.reading.DeclarationsLawful.{digit_low, number_low, past_decimals-lawful, term-cuts}
 use Rattle.simplecss_text.proofs.printed.PrintedNames.{begins_any_name, both_true}
-use Rattle.simplecss_text.proofs.printed.PrintedHeads.{same_byte}
 use Rattle.simplecss_text.proofs.reading.TakesLaws.{Cuts}
 use Rattle.simplecss_text.proofs.printed.ReadStrings.{IfCloses, from_quote-closes}
 use Rattle.simplecss_text.proofs.printed.ReadNames.{ReadName, name-is, name-fails}
@@ -58,7 +57,7 @@ bare-past_byte c [] e = nothing refl
 bare-past_byte c (b ∷ text) e = by (b == c) refl
   where
     by : (t : Bool) → (b == c) ≡ t → EndsBare (b ∷ text) (if t then text else b ∷ text)
-    by true h = bare-cons b text text (ap is_bare (same_byte b c h) ∙ e) (nothing refl)
+    by true h = bare-cons b text text (ap is_bare (eqb-true b c h) ∙ e) (nothing refl)
     by false h = nothing refl
 
 -- the bytes of a name
@@ -129,7 +128,7 @@ bare-decimals [] = nothing refl
 bare-decimals (b ∷ text) = by (b == 46) refl
   where
     by : (t : Bool) → (b == 46) ≡ t → EndsBare (b ∷ text) (if t then past is_digit text else b ∷ text)
-    by true e = bare-cons b text (past is_digit text) (ap is_bare (same_byte b 46 e)) (bare-past is_digit text digit_bare)
+    by true e = bare-cons b text (past is_digit text) (ap is_bare (eqb-true b 46 e)) (bare-past is_digit text digit_bare)
     by false e = nothing refl
 
 bare-unit : (edition : Edition) (text : List ℕ) → IsUtf8 text → EndsBare text (past_unit edition text)
@@ -137,7 +136,7 @@ bare-unit edition [] u = bare-name edition [] u (name edition []) refl
 bare-unit edition (b ∷ text) u = by (b == 37) refl
   where
     by : (t : Bool) → (b == 37) ≡ t → EndsBare (b ∷ text) (if t then text else left_after (name edition (b ∷ text)))
-    by true e = bare-cons b text text (ap is_bare (same_byte b 37 e)) (nothing refl)
+    by true e = bare-cons b text text (ap is_bare (eqb-true b 37 e)) (nothing refl)
     by false e = bare-name edition (b ∷ text) u (name edition (b ∷ text)) refl
 
 bare-number : (edition : Edition) (text : List ℕ) → IsUtf8 text → EndsBare text (past_number edition text)
@@ -180,8 +179,8 @@ single_bare first_edition b text e = grind (arith, nat_tests)
 single_bare second_edition b text e = by (b == 44) (b == 47) refl refl e
   where
     by : (x y : Bool) → (b == 44) ≡ x → (b == 47) ≡ y → (x || (y && not (starts 42 text))) ≡ true → is_bare b ≡ true
-    by true y h k e = ap is_bare (same_byte b 44 h)
-    by false true h k e = ap is_bare (same_byte b 47 k)
+    by true y h k e = ap is_bare (eqb-true b 44 h)
+    by false true h k e = ap is_bare (eqb-true b 47 k)
     by false false h k e = absurd (cc)
 
 bare-term : (edition : Edition) (text : List ℕ) → IsUtf8 text → IfGot (λ x rest. EndsBare text rest) (term edition text)
@@ -190,7 +189,7 @@ bare-term edition [] u = tt
 bare-term edition (b ∷ text) u =
     let P : Unit {0} → List ℕ → Type 0 = λ x rest. EndsBare (b ∷ text) rest in
     if_got-if P (b == 35) (got tt (past_hash (name edition text))) _
-    (λ e. bare-cons b text (past_hash (name edition text)) (ap is_bare (same_byte b 35 e)) (bare-hash edition text (utf8-past_byte b text (let hash = same_byte b 35 e in omega arith) u) (name edition text) refl))
+    (λ e. bare-cons b text (past_hash (name edition text)) (ap is_bare (eqb-true b 35 e)) (bare-hash edition text (utf8-past_byte b text (let hash = eqb-true b 35 e in omega arith) u) (name edition text) refl))
     (λ e0. if_got-if P (begins_number b) (got tt (past_number edition text)) _
     (λ e. bare-cons b text (past_number edition text) (number_bare b e) (bare-number edition text (utf8-past_byte b text (number_low b e) u)))
     (λ e1. if_got-if P (is_quote b) (quoted b text) _
@@ -241,7 +240,7 @@ unfolding term
 term-begins_bare edition [] u = tt
 term-begins_bare edition (b ∷ text) u =
     let P : Unit {0} → List ℕ → Type 0 = λ x rest. is_bare b ≡ true in
-    if_got-if P (b == 35) (got tt (past_hash (name edition text))) _ (λ e. ap is_bare (same_byte b 35 e))
+    if_got-if P (b == 35) (got tt (past_hash (name edition text))) _ (λ e. ap is_bare (eqb-true b 35 e))
     (λ e0. if_got-if P (begins_number b) (got tt (past_number edition text)) _ (λ e. number_bare b e)
     (λ e1. if_got-if P (is_quote b) (quoted b text) _ (λ e. if_got P (quoted b text) (λ x rest f. quote_bare b e))
     (λ e2. if_got-if P (b == 44 || is_slash_term edition b text) (got tt text) (word edition (b ∷ text)) (λ e. single_bare edition b text e)

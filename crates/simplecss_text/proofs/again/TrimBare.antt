@@ -10,7 +10,8 @@ use Rattle.std.proofs.lemmas.Bool.{cases_lt}
 use Rattle.std.proofs.lemmas.Bool.Decides.{nat_tests}
 use Rattle.simplecss_text.specs.PrintingLaws.{is_wide_space, has_wide_space}
 use Rattle.simplecss_text.proofs.printed.PrintedNames.{both_false}
-use Rattle.simplecss_text.proofs.printed.PrintedPieces.{last_after, some-length}
+use Rattle.simplecss_text.proofs.printed.PrintedPieces.{last_after}
+use Rattle.simplecss_text.proofs.reading.EachLaws.{not_empty}
 use Rattle.simplecss_text.proofs.bytes.TrimLaws.{BeginsBare, bare-skip, scalars-skip, trim-encodes}
 use Rattle.simplecss_text.proofs.again.TermEnds.{is_bare, FirstBare}
 
@@ -50,7 +51,7 @@ some_bytes : (c : ℕ) (cs : List ℕ) → 0 < length (encode_utf8_all (c ∷ cs
 some_bytes c cs = omega (arith, length-append (encode_utf8 c) (encode_utf8_all cs), length-encode c, len_utf8_bounds c)
 
 kept_end : (t : Bool) (c d : ℕ) (cs : List ℕ) → cond (t && (length (d ∷ cs) == 0)) [] (c ∷ d ∷ cs) ≡ c ∷ d ∷ cs
-kept_end true c d cs = rw (some-length d cs) refl
+kept_end true c d cs = rw (not_empty d cs) refl
 kept_end false c d cs = refl
 
 ends-bare : (cs : List ℕ) → is_bare (last_after 0 (encode_utf8_all cs)) ≡ true → list_any is_wide_space cs ≡ false → drop_trailing_whitespace cs ≡ cs

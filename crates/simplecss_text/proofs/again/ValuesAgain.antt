@@ -19,7 +19,8 @@ use Rattle.simplecss_text.proofs.reading.EndsLaws.{before-append, ends-ends, end
 use Rattle.simplecss_text.proofs.reading.StandLaws.{ends-past_blank}
 use Rattle.simplecss_text.proofs.reading.DeclarationsLawful.{slash_word, term-cuts, term-lawful, term-stands, term_in_value-takes}
 use Rattle.simplecss_text.proofs.printed.GotLaws.{got-holds}
-use Rattle.simplecss_text.proofs.printed.ReadBlanks.{opens_comment-two, past_blank-utf8}
+use Rattle.simplecss_text.proofs.printed.GotLaws.{opens_comment-two}
+use Rattle.simplecss_text.proofs.reading.WellLaws.{well-past_blank}
 use Rattle.simplecss_text.proofs.reading.Lawful.{lawful-text}
 use Rattle.simplecss_text.proofs.bytes.Utf8Laws.{utf8-first}
 use Rattle.simplecss_text.proofs.reading.LocalLaws.{Along, Equal, Guard, Quiet, along-end, along-front}
@@ -85,7 +86,7 @@ valued-again edition r q tail text other quiet v u (more _ rest x e w) h =
     let star : starts 42 (q ∷ tail) ≡ false = quiet.no_star in
     let behind = past_blank-alike r (q ∷ tail) star rest found.0 found.2 less (valued-closed edition r (past_blank rest) w) in
     let left : IsUtf8 rest = subst (λ (y : Reading (Unit {0})). IsUtf8 (left_after y)) e (lawful-text term term (term-lawful false) edition text u) in
-    more other found.0 x found.1 (valued-again edition r q tail (past_blank rest) (past_blank found.0) quiet v (past_blank-utf8 rest left) w behind)
+    more other found.0 x found.1 (valued-again edition r q tail (past_blank rest) (past_blank found.0) quiet v ((well-past_blank rest).1 left) w behind)
 
 -- what is read of such a text
 
@@ -135,7 +136,7 @@ valued-left : (edition : Edition) (r text : List ℕ) → IsUtf8 text → Valued
 valued-left edition r text u (last _ x e) = subst (λ (y : Reading (Unit {0})). IsUtf8 (left_after y)) e (lawful-text term term (term-lawful true) edition text u)
 valued-left edition r text u (more _ rest x e w) =
     let left : IsUtf8 rest = subst (λ (y : Reading (Unit {0})). IsUtf8 (left_after y)) e (lawful-text term term (term-lawful true) edition text u) in
-    valued-left edition r (past_blank rest) (past_blank-utf8 rest left) w
+    valued-left edition r (past_blank rest) ((well-past_blank rest).1 left) w
 
 valued-final : (edition : Edition) (r text : List ℕ) → IsUtf8 text → Valued edition r text → (passed : List ℕ) × (b : ℕ) × (text ≡ passed ++ (b ∷ r)) × (is_bare b ≡ true)
 valued-final edition r text u (last _ x e) = term-ends_bare edition text r x u e
@@ -143,7 +144,7 @@ valued-final edition r text u (more _ rest x e w) =
     let left : IsUtf8 rest = subst (λ (y : Reading (Unit {0})). IsUtf8 (left_after y)) e (lawful-text term term (term-lawful true) edition text u) in
     let next = past_blank rest in
     let end : Ends text next = ends-ends text rest next (ends-got text no_texts (term edition text) x rest (term-stands edition text) e) (ends-past_blank rest) in
-    let inner = valued-final edition r next (past_blank-utf8 rest left) w in
+    let inner = valued-final edition r next ((well-past_blank rest).1 left) w in
     (before text next ++ inner.0, inner.1, sym end ∙ ap (λ l. before text next ++ l) inner.2 ∙ sym (append_assoc (before text next) inner.0 (inner.1 ∷ r)), inner.3)
 
 valued-first : (edition : Edition) (r text : List ℕ) → IsUtf8 text → Valued edition r text → FirstBare text

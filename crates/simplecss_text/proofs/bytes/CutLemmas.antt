@@ -1,6 +1,5 @@
 -- Where a text may be cut between two characters.
--- Serves `Stream::skip_bytes`, `readers`, `scan` and `digits` (a place stands between two
--- characters).
+-- Serves `Stream::skip_bytes`, `readers` and `scan` (an offset is between two characters).
 use Rattle.std.proofs.Common.{◌≡◌, ℕ, zero, suc, ◌+◌, ◌-◌, ◌<◌, ◌≤◌, Bool, true, false, List, [], ◌∷◌, length, get_or, arith, refl, sym, subst, slice_index, inl, inr, drop, ltb-true, Option, Some, None, IfSome, ◌&&◌, ◌==◌, eqb-true}
 use Rattle.std.specs.Str.{IsUtf8, IsCharBoundary}
 use Rattle.std.specs.List.{prefix_len}

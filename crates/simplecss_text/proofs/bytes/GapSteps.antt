@@ -14,7 +14,7 @@ use Rattle.simplecss_text.proofs.reading.EachLaws.{each-none, each-some}
 use Rattle.simplecss_text.proofs.reading.TakesLaws.{blank_part-takes}
 use Rattle.simplecss_text.specs.Characters.{is_space}
 use Rattle.simplecss_text.specs.Bytes.{starts_by, past}
-use Rattle.simplecss_text.proofs.bytes.Utf8Laws.{past-yes, past-no}
+use Rattle.simplecss_text.proofs.bytes.Utf8Laws.{starts_by-past, past-yes, past-no}
 
 -- The first bytes of the text are parts of its gap, and this tells whether a space byte is among
 -- them.
@@ -102,15 +102,6 @@ passed-spaces text len u e = subst (λ (n : ℕ). Passed text n (nat_lt 0 n)) (s
   rest = past_blank-past_spaces text;
   space = has_space-past_spaces text;
 })
-
--- behind the bytes at the front that pass stands none that passes
-starts_by-past : (test : ℕ → Bool) (text : List ℕ) → starts_by test (past test text) ≡ false
-starts_by-past test [] = refl
-starts_by-past test (b ∷ text) = by (test b) refl (starts_by-past test text)
-  where
-    by : (t : Bool) → test b ≡ t → starts_by test (past test text) ≡ false → starts_by test (past test (b ∷ text)) ≡ false
-    by true e more = rw (past-yes test b text e) more
-    by false e more = rw (past-no test b text e) e
 
 -- where no comment opens behind the space bytes at the front, no part of the gap stands there
 pub no_part-behind_spaces : (text : List ℕ) (len : ℕ) → len ≡ prefix_len is_space text → opens_comment (drop len text) ≡ false → blank_part (drop len text) ≡ None

@@ -13,7 +13,7 @@ use Rattle.simplecss_text.specs.declared.text_pos.TextPos.{TextPos}
 use Rattle.simplecss_text.specs.Reading.{Ends}
 use Rattle.simplecss_text.specs.Positions.{greatest, in_whole, position}
 use Rattle.simplecss_text.proofs.reading.EndsLaws.{ends-same, ends-cons}
-use Rattle.simplecss_text.proofs.reading.StandLaws.{utf8-behind}
+use Rattle.simplecss_text.proofs.bytes.Utf8Laws.{utf8-behind}
 
 abbrev newlines : List ℕ → ℕ
 newlines xs = count_by (λ b. b == 10) xs

@@ -14,7 +14,7 @@ use Rattle.simplecss_text.specs.Statements.{past_semicolon_or_block, at_rule_res
 use Rattle.simplecss_text.proofs.reading.TakesLaws.{length-past, length-past_byte}
 use Rattle.simplecss_text.proofs.reading.DeclarationLaws.{length-from_block_end}
 use Rattle.simplecss_text.proofs.reading.EndsLaws.{ends-same}
-use Rattle.simplecss_text.proofs.reading.StandLaws.{utf8-behind}
+use Rattle.simplecss_text.proofs.bytes.Utf8Laws.{utf8-behind}
 use Rattle.simplecss_text.proofs.printed.ReadNames.{name-fails}
 use Rattle.simplecss_text.proofs.reading.LocalLaws.{Along, Equal, Guard, To, at, longer-along, on, past-along, past-both}
 use Rattle.simplecss_text.proofs.reading.LocalLaws.{quiet-brace, quiet-semicolon}

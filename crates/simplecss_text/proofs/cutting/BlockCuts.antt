@@ -1,21 +1,24 @@
 -- A block reads the same where the text is cut behind it or later.
 -- Serves `StyleSheet::parse_more` and `laws::cutting_law` (a text read in pieces).
-use Rattle.std.proofs.Common.{◌≡◌, ℕ, zero, suc, ◌<◌, ◌≤◌, List, [], ◌∷◌, ◌++◌, Bool, true, false, if◌then◌else◌, ◌==◌, ◌&&◌, length, drop, slice_index, None, arith, refl, ap, ◌∙◌, ◌⊎◌, inl, inr, drop_of_length-le, IsUtf8}
+use Rattle.std.proofs.Common.{◌≡◌, ℕ, zero, suc, ◌<◌, ◌≤◌, List, [], ◌∷◌, ◌++◌, Bool, true, false, if◌then◌else◌, ◌==◌, length, drop, slice_index, None, arith, refl, ap, ◌∙◌, ◌⊎◌, inl, inr, drop_of_length-le, IsUtf8}
 use Rattle.simplecss_text.specs.Reading.{Reading, got, fails, each, found, left_after}
 use Rattle.simplecss_text.specs.Bytes.{past_byte, starts}
 use Rattle.simplecss_text.specs.Characters.{Edition}
 use Rattle.simplecss_text.specs.Declarations.{StyleDeclaration, declaration, next_declaration}
 use Rattle.simplecss_text.specs.Blocks.{closes_block, block_end, from_block_end, ends_list, declaration_in_block, past_broken, past_list, block}
+use Rattle.std.proofs.lemmas.Bool.{cases_lt}
+use Rattle.simplecss_text.proofs.printed.PrintedNames.{both_true}
 use Rattle.simplecss_text.proofs.reading.EachLaws.{each-stops}
 use Rattle.simplecss_text.proofs.reading.TakesLaws.{Cuts, length-past_byte}
 use Rattle.simplecss_text.proofs.reading.DeclarationLaws.{declaration_in_block-takes, length-from_block_end}
-use Rattle.simplecss_text.proofs.reading.LocalLaws.{Along, To, Guard, Equal, Repeats, pairs-equal, not_empty}
+use Rattle.simplecss_text.proofs.reading.EachLaws.{not_empty}
+use Rattle.simplecss_text.proofs.reading.LocalLaws.{Along, To, Guard, Equal, Repeats, pairs-equal}
 use Rattle.simplecss_text.proofs.reading.LeastLaws.{least-passes}
 use Rattle.simplecss_text.proofs.reading.DeclarationsLawful.{declaration-cuts, declaration-lawful, declaration_in_block-well}
 use Rattle.simplecss_text.proofs.reading.Lawful.{lawful-guarded}
 use Rattle.simplecss_text.proofs.reading.WellLaws.{each-well}
 use Rattle.simplecss_text.proofs.cutting.BlockGuards.{DeclarationPasses, passes, listed-repeats, ends_list-along}
-use Rattle.simplecss_text.proofs.cutting.BlockEndGuards.{le_or_less, from_block_end-to, Exact, past_brace-exact, past_further-exact, less_of_brace}
+use Rattle.simplecss_text.proofs.cutting.BlockEndGuards.{from_block_end-to, Exact, past_brace-exact, past_further-exact, less_of_brace}
 
 -- less is left than t, or nothing
 abbrev pub Lost : List ℕ → List ℕ → Type 0
@@ -26,20 +29,16 @@ starts-drop c n [] h = absurd (omega arith)
 starts-drop c zero (b ∷ x) h = refl
 starts-drop c (suc n) (b ∷ x) h = starts-drop c n x (omega arith)
 
-first_true : (a b : Bool) → (a && b) ≡ true → a ≡ true
-first_true true b e = refl
-first_true false b e = e
-
 -- a block's end is the text's end or a closing brace
 pub at_brace : (x : List ℕ) → (from_block_end x ≡ []) ⊎ (starts 125 (from_block_end x) ≡ true)
 unfolding block_end
-at_brace x = by (le_or_less (length x) (block_end x))
+at_brace x = by (cases_lt (block_end x) (length x))
   where
-    by : (length x ≤ block_end x) ⊎ (block_end x < length x) → (from_block_end x ≡ []) ⊎ (starts 125 (from_block_end x) ≡ true)
-    by (inl l) = inl (drop_of_length-le x l)
-    by (inr l) =
+    by : (block_end x < length x) ⊎ (length x ≤ block_end x) → (from_block_end x ≡ []) ⊎ (starts 125 (from_block_end x) ≡ true)
+    by (inr l) = inl (drop_of_length-le x l)
+    by (inl l) =
         let closes : closes_block x (block_end x) ≡ true = least-passes (closes_block x) (length x) l in
-        inr (starts-drop 125 (block_end x) x l ∙ first_true _ _ closes)
+        inr (starts-drop 125 (block_end x) x l ∙ (both_true _ _ closes).0)
 
 taken-lost : (t x : List ℕ) → (x ≡ []) ⊎ (starts 125 x ≡ true) → length x ≤ length t → Lost t (past_byte 125 x)
 taken-lost t x (inl e) l = inr (ap (past_byte 125) e)

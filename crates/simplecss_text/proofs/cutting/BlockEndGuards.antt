@@ -1,22 +1,14 @@
 -- A block that ends directly behind a brace ends there also where the text is cut behind that brace
 -- or later.
 -- Serves `StyleSheet::parse_more` and `laws::cutting_law` (a text read in pieces).
-use Rattle.std.proofs.Common.{◌≡◌, ℕ, zero, suc, ◌<◌, ◌≤◌, List, [], ◌∷◌, ◌++◌, Bool, true, false, if◌then◌else◌, ◌==◌, length, arith, refl, sym, ap, ◌∙◌, ◌⊎◌, inl, inr, length-append, length-drop, get_or, take}
+use Rattle.std.proofs.Common.{◌≡◌, ℕ, ◌<◌, ◌≤◌, List, [], ◌∷◌, ◌++◌, Bool, true, false, if◌then◌else◌, ◌==◌, length, arith, refl, sym, ap, ◌∙◌, ◌⊎◌, inl, inr, length-append, length-drop, get_or, take}
+use Rattle.std.proofs.lemmas.Bool.{cases_lt}
 use Rattle.std.proofs.Math.ListN.{get_or-append}
 use Rattle.std.proofs.lemmas.List.{take-append-le}
 use Rattle.simplecss_text.specs.Bytes.{past_byte, starts}
 use Rattle.simplecss_text.specs.Blocks.{block_end, from_block_end, closes_block}
 use Rattle.simplecss_text.proofs.reading.LocalLaws.{Along, along-append, drop-to, at, on, To, longer-along, length-along}
 use Rattle.simplecss_text.proofs.reading.LeastLaws.{least-before, least-is, least-passes}
-
-pub le_or_less : (m n : ℕ) → (m ≤ n) ⊎ (n < m)
-le_or_less zero n = inl (omega arith)
-le_or_less (suc m) zero = inr (omega arith)
-le_or_less (suc m) (suc n) = by (le_or_less m n)
-  where
-    by : (m ≤ n) ⊎ (n < m) → (suc m ≤ suc n) ⊎ (suc n < suc m)
-    by (inl h) = inl (omega arith)
-    by (inr h) = inr (omega arith)
 
 -- a block's end within the front of a text is that of the front
 closes_block_local : (u v : List ℕ) (n : ℕ) → n < length u → closes_block (u ++ v) n ≡ closes_block u n
@@ -35,16 +27,16 @@ block_end_local u v h =
 
 -- from the end of a block on
 pub from_block_end-to : (u v r s : List ℕ) → Along (125 ∷ (u ++ v)) (125 ∷ u) r s → To true (125 ∷ (u ++ v)) (125 ∷ u) (from_block_end r) (from_block_end s)
-from_block_end-to u v r s h = by (le_or_less (length s) (block_end (s ++ v)))
+from_block_end-to u v r s h = by (cases_lt (block_end (s ++ v)) (length s))
   where
     whole : r ≡ s ++ v
     whole = along-append 125 u v r s h
 
-    by : (length s ≤ block_end (s ++ v)) ⊎ (block_end (s ++ v) < length s) → To true (125 ∷ (u ++ v)) (125 ∷ u) (from_block_end r) (from_block_end s)
-    by (inl l) =
+    by : (block_end (s ++ v) < length s) ⊎ (length s ≤ block_end (s ++ v)) → To true (125 ∷ (u ++ v)) (125 ∷ u) (from_block_end r) (from_block_end s)
+    by (inr l) =
         let e : block_end r ≡ block_end (s ++ v) = ap block_end whole in
         inl (omega (arith, e, length-drop (block_end r) r, length-along (125 ∷ (u ++ v)) (125 ∷ u) r s h, length-append u v, longer-along (125 ∷ (u ++ v)) (125 ∷ u) r s h))
-    by (inr l) =
+    by (inl l) =
         let e : block_end s ≡ block_end r = block_end_local s v l ∙ ap block_end (sym whole) in
         rw e (drop-to 125 (u ++ v) u (block_end r) r s h)
 

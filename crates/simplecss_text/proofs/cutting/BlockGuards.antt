@@ -6,7 +6,8 @@ use Rattle.simplecss_text.specs.Characters.{Edition}
 use Rattle.simplecss_text.specs.Declarations.{StyleDeclaration, declaration, next_declaration}
 use Rattle.simplecss_text.specs.Blocks.{ends_list, declaration_in_block}
 use Rattle.simplecss_text.proofs.reading.DeclarationLaws.{declaration_in_block-takes}
-use Rattle.simplecss_text.proofs.reading.LocalLaws.{Along, at, on, Guard, Equal, Step, Repeats, each-repeats, not_empty}
+use Rattle.simplecss_text.proofs.reading.EachLaws.{not_empty}
+use Rattle.simplecss_text.proofs.reading.LocalLaws.{Along, at, on, Guard, Equal, Step, Repeats, each-repeats}
 use Rattle.simplecss_text.proofs.reading.WellLaws.{found-text}
 use Rattle.simplecss_text.proofs.reading.Lawful.{lawful-guarded}
 use Rattle.simplecss_text.proofs.reading.DeclarationsLawful.{declaration-lawful, declaration_in_block-well}

@@ -1,6 +1,6 @@
 -- A rule set reads the same where the text is cut behind it or later.
 -- Serves `StyleSheet::parse_more` and `laws::cutting_law` (a text read in pieces).
-use Rattle.std.proofs.Common.{◌≡◌, ℕ, ◌≤◌, List, [], ◌∷◌, ◌++◌, Bool, true, false, if◌then◌else◌, ◌==◌, not, length, map, Option, Some, None, arith, refl, ◌⊎◌, inl, inr, IsUtf8, ◌<◌}
+use Rattle.std.proofs.Common.{◌≡◌, ℕ, ◌≤◌, List, [], ◌∷◌, ◌++◌, Bool, true, false, if◌then◌else◌, ◌==◌, not, length, map, Option, Some, None, arith, refl, ◌⊎◌, inl, inr, IsUtf8, ◌<◌, eqb-true}
 use Rattle.std.specs.List.{filter_map}
 use Rattle.simplecss_text.specs.Reading.{Ends, each}
 use Rattle.simplecss_text.specs.Bytes.{past, past_one, past_byte, starts}
@@ -15,10 +15,9 @@ use Rattle.simplecss_text.proofs.reading.DeclarationLaws.{length-block}
 use Rattle.simplecss_text.proofs.reading.StatementLaws.{length-part, length-parts, part_and_comma-takes}
 use Rattle.simplecss_text.proofs.reading.LocalLaws.{Along, at, on, To, Equal, Step, Repeats, each-repeats, past-along, past-both, past_byte-to, pairs-equal, Same}
 use Rattle.simplecss_text.proofs.reading.EndsLaws.{ends-ends, ends-past}
-use Rattle.simplecss_text.proofs.reading.StandLaws.{utf8-behind}
+use Rattle.simplecss_text.proofs.bytes.Utf8Laws.{utf8-behind}
 use Rattle.simplecss_text.proofs.reading.WellLaws.{each-well, found-text}
 use Rattle.simplecss_text.proofs.bytes.Utf8Laws.{utf8-past_byte_if}
-use Rattle.simplecss_text.proofs.printed.PrintedHeads.{same_byte}
 use Rattle.simplecss_text.proofs.cutting.StatementEnds.{part_and_comma-well, parts-ends}
 use Rattle.simplecss_text.proofs.cutting.BlockEndGuards.{Exact}
 use Rattle.simplecss_text.proofs.cutting.BlockCuts.{Lost, BlockSame, block-same}
@@ -42,7 +41,7 @@ opened-same edition u v whole x y w e at = inl (inr refl)
 opened-same edition u v whole x y w e (on b x1 y1 h) = by (b == 123) refl
   where
     by : (k : Bool) → (b == 123) ≡ k → BlockSame (u ++ v) u (if k then block edition x1 else ([], [])) (if k then block edition y1 else ([], []))
-    by true f = block-same edition u v x1 y1 (utf8-behind whole x1 b (omega (arith, same_byte b 123 f)) w e) h
+    by true f = block-same edition u v x1 y1 (utf8-behind whole x1 b (omega (arith, eqb-true b 123 f)) w e) h
     by false f = inl (inr refl)
 
 next_block-same : (edition : Edition) (u v whole r s : List ℕ) → IsUtf8 whole → Ends whole r → Along (125 ∷ (u ++ v)) (125 ∷ u) r s → BlockSame (u ++ v) u (next_block edition r) (next_block edition s)

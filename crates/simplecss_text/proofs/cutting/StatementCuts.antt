@@ -2,9 +2,7 @@
 -- Serves `StyleSheet::parse_more` and `laws::cutting_law` (a text read in pieces),
 -- `StyleSheet::parse` and `laws::edition_law`.
 use Rattle.std.proofs.Common.{Bool, IsUtf8, List, None, Some, [], ap, arith, eqb-true, false, if◌then◌else◌, inl, inr, refl, subst, sym, true, ℕ, ◌==◌, ◌∙◌, ◌∷◌, ◌≡◌, append_assoc, length, ◌++◌, ◌⊎◌, append-nil, length-append}
-use Rattle.std.proofs.Math.Seq.{take-append_seam}
 use Rattle.std.proofs.lemmas.List.{append_cancel_right}
-use Rattle.std.proofs.lemmas.Str.{IsUtf8-take, IsCharBoundary-at_seam}
 use Rattle.simplecss_text.specs.Reading.{Ends, got, before, fails, left_after}
 use Rattle.simplecss_text.specs.Bytes.{is_neither, past, starts}
 use Rattle.simplecss_text.specs.Characters.{Edition}
@@ -13,16 +11,18 @@ use Rattle.simplecss_text.specs.Names.{name}
 use Rattle.simplecss_text.specs.Blocks.{from_block_end}
 use Rattle.simplecss_text.specs.Statements.{StyleRule, ends_statements, next_statement, at_rule_rest, rule_set, statement}
 use Rattle.simplecss_text.proofs.reading.EndsLaws.{ends-ends, ends-got, ends-past, ends-same, ends-tail, itself, length-ends}
-use Rattle.simplecss_text.proofs.reading.StandLaws.{name-stands, utf8-behind, ends-past_blank}
-use Rattle.simplecss_text.proofs.reading.WellLaws.{EndsWell, well-behind, well-name, well-nil, well-then}
-use Rattle.simplecss_text.proofs.reading.LocalLaws.{Along, To, along-front, at, longer-along, not_empty, on, starts-along}
+use Rattle.simplecss_text.proofs.reading.StandLaws.{name-stands, ends-past_blank}
+use Rattle.simplecss_text.proofs.bytes.Utf8Laws.{utf8-behind}
+use Rattle.simplecss_text.proofs.reading.WellLaws.{EndsWell, well-behind, well-name, well-nil, well-past_blank, well-then}
+use Rattle.simplecss_text.proofs.reading.EachLaws.{not_empty}
+use Rattle.simplecss_text.proofs.reading.LocalLaws.{Along, To, along-front, at, longer-along, on, starts-along}
 use Rattle.simplecss_text.proofs.reading.SearchLaws.{Plain, brace_plain, opens_comment-along, past_blank-to}
 use Rattle.simplecss_text.proofs.reading.DeclarationsLawful.{ends-from_block_end}
 use Rattle.simplecss_text.proofs.cutting.BlockEndGuards.{Exact, before_it, behind_it}
 use Rattle.simplecss_text.proofs.cutting.RuleSetCuts.{RulesSame, rule_set-same}
 use Rattle.simplecss_text.proofs.cutting.AtRuleCuts.{at_rule-block, at_rule-fault, at_rule-semicolon, along-at}
 use Rattle.simplecss_text.proofs.cutting.StatementEnds.{AtRuleEnds, BehindBrace, at_block, at_fault, at_rule-ends, at_semicolon, rule_set-behind, uses_up}
-use Rattle.simplecss_text.proofs.printed.ReadBlanks.{past_blank-utf8}
+use Rattle.simplecss_text.proofs.bytes.Utf8Laws.{utf8-first}
 
 -- ---- how a blank and a statement end
 
@@ -89,10 +89,6 @@ next_statement-well edition text rest rules e = next-well edition text (past_bla
 
 -- ---- the texts before and behind a cut
 
--- what stands before an end that is UTF-8 is UTF-8
-utf8-front : (u v : List ℕ) → IsUtf8 (u ++ v) → IsUtf8 v → IsUtf8 u
-utf8-front u v whole rest = subst IsUtf8 (take-append_seam u v) (IsUtf8-take (u ++ v) (length u) whole (IsCharBoundary-at_seam (u ++ v) u v refl rest))
-
 -- a text and its front, from behind an ASCII byte on
 along-of : (g : ℕ) (u v w : List ℕ) → Ends (u ++ v) (g ∷ (w ++ v)) → Along (g ∷ (w ++ v)) (g ∷ w) (u ++ v) u
 along-of g u v w e =
@@ -139,7 +135,7 @@ rule_set-cut edition w v r s rules z h e = by (rule_set edition r) (rule_set edi
 -- an at-rule, from behind its sign
 at_rule-cut : (edition : Edition) (s v w rest : List ℕ) → IsUtf8 (s ++ v) → IsUtf8 v → rest ≡ w ++ v → AtRuleEnds edition (s ++ v) rest → (w ++ v ≡ []) ⊎ (at_rule_rest edition s ≡ w)
 at_rule-cut edition s v w rest whole cut e uses_up = inl (sym e)
-at_rule-cut edition s v w rest whole cut e (at_fault fault left f) = inr (at_rule-fault edition s v w fault (utf8-front s v whole cut) (f ∙ ap (fails fault) e))
+at_rule-cut edition s v w rest whole cut e (at_fault fault left f) = inr (at_rule-fault edition s v w fault (utf8-first s v whole cut) (f ∙ ap (fails fault) e))
 at_rule-cut edition s v w rest whole cut e (at_semicolon n x left f g) =
     let behind : past (is_neither 59 123) x ≡ 59 ∷ (w ++ v) = g ∙ ap (λ (t : List ℕ). 59 ∷ t) e in
     inr (at_rule-semicolon edition (w ++ v) w (s ++ v) s n x whole (along-of 59 s v w (semicolon-front edition (s ++ v) n x (w ++ v) f behind)) f behind)
@@ -182,7 +178,7 @@ next_statement-cut edition u v w rules whole cut e = by (next_statement-ends edi
     by more (text_ends n) = nil n
     by more (rules_end other r h) =
         let along : Along (125 ∷ (w ++ v)) (125 ∷ w) (past_blank (u ++ v)) (past_blank u) = past_blank-along 125 u v w brace_plain h in
-        ruled along more other (rule_set-cut edition w v (past_blank (u ++ v)) (past_blank u) rules (past_blank-utf8 (u ++ v) whole) along r)
+        ruled along more other (rule_set-cut edition w v (past_blank (u ++ v)) (past_blank u) rules ((well-past_blank (u ++ v)).1 whole) along r)
     by more (at_rule_ends after is none h) =
         let s : List ℕ = before after (w ++ v) ++ w in
         let parts : after ≡ s ++ v = sym (append_assoc (before after (w ++ v)) w v ∙ (at_rule-well edition after (w ++ v) h).0) in

@@ -17,7 +17,7 @@ use Rattle.simplecss_text.proofs.reading.EndsLaws.{EndsFound, Stands, each-ends,
 use Rattle.simplecss_text.proofs.reading.WellLaws.{WellFound, found-ends, well-behind}
 use Rattle.simplecss_text.proofs.printed.GotLaws.{starts-cons}
 use Rattle.simplecss_text.proofs.reading.SequenceStandLaws.{reads-ends}
-use Rattle.simplecss_text.proofs.reading.LocalLaws.{not_empty}
+use Rattle.simplecss_text.proofs.reading.EachLaws.{not_empty}
 use Rattle.simplecss_text.proofs.reading.DeclarationsLawful.{declaration-stands, declaration_in_block-ends, ends-from_block_end}
 use Rattle.simplecss_text.proofs.cutting.BlockEndGuards.{no_brace}
 use Rattle.simplecss_text.proofs.cutting.BlockCuts.{at_brace, none_broken}

@@ -1,14 +1,13 @@
 -- What holds of what was read, reader by reader.
 -- Serves `Selector::{parse, parse_front}` and `StyleSheet::parse` (a selector printed and read
 -- again).
-use Rattle.std.proofs.Common.{◌<◌, ◌≡◌, ℕ, zero, suc, List, [], ◌∷◌, ◌++◌, Bool, true, false, if◌then◌else◌, ◌==◌, length, Option, Some, None, refl, ap, subst, IsUtf8}
+use Rattle.std.proofs.Common.{◌&&◌, ◌<◌, ◌≡◌, ℕ, zero, suc, List, [], ◌∷◌, ◌++◌, Bool, true, false, if◌then◌else◌, ◌==◌, length, Option, Some, None, refl, ap, subst, IsUtf8, eqb-true}
 use Rattle.std.specs.List.{AllByRecursion}
 use Rattle.simplecss_text.specs.Reading.{wrong_byte, Reading, got, fails, Reader, follow, and_then, up_to, each, Ends}
 use Rattle.simplecss_text.specs.Bytes.{byte, past_one, starts, starts_two, after_byte}
-use Rattle.simplecss_text.specs.Comments.{after_close}
-use Rattle.simplecss_text.proofs.reading.StandLaws.{utf8-behind}
+use Rattle.simplecss_text.specs.Comments.{after_close, opens_comment}
+use Rattle.simplecss_text.proofs.bytes.Utf8Laws.{utf8-behind}
 use Rattle.simplecss_text.proofs.printed.PrintedNames.{both_true}
-use Rattle.simplecss_text.proofs.printed.PrintedHeads.{same_byte}
 
 -- where a value was read, this holds of it and of what is left
 abbrev pub IfGot : {A : Type 0} → (A → List ℕ → Type 0) → Reading A → Type 0
@@ -43,7 +42,7 @@ if_got-weaker P Q (fails fault rest) n h = tt
 pub byte-is : (c : ℕ) (text : List ℕ) → IfGot (λ u rest. text ≡ c ∷ rest) (byte c text)
 byte-is c [] = tt
 byte-is c (b ∷ text) =
-    if_got-if (λ u rest. b ∷ text ≡ c ∷ rest) (b == c) (got tt text) (fails (wrong_byte c (b ∷ text)) (b ∷ text)) (λ e. ap (λ k. k ∷ text) (same_byte b c e)) (λ e. tt)
+    if_got-if (λ u rest. b ∷ text ≡ c ∷ rest) (b == c) (got tt text) (fails (wrong_byte c (b ∷ text)) (b ∷ text)) (λ e. ap (λ k. k ∷ text) (eqb-true b c e)) (λ e. tt)
 
 -- where something is left, it stands behind this byte of the text
 abbrev pub IfBehind : ℕ → List ℕ → Option (List ℕ) → Type 0
@@ -61,13 +60,21 @@ after_byte-behind c [] = tt
 after_byte-behind c (b ∷ text) = by (b == c) refl (after_byte-behind c text)
   where
     by : (t : Bool) → (b == c) ≡ t → IfBehind c text (after_byte c text) → IfBehind c (b ∷ text) (if t then Some text else after_byte c text)
-    by true e more = ([], ap (λ k. k ∷ text) (same_byte b c e))
+    by true e more = ([], ap (λ k. k ∷ text) (eqb-true b c e))
     by false e more = behind-later c b text (after_byte c text) more
 
 -- a byte that begins a text
 pub starts-cons : (c : ℕ) (text : List ℕ) → starts c text ≡ true → text ≡ c ∷ past_one text
 starts-cons c [] e = absurd (cc)
-starts-cons c (b ∷ text) e = ap (λ k. k ∷ text) (same_byte b c e)
+starts-cons c (b ∷ text) e = ap (λ k. k ∷ text) (eqb-true b c e)
+
+-- the two bytes that open a comment
+pub opens_comment-two : (b : ℕ) (text : List ℕ) → opens_comment (b ∷ text) ≡ true → (b ≡ 47) × (text ≡ 42 ∷ past_one text)
+opens_comment-two b text e = by (b == 47) refl e
+  where
+    by : (t : Bool) → (b == 47) ≡ t → (t && starts 42 text) ≡ true → (b ≡ 47) × (text ≡ 42 ∷ past_one text)
+    by true h k = (eqb-true b 47 h, starts-cons 42 text k)
+    by false h k = absurd (cc)
 
 -- behind a byte that stands there, in a text
 pub utf8-past_one : (whole text : List ℕ) (c : ℕ) → c < 128 → IsUtf8 whole → Ends whole text → starts c text ≡ true → IsUtf8 (past_one text)
@@ -106,4 +113,4 @@ Anything x = Unit {0}
 
 -- the byte that a test has found
 pub same_begins : (b c : ℕ) (text : List ℕ) → (b == c) ≡ true → IsUtf8 (b ∷ text) → IsUtf8 (c ∷ text)
-same_begins b c text e u = subst IsUtf8 (ap (λ k. k ∷ text) (same_byte b c e)) u
+same_begins b c text e u = subst IsUtf8 (ap (λ k. k ∷ text) (eqb-true b c e)) u

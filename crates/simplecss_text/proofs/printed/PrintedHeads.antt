@@ -1,7 +1,7 @@
 -- Printed heads read back, and the gaps of a printed selector.
 -- Serves `Selector::{parse, parse_front}` and `StyleSheet::parse` (a selector printed and read
 -- again).
-use Rattle.std.proofs.Common.{◌≡◌, ℕ, ◌<◌, ◌≤◌, ◌⊎◌, inl, inr, List, [], ◌∷◌, ◌++◌, Bool, true, false, if◌then◌else◌, ◌&&◌, ◌==◌, nat_lt, length, arith, refl, sym, ap, ◌∙◌, subst, length-append, encode_utf8, encode_utf8_all, Option, Some, None}
+use Rattle.std.proofs.Common.{◌≡◌, ℕ, ◌<◌, ◌≤◌, ◌⊎◌, inl, inr, List, [], ◌∷◌, ◌++◌, Bool, true, false, if◌then◌else◌, ◌&&◌, ◌==◌, nat_lt, length, arith, refl, sym, ap, ◌∙◌, subst, length-append, encode_utf8, encode_utf8_all, Option, Some, None, eqb-true}
 use Rattle.std.specs.Str.{chars}
 use Rattle.std.specs.List.{list_all, list_any}
 use Rattle.std.proofs.lemmas.Str.{length-encode, len_utf8_bounds, char_from_byte}
@@ -57,19 +57,15 @@ name-first edition n w = by n w.letters w.spell w.begins w.pass
     by [] (c ∷ cs) e b p = absurd (omega (arith, ap length e, length-append (encode_utf8 c) (encode_utf8_all cs), length-encode c, len_utf8_bounds c))
     by (x ∷ n) (c ∷ cs) e b p = record { first = x; others = n; is = refl; fit = name_byte edition x n (encode_utf8_all cs) c (sym e) (begins_char edition c cs b p) }
 
--- a byte that passes the test for another is that one
-pub same_byte : (b k : ℕ) → (b == k) ≡ true → b ≡ k
-same_byte b k e = grind arith
-
--- it is no other ASCII byte
+-- a byte of a name is no other ASCII byte
 pub other_byte : (edition : Edition) (k b : ℕ) → k < 128 → is_name_char edition k ≡ false → IsNameByte edition b → (b == k) ≡ false
 other_byte edition k b less e0 h = by (b == k) refl h
   where
     by : (t : Bool) → (b == k) ≡ t → IsNameByte edition b → t ≡ false
     by false e w = refl
-    by true e (inl w) = absurd (omega (arith, same_byte b k e))
+    by true e (inl w) = absurd (omega (arith, eqb-true b k e))
     by true e (inr w) =
-        let same : b ≡ k = same_byte b k e in
+        let same : b ≡ k = eqb-true b k e in
         let yes : is_name_char edition k ≡ true = ap (is_name_char edition) (sym same) ∙ w in
         absurd (cc)
 

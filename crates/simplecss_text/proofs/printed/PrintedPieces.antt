@@ -271,10 +271,6 @@ printed_token-role (pseudo_class class) = class-role class
 pub bracketed : (n o tail : List ℕ) → ((n ++ o) ++ (93 ∷ [])) ++ tail ≡ n ++ (o ++ (93 ∷ tail))
 bracketed n o tail = append_assoc (n ++ o) (93 ∷ []) tail ∙ append_assoc n o (93 ∷ tail)
 
--- a text with a byte is not empty
-pub some-length : (b : ℕ) (text : List ℕ) → (length (b ∷ text) == 0) ≡ false
-some-length b text = grind arith
-
 -- a bracket begins an attribute, and a colon a pseudo-class
 pub solid-attribute : (edition : Edition) (text : List ℕ) → solid edition (91 ∷ text) ≡ attribute_after edition text
 unfolding solid next_kind

@@ -1,7 +1,7 @@
 -- What a name is that was read.
 -- Serves `Selector::{parse, parse_front}` and `StyleSheet::parse` (a selector printed and read
 -- again).
-use Rattle.std.proofs.Common.{◌≡◌, ℕ, ◌⊎◌, inl, inr, List, [], ◌∷◌, ◌++◌, Bool, true, false, cond, if◌then◌else◌, suc, ◌+◌, arith, ◌||◌, ◌&&◌, ◌==◌, length, drop, refl, sym, ap, ◌∙◌, subst, encode_utf8_all, IsUtf8}
+use Rattle.std.proofs.Common.{◌≡◌, ℕ, ◌⊎◌, inl, inr, List, [], ◌∷◌, ◌++◌, Bool, true, false, cond, if◌then◌else◌, ◌||◌, ◌&&◌, ◌==◌, length, drop, refl, sym, ap, ◌∙◌, subst, encode_utf8_all, IsUtf8, eqb-true}
 use Rattle.std.specs.Str.{chars, all_scalars}
 use Rattle.std.specs.List.{list_all, prefix_len, take_while}
 use Rattle.std.proofs.lemmas.Str.{chars-encodes, encodes-append}
@@ -11,12 +11,12 @@ use Rattle.std.proofs.Math.Seq.{drop-append_seam}
 use lib.Utf8.{scalar, encode}
 use Rattle.simplecss_text.proofs.reading.EndsLaws.{before-append}
 use Rattle.simplecss_text.specs.Reading.{Fault, Reading, no_name, got, fails, before}
-use Rattle.simplecss_text.specs.Bytes.{past, past_byte, starts_by}
+use Rattle.simplecss_text.specs.Bytes.{past_byte, starts_by}
 use Rattle.simplecss_text.specs.Characters.{Edition, is_name_start, is_name_char, first_edition, second_edition}
 use Rattle.simplecss_text.specs.Names.{begins_name, past_name_chars, name}
 use Rattle.simplecss_text.proofs.reading.TakesLaws.{first_of_name}
+use Rattle.simplecss_text.proofs.bytes.Utf8Laws.{starts_by-past}
 use Rattle.simplecss_text.proofs.printed.PrintedNames.{IsName, ends_names, begins_any_name}
-use Rattle.simplecss_text.proofs.printed.PrintedHeads.{same_byte}
 
 -- what a run takes passes
 pub taken_pass : (p : ℕ → Bool) (cs : List ℕ) → list_all p (take_while p cs) ≡ true
@@ -26,15 +26,6 @@ taken_pass p (c ∷ cs) = by (p c) refl (taken_pass p cs)
     by : (t : Bool) → p c ≡ t → list_all p (take_while p cs) ≡ true → list_all p (take_while p (c ∷ cs)) ≡ true
     by true e more = ap (list_all p) (take_while-cons p c cs ∙ ap (λ t. cond t (c ∷ take_while p cs) []) e) ∙ rw (e, more) refl
     by false e more = ap (list_all p) (take_while-cons p c cs ∙ ap (λ t. cond t (c ∷ take_while p cs) []) e)
-
--- where a run of bytes or characters that pass ends, none passes
-starts_by-past : (test : ℕ → Bool) (text : List ℕ) → starts_by test (past test text) ≡ false
-starts_by-past test [] = refl
-starts_by-past test (b ∷ text) = by (test b) refl (starts_by-past test text)
-  where
-    by : (t : Bool) → test b ≡ t → starts_by test (past test text) ≡ false → starts_by test (past test (b ∷ text)) ≡ false
-    by true e more = let one : 1 + prefix_len test text ≡ suc (prefix_len test text) = omega arith in rw (e, one) more
-    by false e more = rw e e
 
 scalars-parts : (a b : List ℕ) → all_scalars (a ++ b) ≡ true → (all_scalars a ≡ true) × (all_scalars b ≡ true)
 scalars-parts [] b h = (refl, h)
@@ -71,7 +62,7 @@ taken_begins edition (c ∷ []) h = by (is_name_start edition c) refl
   where
     by : (t : Bool) → is_name_start edition c ≡ t → (begins_any_name edition (take_while (is_name_char edition) (c ∷ [])) ≡ true) ⊎ (c ∷ [] ≡ 45 ∷ [])
     by true e = inl (ap (begins_any_name edition) (taken (is_name_char edition) c [] (start_char edition c e)) ∙ e)
-    by false e = inr (ap (λ k. k ∷ []) (same_byte c 45 (only_hyphen (is_name_start edition c) (c == 45) e h)))
+    by false e = inr (ap (λ k. k ∷ []) (eqb-true c 45 (only_hyphen (is_name_start edition c) (c == 45) e h)))
 taken_begins edition (c ∷ d ∷ cs) h = by (is_name_start edition c) refl
   where
     by : (t : Bool) → is_name_start edition c ≡ t → (begins_any_name edition (take_while (is_name_char edition) (c ∷ d ∷ cs)) ≡ true) ⊎ (c ∷ d ∷ cs ≡ 45 ∷ [])

@@ -1,12 +1,11 @@
 -- What a value is that was read as a string.
 -- Serves `Selector::{parse, parse_front}` and `StyleSheet::parse` (a selector printed and read
 -- again).
-use Rattle.std.proofs.Common.{◌≡◌, ℕ, ◌<◌, List, [], ◌∷◌, ◌++◌, Bool, true, false, if◌then◌else◌, ◌&&◌, not, ◌==◌, refl, sym, ap, ◌∙◌, subst, Option, Some, None, IsUtf8}
+use Rattle.std.proofs.Common.{◌≡◌, ℕ, ◌<◌, List, [], ◌∷◌, ◌++◌, Bool, true, false, if◌then◌else◌, ◌&&◌, not, ◌==◌, refl, sym, ap, ◌∙◌, subst, Option, Some, None, IsUtf8, eqb-true}
 use Rattle.simplecss_text.proofs.reading.EndsLaws.{before-append}
 use Rattle.simplecss_text.specs.Reading.{before}
 use Rattle.simplecss_text.specs.Strings.{from_quote, string_up_to, string_after}
 use Rattle.simplecss_text.proofs.printed.PrintedPieces.{last_after, IsValue}
-use Rattle.simplecss_text.proofs.printed.PrintedHeads.{same_byte}
 use Rattle.simplecss_text.proofs.bytes.Utf8Laws.{utf8-behind_byte}
 use Rattle.simplecss_text.proofs.printed.GotLaws.{IfGot}
 
@@ -40,7 +39,7 @@ from_quote-closes quote previous (b ∷ text) = by (b == quote && not (previous 
     by : (t : Bool) → (b == quote && not (previous == 92)) ≡ t → IfCloses quote b text (from_quote quote b text) → IfCloses quote previous (b ∷ text) (if t then Some (b ∷ text) else from_quote quote b text)
     by true h more =
         let known = both_parts (b == quote) (previous == 92) h in
-        let same = ap (λ k. k ∷ text) (same_byte b quote known.0) in
+        let same = ap (λ k. k ∷ text) (eqb-true b quote known.0) in
         record { front = []; behind = text; closing_is = same; is = same; open_end = known.1 }
     by false h more = closes-later quote previous b text (from_quote quote b text) more
 

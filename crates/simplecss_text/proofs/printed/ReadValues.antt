@@ -1,7 +1,7 @@
 -- What a value of an attribute is that was read.
 -- Serves `Selector::{parse, parse_front}` and `StyleSheet::parse` (a selector printed and read
 -- again).
-use Rattle.std.proofs.Common.{◌≡◌, ℕ, ◌<◌, List, [], ◌∷◌, ◌++◌, Bool, true, false, ◌&&◌, ◌==◌, arith, refl, sym, ap, ◌∙◌, subst, IsUtf8, inl, inr}
+use Rattle.std.proofs.Common.{◌≡◌, ℕ, ◌<◌, List, [], ◌∷◌, ◌++◌, Bool, true, false, ◌&&◌, ◌==◌, arith, refl, sym, ap, ◌∙◌, subst, IsUtf8, inl, inr, eqb-true}
 use Rattle.std.specs.Str.{chars}
 use Rattle.std.specs.List.{list_all}
 use Rattle.std.proofs.lemmas.Str.{chars-append, chars-nil, chars-encodes}
@@ -11,7 +11,6 @@ use Rattle.simplecss_text.specs.Names.{name}
 use Rattle.simplecss_text.specs.Strings.{is_quote, string_after, string_or_name}
 use Rattle.simplecss_text.proofs.printed.PrintedNames.{IsName, chars-byte}
 use Rattle.simplecss_text.proofs.printed.PrintedPieces.{last_after, IsValue}
-use Rattle.simplecss_text.proofs.printed.PrintedHeads.{same_byte}
 use Rattle.simplecss_text.proofs.printed.ReadNames.{name-is}
 use Rattle.simplecss_text.proofs.printed.ReadStrings.{string_after-gives}
 use Rattle.simplecss_text.proofs.bytes.Utf8Laws.{utf8-past_byte, utf8-before_byte}
@@ -19,7 +18,7 @@ use Rattle.simplecss_text.proofs.printed.GotLaws.{IfGot, if_got, if_got-if}
 use Rattle.std.proofs.lemmas.Bool.Decides.{nat_tests}
 
 last_split : (b : ℕ) (v : List ℕ) → (last_after b v == 92) ≡ true → (front : List ℕ) × (b ∷ v ≡ front ++ (92 ∷ []))
-last_split b [] e = ([], ap (λ k. k ∷ []) (same_byte b 92 e))
+last_split b [] e = ([], ap (λ k. k ∷ []) (eqb-true b 92 e))
 last_split b (d ∷ v) e = let more = last_split d v e in (b ∷ more.0, ap (λ l. b ∷ l) more.1)
 
 no_backslash : (edition : Edition) (a : Bool) → (a && (is_name_char edition 92 && true)) ≡ true → ⊥

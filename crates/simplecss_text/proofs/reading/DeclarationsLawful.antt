@@ -1,7 +1,7 @@
 -- Terms, values and declarations owe what every reader owes, and take bytes.
 -- Serves `DeclarationTokenizer`, `take_value`, `StyleSheet::{parse, parse_more}` and
 -- `laws::{cutting_law, edition_law}`.
-use Rattle.std.proofs.Common.{◌≡◌, ◌⊎◌, ◌≤◌, Bool, List, None, Option, Some, [], ap, arith, codes, drop, IsUtf8, ◌<◌, subst, sym, take, eqb, false, if◌then◌else◌, inl, inr, length, length-append, not, refl, true, ℕ, ◌&&◌, ◌++◌, ◌==◌, ◌||◌, ◌∙◌, ◌∷◌}
+use Rattle.std.proofs.Common.{◌≡◌, ◌⊎◌, ◌≤◌, Bool, List, None, Option, Some, [], ap, arith, codes, drop, IsUtf8, ◌<◌, subst, sym, take, eqb, false, if◌then◌else◌, inl, inr, length, length-append, not, refl, true, ℕ, ◌&&◌, ◌++◌, ◌==◌, ◌||◌, ◌∙◌, ◌∷◌, eqb-true}
 use Rattle.std.specs.List.{starts_with}
 use Rattle.std.specs.Str.{chars, trim}
 use lib.Utf8.{encode}
@@ -21,7 +21,6 @@ use Rattle.simplecss_text.proofs.reading.EndsLaws.{EndsFound, Stands, ends-drop,
 use Rattle.simplecss_text.proofs.reading.WellLaws.{EndsWell, WellFound, each-well, found-ends, found-text, well-closed, well-name, well-past, well-past_blank, well-tail, well-then}
 use Rattle.simplecss_text.proofs.bytes.Utf8Laws.{utf8-second}
 use Rattle.simplecss_text.proofs.printed.GotLaws.{IfBehind, after_byte-behind, starts-cons}
-use Rattle.simplecss_text.proofs.printed.PrintedHeads.{same_byte}
 use Rattle.simplecss_text.proofs.printed.ReadValues.{quote_low}
 use Rattle.simplecss_text.proofs.reading.TakesLaws.{Cuts, Keeps, blank-keeps, cuts-follow, cuts-if, follow-cuts, from_quote-leaves, keeps-cuts, keeps-follow, length-past_blank, length-past_byte, name-cuts, string_up_to-keeps}
 use Rattle.simplecss_text.proofs.reading.EachLaws.{Shrinks, Takes}
@@ -54,8 +53,8 @@ single-low first_edition b text e = grind (arith, nat_tests)
 single-low second_edition b text e = by (b == 44) (b == 47) refl refl e
   where
     by : (x y : Bool) → (b == 44) ≡ x → (b == 47) ≡ y → (x || (y && not (starts 42 text))) ≡ true → b < 128
-    by true y h k e = let same = same_byte b 44 h in omega arith
-    by false true h k e = let same = same_byte b 47 k in omega arith
+    by true y h k e = let same = eqb-true b 44 h in omega arith
+    by false true h k e = let same = eqb-true b 47 k in omega arith
     by false false h k e = absurd (cc)
 
 arguments-lawful : (c : Bool) → Lawful c (λ edition. arguments) (λ edition. arguments)
@@ -71,9 +70,6 @@ arguments-lawful c r s =
     shorter : (o : Option (List ℕ)) → IfBehind 41 r o → r ≡ 40 ∷ past_one r → length (left_after (closed_or ended o)) < length r
     shorter None h e = omega (arith, ap length e)
     shorter (Some rest) h e = omega (arith, ap length h.1, length-append h.0 (41 ∷ rest))
-
-pub arguments-stands : (text : List ℕ) → Stands text no_texts (arguments text)
-arguments-stands text = lawful-stands (λ edition. arguments) (λ edition. arguments) (arguments-lawful true) first_edition text
 
 past_hash-lawful : (c : Bool) → Lawful c (λ edition text. got (tt {0}) (past_hash (name edition text))) (λ edition text. got tt (past_hash (name edition text)))
 past_hash-lawful c r s = record {
@@ -155,7 +151,7 @@ single-cuts edition b text = cuts-if (b ∷ text) (is_single edition b text) (go
 
 slash_passed : (t text : List ℕ) (b : ℕ) → (b == 47) ≡ true → Passed false t (word second_edition (b ∷ text))
 slash_passed t text b e =
-    subst (Passed false t) (sym (slash_word second_edition text) ∙ ap (λ (k : ℕ). word second_edition (k ∷ text)) (sym (same_byte b 47 e))) tt
+    subst (Passed false t) (sym (slash_word second_edition text) ∙ ap (λ (k : ℕ). word second_edition (k ∷ text)) (sym (eqb-true b 47 e))) tt
 
 -- The test comes out the same. Or a comment opens in the first tail: then the slash begins no term.
 single-behind : (edition : Edition) (c : Bool) (t : List ℕ) (b : ℕ) (r s : List ℕ) → (starts 42 r ≡ starts 42 s) ⊎ ((c ≡ false) × (r ≡ t) × (starts 42 r ≡ true)) → (is_single edition b r ≡ is_single edition b s) ⊎ Passed c t (single edition b r)
@@ -178,7 +174,7 @@ single-seam edition c t u (at_quiet _ q more w z) b d r s at = inr (takes-passed
 pub term-lawful : (c : Bool) → Lawful c term term
 unfolding term
 term-lawful c = lawful-cases term term (λ e. term-cuts) (owes-fails ended ended [] []) (λ b r s.
-    owes-so (b == 35) _ _ (λ e. owes-past b (omega (arith, same_byte b 35 e)) (past_hash-lawful c r s)) (λ e0.
+    owes-so (b == 35) _ _ (λ e. owes-past b (omega (arith, eqb-true b 35 e)) (past_hash-lawful c r s)) (λ e0.
     owes-so (begins_number b) _ _ (λ e. owes-past b (number_low b e) (past_number-lawful c r s)) (λ e1.
     owes-so (is_quote b) _ _ (λ e. owes-past b (quote_low b e) (quoted-lawful c b e r s)) (λ e2.
     owes-choice (b ∷ r) (b ∷ s) (λ edition. is_single edition b r) (λ edition. is_single edition b s) _ _ _ _
@@ -276,7 +272,7 @@ semicolon-well [] = tt
 semicolon-well (b ∷ text) = by (b == 59) refl
   where
     by : (k : Bool) → (b == 59) ≡ k → WellFound {A = Unit {0}} (b ∷ text) (if k then Some (tt, past_blank text) else None)
-    by true e = well-then (b ∷ text) text (past_blank text) (well-tail b text (omega (arith, same_byte b 59 e))) (well-past_blank text)
+    by true e = well-then (b ∷ text) text (past_blank text) (well-tail b text (omega (arith, eqb-true b 59 e))) (well-past_blank text)
     by false e = tt
 
 pub semicolon-takes : Takes semicolon

@@ -1,8 +1,12 @@
 -- What `each` reads, step by step.
 -- Serves every loop that reads: `scan::closed_part`, the tokenizers, `take_value`, `consume_parts`
 -- and `read_rules`.
-use Rattle.std.proofs.Common.{◌≡◌, ℕ, zero, suc, ◌<◌, ◌≤◌, List, [], ◌∷◌, length, Option, Some, None, arith, refl, sym, ap, ◌∙◌, ◌⊎◌, inl, inr, subst, ◌++◌, append_assoc, append-nil}
+use Rattle.std.proofs.Common.{◌==◌, false, ◌≡◌, ℕ, zero, suc, ◌<◌, ◌≤◌, List, [], ◌∷◌, length, Option, Some, None, arith, refl, sym, ap, ◌∙◌, ◌⊎◌, inl, inr, subst, ◌++◌, append_assoc, append-nil}
 use Rattle.simplecss_text.specs.Reading.{followed_by, up_to, each}
+
+-- a text with a byte is not empty
+pub not_empty : (b : ℕ) (text : List ℕ) → (length (b ∷ text) == 0) ≡ false
+not_empty b text = grind arith
 
 -- if something was taken off the text, less is left
 abbrev pub Shrinks : {A : Type 0} → List ℕ → Option (A × List ℕ) → Type 0

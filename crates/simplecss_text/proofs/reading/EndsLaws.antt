@@ -139,6 +139,11 @@ pub stands-ends : {A : Type 0} (text : List ℕ) (texts : A → List (List ℕ))
 stands-ends text texts (got x rest) h = stand-ends text rest (texts x) h.at
 stands-ends text texts (fails fault rest) h = h.at
 
+-- a reading whose texts are not seen, by what it leaves
+pub stands-none : {A : Type 0} (text : List ℕ) (r : Reading A) → Ends text (left_after r) → Stands text no_texts r
+stands-none text (got x rest) h = record { at = h }
+stands-none text (fails fault rest) h = record { at = h }
+
 -- the texts need not be seen
 pub stands-unseen : {A : Type 0} (text : List ℕ) (texts : A → List (List ℕ)) (r : Reading A) → Stands text texts r → Stands text no_texts r
 stands-unseen text texts (got x rest) h = record { at = stand-ends text rest (texts x) h.at }

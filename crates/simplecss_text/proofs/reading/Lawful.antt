@@ -9,7 +9,7 @@ use Rattle.simplecss_text.specs.Characters.{Edition, first_edition, second_editi
 use Rattle.simplecss_text.specs.Comments.{blank}
 use Rattle.simplecss_text.specs.Names.{name}
 use Rattle.simplecss_text.specs.Strings.{is_quote, string_after}
-use Rattle.simplecss_text.proofs.reading.EndsLaws.{Stands, length-ends, no_texts}
+use Rattle.simplecss_text.proofs.reading.EndsLaws.{Stands, length-ends, no_texts, stands-none}
 use Rattle.simplecss_text.proofs.reading.TakesLaws.{Cuts, Keeps, keeps-cuts}
 use Rattle.simplecss_text.proofs.reading.WellLaws.{EndsWell, well-blank, well-byte, well-name, well-past, well-past_byte, well-same, well-sign, well-string, well-tail, well-then}
 use Rattle.simplecss_text.proofs.reading.LocalLaws.{Along, Equal, Guard, Passed, Quiet, Seam, To, at, at-brace, beyond-less, beyond-within, byte-guarded, guard-follow, guard-got, on, passed-beyond, past-seam, past_byte-to, past_one-to, starts-seam}
@@ -176,11 +176,7 @@ owes-cuts {r = r} {a = a} k p edition = keeps-cuts r (k ∷ r) (a edition) (omeg
 
 -- it is an end of the text
 pub lawful-stands : {A : Type 0} {c : Bool} (m n : Edition → Reader A) → Lawful c m n → (edition : Edition) (text : List ℕ) → Stands text no_texts (m edition text)
-lawful-stands {A = A} m n p edition text = by (m edition text) ((p text text).left edition).0
-  where
-    by : (r : Reading A) → Ends text (left_after r) → Stands text no_texts r
-    by (got x rest) h = record { at = h }
-    by (fails f rest) h = record { at = h }
+lawful-stands m n p edition text = stands-none text (m edition text) ((p text text).left edition).0
 
 -- it is UTF-8 if the text is
 pub lawful-text : {A : Type 0} {c : Bool} (m n : Edition → Reader A) → Lawful c m n → (edition : Edition) (text : List ℕ) → IsUtf8 text → IsUtf8 (left_after (m edition text))

@@ -3,7 +3,6 @@
 -- Serves `Lawful` (what every reader owes): `StyleSheet::{parse, parse_all, parse_more}` and
 -- `laws::cutting_law`.
 use Rattle.std.proofs.Common.{◌≡◌, ℕ, zero, suc, ◌+◌, ◌-◌, ◌<◌, ◌≤◌, List, [], ◌∷◌, ◌++◌, Bool, true, false, if◌then◌else◌, ◌==◌, length, take, drop, length-drop, length-append, Option, Some, None, arith, refl, ap, ◌⊎◌, inl, inr, one-add, IsUtf8}
-use Rattle.std.proofs.lemmas.Bool.Decides.{nat_tests}
 use Rattle.std.specs.List.{prefix_len}
 use Rattle.simplecss_text.specs.Reading.{Fault, Reading, got, fails, Reader, follow, followed_by, each, left_after, before}
 use Rattle.simplecss_text.specs.Bytes.{past, past_one, past_byte, starts, byte, is_digit}
@@ -134,10 +133,6 @@ left-to R t u (fails f r) (got y s) (inr h) = absurd h
 left-to R t u (fails f r) (fails e s) (inr h) = inr h
 
 -- ---- bytes
-
--- a text with a byte has a length that is not 0
-pub not_empty : (b : ℕ) (text : List ℕ) → (length (b ∷ text) == 0) ≡ false
-not_empty b text = grind (arith, nat_tests)
 
 -- behind the first byte
 pub past_one-to : (c : Bool) (t u r s : List ℕ) → 0 < length r → Along t u r s → To c t u (past_one r) (past_one s)

@@ -1,7 +1,7 @@
 -- The pieces of a selector owe what every reader owes, and take bytes.
 -- Serves `SelectorTokenizer`, `StyleSheet::{parse, parse_more}` and `laws::{cutting_law,
 -- edition_law}`.
-use Rattle.std.proofs.Common.{◌≡◌, ◌≤◌, Bool, List, [], ap, arith, bytes_eq, codes, false, if◌then◌else◌, inl, inr, length, not, refl, subst, true, ℕ, ◌++◌, ◌==◌, ◌∷◌, ◌<◌}
+use Rattle.std.proofs.Common.{◌≡◌, ◌≤◌, Bool, List, [], ap, arith, bytes_eq, codes, false, if◌then◌else◌, inl, inr, length, not, refl, subst, true, ℕ, ◌++◌, ◌==◌, ◌∷◌, ◌<◌, eqb-true}
 use Rattle.std.specs.List.{list_any}
 use Rattle.std.specs.Str.{trim}
 use Rattle.simplecss_text.specs.Reading.{Ends, Reading, before, each, ended, fails, follow, got, left_after, no_attribute_form, no_comment, no_language, no_selector}
@@ -22,7 +22,6 @@ use Rattle.simplecss_text.proofs.reading.TakesLaws.{Cuts, cuts-follow, follow-cu
 use Rattle.simplecss_text.proofs.reading.EndsLaws.{ends-same}
 use Rattle.simplecss_text.proofs.reading.KindLaws.{HasSign, sign-begins}
 use Rattle.simplecss_text.proofs.reading.WellLaws.{well-behind, well-until}
-use Rattle.simplecss_text.proofs.printed.PrintedHeads.{same_byte}
 use Rattle.simplecss_text.proofs.printed.ReadValues.{quote_low}
 use Rattle.simplecss_text.proofs.reading.Lawful.{Lawful, Owes, byte-lawful, lawful-cases, name-lawful, owes-alike, owes-cuts, owes-fails, owes-follow, owes-give, owes-if, owes-past, owes-past_one, owes-so, string_after-lawful}
 use Rattle.simplecss_text.proofs.reading.LocalLaws.{Along, Equal, Guard, Never, Repeats, To, at, at-brace, before-along, on, pairs-equal, past-both}
@@ -49,8 +48,8 @@ unfolding attribute_operator
 attribute_operator-lawful = lawful-cases attribute_operator attribute_operator (λ e. absurd (cc)) (owes-fails ended ended [] []) (λ b r s.
     owes-if (b == 93) (owes-give exists (b ∷ r) (b ∷ s))
     (owes-if (b == 61) (equated-lawful equals (b ∷ r) (b ∷ s))
-    (owes-so (b == 126) _ _ (λ e. owes-past b (omega (arith, same_byte b 126 e)) (equated-lawful has_word r s)) (λ f.
-    owes-so (b == 124) _ _ (λ e. owes-past b (omega (arith, same_byte b 124 e)) (equated-lawful begins_with r s)) (λ g.
+    (owes-so (b == 126) _ _ (λ e. owes-past b (omega (arith, eqb-true b 126 e)) (equated-lawful has_word r s)) (λ f.
+    owes-so (b == 124) _ _ (λ e. owes-past b (omega (arith, eqb-true b 124 e)) (equated-lawful begins_with r s)) (λ g.
     owes-fails no_attribute_form no_attribute_form (b ∷ r) (b ∷ s))))))
 
 attribute_after-lawful : Lawful true attribute_after attribute_after

@@ -1,23 +1,20 @@
 -- What each reader leaves is an end of the text, and what it gives stands before that end.
 -- Serves `next` of `SelectorTokenizer` (slices in order), `consume_declaration`,
 -- `laws::cutting_law` and `laws::edition_law`.
-use Rattle.std.proofs.Common.{◌≡◌, ℕ, ◌<◌, ◌+◌, List, [], ◌∷◌, ◌++◌, Bool, true, false, if◌then◌else◌, ◌&&◌, ◌==◌, not, bytes_eq, length, take, drop, get_or, Option, Some, None, arith, refl, sym, ap, ◌∙◌, subst, encode_utf8_all, codes, append_assoc, append-nil, IsUtf8, length-append, length-drop, cond, ◌⊎◌, inl, inr}
-use Rattle.std.specs.Str.{chars, trim, trim_start, trim_end, skip_leading_whitespace, drop_trailing_whitespace, all_scalars, IsCharBoundary}
+use Rattle.std.proofs.Common.{◌≡◌, ℕ, ◌<◌, List, [], ◌∷◌, ◌++◌, Bool, true, false, if◌then◌else◌, ◌&&◌, ◌==◌, not, bytes_eq, length, take, Option, Some, None, arith, refl, sym, ap, ◌∙◌, subst, encode_utf8_all, codes, append_assoc, append-nil, IsUtf8, length-drop, cond}
+use Rattle.std.specs.Str.{chars, trim, trim_start, trim_end, skip_leading_whitespace, drop_trailing_whitespace, all_scalars}
 use Rattle.std.specs.Char.{is_whitespace}
-use Rattle.std.specs.Option.{option_map}
-use Rattle.std.specs.List.{prefix_len, take_while}
-use Rattle.std.proofs.lemmas.Str.{encodes-append, encodes-chars, scalars-chars, chars-encodes, IsUtf8-take, IsUtf8-drop, IsCharBoundary-end, IsCharBoundary-after_ascii, IsCharBoundary-before_ascii}
-use Rattle.std.proofs.lemmas.List.Sums.{prefix_len_stops, prefix_len-le-length}
-use Rattle.std.proofs.Math.Seq.{get_or-append_seam, drop-append-add}
-use Rattle.std.proofs.lemmas.Bool.{eqb-true, not-false}
-use Rattle.std.proofs.Math.Nat.{eq-or-lt_of_le}
+use Rattle.std.specs.List.{prefix_len}
+use Rattle.std.proofs.lemmas.Str.{encodes-append, encodes-chars, scalars-chars, chars-encodes, IsUtf8-take}
+use Rattle.std.proofs.lemmas.List.Sums.{prefix_len-le-length}
+use Rattle.std.proofs.lemmas.Bool.{eqb-true}
 use Rattle.std.proofs.lemmas.Slice.Eq.{bytes_eq-Decides}
-use Rattle.simplecss_text.specs.Reading.{no_name, no_comment, no_language, wrong_byte, Reading, got, fails, before, Ends}
-use Rattle.simplecss_text.specs.Bytes.{past, past_one, past_byte, byte, starts_two}
+use Rattle.simplecss_text.specs.Reading.{no_name, no_language, wrong_byte, Reading, got, fails, before, Ends}
+use Rattle.simplecss_text.specs.Bytes.{past, past_one, past_byte, byte}
 use Rattle.simplecss_text.specs.declared.next_kind.NextKind.{NextKind}
 use Rattle.simplecss_text.specs.declared.next_kind.NextKind.TheVariants.{Stop, Slash, Child, Adjacent, Universal, Id, Class, Attribute, Colon, Other}
-use Rattle.simplecss_text.specs.Characters.{Edition, is_name_char, is_space}
-use Rattle.simplecss_text.specs.Comments.{opens_comment, after_close, after_comment, blank_part, past_blank, blank, has_space, gap}
+use Rattle.simplecss_text.specs.Characters.{Edition}
+use Rattle.simplecss_text.specs.Comments.{past_blank, blank, gap}
 use Rattle.simplecss_text.specs.Names.{begins_name, past_name_chars, name}
 use Rattle.simplecss_text.specs.Strings.{is_quote, from_quote, string_up_to, string_or_name}
 use Rattle.simplecss_text.specs.Slices.{StandBetween}
@@ -27,7 +24,9 @@ use Rattle.simplecss_text.specs.Tokens.{Token, token_texts, operator_texts}
 use Rattle.simplecss_text.specs.Tokens.Token.{universal_selector, type_selector, id_selector, class_selector, attribute_selector, named_pseudo_class, lang_pseudo_class, child_combinator, adjacent_combinator}
 use Rattle.simplecss_text.specs.Pieces.{attribute_operator, equated, attribute_after, lang_of, lang_after, pseudo_class_named, pseudo_class_after, named_token, next_kind, solid_as, solid}
 use Rattle.simplecss_text.proofs.reading.KindLaws.{sign-begins}
-use Rattle.simplecss_text.proofs.reading.EndsLaws.{before-append, ends-append, ends-by, ends-same, ends-nil, ends-drop, ends-cons, ends-tail, ends-past_one, ends-past_byte, ends-past, EndsSome, ends_some-if, ends_some-ends, EndsFound, each-ends, stand-from, stand-to, stand-ends, stand-before, Stands, no_texts, itself, stands-unseen, stands-from, stands-if, stands-then, stands-follow}
+use Rattle.simplecss_text.proofs.reading.WellLaws.{ends-past_name_chars, well-blank, well-gap, well-past_blank}
+use Rattle.simplecss_text.proofs.bytes.Utf8Laws.{until-boundary, utf8-behind}
+use Rattle.simplecss_text.proofs.reading.EndsLaws.{before-append, ends-append, ends-by, ends-same, ends-nil, ends-tail, ends-past_one, ends-past_byte, ends-past, EndsSome, ends_some-if, ends_some-ends, stand-from, stand-to, stand-ends, stand-before, Stands, no_texts, itself, stands-unseen, stands-from, stands-if, stands-none, stands-then, stands-follow}
 
 -- ---- bytes, comments and blanks
 
@@ -35,54 +34,22 @@ pub byte-stands : (c : ℕ) (text : List ℕ) → Stands text no_texts (byte c t
 byte-stands c [] = record { at = ends-same [] }
 byte-stands c (b ∷ text) = stands-if (b ∷ text) no_texts (b == c) (got (tt {0}) text) (fails (wrong_byte c (b ∷ text)) (b ∷ text)) (record { at = ends-tail b text }) (record { at = ends-same (b ∷ text) })
 
-after_close-ends : (text : List ℕ) → EndsSome text (after_close text)
-after_close-ends [] = tt
-after_close-ends (b ∷ text) =
-    ends_some-if (b ∷ text) (starts_two 42 47 (b ∷ text)) (Some (past_one text)) (after_close text)
-    (ends-cons b text (past_one text) (ends-past_one text))
-    (ends_some-ends (b ∷ text) text (after_close text) (ends-tail b text) (after_close-ends text))
-
-after_comment-ends : (text : List ℕ) → EndsSome text (after_comment text)
-after_comment-ends text = ends_some-ends text (drop 2 text) (after_comment text) (ends-drop 2 text) (after_close-ends (drop 2 text))
-
-blank_part-ends : (text : List ℕ) → EndsFound text (blank_part text)
-blank_part-ends [] = tt
-blank_part-ends (b ∷ text) = by (is_space b) (opens_comment (b ∷ text)) (after_comment (b ∷ text)) (after_comment-ends (b ∷ text))
-  where
-    by : (s o : Bool) (c : Option (List ℕ)) → EndsSome (b ∷ text) c → EndsFound (b ∷ text) (if s then Some (true, text) else (if o then option_map (λ rest. (false, rest)) c else None))
-    by true o c h = ends-tail b text
-    by false true None h = tt
-    by false true (Some rest) h = h
-    by false false c h = tt
-
 pub ends-past_blank : (text : List ℕ) → Ends text (past_blank text)
-ends-past_blank text = each-ends blank_part blank_part-ends text
+ends-past_blank text = (well-past_blank text).0
 
 pub blank-stands : (text : List ℕ) → Stands text no_texts (blank text)
-unfolding blank
-blank-stands text =
-    stands-if text no_texts (opens_comment (past_blank text)) (fails (no_comment (past_blank text)) []) (got (tt {0}) (past_blank text))
-    (record { at = ends-nil text }) (record { at = ends-past_blank text })
+blank-stands text = stands-none text (blank text) (well-blank text).0
 
 pub gap-stands : (text : List ℕ) → Stands text no_texts (gap text)
-unfolding gap
-gap-stands text = stands-follow text no_texts no_texts (blank text) (λ u. got (has_space text)) (blank-stands text) (λ u rest e h. record { at = h })
+gap-stands text = stands-none text (gap text) (well-gap text).0
 
 -- ---- names and values
-
-ends-past_name_chars : (edition : Edition) (text : List ℕ) → Ends text (past_name_chars edition text)
-unfolding past_name_chars
-ends-past_name_chars edition text = ends-drop (length (encode_utf8_all (take_while (is_name_char edition) (chars text)))) text
 
 pub name-stands : (edition : Edition) (text : List ℕ) → Stands text itself (name edition text)
 unfolding name
 name-stands edition text =
     stands-if text itself (begins_name edition (chars text)) (got (before text (past_name_chars edition text)) (past_name_chars edition text)) (fails (no_name text) (past_byte 45 text))
     (record { at = stand-before text (past_name_chars edition text) (ends-past_name_chars edition text) }) (record { at = ends-past_byte 45 text })
-
--- the same, where the name is not seen
-pub name_unseen-stands : (edition : Edition) (text : List ℕ) → Stands text no_texts (name edition text)
-name_unseen-stands edition text = stands-unseen text itself (name edition text) (name-stands edition text)
 
 pub from_quote-ends : (quote previous : ℕ) (text : List ℕ) → EndsSome text (from_quote quote previous text)
 from_quote-ends quote previous [] = tt
@@ -131,33 +98,7 @@ attribute_after-stands edition text =
 
 -- ---- languages
 
--- behind an ASCII character stands the UTF-8 of some characters
-pub utf8-behind : (text rest : List ℕ) (b : ℕ) → b < 128 → IsUtf8 text → Ends text (b ∷ rest) → IsUtf8 rest
-utf8-behind text rest b ascii u e =
-    let front = before text (b ∷ rest) in
-    let at : get_or text (length front) 0 ≡ b = ap (λ (t : List ℕ). get_or t (length front) 0) (sym e) ∙ get_or-append_seam front b rest 0 in
-    let len : length front + length (b ∷ rest) ≡ length text = sym (length-append front (b ∷ rest)) ∙ ap length e in
-    let left : drop (length front + 1) text ≡ rest = ap (drop (length front + 1)) (sym e) ∙ drop-append-add front (b ∷ rest) 1 in
-    let cut : IsCharBoundary text (length front + 1) = IsCharBoundary-after_ascii text (length front) u (omega arith) (omega arith) in
-    subst IsUtf8 left (IsUtf8-drop text (length front + 1) u cut)
-
--- the first such byte is at the boundary of a character
-pub until-boundary : (text : List ℕ) (c : ℕ) → c < 128 → IsUtf8 text → IsCharBoundary text (prefix_len (λ b. not (b == c)) text)
-until-boundary text c ascii u = by (eq-or-lt_of_le (prefix_len-le-length other text))
-  where
-    other : ℕ → Bool
-    other b = not (b == c)
-
-    k : ℕ
-    k = prefix_len other text
-
-    by : (k ≡ length text) ⊎ (k < length text) → IsCharBoundary text k
-    by (inl all) = subst (IsCharBoundary text) (sym all) (IsCharBoundary-end text)
-    by (inr some) =
-        let closing : get_or text k 0 ≡ c = eqb-true (get_or text k 0) c (not-false (get_or text k 0 == c) (prefix_len_stops other text 0 some)) in
-        IsCharBoundary-before_ascii text k some (omega arith)
-
--- what stands before the first such byte is the UTF-8 of some characters
+-- what is before the first such byte is UTF-8
 utf8-before : (text : List ℕ) (c : ℕ) → c < 128 → IsUtf8 text → IsUtf8 (take (prefix_len (λ b. not (b == c)) text) text)
 utf8-before text c ascii u = IsUtf8-take text (prefix_len (λ b. not (b == c)) text) u (until-boundary text c ascii u)
 

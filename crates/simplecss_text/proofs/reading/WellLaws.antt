@@ -1,20 +1,20 @@
 -- What is left after reading: an end of the text, and UTF-8 if the text is.
 -- Serves `StyleSheet::{parse, parse_more}` and `laws::{cutting_law, edition_law}`.
-use Rattle.std.proofs.Common.{◌≡◌, ℕ, ◌<◌, List, [], ◌∷◌, Bool, true, false, if◌then◌else◌, ◌==◌, not, arith, Option, Some, None, zero, suc, length, refl, sym, subst, IsUtf8}
-use Rattle.std.specs.List.{prefix_len}
+use Rattle.std.proofs.Common.{ap, encode_utf8_all, ◌≡◌, ℕ, ◌<◌, List, [], ◌∷◌, Bool, true, false, if◌then◌else◌, ◌==◌, not, arith, Option, Some, None, zero, suc, length, refl, sym, subst, IsUtf8, eqb-true}
+use Rattle.std.specs.List.{prefix_len, take_while}
+use Rattle.std.specs.Option.{option_map}
+use Rattle.std.specs.Str.{chars}
 use Rattle.std.proofs.lemmas.Str.{IsUtf8-nil, IsUtf8-drop}
-use Rattle.simplecss_text.specs.Reading.{Fault, Ends, Reading, and_then, each, fails, follow, got, left_after, no_comment, up_to, wrong_byte}
+use Rattle.simplecss_text.specs.Reading.{Fault, Ends, Reading, and_then, before, each, fails, follow, got, left_after, no_comment, no_name, up_to, wrong_byte}
 use Rattle.simplecss_text.specs.Bytes.{byte, closed_or, past, past_byte, past_one, starts}
-use Rattle.simplecss_text.specs.Characters.{Edition}
-use Rattle.simplecss_text.specs.Comments.{blank, gap, has_space, opens_comment, past_blank}
-use Rattle.simplecss_text.specs.Names.{name}
+use Rattle.simplecss_text.specs.Characters.{Edition, is_name_char, is_space}
+use Rattle.simplecss_text.specs.Comments.{after_close, after_comment, blank, blank_part, gap, has_space, opens_comment, past_blank}
+use Rattle.simplecss_text.specs.Names.{begins_name, name, past_name_chars}
 use Rattle.simplecss_text.specs.Strings.{from_quote, string_after, string_up_to}
-use Rattle.simplecss_text.proofs.reading.EndsLaws.{EndsFound, ends-by, ends-ends, ends-nil, ends-past, ends-past_byte, ends-same, ends-tail, itself, stands-ends}
-use Rattle.simplecss_text.proofs.reading.StandLaws.{ends-past_blank, name-stands, until-boundary, utf8-behind}
-use Rattle.simplecss_text.proofs.bytes.Utf8Laws.{utf8-past, utf8-past_byte_if}
-use Rattle.simplecss_text.proofs.printed.GotLaws.{IfBehind, starts-cons}
-use Rattle.simplecss_text.proofs.printed.PrintedHeads.{same_byte}
-use Rattle.simplecss_text.proofs.printed.ReadBlanks.{past_blank-utf8}
+use Rattle.simplecss_text.proofs.reading.EndsLaws.{EndsFound, ends-drop, ends-by, ends-ends, ends-nil, ends-past, ends-past_byte, ends-same, ends-tail}
+use Rattle.simplecss_text.proofs.bytes.Utf8Laws.{until-boundary, utf8-behind, utf8-past, utf8-past_byte_if}
+use Rattle.simplecss_text.proofs.bytes.CutLemmas.{is_space-ascii}
+use Rattle.simplecss_text.proofs.printed.GotLaws.{IfBehind, after_close-behind, starts-cons}
 use Rattle.simplecss_text.proofs.printed.ReadNames.{name-fails, name-is}
 use Rattle.simplecss_text.proofs.printed.ReadStrings.{IfCloses, from_quote-closes}
 
@@ -51,7 +51,7 @@ well-byte c [] low = well-same []
 well-byte c (b ∷ text) low = by (b == c) refl
   where
     by : (k : Bool) → (b == c) ≡ k → EndsWell (b ∷ text) (left_after (if k then got (tt {0}) text else fails (wrong_byte c (b ∷ text)) (b ∷ text)))
-    by true e = well-tail b text (omega (arith, same_byte b c e))
+    by true e = well-tail b text (omega (arith, eqb-true b c e))
     by false e = well-same (b ∷ text)
 
 -- a run of ASCII bytes
@@ -66,41 +66,6 @@ well-until c low text = (ends-past (λ b. not (b == c)) text, λ u. IsUtf8-drop 
 pub well-closed : (c : ℕ) (text : List ℕ) (fault : Fault) (o : Option (List ℕ)) → c < 128 → IfBehind c text o → EndsWell text (left_after (closed_or fault o))
 well-closed c text fault None low h = well-nil text
 well-closed c text fault (Some rest) low h = well-behind c text rest low (ends-by text h.0 (c ∷ rest) (sym h.1))
-
--- ---- blanks, names, strings
-
-pub well-past_blank : (text : List ℕ) → EndsWell text (past_blank text)
-well-past_blank text = (ends-past_blank text, past_blank-utf8 text)
-
-pub well-blank : (text : List ℕ) → EndsWell text (left_after (blank text))
-unfolding blank
-well-blank text = by (opens_comment (past_blank text))
-  where
-    by : (k : Bool) → EndsWell text (left_after (if k then fails (no_comment (past_blank text)) [] else got (tt {0}) (past_blank text)))
-    by true = well-nil text
-    by false = well-past_blank text
-
-pub well-gap : (text : List ℕ) → EndsWell text (left_after (gap text))
-unfolding gap
-well-gap text = by (blank text) (well-blank text)
-  where
-    by : (r : Reading (Unit {0})) → EndsWell text (left_after r) → EndsWell text (left_after (follow r (λ x. got (has_space text))))
-    by (got x rest) h = h
-    by (fails fault rest) h = h
-
-pub well-name : (edition : Edition) (text : List ℕ) → EndsWell text (left_after (name edition text))
-well-name edition text = (stands-ends text itself (name edition text) (name-stands edition text), λ u. by u (name edition text) refl)
-  where
-    by : IsUtf8 text → (r : Reading (List ℕ)) → name edition text ≡ r → IsUtf8 (left_after r)
-    by u (got n rest) e = (name-is edition text n rest u e).rest_is
-    by u (fails fault rest) e = subst IsUtf8 (sym (name-fails edition text rest fault e).1) (utf8-past_byte_if 45 text (omega arith) u)
-
-pub well-string : (quote : ℕ) (text : List ℕ) → quote < 128 → EndsWell text (left_after (string_after quote text))
-well-string quote text low = by (from_quote quote quote text) (from_quote-closes quote quote text)
-  where
-    by : (o : Option (List ℕ)) → IfCloses quote quote text o → EndsWell text (left_after (string_up_to text o))
-    by None c = well-nil text
-    by (Some closing) c = rw c.closing_is (well-behind quote text c.behind low (ends-by text c.front (quote ∷ c.behind) (sym c.is)))
 
 -- ---- what repeats
 
@@ -127,3 +92,67 @@ up_to-well {A = A} read well (suc n) text = by (λ t. up_to-well read well n t) 
 pub each-well : {A : Type 0} (read : List ℕ → Option (A × List ℕ)) → ((text : List ℕ) → WellFound text (read text)) → (text : List ℕ) → EndsWell text (each read text).1
 unfolding each
 each-well read well text = up_to-well read well (length text) text
+
+-- ---- blanks, names, strings
+
+blank_part-well : (text : List ℕ) → WellFound text (blank_part text)
+blank_part-well [] = tt
+blank_part-well (b ∷ text) = by (is_space b) (opens_comment (b ∷ text)) refl
+  where
+    closed : (c : ℕ) (text : List ℕ) (o : Option (List ℕ)) → IfBehind 47 text o → WellFound (b ∷ c ∷ text) (option_map (λ rest. (false, rest)) o)
+    closed c text None h = tt
+    closed c text (Some rest) h = well-behind 47 (b ∷ c ∷ text) rest (omega arith) (ends-by (b ∷ c ∷ text) (b ∷ c ∷ h.0) (47 ∷ rest) (sym (ap (λ l. b ∷ c ∷ l) h.1)))
+
+    comment : (text : List ℕ) → WellFound (b ∷ text) (option_map (λ rest. (false, rest)) (after_comment (b ∷ text)))
+    comment [] = tt
+    comment (c ∷ text) = closed c text (after_close text) (after_close-behind text)
+
+    by : (s o : Bool) → is_space b ≡ s → WellFound (b ∷ text) (if s then Some (true, text) else (if o then option_map (λ rest. (false, rest)) (after_comment (b ∷ text)) else None))
+    by true o e = well-tail b text (is_space-ascii b e)
+    by false true e = comment text
+    by false false e = tt
+
+pub well-past_blank : (text : List ℕ) → EndsWell text (past_blank text)
+well-past_blank text = each-well blank_part blank_part-well text
+
+pub well-blank : (text : List ℕ) → EndsWell text (left_after (blank text))
+unfolding blank
+well-blank text = by (opens_comment (past_blank text))
+  where
+    by : (k : Bool) → EndsWell text (left_after (if k then fails (no_comment (past_blank text)) [] else got (tt {0}) (past_blank text)))
+    by true = well-nil text
+    by false = well-past_blank text
+
+pub well-gap : (text : List ℕ) → EndsWell text (left_after (gap text))
+unfolding gap
+well-gap text = by (blank text) (well-blank text)
+  where
+    by : (r : Reading (Unit {0})) → EndsWell text (left_after r) → EndsWell text (left_after (follow r (λ x. got (has_space text))))
+    by (got x rest) h = h
+    by (fails fault rest) h = h
+
+pub ends-past_name_chars : (edition : Edition) (text : List ℕ) → Ends text (past_name_chars edition text)
+unfolding past_name_chars
+ends-past_name_chars edition text = ends-drop (length (encode_utf8_all (take_while (is_name_char edition) (chars text)))) text
+
+ends-name : (edition : Edition) (text : List ℕ) → Ends text (left_after (name edition text))
+unfolding name
+ends-name edition text = by (begins_name edition (chars text))
+  where
+    by : (k : Bool) → Ends text (left_after (if k then got (before text (past_name_chars edition text)) (past_name_chars edition text) else fails (no_name text) (past_byte 45 text)))
+    by true = ends-past_name_chars edition text
+    by false = ends-past_byte 45 text
+
+pub well-name : (edition : Edition) (text : List ℕ) → EndsWell text (left_after (name edition text))
+well-name edition text = (ends-name edition text, λ u. by u (name edition text) refl)
+  where
+    by : IsUtf8 text → (r : Reading (List ℕ)) → name edition text ≡ r → IsUtf8 (left_after r)
+    by u (got n rest) e = (name-is edition text n rest u e).rest_is
+    by u (fails fault rest) e = subst IsUtf8 (sym (name-fails edition text rest fault e).1) (utf8-past_byte_if 45 text (omega arith) u)
+
+pub well-string : (quote : ℕ) (text : List ℕ) → quote < 128 → EndsWell text (left_after (string_after quote text))
+well-string quote text low = by (from_quote quote quote text) (from_quote-closes quote quote text)
+  where
+    by : (o : Option (List ℕ)) → IfCloses quote quote text o → EndsWell text (left_after (string_up_to text o))
+    by None c = well-nil text
+    by (Some closing) c = rw c.closing_is (well-behind quote text c.behind low (ends-by text c.front (quote ∷ c.behind) (sym c.is)))

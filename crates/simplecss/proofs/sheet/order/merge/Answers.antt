@@ -6,7 +6,8 @@ use Rattle.simplecss_text.specs.Statements.{has_declaration}
 use Rattle.simplecss_text.specs.Sheets.{is_smaller, ordered}
 use Rattle.simplecss.specs.SeenRules.{rule_of}
 use Rattle.simplecss_text.proofs.order.OrderLemmas.{smaller_order}
-use Rattle.simplecss_text.proofs.order.RankLemmas.{filter-map, ordered_filter}
+use Rattle.simplecss_text.proofs.order.ListFacts.{filter-map}
+use Rattle.simplecss_text.proofs.order.RankLemmas.{ordered_filter}
 use Rattle.simplecss.proofs.sheet.order.merge.Goals as goal
 
 -- the rules are dropped after they are ordered, since the order may fail for memory
