@@ -11,7 +11,7 @@ use Rattle.simplecss_text.proofs.reading.TakesLaws.{Leaves, after_close-leaves, 
 use Rattle.simplecss_text.proofs.reading.LocalLaws.{Along, at, on}
 use Rattle.simplecss_text.proofs.reading.SearchLaws.{FindsAlike, close-along}
 
--- a space byte in front of a blank belongs to it
+-- a space byte before a blank belongs to it
 pub past_blank-space : (b : ℕ) (text : List ℕ) → is_space b ≡ true → past_blank (b ∷ text) ≡ past_blank text
 past_blank-space b text e =
     let part : blank_part (b ∷ text) ≡ Some (true, text) = rw e refl in

@@ -79,7 +79,7 @@ stated-is edition name start important text w n = by (terms-end edition start)
         let v : trim (before start (last_or start (terms edition start).0)) ≡ trim (before start x.0) = ap (λ t. trim (before start t)) (x.2 start) in
         subst P (sym v) (some_stated (trim (before start x.0)) (value_text-is edition x.0 start n x.1))
 
--- the declaration, from what stands behind its name
+-- the declaration, from what follows its name
 abbrev behind_name : Edition → List ℕ → Reader StyleDeclaration
 behind_name edition name c = follow (blank c) (λ x d. follow (byte 58 d) (λ x e. follow (blank e) (λ x start. follow (trailing (value edition start).1) (stated_as edition name start (value edition start).0))))
 
@@ -93,7 +93,7 @@ named-is edition name c w n =
     if_got-follow (λ important rest. Unit {0}) P (trailing (value edition start).1) _ (if_got (λ important rest. Unit {0}) (trailing (value edition start).1) (λ important rest g. tt)) (λ important h t.
     stated-is edition name start important h w ns))))
 
--- behind a name that ends the text stands no colon
+-- after a name that ends the text there is no colon
 ended-is : (edition : Edition) (name c : List ℕ) → c ≡ [] → IfGot (λ p rest. IsDeclaration edition p) (behind_name edition name c)
 unfolding blank each
 ended-is edition name c e = subst (λ (t : List ℕ). IfGot (λ p rest. IsDeclaration edition p) (behind_name edition name t)) (sym e) tt
@@ -136,7 +136,7 @@ unfolding term
 mark_term first_edition text = no_word first_edition 33 text (quiet-mark first_edition)
 mark_term second_edition text = no_word second_edition 33 text (quiet-mark second_edition)
 
--- the part behind the importance
+-- the part after the importance
 abbrev semicolons_then : Bool → Reader Bool
 semicolons_then important text = follow (blank text) (λ x c. follow (semicolons c) (λ x d. follow (blank d) (λ x. got important)))
 
@@ -168,7 +168,7 @@ trailing-important text o e =
     ∙ ap (λ r. follow r semicolons_then) (follow-got (blank word_there) tt word_there (λ x. important_word) (blank-none word_there (no_gap-byte 105 (codes "mportant" ++ (59 ∷ text)) refl refl)))
     ∙ semicolons-read true text o e
 
--- a value, and what stands behind it
+-- a value, and what follows it
 
 bare_no_space : (b : ℕ) → is_bare b ≡ true → is_space b ≡ false
 bare_no_space b e = grind (arith, nat_tests)
@@ -188,7 +188,7 @@ value-no_gap edition v q tail w quiet = by v w.first closed
         part_is : (s t : Bool) → s ≡ false → t ≡ false → Path (Option (Bool × List ℕ)) (if s then Some (true, v ++ (q ∷ tail)) else (if t then option_map (λ rest. (false, rest)) (after_comment (b ∷ (v ++ (q ∷ tail)))) else None)) None
         part_is s t e f = rw (e, f) refl
 
--- what a value is read as, and what stands behind it
+-- what a value is read as, and what follows it
 record StatedAgain (edition : Edition) (v : List ℕ) (important : Bool) (text behind : List ℕ) : Type 0 where
   pub left : List ℕ
   pub calm : NoGap (v ++ (important_text important ++ (59 ∷ text)))

@@ -35,7 +35,7 @@ pub record Known (edition : Edition) (Q : List ℕ → Type 0) (R : StyleDeclara
   pub of_end : (text rest : List ℕ) → Q text → Ends text rest → IsUtf8 rest → Q rest
   pub declares : (text : List ℕ) → Q text → IfGot (λ p rest. R p) (declaration edition text)
 
--- a selector behind which a block stands, and its declarations
+-- a selector before a block, and its declarations
 pub record IsRule (edition : Edition) (R : StyleDeclaration → Type 0) (rule : StyleRule) : Type 0 where
   pub selector : IsSelector edition rule.components (123 ∷ [])
   pub declarations : AllByRecursion R rule.declarations
@@ -46,11 +46,11 @@ IfKept edition R rule = has_declaration rule ≡ true → IsRule edition R rule
 
 -- selectors
 
--- a selector that a block can stand behind
+-- a selector that a block can follow
 abbrev IsBeforeBlock : Edition → List Component → Type 0
 IsBeforeBlock edition s = IsSelector edition s (123 ∷ [])
 
--- a part behind which more text stands
+-- a part before more text
 part-is : (edition : Edition) (text : List ℕ) → IsUtf8 text → ((part edition text).1 ≡ [] → ⊥) → IfSome (part edition text).0 (IsBeforeBlock edition)
 unfolding part
 part-is edition text u some = by (reads edition text).0 (reads edition text).1 refl refl

@@ -55,7 +55,7 @@ part_byte edition k text low star e f w =
     by : (t : Bool) → t ≡ false → (if t then w.others else w.first ∷ w.others) ≡ w.first ∷ w.others
     by t h = rw h refl
 
--- no blank stands in front of it
+-- no blank is before it
 pub part_calm : (edition : Edition) (text : List ℕ) → BeginsPart edition text → NoGap text
 part_calm edition text w = subst NoGap (sym w.is) (by w.first w.fit)
   where
@@ -63,11 +63,11 @@ part_calm edition text w = subst NoGap (sym w.is) (by w.first w.fit)
     by b (inl same) = subst (λ (c : ℕ). NoGap (c ∷ w.others)) (sym same) (no_gap-byte 42 w.others refl refl)
     by b (inr fit) = no_gap-name edition b w.others fit
 
--- where no blank stands, none is passed
+-- where there is no blank, none is consumed
 pub calm-blank : (text : List ℕ) → NoGap text → past_blank text ≡ text
 calm-blank text w = ap (λ r. r.1) w.none
 
--- a selector that stands before a block
+-- a selector that is before a block
 selector-begins : (edition : Edition) (s : List Component) (b : ℕ) (tail : List ℕ) → IsSelector edition s (b ∷ tail) → BeginsPart edition (selector_text s)
 selector-begins edition [] b tail w = absurd w
 selector-begins edition (c ∷ cs) b tail w =
@@ -96,7 +96,7 @@ list_goes_on edition text w =
     let some = not_empty w.first w.others in
     ap ends_list w.is ∙ rw (some, no) refl
 
--- where the list of declarations goes on
+-- where the list of declarations continues
 abbrev in_list : Edition → Bool → List ℕ → Option (StyleDeclaration × List ℕ)
 in_list edition t text = if t then None else found (declaration edition text)
 
@@ -133,7 +133,7 @@ declarations-again edition p (q ∷ ps) text w ws =
     ∙ ap (λ t. followed_by p (each (declaration_in_block edition) t)) behind
     ∙ ap (followed_by p) (declarations-again edition q ps text ws.0 ws.1)
 
--- a space in front of a declaration changes nothing
+-- a space before a declaration changes nothing
 
 blank-space : (text : List ℕ) → blank (32 ∷ text) ≡ blank text
 unfolding blank
@@ -157,7 +157,7 @@ first-found : (edition : Edition) (text : List ℕ) (p : StyleDeclaration) (ps :
 first-found edition text p ps left e None f = absurd (let none_there = sym (ap (λ r. r.0) (each-none (declaration_in_block edition) text f)) ∙ ap (λ r. r.0) e in cc)
 first-found edition text p ps left e (Some x) f = (x.0, x.1, f)
 
--- behind the brace and the space, the declarations of a printed block are read, and what follows it
+-- after the brace and the space, the declarations of a printed block are read, and what follows it
 -- is left
 block-again : (edition : Edition) (p : StyleDeclaration) (ps : List StyleDeclaration) (text : List ℕ) → IsDeclaration edition p → AllByRecursion (IsDeclaration edition) ps → block edition (32 ∷ (flat_map declaration_text (p ∷ ps) ++ (32 ∷ 125 ∷ text))) ≡ (p ∷ ps, text)
 unfolding block

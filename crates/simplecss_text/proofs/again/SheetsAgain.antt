@@ -50,7 +50,7 @@ statement-there edition text w =
     let goes : ends_statements text ≡ false = rw (some, closed) refl in
     ap (λ t. goes_on edition (ends_statements t) t) (calm-blank text calm) ∙ ap (λ t. goes_on edition t text) goes
 
--- a printed rule, with a text behind it
+-- a printed rule, with a text after it
 rule-there : (edition : Edition) (rule : StyleRule) (text : List ℕ) → Printable edition rule → next_statement edition (rule_text rule ++ text) ≡ Some (rule ∷ [], text)
 rule-there edition rule text w =
     statement-there edition (rule_text rule ++ text) (rule-begins edition rule text w.0.0.selector)
@@ -66,7 +66,7 @@ nothing_left edition = refl
 abbrev alone : StyleRule → List StyleRule
 alone rule = rule ∷ []
 
--- the statements of printed rules, also behind a newline
+-- the statements of printed rules, also after a newline
 statements-again : (edition : Edition) (rule : StyleRule) (rules : List StyleRule) (start : List ℕ) → AllByRecursion (Printable edition) (rule ∷ rules) → next_statement edition start ≡ next_statement edition (sheet_text (rule ∷ rules)) → each (next_statement edition) start ≡ (map alone (rule ∷ rules), [])
 statements-again edition rule [] start w e =
     let there : next_statement edition start ≡ Some (rule ∷ [], []) = e ∙ ap (next_statement edition) (sym (append-nil (rule_text rule))) ∙ rule-there edition rule [] w.0 in
@@ -97,7 +97,7 @@ kept-again edition (rule ∷ rules) w =
     ap (λ (r : List (List StyleRule) × List ℕ). kept_of r.0) (statements-again edition rule rules (sheet_text (rule ∷ rules)) w refl)
     ∙ ap (filter has_declaration) (each-alone (rule ∷ rules)) ∙ all-have edition (rule ∷ rules) w
 
--- The printed sheet of rules that read back gives the rules, in their order.
+-- The printed sheet of rules that read back yields the rules, in their order.
 ordered-again : (edition : Edition) (rules : List StyleRule) → AllByRecursion (Printable edition) rules → sheet edition (sheet_text rules ∷ []) ≡ ordered rules
 ordered-again edition rules w = ap ordered (append-nil (kept edition (sheet_text rules)) ∙ kept-again edition rules w)
 

@@ -37,7 +37,7 @@ begins-bare [] text e b w = tt
 begins-bare (c ∷ cs) text e b w =
     bare_char c (λ low. subst FirstBare (sym e ∙ ap (λ l. l ++ encode_utf8_all cs) (encode_ascii c low)) b) (both_false (is_wide_space c) (list_any is_wide_space cs) w).0
 
--- the last byte stands in the last part that is not empty
+-- the last byte is in the last part that is not empty
 pub last-append : (previous : ℕ) (front : List ℕ) (b : ℕ) (text : List ℕ) → last_after previous (front ++ (b ∷ text)) ≡ last_after b text
 last-append previous [] b text = refl
 last-append previous (c ∷ front) b text = last-append c front b text

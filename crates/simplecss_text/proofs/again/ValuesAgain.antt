@@ -29,7 +29,7 @@ use Rattle.simplecss_text.proofs.again.BlankTails.{past_blank-alike}
 use Rattle.simplecss_text.proofs.again.TermEnds.{is_bare, FirstBare, term-ends_bare, term-begins_bare}
 use Rattle.simplecss_text.proofs.again.TrimBare.{last-append, trim-bare}
 
--- The text begins with terms, blanks between them, and behind the last of them stands r.
+-- The text begins with terms, blanks between them, and after the last of them is r.
 pub data Valued (edition : Edition) (r : List ℕ) : List ℕ → Type 0 where
   last : (text : List ℕ) (x : Unit {0}) → term edition text ≡ got x r → Valued edition r text
   more : (text rest : List ℕ) (x : Unit {0}) → term edition text ≡ got x rest → Valued edition r (past_blank rest) → Valued edition r text
@@ -96,7 +96,7 @@ one-term edition text rest x e = each-some (term_in_value edition) (term_in_valu
 no-term : (edition : Edition) (text rest : List ℕ) (fault : Fault) → term edition text ≡ fails fault rest → terms edition text ≡ ([], text)
 no-term edition text rest fault e = each-none (term_in_value edition) text (ap after_term e)
 
--- where no further term stands behind it
+-- where no further term follows it
 valued-terms : (edition : Edition) (r text left : List ℕ) (fault : Fault) → Valued edition r text → term edition (past_blank r) ≡ fails fault left → ((terms edition text).1 ≡ past_blank r) × ((other : List ℕ) → last_or other (terms edition text).0 ≡ r)
 valued-terms edition r text left fault (last _ x e) f =
     let listed : terms edition text ≡ (r ∷ [], past_blank r) = one-term edition text r x e ∙ ap (followed_by r) (no-term edition (past_blank r) left fault f) in
@@ -130,7 +130,7 @@ terms-within edition (suc n) text less = by (term edition text) refl (λ t k. te
 pub terms-end : (edition : Edition) (text : List ℕ) → TermsEnd edition text
 terms-end edition text = terms-within edition (suc (length text)) text (omega arith)
 
--- where the terms end, a text is left, and the byte in front of it is no white space of ASCII
+-- where the terms end, a text is left, and the byte before it is no white space of ASCII
 
 valued-left : (edition : Edition) (r text : List ℕ) → IsUtf8 text → Valued edition r text → IsUtf8 r
 valued-left edition r text u (last _ x e) = subst (λ (y : Reading (Unit {0})). IsUtf8 (left_after y)) e (lawful-text term term (term-lawful true) edition text u)
@@ -151,7 +151,7 @@ valued-first : (edition : Edition) (r text : List ℕ) → IsUtf8 text → Value
 valued-first edition r text u (last _ x e) = got-holds (λ x rest. FirstBare text) (term edition text) x r (term-begins_bare edition text u) e
 valued-first edition r text u (more _ rest x e w) = got-holds (λ x rest. FirstBare text) (term edition text) x rest (term-begins_bare edition text u) e
 
--- A value as it stands in the text, before the text r. It is trimmed.
+-- A value as it is in the text, before the text r. It is trimmed.
 pub record IsValueText (edition : Edition) (v : List ℕ) : Type 0 where
   pub r : List ℕ
   pub r_is : IsUtf8 r
@@ -178,7 +178,7 @@ first-front : (passed : List ℕ) (b : ℕ) (r : List ℕ) → is_bare b ≡ tru
 first-front [] b r e h = e
 first-front (c ∷ passed) b r e h = h
 
--- the value that was read stands in the text
+-- the value that was read is in the text
 pub value_text-is : (edition : Edition) (r text : List ℕ) → IsNarrow text → Valued edition r text → IsValueText edition (trim (before text r))
 value_text-is edition r text n w =
     let final = valued-final edition r text n.0 w in
@@ -191,8 +191,7 @@ value_text-is edition r text n w =
     let same : v ≡ trim (before text r) = sym (ap trim (ap (λ t. before t r) is ∙ before-append v r) ∙ trimmed) in
     subst (λ (t : List ℕ). IsValueText edition t) same (record { r = r; r_is = left; value_is = parts.0.0; valued = subst (λ (t : List ℕ). Valued edition r t) is w; first = first; trimmed = trimmed })
 
--- A value is read again before a byte that goes on with nothing, where no further term stands
--- behind it.
+-- A value is read again before a byte that continues nothing, where no further term follows.
 pub value-reads : (edition : Edition) (v : List ℕ) (q : ℕ) (tail left : List ℕ) (fault : Fault) → IsValueText edition v → Quiet edition q → term edition (past_blank (q ∷ tail)) ≡ fails fault left → value edition (v ++ (q ∷ tail)) ≡ (v, left)
 unfolding value
 value-reads edition v q tail left fault w quiet e =

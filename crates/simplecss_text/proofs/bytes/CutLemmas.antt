@@ -11,13 +11,13 @@ use Rattle.simplecss_text.specs.Bytes.{starts_by, starts_two, is_ascii}
 use Rattle.simplecss_text.specs.Characters.{is_space}
 use Rattle.simplecss_text.specs.ByteTests.{IsByteTest, PassesUpTo}
 
--- behind an ASCII byte
+-- after an ASCII byte
 IsCharBoundary-behind : (text : List ℕ) (n : ℕ) → IsUtf8 text → 0 < n → n ≤ length text → slice_index text (n - 1) < 128 → IsCharBoundary text n
 IsCharBoundary-behind text n u pos h e =
     let back : n - 1 + 1 ≡ n = omega arith in
     subst (λ (i : ℕ). IsCharBoundary text i) back (IsCharBoundary-after_ascii text (n - 1) u (omega arith) e)
 
--- behind a run of ASCII bytes
+-- after a run of ASCII bytes
 pub IsCharBoundary-prefix_len : (p : ℕ → Bool) → ((b : ℕ) → p b ≡ true → b < 128) → (text : List ℕ) → IsUtf8 text → IsCharBoundary text (prefix_len p text)
 IsCharBoundary-prefix_len p ascii text u = by (prefix_len p text) refl
   where
@@ -49,12 +49,12 @@ IsCharBoundary-run pre post text p q t run utf8 start = (
       ],
 )
 
--- behind a space byte at the front
+-- after a space byte at the front
 pub IsCharBoundary-behind_space : (text : List ℕ) → IsUtf8 text → true ≡ starts_by is_space text → IsCharBoundary text 1
 IsCharBoundary-behind_space [] u e = absurd (cc)
 IsCharBoundary-behind_space (b ∷ text) u e = IsCharBoundary-after_ascii (b ∷ text) 0 u (omega arith) (is_space-ascii b (sym e))
 
--- behind an ASCII byte that stands at a place of a text
+-- after an ASCII byte that is at a place of a text
 pub boundary_past_ascii : (text : List ℕ) (place : ℕ) → ∥ IsUtf8 text ∥₁ → IsCharBoundary text place → starts_by is_ascii (drop place text) ≡ true → IsCharBoundary (drop place text) 1
 boundary_past_ascii text place u at e = front (drop place text) (IsUtf8-drop text place (IsUtf8-had text u) at) e
   where
@@ -62,14 +62,14 @@ boundary_past_ascii text place u at e = front (drop place text) (IsUtf8-drop tex
     front [] v e = absurd (cc)
     front (b ∷ rest) v e = IsCharBoundary-after_ascii (b ∷ rest) 0 v (omega arith) (ltb-true b 128 e)
 
--- behind an ASCII byte that a search may have found
+-- after an ASCII byte that a search may have found
 pub IsCharBoundary-behind_found : (text : List ℕ) (byte : ℕ) (r : Option ℕ) → IsUtf8 text → byte < 128 → IfSome r (λ n. (n < length text) × (slice_index text n ≡ byte)) → IfSome r (λ n. IsCharBoundary text (n + 1))
 IsCharBoundary-behind_found text byte None u l h = tt
 IsCharBoundary-behind_found text byte (Some n) u l h =
     let small : slice_index text n < 128 = omega (arith, h.1) in
     IsCharBoundary-after_ascii text n u h.0 small
 
--- behind two ASCII bytes at the front
+-- after two ASCII bytes at the front
 pub IsCharBoundary-behind_comment : (text : List ℕ) → IsUtf8 text → starts_two 47 42 text ≡ true → IsCharBoundary text 2
 IsCharBoundary-behind_comment [] u e = absurd (cc)
 IsCharBoundary-behind_comment (a ∷ []) u e = absurd (false_and (a == 47) e)

@@ -16,7 +16,7 @@ use Rattle.simplecss_text.specs.Characters.{is_space}
 use Rattle.simplecss_text.specs.Bytes.{starts_by, past}
 use Rattle.simplecss_text.proofs.bytes.Utf8Laws.{starts_by-past, past-yes, past-no}
 
--- The first bytes of the text are parts of its gap, and this tells whether a space byte is among
+-- The first bytes of the text are parts of its gap, and this reports whether a space byte is among
 -- them.
 pub record Passed (text : List ℕ) (len : ℕ) (spaced : Bool) : Type 0 where
   pub boundary : IsCharBoundary text len
@@ -39,7 +39,7 @@ passed-step text len n spaced space p e b =
       space = p.space ∙ ap (λ s. spaced || s) spaces ∙ sym (or_assoc spaced space (has_space (drop (len + n) text)));
     }
 
--- where no further part stands
+-- where there is no further part
 pub passed-rest : (text : List ℕ) (len : ℕ) (spaced : Bool) → Passed text len spaced → blank_part (drop len text) ≡ None → past_blank text ≡ drop len text
 passed-rest text len spaced p e = p.rest ∙ ap (λ r. r.1) (each-none blank_part (drop len text) e)
 
@@ -74,7 +74,7 @@ blank_part-none (b ∷ text) e =
 each-space : (b : ℕ) (text : List ℕ) → is_space b ≡ true → each blank_part (b ∷ text) ≡ followed_by true (each blank_part text)
 each-space b text e = each-some blank_part blank_part-takes (b ∷ text) text true (rw e refl)
 
--- the blank at the front goes on behind the space bytes that it begins with
+-- the blank at the front continues after the space bytes that it begins with
 past_blank-past_spaces : (text : List ℕ) → past_blank text ≡ past_blank (past is_space text)
 past_blank-past_spaces [] = refl
 past_blank-past_spaces (b ∷ text) = by (is_space b) refl (past_blank-past_spaces text)
@@ -103,7 +103,7 @@ passed-spaces text len u e = subst (λ (n : ℕ). Passed text n (nat_lt 0 n)) (s
   space = has_space-past_spaces text;
 })
 
--- where no comment opens behind the space bytes at the front, no part of the gap stands there
+-- where no comment opens after the space bytes at the front, no part of the gap is there
 pub no_part-behind_spaces : (text : List ℕ) (len : ℕ) → len ≡ prefix_len is_space text → opens_comment (drop len text) ≡ false → blank_part (drop len text) ≡ None
 no_part-behind_spaces text len e closed =
     let solid : starts_by is_space (drop len text) ≡ false = rw e (starts_by-past is_space text) in

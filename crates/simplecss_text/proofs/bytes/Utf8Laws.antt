@@ -16,7 +16,7 @@ use Rattle.std.proofs.Math.Seq.{drop-append_seam}
 use Rattle.simplecss_text.specs.Reading.{Ends, before}
 use Rattle.simplecss_text.specs.Bytes.{past, past_byte, starts_by}
 
--- behind an ASCII character the text is UTF-8
+-- after an ASCII character the text is UTF-8
 pub utf8-behind : (text rest : List ℕ) (b : ℕ) → b < 128 → IsUtf8 text → Ends text (b ∷ rest) → IsUtf8 rest
 utf8-behind text rest b ascii u e =
     let front = before text (b ∷ rest) in
@@ -49,19 +49,19 @@ boundary front b text h =
     let here : get_or (front ++ (b ∷ text)) (length front) 0 ≡ b = ap (λ k. get_or (front ++ (b ∷ text)) k 0) (sym same) ∙ at in
     IsCharBoundary-before_ascii (front ++ (b ∷ text)) (length front) (omega (arith, length-append front (b ∷ text))) (omega arith)
 
--- what stands in front of an ASCII byte
+-- what is before an ASCII byte
 pub utf8-before_byte : (front : List ℕ) (b : ℕ) (text : List ℕ) → b < 128 → IsUtf8 (front ++ (b ∷ text)) → IsUtf8 front
 utf8-before_byte front b text h u = subst IsUtf8 (take-append_seam front (b ∷ text)) (IsUtf8-take (front ++ (b ∷ text)) (length front) u (boundary front b text h))
 
--- what stands behind an ASCII byte
+-- what follows an ASCII byte
 pub utf8-behind_byte : (front : List ℕ) (b : ℕ) (text : List ℕ) → b < 128 → IsUtf8 (front ++ (b ∷ text)) → IsUtf8 text
 utf8-behind_byte front b text h u = utf8-behind (front ++ (b ∷ text)) text b h u (ends-append front (b ∷ text))
 
--- behind an ASCII byte that begins a text
+-- after an ASCII byte that begins a text
 pub utf8-past_byte : (b : ℕ) (text : List ℕ) → b < 128 → IsUtf8 (b ∷ text) → IsUtf8 text
 utf8-past_byte b text h u = utf8-behind_byte [] b text h u
 
--- what stands behind an ASCII byte, if it stands there
+-- what follows an ASCII byte, if it is there
 pub utf8-past_byte_if : (c : ℕ) (text : List ℕ) → c < 128 → IsUtf8 text → IsUtf8 (past_byte c text)
 utf8-past_byte_if c [] low u = u
 utf8-past_byte_if c (b ∷ text) low u = by (b == c) refl
@@ -86,7 +86,7 @@ starts_by-past test (b ∷ text) = by (test b) refl (starts_by-past test text)
     by true e more = rw (past-yes test b text e) more
     by false e more = rw (past-no test b text e) e
 
--- behind a run of ASCII bytes
+-- after a run of ASCII bytes
 pub utf8-past : (test : ℕ → Bool) (text : List ℕ) → ((b : ℕ) → test b ≡ true → b < 128) → IsUtf8 text → IsUtf8 (past test text)
 utf8-past test [] low u = u
 utf8-past test (b ∷ text) low u = by (test b) refl (λ v. utf8-past test text low v)
@@ -95,12 +95,12 @@ utf8-past test (b ∷ text) low u = by (test b) refl (λ v. utf8-past test text 
     by true e more = rw (past-yes test b text e) (more (utf8-past_byte b text (low b e) u))
     by false e more = rw (past-no test b text e) u
 
--- behind a text
+-- after a text
 pub utf8-second : (a b : List ℕ) → IsUtf8 (a ++ b) → IsUtf8 a → IsUtf8 b
 utf8-second a b u v =
     let cut = IsCharBoundary-from_take (a ++ b) (length a) u (omega (arith, length-append a b)) (subst IsUtf8 (sym (take-append_seam a b)) v) in
     subst IsUtf8 (drop-append_seam a b) (IsUtf8-drop (a ++ b) (length a) u cut)
 
--- in front of a text
+-- before a text
 pub utf8-first : (a b : List ℕ) → IsUtf8 (a ++ b) → IsUtf8 b → IsUtf8 a
 utf8-first a b u v = subst IsUtf8 (take-append_seam a b) (IsUtf8-take (a ++ b) (length a) u (IsCharBoundary-at_seam (a ++ b) a b refl v))

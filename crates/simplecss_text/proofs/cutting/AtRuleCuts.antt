@@ -1,8 +1,8 @@
 -- An at-rule ends at the same place where the text is cut there.
 -- Serves `StyleSheet::parse_more` and `laws::cutting_law` (a text read in pieces).
-use Rattle.std.proofs.Common.{Bool, List, [], ap, arith, false, if◌then◌else◌, inl, inr, length, refl, subst, true, ℕ, ◌&&◌, ◌++◌, ◌<◌, ◌==◌, ◌||◌, ◌∙◌, ◌∷◌, ◌≡◌, IsUtf8, encode_utf8_all, eqb-true, sym, length-append, ◌≤◌}
+use Rattle.std.proofs.Common.{◌⊎◌, Bool, List, [], ap, arith, false, if◌then◌else◌, inl, inr, length, refl, subst, true, ℕ, ◌&&◌, ◌++◌, ◌<◌, ◌==◌, ◌∙◌, ◌∷◌, ◌≡◌, IsUtf8, encode_utf8_all, eqb-true, sym, length-append, ◌≤◌}
 use Rattle.std.proofs.lemmas.List.{append_cancel_right}
-use Rattle.std.proofs.lemmas.Str.{byte_from_char, chars-append, chars-nil, encodes-chars}
+use Rattle.std.proofs.lemmas.Str.{chars-append, encodes-chars}
 use Rattle.std.specs.Str.{chars}
 use lib.Utf8.{encode}
 use Rattle.simplecss_text.specs.Reading.{Fault, Reading, fails, got}
@@ -13,9 +13,8 @@ use Rattle.simplecss_text.specs.Blocks.{from_block_end}
 use Rattle.simplecss_text.specs.Statements.{past_semicolon_or_block, at_rule_rest_by_name, at_rule_rest}
 use Rattle.simplecss_text.proofs.reading.TakesLaws.{length-past, length-past_byte}
 use Rattle.simplecss_text.proofs.reading.DeclarationLaws.{length-from_block_end}
-use Rattle.simplecss_text.proofs.reading.EndsLaws.{ends-same}
-use Rattle.simplecss_text.proofs.bytes.Utf8Laws.{utf8-behind}
 use Rattle.simplecss_text.proofs.printed.ReadNames.{name-fails}
+use Rattle.simplecss_text.proofs.printed.PrintedNames.{both_false}
 use Rattle.simplecss_text.proofs.reading.LocalLaws.{Along, Equal, Guard, To, at, longer-along, on, past-along, past-both}
 use Rattle.simplecss_text.proofs.reading.LocalLaws.{quiet-brace, quiet-semicolon}
 use Rattle.simplecss_text.proofs.reading.NameLocal.{name-same}
@@ -26,7 +25,7 @@ pub along-at : (g : ℕ) (t u r s : List ℕ) → Along (g ∷ t) (g ∷ u) r s 
 along-at g t u r s at e = refl
 along-at g t u r s (on b r1 s1 h) e = absurd (omega (arith, longer-along (g ∷ t) (g ∷ u) r1 s1 h, ap length e))
 
--- where a byte stands before it in the first text, that byte stands in the second
+-- where a byte is before it in the first text, that byte is in the second
 along-next : (g : ℕ) (t u : List ℕ) (c : ℕ) (x r s : List ℕ) → Along (g ∷ t) (g ∷ u) r s → r ≡ c ∷ x → length t < length x → (y : List ℕ) × ((s ≡ c ∷ y) × Along (g ∷ t) (g ∷ u) x y)
 along-next g t u c x r s at e l = absurd (omega (arith, ap length e, l))
 along-next g t u c x r s (on b r1 s1 h) e l =
@@ -34,7 +33,7 @@ along-next g t u c x r s (on b r1 s1 h) e l =
     let rest : r1 ≡ x = cc in
     (s1, (ap (λ (d : ℕ). d ∷ s1) first, subst (λ (z : List ℕ). Along (g ∷ t) (g ∷ u) z s1) rest h))
 
--- an at-rule that ends behind a semicolon
+-- an at-rule that ends after a semicolon
 pub at_rule-semicolon : (edition : Edition) (t u r s n rest : List ℕ) → IsUtf8 r → Along (59 ∷ t) (59 ∷ u) r s → name edition r ≡ got n rest → past (is_neither 59 123) rest ≡ 59 ∷ t → at_rule_rest edition s ≡ u
 unfolding at_rule_rest
 at_rule-semicolon edition t u r s n rest w h e f = by (name edition r) (name edition s) e (name-same edition 59 t u (quiet-semicolon edition) r s w h)
@@ -50,7 +49,7 @@ at_rule-semicolon edition t u r s n rest w h e f = by (name edition r) (name edi
         let there : past (is_neither 59 123) x ≡ 59 ∷ t = ap (past (is_neither 59 123)) same ∙ f in
         ap past_semicolon_or_block (along-at 59 t u (past (is_neither 59 123) x) (past (is_neither 59 123) y) (past-along 59 t u (is_neither 59 123) refl x y k.1) there)
 
--- a block that ends behind the brace
+-- a block that ends after the brace
 block_end-at : (u v inner y : List ℕ) → Along (125 ∷ (u ++ v)) (125 ∷ u) inner y → from_block_end inner ≡ 125 ∷ (u ++ v) → past_byte 125 (from_block_end y) ≡ u
 block_end-at u v inner y h e = by (from_block_end-to u v inner y h)
   where
@@ -58,7 +57,7 @@ block_end-at u v inner y h e = by (from_block_end-to u v inner y h)
     by (inl l) = absurd (omega (arith, l, ap length e))
     by (inr k) = ap (past_byte 125) (along-at 125 (u ++ v) u (from_block_end inner) (from_block_end y) k e)
 
--- an at-rule that ends behind a block
+-- an at-rule that ends after a block
 pub at_rule-block : (edition : Edition) (u v r s n rest inner : List ℕ) → IsUtf8 r → Along (125 ∷ (u ++ v)) (125 ∷ u) r s → name edition r ≡ got n rest → past (is_neither 59 123) rest ≡ 123 ∷ inner → from_block_end inner ≡ 125 ∷ (u ++ v) → at_rule_rest edition s ≡ u
 unfolding at_rule_rest
 at_rule-block edition u v r s n rest inner w h e f g = by (name edition r) (name edition s) e (name-same edition 125 (u ++ v) u (quiet-brace edition) r s w h)
@@ -94,85 +93,44 @@ unfolding at_rule_rest name past_name_chars chars encode
 at_rule-hyphen first_edition = refl
 at_rule-hyphen second_edition = refl
 
--- whether a name begins depends on no more than its first character, if that is no hyphen
-begins-front : (edition : Edition) (c : ℕ) (cs ds : List ℕ) → (c == 45) ≡ false → begins_name edition ((c ∷ cs) ++ ds) ≡ false → begins_name edition (c ∷ cs) ≡ false
-begins-front edition c [] [] h e = e
-begins-front edition c [] (d ∷ ds) h e = by (is_name_start edition c) (rw h at e)
+-- Where no name begins in a text none begins in its front, but for a lone hyphen.
+no_name-front : (edition : Edition) (s v : List ℕ) → IsUtf8 s → begins_name edition (chars (s ++ v)) ≡ false → (begins_name edition (chars s) ≡ false) ⊎ (s ≡ 45 ∷ [])
+unfolding encode
+no_name-front edition s v u e = by (chars s) (encodes-chars s u) (ap (begins_name edition) (sym (chars-append s v u)) ∙ e)
   where
-    by : (k : Bool) → (k || (false && is_name_start edition d)) ≡ false → (k || (c == 45)) ≡ false
-    by true f = absurd (cc)
-    by false f = h
-begins-front edition c (d ∷ cs) ds h e = e
+    start : (c : ℕ) (ds : List ℕ) → begins_name edition (c ∷ ds) ≡ false → is_name_start edition c ≡ false
+    start c [] h = (both_false (is_name_start edition c) (c == 45) h).0
+    start c (d ∷ ds) h = (both_false (is_name_start edition c) (c == 45 && is_name_start edition d) h).0
 
--- the characters of a text with a byte: one and then others, and the first is a hyphen only where
--- the first byte is
-record FirstChar (b : ℕ) (text : List ℕ) : Type 0 where
-  char : ℕ
-  others : List ℕ
-  are : chars (b ∷ text) ≡ char ∷ others
-  hyphen : (b == 45) ≡ false → (char == 45) ≡ false
-
-first_char : (b : ℕ) (text : List ℕ) → IsUtf8 (b ∷ text) → FirstChar b text
-first_char b text u = by (chars (b ∷ text)) (encodes-chars (b ∷ text) u) refl
-  where
-    by : (xs : List ℕ) → encode_utf8_all xs ≡ b ∷ text → chars (b ∷ text) ≡ xs → FirstChar b text
-    by [] e f = absurd (cc)
-    by (c ∷ cs) e f = record { char = c; others = cs; are = f; hyphen = hyphen (c == 45) refl }
+    by : (cs : List ℕ) → encode_utf8_all cs ≡ s → begins_name edition (cs ++ chars v) ≡ false → (begins_name edition cs ≡ false) ⊎ (s ≡ 45 ∷ [])
+    by [] f h = inl refl
+    by (c ∷ []) f h = one (c == 45) refl
       where
-        hyphen : (k : Bool) → (c == 45) ≡ k → (b == 45) ≡ false → (c == 45) ≡ false
-        hyphen false g h = g
-        hyphen true g h =
-            let is : c ≡ 45 = eqb-true c 45 g in
-            let at : b ≡ c = byte_from_char (b ∷ text) (encode_utf8_all cs) c (sym e) (omega arith) in
-            let same : (b == 45) ≡ true = ap (λ (x : ℕ). x == 45) (at ∙ is) in
-            absurd (cc)
+        one : (k : Bool) → (c == 45) ≡ k → (begins_name edition (c ∷ []) ≡ false) ⊎ (s ≡ 45 ∷ [])
+        one true k = inr (sym f ∙ ap (λ d. encode_utf8_all (d ∷ [])) (eqb-true c 45 k))
+        one false k = let none_there = start c (chars v) h in inl (rw (none_there, k) refl)
+    by (c ∷ d ∷ cs) f h = inl h
 
--- a front of a text in which no name begins, and which does not begin with a hyphen
-no_name-front : (edition : Edition) (b : ℕ) (u v : List ℕ) → IsUtf8 (b ∷ u) → (b == 45) ≡ false → begins_name edition (chars ((b ∷ u) ++ v)) ≡ false → begins_name edition (chars (b ∷ u)) ≡ false
-no_name-front edition b u v i h e =
-    let some = first_char b u i in
-    let whole : chars ((b ∷ u) ++ v) ≡ (some.char ∷ some.others) ++ chars v = chars-append (b ∷ u) v i ∙ ap (λ (x : List ℕ). x ++ chars v) some.are in
-    let front : begins_name edition ((some.char ∷ some.others) ++ chars v) ≡ false = ap (begins_name edition) (sym whole) ∙ e in
-    ap (begins_name edition) some.are ∙ begins-front edition some.char some.others (chars v) (some.hyphen h) front
-
-chars-hyphen : (text : List ℕ) → chars (45 ∷ text) ≡ 45 ∷ chars text
-unfolding chars
-chars-hyphen [] = refl
-chars-hyphen (b ∷ text) = refl
-
--- the same behind a hyphen
-no_name-behind_hyphen : (edition : Edition) (b : ℕ) (u v : List ℕ) → IsUtf8 (b ∷ u) → begins_name edition (chars (45 ∷ ((b ∷ u) ++ v))) ≡ false → begins_name edition (chars (45 ∷ (b ∷ u))) ≡ false
-no_name-behind_hyphen edition b u v i e =
-    let some = first_char b u i in
-    let whole : chars ((b ∷ u) ++ v) ≡ (some.char ∷ some.others) ++ chars v = chars-append (b ∷ u) v i ∙ ap (λ (x : List ℕ). x ++ chars v) some.are in
-    let front : begins_name edition (45 ∷ ((some.char ∷ some.others) ++ chars v)) ≡ false = ap (λ (x : List ℕ). begins_name edition (45 ∷ x)) (sym whole) ∙ ap (begins_name edition) (sym (chars-hyphen ((b ∷ u) ++ v))) ∙ e in
-    ap (begins_name edition) (chars-hyphen (b ∷ u)) ∙ ap (λ (x : List ℕ). begins_name edition (45 ∷ x)) some.are ∙ front
-
--- a text behind which one stands that is as long as both is empty
+-- a text before another one that is as long as both is empty
 pub nothing_in_front : (w v : List ℕ) → length (w ++ v) ≤ length v → w ≡ []
 nothing_in_front [] v l = refl
 nothing_in_front (b ∷ w) v l = absurd (omega (arith, l, length-append w v))
 
 -- an at-rule that ends at the fault of its name
 pub at_rule-fault : (edition : Edition) (s v w : List ℕ) (fault : Fault) → IsUtf8 s → name edition (s ++ v) ≡ fails fault (w ++ v) → at_rule_rest edition s ≡ w
-at_rule-fault edition s v w fault u e = by s u (name-fails edition (s ++ v) (w ++ v) fault e).0 (name-fails edition (s ++ v) (w ++ v) fault e).1
+at_rule-fault edition s v w fault u e = by (no_name-front edition s v u failed.0)
   where
-    by : (s : List ℕ) → IsUtf8 s → begins_name edition (chars (s ++ v)) ≡ false → w ++ v ≡ past_byte 45 (s ++ v) → at_rule_rest edition s ≡ w
-    by [] i f g =
-        let none : begins_name edition (chars []) ≡ false = rw chars-nil refl in
-        let short : w ≡ [] = nothing_in_front w v (omega (arith, ap length g, length-past_byte 45 v)) in
-        at_rule-no_name edition [] none ∙ sym short
-    by (b ∷ s) i f g = hyphen (b == 45) refl (g)
-      where
-        behind : (x : List ℕ) → b ≡ 45 → w ≡ x → IsUtf8 (b ∷ x) → begins_name edition (chars (b ∷ (x ++ v))) ≡ false → at_rule_rest edition (b ∷ x) ≡ w
-        behind [] is same j k = ap (λ (c : ℕ). at_rule_rest edition (c ∷ [])) is ∙ at_rule-hyphen edition ∙ sym same
-        behind (d ∷ x) is same j k =
-            let tail : IsUtf8 (d ∷ x) = utf8-behind (b ∷ d ∷ x) (d ∷ x) b (omega (arith, is)) j (ends-same (b ∷ d ∷ x)) in
-            let none : begins_name edition (chars (45 ∷ (d ∷ x))) ≡ false = no_name-behind_hyphen edition d x v tail (ap (λ (c : ℕ). begins_name edition (chars (c ∷ ((d ∷ x) ++ v)))) (sym is) ∙ k) in
-            ap (λ (c : ℕ). at_rule_rest edition (c ∷ (d ∷ x))) is ∙ at_rule-no_name edition (45 ∷ (d ∷ x)) none ∙ sym same
+    failed : (begins_name edition (chars (s ++ v)) ≡ false) × (w ++ v ≡ past_byte 45 (s ++ v))
+    failed = name-fails edition (s ++ v) (w ++ v) fault e
 
-        hyphen : (k : Bool) → (b == 45) ≡ k → w ++ v ≡ (if k then s ++ v else b ∷ (s ++ v)) → at_rule_rest edition (b ∷ s) ≡ w
-        hyphen true h k = behind s (eqb-true b 45 h) (append_cancel_right w s v k) i f
-        hyphen false h k =
-            let none : begins_name edition (chars (b ∷ s)) ≡ false = no_name-front edition b s v i h f in
-            at_rule-no_name edition (b ∷ s) none ∙ rw h (sym (append_cancel_right w (b ∷ s) v k))
+    front : (s : List ℕ) → w ++ v ≡ past_byte 45 (s ++ v) → past_byte 45 s ≡ w
+    front [] g = sym (nothing_in_front w v (omega (arith, ap length g, length-past_byte 45 v)))
+    front (b ∷ s) g = hyphen (b == 45) g
+      where
+        hyphen : (k : Bool) → w ++ v ≡ (if k then s ++ v else b ∷ (s ++ v)) → (if k then s else b ∷ s) ≡ w
+        hyphen true k = sym (append_cancel_right w s v k)
+        hyphen false k = sym (append_cancel_right w (b ∷ s) v k)
+
+    by : (begins_name edition (chars s) ≡ false) ⊎ (s ≡ 45 ∷ []) → at_rule_rest edition s ≡ w
+    by (inl none) = at_rule-no_name edition s none ∙ front s failed.1
+    by (inr is) = ap (at_rule_rest edition) is ∙ at_rule-hyphen edition ∙ front (45 ∷ []) (failed.1 ∙ ap (λ t. past_byte 45 (t ++ v)) is)

@@ -1,4 +1,4 @@
--- A block reads the same where the text is cut behind it or later.
+-- A block reads the same where the text is cut after it or later.
 -- Serves `StyleSheet::parse_more` and `laws::cutting_law` (a text read in pieces).
 use Rattle.std.proofs.Common.{◌≡◌, ℕ, zero, suc, ◌<◌, ◌≤◌, List, [], ◌∷◌, ◌++◌, Bool, true, false, if◌then◌else◌, ◌==◌, length, drop, slice_index, None, arith, refl, ap, ◌∙◌, ◌⊎◌, inl, inr, drop_of_length-le, IsUtf8}
 use Rattle.simplecss_text.specs.Reading.{Reading, got, fails, each, found, left_after}
@@ -51,7 +51,7 @@ brace-lost : (t x : List ℕ) → Lost t x → Lost t (past_byte 125 x)
 brace-lost t x (inl l) = inl (omega (arith, length-past_byte 125 x))
 brace-lost t x (inr e) = inr (ap (past_byte 125) e)
 
--- where the list of declarations ends behind the brace
+-- where the list of declarations ends after the brace
 list-lost : (edition : Edition) (t a : List ℕ) → length a ≤ length t → Lost t (past_byte 125 (past_list edition a))
 list-lost edition t a l = by (ends_list a) refl
   where

@@ -1,4 +1,4 @@
--- A block that ends directly behind a brace ends there also where the text is cut behind that brace
+-- A block that ends directly after a brace ends there also where the text is cut after that brace
 -- or later.
 -- Serves `StyleSheet::parse_more` and `laws::cutting_law` (a text read in pieces).
 use Rattle.std.proofs.Common.{◌≡◌, ℕ, ◌<◌, ◌≤◌, List, [], ◌∷◌, ◌++◌, Bool, true, false, if◌then◌else◌, ◌==◌, length, arith, refl, sym, ap, ◌∙◌, ◌⊎◌, inl, inr, length-append, length-drop, get_or, take}
@@ -40,7 +40,7 @@ from_block_end-to u v r s h = by (cases_lt (block_end (s ++ v)) (length s))
         let e : block_end s ≡ block_end r = block_end_local s v l ∙ ap block_end (sym whole) in
         rw e (drop-to 125 (u ++ v) u (block_end r) r s h)
 
--- Both readings end where the brace stands or before it, with the same behind it.
+-- Both readings end where the brace is or before it, with the same after it.
 pub data Exact (g : ℕ) (t u : List ℕ) : List ℕ → List ℕ → Type 0 where
   behind_it : Exact g t u t u
   before_it : (r s : List ℕ) → Along (g ∷ t) (g ∷ u) r s → Exact g t u r s
@@ -66,7 +66,7 @@ pub less_of_brace : (t : List ℕ) → starts 125 t ≡ true → length (past_by
 less_of_brace [] e = absurd (cc)
 less_of_brace (b ∷ t) e = rw e (omega arith)
 
--- one that follows is taken too, and then less is left than behind the first
+-- one that follows is taken too, and then less is left than after the first
 pub past_further-exact : (u v r s : List ℕ) → Exact 125 (u ++ v) u r s → (length (past_byte 125 r) < length (u ++ v)) ⊎ Exact 125 (u ++ v) u (past_byte 125 r) (past_byte 125 s)
 past_further-exact u v r s (before_it r1 s1 h) = inr (past_brace-exact (u ++ v) u r s h)
 past_further-exact u v r s behind_it = by (starts 125 (u ++ v)) refl

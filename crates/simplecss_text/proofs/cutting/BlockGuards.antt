@@ -12,7 +12,7 @@ use Rattle.simplecss_text.proofs.reading.WellLaws.{found-text}
 use Rattle.simplecss_text.proofs.reading.Lawful.{lawful-guarded}
 use Rattle.simplecss_text.proofs.reading.DeclarationsLawful.{declaration-lawful, declaration_in_block-well}
 
--- reading a declaration would pass the brace, where the list of them goes on
+-- reading a declaration would pass the brace, where the list of them continues
 pub data DeclarationPasses (edition : Edition) (t a : List ℕ) : Type 0 where
   passes : ends_list a ≡ false → length (left_after (declaration edition a)) ≤ length t → DeclarationPasses edition t a
 

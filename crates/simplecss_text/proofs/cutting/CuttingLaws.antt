@@ -24,7 +24,7 @@ data Reaches {X : Type 0} (read : List ℕ → Option (X × List ℕ)) (rest : L
   at_rest : Reaches read rest rest
   behind : (text next : List ℕ) (x : X) → read text ≡ Some (x, next) → Reaches read rest next → Reaches read rest text
 
--- What stands behind the end of what is read makes no difference.
+-- What follows the end of what is read makes no difference.
 abbrev Local : {X : Type 0} → (List ℕ → Option (X × List ℕ)) → Type 0
 Local {X = X} read = (u v w : List ℕ) (x : X) → IsUtf8 (u ++ v) → IsUtf8 v → read (u ++ v) ≡ Some (x, w ++ v) → read u ≡ Some (x, w)
 
@@ -132,7 +132,7 @@ keeps_across edition text place i (k, l, is) =
 kept-more : (edition : Edition) (texts : List (List ℕ)) (text : List ℕ) → flat_map (kept edition) (texts ++ text ∷ []) ≡ flat_map (kept edition) texts ++ kept edition text
 kept-more edition texts text = flat_map-append (kept edition) texts (text ∷ []) ∙ ap (λ (rules : List StyleRule). flat_map (kept edition) texts ++ rules) (append-nil (kept edition text))
 
--- a text read in two pieces gives the sheet that it gives as a whole, where its rules are those of
+-- a text read in two pieces yields the sheet that it yields as a whole, where its rules are those of
 -- the pieces
 sheet-across : (edition : Edition) (texts : List (List ℕ)) (text : List ℕ) (place : ℕ) → KeepsAcross edition text place → sheet edition ((texts ++ take place text ∷ []) ++ drop place text ∷ []) ≡ sheet edition (texts ++ text ∷ [])
 sheet-across edition texts text place e =
@@ -144,7 +144,7 @@ sheet-across edition texts text place e =
     ∙ ap (λ (rules : List StyleRule). flat_map (kept edition) texts ++ rules) (sym e)
     ∙ sym (kept-more edition texts text))
 
--- A sheet that adds to the texts it was read from the one that it reads goes on where a statement
+-- A sheet that adds to the texts it was read from the one that it reads continues where a statement
 -- of a text has ended.
 pub goes_on : (edition : Edition) (old : List StyleRule) (text : List ℕ) (new : List StyleRule) → ((texts : List (List ℕ)) → old ≡ sheet edition texts → new ≡ sheet edition (texts ++ text ∷ [])) → GoesOn edition old text new
 goes_on edition old text new adds texts whole place i ends is before =

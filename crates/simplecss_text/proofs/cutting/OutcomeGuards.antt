@@ -54,7 +54,7 @@ pub after_role-guard : (g : ℕ) (t u : List ℕ) (role : Option Role) (x y : Li
 after_role-guard g t u (Some role) x y a b k h = with_role-guard g t u role a b h
 after_role-guard g t u None x y a b k h = inr (both_refused x y k)
 
--- what stands before what follows, and then what comes
+-- a gap's combinator, and then what comes
 pub answered-guard : (g : ℕ) (t u : List ℕ) (side : Side) (spaced : Bool) (kind : NextKind) (a x b y : List ℕ) (p q : TokenSequence) → Along (g ∷ t) (g ∷ u) a b → To true (g ∷ t) (g ∷ u) x y → OutcomeGuard g t u (outcome p) (outcome q) → OutcomeGuard g t u (outcome (answered (between side spaced kind a x) a p)) (outcome (answered (between side spaced kind b y) b q))
 answered-guard g t u side spaced kind a x b y p q h k c =
     between-both (λ one other. OutcomeGuard g t u (outcome (answered one a p)) (outcome (answered other b q))) side spaced kind a x b y

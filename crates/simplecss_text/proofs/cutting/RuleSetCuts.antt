@@ -1,4 +1,4 @@
--- A rule set reads the same where the text is cut behind it or later.
+-- A rule set reads the same where the text is cut after it or later.
 -- Serves `StyleSheet::parse_more` and `laws::cutting_law` (a text read in pieces).
 use Rattle.std.proofs.Common.{◌≡◌, ℕ, ◌≤◌, List, [], ◌∷◌, ◌++◌, Bool, true, false, if◌then◌else◌, ◌==◌, not, length, map, Option, Some, None, arith, refl, ◌⊎◌, inl, inr, IsUtf8, ◌<◌, eqb-true}
 use Rattle.std.specs.List.{filter_map}
@@ -31,7 +31,7 @@ opened-lost edition t (b ∷ x) l = by (b == 123)
     by true = inl (omega (arith, length-block edition x))
     by false = inr refl
 
--- the next block, from behind the brace
+-- the next block, from after the brace
 next_block-lost : (edition : Edition) (t x : List ℕ) → length x ≤ length t → Lost t (next_block edition x).1
 unfolding next_block
 next_block-lost edition t x l = opened-lost edition t (past (λ b. not (b == 123)) x) (omega (arith, length-past (λ b. not (b == 123)) x))

@@ -14,7 +14,8 @@ use Rattle.simplecss_text.specs.Neighbours.Side.{open_side}
 use Rattle.simplecss_text.specs.TokenSequences.{sequence_from, token_then}
 use Rattle.simplecss_text.specs.Selectors.{outcome, role_of, Outcome, reads, selector_of}
 use Rattle.simplecss_text.specs.Selectors.Outcome.{refused, accepted}
-use Rattle.simplecss_text.proofs.reading.TakesLaws.{Cuts, gap-keeps, length-left_after}
+use Rattle.simplecss_text.proofs.reading.TakesLaws.{Cuts}
+use Rattle.simplecss_text.proofs.reading.EndsLaws.{length-ends}
 use Rattle.simplecss_text.proofs.reading.KindLaws.{NamesStart, solid-kind_known}
 use Rattle.simplecss_text.proofs.reading.PiecesLawful.{next_kind-along, solid-cuts, solid-lawful, gap-guarded}
 use Rattle.simplecss_text.proofs.reading.Lawful.{lawful-guarded, lawful-text}
@@ -51,7 +52,7 @@ solid_as-passed edition t u r s h Attribute k = passed-unnamed (length t) Attrib
 solid_as-passed edition t u r s h Colon k = passed-unnamed (length t) Colon r _ (λ n. n)
 solid_as-passed edition t u r s h Other k = passed-unnamed (length t) Other r _ (λ n. n)
 
--- the sequence behind every shorter text is guarded
+-- the sequence after every shorter text is guarded
 abbrev SequencesGuarded : Edition → ℕ → List ℕ → List ℕ → Type 0
 SequencesGuarded edition n t u = (side : Side) (r s : List ℕ) → length r ≤ n → IsUtf8 r → Along (125 ∷ t) (125 ∷ u) r s → OutcomeGuard 125 t u (outcome (sequence_from edition side r)) (outcome (sequence_from edition side s))
 
@@ -125,7 +126,7 @@ sequence_from-guard : (edition : Edition) (u v : List ℕ) (n : ℕ) → Sequenc
 sequence_from-guard edition u v zero left r s l z h = absurd (omega (arith, l, longer-along (125 ∷ (u ++ v)) (125 ∷ u) r s h))
 sequence_from-guard edition u v (suc n) left r s l z h =
     rw (sequence_from-by edition left r, sequence_from-by edition left s)
-    (gap_sequence-guard edition n u v (sequence_from-guard edition u v n) left (gap r) (gap s) (omega (arith, l, length-left_after r (gap r) (gap-keeps r))) ((well-gap r).1 z) (gap-guarded u v r s h))
+    (gap_sequence-guard edition n u v (sequence_from-guard edition u v n) left (gap r) (gap s) (omega (arith, l, length-ends r (left_after (gap r)) (well-gap r).0)) ((well-gap r).1 z) (gap-guarded u v r s h))
 
 selector_of-same : (t u : List ℕ) (a b : Outcome) → OutcomeGuard 125 t u a b → Same t u (selector_of a) (selector_of b)
 selector_of-same t u a b (inr (both_refused x y k)) = inr (refl, k)

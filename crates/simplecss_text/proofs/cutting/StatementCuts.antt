@@ -1,4 +1,4 @@
--- A statement reads the same where the text is cut behind it or later.
+-- A statement reads the same where the text is cut after it or later.
 -- Serves `StyleSheet::parse_more` and `laws::cutting_law` (a text read in pieces),
 -- `StyleSheet::parse` and `laws::edition_law`.
 use Rattle.std.proofs.Common.{Bool, IsUtf8, List, None, Some, [], ap, arith, eqb-true, false, if◌then◌else◌, inl, inr, refl, subst, sym, true, ℕ, ◌==◌, ◌∙◌, ◌∷◌, ◌≡◌, append_assoc, length, ◌++◌, ◌⊎◌, append-nil, length-append}
@@ -26,7 +26,7 @@ use Rattle.simplecss_text.proofs.bytes.Utf8Laws.{utf8-first}
 
 -- ---- how a blank and a statement end
 
--- How a statement ends behind a blank: the text is used up, or it is a rule set that ends behind a
+-- How a statement ends after a blank: the text is used up, or it is a rule set that ends after a
 -- brace, or an at-rule.
 data NextEnds (edition : Edition) (text : List ℕ) (rules : List StyleRule) (rest : List ℕ) : Type 0 where
   text_ends : rest ≡ [] → NextEnds edition text rules rest
@@ -50,7 +50,7 @@ statement-ends edition (b ∷ text) rules rest e = by (b == 64) refl e
     by true f g = at_rule_ends text (ap (λ (c : ℕ). c ∷ text) (eqb-true b 64 f)) (sym (ap (λ r. r.0) g)) (subst (AtRuleEnds edition text) (ap (λ r. r.1) g) (at_rule-ends edition text))
     by false f g = of_rules f g (rule_set-behind edition (b ∷ text))
 
--- where the statements go on, and how the next one ends
+-- where the statements continue, and how the next one ends
 next_statement-ends : (edition : Edition) (text : List ℕ) (rules : List StyleRule) (rest : List ℕ) → next_statement edition text ≡ Some (rules, rest) → (ends_statements (past_blank text) ≡ false) × NextEnds edition (past_blank text) rules rest
 next_statement-ends edition text rules rest e = by (ends_statements (past_blank text)) refl e
   where
@@ -62,7 +62,7 @@ next_statement-ends edition text rules rest e = by (ends_statements (past_blank 
 
 -- ---- what is left is an end of the text, and the UTF-8 of some characters
 
--- an at-rule that ends behind a semicolon or a block ends behind that byte
+-- an at-rule that ends after a semicolon or a block ends after that byte
 semicolon-front : (edition : Edition) (text n rest left : List ℕ) → name edition text ≡ got n rest → past (is_neither 59 123) rest ≡ 59 ∷ left → Ends text (59 ∷ left)
 semicolon-front edition text n rest left e f =
     ends-ends text rest (59 ∷ left) (ends-got text itself (name edition text) n rest (name-stands edition text) e) (subst (Ends rest) f (ends-past (is_neither 59 123) rest))
@@ -78,7 +78,7 @@ at_rule-well edition text rest (at_fault fault left e) = subst (λ r. EndsWell t
 at_rule-well edition text rest (at_semicolon n x left e f) = well-behind 59 text rest (omega arith) (semicolon-front edition text n x rest e f)
 at_rule-well edition text rest (at_block n x inner left e f g) = well-behind 125 text rest (omega arith) (block-front edition text n x inner rest e f g)
 
--- what is left behind a blank and a statement
+-- what is left after a blank and a statement
 next-well : (edition : Edition) (text start : List ℕ) (rules : List StyleRule) (rest : List ℕ) → Ends text start → NextEnds edition start rules rest → EndsWell text rest
 next-well edition text start rules rest b (text_ends e) = subst (EndsWell text) (sym e) (well-nil text)
 next-well edition text start rules rest b (rules_end e f h) = well-behind 125 text rest (omega arith) (ends-ends text start (125 ∷ rest) b h)
@@ -87,9 +87,9 @@ next-well edition text start rules rest b (at_rule_ends after e f h) = well-then
 pub next_statement-well : (edition : Edition) (text rest : List ℕ) (rules : List StyleRule) → next_statement edition text ≡ Some (rules, rest) → EndsWell text rest
 next_statement-well edition text rest rules e = next-well edition text (past_blank text) rules rest (ends-past_blank text) (next_statement-ends edition text rules rest e).1
 
--- ---- the texts before and behind a cut
+-- ---- the texts before and after a cut
 
--- a text and its front, from behind an ASCII byte on
+-- a text and its front, from after an ASCII byte on
 along-of : (g : ℕ) (u v w : List ℕ) → Ends (u ++ v) (g ∷ (w ++ v)) → Along (g ∷ (w ++ v)) (g ∷ w) (u ++ v) u
 along-of g u v w e =
     let front : List ℕ = before (u ++ v) (g ∷ (w ++ v)) in
@@ -98,7 +98,7 @@ along-of g u v w e =
     let along : Along (g ∷ (w ++ v)) (g ∷ w) (front ++ g ∷ (w ++ v)) (front ++ g ∷ w) = along-front (g ∷ (w ++ v)) (g ∷ w) front in
     subst (λ (s : List ℕ). Along (g ∷ (w ++ v)) (g ∷ w) (u ++ v) s) same (subst (λ (r : List ℕ). Along (g ∷ (w ++ v)) (g ∷ w) r (front ++ g ∷ w)) parts along)
 
--- behind the blanks at their fronts
+-- after the blanks at their fronts
 past_blank-along : (g : ℕ) (u v w : List ℕ) → Plain g → Ends (past_blank (u ++ v)) (g ∷ (w ++ v)) → Along (g ∷ (w ++ v)) (g ∷ w) (past_blank (u ++ v)) (past_blank u)
 past_blank-along g u v w plain e = by (past_blank-to g w v plain (u ++ v) u (along-of g u v w (ends-ends (u ++ v) (past_blank (u ++ v)) (g ∷ (w ++ v)) (ends-past_blank (u ++ v)) e)))
   where
@@ -119,7 +119,7 @@ ends_statements-along : (t u r s : List ℕ) → Along (125 ∷ t) (125 ∷ u) r
 ends_statements-along t u r s at = rw (not_empty 125 t, not_empty 125 u) refl
 ends_statements-along t u r s (on b r1 s1 h) = rw (not_empty b r1, not_empty b s1) (opens_comment-along 125 t u brace_plain (b ∷ r1) (b ∷ s1) (on b r1 s1 h))
 
--- a rule set that ends behind a brace
+-- a rule set that ends after a brace
 rule_set-cut : (edition : Edition) (w v r s : List ℕ) (rules : List StyleRule) → IsUtf8 r → Along (125 ∷ (w ++ v)) (125 ∷ w) r s → rule_set edition r ≡ (rules, w ++ v) → (w ++ v ≡ []) ⊎ (rule_set edition s ≡ (rules, w))
 rule_set-cut edition w v r s rules z h e = by (rule_set edition r) (rule_set edition s) e (rule_set-same edition w v r s z h)
   where
@@ -132,7 +132,7 @@ rule_set-cut edition w v r s rules z h e = by (rule_set edition r) (rule_set edi
         let ruled : y ≡ rules = sym k ∙ ap (λ (c : List StyleRule × List ℕ). c.0) f in
         inr (rw (same, ruled) refl)
 
--- an at-rule, from behind its sign
+-- an at-rule, from after its sign
 at_rule-cut : (edition : Edition) (s v w rest : List ℕ) → IsUtf8 (s ++ v) → IsUtf8 v → rest ≡ w ++ v → AtRuleEnds edition (s ++ v) rest → (w ++ v ≡ []) ⊎ (at_rule_rest edition s ≡ w)
 at_rule-cut edition s v w rest whole cut e uses_up = inl (sym e)
 at_rule-cut edition s v w rest whole cut e (at_fault fault left f) = inr (at_rule-fault edition s v w fault (utf8-first s v whole cut) (f ∙ ap (fails fault) e))
@@ -152,7 +152,7 @@ next-nil edition u (b ∷ v) w rules e f = absurd (omega (arith, ap length e, le
 next_statement-reads : (edition : Edition) (u w : List ℕ) (rules : List StyleRule) → ends_statements (past_blank u) ≡ false → statement edition (past_blank u) ≡ (rules, w) → next_statement edition u ≡ Some (rules, w)
 next_statement-reads edition u w rules e f = rw (e, f) refl
 
--- What stands behind the end of a statement makes no difference to it.
+-- What follows the end of a statement makes no difference to it.
 pub next_statement-cut : (edition : Edition) (u v w : List ℕ) (rules : List StyleRule) → IsUtf8 (u ++ v) → IsUtf8 v → next_statement edition (u ++ v) ≡ Some (rules, w ++ v) → next_statement edition u ≡ Some (rules, w)
 unfolding statement
 next_statement-cut edition u v w rules whole cut e = by (next_statement-ends edition (u ++ v) rules (w ++ v) e).0 (next_statement-ends edition (u ++ v) rules (w ++ v) e).1

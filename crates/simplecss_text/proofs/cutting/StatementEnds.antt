@@ -31,12 +31,12 @@ past-stops test (c ∷ text) b rest e = by (test c) refl (past-stops test text b
     by true f ih h = ih (rw (f, one-add (prefix_len test text)) at h)
     by false f ih h = let same : c ≡ b = cc (rw f at h) in ap test (sym same) ∙ f
 
--- a byte that stands there
+-- a byte that is there
 pub starts-is : (c : ℕ) (text : List ℕ) → starts c text ≡ true → text ≡ c ∷ past_byte c text
 starts-is c [] e = absurd (cc)
 starts-is c (b ∷ text) e = rw e (ap (λ (x : ℕ). x ∷ text) (eqb-true b c e))
 
--- nothing is left, or what is left stands directly behind a closing brace
+-- nothing is left, or what is left directly follows a closing brace
 abbrev pub BehindBrace : List ℕ → List ℕ → Type 0
 BehindBrace text rest = (rest ≡ []) ⊎ Ends text (125 ∷ rest)
 
@@ -122,7 +122,7 @@ parts-ends edition text =
     let rest = (each (part_and_comma edition) text).1 in
     ends-ends text rest (part edition rest).1 (each-ends (part_and_comma edition) (part_and_comma-ends edition) text) (part-ends edition rest)
 
--- a rule set uses up the text, or ends directly behind a closing brace
+-- a rule set uses up the text, or ends directly after a closing brace
 pub rule_set-behind : (edition : Edition) (text : List ℕ) → BehindBrace text (rule_set edition text).1
 unfolding rule_set
 rule_set-behind edition text =
@@ -131,8 +131,8 @@ rule_set-behind edition text =
 
 -- ---- at-rules
 
--- How an at-rule ends that has this text behind its sign: it uses the text up, or ends at the fault
--- of its name, or behind a semicolon, or behind a block.
+-- How an at-rule ends that has this text after its sign: it uses the text up, or ends at the fault
+-- of its name, or after a semicolon, or after a block.
 pub data AtRuleEnds (edition : Edition) (text : List ℕ) : List ℕ → Type 0 where
   uses_up : AtRuleEnds edition text []
   at_fault : (fault : Fault) (left : List ℕ) → name edition text ≡ fails fault left → AtRuleEnds edition text left

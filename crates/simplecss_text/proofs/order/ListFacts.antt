@@ -27,7 +27,7 @@ head_passes p x xs e = ap (λ b. cond b (x ∷ filter p xs) (filter p xs)) e
 pub head_fails : {X : Type 0} (p : X → Bool) (x : X) (xs : List X) → p x ≡ false → filter p (x ∷ xs) ≡ filter p xs
 head_fails p x xs e = ap (λ b. cond b (x ∷ filter p xs) (filter p xs)) e
 
--- where the element at i passes, it stands in the part behind those before it that pass
+-- where the element at i passes, it is in the part after those before it that pass
 pub record Passes {X : Type 0} (p : X → Bool) (xs : List X) (i : ℕ) (d : X) : Type 0 where
   pub short : passing p (take i xs) < passing p xs
   pub there : get_or (filter p xs) (passing p (take i xs)) d ≡ get_or xs i d
@@ -50,7 +50,7 @@ passes p (x ∷ xs) zero d h e = record {
 }
 passes p (x ∷ xs) (suc i) d h e = passes_at p x xs i d (p x) refl (passes p xs i d (omega arith) e)
 
--- each element of the part stands somewhere in the list
+-- each element of the part is somewhere in the list
 pub record StandsAt {X : Type 0} (p : X → Bool) (xs : List X) (j : ℕ) (d : X) : Type 0 where
   pub at : ℕ
   pub within : at < length xs

@@ -1,4 +1,4 @@
--- Each element at its rank is what a stable sort gives.
+-- Each element at its rank is what a stable sort yields.
 -- Serves `order::{sort_rules, merge}` and `laws::{order_laws, place_law, sheet_law}` (the order of
 -- rules).
 use Rattle.std.proofs.Common.{◌≡◌, ℕ, ◌+◌, ◌<◌, suc, zero, Bool, true, false, cond, not, ◌&&◌, List, [], ◌∷◌, ◌++◌, length, length-append, get_or, take, map, filter, count_by, Some, eqb, eq-eqb, ap, ◌∙◌, sym, subst, refl, arith}
@@ -113,7 +113,7 @@ module _ {X : Type 0} (lt : X → X → Bool) (o : IsStrictWeakOrder lt) where
       let here : forth.at ≡ k = sym (self lt o ys forth.at d a.rises forth.within) ∙ forth.placed ∙ sym (rank_is_place lt xs j (get_or xs j d)) ∙ ranked in
       ap (λ (p : ℕ × X). p.1) (entry j short) ∙ sym forth.same ∙ ap (λ i. get_or ys i d) here)
 
-  -- a stable sort gives each element its rank
+  -- a stable sort yields each element its rank
   pub ordered_is : (xs ys : List X) → Arranges lt xs ys → ordered_by lt xs ≡ ys
   ordered_is xs ys a =
       ap (λ n. filter_map (of_rank lt xs) (range_with_len 0 n)) (sym a.long)
@@ -302,7 +302,7 @@ ties_alike lt o y x tied z =
     λ i. not (under i) && not (over i)
 
 -- The elements that tie with y are the same in both lists, where that holds of each y that the
--- function gives: there are as many of them, and if there is one, y ties with what it gives.
+-- function yields: there are as many of them, and if there is one, y ties with what it yields.
 stable_at : {X Y : Type 0} (f : X → Y) (lt : Y → Y → Bool) (o : IsStrictWeakOrder lt) (xs ys : List X) → ((x : X) → filter (λ z. ties lt (f x) (f z)) ys ≡ filter (λ z. ties lt (f x) (f z)) xs) → (y : Y) (l m : List X) → filter (λ z. ties lt y (f z)) xs ≡ l → filter (λ z. ties lt y (f z)) ys ≡ m → length m ≡ length l → filter (λ z. ties lt y (f z)) ys ≡ filter (λ z. ties lt y (f z)) xs
 stable_at f lt o xs ys stable y [] [] e g n = g ∙ sym e
 stable_at f lt o xs ys stable y [] (x ∷ m) e g n = absurd (omega arith)

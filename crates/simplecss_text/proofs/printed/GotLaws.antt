@@ -38,13 +38,13 @@ pub if_got-weaker : {A : Type 0} (P Q : A → List ℕ → Type 0) (r : Reading 
 if_got-weaker P Q (got x rest) n h = n x rest h
 if_got-weaker P Q (fails fault rest) n h = tt
 
--- the byte that must stand there stands there
+-- the byte that must be there is there
 pub byte-is : (c : ℕ) (text : List ℕ) → IfGot (λ u rest. text ≡ c ∷ rest) (byte c text)
 byte-is c [] = tt
 byte-is c (b ∷ text) =
     if_got-if (λ u rest. b ∷ text ≡ c ∷ rest) (b == c) (got tt text) (fails (wrong_byte c (b ∷ text)) (b ∷ text)) (λ e. ap (λ k. k ∷ text) (eqb-true b c e)) (λ e. tt)
 
--- where something is left, it stands behind this byte of the text
+-- where something is left, it follows this byte of the text
 abbrev pub IfBehind : ℕ → List ℕ → Option (List ℕ) → Type 0
 IfBehind c text None = Unit {0}
 IfBehind c text (Some rest) = (front : List ℕ) × (text ≡ front ++ (c ∷ rest))
@@ -54,7 +54,7 @@ behind-later : (c b : ℕ) (text : List ℕ) (o : Option (List ℕ)) → IfBehin
 behind-later c b text None h = tt
 behind-later c b text (Some rest) h = (b ∷ h.0, ap (λ l. b ∷ l) h.1)
 
--- what is left after the byte stands behind it
+-- what is left after the byte follows it
 pub after_byte-behind : (c : ℕ) (text : List ℕ) → IfBehind c text (after_byte c text)
 after_byte-behind c [] = tt
 after_byte-behind c (b ∷ text) = by (b == c) refl (after_byte-behind c text)
@@ -76,11 +76,11 @@ opens_comment-two b text e = by (b == 47) refl e
     by true h k = (eqb-true b 47 h, starts-cons 42 text k)
     by false h k = absurd (cc)
 
--- behind a byte that stands there, in a text
+-- after a byte that is there, in a text
 pub utf8-past_one : (whole text : List ℕ) (c : ℕ) → c < 128 → IsUtf8 whole → Ends whole text → starts c text ≡ true → IsUtf8 (past_one text)
 utf8-past_one whole text c low u e s = utf8-behind whole (past_one text) c low u (subst (λ (t : List ℕ). Ends whole t) (starts-cons c text s) e)
 
--- what is left after `*/` stands behind its `/`
+-- what is left after `*/` follows its `/`
 pub after_close-behind : (text : List ℕ) → IfBehind 47 text (after_close text)
 after_close-behind [] = tt
 after_close-behind (b ∷ text) = by (starts_two 42 47 (b ∷ text)) refl (after_close-behind text)

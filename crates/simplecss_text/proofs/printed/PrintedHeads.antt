@@ -103,7 +103,7 @@ gap-space text w =
     let part : each blank_part (32 ∷ text) ≡ followed_by true (each blank_part text) = each-some blank_part blank_part-takes (32 ∷ text) text true refl in
     gap-at (32 ∷ text) text (true ∷ []) (part ∙ ap (followed_by true) w.none) w.closed
 
--- what begins like a name is behind no gap
+-- what begins like a name is after no gap
 pub no_gap-name : (edition : Edition) (b : ℕ) (text : List ℕ) → IsNameByte edition b → NoGap (b ∷ text)
 no_gap-name edition b text w = no_gap-byte b text (rw (no 32 (omega arith) (low edition).0, no 9 (omega arith) (low edition).1, no 10 (omega arith) (low edition).2, no 13 (omega arith) (low edition).3, no 12 (omega arith) (low edition).4) refl) (no 47 (omega arith) (low edition).5)
   where
@@ -131,7 +131,7 @@ solid-name_byte edition b text w =
     no : (k : ℕ) → k < 128 → is_name_char edition k ≡ false → (b == k) ≡ false
     no k less e = other_byte edition k b less e w
 
--- What the type of a component satisfies that was read, where this text stands behind it. A hyphen
+-- What the type of a component satisfies that was read, where this text follows it. A hyphen
 -- alone is a type only where it ends the text.
 abbrev pub IsTypeName : Edition → Option (List ℕ) → List ℕ → Type 0
 IsTypeName edition None behind = Unit {0}
@@ -156,7 +156,7 @@ solid-star : (edition : Edition) (text : List ℕ) → solid edition (42 ∷ tex
 unfolding solid next_kind
 solid-star edition text = refl
 
--- a printed head is one solid piece, and behind no gap
+-- a printed head is one solid piece, and after no gap
 pub head-reads : (edition : Edition) (o : Option (List ℕ)) (tail : List ℕ) → IsTypeName edition o tail → ends_names edition tail ≡ false → solid edition (type_text o ++ tail) ≡ got (head_token o) tail
 head-reads edition None tail w e = solid-star edition tail
 head-reads edition (Some n) tail (inr h) e = ap (solid edition) (ap (λ l. l ++ tail) h.0 ∙ ap (λ l. 45 ∷ l) h.1) ∙ hyphen-reads edition ∙ ap (λ m. got (type_selector m) []) (sym h.0) ∙ ap (got (type_selector n)) (sym h.1)
@@ -165,7 +165,7 @@ head-reads edition (Some n) tail (inl w) e =
     let g : n ++ tail ≡ f.first ∷ (f.others ++ tail) = ap (λ l. l ++ tail) f.is in
     ap (solid edition) g ∙ solid-name_byte edition f.first (f.others ++ tail) f.fit ∙ ap (named_token edition type_selector) (sym g) ∙ named_token-type edition n tail w e
 
--- no gap stands before a printed head
+-- no gap is before a printed head
 pub head-no_gap : (edition : Edition) (o : Option (List ℕ)) (tail : List ℕ) → IsTypeName edition o tail → NoGap (type_text o ++ tail)
 head-no_gap edition None tail w = no_gap-byte 42 tail refl refl
 head-no_gap edition (Some n) tail (inr h) = subst NoGap (ap (λ l. l ++ tail) (sym h.0)) (no_gap-byte 45 tail refl refl)

@@ -24,7 +24,7 @@ use Rattle.simplecss_text.specs.Selectors.Role.{part}
 use Rattle.simplecss_text.specs.Printing.{pseudo_class_text, operator_text, subselector_text, escaped_after, is_clean_operator, is_clean_subselector}
 use Rattle.simplecss_text.proofs.printed.PrintedNames.{IsName, name-reads, ends_names, ends_names-byte, prefix_len-whole, begins_any_name}
 
--- the last byte of a text, before which stands `previous`
+-- the last byte of a text, before which is `previous`
 abbrev pub last_after : ℕ → List ℕ → ℕ
 last_after previous [] = previous
 last_after previous (b ∷ text) = last_after b text
@@ -43,7 +43,7 @@ from_quote-clean previous (b ∷ v) tail c l = by (b == 39) (previous == 92) ref
     by true false eq ep h more = absurd (cc)
     by false p eq ep h more = rw eq (more h)
 
--- where an apostrophe stands behind no backslash, the string ends there
+-- where an apostrophe follows no backslash, the string ends there
 record CutShort (previous : ℕ) (v tail : List ℕ) : Type 0 where
   pub front : List ℕ
   pub more : List ℕ
@@ -108,7 +108,7 @@ quoted v tail = append_assoc v (39 ∷ []) (93 ∷ tail)
 equated-reads : (edition : Edition) (operator : List ℕ → Operator) (v tail : List ℕ) → IsValue v → escaped_after 0 v ≡ true → equated edition operator (61 ∷ (39 ∷ ((v ++ (39 ∷ [])) ++ (93 ∷ tail)))) ≡ got (operator v) (93 ∷ tail)
 equated-reads edition operator v tail l c = let s = string-reads edition v (93 ∷ tail) l c in rw (quoted v tail, s) refl
 
--- so is what is asked of an attribute
+-- so is what is required of an attribute
 operator-reads : (edition : Edition) (o : Operator) (tail : List ℕ) → IsOperator o → is_clean_operator o ≡ true → attribute_operator edition (operator_text o ++ (93 ∷ tail)) ≡ got o (93 ∷ tail)
 unfolding attribute_operator
 operator-reads edition exists tail w c = refl
@@ -116,7 +116,7 @@ operator-reads edition (equals v) tail w c = equated-reads edition equals v tail
 operator-reads edition (has_word v) tail w c = equated-reads edition has_word v tail w c
 operator-reads edition (begins_with v) tail w c = equated-reads edition begins_with v tail w c
 
--- no name goes on with it
+-- no name continues with it
 pub operator-ends : (edition : Edition) (o : Operator) (tail : List ℕ) → ends_names edition (operator_text o ++ (93 ∷ tail)) ≡ false
 operator-ends first_edition exists tail = ends_names-byte first_edition 93 _ (omega arith) refl
 operator-ends first_edition (equals v) tail = ends_names-byte first_edition 61 _ (omega arith) refl
@@ -127,7 +127,7 @@ operator-ends second_edition (equals v) tail = ends_names-byte second_edition 61
 operator-ends second_edition (has_word v) tail = ends_names-byte second_edition 126 _ (omega arith) refl
 operator-ends second_edition (begins_with v) tail = ends_names-byte second_edition 124 _ (omega arith) refl
 
--- so is a clean attribute behind its bracket
+-- so is a clean attribute after its bracket
 attribute-reads : (edition : Edition) (n : List ℕ) (o : Operator) (tail : List ℕ) → IsName edition n → IsOperator o → is_clean_operator o ≡ true → attribute_after edition (n ++ (operator_text o ++ (93 ∷ tail))) ≡ got (attribute_selector n o) tail
 unfolding attribute_after
 attribute-reads edition n o tail w x c =

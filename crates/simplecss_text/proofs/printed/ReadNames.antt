@@ -74,7 +74,7 @@ taken_begins edition (c ∷ d ∷ cs) h = by (is_name_start edition c) refl
         ∙ ap (λ l. c ∷ l) (taken (is_name_char edition) d cs (start_char edition d both.1)) in
         inl (ap (begins_any_name edition) two ∙ h)
 
--- A name that was read: it is one wherever it stands, or the hyphen that ends the text. What is
+-- A name that was read: it is one wherever it is, or the hyphen that ends the text. What is
 -- left is a text.
 pub record ReadName (edition : Edition) (text n rest : List ℕ) : Type 0 where
   pub is : IsName edition n ⊎ ((n ≡ 45 ∷ []) × (rest ≡ []))

@@ -1,4 +1,4 @@
--- What selector a sequence gives that is accepted.
+-- What selector a sequence yields that is accepted.
 -- Serves `Selector::{parse, parse_front}` and `StyleSheet::parse` (a selector printed and read
 -- again).
 use Rattle.std.proofs.Common.{◌≡◌, ℕ, zero, suc, ◌<◌, inl, inr, List, [], ◌∷◌, ◌++◌, Bool, true, false, if◌then◌else◌, map, length, codes, bytes_eq, arith, refl, sym, ap, ◌∙◌, subst, Option, Some, None, IsUtf8}
@@ -25,8 +25,8 @@ use Rattle.simplecss_text.specs.Selectors.Part.{any_type, of_type, with}
 use Rattle.simplecss_text.specs.Selectors.Role.{part, joint}
 use Rattle.simplecss_text.specs.Selectors.Outcome.{refused, accepted}
 use Rattle.simplecss_text.specs.Printing.{selector_text, subselector_text}
-use Rattle.simplecss_text.proofs.reading.PiecesLawful.{solid-cuts}
-use Rattle.simplecss_text.proofs.reading.TakesLaws.{Keeps, Cuts, gap-keeps}
+use Rattle.simplecss_text.proofs.reading.PiecesLawful.{solid-cuts, solid-lawful}
+use Rattle.simplecss_text.proofs.reading.TakesLaws.{Keeps, Cuts}
 use Rattle.simplecss_text.proofs.reading.SequenceSteps.{sequence_from-solid, sequence_from-open_gap}
 use Rattle.simplecss_text.proofs.printed.TokenKinds.{kind_of, sequence_from-token}
 use Rattle.simplecss_text.proofs.printed.PrintedNames.{IsName}
@@ -34,20 +34,22 @@ use Rattle.simplecss_text.proofs.printed.PrintedPieces.{IsClass, IsSubselector, 
 use Rattle.simplecss_text.proofs.printed.PrintedHeads.{IsTypeName}
 use Rattle.simplecss_text.proofs.printed.PrintedSelectors.{EachIs, IsCompound, Joins, EachJoined, goes-end}
 use Rattle.simplecss_text.proofs.printed.GotLaws.{got-holds}
+use Rattle.simplecss_text.proofs.reading.Lawful.{lawful-text}
+use Rattle.simplecss_text.proofs.reading.EndsLaws.{length-ends}
 use Rattle.simplecss_text.proofs.reading.WellLaws.{well-gap}
-use Rattle.simplecss_text.proofs.printed.ReadPieces.{GoodToken, ReadToken, solid-gives}
+use Rattle.simplecss_text.proofs.printed.ReadPieces.{GoodToken, solid-gives}
 
--- the components that stand behind the one that roles begin with
+-- the components that follow the one that roles begin with
 abbrev pub others_of : List Role → List Component
 others_of roles = map component_of (cut roles).1
 
--- Behind a simple piece: further subselectors and no type, and then components behind combinators.
+-- After a simple piece: further subselectors and no type, and then components after combinators.
 pub record GoesOn (edition : Edition) (roles : List Role) (left : List ℕ) : Type 0 where
   pub subselectors : EachIs edition (subselectors_among (cut roles).0)
   pub no_type : (known : Option (List ℕ)) → type_among known (cut roles).0 ≡ known
   pub others : EachJoined edition (others_of roles) left
 
--- At the start of a text, or behind a combinator: a compound, and then components behind
+-- At the start of a text, or after a combinator: a compound, and then components after
 -- combinators.
 pub record Begins (edition : Edition) (roles : List Role) (left : List ℕ) : Type 0 where
   pub compound : IsCompound edition (component_of (none, (cut roles).0)).compound (selector_text (others_of roles) ++ left)
@@ -159,11 +161,11 @@ begins-token edition descendant_combinator after o simple w last h = absurd simp
 begins-token edition child_combinator after o simple w last h = absurd simple
 begins-token edition adjacent_combinator after o simple w last h = absurd simple
 
--- what the sequence is behind a token, by the left side
+-- what the sequence is after a token, by the left side
 abbrev Behind : Edition → List ℕ → (Side → TokenSequence) → Type 0
 Behind edition after rest = IfGoesOn edition (outcome (rest closed_side)) × IfBegins edition (outcome (rest open_side)) × (after ≡ [] → outcome (rest closed_side) ≡ accepted [] [])
 
--- the outcome of a piece, and of the sequence behind it
+-- the outcome of a piece, and of the sequence after it
 abbrev piece_outcome : Side → (spaced : Bool) → (start : List ℕ) → Token → (after : List ℕ) → (Side → TokenSequence) → Outcome
 piece_outcome side spaced start token after rest = outcome (answered (between side spaced (kind_of token) start after) start (token_then token after (rest (side_behind (kind_of token)))))
 
@@ -179,7 +181,7 @@ open_piece edition spaced start descendant_combinator after rest w h = tt
 open_piece edition spaced start child_combinator after rest w h = tt
 open_piece edition spaced start adjacent_combinator after rest w h = tt
 
--- behind a simple piece and a space byte: a descendant combinator, or a combinator that stands
+-- after a simple piece and a space byte: a descendant combinator, or a combinator that is
 -- there
 spaced_piece : (edition : Edition) (start : List ℕ) (token : Token) (after : List ℕ) (rest : Side → TokenSequence) → GoodToken edition token after → Behind edition after rest → IfGoesOn edition (piece_outcome closed_side true start token after rest)
 spaced_piece edition start universal_selector after rest w h = goes_on-joint edition descendant (after_role (role_of universal_selector) after (outcome (rest closed_side))) tt (open_piece edition false start universal_selector after rest w h)
@@ -193,7 +195,7 @@ spaced_piece edition start descendant_combinator after rest w h = absurd w
 spaced_piece edition start child_combinator after rest w h = goes_on-joint edition child (outcome (rest open_side)) tt h.1
 spaced_piece edition start adjacent_combinator after rest w h = goes_on-joint edition adjacent (outcome (rest open_side)) tt h.1
 
--- behind a simple piece without a space byte: a subselector, or a combinator
+-- after a simple piece without a space byte: a subselector, or a combinator
 close_piece : (edition : Edition) (start : List ℕ) (token : Token) (after : List ℕ) (rest : Side → TokenSequence) → GoodToken edition token after → Behind edition after rest → IfGoesOn edition (piece_outcome closed_side false start token after rest)
 close_piece edition start universal_selector after rest w h = tt
 close_piece edition start (type_selector n) after rest w h = tt
@@ -213,7 +215,7 @@ closed_piece edition false start token after rest w h = close_piece edition star
 no_more : (edition : Edition) (left : List ℕ) → GoesOn edition [] left
 no_more edition left = record { subselectors = tt; no_type = λ known. refl; others = tt }
 
--- where no further piece stands
+-- where there is no further piece
 closed_ending : (edition : Edition) (end : Ending) → IfGoesOn edition (outcome (ending_sequence closed_side end))
 closed_ending edition (at_stop true start) = no_more edition start
 closed_ending edition (at_stop false start) = no_more edition start
@@ -232,7 +234,7 @@ open_ending edition (without_head spaced start fault after) = tt
 open_ending edition (within_piece spaced start fault after) = tt
 open_ending edition (within_gap fault after) = tt
 
--- what the outcome is of a text behind either left side
+-- what the outcome is of a text after either left side
 abbrev pub SequenceIs : Edition → List ℕ → Type 0
 SequenceIs edition text = IfGoesOn edition (outcome (sequence_from edition closed_side text)) × IfBegins edition (outcome (sequence_from edition open_side text))
 
@@ -254,7 +256,7 @@ sequence-piece edition text start after spaced token g s w more =
 
 shorter : (edition : Edition) (text start after : List ℕ) (spaced : Bool) (token : Token) → gap text ≡ got spaced start → solid edition start ≡ got token after → length after < length text
 shorter edition text start after spaced token g s =
-    let a = subst (λ (r : Reading Bool). Keeps text r) g (gap-keeps text) in
+    let a = subst (λ (r : Reading Bool). Keeps text r) g (length-ends text (left_after (gap text)) (well-gap text).0) in
     let b = subst (λ (r : Reading Token). Cuts start r) s (solid-cuts edition start) in
     omega (arith, a, b)
 
@@ -264,15 +266,16 @@ sequence-within edition (suc n) text less u = by (gap text) refl (λ after k v. 
   where
     inside : (spaced : Bool) (start : List ℕ) → gap text ≡ got spaced start → IsUtf8 start → (r : Reading Token) → solid edition start ≡ r → ((after : List ℕ) → length after < n → IsUtf8 after → SequenceIs edition after) → SequenceIs edition text
     inside spaced start g v (got token after) s more =
-        let w = got-holds (ReadToken edition) (solid edition start) token after (solid-gives edition start v) s in
+        let w = got-holds (GoodToken edition) (solid edition start) token after (solid-gives edition start v) s in
         let cuts : length after < length text = shorter edition text start after spaced token g s in
-        sequence-piece edition text start after spaced token g s w.0 (more after (omega arith) w.1)
+        let left : IsUtf8 after = subst (λ (r : Reading Token). IsUtf8 (left_after r)) s (lawful-text solid solid solid-lawful edition start v) in
+        sequence-piece edition text start after spaced token g s w (more after (omega arith) left)
     inside spaced start g v (fails fault after) s more = sequence-ending edition text (fault_ending (next_kind start) spaced start fault after) (λ side. sequence_from-solid edition side text start spaced (fails fault after) g s)
 
     by : (r : Reading Bool) → gap text ≡ r → ((after : List ℕ) → length after < n → IsUtf8 after → SequenceIs edition after) → SequenceIs edition text
     by (got spaced start) g more = inside spaced start g (subst (λ (r : Reading Bool). IsUtf8 (left_after r)) g ((well-gap text).1 u)) (solid edition start) refl more
     by (fails fault after) g more = sequence-ending edition text (within_gap fault after) (λ side. sequence_from-open_gap edition side text after fault g)
 
--- the outcome of a text, behind either left side
+-- the outcome of a text, after either left side
 pub sequence-is : (edition : Edition) (text : List ℕ) → IsUtf8 text → SequenceIs edition text
 sequence-is edition text u = sequence-within edition (suc (length text)) text (omega arith) u

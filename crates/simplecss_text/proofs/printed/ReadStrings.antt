@@ -1,15 +1,14 @@
 -- What a value is that was read as a string.
 -- Serves `Selector::{parse, parse_front}` and `StyleSheet::parse` (a selector printed and read
 -- again).
-use Rattle.std.proofs.Common.{◌≡◌, ℕ, ◌<◌, List, [], ◌∷◌, ◌++◌, Bool, true, false, if◌then◌else◌, ◌&&◌, not, ◌==◌, refl, sym, ap, ◌∙◌, subst, Option, Some, None, IsUtf8, eqb-true}
+use Rattle.std.proofs.Common.{◌≡◌, ℕ, List, [], ◌∷◌, ◌++◌, Bool, true, false, if◌then◌else◌, ◌&&◌, not, ◌==◌, refl, sym, ap, ◌∙◌, Option, Some, None, eqb-true}
 use Rattle.simplecss_text.proofs.reading.EndsLaws.{before-append}
 use Rattle.simplecss_text.specs.Reading.{before}
 use Rattle.simplecss_text.specs.Strings.{from_quote, string_up_to, string_after}
 use Rattle.simplecss_text.proofs.printed.PrintedPieces.{last_after, IsValue}
-use Rattle.simplecss_text.proofs.bytes.Utf8Laws.{utf8-behind_byte}
 use Rattle.simplecss_text.proofs.printed.GotLaws.{IfGot}
 
--- where the closing quote stands: what is in front of it ends with no backslash
+-- where the closing quote is: what is before it ends with no backslash
 pub record Closes (quote previous : ℕ) (text closing : List ℕ) : Type 0 where
   pub front : List ℕ
   pub behind : List ℕ
@@ -47,13 +46,12 @@ quote_start : (quote : ℕ) (front : List ℕ) → (last_after quote front == 92
 quote_start quote [] h = refl
 quote_start quote (b ∷ front) h = h
 
--- a string's value ends with no backslash, and what stands behind the closing quote is a text
-pub string_after-gives : (quote : ℕ) (text : List ℕ) → quote < 128 → IsUtf8 text → IfGot (λ v rest. IsValue v × IsUtf8 rest) (string_after quote text)
-string_after-gives quote text low u = by (from_quote quote quote text) (from_quote-closes quote quote text)
+-- a string's value ends with no backslash
+pub string_after-gives : (quote : ℕ) (text : List ℕ) → IfGot (λ v rest. IsValue v) (string_after quote text)
+string_after-gives quote text = by (from_quote quote quote text) (from_quote-closes quote quote text)
   where
-    by : (o : Option (List ℕ)) → IfCloses quote quote text o → IfGot (λ v rest. IsValue v × IsUtf8 rest) (string_up_to text o)
+    by : (o : Option (List ℕ)) → IfCloses quote quote text o → IfGot (λ v rest. IsValue v) (string_up_to text o)
     by None c = tt
     by (Some closing) c =
         let value : before text closing ≡ c.front = ap (λ t. before t closing) (c.is ∙ ap (λ l. c.front ++ l) (sym c.closing_is)) ∙ before-append c.front closing in
-        let left = utf8-behind_byte c.front quote c.behind low (subst IsUtf8 c.is u) in
-        rw (value, c.closing_is) (quote_start quote c.front c.open_end, left)
+        rw value (quote_start quote c.front c.open_end)

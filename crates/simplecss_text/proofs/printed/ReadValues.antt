@@ -13,7 +13,7 @@ use Rattle.simplecss_text.proofs.printed.PrintedNames.{IsName, chars-byte}
 use Rattle.simplecss_text.proofs.printed.PrintedPieces.{last_after, IsValue}
 use Rattle.simplecss_text.proofs.printed.ReadNames.{name-is}
 use Rattle.simplecss_text.proofs.printed.ReadStrings.{string_after-gives}
-use Rattle.simplecss_text.proofs.bytes.Utf8Laws.{utf8-past_byte, utf8-before_byte}
+use Rattle.simplecss_text.proofs.bytes.Utf8Laws.{utf8-before_byte}
 use Rattle.simplecss_text.proofs.printed.GotLaws.{IfGot, if_got, if_got-if}
 use Rattle.std.proofs.lemmas.Bool.Decides.{nat_tests}
 
@@ -47,21 +47,21 @@ name-value_is edition (b ∷ n) w = by (last_after b n == 92) refl
     by true e = let s = last_split b n e in absurd (name_end edition s.0 (b ∷ n) w s.1)
 
 -- what is read as a name is a value, and leaves a text
-name-gives_value : (edition : Edition) (text : List ℕ) → IsUtf8 text → IfGot (λ v rest. IsValue v × IsUtf8 rest) (name edition text)
+name-gives_value : (edition : Edition) (text : List ℕ) → IsUtf8 text → IfGot (λ v rest. IsValue v) (name edition text)
 name-gives_value edition text u =
-    if_got (λ v rest. IsValue v × IsUtf8 rest) (name edition text) (λ v rest e.
+    if_got (λ v rest. IsValue v) (name edition text) (λ v rest e.
     let read = name-is edition text v rest u e in
-    (elim (read.is) [ inl w ↦ name-value_is edition v w | inr h ↦ subst IsValue (sym h.0) refl ], read.rest_is))
+    elim (read.is) [ inl w ↦ name-value_is edition v w | inr h ↦ subst IsValue (sym h.0) refl ])
 
 -- quotes are ASCII
 pub quote_low : (b : ℕ) → is_quote b ≡ true → b < 128
 quote_low b e = grind (arith, nat_tests)
 
 -- a value of an attribute ends with no backslash, and leaves a text
-pub string_or_name-gives : (edition : Edition) (text : List ℕ) → IsUtf8 text → IfGot (λ v rest. IsValue v × IsUtf8 rest) (string_or_name edition text)
+pub string_or_name-gives : (edition : Edition) (text : List ℕ) → IsUtf8 text → IfGot (λ v rest. IsValue v) (string_or_name edition text)
 unfolding string_or_name
 string_or_name-gives edition [] u = tt
 string_or_name-gives edition (b ∷ text) u =
-    if_got-if (λ v rest. IsValue v × IsUtf8 rest) (is_quote b) (string_after b text) (name edition (b ∷ text))
-    (λ e. string_after-gives b text (quote_low b e) (utf8-past_byte b text (quote_low b e) u))
+    if_got-if (λ v rest. IsValue v) (is_quote b) (string_after b text) (name edition (b ∷ text))
+    (λ e. string_after-gives b text)
     (λ e. name-gives_value edition (b ∷ text) u)

@@ -12,17 +12,17 @@ use Rattle.simplecss_text.specs.Reading.{Reader, Ends, Reading, before, each, en
 use Rattle.simplecss_text.specs.Bytes.{after_byte, byte, closed_or, is_digit, optional, past, past_one, starts}
 use Rattle.simplecss_text.specs.Characters.{Edition, first_edition, second_edition}
 use Rattle.simplecss_text.specs.Comments.{blank, past_blank}
-use Rattle.simplecss_text.specs.Strings.{from_quote, is_quote, string_after}
+use Rattle.simplecss_text.specs.Strings.{is_quote}
 use Rattle.simplecss_text.specs.Terms.{arguments, begins_number, is_hex_digit, is_slash_term, past_decimals, past_hash, past_number, past_unit, quoted, term, word}
 use Rattle.simplecss_text.specs.Declarations.{StyleDeclaration, after_term, declaration, importance, important_word, last_or, semicolon, semicolons, term_in_value, terms, trailing, unless_empty, value, value_reader}
 use Rattle.simplecss_text.specs.Blocks.{block_end, declaration_in_block, ends_list, from_block_end}
 use Rattle.simplecss_text.specs.Names.{begins_name, name}
 use Rattle.simplecss_text.proofs.reading.EndsLaws.{EndsFound, Stands, ends-drop, length-ends, no_texts}
-use Rattle.simplecss_text.proofs.reading.WellLaws.{EndsWell, WellFound, each-well, found-ends, found-text, well-closed, well-name, well-past, well-past_blank, well-tail, well-then}
+use Rattle.simplecss_text.proofs.reading.WellLaws.{EndsWell, WellFound, each-well, found-ends, found-text, well-blank, well-closed, well-name, well-past, well-past_blank, well-tail, well-then}
 use Rattle.simplecss_text.proofs.bytes.Utf8Laws.{utf8-second}
 use Rattle.simplecss_text.proofs.printed.GotLaws.{IfBehind, after_byte-behind, starts-cons}
 use Rattle.simplecss_text.proofs.printed.ReadValues.{quote_low}
-use Rattle.simplecss_text.proofs.reading.TakesLaws.{Cuts, Keeps, blank-keeps, cuts-follow, cuts-if, follow-cuts, from_quote-leaves, keeps-cuts, keeps-follow, length-past_blank, length-past_byte, name-cuts, string_up_to-keeps}
+use Rattle.simplecss_text.proofs.reading.TakesLaws.{Cuts, cuts-follow, cuts-if, cuts-so, follow-cuts, length-past_blank, length-past_byte, name-cuts}
 use Rattle.simplecss_text.proofs.reading.EachLaws.{Shrinks, Takes}
 use Rattle.simplecss_text.proofs.reading.LocalLaws.{Along, Equal, Guard, Never, Pairs, Passed, Repeats, Seam, Step, To, at, at-brace, before-along, drop-to, each-repeats, guard-got, left-to, on, starts-seam}
 use Rattle.simplecss_text.proofs.reading.LocalLaws.Seam.{at_brace, at_quiet}
@@ -110,9 +110,6 @@ word-cuts : (edition : Edition) (text : List ℕ) → Cuts text (word edition te
 unfolding word
 word-cuts edition text = cuts-follow text (name edition text) (λ n. arguments) (name-cuts edition text) (λ n rest. lawful-keeps _ _ (arguments-lawful true) edition rest)
 
-quoted-keeps : (quote : ℕ) (text : List ℕ) → Keeps text (quoted quote text)
-quoted-keeps quote text = keeps-follow text (string_after quote text) _ (string_up_to-keeps text (from_quote quote quote text) (from_quote-leaves quote quote text)) (λ inside rest. omega arith)
-
 -- a term takes a byte or more
 pub term-cuts : (edition : Edition) (text : List ℕ) → Cuts text (term edition text)
 unfolding term
@@ -120,7 +117,7 @@ term-cuts edition [] = omega arith
 term-cuts edition (b ∷ text) =
     cuts-if (b ∷ text) (b == 35) _ _ (owes-cuts b (past_hash-lawful true text text) edition)
     (cuts-if (b ∷ text) (begins_number b) _ _ (owes-cuts b (past_number-lawful true text text) edition)
-    (cuts-if (b ∷ text) (is_quote b) _ _ (keeps-cuts text (b ∷ text) (quoted b text) (omega arith) (quoted-keeps b text))
+    (cuts-so (b ∷ text) (is_quote b) _ _ (λ e. owes-cuts b (quoted-lawful true b e text text) edition)
     (cuts-if (b ∷ text) (b == 44 || is_slash_term edition b text) _ _ (omega arith)
     (word-cuts edition (b ∷ text)))))
 
@@ -265,7 +262,7 @@ value-lawful r s = record {
         let same : before r (last_or r a.0) ≡ before s (last_or s b.0) = before-along (125 ∷ (u ++ v)) (125 ∷ u) r s _ _ h (last_or-along (u ++ v) u r s a.0 b.0 h k.0) in
         guard-got Equal true (125 ∷ (u ++ v)) (125 ∷ u) _ _ _ _ (ap trim same) (left-to Equal (125 ∷ (u ++ v)) (125 ∷ u) (term edition a.1) (term edition b.1) (lawful-guarded term term (term-lawful true) edition u v a.1 b.1 z k.1))
 
--- ---- what stands behind a value
+-- ---- what follows a value
 
 semicolon-well : (text : List ℕ) → WellFound text (semicolon text)
 semicolon-well [] = tt
@@ -317,7 +314,7 @@ abbrev NoBrace : List ℕ → Type 0
 NoBrace [] = Unit {0}
 NoBrace (c ∷ word) = (eqb c 125 ≡ false) × NoBrace word
 
--- a word without a brace stands at both or at neither
+-- a word without a brace is at both or at neither
 begins-along : (t u word : List ℕ) → NoBrace word → (r s : List ℕ) → Along (125 ∷ t) (125 ∷ u) r s → starts_with eqb r word ≡ starts_with eqb s word
 begins-along t u [] n r s h = refl
 begins-along t u (c ∷ word) n r s at = let e : eqb c 125 ≡ false = n.0 in rw e refl
@@ -362,7 +359,7 @@ trailing-stands text = lawful-stands (λ edition. trailing) (λ edition. trailin
 unless_empty-lawful : (start other : List ℕ) (declared : StyleDeclaration) → Lawful true (λ edition. unless_empty start declared) (λ edition. unless_empty other declared)
 unless_empty-lawful start other declared r s = owes-if (length declared.value == 0) (owes-fails _ _ r s) (owes-give declared r s)
 
--- a declaration behind its name
+-- a declaration after its name
 abbrev behind_name : List ℕ → Edition → Reader StyleDeclaration
 behind_name property edition = do
   blank
@@ -393,9 +390,9 @@ declaration-lawful r s =
 pub declaration-cuts : (edition : Edition) (text : List ℕ) → Cuts text (declaration edition text)
 unfolding declaration
 declaration-cuts edition text =
-    follow-cuts text (blank text) _ (blank-keeps text) (λ u a.
+    follow-cuts text (blank text) _ (length-ends text (left_after (blank text)) (well-blank text).0) (λ u a.
     follow-cuts a (optional 42 a) _ (length-past_byte 42 a) (λ u b.
-    cuts-follow b (name edition b) _ (name-cuts edition b) (λ property. lawful-keeps _ _ (behind_name-lawful property) edition)))
+    cuts-follow b (name edition b) (λ property. behind_name property edition) (name-cuts edition b) (λ property. lawful-keeps (behind_name property) (behind_name property) (behind_name-lawful property) edition)))
 
 pub declaration-stands : (edition : Edition) (text : List ℕ) → Stands text no_texts (declaration edition text)
 declaration-stands edition text = lawful-stands declaration declaration declaration-lawful edition text

@@ -1,4 +1,4 @@
--- Ends of a text, and texts that stand in what reading passes.
+-- Ends of a text, and texts that are in what reading passes.
 -- Serves `next` of both tokenizers (slices in order), `StyleSheet::parse_more`, `laws::cutting_law`
 -- and `laws::edition_law`.
 use Rattle.std.proofs.Common.{◌≡◌, ℕ, zero, suc, ◌≤◌, List, [], ◌∷◌, ◌++◌, Bool, true, false, if◌then◌else◌, length, take, drop, ◌-◌, ◌==◌, Option, Some, None, arith, refl, ap, ◌∙◌, subst, append_assoc, append-nil, length-append}
@@ -9,13 +9,13 @@ use Rattle.simplecss_text.specs.Bytes.{past_one, past_byte, past}
 use Rattle.std.specs.List.{prefix_len}
 use Rattle.simplecss_text.specs.Slices.{StandBetween}
 
--- what stands before a rest is the front that was put there
+-- what is before a rest is the front that was put there
 pub before-append : (front rest : List ℕ) → before (front ++ rest) rest ≡ front
 before-append front rest =
     let n : length (front ++ rest) - length rest ≡ length front = omega (arith, length-append front rest) in
     ap (λ n. take n (front ++ rest)) n ∙ take-append_seam front rest
 
--- a text is an end of itself behind any front
+-- a text is an end of itself after any front
 pub ends-append : (front rest : List ℕ) → Ends (front ++ rest) rest
 ends-append front rest = ap (λ f. f ++ rest) (before-append front rest)
 
@@ -63,7 +63,7 @@ ends-past_byte c (b ∷ text) = by (b == c)
 pub ends-past : (test : ℕ → Bool) (text : List ℕ) → Ends text (past test text)
 ends-past test text = ends-drop (prefix_len test text) text
 
--- what is left, if anything is told to be, is an end of the text
+-- what is left, if anything is reported to be, is an end of the text
 abbrev pub EndsSome : List ℕ → Option (List ℕ) → Type 0
 EndsSome text None = Unit {0}
 EndsSome text (Some rest) = Ends text rest
@@ -95,7 +95,7 @@ pub each-ends : {A : Type 0} (read : List ℕ → Option (A × List ℕ)) → ((
 unfolding each
 each-ends read ends text = up_to-ends read ends (length text) text
 
--- texts between two rests stand between an earlier and a later one too
+-- texts between two rests are between an earlier and a later one too
 pub stand-from : (from middle to : List ℕ) (texts : List (List ℕ)) → Ends from middle → StandBetween middle to texts → StandBetween from to texts
 stand-from from middle to [] e h = ends-ends from middle to e h
 stand-from from middle to (s ∷ ss) e (start, end, a, b, c, d) = (start, end, ends-ends from middle start e a, b, c, d)
@@ -109,16 +109,16 @@ pub stand-append : (from middle to : List ℕ) (ss ts : List (List ℕ)) → Sta
 stand-append from middle to [] ts h k = stand-from from middle to ts h k
 stand-append from middle to (s ∷ ss) ts (start, end, a, b, c, d) k = (start, end, a, b, c, stand-append end middle to ss ts d k)
 
--- where texts stand between two rests, the later one is an end of the earlier one
+-- where texts are between two rests, the later one is an end of the earlier one
 pub stand-ends : (from to : List ℕ) (texts : List (List ℕ)) → StandBetween from to texts → Ends from to
 stand-ends from to [] h = h
 stand-ends from to (s ∷ ss) (start, end, a, b, c, d) = ends-ends from start to a (ends-ends start end to b (stand-ends end to ss d))
 
--- what stands before a rest stands between the text and that rest
+-- what is before a rest is between the text and that rest
 pub stand-before : (text rest : List ℕ) → Ends text rest → StandBetween text rest (before text rest ∷ [])
 stand-before text rest e = (text, rest, ends-same text, e, refl, ends-same rest)
 
--- After a reading an end of the text is left, and the texts of the value that it gives stand before
+-- After a reading an end of the text is left, and the texts of the value that it yields are before
 -- it.
 abbrev pub StandsIn : {A : Type 0} → List ℕ → (A → List (List ℕ)) → Reading A → Type 0
 StandsIn text texts (got x rest) = StandBetween text rest (texts x)

@@ -23,7 +23,7 @@ use Rattle.simplecss_text.proofs.editions.EditionLaws.{Shared, name-editions, sh
 -- UTF-8 if r is. `same`: where r has ASCII bytes alone and no slash, both editions come to the same.
 -- `guard`, the law of locality: where another text s is alike up to where both part, and b reads s,
 -- the first reading passed that place or both come to the same. With `true` this is owed where the
--- second text is cut behind a closing brace; with `false` where the first goes on with any text and
+-- second text is cut after a closing brace; with `false` where the first continues with any text and
 -- the second with a byte that continues nothing, and then not of faults.
 pub record Owes {A : Type 0} (c : Bool) (r s : List ℕ) (a b : Edition → Reading A) : Type 0 where
   pub left : (edition : Edition) → EndsWell r (left_after (a edition))
@@ -77,6 +77,14 @@ owes-so false a b p q = q refl
 pub owes-if : {A : Type 0} {c : Bool} {r s : List ℕ} {a b x y : Edition → Reading A} (k : Bool) → Owes c r s a b → Owes c r s x y → Owes c r s (λ edition. if k then a edition else x edition) (λ edition. if k then b edition else y edition)
 owes-if k p q = owes-so k _ _ (λ e. p) (λ e. q)
 
+-- where both texts are read in other ways, which come to the same
+owes-same : {A : Type 0} {c : Bool} {r s : List ℕ} {a b d e : Edition → Reading A} → ((edition : Edition) → a edition ≡ d edition) → ((edition : Edition) → b edition ≡ e edition) → Owes c r s a b → Owes c r s d e
+owes-same {c = c} {r = r} {b = b} {d = d} one two p = record {
+  left = λ edition. subst (λ o. EndsWell r (left_after o)) (one edition) (p.left edition);
+  same = λ h. sym (one first_edition) ∙ p.same h ∙ one second_edition;
+  guard = λ edition t u m v h. subst (Guard Equal c t u (d edition)) (two edition) (subst (λ o. Guard Equal c t u o (b edition)) (one edition) (p.guard edition t u m v h));
+}
+
 -- where the other text is read in another way, which comes to the same
 pub owes-alike : {A : Type 0} {c : Bool} {r s : List ℕ} {a b d : Edition → Reading A} → ((edition : Edition) (t u : List ℕ) → Seam edition c t u → Along t u r s → b edition ≡ d edition) → Owes c r s a b → Owes c r s a d
 owes-alike {c = c} {a = a} alike p = record {
@@ -85,7 +93,7 @@ owes-alike {c = c} {a = a} alike p = record {
   guard = λ edition t u m v h. subst (Guard Equal c t u (a edition)) (alike edition t u m h) (p.guard edition t u m v h);
 }
 
--- A choice by the byte that stands next, and what is known where it is that byte: then a byte is
+-- A choice by the byte that is next, and what is known where it is that byte: then a byte is
 -- taken. None of the bytes that continue nothing is that byte.
 pub owes-starts : {A : Type 0} {k : Bool} {r s : List ℕ} {a b x y : Edition → Reading A} (n : ℕ) → ((edition : Edition) (q : ℕ) → k ≡ false → Quiet edition q → (q == n) ≡ false) → (starts n r ≡ true → (edition : Edition) → length (left_after (a edition)) < length r) → (starts n r ≡ true → Owes k r s a b) → Owes k r s x y → Owes k r s (λ edition. if starts n r then a edition else x edition) (λ edition. if starts n s then b edition else y edition)
 owes-starts {k = k} {r = r} {s = s} {a = a} {b = b} {x = x} {y = y} n other cut p q =
@@ -95,7 +103,7 @@ owes-starts {k = k} {r = r} {s = s} {a = a} {b = b} {x = x} {y = y} n other cut 
     by edition t (inl e) = inl e
     by edition t (inr h) = inr (rw h.2 (passed-beyond k t (a edition) (beyond-less k t (left_after (a edition)) (omega (arith, cut h.2 edition, ap length h.1)))))
 
--- what stands behind the first byte, which is ASCII
+-- what follows the first byte, which is ASCII
 pub owes-past_one : {A : Type 0} {c : Bool} {a b : Edition → Reading A} (r s : List ℕ) → 0 < length r → EndsWell r (past_one r) → Owes c (past_one r) (past_one s) a b → Owes c r s a b
 owes-past_one {c = c} {a = a} {b = b} r s some well p = record {
   left = λ edition. well-then r (past_one r) (left_after (a edition)) well (p.left edition);
@@ -110,7 +118,7 @@ owes-past_one {c = c} {a = a} {b = b} r s some well p = record {
 pub owes-past : {A : Type 0} {c : Bool} {r s : List ℕ} {a b : Edition → Reading A} (k : ℕ) → k < 128 → Owes c r s a b → Owes c (k ∷ r) (k ∷ s) a b
 owes-past {r = r} {s = s} k low p = owes-past_one (k ∷ r) (k ∷ s) (omega arith) (well-tail k r low) p
 
--- a choice by the ASCII byte that stands next, which is passed
+-- a choice by the ASCII byte that is next, which is passed
 pub owes-sign : {A : Type 0} {k : Bool} {r s : List ℕ} {a b x y : Edition → Reading A} (n : ℕ) → n < 128 → ((edition : Edition) (q : ℕ) → k ≡ false → Quiet edition q → (q == n) ≡ false) → Owes k (past_one r) (past_one s) a b → Owes k r s x y → Owes k r s (λ edition. if starts n r then a edition else x edition) (λ edition. if starts n s then b edition else y edition)
 owes-sign {r = r} {s = s} {a = a} n low other p q =
     owes-starts n other
@@ -121,17 +129,13 @@ owes-sign {r = r} {s = s} {a = a} n low other p q =
     some [] e = absurd (cc)
     some (b ∷ text) e = omega arith
 
-keeps-ends : {A : Type 0} (text : List ℕ) (r : Reading A) → Ends text (left_after r) → Keeps text r
-keeps-ends text (got x rest) h = length-ends text rest h
-keeps-ends text (fails f rest) h = length-ends text rest h
-
 -- one thing after another
 pub owes-follow : {A B : Type 0} {c : Bool} {r s : List ℕ} {a b : Edition → Reading A} (m n : A → Edition → Reader B) → Owes c r s a b → ((x : A) → Lawful c (m x) (n x)) → Owes c r s (λ edition. follow (a edition) (λ x. m x edition)) (λ edition. follow (b edition) (λ x. n x edition))
 owes-follow {A = A} {B = B} {c = c} {r = r} {s = s} {a = a} {b = b} m n p q = record {
   left = λ edition. ended edition (a edition) (p.left edition);
   same = λ h. one h (a first_edition) (a second_edition) (p.left first_edition).0 (p.same h);
   guard = λ edition t u k v h.
-      guard-follow Equal Equal c t u (a edition) (b edition) (λ x. m x edition) (λ x. n x edition) (λ x rest. keeps-ends rest (m x edition rest) ((q x rest rest).left edition).0)
+      guard-follow Equal Equal c t u (a edition) (b edition) (λ x. m x edition) (λ x. n x edition) (λ x rest. length-ends rest (left_after (m x edition rest)) ((q x rest rest).left edition).0)
       ((p.left edition).1 v) (p.guard edition t u k v h) (λ x y e i j w l. rw (← e) ((q x i j).guard edition t u k w l));
 }
   where
@@ -168,11 +172,11 @@ lawful-cases {c = c} m n takes none some r s = record { left = λ edition. ended
 
 -- what is left is no more than the text
 pub lawful-keeps : {A : Type 0} {c : Bool} (m n : Edition → Reader A) → Lawful c m n → (edition : Edition) (text : List ℕ) → Keeps text (m edition text)
-lawful-keeps m n p edition text = keeps-ends text (m edition text) ((p text text).left edition).0
+lawful-keeps m n p edition text = length-ends text (left_after (m edition text)) ((p text text).left edition).0
 
--- and behind a byte that was passed it is less
+-- and after a byte that was passed it is less
 pub owes-cuts : {A : Type 0} {c : Bool} {r s : List ℕ} {a b : Edition → Reading A} (k : ℕ) → Owes c r s a b → (edition : Edition) → Cuts (k ∷ r) (a edition)
-owes-cuts {r = r} {a = a} k p edition = keeps-cuts r (k ∷ r) (a edition) (omega arith) (keeps-ends r (a edition) (p.left edition).0)
+owes-cuts {r = r} {a = a} k p edition = keeps-cuts r (k ∷ r) (a edition) (omega arith) (length-ends r (left_after (a edition)) (p.left edition).0)
 
 -- it is an end of the text
 pub lawful-stands : {A : Type 0} {c : Bool} (m n : Edition → Reader A) → Lawful c m n → (edition : Edition) (text : List ℕ) → Stands text no_texts (m edition text)
@@ -186,17 +190,10 @@ lawful-text m n p edition text = ((p text text).left edition).1
 pub lawful-guarded : {A : Type 0} (m n : Edition → Reader A) → Lawful true m n → (edition : Edition) (u v r s : List ℕ) → IsUtf8 r → Along (125 ∷ (u ++ v)) (125 ∷ u) r s → Guard Equal true (125 ∷ (u ++ v)) (125 ∷ u) (m edition r) (n edition s)
 lawful-guarded m n p edition u v r s w h = (p r s).guard edition (125 ∷ (u ++ v)) (125 ∷ u) (at_brace u v) w h
 
--- what is left, by the ASCII byte that stands next, which is passed
+-- what is left, by the ASCII byte that is next, which is passed
 pub passes-sign : {k : Bool} {r s : List ℕ} (n : ℕ) → n < 128 → ((edition : Edition) (q : ℕ) → k ≡ false → Quiet edition q → (q == n) ≡ false) → (a b x y : Edition → List ℕ) → Owes k (past_one r) (past_one s) (λ edition. got (tt {0}) (a edition)) (λ edition. got tt (b edition)) → Owes k r s (λ edition. got (tt {0}) (x edition)) (λ edition. got tt (y edition)) → Owes k r s (λ edition. got (tt {0}) (if starts n r then a edition else x edition)) (λ edition. got tt (if starts n s then b edition else y edition))
-passes-sign {k = k} {r = r} {s = s} n low other a b x y p q =
-    let whole = owes-sign n low other p q in
-    record {
-      left = λ edition. subst (λ o. EndsWell r (left_after o)) (one (starts n r) (a edition) (x edition)) (whole.left edition);
-      same = λ h. sym (one (starts n r) (a first_edition) (x first_edition)) ∙ whole.same h ∙ one (starts n r) (a second_edition) (x second_edition);
-      guard = λ edition t u m v h.
-          subst (λ o. Guard Equal k t u o (got tt (if starts n s then b edition else y edition))) (one (starts n r) (a edition) (x edition))
-          (subst (Guard Equal k t u (if starts n r then got tt (a edition) else got tt (x edition))) (one (starts n s) (b edition) (y edition)) (whole.guard edition t u m v h));
-    }
+passes-sign {r = r} {s = s} n low other a b x y p q =
+    owes-same (λ edition. one (starts n r) (a edition) (x edition)) (λ edition. one (starts n s) (b edition) (y edition)) (owes-sign n low other p q)
   where
     one : (j : Bool) (t w : List ℕ) → (if j then got (tt {0}) t else got tt w) ≡ got tt (if j then t else w)
     one true t w = refl

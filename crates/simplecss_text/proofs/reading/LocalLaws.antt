@@ -9,7 +9,7 @@ use Rattle.simplecss_text.specs.Bytes.{past, past_one, past_byte, starts, byte, 
 use Rattle.simplecss_text.specs.Characters.{Edition, first_edition, second_edition, is_name_start, is_name_char}
 use Rattle.simplecss_text.specs.Terms.{is_hex_digit}
 use Rattle.simplecss_text.proofs.reading.EachLaws.{Takes, took, each-none, each-some}
-use Rattle.simplecss_text.proofs.reading.TakesLaws.{Keeps, each-within, length-left_after, length-past}
+use Rattle.simplecss_text.proofs.reading.TakesLaws.{Keeps, each-within, length-past}
 
 -- ---- where two texts part
 
@@ -52,7 +52,7 @@ pub data Seam (edition : Edition) : Bool → List ℕ → List ℕ → Type 0 wh
 
 -- ---- the same readings
 
--- what is left is behind the place where the first text parts, or its byte there was passed
+-- what is left is after the place where the first text parts, or its byte there was passed
 abbrev pub Beyond : Bool → List ℕ → List ℕ → Type 0
 Beyond true t r = length r ≤ length (past_one t)
 Beyond false t r = length r < length t
@@ -105,7 +105,7 @@ passed-fails A B false t r f h = tt
 
 -- one thing after another
 pub guard-follow : {A B : Type 0} (R : A → A → Type 0) (Q : B → B → Type 0) (c : Bool) (t u : List ℕ) (a b : Reading A) (m n : A → Reader B) → ((x : A) (r : List ℕ) → Keeps r (m x r)) → IsUtf8 (left_after a) → Guard R c t u a b → ((x y : A) → R x y → (r s : List ℕ) → IsUtf8 r → Along t u r s → Guard Q c t u (m x r) (n y s)) → Guard Q c t u (follow a m) (follow b n)
-guard-follow R Q c t u (got x r) b m n keeps v (inl h) next = inl (passed-beyond c t (m x r) (beyond-within c t r (left_after (m x r)) (length-left_after r (m x r) (keeps x r)) (passed-got c t r x h)))
+guard-follow R Q c t u (got x r) b m n keeps v (inl h) next = inl (passed-beyond c t (m x r) (beyond-within c t r (left_after (m x r)) (keeps x r) (passed-got c t r x h)))
 guard-follow {A = A} {B = B} R Q c t u (fails f r) b m n keeps v (inl h) next = inl (passed-fails A B c t r f h)
 guard-follow R Q c t u (got x r) (got y s) m n keeps v (inr h) next = next x y h.0 r s v h.1
 guard-follow R Q c t u (got x r) (fails f s) m n keeps v (inr h) next = absurd h
@@ -134,7 +134,7 @@ left-to R t u (fails f r) (fails e s) (inr h) = inr h
 
 -- ---- bytes
 
--- behind the first byte
+-- after the first byte
 pub past_one-to : (c : Bool) (t u r s : List ℕ) → 0 < length r → Along t u r s → To c t u (past_one r) (past_one s)
 past_one-to c [] u r s some at = absurd (omega arith)
 past_one-to c (b ∷ t) u r s some at = inl (beyond-less c (b ∷ t) t (omega arith))
@@ -163,7 +163,7 @@ pub past_one-along : (g : ℕ) (t u r s : List ℕ) → Along (g ∷ t) (g ∷ u
 past_one-along g t u r s at = inl (omega arith)
 past_one-along g t u r s (on b r1 s1 h) = inr h
 
--- a byte is passed, if it stands there
+-- a byte is passed, if it is there
 pub past_byte-to : (t u : List ℕ) (c : ℕ) → past_byte c u ≡ u → (r s : List ℕ) → Along t u r s → (length (past_byte c r) < length t) ⊎ Along t u (past_byte c r) (past_byte c s)
 past_byte-to [] u c e r s at = inr (rw e at)
 past_byte-to (b ∷ t) u c e r s at = rw e (by (b == c))
@@ -260,7 +260,7 @@ pub along-split : (t u r s : List ℕ) → Along t u r s → (front : List ℕ) 
 along-split t u r s at = ([], refl, refl)
 along-split t u r s (on b r1 s1 h) = let more = along-split t u r1 s1 h in (b ∷ more.0, ap (λ x. b ∷ x) more.1, ap (λ x. b ∷ x) more.2)
 
--- behind the front of the first text the second has its tail
+-- after the front of the first text the second has its tail
 pub along-end : (t u left : List ℕ) → Along t u t left → left ≡ u
 along-end t u left h = by (along-split t u t left h)
   where
@@ -275,7 +275,7 @@ along-append g u v r s (on b r1 s1 h) = ap (λ (x : List ℕ). b ∷ x) (along-a
 
 -- ---- what repeats
 
--- a value with what is left: what is left stands behind the brace, or both are alike
+-- a value with what is left: what is left follows the brace, or both are alike
 abbrev pub Same : {A : Type 0} → List ℕ → List ℕ → A × List ℕ → A × List ℕ → Type 0
 Same t u a b = (length a.1 ≤ length t) ⊎ ((a.0 ≡ b.0) × Along (125 ∷ t) (125 ∷ u) a.1 b.1)
 

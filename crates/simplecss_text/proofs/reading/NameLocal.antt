@@ -1,4 +1,4 @@
--- A name is read alike in texts that part behind it. A lone hyphen that ends the first text is the
+-- A name is read alike in texts that part after it. A lone hyphen that ends the first text is the
 -- one exception: it is a name, and before a further byte it is none.
 -- Serves `Lawful` (what every reader owes): `StyleSheet::{parse, parse_all, parse_more}` and
 -- `laws::cutting_law`.
@@ -144,7 +144,7 @@ name-alike edition t q more quiet v r s u h = by (along-split t (q ∷ more) r s
         let alike = name-front edition t q more front quiet v (utf8-first front t whole v) (subst (λ (x : List ℕ). length t ≤ length (left_after (name edition x))) is l) in
         inr (subst (λ (x : List ℕ). NamesAlike edition t (q ∷ more) r x) (sym also) (subst (λ (x : List ℕ). NamesAlike edition t (q ∷ more) x (front ++ (q ∷ more))) (sym is) alike))
 
--- the text behind a front that an ASCII byte ends
+-- the text after a front that an ASCII byte ends
 utf8-from : (t u : List ℕ) (g : ℕ) (r s : List ℕ) → g < 128 → IsUtf8 r → Along (g ∷ t) u r s → IsUtf8 (g ∷ t)
 utf8-from t u g r s low v h =
     let parts = along-split (g ∷ t) u r s h in
@@ -180,7 +180,7 @@ past_name-seam {edition = edition} c t u seam r s v h = by (names-seam c t u sea
     by (inr (lone n fault e f k m)) = rw (e, f) (inr (subst (λ (x : List ℕ). Along x u [] u) (sym k) (along-front [] u [])))
     by (inr (none fault other rest left e f k)) = rw (e, f) (inr k)
 
--- what is left after a hash, behind its number sign
+-- what is left after a hash, after its number sign
 pub past_hash-seam : {edition : Edition} (c : Bool) (t u : List ℕ) → Seam edition c t u → (r s : List ℕ) → IsUtf8 r → Along t u r s → To c t u (past_hash (name edition r)) (past_hash (name edition s))
 past_hash-seam {edition = edition} c t u seam r s v h = by (names-seam c t u seam r s v h)
   where

@@ -18,10 +18,10 @@ use Rattle.simplecss_text.specs.Tokens.{Token}
 use Rattle.simplecss_text.specs.Tokens.Token.{adjacent_combinator, attribute_selector, child_combinator, class_selector, id_selector, lang_pseudo_class, named_pseudo_class, type_selector, universal_selector}
 use Rattle.simplecss_text.specs.Pieces.{attribute_after, attribute_operator, next_kind, solid_as, equated, lang_after, lang_of, named_token, next_piece, piece, pseudo_class_after, pseudo_class_named, solid}
 use Rattle.simplecss_text.proofs.reading.EachLaws.{Takes}
-use Rattle.simplecss_text.proofs.reading.TakesLaws.{Cuts, cuts-follow, follow-cuts, found-shrinks, gap-keeps, name-cuts}
-use Rattle.simplecss_text.proofs.reading.EndsLaws.{ends-same}
+use Rattle.simplecss_text.proofs.reading.TakesLaws.{Cuts, cuts-follow, follow-cuts, found-shrinks, name-cuts}
+use Rattle.simplecss_text.proofs.reading.EndsLaws.{ends-same, length-ends}
 use Rattle.simplecss_text.proofs.reading.KindLaws.{HasSign, sign-begins}
-use Rattle.simplecss_text.proofs.reading.WellLaws.{well-behind, well-until}
+use Rattle.simplecss_text.proofs.reading.WellLaws.{well-behind, well-gap, well-until}
 use Rattle.simplecss_text.proofs.printed.ReadValues.{quote_low}
 use Rattle.simplecss_text.proofs.reading.Lawful.{Lawful, Owes, byte-lawful, lawful-cases, name-lawful, owes-alike, owes-cuts, owes-fails, owes-follow, owes-give, owes-if, owes-past, owes-past_one, owes-so, string_after-lawful}
 use Rattle.simplecss_text.proofs.reading.LocalLaws.{Along, Equal, Guard, Never, Repeats, To, at, at-brace, before-along, on, pairs-equal, past-both}
@@ -88,7 +88,7 @@ pseudo_class_after-lawful r s = owes-follow (λ n edition. pseudo_class_named n)
 
 -- ---- solid pieces
 
--- what stands behind the sign that a kind begins with
+-- what follows the sign that a kind begins with
 owes-sign_of : {A : Type 0} {a b : Edition → Reading A} (kind : NextKind) (r s : List ℕ) → HasSign kind → next_kind r ≡ kind → Owes true (past_one r) (past_one s) a b → Owes true r s a b
 owes-sign_of kind r s h k p =
     let sign = sign-begins kind r h k in
@@ -170,7 +170,7 @@ solid-cuts edition (b ∷ text) = solid_as-cuts edition (next_kind (b ∷ text))
 piece-cuts : (edition : Edition) (text : List ℕ) → Cuts text (piece edition text)
 unfolding piece
 piece-cuts edition text =
-    follow-cuts text (gap text) _ (gap-keeps text) (λ spaced start.
+    follow-cuts text (gap text) _ (length-ends text (left_after (gap text)) (well-gap text).0) (λ spaced start.
     cuts-follow start (solid edition start) _ (solid-cuts edition start) (λ token after. omega arith))
 
 pub next_piece-takes : (edition : Edition) → Takes (next_piece edition)

@@ -1,4 +1,4 @@
--- Searches, strings and blanks are read alike in texts that part behind them.
+-- Searches, strings and blanks are read alike in texts that part after them.
 -- Serves `Lawful` (what every reader owes): `StyleSheet::{parse, parse_all, parse_more}` and
 -- `laws::cutting_law`.
 use Rattle.std.proofs.Common.{◌≡◌, ℕ, ◌≤◌, List, [], ◌∷◌, ◌++◌, Bool, true, false, if◌then◌else◌, ◌==◌, ◌&&◌, not, length, length-append, Option, Some, None, arith, refl, sym, ap, ◌∙◌, ◌<◌, ◌⊎◌, inl, inr}

@@ -66,7 +66,7 @@ skips_along-none {A = A} tell last read text e =
 abbrev with_comma : Option (List Component) × List ℕ → Option (Option (List Component) × List ℕ)
 with_comma p = if starts 44 p.1 then Some (p.0, past_one p.1) else None
 
--- a part with a comma behind it
+-- a part with a comma after it
 pub parts_skips-some : (edition : Edition) (here rest : List ℕ) → (part edition here).1 ≡ rest → starts 44 rest ≡ true → parts_skips edition here ≡ part_skips edition here ++ parts_skips edition (past_one rest)
 unfolding parts_skips
 parts_skips-some edition here rest p e =

@@ -1,4 +1,4 @@
--- What each reader leaves is an end of the text, and what it gives stands before that end.
+-- What each reader leaves is an end of the text, and what it yields is before that end.
 -- Serves `next` of `SelectorTokenizer` (slices in order), `consume_declaration`,
 -- `laws::cutting_law` and `laws::edition_law`.
 use Rattle.std.proofs.Common.{◌≡◌, ℕ, ◌<◌, List, [], ◌∷◌, ◌++◌, Bool, true, false, if◌then◌else◌, ◌&&◌, ◌==◌, not, bytes_eq, length, take, Option, Some, None, arith, refl, sym, ap, ◌∙◌, subst, encode_utf8_all, codes, append_assoc, append-nil, IsUtf8, length-drop, cond}
@@ -102,7 +102,7 @@ attribute_after-stands edition text =
 utf8-before : (text : List ℕ) (c : ℕ) → c < 128 → IsUtf8 text → IsUtf8 (take (prefix_len (λ b. not (b == c)) text) text)
 utf8-before text c ascii u = IsUtf8-take text (prefix_len (λ b. not (b == c)) text) u (until-boundary text c ascii u)
 
--- what trim leaves stands between the white space at both ends
+-- what trim leaves is between the white space at both ends
 skip-case : (c : ℕ) (cs k w : List ℕ) (t : Bool) → cs ≡ w ++ k → (v : List ℕ) × (c ∷ cs ≡ v ++ cond t k (c ∷ cs))
 skip-case c cs k w true is = (c ∷ w, ap (λ x. c ∷ x) is)
 skip-case c cs k w false is = ([], refl)
@@ -141,7 +141,7 @@ trim-parts bs u =
     let trimmed : trim bs ≡ encode_utf8_all d = ap (λ x. encode_utf8_all (drop_trailing_whitespace x)) (chars-encodes k good) in
     (encode_utf8_all front.0, encode_utf8_all back.0, sym (encodes-chars bs u) ∙ ap encode_utf8_all front.1 ∙ encodes-append front.0 k ∙ ap (λ x. encode_utf8_all front.0 ++ x) (ap encode_utf8_all back.1 ∙ encodes-append d back.0 ∙ ap (λ x. x ++ encode_utf8_all back.0) (sym trimmed)))
 
--- a trimmed text stands in it
+-- a trimmed text is in it
 pub stand-trim : (text rest : List ℕ) → Ends text rest → IsUtf8 (before text rest) → StandBetween text rest (trim (before text rest) ∷ [])
 stand-trim text rest e u =
     let v = before text rest in
@@ -162,7 +162,7 @@ language-stands text u =
 -- ---- pieces
 
 -- Which texts of a token are to be seen, of texts that are good. Of one that need not be the UTF-8
--- of characters a language may be trimmed to what does not stand in it, so there no texts are seen.
+-- of characters a language may be trimmed to what does not are in it, so there no texts are seen.
 pub record Sees (Good : List ℕ → Type 0) (texts : Token → List (List ℕ)) : Type 0 where
   pub behind : (text rest : List ℕ) (b : ℕ) → b < 128 → Good text → Ends text (b ∷ rest) → Good rest
   pub seen : (text : List ℕ) (r : Reading Token) → Stands text token_texts r → Stands text texts r
@@ -206,7 +206,7 @@ lang_after-stands {Good = Good} {texts = texts} sees text good =
     let k : StandBetween text last (texts (lang_pseudo_class value)) = subst (StandBetween text last) (append-nil (texts (lang_pseudo_class value))) k in
     stands-if text texts (length value == 0) (fails no_language last) (got (lang_pseudo_class value) last) (record { at = stand-ends text last _ k }) (record { at = k })))
 
--- a name that was read is what stands before the rest
+-- a name that was read is what is before the rest
 name-got : (edition : Edition) (text rest n : List ℕ) → name edition text ≡ got n rest → n ≡ before text rest
 unfolding name
 name-got edition text rest n = by (begins_name edition (chars text))

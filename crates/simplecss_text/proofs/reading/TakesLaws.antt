@@ -2,23 +2,21 @@
 -- strings.
 -- Serves every loop that reads: the tokenizers, `take_value`, `consume_declarations` and
 -- `read_rules` (each turn takes a byte).
-use Rattle.std.proofs.Common.{◌≡◌, ℕ, zero, suc, ◌+◌, ◌<◌, ◌≤◌, List, [], ◌∷◌, Bool, true, false, if◌then◌else◌, ◌||◌, ◌&&◌, ◌==◌, not, length, take, drop, Option, Some, None, arith, refl, length-append, length-drop, encode_utf8, encode_utf8_all}
+use Rattle.std.proofs.Common.{◌≡◌, ℕ, zero, suc, ◌+◌, ◌<◌, ◌≤◌, List, [], ◌∷◌, Bool, true, false, if◌then◌else◌, ◌||◌, ◌&&◌, ◌==◌, length, take, drop, Option, Some, None, arith, refl, length-append, length-drop, encode_utf8, encode_utf8_all}
 use Rattle.std.specs.Str.{chars}
 use Rattle.std.specs.Option.{option_map}
 use Rattle.std.specs.List.{prefix_len, take_while}
 use Rattle.std.proofs.lemmas.Str.{length-encode, len_utf8_bounds, chars-nil}
-use Rattle.simplecss_text.specs.Reading.{no_name, no_comment, Reading, got, fails, Reader, follow, found, and_then, up_to, each, before, left_after}
+use Rattle.simplecss_text.specs.Reading.{no_name, Reading, got, fails, Reader, follow, found, and_then, up_to, each, before, left_after}
 use Rattle.simplecss_text.specs.Bytes.{past, past_one, past_byte, is_digit, starts_two}
 use Rattle.simplecss_text.specs.Characters.{Edition, is_name_start, is_name_char, is_space}
-use Rattle.simplecss_text.specs.Comments.{opens_comment, after_close, after_comment, blank_part, past_blank, blank, has_space, gap}
+use Rattle.simplecss_text.specs.Comments.{opens_comment, after_close, after_comment, blank_part, past_blank}
 use Rattle.simplecss_text.specs.Names.{begins_name, past_name_chars, name}
-use Rattle.simplecss_text.specs.Strings.{from_quote, string_up_to}
 use Rattle.simplecss_text.proofs.reading.EachLaws.{Shrinks, Takes}
 
 -- what is left after a reading is no more than the text
 abbrev pub Keeps : {A : Type 0} → List ℕ → Reading A → Type 0
-Keeps text (got x rest) = length rest ≤ length text
-Keeps text (fails fault rest) = length rest ≤ length text
+Keeps text r = length (left_after r) ≤ length text
 
 -- and where a value was read, it is less
 abbrev pub Cuts : {A : Type 0} → List ℕ → Reading A → Type 0
@@ -29,15 +27,6 @@ pub cuts-keeps : {A : Type 0} (text : List ℕ) (r : Reading A) → Cuts text r 
 cuts-keeps text (got x rest) h = omega arith
 cuts-keeps text (fails fault rest) h = h
 
-pub length-left_after : {A : Type 0} (text : List ℕ) (r : Reading A) → Keeps text r → length (left_after r) ≤ length text
-length-left_after text (got x rest) h = h
-length-left_after text (fails fault rest) h = h
-
--- more text in front
-keeps-longer : {A : Type 0} (text longer : List ℕ) (r : Reading A) → length text ≤ length longer → Keeps text r → Keeps longer r
-keeps-longer text longer (got x rest) l h = omega arith
-keeps-longer text longer (fails fault rest) l h = omega arith
-
 pub keeps-cuts : {A : Type 0} (text longer : List ℕ) (r : Reading A) → length text < length longer → Keeps text r → Cuts longer r
 keeps-cuts text longer (got x rest) l h = omega arith
 keeps-cuts text longer (fails fault rest) l h = omega arith
@@ -47,10 +36,6 @@ cuts-longer text longer (got x rest) l h = omega arith
 cuts-longer text longer (fails fault rest) l h = omega arith
 
 -- one thing after another
-pub keeps-follow : {A B : Type 0} (text : List ℕ) (r : Reading A) (next : A → Reader B) → Keeps text r → ((x : A) (rest : List ℕ) → Keeps rest (next x rest)) → Keeps text (follow r next)
-keeps-follow text (got x rest) next h n = keeps-longer rest text (next x rest) h (n x rest)
-keeps-follow text (fails fault rest) next h n = h
-
 pub cuts-follow : {A B : Type 0} (text : List ℕ) (r : Reading A) (next : A → Reader B) → Cuts text r → ((x : A) (rest : List ℕ) → Keeps rest (next x rest)) → Cuts text (follow r next)
 cuts-follow text (got x rest) next h n = keeps-cuts rest text (next x rest) h (n x rest)
 cuts-follow text (fails fault rest) next h n = h
@@ -59,13 +44,14 @@ pub follow-cuts : {A B : Type 0} (text : List ℕ) (r : Reading A) (next : A →
 follow-cuts text (got x rest) next h n = cuts-longer rest text (next x rest) h (n x rest)
 follow-cuts text (fails fault rest) next h n = h
 
-keeps-if : {A : Type 0} (text : List ℕ) (t : Bool) (x y : Reading A) → Keeps text x → Keeps text y → Keeps text (if t then x else y)
-keeps-if text true x y a b = a
-keeps-if text false x y a b = b
-
 pub cuts-if : {A : Type 0} (text : List ℕ) (t : Bool) (x y : Reading A) → Cuts text x → Cuts text y → Cuts text (if t then x else y)
 cuts-if text true x y a b = a
 cuts-if text false x y a b = b
+
+-- on both sides of a test, and what is known where it holds
+pub cuts-so : {A : Type 0} (text : List ℕ) (t : Bool) (x y : Reading A) → (t ≡ true → Cuts text x) → Cuts text y → Cuts text (if t then x else y)
+cuts-so text true x y a b = a refl
+cuts-so text false x y a b = b
 
 pub length-past_one : (text : List ℕ) → length (past_one text) ≤ length text
 length-past_one [] = omega arith
@@ -82,7 +68,7 @@ length-past_byte c (b ∷ text) = by (b == c)
 pub length-past : (test : ℕ → Bool) (text : List ℕ) → length (past test text) ≤ length text
 length-past test text = omega (arith, length-drop (prefix_len test text) text)
 
--- what is left, if anything is told to be, is less than the text
+-- what is left, if anything is reported to be, is less than the text
 abbrev pub Leaves : List ℕ → Option (List ℕ) → Type 0
 Leaves text None = Unit {0}
 Leaves text (Some rest) = length rest ≤ length text
@@ -129,14 +115,6 @@ each-within read takes text = up_to-within read takes (length text) text
 pub length-past_blank : (text : List ℕ) → length (past_blank text) ≤ length text
 length-past_blank text = each-within blank_part blank_part-takes text
 
-pub blank-keeps : (text : List ℕ) → Keeps text (blank text)
-unfolding blank
-blank-keeps text = keeps-if text (opens_comment (past_blank text)) (fails (no_comment (past_blank text)) []) (got tt (past_blank text)) (omega arith) (length-past_blank text)
-
-pub gap-keeps : (text : List ℕ) → Keeps text (gap text)
-unfolding gap
-gap-keeps text = keeps-follow text (blank text) (λ u. got (has_space text)) (blank-keeps text) (λ u rest. omega arith)
-
 either_way : (s d h : Bool) → (s || h) ≡ true → ((s || d) || h) ≡ true
 either_way true d h e = refl
 either_way false true h e = refl
@@ -172,17 +150,7 @@ name-cuts edition text = by (begins_name edition (chars text)) refl
     by true e = omega (arith, name_bytes edition (chars text) e, some_text edition text e, length-drop (length (encode_utf8_all (take_while (is_name_char edition) (chars text)))) text)
     by false e = length-past_byte 45 text
 
-pub from_quote-leaves : (quote previous : ℕ) (text : List ℕ) → Leaves text (from_quote quote previous text)
-from_quote-leaves quote previous [] = tt
-from_quote-leaves quote previous (b ∷ text) =
-    leaves-if (b ∷ text) (b == quote && not (previous == 92)) (Some (b ∷ text)) (from_quote quote b text) (omega arith)
-    (leaves-longer text (b ∷ text) (from_quote quote b text) (omega arith) (from_quote-leaves quote b text))
-
-pub string_up_to-keeps : (text : List ℕ) (o : Option (List ℕ)) → Leaves text o → Keeps text (string_up_to text o)
-string_up_to-keeps text None h = omega arith
-string_up_to-keeps text (Some closing) h = omega (arith, length-past_one closing)
-
--- a reading that tells no fault takes what the reading takes
+-- a reading that reports no fault takes what the reading takes
 pub found-shrinks : {A : Type 0} (text : List ℕ) (r : Reading A) → Cuts text r → Shrinks text (found r)
 found-shrinks text (got x rest) h = h
 found-shrinks text (fails fault rest) h = tt
