@@ -40,26 +40,37 @@ pub record IsDeclaration (edition : Edition) (p : StyleDeclaration) : Type 0 whe
 
 -- an end of such a text
 pub narrow-end : (text rest : List ℕ) → IsNarrow text → Ends text rest → IsUtf8 rest → IsNarrow rest
-narrow-end text rest n end u = (narrow-parts (before text rest) rest (subst IsNarrow (sym end) n) u).1
+narrow-end text rest n end u =
+    (narrow-parts (before text rest) rest (subst IsNarrow (sym end) n) u).1
 
-narrow-got : {A : Type 0} (text : List ℕ) (r : Reading A) → IsNarrow text → EndsWell text (left_after r) → IfGot (λ x rest. IsNarrow rest) r
+narrow-got : {A : Type 0} (text : List ℕ) (r : Reading A) → IsNarrow text
+    → EndsWell text (left_after r) → IfGot (λ x rest. IsNarrow rest) r
 narrow-got text (got x rest) n h = narrow-end text rest n h.0 (h.1 n.0)
 narrow-got text (fails fault rest) n h = tt
 
-name-narrow : (edition : Edition) (text : List ℕ) → IsNarrow text → IfGot (λ n rest. ReadName edition text n rest × IsNarrow rest) (name edition text)
+name-narrow : (edition : Edition) (text : List ℕ) → IsNarrow text
+    → IfGot (λ n rest. ReadName edition text n rest × IsNarrow rest) (name edition text)
 name-narrow edition text n =
-    if_got (λ m rest. ReadName edition text m rest × IsNarrow rest) (name edition text) (λ m rest e.
-    (name-is edition text m rest n.0 e, got-holds (λ m rest. IsNarrow rest) (name edition text) m rest (narrow-got text (name edition text) n (well-name edition text)) e))
+    if_got (λ m rest. ReadName edition text m rest × IsNarrow rest) (name edition text)
+    (λ m rest e. (
+      name-is edition text m rest n.0 e,
+      got-holds (λ m rest. IsNarrow rest) (name edition text) m
+          rest (narrow-got text (name edition text) n (well-name edition text)) e,
+    ))
 
 -- the declaration, from its value
 abbrev stated_as : Edition → List ℕ → List ℕ → List ℕ → Bool → Reader StyleDeclaration
-stated_as edition name start v important = unless_empty start (record { name = name; value = v; important = important })
+stated_as edition name start v important =
+    unless_empty start (record { name = name; value = v; important = important })
 
 nothing_stated : (start : List ℕ) → trim (before start start) ≡ []
 unfolding trim_start trim_end chars
 nothing_stated start = ap trim (before-append [] start) ∙ refl
 
-stated-is : (edition : Edition) (name start : List ℕ) (important : Bool) (text : List ℕ) → IsName edition name → IsNarrow start → IfGot (λ p rest. IsDeclaration edition p) (stated_as edition name start (value edition start).0 important text)
+stated-is : (edition : Edition) (name start : List ℕ) (important : Bool) (text : List ℕ)
+    → IsName edition name → IsNarrow start
+    → IfGot (λ p rest. IsDeclaration edition p)
+    (stated_as edition name start (value edition start).0 important text)
 unfolding value
 stated-is edition name start important text w n = by (terms-end edition start)
   where
@@ -68,104 +79,166 @@ stated-is edition name start important text w n = by (terms-end edition start)
 
     some_stated : (v : List ℕ) → IsValueText edition v → P v
     some_stated v x =
-        if_got-if (λ p rest. IsDeclaration edition p) (length v == 0) (fails (no_value start) text) (got (record { name = name; value = v; important = important }) text) (λ e. tt)
+        if_got-if (λ p rest. IsDeclaration edition p) (length v == 0) (fails (no_value start) text)
+        (got (record { name = name; value = v; important = important }) text) (λ e. tt)
         (λ e. record { name_is = w; value_is = x; some = e })
 
     by : TermsEnd edition start → P (value edition start).0
     by (inl none_there) =
-        let empty : trim (before start (last_or start (terms edition start).0)) ≡ [] = ap (λ l. trim (before start (last_or start l))) none_there ∙ nothing_stated start in
+        let empty : trim (before start (last_or start (terms edition start).0)) ≡ [] =
+        ap (λ l. trim (before start (last_or start l))) none_there ∙ nothing_stated start in
         subst P (sym empty) tt
     by (inr x) =
-        let v : trim (before start (last_or start (terms edition start).0)) ≡ trim (before start x.0) = ap (λ t. trim (before start t)) (x.2 start) in
-        subst P (sym v) (some_stated (trim (before start x.0)) (value_text-is edition x.0 start n x.1))
+        let v : trim (before start (last_or start (terms edition start).0))
+        ≡ trim (before start x.0) = ap (λ t. trim (before start t)) (x.2 start) in
+        subst P (sym v)
+        (some_stated (trim (before start x.0)) (value_text-is edition x.0 start n x.1))
 
 -- the declaration, from what follows its name
 abbrev behind_name : Edition → List ℕ → Reader StyleDeclaration
-behind_name edition name c = follow (blank c) (λ x d. follow (byte 58 d) (λ x e. follow (blank e) (λ x start. follow (trailing (value edition start).1) (stated_as edition name start (value edition start).0))))
+behind_name edition name c =
+    follow (blank c)
+    (λ x d. follow (byte 58 d)
+    (λ x e. follow (blank e)
+    (λ x start. follow (trailing (value edition start).1)
+    (stated_as edition name start (value edition start).0))))
 
-named-is : (edition : Edition) (name c : List ℕ) → IsName edition name → IsNarrow c → IfGot (λ p rest. IsDeclaration edition p) (behind_name edition name c)
+named-is : (edition : Edition) (name c : List ℕ) → IsName edition name → IsNarrow c
+    → IfGot (λ p rest. IsDeclaration edition p) (behind_name edition name c)
 named-is edition name c w n =
     let P : StyleDeclaration → List ℕ → Type 0 = λ p rest. IsDeclaration edition p in
     let Q : Unit {0} → List ℕ → Type 0 = λ x rest. IsNarrow rest in
     if_got-follow Q P (blank c) _ (narrow-got c (blank c) n (well-blank c)) (λ x d nd.
-    if_got-follow Q P (byte 58 d) _ (narrow-got d (byte 58 d) nd (well-byte 58 d (omega arith))) (λ x e ne.
+    if_got-follow Q P (byte 58 d) _ (narrow-got d (byte 58 d) nd (well-byte 58 d (omega arith)))
+    (λ x e ne.
     if_got-follow Q P (blank e) _ (narrow-got e (blank e) ne (well-blank e)) (λ x start ns.
-    if_got-follow (λ important rest. Unit {0}) P (trailing (value edition start).1) _ (if_got (λ important rest. Unit {0}) (trailing (value edition start).1) (λ important rest g. tt)) (λ important h t.
+    if_got-follow (λ important rest. Unit {0}) P (trailing (value edition start).1) _
+    (if_got (λ important rest. Unit {0}) (trailing (value edition start).1)
+    (λ important rest g. tt)) (λ important h t.
     stated-is edition name start important h w ns))))
 
 -- after a name that ends the text there is no colon
-ended-is : (edition : Edition) (name c : List ℕ) → c ≡ [] → IfGot (λ p rest. IsDeclaration edition p) (behind_name edition name c)
+ended-is : (edition : Edition) (name c : List ℕ) → c ≡ []
+    → IfGot (λ p rest. IsDeclaration edition p) (behind_name edition name c)
 unfolding blank each
-ended-is edition name c e = subst (λ (t : List ℕ). IfGot (λ p rest. IsDeclaration edition p) (behind_name edition name t)) (sym e) tt
+ended-is edition name c e =
+    subst (λ (t : List ℕ). IfGot (λ p rest. IsDeclaration edition p) (behind_name edition name t))
+    (sym e) tt
 
 -- what was read as a declaration from such a text
-pub declaration-is : (edition : Edition) (text : List ℕ) → IsNarrow text → IfGot (λ p rest. IsDeclaration edition p) (declaration edition text)
+pub declaration-is : (edition : Edition) (text : List ℕ) → IsNarrow text
+    → IfGot (λ p rest. IsDeclaration edition p) (declaration edition text)
 unfolding declaration
 declaration-is edition text n =
     let P : StyleDeclaration → List ℕ → Type 0 = λ p rest. IsDeclaration edition p in
-    if_got-follow (λ x rest. IsNarrow rest) P (blank text) _ (narrow-got text (blank text) n (well-blank text)) (λ x a na.
+    if_got-follow (λ x rest. IsNarrow rest) P (blank text) _
+    (narrow-got text (blank text) n (well-blank text)) (λ x a na.
     let b = past_byte 42 a in
     let nb = narrow-end a b na (ends-past_byte 42 a) (utf8-past_byte_if 42 a (omega arith) na.0) in
-    if_got-follow (λ m rest. ReadName edition b m rest × IsNarrow rest) P (name edition b) (λ m. behind_name edition m) (name-narrow edition b nb) (λ m c w.
+    if_got-follow (λ m rest. ReadName edition b m rest × IsNarrow rest) P (name edition b)
+    (λ m. behind_name edition m) (name-narrow edition b nb) (λ m c w.
     elim (w.0.is) [ inl i ↦ named-is edition m c i w.1 | inr h ↦ ended-is edition m c h.1 ]))
 
 -- printed and read again
 
-follow-got : {A B : Type 0} (r : Reading A) (x : A) (rest : List ℕ) (next : A → Reader B) → r ≡ got x rest → follow r next ≡ next x rest
+follow-got : {A B : Type 0} (r : Reading A) (x : A) (rest : List ℕ) (next : A → Reader B)
+    → r ≡ got x rest → follow r next ≡ next x rest
 follow-got r x rest next e = ap (λ y. follow y next) e
 
 quiet-mark : (edition : Edition) → Quiet edition 33
-quiet-mark first_edition = record { low = omega arith; no_char = refl; no_start = refl; no_digit = refl; no_hex = refl; no_point = refl; no_percent = refl; no_opening = refl; no_star = refl; no_hyphen = refl }
-quiet-mark second_edition = record { low = omega arith; no_char = refl; no_start = refl; no_digit = refl; no_hex = refl; no_point = refl; no_percent = refl; no_opening = refl; no_star = refl; no_hyphen = refl }
+quiet-mark first_edition =
+    record {
+      low = omega arith;
+      no_char = refl;
+      no_start = refl;
+      no_digit = refl;
+      no_hex = refl;
+      no_point = refl;
+      no_percent = refl;
+      no_opening = refl;
+      no_star = refl;
+      no_hyphen = refl;
+    }
+quiet-mark second_edition =
+    record {
+      low = omega arith;
+      no_char = refl;
+      no_start = refl;
+      no_digit = refl;
+      no_hex = refl;
+      no_point = refl;
+      no_percent = refl;
+      no_opening = refl;
+      no_star = refl;
+      no_hyphen = refl;
+    }
 
 blank-none : (text : List ℕ) → NoGap text → blank text ≡ got tt text
 blank-none text w = blank-at text text (ap (λ r. r.1) w.none) w.closed
 
 -- no term begins with a semicolon or an exclamation mark
-no_word : (edition : Edition) (q : ℕ) (text : List ℕ) → Quiet edition q → word edition (q ∷ text) ≡ fails (no_name (q ∷ text)) (q ∷ text)
+no_word : (edition : Edition) (q : ℕ) (text : List ℕ) → Quiet edition q
+    → word edition (q ∷ text) ≡ fails (no_name (q ∷ text)) (q ∷ text)
 unfolding word
 no_word edition q text quiet = ap (λ y. follow y (λ n. arguments)) (name-quiet edition q text quiet)
 
-semicolon_term : (edition : Edition) (text : List ℕ) → term edition (59 ∷ text) ≡ fails (no_name (59 ∷ text)) (59 ∷ text)
+semicolon_term : (edition : Edition) (text : List ℕ)
+    → term edition (59 ∷ text) ≡ fails (no_name (59 ∷ text)) (59 ∷ text)
 unfolding term
 semicolon_term first_edition text = no_word first_edition 59 text (quiet-semicolon first_edition)
 semicolon_term second_edition text = no_word second_edition 59 text (quiet-semicolon second_edition)
 
-mark_term : (edition : Edition) (text : List ℕ) → term edition (33 ∷ text) ≡ fails (no_name (33 ∷ text)) (33 ∷ text)
+mark_term : (edition : Edition) (text : List ℕ)
+    → term edition (33 ∷ text) ≡ fails (no_name (33 ∷ text)) (33 ∷ text)
 unfolding term
 mark_term first_edition text = no_word first_edition 33 text (quiet-mark first_edition)
 mark_term second_edition text = no_word second_edition 33 text (quiet-mark second_edition)
 
 -- the part after the importance
 abbrev semicolons_then : Bool → Reader Bool
-semicolons_then important text = follow (blank text) (λ x c. follow (semicolons c) (λ x d. follow (blank d) (λ x. got important)))
+semicolons_then important text =
+    follow (blank text)
+    (λ x c. follow (semicolons c) (λ x d. follow (blank d) (λ x. got important)))
 
-one_semicolon : (text : List ℕ) → starts 59 (past_blank text) ≡ false → (each semicolon (59 ∷ text)).1 ≡ past_blank text
+one_semicolon : (text : List ℕ) → starts 59 (past_blank text) ≡ false
+    → (each semicolon (59 ∷ text)).1 ≡ past_blank text
 one_semicolon text e =
     let first = each-some semicolon semicolon-takes (59 ∷ text) (past_blank text) tt refl in
     let part : semicolon (past_blank text) ≡ None = rw e refl in
     let second = each-none semicolon (past_blank text) part in
     ap (λ r. r.1) first ∙ ap (λ r. r.1) second
 
-semicolons-read : (important : Bool) (text : List ℕ) → opens_comment (past_blank text) ≡ false → starts 59 (past_blank text) ≡ false → semicolons_then important (59 ∷ text) ≡ got important (past_blank text)
+semicolons-read : (important : Bool) (text : List ℕ) → opens_comment (past_blank text) ≡ false
+    → starts 59 (past_blank text) ≡ false
+    → semicolons_then important (59 ∷ text) ≡ got important (past_blank text)
 semicolons-read important text o e =
     let behind : List ℕ → Reading Bool = λ d. follow (blank d) (λ x. got important) in
-    follow-got (blank (59 ∷ text)) tt (59 ∷ text) (λ x c. follow (semicolons c) (λ x. behind)) (blank-none (59 ∷ text) (no_gap-byte 59 text refl refl))
+    follow-got (blank (59 ∷ text)) tt (59 ∷ text) (λ x c. follow (semicolons c) (λ x. behind))
+    (blank-none (59 ∷ text) (no_gap-byte 59 text refl refl))
     ∙ ap behind (one_semicolon text e)
-    ∙ follow-got (blank (past_blank text)) tt (past_blank text) (λ x. got important) (blank-at (past_blank text) (past_blank text) (past_blank-again text) o)
+    ∙ follow-got (blank (past_blank text)) tt (past_blank text) (λ x. got important)
+    (blank-at (past_blank text) (past_blank text) (past_blank-again text) o)
 
-trailing-plain : (text : List ℕ) → opens_comment (past_blank text) ≡ false → starts 59 (past_blank text) ≡ false → trailing (59 ∷ text) ≡ got false (past_blank text)
+trailing-plain : (text : List ℕ) → opens_comment (past_blank text) ≡ false
+    → starts 59 (past_blank text) ≡ false → trailing (59 ∷ text) ≡ got false (past_blank text)
 unfolding trailing importance
 trailing-plain text o e =
-    follow-got (blank (59 ∷ text)) tt (59 ∷ text) (λ x a. follow (importance a) semicolons_then) (blank-none (59 ∷ text) (no_gap-byte 59 text refl refl))
+    follow-got (blank (59 ∷ text)) tt (59 ∷ text) (λ x a. follow (importance a) semicolons_then)
+    (blank-none (59 ∷ text) (no_gap-byte 59 text refl refl))
     ∙ semicolons-read false text o e
 
-trailing-important : (text : List ℕ) → opens_comment (past_blank text) ≡ false → starts 59 (past_blank text) ≡ false → trailing (codes "!important" ++ (59 ∷ text)) ≡ got true (past_blank text)
+trailing-important : (text : List ℕ) → opens_comment (past_blank text) ≡ false
+    → starts 59 (past_blank text) ≡ false
+    → trailing (codes "!important" ++ (59 ∷ text)) ≡ got true (past_blank text)
 unfolding trailing importance
 trailing-important text o e =
     let word_there = codes "important" ++ (59 ∷ text) in
-    follow-got (blank (33 ∷ word_there)) tt (33 ∷ word_there) (λ x a. follow (importance a) semicolons_then) (blank-none (33 ∷ word_there) (no_gap-byte 33 word_there refl refl))
-    ∙ ap (λ r. follow r semicolons_then) (follow-got (blank word_there) tt word_there (λ x. important_word) (blank-none word_there (no_gap-byte 105 (codes "mportant" ++ (59 ∷ text)) refl refl)))
+    follow-got (blank (33 ∷ word_there)) tt (33 ∷ word_there)
+    (λ x a. follow (importance a) semicolons_then)
+    (blank-none (33 ∷ word_there) (no_gap-byte 33 word_there refl refl))
+    ∙ ap (λ r. follow r semicolons_then)
+    (follow-got (blank word_there) tt word_there (λ x. important_word)
+    (blank-none word_there (no_gap-byte 105 (codes "mportant" ++ (59 ∷ text)) refl refl)))
     ∙ semicolons-read true text o e
 
 -- a value, and what follows it
@@ -173,75 +246,111 @@ trailing-important text o e =
 bare_no_space : (b : ℕ) → is_bare b ≡ true → is_space b ≡ false
 bare_no_space b e = grind (arith, nat_tests)
 
-value-no_gap : (edition : Edition) (v : List ℕ) (q : ℕ) (tail : List ℕ) → IsValueText edition v → Quiet edition q → NoGap (v ++ (q ∷ tail))
+value-no_gap : (edition : Edition) (v : List ℕ) (q : ℕ) (tail : List ℕ) → IsValueText edition v
+    → Quiet edition q → NoGap (v ++ (q ∷ tail))
 value-no_gap edition v q tail w quiet = by v w.first closed
   where
     closed : opens_comment (v ++ (q ∷ tail)) ≡ false
-    closed = valued-closed edition (q ∷ tail) (v ++ (q ∷ tail)) (valued-again edition w.r q tail (v ++ w.r) (v ++ (q ∷ tail)) quiet w.r_is (IsUtf8-append v w.r w.value_is w.r_is) w.valued (along-front w.r (q ∷ tail) v))
+    closed =
+        valued-closed edition (q ∷ tail) (v ++ (q ∷ tail))
+        (valued-again edition w.r q tail (v ++ w.r) (v ++ (q ∷ tail)) quiet w.r_is
+        (IsUtf8-append v w.r w.value_is w.r_is) w.valued (along-front w.r (q ∷ tail) v))
 
-    by : (v : List ℕ) → FirstBare v → opens_comment (v ++ (q ∷ tail)) ≡ false → NoGap (v ++ (q ∷ tail))
+    by : (v : List ℕ) → FirstBare v → opens_comment (v ++ (q ∷ tail)) ≡ false
+        → NoGap (v ++ (q ∷ tail))
     by [] first o = absurd first
     by (b ∷ v) first o =
         let space = bare_no_space b first in
-        record { none = each-none blank_part (b ∷ (v ++ (q ∷ tail))) (part_is (is_space b) (opens_comment (b ∷ (v ++ (q ∷ tail)))) space o); closed = o }
+        record {
+          none = each-none blank_part (b ∷ (v ++ (q ∷ tail)))
+              (part_is (is_space b) (opens_comment (b ∷ (v ++ (q ∷ tail)))) space o);
+          closed = o;
+        }
       where
-        part_is : (s t : Bool) → s ≡ false → t ≡ false → Path (Option (Bool × List ℕ)) (if s then Some (true, v ++ (q ∷ tail)) else (if t then option_map (λ rest. (false, rest)) (after_comment (b ∷ (v ++ (q ∷ tail)))) else None)) None
+        part_is : (s t : Bool) → s ≡ false → t ≡ false
+            → Path (Option (Bool × List ℕ))
+            (if s then Some (true, v ++ (q ∷ tail)) else
+            (if t then option_map (λ rest. (false, rest)) (after_comment (b ∷ (v ++ (q ∷ tail))))
+            else None)) None
         part_is s t e f = rw (e, f) refl
 
 -- what a value is read as, and what follows it
-record StatedAgain (edition : Edition) (v : List ℕ) (important : Bool) (text behind : List ℕ) : Type 0 where
+record StatedAgain (edition : Edition) (v : List ℕ) (important : Bool) (text behind : List ℕ) : Type
+    0 where
   pub left : List ℕ
   pub calm : NoGap (v ++ (important_text important ++ (59 ∷ text)))
   pub stated : value edition (v ++ (important_text important ++ (59 ∷ text))) ≡ (v, left)
   pub trails : trailing left ≡ got important behind
 
-stated-again : (edition : Edition) (v : List ℕ) (important : Bool) (text : List ℕ) → IsValueText edition v → opens_comment (past_blank text) ≡ false → starts 59 (past_blank text) ≡ false → StatedAgain edition v important text (past_blank text)
+stated-again : (edition : Edition) (v : List ℕ) (important : Bool) (text : List ℕ)
+    → IsValueText edition v → opens_comment (past_blank text) ≡ false
+    → starts 59 (past_blank text) ≡ false → StatedAgain edition v important text (past_blank text)
 stated-again edition v false text w o e =
     let left = 59 ∷ text in
     let none_there : past_blank left ≡ left = ap (λ r. r.1) (no_gap-byte 59 text refl refl).none in
     record {
       left = left;
       calm = value-no_gap edition v 59 text w (quiet-semicolon edition);
-      stated = value-reads edition v 59 text left (no_name left) w (quiet-semicolon edition) (ap (term edition) none_there ∙ semicolon_term edition text);
+      stated =
+          value-reads edition v 59 text left (no_name left) w (quiet-semicolon edition)
+          (ap (term edition) none_there ∙ semicolon_term edition text);
       trails = trailing-plain text o e;
     }
 stated-again edition v true text w o e =
     let left = codes "!important" ++ (59 ∷ text) in
-    let none_there : past_blank (32 ∷ left) ≡ left = past_blank-space 32 left refl ∙ ap (λ r. r.1) (no_gap-byte 33 (codes "important" ++ (59 ∷ text)) refl refl).none in
+    let none_there : past_blank (32 ∷ left) ≡ left =
+    past_blank-space 32 left refl
+    ∙ ap (λ r. r.1) (no_gap-byte 33 (codes "important" ++ (59 ∷ text)) refl refl).none in
     record {
       left = left;
       calm = value-no_gap edition v 32 left w (quiet-space edition);
-      stated = value-reads edition v 32 left left (no_name left) w (quiet-space edition) (ap (term edition) none_there ∙ mark_term edition (codes "important" ++ (59 ∷ text)));
+      stated =
+          value-reads edition v 32 left left (no_name left) w (quiet-space edition)
+          (ap (term edition) none_there ∙ mark_term edition (codes "important" ++ (59 ∷ text)));
       trails = trailing-important text o e;
     }
 
 -- a printed declaration, part by part
-pub declaration_text-assoc : (p : StyleDeclaration) (text : List ℕ) → declaration_text p ++ text ≡ p.name ++ (58 ∷ (p.value ++ (important_text p.important ++ (59 ∷ text))))
+pub declaration_text-assoc : (p : StyleDeclaration) (text : List ℕ)
+    → declaration_text p ++ text ≡ p.name ++
+    (58 ∷ (p.value ++ (important_text p.important ++ (59 ∷ text))))
 declaration_text-assoc p text = by p.name p.value (important_text p.important)
   where
-    by : (n v i : List ℕ) → ((((n ++ (58 ∷ [])) ++ v) ++ i) ++ (59 ∷ [])) ++ text ≡ n ++ (58 ∷ (v ++ (i ++ (59 ∷ text))))
+    by : (n v i : List ℕ)
+        → ((((n ++ (58 ∷ [])) ++ v) ++ i) ++ (59 ∷ [])) ++ text
+        ≡ n ++ (58 ∷ (v ++ (i ++ (59 ∷ text))))
     by n v i =
         append_assoc (((n ++ (58 ∷ [])) ++ v) ++ i) (59 ∷ []) text
         ∙ append_assoc ((n ++ (58 ∷ [])) ++ v) i (59 ∷ text)
         ∙ append_assoc (n ++ (58 ∷ [])) v (i ++ (59 ∷ text))
         ∙ append_assoc n (58 ∷ []) (v ++ (i ++ (59 ∷ text)))
 
-behind_name-reads : (edition : Edition) (p : StyleDeclaration) (text behind : List ℕ) → (length p.value == 0) ≡ false → StatedAgain edition p.value p.important text behind → behind_name edition p.name (58 ∷ (p.value ++ (important_text p.important ++ (59 ∷ text)))) ≡ got p behind
+behind_name-reads : (edition : Edition) (p : StyleDeclaration) (text behind : List ℕ)
+    → (length p.value == 0) ≡ false → StatedAgain edition p.value p.important text behind
+    → behind_name edition p.name (58 ∷ (p.value ++ (important_text p.important ++ (59 ∷ text))))
+    ≡ got p behind
 behind_name-reads edition p text behind some w =
     let start = p.value ++ (important_text p.important ++ (59 ∷ text)) in
-    let from_value : List ℕ → Reading StyleDeclaration = λ s. follow (trailing (value edition s).1) (stated_as edition p.name s (value edition s).0) in
+    let from_value : List ℕ → Reading StyleDeclaration =
+    λ s. follow (trailing (value edition s).1) (stated_as edition p.name s (value edition s).0)
+    in
     let value_is = w.stated in
     let left_is = w.trails in
-    follow-got (blank (58 ∷ start)) tt (58 ∷ start) (λ x d. follow (byte 58 d) (λ x e. follow (blank e) (λ x. from_value))) (blank-none (58 ∷ start) (no_gap-byte 58 start refl refl))
+    follow-got (blank (58 ∷ start)) tt (58 ∷ start)
+    (λ x d. follow (byte 58 d) (λ x e. follow (blank e) (λ x. from_value)))
+    (blank-none (58 ∷ start) (no_gap-byte 58 start refl refl))
     ∙ follow-got (blank start) tt start (λ x. from_value) (blank-none start w.calm)
-    ∙ ap (λ (r : List ℕ × List ℕ). follow (trailing r.1) (stated_as edition p.name start r.0)) w.stated
-    ∙ follow-got (trailing w.left) p.important behind (stated_as edition p.name start p.value) w.trails
+    ∙ ap (λ (r : List ℕ × List ℕ). follow (trailing r.1) (stated_as edition p.name start r.0))
+    w.stated
+    ∙ follow-got (trailing w.left) p.important behind (stated_as edition p.name start p.value)
+    w.trails
     ∙ rw some refl
 
 colon_ends : (edition : Edition) (text : List ℕ) → ends_names edition (58 ∷ text) ≡ false
 colon_ends edition text = ends_low edition 58 text (omega arith) refl refl
 
-no_star : (edition : Edition) (b : ℕ) (text : List ℕ) → IsNameByte edition b → past_byte 42 (b ∷ text) ≡ b ∷ text
+no_star : (edition : Edition) (b : ℕ) (text : List ℕ) → IsNameByte edition b
+    → past_byte 42 (b ∷ text) ≡ b ∷ text
 no_star edition b text w = let e = by edition w in rw e refl
   where
     by : (edition : Edition) → IsNameByte edition b → (b == 42) ≡ false
@@ -249,18 +358,26 @@ no_star edition b text w = let e = by edition w in rw e refl
     by second_edition w = other_byte second_edition 42 b (omega arith) refl w
 
 -- A declaration that was read from a text without white space past ASCII reads back.
-pub printed_declaration-reads_back : (edition : Edition) (p : StyleDeclaration) → IsDeclaration edition p → DeclarationReadsBack edition p
+pub printed_declaration-reads_back : (edition : Edition) (p : StyleDeclaration)
+    → IsDeclaration edition p → DeclarationReadsBack edition p
 unfolding declaration
 printed_declaration-reads_back edition p w text o e =
     let behind = 58 ∷ (p.value ++ (important_text p.important ++ (59 ∷ text))) in
     let f = name-first edition p.name w.name_is in
     let whole = p.name ++ behind in
     let begins : whole ≡ f.first ∷ (f.others ++ behind) = ap (λ l. l ++ behind) f.is in
-    let calm : NoGap whole = subst NoGap (sym begins) (no_gap-name edition f.first (f.others ++ behind) f.fit) in
-    let star : past_byte 42 whole ≡ whole = ap (past_byte 42) begins ∙ no_star edition f.first (f.others ++ behind) f.fit ∙ sym begins in
-    let from_name : List ℕ → Reading StyleDeclaration = λ b. follow (name edition b) (λ m. behind_name edition m) in
+    let calm : NoGap whole =
+    subst NoGap (sym begins) (no_gap-name edition f.first (f.others ++ behind) f.fit) in
+    let star : past_byte 42 whole ≡ whole =
+    ap (past_byte 42) begins ∙ no_star edition f.first (f.others ++ behind) f.fit
+    ∙ sym begins in
+    let from_name : List ℕ → Reading StyleDeclaration =
+    λ b. follow (name edition b) (λ m. behind_name edition m) in
     ap (declaration edition) (declaration_text-assoc p text)
     ∙ follow-got (blank whole) tt whole (λ x a. from_name (past_byte 42 a)) (blank-none whole calm)
     ∙ ap from_name star
-    ∙ follow-got (name edition whole) p.name behind (λ m. behind_name edition m) (name-reads edition p.name behind w.name_is (colon_ends edition (p.value ++ (important_text p.important ++ (59 ∷ text)))))
-    ∙ behind_name-reads edition p text (past_blank text) w.some (stated-again edition p.value p.important text w.value_is o e)
+    ∙ follow-got (name edition whole) p.name behind (λ m. behind_name edition m)
+    (name-reads edition p.name behind w.name_is
+    (colon_ends edition (p.value ++ (important_text p.important ++ (59 ∷ text)))))
+    ∙ behind_name-reads edition p text (past_blank text) w.some
+    (stated-again edition p.value p.important text w.value_is o e)

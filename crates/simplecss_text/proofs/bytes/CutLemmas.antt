@@ -12,65 +12,83 @@ use Rattle.simplecss_text.specs.Characters.{is_space}
 use Rattle.simplecss_text.specs.ByteTests.{IsByteTest, PassesUpTo}
 
 -- after an ASCII byte
-IsCharBoundary-behind : (text : List ℕ) (n : ℕ) → IsUtf8 text → 0 < n → n ≤ length text → slice_index text (n - 1) < 128 → IsCharBoundary text n
+IsCharBoundary-behind : (text : List ℕ) (n : ℕ) → IsUtf8 text → 0 < n → n ≤ length text
+    → slice_index text (n - 1) < 128 → IsCharBoundary text n
 IsCharBoundary-behind text n u pos h e =
     let back : n - 1 + 1 ≡ n = omega arith in
-    subst (λ (i : ℕ). IsCharBoundary text i) back (IsCharBoundary-after_ascii text (n - 1) u (omega arith) e)
+    subst (λ (i : ℕ). IsCharBoundary text i) back
+    (IsCharBoundary-after_ascii text (n - 1) u (omega arith) e)
 
 -- after a run of ASCII bytes
-pub IsCharBoundary-prefix_len : (p : ℕ → Bool) → ((b : ℕ) → p b ≡ true → b < 128) → (text : List ℕ) → IsUtf8 text → IsCharBoundary text (prefix_len p text)
+pub IsCharBoundary-prefix_len : (p : ℕ → Bool) → ((b : ℕ) → p b ≡ true → b < 128) → (text : List ℕ)
+    → IsUtf8 text → IsCharBoundary text (prefix_len p text)
 IsCharBoundary-prefix_len p ascii text u = by (prefix_len p text) refl
   where
     by : (n : ℕ) → n ≡ prefix_len p text → IsCharBoundary text (prefix_len p text)
     by zero e = subst (λ (i : ℕ). IsCharBoundary text i) e (IsCharBoundary-start text u)
     by (suc n) e =
         let le : prefix_len p text ≤ length text = prefix_len-le-length p text in
-        let last : slice_index text (prefix_len p text - 1) < 128 = ascii _ (prefix_len_passes p text (prefix_len p text - 1) 0 (omega arith)) in
+        let last : slice_index text (prefix_len p text - 1) < 128 =
+        ascii _ (prefix_len_passes p text (prefix_len p text - 1) 0 (omega arith)) in
         IsCharBoundary-behind text (prefix_len p text) u (omega arith) le last
 
 pub is_space-ascii : (b : ℕ) → is_space b ≡ true → b < 128
 is_space-ascii b e = grind (arith, nat_tests)
 
 -- The run of bytes that a test passes ends between two characters.
-pub IsCharBoundary-run : (pre : ℕ → Type 0) (post : ℕ → Bool → Type 0) (text : List ℕ) (p q : ℕ) → IsByteTest pre post text → PassesUpTo post text p q → IsUtf8 text → IsCharBoundary text p → IsCharBoundary text q
+pub IsCharBoundary-run : (pre : ℕ → Type 0) (post : ℕ → Bool → Type 0) (text : List ℕ) (p q : ℕ)
+    → IsByteTest pre post text → PassesUpTo post text p q → IsUtf8 text → IsCharBoundary text p
+    → IsCharBoundary text q
 IsCharBoundary-run pre post text p q t run utf8 start = (
   run.within,
   λ l wide.
       elim (eq-or-lt_of_le run.from) [
-        | inl e ↦ subst (λ (x : ℕ). x < length text → 128 ≤ get_or text x 0 → 192 ≤ get_or text x 0) e start.1 l wide
+        | inl e ↦ subst (λ (x : ℕ). x < length text → 128 ≤ get_or text x 0 → 192 ≤ get_or text x 0)
+            e start.1 l wide
         | inr more ↦
             let before : q - 1 + 1 ≡ q = omega arith in
             elim (leb_tells 128 (get_or text (q - 1) 0)) [
               | inl high ↦
-                  let same : true ≡ false = t.alike (q - 1) q true false (omega arith) l high.1 wide (run.passed (q - 1) (omega arith) (omega arith)) (run.stopped l) in
+                  let same : true ≡ false =
+                  t.alike (q - 1) q true false (omega arith) l high.1 wide
+                  (run.passed (q - 1) (omega arith) (omega arith)) (run.stopped l) in
                   cc
-              | inr low ↦ subst (λ (x : ℕ). x < length text → 128 ≤ get_or text x 0 → 192 ≤ get_or text x 0) before (lead_after_ascii text (q - 1) utf8 low.1) l wide
+              | inr low ↦ subst (λ (x : ℕ). x < length text → 128 ≤ get_or text x 0
+                  → 192 ≤ get_or text x 0) before (lead_after_ascii text (q - 1) utf8 low.1) l wide
             ]
       ],
 )
 
 -- after a space byte at the front
-pub IsCharBoundary-behind_space : (text : List ℕ) → IsUtf8 text → true ≡ starts_by is_space text → IsCharBoundary text 1
+pub IsCharBoundary-behind_space : (text : List ℕ) → IsUtf8 text → true ≡ starts_by is_space text
+    → IsCharBoundary text 1
 IsCharBoundary-behind_space [] u e = absurd (cc)
-IsCharBoundary-behind_space (b ∷ text) u e = IsCharBoundary-after_ascii (b ∷ text) 0 u (omega arith) (is_space-ascii b (sym e))
+IsCharBoundary-behind_space (b ∷ text) u e =
+    IsCharBoundary-after_ascii (b ∷ text) 0 u (omega arith) (is_space-ascii b (sym e))
 
 -- after an ASCII byte that is at a place of a text
-pub boundary_past_ascii : (text : List ℕ) (place : ℕ) → ∥ IsUtf8 text ∥₁ → IsCharBoundary text place → starts_by is_ascii (drop place text) ≡ true → IsCharBoundary (drop place text) 1
-boundary_past_ascii text place u at e = front (drop place text) (IsUtf8-drop text place (IsUtf8-had text u) at) e
+pub boundary_past_ascii : (text : List ℕ) (place : ℕ) → ∥ IsUtf8 text ∥₁ → IsCharBoundary text place
+    → starts_by is_ascii (drop place text) ≡ true → IsCharBoundary (drop place text) 1
+boundary_past_ascii text place u at e =
+    front (drop place text) (IsUtf8-drop text place (IsUtf8-had text u) at) e
   where
     front : (rest : List ℕ) → IsUtf8 rest → starts_by is_ascii rest ≡ true → IsCharBoundary rest 1
     front [] v e = absurd (cc)
-    front (b ∷ rest) v e = IsCharBoundary-after_ascii (b ∷ rest) 0 v (omega arith) (ltb-true b 128 e)
+    front (b ∷ rest) v e =
+        IsCharBoundary-after_ascii (b ∷ rest) 0 v (omega arith) (ltb-true b 128 e)
 
 -- after an ASCII byte that a search may have found
-pub IsCharBoundary-behind_found : (text : List ℕ) (byte : ℕ) (r : Option ℕ) → IsUtf8 text → byte < 128 → IfSome r (λ n. (n < length text) × (slice_index text n ≡ byte)) → IfSome r (λ n. IsCharBoundary text (n + 1))
+pub IsCharBoundary-behind_found : (text : List ℕ) (byte : ℕ) (r : Option ℕ) → IsUtf8 text
+    → byte < 128 → IfSome r (λ n. (n < length text) × (slice_index text n ≡ byte))
+    → IfSome r (λ n. IsCharBoundary text (n + 1))
 IsCharBoundary-behind_found text byte None u l h = tt
 IsCharBoundary-behind_found text byte (Some n) u l h =
     let small : slice_index text n < 128 = omega (arith, h.1) in
     IsCharBoundary-after_ascii text n u h.0 small
 
 -- after two ASCII bytes at the front
-pub IsCharBoundary-behind_comment : (text : List ℕ) → IsUtf8 text → starts_two 47 42 text ≡ true → IsCharBoundary text 2
+pub IsCharBoundary-behind_comment : (text : List ℕ) → IsUtf8 text → starts_two 47 42 text ≡ true
+    → IsCharBoundary text 2
 IsCharBoundary-behind_comment [] u e = absurd (cc)
 IsCharBoundary-behind_comment (a ∷ []) u e = absurd (false_and (a == 47) e)
   where

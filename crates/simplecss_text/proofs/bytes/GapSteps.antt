@@ -27,25 +27,34 @@ pub passed-start : (text : List ℕ) → IsUtf8 text → Passed text 0 false
 passed-start text u = record { boundary = IsCharBoundary-start text u; rest = refl; space = refl }
 
 pub passed-step : (text : List ℕ) (len n : ℕ) (spaced space : Bool) → Passed text len spaced
-    → blank_part (drop len text) ≡ Some (space, drop n (drop len text)) → IsCharBoundary (drop len text) n → Passed text (len + n) (spaced || space)
+    → blank_part (drop len text) ≡ Some (space, drop n (drop len text))
+    → IsCharBoundary (drop len text) n → Passed text (len + n) (spaced || space)
 passed-step text len n spaced space p e b =
     let rest : drop n (drop len text) ≡ drop (len + n) text = drop-drop n len text in
-    let step : each blank_part (drop len text) ≡ followed_by space (each blank_part (drop (len + n) text))
-    = each-some blank_part blank_part-takes (drop len text) (drop (len + n) text) space (e ∙ ap (λ r. Some (space, r)) rest) in
-    let spaces : has_space (drop len text) ≡ (space || has_space (drop (len + n) text)) = rw step refl in
+    let step : each blank_part (drop len text) ≡ followed_by space
+    (each blank_part (drop (len + n) text))
+    = each-some blank_part blank_part-takes (drop len text) (drop (len + n) text) space
+    (e ∙ ap (λ r. Some (space, r)) rest) in
+    let spaces : has_space (drop len text) ≡ (space || has_space (drop (len + n) text)) =
+    rw step refl in
     record {
       boundary = IsCharBoundary-from_rest text len n p.boundary.0 b;
       rest = p.rest ∙ ap (λ r. r.1) step;
-      space = p.space ∙ ap (λ s. spaced || s) spaces ∙ sym (or_assoc spaced space (has_space (drop (len + n) text)));
+      space =
+          p.space ∙ ap (λ s. spaced || s) spaces
+          ∙ sym (or_assoc spaced space (has_space (drop (len + n) text)));
     }
 
 -- where there is no further part
-pub passed-rest : (text : List ℕ) (len : ℕ) (spaced : Bool) → Passed text len spaced → blank_part (drop len text) ≡ None → past_blank text ≡ drop len text
+pub passed-rest : (text : List ℕ) (len : ℕ) (spaced : Bool) → Passed text len spaced
+    → blank_part (drop len text) ≡ None → past_blank text ≡ drop len text
 passed-rest text len spaced p e = p.rest ∙ ap (λ r. r.1) (each-none blank_part (drop len text) e)
 
-pub passed-space : (text : List ℕ) (len : ℕ) (spaced : Bool) → Passed text len spaced → blank_part (drop len text) ≡ None → spaced ≡ has_space text
+pub passed-space : (text : List ℕ) (len : ℕ) (spaced : Bool) → Passed text len spaced
+    → blank_part (drop len text) ≡ None → spaced ≡ has_space text
 passed-space text len spaced p e =
-    let none : has_space (drop len text) ≡ false = rw (each-none blank_part (drop len text) e) refl in
+    let none : has_space (drop len text) ≡ false =
+    rw (each-none blank_part (drop len text) e) refl in
     sym (p.space ∙ ap (λ s. spaced || s) none ∙ or_false spaced)
   where
     or_false : (b : Bool) → (b || false) ≡ b
@@ -63,15 +72,18 @@ or_right true y e = absurd (cc)
 or_right false y e = e
 
 -- a text at whose front no part of a gap begins
-pub blank_part-none : (text : List ℕ) → (starts_by is_space text || opens_comment text) ≡ false → blank_part text ≡ None
+pub blank_part-none : (text : List ℕ) → (starts_by is_space text || opens_comment text) ≡ false
+    → blank_part text ≡ None
 blank_part-none [] e = refl
 blank_part-none (b ∷ text) e =
     let solid : is_space b ≡ false = or_left (is_space b) (opens_comment (b ∷ text)) e in
-    let closed : opens_comment (b ∷ text) ≡ false = or_right (is_space b) (opens_comment (b ∷ text)) e in
+    let closed : opens_comment (b ∷ text) ≡ false =
+    or_right (is_space b) (opens_comment (b ∷ text)) e in
     rw (solid, closed) refl
 
 -- a space byte at the front is a part of the gap
-each-space : (b : ℕ) (text : List ℕ) → is_space b ≡ true → each blank_part (b ∷ text) ≡ followed_by true (each blank_part text)
+each-space : (b : ℕ) (text : List ℕ) → is_space b ≡ true
+    → each blank_part (b ∷ text) ≡ followed_by true (each blank_part text)
 each-space b text e = each-some blank_part blank_part-takes (b ∷ text) text true (rw e refl)
 
 -- the blank at the front continues after the space bytes that it begins with
@@ -79,24 +91,32 @@ past_blank-past_spaces : (text : List ℕ) → past_blank text ≡ past_blank (p
 past_blank-past_spaces [] = refl
 past_blank-past_spaces (b ∷ text) = by (is_space b) refl (past_blank-past_spaces text)
   where
-    by : (t : Bool) → is_space b ≡ t → past_blank text ≡ past_blank (past is_space text) → past_blank (b ∷ text) ≡ past_blank (past is_space (b ∷ text))
-    by true e more = ap (λ r. r.1) (each-space b text e) ∙ more ∙ ap past_blank (sym (past-yes is_space b text e))
+    by : (t : Bool) → is_space b ≡ t → past_blank text ≡ past_blank (past is_space text)
+        → past_blank (b ∷ text) ≡ past_blank (past is_space (b ∷ text))
+    by true e more =
+        ap (λ r. r.1) (each-space b text e) ∙ more
+        ∙ ap past_blank (sym (past-yes is_space b text e))
     by false e more = ap past_blank (sym (past-no is_space b text e))
 
-has_space-past_spaces : (text : List ℕ) → has_space text ≡ (nat_lt 0 (prefix_len is_space text) || has_space (past is_space text))
+has_space-past_spaces : (text : List ℕ)
+    → has_space text ≡ (nat_lt 0 (prefix_len is_space text) || has_space (past is_space text))
 has_space-past_spaces [] = refl
 has_space-past_spaces (b ∷ text) = by (is_space b) refl
   where
-    by : (t : Bool) → is_space b ≡ t → has_space (b ∷ text) ≡ (nat_lt 0 (prefix_len is_space (b ∷ text)) || has_space (past is_space (b ∷ text)))
+    by : (t : Bool) → is_space b ≡ t
+        → has_space (b ∷ text)
+        ≡ (nat_lt 0 (prefix_len is_space (b ∷ text)) || has_space (past is_space (b ∷ text)))
     by true e =
         let here : has_space (b ∷ text) ≡ true = rw (each-space b text e) refl in
         let more : prefix_len is_space (b ∷ text) ≡ 1 + prefix_len is_space text = rw e refl in
-        let some : nat_lt 0 (prefix_len is_space (b ∷ text)) ≡ true = lt-ltb 0 (prefix_len is_space (b ∷ text)) (omega arith) in
+        let some : nat_lt 0 (prefix_len is_space (b ∷ text)) ≡ true =
+        lt-ltb 0 (prefix_len is_space (b ∷ text)) (omega arith) in
         here ∙ sym (ap (λ t. t || has_space (past is_space (b ∷ text))) some)
     by false e = rw e refl
 
 -- the space bytes at the front
-pub passed-spaces : (text : List ℕ) (len : ℕ) → IsUtf8 text → len ≡ prefix_len is_space text → Passed text len (nat_lt 0 len)
+pub passed-spaces : (text : List ℕ) (len : ℕ) → IsUtf8 text → len ≡ prefix_len is_space text
+    → Passed text len (nat_lt 0 len)
 passed-spaces text len u e = subst (λ (n : ℕ). Passed text n (nat_lt 0 n)) (sym e) (record {
   boundary = IsCharBoundary-prefix_len is_space is_space-ascii text u;
   rest = past_blank-past_spaces text;
@@ -104,7 +124,8 @@ passed-spaces text len u e = subst (λ (n : ℕ). Passed text n (nat_lt 0 n)) (s
 })
 
 -- where no comment opens after the space bytes at the front, no part of the gap is there
-pub no_part-behind_spaces : (text : List ℕ) (len : ℕ) → len ≡ prefix_len is_space text → opens_comment (drop len text) ≡ false → blank_part (drop len text) ≡ None
+pub no_part-behind_spaces : (text : List ℕ) (len : ℕ) → len ≡ prefix_len is_space text
+    → opens_comment (drop len text) ≡ false → blank_part (drop len text) ≡ None
 no_part-behind_spaces text len e closed =
     let solid : starts_by is_space (drop len text) ≡ false = rw e (starts_by-past is_space text) in
     blank_part-none (drop len text) (rw (solid, closed) refl)

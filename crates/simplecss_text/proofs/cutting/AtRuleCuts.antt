@@ -23,10 +23,12 @@ use Rattle.simplecss_text.proofs.cutting.BlockEndGuards.{from_block_end-to}
 -- where the first text has come to the byte g, so has the second
 pub along-at : (g : ℕ) (t u r s : List ℕ) → Along (g ∷ t) (g ∷ u) r s → r ≡ g ∷ t → s ≡ g ∷ u
 along-at g t u r s at e = refl
-along-at g t u r s (on b r1 s1 h) e = absurd (omega (arith, longer-along (g ∷ t) (g ∷ u) r1 s1 h, ap length e))
+along-at g t u r s (on b r1 s1 h) e =
+    absurd (omega (arith, longer-along (g ∷ t) (g ∷ u) r1 s1 h, ap length e))
 
 -- where a byte is before it in the first text, that byte is in the second
-along-next : (g : ℕ) (t u : List ℕ) (c : ℕ) (x r s : List ℕ) → Along (g ∷ t) (g ∷ u) r s → r ≡ c ∷ x → length t < length x → (y : List ℕ) × ((s ≡ c ∷ y) × Along (g ∷ t) (g ∷ u) x y)
+along-next : (g : ℕ) (t u : List ℕ) (c : ℕ) (x r s : List ℕ) → Along (g ∷ t) (g ∷ u) r s → r ≡ c ∷ x
+    → length t < length x → (y : List ℕ) × ((s ≡ c ∷ y) × Along (g ∷ t) (g ∷ u) x y)
 along-next g t u c x r s at e l = absurd (omega (arith, ap length e, l))
 along-next g t u c x r s (on b r1 s1 h) e l =
     let first : b ≡ c = cc in
@@ -34,11 +36,16 @@ along-next g t u c x r s (on b r1 s1 h) e l =
     (s1, (ap (λ (d : ℕ). d ∷ s1) first, subst (λ (z : List ℕ). Along (g ∷ t) (g ∷ u) z s1) rest h))
 
 -- an at-rule that ends after a semicolon
-pub at_rule-semicolon : (edition : Edition) (t u r s n rest : List ℕ) → IsUtf8 r → Along (59 ∷ t) (59 ∷ u) r s → name edition r ≡ got n rest → past (is_neither 59 123) rest ≡ 59 ∷ t → at_rule_rest edition s ≡ u
+pub at_rule-semicolon : (edition : Edition) (t u r s n rest : List ℕ) → IsUtf8 r
+    → Along (59 ∷ t) (59 ∷ u) r s → name edition r ≡ got n rest
+    → past (is_neither 59 123) rest ≡ 59 ∷ t → at_rule_rest edition s ≡ u
 unfolding at_rule_rest
-at_rule-semicolon edition t u r s n rest w h e f = by (name edition r) (name edition s) e (name-same edition 59 t u (quiet-semicolon edition) r s w h)
+at_rule-semicolon edition t u r s n rest w h e f =
+    by (name edition r) (name edition s) e
+    (name-same edition 59 t u (quiet-semicolon edition) r s w h)
   where
-    by : (a b : Reading (List ℕ)) → a ≡ got n rest → Guard Equal true (59 ∷ t) (59 ∷ u) a b → at_rule_rest_by_name b ≡ u
+    by : (a b : Reading (List ℕ)) → a ≡ got n rest → Guard Equal true (59 ∷ t) (59 ∷ u) a b
+        → at_rule_rest_by_name b ≡ u
     by (fails q x) b g k = absurd (cc)
     by (got m x) b g (inl l) =
         let same : x ≡ rest = cc in
@@ -47,43 +54,59 @@ at_rule-semicolon edition t u r s n rest w h e f = by (name edition r) (name edi
     by (got m x) (got o y) g (inr k) =
         let same : x ≡ rest = cc in
         let there : past (is_neither 59 123) x ≡ 59 ∷ t = ap (past (is_neither 59 123)) same ∙ f in
-        ap past_semicolon_or_block (along-at 59 t u (past (is_neither 59 123) x) (past (is_neither 59 123) y) (past-along 59 t u (is_neither 59 123) refl x y k.1) there)
+        ap past_semicolon_or_block
+        (along-at 59 t u (past (is_neither 59 123) x) (past (is_neither 59 123) y)
+        (past-along 59 t u (is_neither 59 123) refl x y k.1) there)
 
 -- a block that ends after the brace
-block_end-at : (u v inner y : List ℕ) → Along (125 ∷ (u ++ v)) (125 ∷ u) inner y → from_block_end inner ≡ 125 ∷ (u ++ v) → past_byte 125 (from_block_end y) ≡ u
+block_end-at : (u v inner y : List ℕ) → Along (125 ∷ (u ++ v)) (125 ∷ u) inner y
+    → from_block_end inner ≡ 125 ∷ (u ++ v) → past_byte 125 (from_block_end y) ≡ u
 block_end-at u v inner y h e = by (from_block_end-to u v inner y h)
   where
-    by : To true (125 ∷ (u ++ v)) (125 ∷ u) (from_block_end inner) (from_block_end y) → past_byte 125 (from_block_end y) ≡ u
+    by : To true (125 ∷ (u ++ v)) (125 ∷ u) (from_block_end inner) (from_block_end y)
+        → past_byte 125 (from_block_end y) ≡ u
     by (inl l) = absurd (omega (arith, l, ap length e))
-    by (inr k) = ap (past_byte 125) (along-at 125 (u ++ v) u (from_block_end inner) (from_block_end y) k e)
+    by (inr k) =
+        ap (past_byte 125) (along-at 125 (u ++ v) u (from_block_end inner) (from_block_end y) k e)
 
 -- an at-rule that ends after a block
-pub at_rule-block : (edition : Edition) (u v r s n rest inner : List ℕ) → IsUtf8 r → Along (125 ∷ (u ++ v)) (125 ∷ u) r s → name edition r ≡ got n rest → past (is_neither 59 123) rest ≡ 123 ∷ inner → from_block_end inner ≡ 125 ∷ (u ++ v) → at_rule_rest edition s ≡ u
+pub at_rule-block : (edition : Edition) (u v r s n rest inner : List ℕ) → IsUtf8 r
+    → Along (125 ∷ (u ++ v)) (125 ∷ u) r s → name edition r ≡ got n rest
+    → past (is_neither 59 123) rest ≡ 123 ∷ inner → from_block_end inner ≡ 125 ∷ (u ++ v)
+    → at_rule_rest edition s ≡ u
 unfolding at_rule_rest
-at_rule-block edition u v r s n rest inner w h e f g = by (name edition r) (name edition s) e (name-same edition 125 (u ++ v) u (quiet-brace edition) r s w h)
+at_rule-block edition u v r s n rest inner w h e f g =
+    by (name edition r) (name edition s) e
+    (name-same edition 125 (u ++ v) u (quiet-brace edition) r s w h)
   where
     long : length (u ++ v) < length inner
     long = omega (arith, ap length g, length-from_block_end inner)
 
-    opened : (x y : List ℕ) → x ≡ 123 ∷ inner → To true (125 ∷ (u ++ v)) (125 ∷ u) x y → past_semicolon_or_block y ≡ u
+    opened : (x y : List ℕ) → x ≡ 123 ∷ inner → To true (125 ∷ (u ++ v)) (125 ∷ u) x y
+        → past_semicolon_or_block y ≡ u
     opened x y k (inl l) = absurd (omega (arith, l, ap length k, long))
     opened x y k (inr along) =
         let found = along-next 125 (u ++ v) u 123 inner x y along k long in
         ap past_semicolon_or_block found.1.0 ∙ block_end-at u v inner found.0 found.1.1 g
 
-    by : (a b : Reading (List ℕ)) → a ≡ got n rest → Guard Equal true (125 ∷ (u ++ v)) (125 ∷ u) a b → at_rule_rest_by_name b ≡ u
+    by : (a b : Reading (List ℕ)) → a ≡ got n rest → Guard Equal true (125 ∷ (u ++ v)) (125 ∷ u) a b
+        → at_rule_rest_by_name b ≡ u
     by (fails q x) b k along = absurd (cc)
     by (got m x) b k (inl l) =
         let same : x ≡ rest = cc in
-        absurd (omega (arith, l, ap length same, ap length f, length-past (is_neither 59 123) rest, long))
+        absurd (omega
+        (arith, l, ap length same, ap length f, length-past (is_neither 59 123) rest, long))
     by (got m x) (fails q y) k (inr along) = absurd along
     by (got m x) (got o y) k (inr along) =
         let same : x ≡ rest = cc in
-        opened (past (is_neither 59 123) x) (past (is_neither 59 123) y) (ap (past (is_neither 59 123)) same ∙ f) (past-both 125 (u ++ v) u (is_neither 59 123) x y along.1)
+        opened (past (is_neither 59 123) x) (past (is_neither 59 123) y)
+        (ap (past (is_neither 59 123)) same ∙ f)
+        (past-both 125 (u ++ v) u (is_neither 59 123) x y along.1)
 
 -- ---- a faulty name
 
-at_rule-no_name : (edition : Edition) (text : List ℕ) → begins_name edition (chars text) ≡ false → at_rule_rest edition text ≡ past_byte 45 text
+at_rule-no_name : (edition : Edition) (text : List ℕ) → begins_name edition (chars text) ≡ false
+    → at_rule_rest edition text ≡ past_byte 45 text
 unfolding at_rule_rest name
 at_rule-no_name edition text e = rw e refl
 
@@ -94,15 +117,21 @@ at_rule-hyphen first_edition = refl
 at_rule-hyphen second_edition = refl
 
 -- Where no name begins in a text none begins in its front, but for a lone hyphen.
-no_name-front : (edition : Edition) (s v : List ℕ) → IsUtf8 s → begins_name edition (chars (s ++ v)) ≡ false → (begins_name edition (chars s) ≡ false) ⊎ (s ≡ 45 ∷ [])
+no_name-front : (edition : Edition) (s v : List ℕ) → IsUtf8 s
+    → begins_name edition (chars (s ++ v)) ≡ false
+    → (begins_name edition (chars s) ≡ false) ⊎ (s ≡ 45 ∷ [])
 unfolding encode
-no_name-front edition s v u e = by (chars s) (encodes-chars s u) (ap (begins_name edition) (sym (chars-append s v u)) ∙ e)
+no_name-front edition s v u e =
+    by (chars s) (encodes-chars s u) (ap (begins_name edition) (sym (chars-append s v u)) ∙ e)
   where
-    start : (c : ℕ) (ds : List ℕ) → begins_name edition (c ∷ ds) ≡ false → is_name_start edition c ≡ false
+    start : (c : ℕ) (ds : List ℕ) → begins_name edition (c ∷ ds) ≡ false
+        → is_name_start edition c ≡ false
     start c [] h = (both_false (is_name_start edition c) (c == 45) h).0
-    start c (d ∷ ds) h = (both_false (is_name_start edition c) (c == 45 && is_name_start edition d) h).0
+    start c (d ∷ ds) h =
+        (both_false (is_name_start edition c) (c == 45 && is_name_start edition d) h).0
 
-    by : (cs : List ℕ) → encode_utf8_all cs ≡ s → begins_name edition (cs ++ chars v) ≡ false → (begins_name edition cs ≡ false) ⊎ (s ≡ 45 ∷ [])
+    by : (cs : List ℕ) → encode_utf8_all cs ≡ s → begins_name edition (cs ++ chars v) ≡ false
+        → (begins_name edition cs ≡ false) ⊎ (s ≡ 45 ∷ [])
     by [] f h = inl refl
     by (c ∷ []) f h = one (c == 45) refl
       where
@@ -117,7 +146,8 @@ nothing_in_front [] v l = refl
 nothing_in_front (b ∷ w) v l = absurd (omega (arith, l, length-append w v))
 
 -- an at-rule that ends at the fault of its name
-pub at_rule-fault : (edition : Edition) (s v w : List ℕ) (fault : Fault) → IsUtf8 s → name edition (s ++ v) ≡ fails fault (w ++ v) → at_rule_rest edition s ≡ w
+pub at_rule-fault : (edition : Edition) (s v w : List ℕ) (fault : Fault) → IsUtf8 s
+    → name edition (s ++ v) ≡ fails fault (w ++ v) → at_rule_rest edition s ≡ w
 at_rule-fault edition s v w fault u e = by (no_name-front edition s v u failed.0)
   where
     failed : (begins_name edition (chars (s ++ v)) ≡ false) × (w ++ v ≡ past_byte 45 (s ++ v))
@@ -127,10 +157,13 @@ at_rule-fault edition s v w fault u e = by (no_name-front edition s v u failed.0
     front [] g = sym (nothing_in_front w v (omega (arith, ap length g, length-past_byte 45 v)))
     front (b ∷ s) g = hyphen (b == 45) g
       where
-        hyphen : (k : Bool) → w ++ v ≡ (if k then s ++ v else b ∷ (s ++ v)) → (if k then s else b ∷ s) ≡ w
+        hyphen : (k : Bool) → w ++ v ≡ (if k then s ++ v else b ∷ (s ++ v))
+            → (if k then s else b ∷ s) ≡ w
         hyphen true k = sym (append_cancel_right w s v k)
         hyphen false k = sym (append_cancel_right w (b ∷ s) v k)
 
     by : (begins_name edition (chars s) ≡ false) ⊎ (s ≡ 45 ∷ []) → at_rule_rest edition s ≡ w
     by (inl none) = at_rule-no_name edition s none ∙ front s failed.1
-    by (inr is) = ap (at_rule_rest edition) is ∙ at_rule-hyphen edition ∙ front (45 ∷ []) (failed.1 ∙ ap (λ t. past_byte 45 (t ++ v)) is)
+    by (inr is) =
+        ap (at_rule_rest edition) is ∙ at_rule-hyphen edition
+        ∙ front (45 ∷ []) (failed.1 ∙ ap (λ t. past_byte 45 (t ++ v)) is)

@@ -11,7 +11,8 @@ use Rattle.simplecss_text.proofs.reading.LocalLaws.{Along, along-append, drop-to
 use Rattle.simplecss_text.proofs.reading.LeastLaws.{least-before, least-is, least-passes}
 
 -- a block's end within the front of a text is that of the front
-closes_block_local : (u v : List ℕ) (n : ℕ) → n < length u → closes_block (u ++ v) n ≡ closes_block u n
+closes_block_local : (u v : List ℕ) (n : ℕ) → n < length u
+    → closes_block (u ++ v) n ≡ closes_block u n
 closes_block_local u v n h =
     let at : get_or (u ++ v) n 0 ≡ get_or u n 0 = get_or-append u v 0 n h in
     let front : take n (u ++ v) ≡ take n u = take-append-le n u v (omega arith) in
@@ -21,21 +22,33 @@ block_end_local : (u v : List ℕ) → block_end (u ++ v) < length u → block_e
 unfolding block_end
 block_end_local u v h =
     let inside : block_end (u ++ v) < length (u ++ v) = omega (arith, length-append u v) in
-    let there : closes_block (u ++ v) (block_end (u ++ v)) ≡ true = least-passes (closes_block (u ++ v)) (length (u ++ v)) inside in
-    least-is (closes_block u) (length u) (block_end (u ++ v)) h (sym (closes_block_local u v (block_end (u ++ v)) h) ∙ there)
-    (λ j l. sym (closes_block_local u v j (omega arith)) ∙ least-before (closes_block (u ++ v)) (length (u ++ v)) j l)
+    let there : closes_block (u ++ v) (block_end (u ++ v)) ≡ true =
+    least-passes (closes_block (u ++ v)) (length (u ++ v)) inside in
+    least-is (closes_block u) (length u) (block_end (u ++ v)) h
+    (sym (closes_block_local u v (block_end (u ++ v)) h) ∙ there)
+    (λ j l. sym (closes_block_local u v j (omega arith))
+    ∙ least-before (closes_block (u ++ v)) (length (u ++ v)) j l)
 
 -- from the end of a block on
-pub from_block_end-to : (u v r s : List ℕ) → Along (125 ∷ (u ++ v)) (125 ∷ u) r s → To true (125 ∷ (u ++ v)) (125 ∷ u) (from_block_end r) (from_block_end s)
+pub from_block_end-to : (u v r s : List ℕ) → Along (125 ∷ (u ++ v)) (125 ∷ u) r s
+    → To true (125 ∷ (u ++ v)) (125 ∷ u) (from_block_end r) (from_block_end s)
 from_block_end-to u v r s h = by (cases_lt (block_end (s ++ v)) (length s))
   where
     whole : r ≡ s ++ v
     whole = along-append 125 u v r s h
 
-    by : (block_end (s ++ v) < length s) ⊎ (length s ≤ block_end (s ++ v)) → To true (125 ∷ (u ++ v)) (125 ∷ u) (from_block_end r) (from_block_end s)
+    by : (block_end (s ++ v) < length s) ⊎ (length s ≤ block_end (s ++ v))
+        → To true (125 ∷ (u ++ v)) (125 ∷ u) (from_block_end r) (from_block_end s)
     by (inr l) =
         let e : block_end r ≡ block_end (s ++ v) = ap block_end whole in
-        inl (omega (arith, e, length-drop (block_end r) r, length-along (125 ∷ (u ++ v)) (125 ∷ u) r s h, length-append u v, longer-along (125 ∷ (u ++ v)) (125 ∷ u) r s h))
+        inl (omega (
+          arith,
+          e,
+          length-drop (block_end r) r,
+          length-along (125 ∷ (u ++ v)) (125 ∷ u) r s h,
+          length-append u v,
+          longer-along (125 ∷ (u ++ v)) (125 ∷ u) r s h,
+        ))
     by (inl l) =
         let e : block_end s ≡ block_end r = block_end_local s v l ∙ ap block_end (sym whole) in
         rw e (drop-to 125 (u ++ v) u (block_end r) r s h)
@@ -46,7 +59,8 @@ pub data Exact (g : ℕ) (t u : List ℕ) : List ℕ → List ℕ → Type 0 whe
   before_it : (r s : List ℕ) → Along (g ∷ t) (g ∷ u) r s → Exact g t u r s
 
 -- a brace is taken
-pub past_brace-exact : (t u r s : List ℕ) → Along (125 ∷ t) (125 ∷ u) r s → Exact 125 t u (past_byte 125 r) (past_byte 125 s)
+pub past_brace-exact : (t u r s : List ℕ) → Along (125 ∷ t) (125 ∷ u) r s
+    → Exact 125 t u (past_byte 125 r) (past_byte 125 s)
 past_brace-exact t u r s at = behind_it
 past_brace-exact t u r s (on b r1 s1 h) = by (b == 125)
   where
@@ -67,11 +81,15 @@ less_of_brace [] e = absurd (cc)
 less_of_brace (b ∷ t) e = rw e (omega arith)
 
 -- one that follows is taken too, and then less is left than after the first
-pub past_further-exact : (u v r s : List ℕ) → Exact 125 (u ++ v) u r s → (length (past_byte 125 r) < length (u ++ v)) ⊎ Exact 125 (u ++ v) u (past_byte 125 r) (past_byte 125 s)
+pub past_further-exact : (u v r s : List ℕ) → Exact 125 (u ++ v) u r s
+    → (length (past_byte 125 r) < length (u ++ v)) ⊎ Exact 125 (u ++ v) u (past_byte 125 r)
+    (past_byte 125 s)
 past_further-exact u v r s (before_it r1 s1 h) = inr (past_brace-exact (u ++ v) u r s h)
 past_further-exact u v r s behind_it = by (starts 125 (u ++ v)) refl
   where
-    by : (k : Bool) → starts 125 (u ++ v) ≡ k → (length (past_byte 125 (u ++ v)) < length (u ++ v)) ⊎ Exact 125 (u ++ v) u (past_byte 125 (u ++ v)) (past_byte 125 u)
+    by : (k : Bool) → starts 125 (u ++ v) ≡ k
+        → (length (past_byte 125 (u ++ v)) < length (u ++ v)) ⊎ Exact 125 (u ++ v) u
+        (past_byte 125 (u ++ v)) (past_byte 125 u)
     by true e = inl (less_of_brace (u ++ v) e)
     by false e =
         let whole : past_byte 125 (u ++ v) ≡ u ++ v = no_brace (u ++ v) e in

@@ -14,13 +14,17 @@ use Rattle.simplecss_text.proofs.reading.DeclarationsLawful.{declaration-lawful,
 
 -- reading a declaration would pass the brace, where the list of them continues
 pub data DeclarationPasses (edition : Edition) (t a : List ℕ) : Type 0 where
-  passes : ends_list a ≡ false → length (left_after (declaration edition a)) ≤ length t → DeclarationPasses edition t a
+  passes : ends_list a ≡ false → length (left_after (declaration edition a)) ≤ length t
+      → DeclarationPasses edition t a
 
 pub ends_list-along : (t u r s : List ℕ) → Along (125 ∷ t) (125 ∷ u) r s → ends_list r ≡ ends_list s
 ends_list-along t u r s at = rw (not_empty 125 t, not_empty 125 u) refl
 ends_list-along t u r s (on b r1 s1 h) = rw (not_empty b r1, not_empty b s1) refl
 
-found-step : (edition : Edition) (t u r : List ℕ) (a b : Reading StyleDeclaration) → Guard Equal true (125 ∷ t) (125 ∷ u) a b → (length (left_after a) ≤ length t → DeclarationPasses edition t r) → Step Equal (DeclarationPasses edition t) 125 t u r (found a) (found b)
+found-step : (edition : Edition) (t u r : List ℕ) (a b : Reading StyleDeclaration)
+    → Guard Equal true (125 ∷ t) (125 ∷ u) a b
+    → (length (left_after a) ≤ length t → DeclarationPasses edition t r)
+    → Step Equal (DeclarationPasses edition t) 125 t u r (found a) (found b)
 found-step edition t u r (got x p) (got y q) (inl h) stuck = inl h
 found-step edition t u r (got x p) (fails f q) (inl h) stuck = h
 found-step edition t u r (fails f p) (got y q) (inl h) stuck = stuck h
@@ -30,15 +34,31 @@ found-step edition t u r (got x p) (fails f q) (inr h) stuck = absurd h
 found-step edition t u r (fails f p) (got y q) (inr h) stuck = absurd h
 found-step edition t u r (fails f p) (fails e q) (inr h) stuck = tt
 
-listed-step : (edition : Edition) (u v r s : List ℕ) → IsUtf8 r → Along (125 ∷ (u ++ v)) (125 ∷ u) r s → Step Equal (DeclarationPasses edition (u ++ v)) 125 (u ++ v) u r (declaration_in_block edition r) (declaration_in_block edition s)
-listed-step edition u v r s w h = by (ends_list r) (ends_list s) refl (ends_list-along (u ++ v) u r s h)
+listed-step : (edition : Edition) (u v r s : List ℕ) → IsUtf8 r
+    → Along (125 ∷ (u ++ v)) (125 ∷ u) r s
+    → Step Equal (DeclarationPasses edition (u ++ v)) 125 (u ++ v) u r
+    (declaration_in_block edition r) (declaration_in_block edition s)
+listed-step edition u v r s w h =
+    by (ends_list r) (ends_list s) refl (ends_list-along (u ++ v) u r s h)
   where
-    by : (j k : Bool) → ends_list r ≡ j → j ≡ k → Step Equal (DeclarationPasses edition (u ++ v)) 125 (u ++ v) u r (if j then None else next_declaration edition r) (if k then None else next_declaration edition s)
+    by : (j k : Bool) → ends_list r ≡ j → j ≡ k
+        → Step Equal (DeclarationPasses edition (u ++ v)) 125 (u ++ v) u r
+        (if j then None else next_declaration edition r)
+        (if k then None else next_declaration edition s)
     by true true e f = tt
     by true false e f = absurd (cc)
     by false true e f = absurd (cc)
-    by false false e f = found-step edition (u ++ v) u r (declaration edition r) (declaration edition s) (lawful-guarded declaration declaration declaration-lawful edition u v r s w h) (λ l. passes e l)
+    by false false e f =
+        found-step edition (u ++ v) u r (declaration edition r) (declaration edition s)
+        (lawful-guarded declaration declaration declaration-lawful edition u v r s w h)
+        (λ l. passes e l)
 
-pub listed-repeats : (edition : Edition) (u v r s : List ℕ) → IsUtf8 r → Along (125 ∷ (u ++ v)) (125 ∷ u) r s → Repeats Equal (DeclarationPasses edition (u ++ v)) 125 (u ++ v) u (each (declaration_in_block edition) r) (each (declaration_in_block edition) s)
+pub listed-repeats : (edition : Edition) (u v r s : List ℕ) → IsUtf8 r
+    → Along (125 ∷ (u ++ v)) (125 ∷ u) r s
+    → Repeats Equal (DeclarationPasses edition (u ++ v)) 125 (u ++ v) u
+    (each (declaration_in_block edition) r) (each (declaration_in_block edition) s)
 listed-repeats edition u v r s w h =
-    each-repeats IsUtf8 Equal (DeclarationPasses edition (u ++ v)) 125 (u ++ v) u (declaration_in_block edition) (declaration_in_block-takes edition) (found-text (declaration_in_block edition) (declaration_in_block-well edition)) (listed-step edition u v) (length r) r s (omega arith) w h
+    each-repeats IsUtf8 Equal (DeclarationPasses edition (u ++ v)) 125 (u ++ v) u
+    (declaration_in_block edition) (declaration_in_block-takes edition)
+    (found-text (declaration_in_block edition) (declaration_in_block-well edition))
+    (listed-step edition u v) (length r) r s (omega arith) w h

@@ -28,33 +28,50 @@ use Rattle.simplecss_text.proofs.bytes.Utf8Laws.{utf8-first}
 
 -- How a statement ends after a blank: the text is used up, or it is a rule set that ends after a
 -- brace, or an at-rule.
-data NextEnds (edition : Edition) (text : List ℕ) (rules : List StyleRule) (rest : List ℕ) : Type 0 where
-  text_ends : rest ≡ [] → NextEnds edition text rules rest
-  rules_end : starts 64 text ≡ false → rule_set edition text ≡ (rules, rest) → Ends text (125 ∷ rest) → NextEnds edition text rules rest
-  at_rule_ends : (after : List ℕ) → text ≡ 64 ∷ after → rules ≡ [] → AtRuleEnds edition after rest → NextEnds edition text rules rest
+data NextEnds (edition : Edition) (text : List ℕ) (rules : List StyleRule) (rest : List ℕ) : Type 0
+  where
+    text_ends : rest ≡ [] → NextEnds edition text rules rest
+    rules_end : starts 64 text ≡ false → rule_set edition text ≡ (rules, rest)
+        → Ends text (125 ∷ rest) → NextEnds edition text rules rest
+    at_rule_ends : (after : List ℕ) → text ≡ 64 ∷ after → rules ≡ [] → AtRuleEnds edition after rest
+        → NextEnds edition text rules rest
 
-statement-ends : (edition : Edition) (text : List ℕ) (rules : List StyleRule) (rest : List ℕ) → statement edition text ≡ (rules, rest) → NextEnds edition text rules rest
+statement-ends : (edition : Edition) (text : List ℕ) (rules : List StyleRule) (rest : List ℕ)
+    → statement edition text ≡ (rules, rest) → NextEnds edition text rules rest
 unfolding statement
 statement-ends edition [] rules rest e = of_rules (rule_set-behind edition [])
   where
     of_rules : BehindBrace [] (rule_set edition []).1 → NextEnds edition [] rules rest
     of_rules (inl h) = text_ends (sym (ap (λ r. r.1) e) ∙ h)
-    of_rules (inr h) = rules_end refl e (subst (λ (x : List ℕ). Ends [] (125 ∷ x)) (ap (λ r. r.1) e) h)
+    of_rules (inr h) =
+        rules_end refl e (subst (λ (x : List ℕ). Ends [] (125 ∷ x)) (ap (λ r. r.1) e) h)
 statement-ends edition (b ∷ text) rules rest e = by (b == 64) refl e
   where
-    of_rules : (b == 64) ≡ false → rule_set edition (b ∷ text) ≡ (rules, rest) → BehindBrace (b ∷ text) (rule_set edition (b ∷ text)).1 → NextEnds edition (b ∷ text) rules rest
+    of_rules : (b == 64) ≡ false → rule_set edition (b ∷ text) ≡ (rules, rest)
+        → BehindBrace (b ∷ text) (rule_set edition (b ∷ text)).1
+        → NextEnds edition (b ∷ text) rules rest
     of_rules f g (inl h) = text_ends (sym (ap (λ r. r.1) g) ∙ h)
-    of_rules f g (inr h) = rules_end f g (subst (λ (x : List ℕ). Ends (b ∷ text) (125 ∷ x)) (ap (λ r. r.1) g) h)
+    of_rules f g (inr h) =
+        rules_end f g (subst (λ (x : List ℕ). Ends (b ∷ text) (125 ∷ x)) (ap (λ r. r.1) g) h)
 
-    by : (k : Bool) → (b == 64) ≡ k → (if k then ([], at_rule_rest edition text) else rule_set edition (b ∷ text)) ≡ (rules, rest) → NextEnds edition (b ∷ text) rules rest
-    by true f g = at_rule_ends text (ap (λ (c : ℕ). c ∷ text) (eqb-true b 64 f)) (sym (ap (λ r. r.0) g)) (subst (AtRuleEnds edition text) (ap (λ r. r.1) g) (at_rule-ends edition text))
+    by : (k : Bool) → (b == 64) ≡ k
+        → (if k then ([], at_rule_rest edition text) else rule_set edition (b ∷ text))
+        ≡ (rules, rest) → NextEnds edition (b ∷ text) rules rest
+    by true f g =
+        at_rule_ends text (ap (λ (c : ℕ). c ∷ text) (eqb-true b 64 f)) (sym (ap (λ r. r.0) g))
+        (subst (AtRuleEnds edition text) (ap (λ r. r.1) g) (at_rule-ends edition text))
     by false f g = of_rules f g (rule_set-behind edition (b ∷ text))
 
 -- where the statements continue, and how the next one ends
-next_statement-ends : (edition : Edition) (text : List ℕ) (rules : List StyleRule) (rest : List ℕ) → next_statement edition text ≡ Some (rules, rest) → (ends_statements (past_blank text) ≡ false) × NextEnds edition (past_blank text) rules rest
+next_statement-ends : (edition : Edition) (text : List ℕ) (rules : List StyleRule) (rest : List ℕ)
+    → next_statement edition text ≡ Some (rules, rest)
+    → (ends_statements (past_blank text) ≡ false) × NextEnds edition (past_blank text) rules rest
 next_statement-ends edition text rules rest e = by (ends_statements (past_blank text)) refl e
   where
-    by : (k : Bool) → ends_statements (past_blank text) ≡ k → (if k then None else Some (statement edition (past_blank text))) ≡ Some (rules, rest) → (ends_statements (past_blank text) ≡ false) × NextEnds edition (past_blank text) rules rest
+    by : (k : Bool) → ends_statements (past_blank text) ≡ k
+        → (if k then None else Some (statement edition (past_blank text))) ≡ Some (rules, rest)
+        → (ends_statements (past_blank text) ≡ false) × NextEnds edition (past_blank text) rules
+        rest
     by true f g = absurd (cc)
     by false f g =
         let same : statement edition (past_blank text) ≡ (rules, rest) = cc in
@@ -63,46 +80,77 @@ next_statement-ends edition text rules rest e = by (ends_statements (past_blank 
 -- ---- what is left is an end of the text, and the UTF-8 of some characters
 
 -- an at-rule that ends after a semicolon or a block ends after that byte
-semicolon-front : (edition : Edition) (text n rest left : List ℕ) → name edition text ≡ got n rest → past (is_neither 59 123) rest ≡ 59 ∷ left → Ends text (59 ∷ left)
+semicolon-front : (edition : Edition) (text n rest left : List ℕ) → name edition text ≡ got n rest
+    → past (is_neither 59 123) rest ≡ 59 ∷ left → Ends text (59 ∷ left)
 semicolon-front edition text n rest left e f =
-    ends-ends text rest (59 ∷ left) (ends-got text itself (name edition text) n rest (name-stands edition text) e) (subst (Ends rest) f (ends-past (is_neither 59 123) rest))
+    ends-ends text rest (59 ∷ left)
+    (ends-got text itself (name edition text) n rest (name-stands edition text) e)
+    (subst (Ends rest) f (ends-past (is_neither 59 123) rest))
 
-block-front : (edition : Edition) (text n rest inner left : List ℕ) → name edition text ≡ got n rest → past (is_neither 59 123) rest ≡ 123 ∷ inner → from_block_end inner ≡ 125 ∷ left → Ends text (125 ∷ left)
+block-front : (edition : Edition) (text n rest inner left : List ℕ) → name edition text ≡ got n rest
+    → past (is_neither 59 123) rest ≡ 123 ∷ inner → from_block_end inner ≡ 125 ∷ left
+    → Ends text (125 ∷ left)
 block-front edition text n rest inner left e f g =
-    let opened : Ends text (123 ∷ inner) = ends-ends text rest (123 ∷ inner) (ends-got text itself (name edition text) n rest (name-stands edition text) e) (subst (Ends rest) f (ends-past (is_neither 59 123) rest)) in
-    ends-ends text inner (125 ∷ left) (ends-ends text (123 ∷ inner) inner opened (ends-tail 123 inner)) (subst (Ends inner) g (ends-from_block_end inner))
+    let opened : Ends text (123 ∷ inner) =
+    ends-ends text rest (123 ∷ inner)
+    (ends-got text itself (name edition text) n rest (name-stands edition text) e)
+    (subst (Ends rest) f (ends-past (is_neither 59 123) rest)) in
+    ends-ends text inner (125 ∷ left)
+    (ends-ends text (123 ∷ inner) inner opened (ends-tail 123 inner))
+    (subst (Ends inner) g (ends-from_block_end inner))
 
-at_rule-well : (edition : Edition) (text rest : List ℕ) → AtRuleEnds edition text rest → EndsWell text rest
+at_rule-well : (edition : Edition) (text rest : List ℕ) → AtRuleEnds edition text rest
+    → EndsWell text rest
 at_rule-well edition text rest uses_up = well-nil text
-at_rule-well edition text rest (at_fault fault left e) = subst (λ r. EndsWell text (left_after r)) e (well-name edition text)
-at_rule-well edition text rest (at_semicolon n x left e f) = well-behind 59 text rest (omega arith) (semicolon-front edition text n x rest e f)
-at_rule-well edition text rest (at_block n x inner left e f g) = well-behind 125 text rest (omega arith) (block-front edition text n x inner rest e f g)
+at_rule-well edition text rest (at_fault fault left e) =
+    subst (λ r. EndsWell text (left_after r)) e (well-name edition text)
+at_rule-well edition text rest (at_semicolon n x left e f) =
+    well-behind 59 text rest (omega arith) (semicolon-front edition text n x rest e f)
+at_rule-well edition text rest (at_block n x inner left e f g) =
+    well-behind 125 text rest (omega arith) (block-front edition text n x inner rest e f g)
 
 -- what is left after a blank and a statement
-next-well : (edition : Edition) (text start : List ℕ) (rules : List StyleRule) (rest : List ℕ) → Ends text start → NextEnds edition start rules rest → EndsWell text rest
-next-well edition text start rules rest b (text_ends e) = subst (EndsWell text) (sym e) (well-nil text)
-next-well edition text start rules rest b (rules_end e f h) = well-behind 125 text rest (omega arith) (ends-ends text start (125 ∷ rest) b h)
-next-well edition text start rules rest b (at_rule_ends after e f h) = well-then text after rest (well-behind 64 text after (omega arith) (subst (Ends text) e b)) (at_rule-well edition after rest h)
+next-well : (edition : Edition) (text start : List ℕ) (rules : List StyleRule) (rest : List ℕ)
+    → Ends text start → NextEnds edition start rules rest → EndsWell text rest
+next-well edition text start rules rest b (text_ends e) =
+    subst (EndsWell text) (sym e) (well-nil text)
+next-well edition text start rules rest b (rules_end e f h) =
+    well-behind 125 text rest (omega arith) (ends-ends text start (125 ∷ rest) b h)
+next-well edition text start rules rest b (at_rule_ends after e f h) =
+    well-then text after rest (well-behind 64 text after (omega arith) (subst (Ends text) e b))
+    (at_rule-well edition after rest h)
 
-pub next_statement-well : (edition : Edition) (text rest : List ℕ) (rules : List StyleRule) → next_statement edition text ≡ Some (rules, rest) → EndsWell text rest
-next_statement-well edition text rest rules e = next-well edition text (past_blank text) rules rest (ends-past_blank text) (next_statement-ends edition text rules rest e).1
+pub next_statement-well : (edition : Edition) (text rest : List ℕ) (rules : List StyleRule)
+    → next_statement edition text ≡ Some (rules, rest) → EndsWell text rest
+next_statement-well edition text rest rules e =
+    next-well edition text (past_blank text) rules rest (ends-past_blank text)
+    (next_statement-ends edition text rules rest e).1
 
 -- ---- the texts before and after a cut
 
 -- a text and its front, from after an ASCII byte on
-along-of : (g : ℕ) (u v w : List ℕ) → Ends (u ++ v) (g ∷ (w ++ v)) → Along (g ∷ (w ++ v)) (g ∷ w) (u ++ v) u
+along-of : (g : ℕ) (u v w : List ℕ) → Ends (u ++ v) (g ∷ (w ++ v))
+    → Along (g ∷ (w ++ v)) (g ∷ w) (u ++ v) u
 along-of g u v w e =
     let front : List ℕ = before (u ++ v) (g ∷ (w ++ v)) in
     let parts : front ++ g ∷ (w ++ v) ≡ u ++ v = e in
-    let same : front ++ g ∷ w ≡ u = append_cancel_right (front ++ g ∷ w) u v (append_assoc front (g ∷ w) v ∙ parts) in
-    let along : Along (g ∷ (w ++ v)) (g ∷ w) (front ++ g ∷ (w ++ v)) (front ++ g ∷ w) = along-front (g ∷ (w ++ v)) (g ∷ w) front in
-    subst (λ (s : List ℕ). Along (g ∷ (w ++ v)) (g ∷ w) (u ++ v) s) same (subst (λ (r : List ℕ). Along (g ∷ (w ++ v)) (g ∷ w) r (front ++ g ∷ w)) parts along)
+    let same : front ++ g ∷ w ≡ u =
+    append_cancel_right (front ++ g ∷ w) u v (append_assoc front (g ∷ w) v ∙ parts) in
+    let along : Along (g ∷ (w ++ v)) (g ∷ w) (front ++ g ∷ (w ++ v)) (front ++ g ∷ w) =
+    along-front (g ∷ (w ++ v)) (g ∷ w) front in
+    subst (λ (s : List ℕ). Along (g ∷ (w ++ v)) (g ∷ w) (u ++ v) s) same
+    (subst (λ (r : List ℕ). Along (g ∷ (w ++ v)) (g ∷ w) r (front ++ g ∷ w)) parts along)
 
 -- after the blanks at their fronts
-past_blank-along : (g : ℕ) (u v w : List ℕ) → Plain g → Ends (past_blank (u ++ v)) (g ∷ (w ++ v)) → Along (g ∷ (w ++ v)) (g ∷ w) (past_blank (u ++ v)) (past_blank u)
-past_blank-along g u v w plain e = by (past_blank-to g w v plain (u ++ v) u (along-of g u v w (ends-ends (u ++ v) (past_blank (u ++ v)) (g ∷ (w ++ v)) (ends-past_blank (u ++ v)) e)))
+past_blank-along : (g : ℕ) (u v w : List ℕ) → Plain g → Ends (past_blank (u ++ v)) (g ∷ (w ++ v))
+    → Along (g ∷ (w ++ v)) (g ∷ w) (past_blank (u ++ v)) (past_blank u)
+past_blank-along g u v w plain e =
+    by (past_blank-to g w v plain (u ++ v) u
+    (along-of g u v w
+    (ends-ends (u ++ v) (past_blank (u ++ v)) (g ∷ (w ++ v)) (ends-past_blank (u ++ v)) e)))
   where
-    by : To true (g ∷ (w ++ v)) (g ∷ w) (past_blank (u ++ v)) (past_blank u) → Along (g ∷ (w ++ v)) (g ∷ w) (past_blank (u ++ v)) (past_blank u)
+    by : To true (g ∷ (w ++ v)) (g ∷ w) (past_blank (u ++ v)) (past_blank u)
+        → Along (g ∷ (w ++ v)) (g ∷ w) (past_blank (u ++ v)) (past_blank u)
     by (inl less) = absurd (omega (arith, less, length-ends (past_blank (u ++ v)) (g ∷ (w ++ v)) e))
     by (inr along) = along
 
@@ -113,18 +161,27 @@ sign_plain = record { space = refl; slash = refl; star = refl }
 
 exact-second : (g : ℕ) (t u r s : List ℕ) → Exact g t u r s → r ≡ t → s ≡ u
 exact-second g t u r s behind_it e = refl
-exact-second g t u r s (before_it a b h) e = absurd (omega (arith, longer-along (g ∷ t) (g ∷ u) r s h, ap length e))
+exact-second g t u r s (before_it a b h) e =
+    absurd (omega (arith, longer-along (g ∷ t) (g ∷ u) r s h, ap length e))
 
-ends_statements-along : (t u r s : List ℕ) → Along (125 ∷ t) (125 ∷ u) r s → ends_statements r ≡ ends_statements s
+ends_statements-along : (t u r s : List ℕ) → Along (125 ∷ t) (125 ∷ u) r s
+    → ends_statements r ≡ ends_statements s
 ends_statements-along t u r s at = rw (not_empty 125 t, not_empty 125 u) refl
-ends_statements-along t u r s (on b r1 s1 h) = rw (not_empty b r1, not_empty b s1) (opens_comment-along 125 t u brace_plain (b ∷ r1) (b ∷ s1) (on b r1 s1 h))
+ends_statements-along t u r s (on b r1 s1 h) =
+    rw (not_empty b r1, not_empty b s1)
+    (opens_comment-along 125 t u brace_plain (b ∷ r1) (b ∷ s1) (on b r1 s1 h))
 
 -- a rule set that ends after a brace
-rule_set-cut : (edition : Edition) (w v r s : List ℕ) (rules : List StyleRule) → IsUtf8 r → Along (125 ∷ (w ++ v)) (125 ∷ w) r s → rule_set edition r ≡ (rules, w ++ v) → (w ++ v ≡ []) ⊎ (rule_set edition s ≡ (rules, w))
-rule_set-cut edition w v r s rules z h e = by (rule_set edition r) (rule_set edition s) e (rule_set-same edition w v r s z h)
+rule_set-cut : (edition : Edition) (w v r s : List ℕ) (rules : List StyleRule) → IsUtf8 r
+    → Along (125 ∷ (w ++ v)) (125 ∷ w) r s → rule_set edition r ≡ (rules, w ++ v)
+    → (w ++ v ≡ []) ⊎ (rule_set edition s ≡ (rules, w))
+rule_set-cut edition w v r s rules z h e =
+    by (rule_set edition r) (rule_set edition s) e (rule_set-same edition w v r s z h)
   where
-    by : (a b : List StyleRule × List ℕ) → a ≡ (rules, w ++ v) → RulesSame (w ++ v) w a b → (w ++ v ≡ []) ⊎ (b ≡ (rules, w))
-    by (x, p) b f (inl (inl l)) = absurd (omega (arith, l, ap (λ (c : List StyleRule × List ℕ). length c.1) f))
+    by : (a b : List StyleRule × List ℕ) → a ≡ (rules, w ++ v) → RulesSame (w ++ v) w a b
+        → (w ++ v ≡ []) ⊎ (b ≡ (rules, w))
+    by (x, p) b f (inl (inl l)) =
+        absurd (omega (arith, l, ap (λ (c : List StyleRule × List ℕ). length c.1) f))
     by (x, p) b f (inl (inr k)) = inl (sym (ap (λ (c : List StyleRule × List ℕ). c.1) f) ∙ k)
     by (x, p) (y, q) f (inr (k, exact)) =
         let rest : p ≡ w ++ v = ap (λ (c : List StyleRule × List ℕ). c.1) f in
@@ -133,58 +190,97 @@ rule_set-cut edition w v r s rules z h e = by (rule_set edition r) (rule_set edi
         inr (rw (same, ruled) refl)
 
 -- an at-rule, from after its sign
-at_rule-cut : (edition : Edition) (s v w rest : List ℕ) → IsUtf8 (s ++ v) → IsUtf8 v → rest ≡ w ++ v → AtRuleEnds edition (s ++ v) rest → (w ++ v ≡ []) ⊎ (at_rule_rest edition s ≡ w)
+at_rule-cut : (edition : Edition) (s v w rest : List ℕ) → IsUtf8 (s ++ v) → IsUtf8 v → rest ≡ w ++ v
+    → AtRuleEnds edition (s ++ v) rest → (w ++ v ≡ []) ⊎ (at_rule_rest edition s ≡ w)
 at_rule-cut edition s v w rest whole cut e uses_up = inl (sym e)
-at_rule-cut edition s v w rest whole cut e (at_fault fault left f) = inr (at_rule-fault edition s v w fault (utf8-first s v whole cut) (f ∙ ap (fails fault) e))
+at_rule-cut edition s v w rest whole cut e (at_fault fault left f) =
+    inr (at_rule-fault edition s v w fault (utf8-first s v whole cut) (f ∙ ap (fails fault) e))
 at_rule-cut edition s v w rest whole cut e (at_semicolon n x left f g) =
     let behind : past (is_neither 59 123) x ≡ 59 ∷ (w ++ v) = g ∙ ap (λ (t : List ℕ). 59 ∷ t) e in
-    inr (at_rule-semicolon edition (w ++ v) w (s ++ v) s n x whole (along-of 59 s v w (semicolon-front edition (s ++ v) n x (w ++ v) f behind)) f behind)
+    inr (at_rule-semicolon edition (w ++ v) w (s ++ v) s n x whole
+    (along-of 59 s v w (semicolon-front edition (s ++ v) n x (w ++ v) f behind)) f behind)
 at_rule-cut edition s v w rest whole cut e (at_block n x inner left f g h) =
     let behind : from_block_end inner ≡ 125 ∷ (w ++ v) = h ∙ ap (λ (t : List ℕ). 125 ∷ t) e in
-    inr (at_rule-block edition w v (s ++ v) s n x inner whole (along-of 125 s v w (block-front edition (s ++ v) n x inner (w ++ v) f g behind)) f g behind)
+    inr (at_rule-block edition w v (s ++ v) s n x inner whole
+    (along-of 125 s v w (block-front edition (s ++ v) n x inner (w ++ v) f g behind)) f g
+    behind)
 
 -- ---- the next statement
 
-next-nil : (edition : Edition) (u v w : List ℕ) (rules : List StyleRule) → w ++ v ≡ [] → next_statement edition (u ++ v) ≡ Some (rules, w ++ v) → next_statement edition u ≡ Some (rules, w)
-next-nil edition u [] w rules e f = subst (λ (t : List ℕ). next_statement edition t ≡ Some (rules, w)) (append-nil u) (f ∙ ap (λ (t : List ℕ). Some (rules, t)) (append-nil w))
-next-nil edition u (b ∷ v) w rules e f = absurd (omega (arith, ap length e, length-append w (b ∷ v)))
+next-nil : (edition : Edition) (u v w : List ℕ) (rules : List StyleRule) → w ++ v ≡ []
+    → next_statement edition (u ++ v) ≡ Some (rules, w ++ v)
+    → next_statement edition u ≡ Some (rules, w)
+next-nil edition u [] w rules e f =
+    subst (λ (t : List ℕ). next_statement edition t ≡ Some (rules, w)) (append-nil u)
+    (f ∙ ap (λ (t : List ℕ). Some (rules, t)) (append-nil w))
+next-nil edition u (b ∷ v) w rules e f =
+    absurd (omega (arith, ap length e, length-append w (b ∷ v)))
 
-next_statement-reads : (edition : Edition) (u w : List ℕ) (rules : List StyleRule) → ends_statements (past_blank u) ≡ false → statement edition (past_blank u) ≡ (rules, w) → next_statement edition u ≡ Some (rules, w)
+next_statement-reads : (edition : Edition) (u w : List ℕ) (rules : List StyleRule)
+    → ends_statements (past_blank u) ≡ false → statement edition (past_blank u) ≡ (rules, w)
+    → next_statement edition u ≡ Some (rules, w)
 next_statement-reads edition u w rules e f = rw (e, f) refl
 
 -- What follows the end of a statement makes no difference to it.
-pub next_statement-cut : (edition : Edition) (u v w : List ℕ) (rules : List StyleRule) → IsUtf8 (u ++ v) → IsUtf8 v → next_statement edition (u ++ v) ≡ Some (rules, w ++ v) → next_statement edition u ≡ Some (rules, w)
+pub next_statement-cut : (edition : Edition) (u v w : List ℕ) (rules : List StyleRule)
+    → IsUtf8 (u ++ v) → IsUtf8 v → next_statement edition (u ++ v) ≡ Some (rules, w ++ v)
+    → next_statement edition u ≡ Some (rules, w)
 unfolding statement
-next_statement-cut edition u v w rules whole cut e = by (next_statement-ends edition (u ++ v) rules (w ++ v) e).0 (next_statement-ends edition (u ++ v) rules (w ++ v) e).1
+next_statement-cut edition u v w rules whole cut e =
+    by (next_statement-ends edition (u ++ v) rules (w ++ v) e).0
+    (next_statement-ends edition (u ++ v) rules (w ++ v) e).1
   where
     nil : w ++ v ≡ [] → next_statement edition u ≡ Some (rules, w)
     nil n = next-nil edition u v w rules n e
 
-    ruled : Along (125 ∷ (w ++ v)) (125 ∷ w) (past_blank (u ++ v)) (past_blank u) → ends_statements (past_blank (u ++ v)) ≡ false → starts 64 (past_blank (u ++ v)) ≡ false → (w ++ v ≡ []) ⊎ (rule_set edition (past_blank u) ≡ (rules, w)) → next_statement edition u ≡ Some (rules, w)
+    ruled : Along (125 ∷ (w ++ v)) (125 ∷ w) (past_blank (u ++ v)) (past_blank u)
+        → ends_statements (past_blank (u ++ v)) ≡ false → starts 64 (past_blank (u ++ v)) ≡ false
+        → (w ++ v ≡ []) ⊎ (rule_set edition (past_blank u) ≡ (rules, w))
+        → next_statement edition u ≡ Some (rules, w)
     ruled along more other (inl n) = nil n
     ruled along more other (inr r) =
-        let sign : starts 64 (past_blank u) ≡ false = sym (starts-along 125 (w ++ v) w 64 (past_blank (u ++ v)) (past_blank u) along) ∙ other in
-        let goes : ends_statements (past_blank u) ≡ false = sym (ends_statements-along (w ++ v) w (past_blank (u ++ v)) (past_blank u) along) ∙ more in
+        let sign : starts 64 (past_blank u) ≡ false =
+        sym (starts-along 125 (w ++ v) w 64 (past_blank (u ++ v)) (past_blank u) along)
+        ∙ other in
+        let goes : ends_statements (past_blank u) ≡ false =
+        sym (ends_statements-along (w ++ v) w (past_blank (u ++ v)) (past_blank u) along)
+        ∙ more in
         next_statement-reads edition u w rules goes (rw sign r)
 
-    at_sign : (s : List ℕ) → past_blank u ≡ 64 ∷ s → rules ≡ [] → (w ++ v ≡ []) ⊎ (at_rule_rest edition s ≡ w) → next_statement edition u ≡ Some (rules, w)
+    at_sign : (s : List ℕ) → past_blank u ≡ 64 ∷ s → rules ≡ []
+        → (w ++ v ≡ []) ⊎ (at_rule_rest edition s ≡ w) → next_statement edition u ≡ Some (rules, w)
     at_sign s is none (inl n) = nil n
     at_sign s is none (inr r) =
-        let goes : ends_statements (past_blank u) ≡ false = ap ends_statements is ∙ rw (not_empty 64 s) refl in
-        let read : statement edition (past_blank u) ≡ (rules, w) = ap (statement edition) is ∙ rw (r, none) refl in
+        let goes : ends_statements (past_blank u) ≡ false =
+        ap ends_statements is ∙ rw (not_empty 64 s) refl in
+        let read : statement edition (past_blank u) ≡ (rules, w) =
+        ap (statement edition) is ∙ rw (r, none) refl in
         next_statement-reads edition u w rules goes read
 
-    by : ends_statements (past_blank (u ++ v)) ≡ false → NextEnds edition (past_blank (u ++ v)) rules (w ++ v) → next_statement edition u ≡ Some (rules, w)
+    by : ends_statements (past_blank (u ++ v)) ≡ false
+        → NextEnds edition (past_blank (u ++ v)) rules (w ++ v)
+        → next_statement edition u ≡ Some (rules, w)
     by more (text_ends n) = nil n
     by more (rules_end other r h) =
-        let along : Along (125 ∷ (w ++ v)) (125 ∷ w) (past_blank (u ++ v)) (past_blank u) = past_blank-along 125 u v w brace_plain h in
-        ruled along more other (rule_set-cut edition w v (past_blank (u ++ v)) (past_blank u) rules ((well-past_blank (u ++ v)).1 whole) along r)
+        let along : Along (125 ∷ (w ++ v)) (125 ∷ w) (past_blank (u ++ v)) (past_blank u) =
+        past_blank-along 125 u v w brace_plain h in
+        ruled along more other
+        (rule_set-cut edition w v (past_blank (u ++ v)) (past_blank u) rules
+        ((well-past_blank (u ++ v)).1 whole) along r)
     by more (at_rule_ends after is none h) =
         let s : List ℕ = before after (w ++ v) ++ w in
-        let parts : after ≡ s ++ v = sym (append_assoc (before after (w ++ v)) w v ∙ (at_rule-well edition after (w ++ v) h).0) in
+        let parts : after ≡ s ++ v =
+        sym (append_assoc (before after (w ++ v)) w v
+        ∙ (at_rule-well edition after (w ++ v) h).0) in
         let start : past_blank (u ++ v) ≡ 64 ∷ (s ++ v) = is ∙ ap (λ (t : List ℕ). 64 ∷ t) parts in
-        let behind : Ends (past_blank (u ++ v)) (64 ∷ (s ++ v)) = subst (Ends (past_blank (u ++ v))) start (ends-same (past_blank (u ++ v))) in
-        let along : Along (64 ∷ (s ++ v)) (64 ∷ s) (past_blank (u ++ v)) (past_blank u) = past_blank-along 64 u v s sign_plain behind in
-        let whole_after : IsUtf8 (s ++ v) = utf8-behind (u ++ v) (s ++ v) 64 (omega arith) whole (ends-ends (u ++ v) (past_blank (u ++ v)) (64 ∷ (s ++ v)) (ends-past_blank (u ++ v)) behind) in
+        let behind : Ends (past_blank (u ++ v)) (64 ∷ (s ++ v)) =
+        subst (Ends (past_blank (u ++ v))) start (ends-same (past_blank (u ++ v))) in
+        let along : Along (64 ∷ (s ++ v)) (64 ∷ s) (past_blank (u ++ v)) (past_blank u) =
+        past_blank-along 64 u v s sign_plain behind in
+        let whole_after : IsUtf8 (s ++ v) =
+        utf8-behind (u ++ v) (s ++ v) 64 (omega arith) whole
+        (ends-ends (u ++ v) (past_blank (u ++ v)) (64 ∷ (s ++ v)) (ends-past_blank (u ++ v))
+        behind) in
         at_sign s (along-at 64 (s ++ v) s (past_blank (u ++ v)) (past_blank u) along start) none
-        (at_rule-cut edition s v w (w ++ v) whole_after cut refl (subst (λ (t : List ℕ). AtRuleEnds edition t (w ++ v)) parts h))
+        (at_rule-cut edition s v w (w ++ v) whole_after cut refl
+        (subst (λ (t : List ℕ). AtRuleEnds edition t (w ++ v)) parts h))

@@ -24,14 +24,16 @@ use Rattle.simplecss_text.proofs.printed.PrintedNames.{IsName, name-reads, ends_
 abbrev pub IsNameByte : Edition → ℕ → Type 0
 IsNameByte edition b = (128 ≤ b) ⊎ (is_name_char edition b ≡ true)
 
-begins_char : (edition : Edition) (c : ℕ) (cs : List ℕ) → begins_any_name edition (c ∷ cs) ≡ true → list_all (is_name_char edition) (c ∷ cs) ≡ true → is_name_char edition c ≡ true
+begins_char : (edition : Edition) (c : ℕ) (cs : List ℕ) → begins_any_name edition (c ∷ cs) ≡ true
+    → list_all (is_name_char edition) (c ∷ cs) ≡ true → is_name_char edition c ≡ true
 begins_char edition c cs h a = by (is_name_char edition c) (list_all (is_name_char edition) cs) a
   where
     by : (x y : Bool) → (x && y) ≡ true → x ≡ true
     by true y e = refl
     by false y e = absurd (cc)
 
-name_byte : (edition : Edition) (b : ℕ) (text rest : List ℕ) (c : ℕ) → b ∷ text ≡ encode_utf8 c ++ rest → is_name_char edition c ≡ true → IsNameByte edition b
+name_byte : (edition : Edition) (b : ℕ) (text rest : List ℕ) (c : ℕ)
+    → b ∷ text ≡ encode_utf8 c ++ rest → is_name_char edition c ≡ true → IsNameByte edition b
 name_byte edition b text rest c e h = by (nat_lt b 128) refl
   where
     by : (t : Bool) → nat_lt b 128 ≡ t → IsNameByte edition b
@@ -52,13 +54,29 @@ pub record FirstByte (edition : Edition) (n : List ℕ) : Type 0 where
 pub name-first : (edition : Edition) (n : List ℕ) → IsName edition n → FirstByte edition n
 name-first edition n w = by n w.letters w.spell w.begins w.pass
   where
-    by : (n cs : List ℕ) → encode_utf8_all cs ≡ n → begins_any_name edition cs ≡ true → list_all (is_name_char edition) cs ≡ true → FirstByte edition n
+    by : (n cs : List ℕ) → encode_utf8_all cs ≡ n → begins_any_name edition cs ≡ true
+        → list_all (is_name_char edition) cs ≡ true → FirstByte edition n
     by n [] e b p = absurd (cc)
-    by [] (c ∷ cs) e b p = absurd (omega (arith, ap length e, length-append (encode_utf8 c) (encode_utf8_all cs), length-encode c, len_utf8_bounds c))
-    by (x ∷ n) (c ∷ cs) e b p = record { first = x; others = n; is = refl; fit = name_byte edition x n (encode_utf8_all cs) c (sym e) (begins_char edition c cs b p) }
+    by [] (c ∷ cs) e b p =
+        absurd (omega (
+          arith,
+          ap length e,
+          length-append (encode_utf8 c) (encode_utf8_all cs),
+          length-encode c,
+          len_utf8_bounds c,
+        ))
+    by (x ∷ n) (c ∷ cs) e b p =
+        record {
+          first = x;
+          others = n;
+          is = refl;
+          fit = name_byte edition x n (encode_utf8_all cs)
+              c (sym e) (begins_char edition c cs b p);
+        }
 
 -- a byte of a name is no other ASCII byte
-pub other_byte : (edition : Edition) (k b : ℕ) → k < 128 → is_name_char edition k ≡ false → IsNameByte edition b → (b == k) ≡ false
+pub other_byte : (edition : Edition) (k b : ℕ) → k < 128 → is_name_char edition k ≡ false
+    → IsNameByte edition b → (b == k) ≡ false
 other_byte edition k b less e0 h = by (b == k) refl h
   where
     by : (t : Bool) → (b == k) ≡ t → IsNameByte edition b → t ≡ false
@@ -75,19 +93,22 @@ pub record NoGap (text : List ℕ) : Type 0 where
   pub closed : opens_comment text ≡ false
 
 -- no gap begins with another byte
-pub no_gap-byte : (b : ℕ) (text : List ℕ) → is_space b ≡ false → (b == 47) ≡ false → NoGap (b ∷ text)
+pub no_gap-byte : (b : ℕ) (text : List ℕ) → is_space b ≡ false → (b == 47) ≡ false
+    → NoGap (b ∷ text)
 no_gap-byte b text space slash =
     let part : blank_part (b ∷ text) ≡ None = rw (space, slash) refl in
     record { none = each-none blank_part (b ∷ text) part; closed = rw slash refl }
 
 -- a blank, by what is left after it
-pub blank-at : (text rest : List ℕ) → past_blank text ≡ rest → opens_comment rest ≡ false → blank text ≡ got tt rest
+pub blank-at : (text rest : List ℕ) → past_blank text ≡ rest → opens_comment rest ≡ false
+    → blank text ≡ got tt rest
 unfolding blank
 blank-at text rest p c =
     ap (λ t. if opens_comment t then fails (no_comment t) [] else got (tt {0}) t) p
     ∙ ap (λ (k : Bool). if k then fails (no_comment rest) [] else got (tt {0}) rest) c
 
-gap-at : (text rest : List ℕ) (parts : List Bool) → each blank_part text ≡ (parts, rest) → opens_comment rest ≡ false → gap text ≡ got (list_any (λ b. b) parts) rest
+gap-at : (text rest : List ℕ) (parts : List Bool) → each blank_part text ≡ (parts, rest)
+    → opens_comment rest ≡ false → gap text ≡ got (list_any (λ b. b) parts) rest
 unfolding gap
 gap-at text rest parts e c =
     ap (λ r. follow r (λ u. got (has_space text))) (blank-at text rest (ap (λ r. r.1) e) c)
@@ -100,31 +121,67 @@ gap-none text w = gap-at text text [] w.none w.closed
 -- a space, and no further gap
 pub gap-space : (text : List ℕ) → NoGap text → gap (32 ∷ text) ≡ got true text
 gap-space text w =
-    let part : each blank_part (32 ∷ text) ≡ followed_by true (each blank_part text) = each-some blank_part blank_part-takes (32 ∷ text) text true refl in
+    let part : each blank_part (32 ∷ text) ≡ followed_by true (each blank_part text) =
+    each-some blank_part blank_part-takes (32 ∷ text) text true refl in
     gap-at (32 ∷ text) text (true ∷ []) (part ∙ ap (followed_by true) w.none) w.closed
 
 -- what begins like a name is after no gap
-pub no_gap-name : (edition : Edition) (b : ℕ) (text : List ℕ) → IsNameByte edition b → NoGap (b ∷ text)
-no_gap-name edition b text w = no_gap-byte b text (rw (no 32 (omega arith) (low edition).0, no 9 (omega arith) (low edition).1, no 10 (omega arith) (low edition).2, no 13 (omega arith) (low edition).3, no 12 (omega arith) (low edition).4) refl) (no 47 (omega arith) (low edition).5)
+pub no_gap-name : (edition : Edition) (b : ℕ) (text : List ℕ) → IsNameByte edition b
+    → NoGap (b ∷ text)
+no_gap-name edition b text w =
+    no_gap-byte b text
+    (rw (
+      no 32 (omega arith) (low edition).0,
+      no 9 (omega arith) (low edition).1,
+      no 10
+          (omega arith) (low edition).2,
+      no 13 (omega arith) (low edition).3,
+      no 12 (omega arith)
+          (low edition).4,
+    ) refl) (no 47 (omega arith) (low edition).5)
   where
-    low : (edition : Edition) → (is_name_char edition 32 ≡ false) × (is_name_char edition 9 ≡ false) × (is_name_char edition 10 ≡ false) × (is_name_char edition 13 ≡ false) × (is_name_char edition 12 ≡ false) × (is_name_char edition 47 ≡ false)
+    low : (edition : Edition) → (is_name_char edition 32 ≡ false) × (is_name_char edition 9 ≡ false)
+        × (is_name_char edition 10 ≡ false) × (is_name_char edition 13 ≡ false)
+        × (is_name_char edition 12 ≡ false) × (is_name_char edition 47 ≡ false)
     low first_edition = (refl, refl, refl, refl, refl, refl)
     low second_edition = (refl, refl, refl, refl, refl, refl)
 
     no : (k : ℕ) → k < 128 → is_name_char edition k ≡ false → (b == k) ≡ false
     no k less e = other_byte edition k b less e w
 
-named_token-type : (edition : Edition) (n tail : List ℕ) → IsName edition n → ends_names edition tail ≡ false → named_token edition type_selector (n ++ tail) ≡ got (type_selector n) tail
+named_token-type : (edition : Edition) (n tail : List ℕ) → IsName edition n
+    → ends_names edition tail ≡ false
+    → named_token edition type_selector (n ++ tail) ≡ got (type_selector n) tail
 unfolding named_token
 named_token-type edition n tail w e = let read = name-reads edition n tail w e in rw read refl
 
 -- what begins like a name is a type
-solid-name_byte : (edition : Edition) (b : ℕ) (text : List ℕ) → IsNameByte edition b → solid edition (b ∷ text) ≡ named_token edition type_selector (b ∷ text)
+solid-name_byte : (edition : Edition) (b : ℕ) (text : List ℕ) → IsNameByte edition b
+    → solid edition (b ∷ text) ≡ named_token edition type_selector (b ∷ text)
 unfolding solid next_kind
 solid-name_byte edition b text w =
-    rw (no 44 (omega arith) (low edition).0, no 123 (omega arith) (low edition).1, no 47 (omega arith) (low edition).2, no 62 (omega arith) (low edition).3, no 43 (omega arith) (low edition).4, no 42 (omega arith) (low edition).5, no 35 (omega arith) (low edition).6, no 46 (omega arith) (low edition).7, no 91 (omega arith) (low edition).8, no 58 (omega arith) (low edition).9) refl
+    rw (
+      no 44 (omega arith) (low edition).0,
+      no 123 (omega arith) (low edition).1,
+      no 47
+          (omega arith) (low edition).2,
+      no 62 (omega arith) (low edition).3,
+      no 43 (omega arith)
+          (low edition).4,
+      no 42 (omega arith) (low edition).5,
+      no 35 (omega arith) (low edition).6,
+      no 46 (omega arith) (low edition).7,
+      no 91 (omega arith) (low edition).8,
+      no 58
+          (omega arith) (low edition).9,
+    ) refl
   where
-    low : (edition : Edition) → (is_name_char edition 44 ≡ false) × (is_name_char edition 123 ≡ false) × (is_name_char edition 47 ≡ false) × (is_name_char edition 62 ≡ false) × (is_name_char edition 43 ≡ false) × (is_name_char edition 42 ≡ false) × (is_name_char edition 35 ≡ false) × (is_name_char edition 46 ≡ false) × (is_name_char edition 91 ≡ false) × (is_name_char edition 58 ≡ false)
+    low : (edition : Edition)
+        → (is_name_char edition 44 ≡ false) × (is_name_char edition 123 ≡ false)
+        × (is_name_char edition 47 ≡ false) × (is_name_char edition 62 ≡ false)
+        × (is_name_char edition 43 ≡ false) × (is_name_char edition 42 ≡ false)
+        × (is_name_char edition 35 ≡ false) × (is_name_char edition 46 ≡ false)
+        × (is_name_char edition 91 ≡ false) × (is_name_char edition 58 ≡ false)
     low first_edition = (refl, refl, refl, refl, refl, refl, refl, refl, refl, refl)
     low second_edition = (refl, refl, refl, refl, refl, refl, refl, refl, refl, refl)
 
@@ -152,23 +209,32 @@ abbrev pub head_part : Option (List ℕ) → Part
 head_part None = any_type
 head_part (Some n) = of_type n
 
-solid-star : (edition : Edition) (text : List ℕ) → solid edition (42 ∷ text) ≡ got universal_selector text
+solid-star : (edition : Edition) (text : List ℕ)
+    → solid edition (42 ∷ text) ≡ got universal_selector text
 unfolding solid next_kind
 solid-star edition text = refl
 
 -- a printed head is one solid piece, and after no gap
-pub head-reads : (edition : Edition) (o : Option (List ℕ)) (tail : List ℕ) → IsTypeName edition o tail → ends_names edition tail ≡ false → solid edition (type_text o ++ tail) ≡ got (head_token o) tail
+pub head-reads : (edition : Edition) (o : Option (List ℕ)) (tail : List ℕ)
+    → IsTypeName edition o tail → ends_names edition tail ≡ false
+    → solid edition (type_text o ++ tail) ≡ got (head_token o) tail
 head-reads edition None tail w e = solid-star edition tail
-head-reads edition (Some n) tail (inr h) e = ap (solid edition) (ap (λ l. l ++ tail) h.0 ∙ ap (λ l. 45 ∷ l) h.1) ∙ hyphen-reads edition ∙ ap (λ m. got (type_selector m) []) (sym h.0) ∙ ap (got (type_selector n)) (sym h.1)
+head-reads edition (Some n) tail (inr h) e =
+    ap (solid edition) (ap (λ l. l ++ tail) h.0 ∙ ap (λ l. 45 ∷ l) h.1) ∙ hyphen-reads edition
+    ∙ ap (λ m. got (type_selector m) []) (sym h.0) ∙ ap (got (type_selector n)) (sym h.1)
 head-reads edition (Some n) tail (inl w) e =
     let f = name-first edition n w in
     let g : n ++ tail ≡ f.first ∷ (f.others ++ tail) = ap (λ l. l ++ tail) f.is in
-    ap (solid edition) g ∙ solid-name_byte edition f.first (f.others ++ tail) f.fit ∙ ap (named_token edition type_selector) (sym g) ∙ named_token-type edition n tail w e
+    ap (solid edition) g ∙ solid-name_byte edition f.first (f.others ++ tail) f.fit
+    ∙ ap (named_token edition type_selector) (sym g) ∙ named_token-type edition n tail w e
 
 -- no gap is before a printed head
-pub head-no_gap : (edition : Edition) (o : Option (List ℕ)) (tail : List ℕ) → IsTypeName edition o tail → NoGap (type_text o ++ tail)
+pub head-no_gap : (edition : Edition) (o : Option (List ℕ)) (tail : List ℕ)
+    → IsTypeName edition o tail → NoGap (type_text o ++ tail)
 head-no_gap edition None tail w = no_gap-byte 42 tail refl refl
-head-no_gap edition (Some n) tail (inr h) = subst NoGap (ap (λ l. l ++ tail) (sym h.0)) (no_gap-byte 45 tail refl refl)
+head-no_gap edition (Some n) tail (inr h) =
+    subst NoGap (ap (λ l. l ++ tail) (sym h.0)) (no_gap-byte 45 tail refl refl)
 head-no_gap edition (Some n) tail (inl w) =
     let f = name-first edition n w in
-    subst NoGap (ap (λ l. l ++ tail) (sym f.is)) (no_gap-name edition f.first (f.others ++ tail) f.fit)
+    subst NoGap (ap (λ l. l ++ tail) (sym f.is))
+    (no_gap-name edition f.first (f.others ++ tail) f.fit)

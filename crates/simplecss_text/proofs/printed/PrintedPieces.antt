@@ -34,11 +34,17 @@ abbrev pub IsValue : List ℕ → Type 0
 IsValue value = (last_after 0 value == 92) ≡ false
 
 -- in a clean value no apostrophe closes the string
-from_quote-clean : (previous : ℕ) (v tail : List ℕ) → escaped_after previous v ≡ true → (last_after previous v == 92) ≡ false → from_quote 39 previous (v ++ (39 ∷ tail)) ≡ Some (39 ∷ tail)
+from_quote-clean : (previous : ℕ) (v tail : List ℕ) → escaped_after previous v ≡ true
+    → (last_after previous v == 92) ≡ false
+    → from_quote 39 previous (v ++ (39 ∷ tail)) ≡ Some (39 ∷ tail)
 from_quote-clean previous [] tail c l = rw l refl
-from_quote-clean previous (b ∷ v) tail c l = by (b == 39) (previous == 92) refl refl c (λ h. from_quote-clean b v tail h l)
+from_quote-clean previous (b ∷ v) tail c l =
+    by (b == 39) (previous == 92) refl refl c (λ h. from_quote-clean b v tail h l)
   where
-    by : (q p : Bool) → (b == 39) ≡ q → (previous == 92) ≡ p → ((not q || p) && escaped_after b v) ≡ true → (escaped_after b v ≡ true → from_quote 39 b (v ++ (39 ∷ tail)) ≡ Some (39 ∷ tail)) → from_quote 39 previous (b ∷ (v ++ (39 ∷ tail))) ≡ Some (39 ∷ tail)
+    by : (q p : Bool) → (b == 39) ≡ q → (previous == 92) ≡ p
+        → ((not q || p) && escaped_after b v) ≡ true
+        → (escaped_after b v ≡ true → from_quote 39 b (v ++ (39 ∷ tail)) ≡ Some (39 ∷ tail))
+        → from_quote 39 previous (b ∷ (v ++ (39 ∷ tail))) ≡ Some (39 ∷ tail)
     by true true eq ep h more = rw (eq, ep) (more h)
     by true false eq ep h more = absurd (cc)
     by false p eq ep h more = rw eq (more h)
@@ -50,19 +56,32 @@ record CutShort (previous : ℕ) (v tail : List ℕ) : Type 0 where
   pub is : v ≡ front ++ (39 ∷ more)
   pub closes : from_quote 39 previous (v ++ tail) ≡ Some (39 ∷ (more ++ tail))
 
-cut_later : (previous b : ℕ) (v tail : List ℕ) → from_quote 39 previous (b ∷ (v ++ tail)) ≡ from_quote 39 b (v ++ tail) → CutShort b v tail → CutShort previous (b ∷ v) tail
-cut_later previous b v tail e s = record { front = b ∷ s.front; more = s.more; is = ap (λ l. b ∷ l) s.is; closes = e ∙ s.closes }
+cut_later : (previous b : ℕ) (v tail : List ℕ)
+    → from_quote 39 previous (b ∷ (v ++ tail)) ≡ from_quote 39 b (v ++ tail) → CutShort b v tail
+    → CutShort previous (b ∷ v) tail
+cut_later previous b v tail e s =
+    record { front = b ∷ s.front; more = s.more; is = ap (λ l. b ∷ l) s.is; closes = e ∙ s.closes }
 
 -- in another one an apostrophe does
-from_quote-unclean : (previous : ℕ) (v tail : List ℕ) → escaped_after previous v ≡ false → CutShort previous v tail
+from_quote-unclean : (previous : ℕ) (v tail : List ℕ) → escaped_after previous v ≡ false
+    → CutShort previous v tail
 from_quote-unclean previous [] tail c = absurd (cc)
-from_quote-unclean previous (b ∷ v) tail c = by (b == 39) (previous == 92) refl refl c (λ h. from_quote-unclean b v tail h)
+from_quote-unclean previous (b ∷ v) tail c =
+    by (b == 39) (previous == 92) refl refl c (λ h. from_quote-unclean b v tail h)
   where
-    by : (q p : Bool) → (b == 39) ≡ q → (previous == 92) ≡ p → ((not q || p) && escaped_after b v) ≡ false → (escaped_after b v ≡ false → CutShort b v tail) → CutShort previous (b ∷ v) tail
+    by : (q p : Bool) → (b == 39) ≡ q → (previous == 92) ≡ p
+        → ((not q || p) && escaped_after b v) ≡ false
+        → (escaped_after b v ≡ false → CutShort b v tail) → CutShort previous (b ∷ v) tail
     by true true eq ep h more = cut_later previous b v tail (rw (eq, ep) refl) (more h)
     by true false eq ep h more =
         let e : b ≡ 39 = grind arith in
-        record { front = []; more = v; is = ap (λ k. k ∷ v) e; closes = rw (eq, ep) (ap (λ k. Some (k ∷ (v ++ tail))) e) }
+        record {
+          front = [];
+          more = v;
+          is = ap (λ k. k ∷ v) e;
+          closes = rw (eq, ep)
+              (ap (λ k. Some (k ∷ (v ++ tail))) e);
+        }
     by false p eq ep h more = cut_later previous b v tail (rw eq refl) (more h)
 
 -- the opening quote is no backslash
@@ -76,7 +95,8 @@ last-start [] h = refl
 last-start (b ∷ v) h = h
 
 -- a clean value is read back between apostrophes
-string-reads : (edition : Edition) (v tail : List ℕ) → IsValue v → escaped_after 0 v ≡ true → string_or_name edition (39 ∷ (v ++ (39 ∷ tail))) ≡ got v tail
+string-reads : (edition : Edition) (v tail : List ℕ) → IsValue v → escaped_after 0 v ≡ true
+    → string_or_name edition (39 ∷ (v ++ (39 ∷ tail))) ≡ got v tail
 unfolding string_or_name
 string-reads edition v tail l c =
     let closes = from_quote-clean 39 v tail (escaped-start v ∙ c) (last-start v l) in
@@ -84,13 +104,18 @@ string-reads edition v tail l c =
     rw (closes, value) refl
 
 -- one that is not clean is cut short
-pub string-cut : (edition : Edition) (v tail : List ℕ) → escaped_after 0 v ≡ false → (front more : List ℕ) × (v ≡ front ++ (39 ∷ more)) × (string_or_name edition (39 ∷ (v ++ tail)) ≡ got front (more ++ tail))
+pub string-cut : (edition : Edition) (v tail : List ℕ) → escaped_after 0 v ≡ false
+    → (front more : List ℕ) × (v ≡ front ++ (39 ∷ more))
+    × (string_or_name edition (39 ∷ (v ++ tail)) ≡ got front (more ++ tail))
 unfolding string_or_name
 string-cut edition v tail c =
     let s = from_quote-unclean 39 v tail (escaped-start v ∙ c) in
     let closing = 39 ∷ (s.more ++ tail) in
-    let text : v ++ tail ≡ s.front ++ (39 ∷ (s.more ++ tail)) = ap (λ l. l ++ tail) s.is ∙ append_assoc s.front (39 ∷ s.more) tail in
-    let value : before (v ++ tail) (39 ∷ (s.more ++ tail)) ≡ s.front = ap (λ l. before l (39 ∷ (s.more ++ tail))) text ∙ before-append s.front (39 ∷ (s.more ++ tail)) in
+    let text : v ++ tail ≡ s.front ++ (39 ∷ (s.more ++ tail)) =
+    ap (λ l. l ++ tail) s.is ∙ append_assoc s.front (39 ∷ s.more) tail in
+    let value : before (v ++ tail) (39 ∷ (s.more ++ tail)) ≡ s.front =
+    ap (λ l. before l (39 ∷ (s.more ++ tail))) text
+    ∙ before-append s.front (39 ∷ (s.more ++ tail)) in
     (s.front, s.more, s.is, rw (s.closes, value) refl)
 
 -- its value ends with no backslash
@@ -105,11 +130,17 @@ pub quoted : (v tail : List ℕ) → (v ++ (39 ∷ [])) ++ (93 ∷ tail) ≡ v +
 quoted v tail = append_assoc v (39 ∷ []) (93 ∷ tail)
 
 -- an equals sign and a clean value are read back
-equated-reads : (edition : Edition) (operator : List ℕ → Operator) (v tail : List ℕ) → IsValue v → escaped_after 0 v ≡ true → equated edition operator (61 ∷ (39 ∷ ((v ++ (39 ∷ [])) ++ (93 ∷ tail)))) ≡ got (operator v) (93 ∷ tail)
-equated-reads edition operator v tail l c = let s = string-reads edition v (93 ∷ tail) l c in rw (quoted v tail, s) refl
+equated-reads : (edition : Edition) (operator : List ℕ → Operator) (v tail : List ℕ) → IsValue v
+    → escaped_after 0 v ≡ true
+    → equated edition operator (61 ∷ (39 ∷ ((v ++ (39 ∷ [])) ++ (93 ∷ tail)))) ≡ got (operator v)
+    (93 ∷ tail)
+equated-reads edition operator v tail l c =
+    let s = string-reads edition v (93 ∷ tail) l c in rw (quoted v tail, s) refl
 
 -- so is what is required of an attribute
-operator-reads : (edition : Edition) (o : Operator) (tail : List ℕ) → IsOperator o → is_clean_operator o ≡ true → attribute_operator edition (operator_text o ++ (93 ∷ tail)) ≡ got o (93 ∷ tail)
+operator-reads : (edition : Edition) (o : Operator) (tail : List ℕ) → IsOperator o
+    → is_clean_operator o ≡ true → attribute_operator edition (operator_text o ++ (93 ∷ tail))
+    ≡ got o (93 ∷ tail)
 unfolding attribute_operator
 operator-reads edition exists tail w c = refl
 operator-reads edition (equals v) tail w c = equated-reads edition equals v tail w c
@@ -117,21 +148,31 @@ operator-reads edition (has_word v) tail w c = equated-reads edition has_word v 
 operator-reads edition (begins_with v) tail w c = equated-reads edition begins_with v tail w c
 
 -- no name continues with it
-pub operator-ends : (edition : Edition) (o : Operator) (tail : List ℕ) → ends_names edition (operator_text o ++ (93 ∷ tail)) ≡ false
+pub operator-ends : (edition : Edition) (o : Operator) (tail : List ℕ)
+    → ends_names edition (operator_text o ++ (93 ∷ tail)) ≡ false
 operator-ends first_edition exists tail = ends_names-byte first_edition 93 _ (omega arith) refl
 operator-ends first_edition (equals v) tail = ends_names-byte first_edition 61 _ (omega arith) refl
-operator-ends first_edition (has_word v) tail = ends_names-byte first_edition 126 _ (omega arith) refl
-operator-ends first_edition (begins_with v) tail = ends_names-byte first_edition 124 _ (omega arith) refl
+operator-ends first_edition (has_word v) tail =
+    ends_names-byte first_edition 126 _ (omega arith) refl
+operator-ends first_edition (begins_with v) tail =
+    ends_names-byte first_edition 124 _ (omega arith) refl
 operator-ends second_edition exists tail = ends_names-byte second_edition 93 _ (omega arith) refl
-operator-ends second_edition (equals v) tail = ends_names-byte second_edition 61 _ (omega arith) refl
-operator-ends second_edition (has_word v) tail = ends_names-byte second_edition 126 _ (omega arith) refl
-operator-ends second_edition (begins_with v) tail = ends_names-byte second_edition 124 _ (omega arith) refl
+operator-ends second_edition (equals v) tail =
+    ends_names-byte second_edition 61 _ (omega arith) refl
+operator-ends second_edition (has_word v) tail =
+    ends_names-byte second_edition 126 _ (omega arith) refl
+operator-ends second_edition (begins_with v) tail =
+    ends_names-byte second_edition 124 _ (omega arith) refl
 
 -- so is a clean attribute after its bracket
-attribute-reads : (edition : Edition) (n : List ℕ) (o : Operator) (tail : List ℕ) → IsName edition n → IsOperator o → is_clean_operator o ≡ true → attribute_after edition (n ++ (operator_text o ++ (93 ∷ tail))) ≡ got (attribute_selector n o) tail
+attribute-reads : (edition : Edition) (n : List ℕ) (o : Operator) (tail : List ℕ) → IsName edition n
+    → IsOperator o → is_clean_operator o ≡ true
+    → attribute_after edition (n ++ (operator_text o ++ (93 ∷ tail))) ≡ got (attribute_selector n o)
+    tail
 unfolding attribute_after
 attribute-reads edition n o tail w x c =
-    let first = name-reads edition n (operator_text o ++ (93 ∷ tail)) w (operator-ends edition o tail) in
+    let first =
+    name-reads edition n (operator_text o ++ (93 ∷ tail)) w (operator-ends edition o tail) in
     let second = operator-reads edition o tail x c in
     rw (first, second) refl
 
@@ -142,7 +183,8 @@ pub record IsLanguage (v : List ℕ) : Type 0 where
   pub within : list_all (λ b. not (b == 41)) v ≡ true
 
 -- all up to the first closing parenthesis
-all_before-reads : (v tail : List ℕ) → list_all (λ b. not (b == 41)) v ≡ true → all_before 41 (v ++ (41 ∷ tail)) ≡ got v (41 ∷ tail)
+all_before-reads : (v tail : List ℕ) → list_all (λ b. not (b == 41)) v ≡ true
+    → all_before 41 (v ++ (41 ∷ tail)) ≡ got v (41 ∷ tail)
 all_before-reads v tail h =
     let n = prefix_len-whole (λ b. not (b == 41)) v (41 ∷ tail) h refl in
     let left : drop (length v) (v ++ (41 ∷ tail)) ≡ 41 ∷ tail = drop-append_seam v (41 ∷ tail) in
@@ -150,12 +192,15 @@ all_before-reads v tail h =
     rw (n, left, value) refl
 
 -- a language is read back
-lang-reads : (v tail : List ℕ) → IsLanguage v → lang_after (40 ∷ (v ++ (41 ∷ tail))) ≡ got (lang_pseudo_class v) tail
+lang-reads : (v tail : List ℕ) → IsLanguage v
+    → lang_after (40 ∷ (v ++ (41 ∷ tail))) ≡ got (lang_pseudo_class v) tail
 unfolding lang_after
 lang-reads v tail w =
-    let next : List ℕ → List ℕ → Reading Token = λ value text. follow (byte 41 text) (λ u. lang_of (trim value)) in
+    let next : List ℕ → List ℕ → Reading Token =
+    λ value text. follow (byte 41 text) (λ u. lang_of (trim value)) in
     let some = w.some in
-    ap (λ r. follow r next) (all_before-reads v tail w.within) ∙ ap (λ t. lang_of t tail) w.trimmed ∙ rw some refl
+    ap (λ r. follow r next) (all_before-reads v tail w.within) ∙ ap (λ t. lang_of t tail) w.trimmed
+    ∙ rw some refl
 
 -- the names of the pseudo-classes
 abbrev pub IsClass : KnownPseudoClass → Type 0
@@ -168,7 +213,9 @@ IsClass focus = Unit {0}
 IsClass (lang v) = IsLanguage v
 
 -- a name of ASCII letters and hyphens
-abbrev pub word_name : (edition : Edition) (n : List ℕ) → all_scalars n ≡ true → encode_utf8_all n ≡ n → list_all (is_name_char edition) n ≡ true → begins_any_name edition n ≡ true → IsName edition n
+abbrev pub word_name : (edition : Edition) (n : List ℕ) → all_scalars n ≡ true
+    → encode_utf8_all n ≡ n → list_all (is_name_char edition) n ≡ true
+    → begins_any_name edition n ≡ true → IsName edition n
 word_name edition n s e p b = record { letters = n; scalars = s; spell = e; pass = p; begins = b }
 
 first_child_name : (edition : Edition) → IsName edition (codes "first-child")
@@ -216,7 +263,9 @@ class_token active = named_pseudo_class (codes "active")
 class_token focus = named_pseudo_class (codes "focus")
 class_token (lang v) = lang_pseudo_class v
 
-named-reads : (edition : Edition) (n tail : List ℕ) → IsName edition n → bytes_eq n (codes "lang") ≡ false → ends_names edition tail ≡ false → pseudo_class_after edition (n ++ tail) ≡ got (named_pseudo_class n) tail
+named-reads : (edition : Edition) (n tail : List ℕ) → IsName edition n
+    → bytes_eq n (codes "lang") ≡ false → ends_names edition tail ≡ false
+    → pseudo_class_after edition (n ++ tail) ≡ got (named_pseudo_class n) tail
 unfolding pseudo_class_after
 named-reads edition n tail w l s =
     ap (λ r. follow r pseudo_class_named) (name-reads edition n tail w s) ∙ rw l refl
@@ -225,23 +274,37 @@ open_ends : (edition : Edition) (text : List ℕ) → ends_names edition (40 ∷
 open_ends first_edition text = ends_names-byte first_edition 40 text (omega arith) refl
 open_ends second_edition text = ends_names-byte second_edition 40 text (omega arith) refl
 
-closed : (v tail : List ℕ) → (codes "lang(" ++ (v ++ codes ")")) ++ tail ≡ codes "lang" ++ (40 ∷ (v ++ (41 ∷ tail)))
+closed : (v tail : List ℕ)
+    → (codes "lang(" ++ (v ++ codes ")")) ++ tail ≡ codes "lang" ++ (40 ∷ (v ++ (41 ∷ tail)))
 closed v tail = ap (λ l. codes "lang(" ++ l) (append_assoc v (codes ")") tail)
 
-lang_class-reads : (edition : Edition) (v tail : List ℕ) → IsLanguage v → pseudo_class_after edition (codes "lang" ++ (40 ∷ (v ++ (41 ∷ tail)))) ≡ got (lang_pseudo_class v) tail
+lang_class-reads : (edition : Edition) (v tail : List ℕ) → IsLanguage v
+    → pseudo_class_after edition (codes "lang" ++ (40 ∷ (v ++ (41 ∷ tail))))
+    ≡ got (lang_pseudo_class v) tail
 unfolding pseudo_class_after
 lang_class-reads edition v tail w =
-    ap (λ r. follow r pseudo_class_named) (name-reads edition (codes "lang") (40 ∷ (v ++ (41 ∷ tail))) (lang_name edition) (open_ends edition (v ++ (41 ∷ tail)))) ∙ lang-reads v tail w
+    ap (λ r. follow r pseudo_class_named)
+    (name-reads edition (codes "lang") (40 ∷ (v ++ (41 ∷ tail))) (lang_name edition)
+    (open_ends edition (v ++ (41 ∷ tail)))) ∙ lang-reads v tail w
 
 -- a pseudo-class is read back
-class-reads : (edition : Edition) (class : KnownPseudoClass) (tail : List ℕ) → IsClass class → ends_names edition tail ≡ false → pseudo_class_after edition (pseudo_class_text class ++ tail) ≡ got (class_token class) tail
-class-reads edition first_child tail w s = named-reads edition (codes "first-child") tail (first_child_name edition) refl s
-class-reads edition link tail w s = named-reads edition (codes "link") tail (link_name edition) refl s
-class-reads edition visited tail w s = named-reads edition (codes "visited") tail (visited_name edition) refl s
-class-reads edition hover tail w s = named-reads edition (codes "hover") tail (hover_name edition) refl s
-class-reads edition active tail w s = named-reads edition (codes "active") tail (active_name edition) refl s
-class-reads edition focus tail w s = named-reads edition (codes "focus") tail (focus_name edition) refl s
-class-reads edition (lang v) tail w s = ap (pseudo_class_after edition) (closed v tail) ∙ lang_class-reads edition v tail w
+class-reads : (edition : Edition) (class : KnownPseudoClass) (tail : List ℕ) → IsClass class
+    → ends_names edition tail ≡ false → pseudo_class_after edition (pseudo_class_text class ++ tail)
+    ≡ got (class_token class) tail
+class-reads edition first_child tail w s =
+    named-reads edition (codes "first-child") tail (first_child_name edition) refl s
+class-reads edition link tail w s =
+    named-reads edition (codes "link") tail (link_name edition) refl s
+class-reads edition visited tail w s =
+    named-reads edition (codes "visited") tail (visited_name edition) refl s
+class-reads edition hover tail w s =
+    named-reads edition (codes "hover") tail (hover_name edition) refl s
+class-reads edition active tail w s =
+    named-reads edition (codes "active") tail (active_name edition) refl s
+class-reads edition focus tail w s =
+    named-reads edition (codes "focus") tail (focus_name edition) refl s
+class-reads edition (lang v) tail w s =
+    ap (pseudo_class_after edition) (closed v tail) ∙ lang_class-reads edition v tail w
 
 -- what a subselector that was read satisfies
 abbrev pub IsSubselector : Edition → Subselector → Type 0
@@ -253,7 +316,8 @@ abbrev pub printed_token : Subselector → Token
 printed_token (attribute n o) = attribute_selector n o
 printed_token (pseudo_class class) = class_token class
 
-class-role : (class : KnownPseudoClass) → role_of (class_token class) ≡ Some (part (with (pseudo_class class)))
+class-role : (class : KnownPseudoClass)
+    → role_of (class_token class) ≡ Some (part (with (pseudo_class class)))
 class-role first_child = refl
 class-role link = refl
 class-role visited = refl
@@ -272,17 +336,24 @@ pub bracketed : (n o tail : List ℕ) → ((n ++ o) ++ (93 ∷ [])) ++ tail ≡ 
 bracketed n o tail = append_assoc (n ++ o) (93 ∷ []) tail ∙ append_assoc n o (93 ∷ tail)
 
 -- a bracket begins an attribute, and a colon a pseudo-class
-pub solid-attribute : (edition : Edition) (text : List ℕ) → solid edition (91 ∷ text) ≡ attribute_after edition text
+pub solid-attribute : (edition : Edition) (text : List ℕ)
+    → solid edition (91 ∷ text) ≡ attribute_after edition text
 unfolding solid next_kind
 solid-attribute edition text = refl
 
-solid-pseudo_class : (edition : Edition) (text : List ℕ) → solid edition (58 ∷ text) ≡ pseudo_class_after edition text
+solid-pseudo_class : (edition : Edition) (text : List ℕ)
+    → solid edition (58 ∷ text) ≡ pseudo_class_after edition text
 unfolding solid next_kind
 solid-pseudo_class edition text = refl
 
 -- a printed subselector is one solid piece
-pub subselector-reads : (edition : Edition) (s : Subselector) (tail : List ℕ) → IsSubselector edition s → is_clean_subselector s ≡ true → ends_names edition tail ≡ false → solid edition (subselector_text s ++ tail) ≡ got (printed_token s) tail
+pub subselector-reads : (edition : Edition) (s : Subselector) (tail : List ℕ)
+    → IsSubselector edition s → is_clean_subselector s ≡ true → ends_names edition tail ≡ false
+    → solid edition (subselector_text s ++ tail) ≡ got (printed_token s) tail
 subselector-reads edition (attribute n o) tail w c e =
     solid-attribute edition (((n ++ operator_text o) ++ (93 ∷ [])) ++ tail)
-    ∙ ap (attribute_after edition) (bracketed n (operator_text o) tail) ∙ attribute-reads edition n o tail w.0 w.1 c
-subselector-reads edition (pseudo_class class) tail w c e = solid-pseudo_class edition (pseudo_class_text class ++ tail) ∙ class-reads edition class tail w e
+    ∙ ap (attribute_after edition) (bracketed n (operator_text o) tail)
+    ∙ attribute-reads edition n o tail w.0 w.1 c
+subselector-reads edition (pseudo_class class) tail w c e =
+    solid-pseudo_class edition (pseudo_class_text class ++ tail)
+    ∙ class-reads edition class tail w e

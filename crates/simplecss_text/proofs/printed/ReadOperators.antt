@@ -18,18 +18,31 @@ use Rattle.simplecss_text.proofs.printed.ReadValues.{string_or_name-gives}
 abbrev pub GoodOperator : Operator → List ℕ → Type 0
 GoodOperator operator rest = IsOperator operator
 
-equated-gives : (edition : Edition) (operator : List ℕ → Operator) (text : List ℕ) → ((v : List ℕ) → IsValue v → IsOperator (operator v)) → IsUtf8 text → IfGot GoodOperator (equated edition operator text)
+equated-gives : (edition : Edition) (operator : List ℕ → Operator) (text : List ℕ)
+    → ((v : List ℕ) → IsValue v → IsOperator (operator v)) → IsUtf8 text
+    → IfGot GoodOperator (equated edition operator text)
 equated-gives edition operator text each u =
-    if_got-follow (λ x rest. text ≡ 61 ∷ rest) GoodOperator (byte 61 text) _ (byte-is 61 text) (λ x rest e.
-    if_got-follow (λ v last. IsValue v) GoodOperator (string_or_name edition rest) (λ v. got (operator v)) (string_or_name-gives edition rest (utf8-past_byte 61 rest (omega arith) (subst IsUtf8 e u)))
+    if_got-follow (λ x rest. text ≡ 61 ∷ rest) GoodOperator (byte 61 text) _ (byte-is 61 text)
+    (λ x rest e.
+    if_got-follow (λ v last. IsValue v) GoodOperator (string_or_name edition rest)
+    (λ v. got (operator v))
+    (string_or_name-gives edition rest
+    (utf8-past_byte 61 rest (omega arith) (subst IsUtf8 e u)))
     (λ v last w. each v w))
 
 -- what is required of an attribute that was read from a text
-pub attribute_operator-gives : (edition : Edition) (text : List ℕ) → IsUtf8 text → IfGot GoodOperator (attribute_operator edition text)
+pub attribute_operator-gives : (edition : Edition) (text : List ℕ) → IsUtf8 text
+    → IfGot GoodOperator (attribute_operator edition text)
 unfolding attribute_operator
 attribute_operator-gives edition [] u = tt
 attribute_operator-gives edition (b ∷ text) u =
     if_got-if GoodOperator (b == 93) (got exists (b ∷ text)) _ (λ e. tt) (λ e.
-    if_got-if GoodOperator (b == 61) (equated edition equals (b ∷ text)) _ (λ f. equated-gives edition equals (b ∷ text) (λ v w. w) u) (λ f.
-    if_got-if GoodOperator (b == 126) (equated edition has_word text) _ (λ g. equated-gives edition has_word text (λ v w. w) (utf8-past_byte 126 text (omega arith) (same_begins b 126 text g u))) (λ g.
-    if_got-if GoodOperator (b == 124) (equated edition begins_with text) (fails no_attribute_form (b ∷ text)) (λ h. equated-gives edition begins_with text (λ v w. w) (utf8-past_byte 124 text (omega arith) (same_begins b 124 text h u))) (λ h. tt))))
+    if_got-if GoodOperator (b == 61) (equated edition equals (b ∷ text)) _
+    (λ f. equated-gives edition equals (b ∷ text) (λ v w. w) u) (λ f.
+    if_got-if GoodOperator (b == 126) (equated edition has_word text) _
+    (λ g. equated-gives edition has_word text (λ v w. w)
+    (utf8-past_byte 126 text (omega arith) (same_begins b 126 text g u))) (λ g.
+    if_got-if GoodOperator (b == 124) (equated edition begins_with text)
+    (fails no_attribute_form (b ∷ text))
+    (λ h. equated-gives edition begins_with text (λ v w. w)
+    (utf8-past_byte 124 text (omega arith) (same_begins b 124 text h u))) (λ h. tt))))

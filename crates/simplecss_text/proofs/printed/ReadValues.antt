@@ -17,7 +17,8 @@ use Rattle.simplecss_text.proofs.bytes.Utf8Laws.{utf8-before_byte}
 use Rattle.simplecss_text.proofs.printed.GotLaws.{IfGot, if_got, if_got-if}
 use Rattle.std.proofs.lemmas.Bool.Decides.{nat_tests}
 
-last_split : (b : ℕ) (v : List ℕ) → (last_after b v == 92) ≡ true → (front : List ℕ) × (b ∷ v ≡ front ++ (92 ∷ []))
+last_split : (b : ℕ) (v : List ℕ) → (last_after b v == 92) ≡ true
+    → (front : List ℕ) × (b ∷ v ≡ front ++ (92 ∷ []))
 last_split b [] e = ([], ap (λ k. k ∷ []) (eqb-true b 92 e))
 last_split b (d ∷ v) e = let more = last_split d v e in (b ∷ more.0, ap (λ l. b ∷ l) more.1)
 
@@ -32,9 +33,12 @@ name_end edition front n w e =
     let u : IsUtf8 n = (w.letters, (w.scalars, w.spell)) in
     let f = utf8-before_byte front 92 [] (omega arith) (subst IsUtf8 e u) in
     let letters : w.letters ≡ chars front ++ (92 ∷ []) =
-    sym (chars-encodes w.letters w.scalars) ∙ ap chars w.spell ∙ ap chars e ∙ chars-append front (92 ∷ []) f
+    sym (chars-encodes w.letters w.scalars) ∙ ap chars w.spell ∙ ap chars e
+    ∙ chars-append front (92 ∷ []) f
     ∙ ap (λ l. chars front ++ l) (chars-byte 92 [] (omega arith) ∙ ap (λ l. 92 ∷ l) chars-nil) in
-    let all = sym (list_all-append (is_name_char edition) (chars front) (92 ∷ [])) ∙ sym (ap (list_all (is_name_char edition)) letters) ∙ w.pass in
+    let all =
+    sym (list_all-append (is_name_char edition) (chars front) (92 ∷ []))
+    ∙ sym (ap (list_all (is_name_char edition)) letters) ∙ w.pass in
     no_backslash edition (list_all (is_name_char edition) (chars front)) all
 
 -- no name ends with a backslash
@@ -47,7 +51,8 @@ name-value_is edition (b ∷ n) w = by (last_after b n == 92) refl
     by true e = let s = last_split b n e in absurd (name_end edition s.0 (b ∷ n) w s.1)
 
 -- what is read as a name is a value, and leaves a text
-name-gives_value : (edition : Edition) (text : List ℕ) → IsUtf8 text → IfGot (λ v rest. IsValue v) (name edition text)
+name-gives_value : (edition : Edition) (text : List ℕ) → IsUtf8 text
+    → IfGot (λ v rest. IsValue v) (name edition text)
 name-gives_value edition text u =
     if_got (λ v rest. IsValue v) (name edition text) (λ v rest e.
     let read = name-is edition text v rest u e in
@@ -58,7 +63,8 @@ pub quote_low : (b : ℕ) → is_quote b ≡ true → b < 128
 quote_low b e = grind (arith, nat_tests)
 
 -- a value of an attribute ends with no backslash, and leaves a text
-pub string_or_name-gives : (edition : Edition) (text : List ℕ) → IsUtf8 text → IfGot (λ v rest. IsValue v) (string_or_name edition text)
+pub string_or_name-gives : (edition : Edition) (text : List ℕ) → IsUtf8 text
+    → IfGot (λ v rest. IsValue v) (string_or_name edition text)
 unfolding string_or_name
 string_or_name-gives edition [] u = tt
 string_or_name-gives edition (b ∷ text) u =

@@ -12,7 +12,8 @@ use Rattle.simplecss_text.specs.Slices.{StandBetween}
 -- what is before a rest is the front that was put there
 pub before-append : (front rest : List ℕ) → before (front ++ rest) rest ≡ front
 before-append front rest =
-    let n : length (front ++ rest) - length rest ≡ length front = omega (arith, length-append front rest) in
+    let n : length (front ++ rest) - length rest ≡ length front =
+    omega (arith, length-append front rest) in
     ap (λ n. take n (front ++ rest)) n ∙ take-append_seam front rest
 
 -- a text is an end of itself after any front
@@ -35,7 +36,8 @@ ends-drop n text = ends-by text (take n text) (drop n text) (take-append-drop n 
 pub ends-ends : (text middle rest : List ℕ) → Ends text middle → Ends middle rest → Ends text rest
 ends-ends text middle rest e f =
     ends-by text (before text middle ++ before middle rest) rest
-    (append_assoc (before text middle) (before middle rest) rest ∙ ap (λ t. before text middle ++ t) f ∙ e)
+    (append_assoc (before text middle) (before middle rest) rest
+    ∙ ap (λ t. before text middle ++ t) f ∙ e)
 
 -- one byte more in front
 pub ends-cons : (b : ℕ) (text rest : List ℕ) → Ends text rest → Ends (b ∷ text) rest
@@ -68,12 +70,14 @@ abbrev pub EndsSome : List ℕ → Option (List ℕ) → Type 0
 EndsSome text None = Unit {0}
 EndsSome text (Some rest) = Ends text rest
 
-pub ends_some-if : (text : List ℕ) (t : Bool) (x y : Option (List ℕ)) → EndsSome text x → EndsSome text y → EndsSome text (if t then x else y)
+pub ends_some-if : (text : List ℕ) (t : Bool) (x y : Option (List ℕ)) → EndsSome text x
+    → EndsSome text y → EndsSome text (if t then x else y)
 ends_some-if text true x y a b = a
 ends_some-if text false x y a b = b
 
 -- more text in front
-pub ends_some-ends : (text middle : List ℕ) (o : Option (List ℕ)) → Ends text middle → EndsSome middle o → EndsSome text o
+pub ends_some-ends : (text middle : List ℕ) (o : Option (List ℕ)) → Ends text middle
+    → EndsSome middle o → EndsSome text o
 ends_some-ends text middle None e h = tt
 ends_some-ends text middle (Some rest) e h = ends-ends text middle rest e h
 
@@ -82,40 +86,55 @@ abbrev pub EndsFound : {A : Type 0} → List ℕ → Option (A × List ℕ) → 
 EndsFound text None = Unit {0}
 EndsFound text (Some x) = Ends text x.1
 
-up_to-ends : {A : Type 0} (read : List ℕ → Option (A × List ℕ)) → ((text : List ℕ) → EndsFound text (read text)) → (n : ℕ) (text : List ℕ) → Ends text (up_to n read text).1
+up_to-ends : {A : Type 0} (read : List ℕ → Option (A × List ℕ))
+    → ((text : List ℕ) → EndsFound text (read text)) → (n : ℕ) (text : List ℕ)
+    → Ends text (up_to n read text).1
 up_to-ends read ends zero text = ends-same text
-up_to-ends {A = A} read ends (suc n) text = by (λ t. up_to-ends read ends n t) (read text) (ends text)
+up_to-ends {A = A} read ends (suc n) text =
+    by (λ t. up_to-ends read ends n t) (read text) (ends text)
   where
-    by : ((t : List ℕ) → Ends t (up_to n read t).1) → (o : Option (A × List ℕ)) → EndsFound text o → Ends text (and_then text o (up_to n read)).1
+    by : ((t : List ℕ) → Ends t (up_to n read t).1) → (o : Option (A × List ℕ)) → EndsFound text o
+        → Ends text (and_then text o (up_to n read)).1
     by more None h = ends-same text
     by more (Some x) h = ends-ends text x.1 (up_to n read x.1).1 h (more x.1)
 
 -- what `each` leaves is an end of the text
-pub each-ends : {A : Type 0} (read : List ℕ → Option (A × List ℕ)) → ((text : List ℕ) → EndsFound text (read text)) → (text : List ℕ) → Ends text (each read text).1
+pub each-ends : {A : Type 0} (read : List ℕ → Option (A × List ℕ))
+    → ((text : List ℕ) → EndsFound text (read text)) → (text : List ℕ)
+    → Ends text (each read text).1
 unfolding each
 each-ends read ends text = up_to-ends read ends (length text) text
 
 -- texts between two rests are between an earlier and a later one too
-pub stand-from : (from middle to : List ℕ) (texts : List (List ℕ)) → Ends from middle → StandBetween middle to texts → StandBetween from to texts
+pub stand-from : (from middle to : List ℕ) (texts : List (List ℕ)) → Ends from middle
+    → StandBetween middle to texts → StandBetween from to texts
 stand-from from middle to [] e h = ends-ends from middle to e h
-stand-from from middle to (s ∷ ss) e (start, end, a, b, c, d) = (start, end, ends-ends from middle start e a, b, c, d)
+stand-from from middle to (s ∷ ss) e (start, end, a, b, c, d) =
+    (start, end, ends-ends from middle start e a, b, c, d)
 
-pub stand-to : (from middle to : List ℕ) (texts : List (List ℕ)) → StandBetween from middle texts → Ends middle to → StandBetween from to texts
+pub stand-to : (from middle to : List ℕ) (texts : List (List ℕ)) → StandBetween from middle texts
+    → Ends middle to → StandBetween from to texts
 stand-to from middle to [] h e = ends-ends from middle to h e
-stand-to from middle to (s ∷ ss) (start, end, a, b, c, d) e = (start, end, a, b, c, stand-to end middle to ss d e)
+stand-to from middle to (s ∷ ss) (start, end, a, b, c, d) e =
+    (start, end, a, b, c, stand-to end middle to ss d e)
 
 -- texts, and then others
-pub stand-append : (from middle to : List ℕ) (ss ts : List (List ℕ)) → StandBetween from middle ss → StandBetween middle to ts → StandBetween from to (ss ++ ts)
+pub stand-append : (from middle to : List ℕ) (ss ts : List (List ℕ)) → StandBetween from middle ss
+    → StandBetween middle to ts → StandBetween from to (ss ++ ts)
 stand-append from middle to [] ts h k = stand-from from middle to ts h k
-stand-append from middle to (s ∷ ss) ts (start, end, a, b, c, d) k = (start, end, a, b, c, stand-append end middle to ss ts d k)
+stand-append from middle to (s ∷ ss) ts (start, end, a, b, c, d) k =
+    (start, end, a, b, c, stand-append end middle to ss ts d k)
 
 -- where texts are between two rests, the later one is an end of the earlier one
-pub stand-ends : (from to : List ℕ) (texts : List (List ℕ)) → StandBetween from to texts → Ends from to
+pub stand-ends : (from to : List ℕ) (texts : List (List ℕ)) → StandBetween from to texts
+    → Ends from to
 stand-ends from to [] h = h
-stand-ends from to (s ∷ ss) (start, end, a, b, c, d) = ends-ends from start to a (ends-ends start end to b (stand-ends end to ss d))
+stand-ends from to (s ∷ ss) (start, end, a, b, c, d) =
+    ends-ends from start to a (ends-ends start end to b (stand-ends end to ss d))
 
 -- what is before a rest is between the text and that rest
-pub stand-before : (text rest : List ℕ) → Ends text rest → StandBetween text rest (before text rest ∷ [])
+pub stand-before : (text rest : List ℕ) → Ends text rest
+    → StandBetween text rest (before text rest ∷ [])
 stand-before text rest e = (text, rest, ends-same text, e, refl, ends-same rest)
 
 -- After a reading an end of the text is left, and the texts of the value that it yields are before
@@ -124,8 +143,9 @@ abbrev pub StandsIn : {A : Type 0} → List ℕ → (A → List (List ℕ)) → 
 StandsIn text texts (got x rest) = StandBetween text rest (texts x)
 StandsIn text texts (fails fault rest) = Ends text rest
 
-pub record Stands {A : Type 0} (text : List ℕ) (texts : A → List (List ℕ)) (r : Reading A) : Type 0 where
-  pub at : StandsIn text texts r
+pub record Stands {A : Type 0} (text : List ℕ) (texts : A → List (List ℕ)) (r : Reading A) : Type 0
+  where
+    pub at : StandsIn text texts r
 
 -- a value without texts
 abbrev pub no_texts : {A : Type 0} → A → List (List ℕ)
@@ -135,42 +155,64 @@ no_texts x = []
 abbrev pub itself : List ℕ → List (List ℕ)
 itself s = s ∷ []
 
-pub stands-ends : {A : Type 0} (text : List ℕ) (texts : A → List (List ℕ)) (r : Reading A) → Stands text texts r → Ends text (left_after r)
+pub stands-ends : {A : Type 0} (text : List ℕ) (texts : A → List (List ℕ)) (r : Reading A)
+    → Stands text texts r → Ends text (left_after r)
 stands-ends text texts (got x rest) h = stand-ends text rest (texts x) h.at
 stands-ends text texts (fails fault rest) h = h.at
 
 -- a reading whose texts are not seen, by what it leaves
-pub stands-none : {A : Type 0} (text : List ℕ) (r : Reading A) → Ends text (left_after r) → Stands text no_texts r
+pub stands-none : {A : Type 0} (text : List ℕ) (r : Reading A) → Ends text (left_after r)
+    → Stands text no_texts r
 stands-none text (got x rest) h = record { at = h }
 stands-none text (fails fault rest) h = record { at = h }
 
 -- the texts need not be seen
-pub stands-unseen : {A : Type 0} (text : List ℕ) (texts : A → List (List ℕ)) (r : Reading A) → Stands text texts r → Stands text no_texts r
+pub stands-unseen : {A : Type 0} (text : List ℕ) (texts : A → List (List ℕ)) (r : Reading A)
+    → Stands text texts r → Stands text no_texts r
 stands-unseen text texts (got x rest) h = record { at = stand-ends text rest (texts x) h.at }
 stands-unseen text texts (fails fault rest) h = record { at = h.at }
 
-pub stands-got : {A : Type 0} (text : List ℕ) (texts : A → List (List ℕ)) (r : Reading A) (x : A) (rest : List ℕ) → Stands text texts r → r ≡ got x rest → StandBetween text rest (texts x)
+pub stands-got : {A : Type 0} (text : List ℕ) (texts : A → List (List ℕ)) (r : Reading A) (x : A)
+    (rest : List ℕ) → Stands text texts r → r ≡ got x rest → StandBetween text rest (texts x)
 stands-got text texts r x rest h e = subst (StandsIn text texts) e h.at
 
-pub ends-got : {A : Type 0} (text : List ℕ) (texts : A → List (List ℕ)) (r : Reading A) (x : A) (rest : List ℕ) → Stands text texts r → r ≡ got x rest → Ends text rest
-ends-got text texts r x rest h e = stand-ends text rest (texts x) (stands-got text texts r x rest h e)
+pub ends-got : {A : Type 0} (text : List ℕ) (texts : A → List (List ℕ)) (r : Reading A) (x : A)
+    (rest : List ℕ) → Stands text texts r → r ≡ got x rest → Ends text rest
+ends-got text texts r x rest h e =
+    stand-ends text rest (texts x) (stands-got text texts r x rest h e)
 
-pub ends-fails : {A : Type 0} (text : List ℕ) (texts : A → List (List ℕ)) (r : Reading A) (fault : Fault) (rest : List ℕ) → Stands text texts r → r ≡ fails fault rest → Ends text rest
+pub ends-fails : {A : Type 0} (text : List ℕ) (texts : A → List (List ℕ)) (r : Reading A)
+    (fault : Fault) (rest : List ℕ) → Stands text texts r → r ≡ fails fault rest → Ends text rest
 ends-fails text texts r fault rest h e = subst (StandsIn text texts) e h.at
 
 -- more text in front
-pub stands-from : {A : Type 0} (text middle : List ℕ) (texts : A → List (List ℕ)) (r : Reading A) → Ends text middle → Stands middle texts r → Stands text texts r
-stands-from text middle texts (got x rest) e h = record { at = stand-from text middle rest (texts x) e h.at }
-stands-from text middle texts (fails fault rest) e h = record { at = ends-ends text middle rest e h.at }
+pub stands-from : {A : Type 0} (text middle : List ℕ) (texts : A → List (List ℕ)) (r : Reading A)
+    → Ends text middle → Stands middle texts r → Stands text texts r
+stands-from text middle texts (got x rest) e h =
+    record { at = stand-from text middle rest (texts x) e h.at }
+stands-from text middle texts (fails fault rest) e h =
+    record { at = ends-ends text middle rest e h.at }
 
-pub stands-if : {A : Type 0} (text : List ℕ) (texts : A → List (List ℕ)) (t : Bool) (x y : Reading A) → Stands text texts x → Stands text texts y → Stands text texts (if t then x else y)
+pub stands-if : {A : Type 0} (text : List ℕ) (texts : A → List (List ℕ)) (t : Bool)
+    (x y : Reading A) → Stands text texts x → Stands text texts y
+    → Stands text texts (if t then x else y)
 stands-if text texts true x y a b = a
 stands-if text texts false x y a b = b
 
 -- one thing after another, where texts were passed before the first
-pub stands-then : {A B : Type 0} (from text : List ℕ) (front : List (List ℕ)) (seen : A → List (List ℕ)) (texts : B → List (List ℕ)) (r : Reading A) (next : A → Reader B) → StandBetween from text front → Stands text seen r → ((x : A) (rest : List ℕ) → r ≡ got x rest → StandBetween from rest (front ++ seen x) → Stands from texts (next x rest)) → Stands from texts (follow r next)
-stands-then from text front seen texts (got x rest) next f h more = more x rest refl (stand-append from text rest front (seen x) f h.at)
-stands-then from text front seen texts (fails fault rest) next f h more = record { at = ends-ends from text rest (stand-ends from text front f) h.at }
+pub stands-then : {A B : Type 0} (from text : List ℕ) (front : List (List ℕ))
+    (seen : A → List (List ℕ)) (texts : B → List (List ℕ)) (r : Reading A) (next : A → Reader B)
+    → StandBetween from text front → Stands text seen r
+    → ((x : A) (rest : List ℕ) → r ≡ got x rest → StandBetween from rest (front ++ seen x)
+    → Stands from texts (next x rest)) → Stands from texts (follow r next)
+stands-then from text front seen texts (got x rest) next f h more =
+    more x rest refl (stand-append from text rest front (seen x) f h.at)
+stands-then from text front seen texts (fails fault rest) next f h more =
+    record { at = ends-ends from text rest (stand-ends from text front f) h.at }
 
-pub stands-follow : {A B : Type 0} (text : List ℕ) (seen : A → List (List ℕ)) (texts : B → List (List ℕ)) (r : Reading A) (next : A → Reader B) → Stands text seen r → ((x : A) (rest : List ℕ) → r ≡ got x rest → StandBetween text rest (seen x) → Stands text texts (next x rest)) → Stands text texts (follow r next)
-stands-follow text seen texts r next h more = stands-then text text [] seen texts r next (ends-same text) h more
+pub stands-follow : {A B : Type 0} (text : List ℕ) (seen : A → List (List ℕ))
+    (texts : B → List (List ℕ)) (r : Reading A) (next : A → Reader B) → Stands text seen r
+    → ((x : A) (rest : List ℕ) → r ≡ got x rest → StandBetween text rest (seen x)
+    → Stands text texts (next x rest)) → Stands text texts (follow r next)
+stands-follow text seen texts r next h more =
+    stands-then text text [] seen texts r next (ends-same text) h more

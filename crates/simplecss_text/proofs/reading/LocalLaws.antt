@@ -32,23 +32,96 @@ pub record Quiet (edition : Edition) (q : ℕ) : Type 0 where
   pub no_hyphen : (q == 45) ≡ false
 
 pub quiet-brace : (edition : Edition) → Quiet edition 125
-quiet-brace first_edition = record { low = omega arith; no_char = refl; no_start = refl; no_digit = refl; no_hex = refl; no_point = refl; no_percent = refl; no_opening = refl; no_star = refl; no_hyphen = refl }
-quiet-brace second_edition = record { low = omega arith; no_char = refl; no_start = refl; no_digit = refl; no_hex = refl; no_point = refl; no_percent = refl; no_opening = refl; no_star = refl; no_hyphen = refl }
+quiet-brace first_edition =
+    record {
+      low = omega arith;
+      no_char = refl;
+      no_start = refl;
+      no_digit = refl;
+      no_hex = refl;
+      no_point = refl;
+      no_percent = refl;
+      no_opening = refl;
+      no_star = refl;
+      no_hyphen = refl;
+    }
+quiet-brace second_edition =
+    record {
+      low = omega arith;
+      no_char = refl;
+      no_start = refl;
+      no_digit = refl;
+      no_hex = refl;
+      no_point = refl;
+      no_percent = refl;
+      no_opening = refl;
+      no_star = refl;
+      no_hyphen = refl;
+    }
 
 pub quiet-semicolon : (edition : Edition) → Quiet edition 59
-quiet-semicolon first_edition = record { low = omega arith; no_char = refl; no_start = refl; no_digit = refl; no_hex = refl; no_point = refl; no_percent = refl; no_opening = refl; no_star = refl; no_hyphen = refl }
-quiet-semicolon second_edition = record { low = omega arith; no_char = refl; no_start = refl; no_digit = refl; no_hex = refl; no_point = refl; no_percent = refl; no_opening = refl; no_star = refl; no_hyphen = refl }
+quiet-semicolon first_edition =
+    record {
+      low = omega arith;
+      no_char = refl;
+      no_start = refl;
+      no_digit = refl;
+      no_hex = refl;
+      no_point = refl;
+      no_percent = refl;
+      no_opening = refl;
+      no_star = refl;
+      no_hyphen = refl;
+    }
+quiet-semicolon second_edition =
+    record {
+      low = omega arith;
+      no_char = refl;
+      no_start = refl;
+      no_digit = refl;
+      no_hex = refl;
+      no_point = refl;
+      no_percent = refl;
+      no_opening = refl;
+      no_star = refl;
+      no_hyphen = refl;
+    }
 
 pub quiet-space : (edition : Edition) → Quiet edition 32
-quiet-space first_edition = record { low = omega arith; no_char = refl; no_start = refl; no_digit = refl; no_hex = refl; no_point = refl; no_percent = refl; no_opening = refl; no_star = refl; no_hyphen = refl }
-quiet-space second_edition = record { low = omega arith; no_char = refl; no_start = refl; no_digit = refl; no_hex = refl; no_point = refl; no_percent = refl; no_opening = refl; no_star = refl; no_hyphen = refl }
+quiet-space first_edition =
+    record {
+      low = omega arith;
+      no_char = refl;
+      no_start = refl;
+      no_digit = refl;
+      no_hex = refl;
+      no_point = refl;
+      no_percent = refl;
+      no_opening = refl;
+      no_star = refl;
+      no_hyphen = refl;
+    }
+quiet-space second_edition =
+    record {
+      low = omega arith;
+      no_char = refl;
+      no_start = refl;
+      no_digit = refl;
+      no_hex = refl;
+      no_point = refl;
+      no_percent = refl;
+      no_opening = refl;
+      no_star = refl;
+      no_hyphen = refl;
+    }
 
 -- How two texts part. `at_brace`: both at a closing brace, where the second ends where the first is
 -- cut. `at_quiet`: the first at any text, the second at a byte that continues nothing. The Bool is
 -- whether faults are alike too.
 pub data Seam (edition : Edition) : Bool → List ℕ → List ℕ → Type 0 where
   at_brace : (u v : List ℕ) → Seam edition true (125 ∷ (u ++ v)) (125 ∷ u)
-  at_quiet : (t : List ℕ) (q : ℕ) (more : List ℕ) → Quiet edition q → IsUtf8 t → Seam edition false t (q ∷ more)
+  at_quiet : (t : List ℕ) (q : ℕ) (more : List ℕ) → Quiet edition q → IsUtf8 t
+      → Seam edition false t (q ∷ more)
 
 -- ---- the same readings
 
@@ -68,20 +141,23 @@ Passed false t (got x r) = length r < length t
 Passed false t (fails f r) = Unit {0}
 
 -- the same was read, up to the same place
-abbrev pub Alike : {A : Type 0} → (A → A → Type 0) → List ℕ → List ℕ → Reading A → Reading A → Type 0
+abbrev pub Alike : {A : Type 0} → (A → A → Type 0) → List ℕ → List ℕ → Reading A → Reading A
+    → Type 0
 Alike R t u (got x r) (got y s) = R x y × Along t u r s
 Alike R t u (got x r) (fails f s) = ⊥
 Alike R t u (fails f r) (got y s) = ⊥
 Alike R t u (fails f r) (fails e s) = Along t u r s
 
 -- of two readings, the first passed the place, or both are alike
-abbrev pub Guard : {A : Type 0} → (A → A → Type 0) → Bool → List ℕ → List ℕ → Reading A → Reading A → Type 0
+abbrev pub Guard : {A : Type 0} → (A → A → Type 0) → Bool → List ℕ → List ℕ → Reading A → Reading A
+    → Type 0
 Guard R c t u a b = Passed c t a ⊎ Alike R t u a b
 
 abbrev pub Equal : {A : Type 0} → A → A → Type 0
 Equal x y = x ≡ y
 
-pub beyond-within : (c : Bool) (t r left : List ℕ) → length left ≤ length r → Beyond c t r → Beyond c t left
+pub beyond-within : (c : Bool) (t r left : List ℕ) → length left ≤ length r → Beyond c t r
+    → Beyond c t left
 beyond-within true t r left l h = omega arith
 beyond-within false t r left l h = omega arith
 
@@ -90,7 +166,8 @@ beyond-less true [] r l = absurd (omega arith)
 beyond-less true (b ∷ t) r l = omega arith
 beyond-less false t r l = l
 
-pub passed-beyond : {A : Type 0} (c : Bool) (t : List ℕ) (a : Reading A) → Beyond c t (left_after a) → Passed c t a
+pub passed-beyond : {A : Type 0} (c : Bool) (t : List ℕ) (a : Reading A) → Beyond c t (left_after a)
+    → Passed c t a
 passed-beyond true t a h = h
 passed-beyond false t (got x r) h = h
 passed-beyond false t (fails f r) h = tt
@@ -99,33 +176,45 @@ passed-got : {A : Type 0} (c : Bool) (t r : List ℕ) (x : A) → Passed c t (go
 passed-got true t r x h = h
 passed-got false t r x h = h
 
-passed-fails : (A B : Type 0) (c : Bool) (t r : List ℕ) (f : Fault) → Passed {A = A} c t (fails f r) → Passed {A = B} c t (fails f r)
+passed-fails : (A B : Type 0) (c : Bool) (t r : List ℕ) (f : Fault) → Passed {A = A} c t (fails f r)
+    → Passed {A = B} c t (fails f r)
 passed-fails A B true t r f h = h
 passed-fails A B false t r f h = tt
 
 -- one thing after another
-pub guard-follow : {A B : Type 0} (R : A → A → Type 0) (Q : B → B → Type 0) (c : Bool) (t u : List ℕ) (a b : Reading A) (m n : A → Reader B) → ((x : A) (r : List ℕ) → Keeps r (m x r)) → IsUtf8 (left_after a) → Guard R c t u a b → ((x y : A) → R x y → (r s : List ℕ) → IsUtf8 r → Along t u r s → Guard Q c t u (m x r) (n y s)) → Guard Q c t u (follow a m) (follow b n)
-guard-follow R Q c t u (got x r) b m n keeps v (inl h) next = inl (passed-beyond c t (m x r) (beyond-within c t r (left_after (m x r)) (keeps x r) (passed-got c t r x h)))
-guard-follow {A = A} {B = B} R Q c t u (fails f r) b m n keeps v (inl h) next = inl (passed-fails A B c t r f h)
+pub guard-follow : {A B : Type 0} (R : A → A → Type 0) (Q : B → B → Type 0) (c : Bool)
+    (t u : List ℕ) (a b : Reading A) (m n : A → Reader B) → ((x : A) (r : List ℕ) → Keeps r (m x r))
+    → IsUtf8 (left_after a) → Guard R c t u a b
+    → ((x y : A) → R x y → (r s : List ℕ) → IsUtf8 r → Along t u r s
+    → Guard Q c t u (m x r) (n y s)) → Guard Q c t u (follow a m) (follow b n)
+guard-follow R Q c t u (got x r) b m n keeps v (inl h) next =
+    inl (passed-beyond c t (m x r)
+    (beyond-within c t r (left_after (m x r)) (keeps x r) (passed-got c t r x h)))
+guard-follow {A = A} {B = B} R Q c t u (fails f r) b m n keeps v (inl h) next =
+    inl (passed-fails A B c t r f h)
 guard-follow R Q c t u (got x r) (got y s) m n keeps v (inr h) next = next x y h.0 r s v h.1
 guard-follow R Q c t u (got x r) (fails f s) m n keeps v (inr h) next = absurd h
 guard-follow R Q c t u (fails f r) (got y s) m n keeps v (inr h) next = absurd h
 guard-follow R Q c t u (fails f r) (fails e s) m n keeps v (inr h) next = inr h
 
 -- a choice by a test that comes out the same
-pub guard-if : {A : Type 0} (R : A → A → Type 0) (k : Bool) (t u : List ℕ) (c d : Bool) (a b x y : Reading A) → c ≡ d → Guard R k t u a b → Guard R k t u x y → Guard R k t u (if c then a else x) (if d then b else y)
+pub guard-if : {A : Type 0} (R : A → A → Type 0) (k : Bool) (t u : List ℕ) (c d : Bool)
+    (a b x y : Reading A) → c ≡ d → Guard R k t u a b → Guard R k t u x y
+    → Guard R k t u (if c then a else x) (if d then b else y)
 guard-if R k t u true true a b x y e p q = p
 guard-if R k t u false false a b x y e p q = q
 guard-if R k t u true false a b x y e p q = absurd (cc)
 guard-if R k t u false true a b x y e p q = absurd (cc)
 
 -- what is left, given
-pub guard-got : {A : Type 0} (R : A → A → Type 0) (c : Bool) (t u : List ℕ) (x y : A) (r s : List ℕ) → R x y → To c t u r s → Guard R c t u (got x r) (got y s)
+pub guard-got : {A : Type 0} (R : A → A → Type 0) (c : Bool) (t u : List ℕ) (x y : A) (r s : List ℕ)
+    → R x y → To c t u r s → Guard R c t u (got x r) (got y s)
 guard-got R c t u x y r s e (inl h) = inl (passed-beyond c t (got x r) h)
 guard-got R c t u x y r s e (inr h) = inr (e, h)
 
 -- what is left after either, where both are guarded
-pub left-to : {A : Type 0} (R : A → A → Type 0) (t u : List ℕ) (a b : Reading A) → Guard R true t u a b → To true t u (left_after a) (left_after b)
+pub left-to : {A : Type 0} (R : A → A → Type 0) (t u : List ℕ) (a b : Reading A)
+    → Guard R true t u a b → To true t u (left_after a) (left_after b)
 left-to R t u a b (inl h) = inl h
 left-to R t u (got x r) (got y s) (inr h) = inr h.1
 left-to R t u (got x r) (fails f s) (inr h) = absurd h
@@ -135,18 +224,23 @@ left-to R t u (fails f r) (fails e s) (inr h) = inr h
 -- ---- bytes
 
 -- after the first byte
-pub past_one-to : (c : Bool) (t u r s : List ℕ) → 0 < length r → Along t u r s → To c t u (past_one r) (past_one s)
+pub past_one-to : (c : Bool) (t u r s : List ℕ) → 0 < length r → Along t u r s
+    → To c t u (past_one r) (past_one s)
 past_one-to c [] u r s some at = absurd (omega arith)
 past_one-to c (b ∷ t) u r s some at = inl (beyond-less c (b ∷ t) t (omega arith))
 past_one-to c t u r s some (on b r1 s1 h) = inr h
 
 -- the next byte is the same
-pub starts-along : (g : ℕ) (t u : List ℕ) (c : ℕ) (r s : List ℕ) → Along (g ∷ t) (g ∷ u) r s → starts c r ≡ starts c s
+pub starts-along : (g : ℕ) (t u : List ℕ) (c : ℕ) (r s : List ℕ) → Along (g ∷ t) (g ∷ u) r s
+    → starts c r ≡ starts c s
 starts-along g t u c r s at = refl
 starts-along g t u c r s (on b r1 s1 h) = refl
 
 -- it is, or the first text has parted there, and the second has a byte that continues nothing
-pub starts-seam : {edition : Edition} (c : Bool) (t u : List ℕ) (n : ℕ) → ((q : ℕ) → c ≡ false → Quiet edition q → (q == n) ≡ false) → Seam edition c t u → (r s : List ℕ) → Along t u r s → (starts n r ≡ starts n s) ⊎ ((c ≡ false) × (r ≡ t) × (starts n r ≡ true))
+pub starts-seam : {edition : Edition} (c : Bool) (t u : List ℕ) (n : ℕ)
+    → ((q : ℕ) → c ≡ false → Quiet edition q → (q == n) ≡ false) → Seam edition c t u
+    → (r s : List ℕ) → Along t u r s
+    → (starts n r ≡ starts n s) ⊎ ((c ≡ false) × (r ≡ t) × (starts n r ≡ true))
 starts-seam c t u n other m r s (on b r1 s1 h) = inl refl
 starts-seam c t u n other (at_brace x y) r s at = inl refl
 starts-seam c t u n other (at_quiet _ q more w z) r s at = by (starts n t) refl
@@ -156,53 +250,69 @@ starts-seam c t u n other (at_quiet _ q more w z) r s at = by (starts n t) refl
     by false e = inl (let no = other q refl w in rw no refl)
 
 -- where both part at a brace
-pub at-brace : {edition : Edition} (P : List ℕ → List ℕ → Type 0) → ((u v : List ℕ) → P (125 ∷ (u ++ v)) (125 ∷ u)) → (t u : List ℕ) → Seam edition true t u → P t u
+pub at-brace : {edition : Edition} (P : List ℕ → List ℕ → Type 0)
+    → ((u v : List ℕ) → P (125 ∷ (u ++ v)) (125 ∷ u)) → (t u : List ℕ) → Seam edition true t u
+    → P t u
 at-brace P h t u (at_brace x y) = h x y
 
-pub past_one-along : (g : ℕ) (t u r s : List ℕ) → Along (g ∷ t) (g ∷ u) r s → To true (g ∷ t) (g ∷ u) (past_one r) (past_one s)
+pub past_one-along : (g : ℕ) (t u r s : List ℕ) → Along (g ∷ t) (g ∷ u) r s
+    → To true (g ∷ t) (g ∷ u) (past_one r) (past_one s)
 past_one-along g t u r s at = inl (omega arith)
 past_one-along g t u r s (on b r1 s1 h) = inr h
 
 -- a byte is passed, if it is there
-pub past_byte-to : (t u : List ℕ) (c : ℕ) → past_byte c u ≡ u → (r s : List ℕ) → Along t u r s → (length (past_byte c r) < length t) ⊎ Along t u (past_byte c r) (past_byte c s)
+pub past_byte-to : (t u : List ℕ) (c : ℕ) → past_byte c u ≡ u → (r s : List ℕ) → Along t u r s
+    → (length (past_byte c r) < length t) ⊎ Along t u (past_byte c r) (past_byte c s)
 past_byte-to [] u c e r s at = inr (rw e at)
 past_byte-to (b ∷ t) u c e r s at = rw e (by (b == c))
   where
-    by : (k : Bool) → (length (if k then t else b ∷ t) < length (b ∷ t)) ⊎ Along (b ∷ t) u (if k then t else b ∷ t) u
+    by : (k : Bool) → (length (if k then t else b ∷ t) < length (b ∷ t)) ⊎ Along (b ∷ t) u
+        (if k then t else b ∷ t) u
     by true = inl (omega arith)
     by false = inr at
 past_byte-to t u c e r s (on b r1 s1 h) = by (b == c)
   where
-    by : (k : Bool) → (length (if k then r1 else b ∷ r1) < length t) ⊎ Along t u (if k then r1 else b ∷ r1) (if k then s1 else b ∷ s1)
+    by : (k : Bool)
+        → (length (if k then r1 else b ∷ r1) < length t) ⊎ Along t u (if k then r1 else b ∷ r1)
+        (if k then s1 else b ∷ s1)
     by true = inr h
     by false = inr (on b r1 s1 h)
 
-pub byte-guarded : (g : ℕ) (t u : List ℕ) (c : ℕ) (r s : List ℕ) → Along (g ∷ t) (g ∷ u) r s → Guard Equal true (g ∷ t) (g ∷ u) (byte c r) (byte c s)
-byte-guarded g t u c r s at = guard-if Equal true (g ∷ t) (g ∷ u) (g == c) (g == c) _ _ _ _ refl (inl (omega arith)) (inr at)
-byte-guarded g t u c r s (on b r1 s1 h) = guard-if Equal true (g ∷ t) (g ∷ u) (b == c) (b == c) _ _ _ _ refl (inr (refl, h)) (inr (on b r1 s1 h))
+pub byte-guarded : (g : ℕ) (t u : List ℕ) (c : ℕ) (r s : List ℕ) → Along (g ∷ t) (g ∷ u) r s
+    → Guard Equal true (g ∷ t) (g ∷ u) (byte c r) (byte c s)
+byte-guarded g t u c r s at =
+    guard-if Equal true (g ∷ t) (g ∷ u) (g == c) (g == c) _ _ _ _ refl (inl (omega arith)) (inr at)
+byte-guarded g t u c r s (on b r1 s1 h) =
+    guard-if Equal true (g ∷ t) (g ∷ u) (b == c) (b == c) _ _ _ _ refl (inr (refl, h))
+    (inr (on b r1 s1 h))
 
 -- a run of bytes, by what it comes to where the texts part
-past-to : (c : Bool) (t u : List ℕ) (test : ℕ → Bool) → To c t u (past test t) (past test u) → (r s : List ℕ) → Along t u r s → To c t u (past test r) (past test s)
+past-to : (c : Bool) (t u : List ℕ) (test : ℕ → Bool) → To c t u (past test t) (past test u)
+    → (r s : List ℕ) → Along t u r s → To c t u (past test r) (past test s)
 past-to c t u test parts r s at = parts
 past-to c t u test parts r s (on b r1 s1 h) = by (test b) refl (past-to c t u test parts r1 s1 h)
   where
-    by : (k : Bool) → test b ≡ k → To c t u (past test r1) (past test s1) → To c t u (past test (b ∷ r1)) (past test (b ∷ s1))
+    by : (k : Bool) → test b ≡ k → To c t u (past test r1) (past test s1)
+        → To c t u (past test (b ∷ r1)) (past test (b ∷ s1))
     by true e more = rw (e, one-add (prefix_len test r1), one-add (prefix_len test s1)) more
     by false e more = rw e (inr (on b r1 s1 h))
 
 -- at the same byte, whether the run ends there or not
-past-same : (g : ℕ) (t u : List ℕ) (test : ℕ → Bool) → To true (g ∷ t) (g ∷ u) (past test (g ∷ t)) (past test (g ∷ u))
+past-same : (g : ℕ) (t u : List ℕ) (test : ℕ → Bool)
+    → To true (g ∷ t) (g ∷ u) (past test (g ∷ t)) (past test (g ∷ u))
 past-same g t u test = by (test g) refl
   where
     by : (k : Bool) → test g ≡ k → To true (g ∷ t) (g ∷ u) (past test (g ∷ t)) (past test (g ∷ u))
     by true e = rw (e, one-add (prefix_len test t)) (inl (length-past test t))
     by false e = rw e (inr at)
 
-pub past-both : (g : ℕ) (t u : List ℕ) (test : ℕ → Bool) (r s : List ℕ) → Along (g ∷ t) (g ∷ u) r s → To true (g ∷ t) (g ∷ u) (past test r) (past test s)
+pub past-both : (g : ℕ) (t u : List ℕ) (test : ℕ → Bool) (r s : List ℕ) → Along (g ∷ t) (g ∷ u) r s
+    → To true (g ∷ t) (g ∷ u) (past test r) (past test s)
 past-both g t u test r s h = past-to true (g ∷ t) (g ∷ u) test (past-same g t u test) r s h
 
 -- where the second text ends it
-past-ended : (t u : List ℕ) (test : ℕ → Bool) → past test u ≡ u → To false t u (past test t) (past test u)
+past-ended : (t u : List ℕ) (test : ℕ → Bool) → past test u ≡ u
+    → To false t u (past test t) (past test u)
 past-ended [] u test e = rw e (inr at)
 past-ended (b ∷ t) u test e = rw e (by (test b) refl)
   where
@@ -211,20 +321,27 @@ past-ended (b ∷ t) u test e = rw e (by (test b) refl)
     by false f = rw f (inr at)
 
 -- a run that the byte ends at which the second text parts
-pub past-seam : {edition : Edition} (c : Bool) (t u : List ℕ) (test : ℕ → Bool) → ((q : ℕ) → Quiet edition q → test q ≡ false) → Seam edition c t u → (r s : List ℕ) → Along t u r s → To c t u (past test r) (past test s)
+pub past-seam : {edition : Edition} (c : Bool) (t u : List ℕ) (test : ℕ → Bool)
+    → ((q : ℕ) → Quiet edition q → test q ≡ false) → Seam edition c t u → (r s : List ℕ)
+    → Along t u r s → To c t u (past test r) (past test s)
 past-seam c t u test ends (at_brace x v) r s h = past-both 125 (x ++ v) x test r s h
-past-seam c t u test ends (at_quiet _ q more w v) r s h = past-to false t (q ∷ more) test (past-ended t (q ∷ more) test (let e = ends q w in rw e refl)) r s h
+past-seam c t u test ends (at_quiet _ q more w v) r s h =
+    past-to false t (q ∷ more) test (past-ended t (q ∷ more) test (let e = ends q w in rw e refl)) r
+    s h
 
 -- a run that g ends
-pub past-along : (g : ℕ) (t u : List ℕ) (test : ℕ → Bool) → test g ≡ false → (r s : List ℕ) → Along (g ∷ t) (g ∷ u) r s → Along (g ∷ t) (g ∷ u) (past test r) (past test s)
+pub past-along : (g : ℕ) (t u : List ℕ) (test : ℕ → Bool) → test g ≡ false → (r s : List ℕ)
+    → Along (g ∷ t) (g ∷ u) r s → Along (g ∷ t) (g ∷ u) (past test r) (past test s)
 past-along g t u test e r s at = rw e at
 past-along g t u test e r s (on b r1 s1 h) = by (test b) refl (past-along g t u test e r1 s1 h)
   where
-    by : (k : Bool) → test b ≡ k → Along (g ∷ t) (g ∷ u) (past test r1) (past test s1) → Along (g ∷ t) (g ∷ u) (past test (b ∷ r1)) (past test (b ∷ s1))
+    by : (k : Bool) → test b ≡ k → Along (g ∷ t) (g ∷ u) (past test r1) (past test s1)
+        → Along (g ∷ t) (g ∷ u) (past test (b ∷ r1)) (past test (b ∷ s1))
     by true f ih = rw (f, one-add (prefix_len test r1), one-add (prefix_len test s1)) ih
     by false f ih = rw f (on b r1 s1 h)
 
-pub drop-to : (g : ℕ) (t u : List ℕ) (n : ℕ) (r s : List ℕ) → Along (g ∷ t) (g ∷ u) r s → To true (g ∷ t) (g ∷ u) (drop n r) (drop n s)
+pub drop-to : (g : ℕ) (t u : List ℕ) (n : ℕ) (r s : List ℕ) → Along (g ∷ t) (g ∷ u) r s
+    → To true (g ∷ t) (g ∷ u) (drop n r) (drop n s)
 drop-to g t u zero r s h = inr h
 drop-to g t u (suc n) r s at = inl (omega (arith, length-drop n t))
 drop-to g t u (suc n) r s (on b r1 s1 h) = drop-to g t u n r1 s1 h
@@ -240,15 +357,20 @@ longer-along t u r s at = omega arith
 longer-along t u r s (on b r1 s1 h) = omega (arith, longer-along t u r1 s1 h)
 
 -- their fronts are the same
-take-along : (t u : List ℕ) (n : ℕ) (r s : List ℕ) → Along t u r s → n + length t ≤ length r → take n r ≡ take n s
+take-along : (t u : List ℕ) (n : ℕ) (r s : List ℕ) → Along t u r s → n + length t ≤ length r
+    → take n r ≡ take n s
 take-along t u zero r s h l = refl
 take-along t u (suc n) r s at l = absurd (omega arith)
-take-along t u (suc n) r s (on b r1 s1 h) l = ap (λ (x : List ℕ). b ∷ x) (take-along t u n r1 s1 h (omega arith))
+take-along t u (suc n) r s (on b r1 s1 h) l =
+    ap (λ (x : List ℕ). b ∷ x) (take-along t u n r1 s1 h (omega arith))
 
-pub before-along : (t u r s r1 s1 : List ℕ) → Along t u r s → Along t u r1 s1 → before r r1 ≡ before s s1
+pub before-along : (t u r s r1 s1 : List ℕ) → Along t u r s → Along t u r1 s1
+    → before r r1 ≡ before s s1
 before-along t u r s r1 s1 h k =
-    let n : length s - length s1 ≡ length r - length r1 = omega (arith, length-along t u r s h, length-along t u r1 s1 k) in
-    rw n (take-along t u (length r - length r1) r s h (omega (arith, longer-along t u r s h, longer-along t u r1 s1 k)))
+    let n : length s - length s1 ≡ length r - length r1 =
+    omega (arith, length-along t u r s h, length-along t u r1 s1 k) in
+    rw n (take-along t u (length r - length r1) r s h
+    (omega (arith, longer-along t u r s h, longer-along t u r1 s1 k)))
 
 -- one front before both
 pub along-front : (t u front : List ℕ) → Along t u (front ++ t) (front ++ u)
@@ -256,9 +378,12 @@ along-front t u [] = at
 along-front t u (b ∷ front) = on b (front ++ t) (front ++ u) (along-front t u front)
 
 -- the front of both
-pub along-split : (t u r s : List ℕ) → Along t u r s → (front : List ℕ) × (r ≡ front ++ t) × (s ≡ front ++ u)
+pub along-split : (t u r s : List ℕ) → Along t u r s
+    → (front : List ℕ) × (r ≡ front ++ t) × (s ≡ front ++ u)
 along-split t u r s at = ([], refl, refl)
-along-split t u r s (on b r1 s1 h) = let more = along-split t u r1 s1 h in (b ∷ more.0, ap (λ x. b ∷ x) more.1, ap (λ x. b ∷ x) more.2)
+along-split t u r s (on b r1 s1 h) =
+    let more = along-split t u r1 s1 h in
+    (b ∷ more.0, ap (λ x. b ∷ x) more.1, ap (λ x. b ∷ x) more.2)
 
 -- after the front of the first text the second has its tail
 pub along-end : (t u left : List ℕ) → Along t u t left → left ≡ u
@@ -290,34 +415,52 @@ pub pairs-equal : {A : Type 0} (xs ys : List A) → Pairs Equal xs ys → xs ≡
 pairs-equal [] [] h = refl
 pairs-equal [] (y ∷ ys) h = absurd h
 pairs-equal (x ∷ xs) [] h = absurd h
-pairs-equal {A = A} (x ∷ xs) (y ∷ ys) h = let e : x ≡ y = h.0 in let f : xs ≡ ys = pairs-equal xs ys h.1 in rw (e, f) refl
+pairs-equal {A = A} (x ∷ xs) (y ∷ ys) h =
+    let e : x ≡ y = h.0 in let f : xs ≡ ys = pairs-equal xs ys h.1 in rw (e, f) refl
 
 -- One step of a repetition from r, and one from s. Where only the second finds something, the first
 -- is stuck.
-abbrev pub Step : {A : Type 0} → (A → A → Type 0) → (List ℕ → Type 0) → ℕ → List ℕ → List ℕ → List ℕ → Option (A × List ℕ) → Option (A × List ℕ) → Type 0
+abbrev pub Step : {A : Type 0} → (A → A → Type 0) → (List ℕ → Type 0) → ℕ → List ℕ → List ℕ → List ℕ
+    → Option (A × List ℕ) → Option (A × List ℕ) → Type 0
 Step R Stuck g t u r None None = Unit {0}
 Step R Stuck g t u r None (Some y) = Stuck r
 Step R Stuck g t u r (Some x) None = length x.1 ≤ length t
-Step R Stuck g t u r (Some x) (Some y) = (length x.1 ≤ length t) ⊎ (R x.0 y.0 × Along (g ∷ t) (g ∷ u) x.1 y.1)
+Step R Stuck g t u r (Some x) (Some y) =
+    (length x.1 ≤ length t) ⊎ (R x.0 y.0 × Along (g ∷ t) (g ∷ u) x.1 y.1)
 
 -- no text is stuck
 abbrev pub Never : List ℕ → Type 0
 Never r = ⊥
 
 -- What repeating comes to: it has passed g, or it is stuck, or it is alike
-abbrev pub Repeats : {A : Type 0} → (A → A → Type 0) → (List ℕ → Type 0) → ℕ → List ℕ → List ℕ → List A × List ℕ → List A × List ℕ → Type 0
-Repeats R Stuck g t u a b = (length a.1 ≤ length t) ⊎ (Stuck a.1 ⊎ (Pairs R a.0 b.0 × Along (g ∷ t) (g ∷ u) a.1 b.1))
+abbrev pub Repeats : {A : Type 0} → (A → A → Type 0) → (List ℕ → Type 0) → ℕ → List ℕ → List ℕ
+    → List A × List ℕ → List A × List ℕ → Type 0
+Repeats R Stuck g t u a b =
+    (length a.1 ≤ length t) ⊎ (Stuck a.1 ⊎ (Pairs R a.0 b.0 × Along (g ∷ t) (g ∷ u) a.1 b.1))
 
-repeats-more : {A : Type 0} (R : A → A → Type 0) (Stuck : List ℕ → Type 0) (g : ℕ) (t u : List ℕ) (x y : A) (a b : List A × List ℕ) → R x y → Repeats R Stuck g t u a b → Repeats R Stuck g t u (followed_by x a) (followed_by y b)
+repeats-more : {A : Type 0} (R : A → A → Type 0) (Stuck : List ℕ → Type 0) (g : ℕ) (t u : List ℕ)
+    (x y : A) (a b : List A × List ℕ) → R x y → Repeats R Stuck g t u a b
+    → Repeats R Stuck g t u (followed_by x a) (followed_by y b)
 repeats-more R Stuck g t u x y a b e (inl h) = inl h
 repeats-more R Stuck g t u x y a b e (inr (inl h)) = inr (inl h)
 repeats-more R Stuck g t u x y a b e (inr (inr h)) = inr (inr ((e, h.0), h.1))
 
-pub each-repeats : {A : Type 0} (P : List ℕ → Type 0) (R : A → A → Type 0) (Stuck : List ℕ → Type 0) (g : ℕ) (t u : List ℕ) (read : List ℕ → Option (A × List ℕ)) → Takes read → ((text rest : List ℕ) (x : A) → P text → read text ≡ Some (x, rest) → P rest) → ((r s : List ℕ) → P r → Along (g ∷ t) (g ∷ u) r s → Step R Stuck g t u r (read r) (read s)) → (n : ℕ) (r s : List ℕ) → length r ≤ n → P r → Along (g ∷ t) (g ∷ u) r s → Repeats R Stuck g t u (each read r) (each read s)
-each-repeats P R Stuck g t u read takes keeps steps zero r s l p h = absurd (omega (arith, longer-along (g ∷ t) (g ∷ u) r s h))
-each-repeats {A = A} P R Stuck g t u read takes keeps steps (suc n) r s l p h = by (λ a b k i j. each-repeats P R Stuck g t u read takes keeps steps n a b k i j) (read r) (read s) refl refl (steps r s p h)
+pub each-repeats : {A : Type 0} (P : List ℕ → Type 0) (R : A → A → Type 0) (Stuck : List ℕ → Type 0)
+    (g : ℕ) (t u : List ℕ) (read : List ℕ → Option (A × List ℕ)) → Takes read
+    → ((text rest : List ℕ) (x : A) → P text → read text ≡ Some (x, rest) → P rest)
+    → ((r s : List ℕ) → P r → Along (g ∷ t) (g ∷ u) r s → Step R Stuck g t u r (read r) (read s))
+    → (n : ℕ) (r s : List ℕ) → length r ≤ n → P r → Along (g ∷ t) (g ∷ u) r s
+    → Repeats R Stuck g t u (each read r) (each read s)
+each-repeats P R Stuck g t u read takes keeps steps zero r s l p h =
+    absurd (omega (arith, longer-along (g ∷ t) (g ∷ u) r s h))
+each-repeats {A = A} P R Stuck g t u read takes keeps steps (suc n) r s l p h =
+    by (λ a b k i j. each-repeats P R Stuck g t u read takes keeps steps n a b k i j) (read r)
+    (read s) refl refl (steps r s p h)
   where
-    by : ((a b : List ℕ) → length a ≤ n → P a → Along (g ∷ t) (g ∷ u) a b → Repeats R Stuck g t u (each read a) (each read b)) → (o p : Option (A × List ℕ)) → read r ≡ o → read s ≡ p → Step R Stuck g t u r o p → Repeats R Stuck g t u (each read r) (each read s)
+    by : ((a b : List ℕ) → length a ≤ n → P a → Along (g ∷ t) (g ∷ u) a b
+        → Repeats R Stuck g t u (each read a) (each read b)) → (o p : Option (A × List ℕ))
+        → read r ≡ o → read s ≡ p → Step R Stuck g t u r o p
+        → Repeats R Stuck g t u (each read r) (each read s)
     by more None None e f k = rw (each-none read r e, each-none read s f) (inr (inr (tt, h)))
     by more None (Some y) e f k = rw (each-none read r e) (inr (inl k))
     by more (Some x) None e f k =
@@ -330,4 +473,6 @@ each-repeats {A = A} P R Stuck g t u read takes keeps steps (suc n) r s l p h = 
         let e1 : each read r ≡ followed_by x.0 (each read x.1) = each-some read takes r x.1 x.0 e in
         let f1 : each read s ≡ followed_by y.0 (each read y.1) = each-some read takes s y.1 y.0 f in
         let less : length x.1 < length r = took read takes r x.1 x.0 e in
-        rw (e1, f1) (repeats-more R Stuck g t u x.0 y.0 (each read x.1) (each read y.1) k.0 (more x.1 y.1 (omega arith) (keeps r x.1 x.0 p e) k.1))
+        rw (e1, f1)
+        (repeats-more R Stuck g t u x.0 y.0 (each read x.1) (each read y.1) k.0
+        (more x.1 y.1 (omega arith) (keeps r x.1 x.0 p e) k.1))

@@ -24,16 +24,48 @@ use Rattle.simplecss_text.specs.Skipped.{Skip, faulty, unknown_class, refused_se
 pub skips_of_texts : (edition : Edition) →
     (skipped edition (codes "a{b:c}") ≡ [])
     × (skipped edition (codes "a{ }b{/**/}c{ b:c; }") ≡ [])
-    × (skipped edition (codes "a{ /* }b") ≡ record { from = codes "/* }b"; after = []; why = open_comment } ∷ [])
-    × (skipped edition (codes "a, :x y, b {}") ≡ record { from = codes ":x y, b {}"; after = codes "{}"; why = refused_selector (unknown_class (codes "x")) } ∷ [])
-    × (skipped edition (codes " @m x; /* y") ≡ record { from = codes "@m x; /* y"; after = codes " /* y"; why = at_rule (Some (codes "m")) } ∷ record { from = codes "/* y"; after = []; why = open_comment } ∷ [])
-    × (skipped edition (codes "a{b:c; d e;f:g}h{}") ≡ record { from = codes "d e;f:g}h{}"; after = codes "}h{}"; why = broken_declaration } ∷ [])
+    × (skipped edition (codes "a{ /* }b") ≡ record
+    { from = codes "/* }b"; after = []; why = open_comment } ∷ [])
+    × (skipped edition (codes "a, :x y, b {}") ≡ record {
+      from = codes ":x y, b {}";
+      after = codes "{}";
+      why = refused_selector
+          (unknown_class (codes "x"));
+    } ∷ [])
+    × (skipped edition (codes " @m x; /* y") ≡ record
+    { from = codes "@m x; /* y"; after = codes " /* y"; why = at_rule (Some (codes "m")) } ∷
+    record { from = codes "/* y"; after = []; why = open_comment } ∷ [])
+    × (skipped edition (codes "a{b:c; d e;f:g}h{}") ≡ record
+    { from = codes "d e;f:g}h{}"; after = codes "}h{}"; why = broken_declaration } ∷ [])
     × (map (λ s. s.after) (skipped edition (codes ":x,a{b:c}")) ≡ codes ",a{b:c}" ∷ [])
-    × (map (λ s. s.after) (skipped edition (codes "a < b, c {d}e{}")) ≡ codes "{d}e{}" ∷ codes "}e{}" ∷ [])
-    × (skipped edition (codes ", { }") ≡ record { from = codes ", { }"; after = codes " { }"; why = leading_comma } ∷ record { from = codes "{ }"; after = codes "{ }"; why = refused_selector (faulty (codes " { }") SelectorMissing) } ∷ [])
-    × (skipped edition (codes "a/x {}") ≡ record { from = codes "/x {}"; after = codes "{}"; why = after_selector } ∷ [])
+    × (map (λ s. s.after) (skipped edition (codes "a < b, c {d}e{}")) ≡ codes "{d}e{}" ∷ codes
+    "}e{}" ∷ [])
+    × (skipped edition (codes ", { }") ≡ record
+    { from = codes ", { }"; after = codes " { }"; why = leading_comma } ∷ record {
+      from = codes "{ }";
+      after = codes "{ }";
+      why = refused_selector
+          (faulty (codes " { }") SelectorMissing);
+    } ∷ [])
+    × (skipped edition (codes "a/x {}") ≡ record
+    { from = codes "/x {}"; after = codes "{}"; why = after_selector } ∷ [])
     × (skipped edition (codes "a{}b ") ≡ record { from = []; after = []; why = missing_block } ∷ [])
-    × (skipped edition (codes "a{ }}{b}}c{}") ≡ record { from = codes "}{b}}c{}"; after = codes "{b}}c{}"; why = extra_brace } ∷ record { from = codes "{b}}c{}"; after = codes "{b}}c{}"; why = refused_selector (faulty (codes "{b}}c{}") SelectorMissing) } ∷ record { from = codes "b}}c{}"; after = codes "}}c{}"; why = broken_declaration } ∷ record { from = codes "}c{}"; after = codes "c{}"; why = extra_brace } ∷ [])
-unfolding each position comment blank gap past_name_chars name string_or_name attribute_operator attribute_after lang_after pseudo_class_after named_token next_kind solid piece ending sequence_from chars encode trim_start trim_end reads part parts next_block rule_set at_rule_rest statement statements block block_end word past_number term value importance trailing declaration declarations refusal selector_skips part_skips skips_along parts_skips block_skips next_block_skips rule_set_skips statement_skips skipped
-skips_of_texts first_edition = (refl, refl, refl, refl, refl, refl, refl, refl, refl, refl, refl, refl)
-skips_of_texts second_edition = (refl, refl, refl, refl, refl, refl, refl, refl, refl, refl, refl, refl)
+    × (skipped edition (codes "a{ }}{b}}c{}") ≡ record
+    { from = codes "}{b}}c{}"; after = codes "{b}}c{}"; why = extra_brace } ∷ record {
+      from = codes "{b}}c{}";
+      after = codes "{b}}c{}";
+      why = refused_selector
+          (faulty (codes "{b}}c{}") SelectorMissing);
+    } ∷ record
+    { from = codes "b}}c{}"; after = codes "}}c{}"; why = broken_declaration } ∷ record
+    { from = codes "}c{}"; after = codes "c{}"; why = extra_brace } ∷ [])
+unfolding each position comment blank gap past_name_chars name string_or_name attribute_operator
+    attribute_after lang_after pseudo_class_after named_token next_kind solid piece ending
+    sequence_from chars encode trim_start trim_end reads part parts next_block rule_set at_rule_rest
+    statement statements block block_end word past_number term value importance trailing declaration
+    declarations refusal selector_skips part_skips skips_along parts_skips block_skips
+    next_block_skips rule_set_skips statement_skips skipped
+skips_of_texts first_edition =
+    (refl, refl, refl, refl, refl, refl, refl, refl, refl, refl, refl, refl)
+skips_of_texts second_edition =
+    (refl, refl, refl, refl, refl, refl, refl, refl, refl, refl, refl, refl)
