@@ -1,13 +1,16 @@
 /* simplecss.h: CSS 2.1 selectors and style sheets, and which rules match the elements of a tree.
  *
  * A text is a pointer and a length in bytes, in UTF-8, and needs no zero byte at its end. A pointer
- * is never null, also where the length is 0.
+ * is never null, also where the length or the count is 0.
  *
  * Several texts of one style sheet are passed as one buffer that has them one after another, and an
  * array of where each ends. The ends do not fall, and the last is the length of the buffer.
  *
- * A tree is a text with a line for each element, in document order, of fields between TABs: the
- * depth (0 for a root), the name, and `key=value` for each attribute.
+ * A tree is three arrays: its elements in document order, the bytes of all its strings one after
+ * another, and where each string ends. An element's strings are its name and then, for each
+ * attribute, its key and its value; those of the first element come first. A value may be any text:
+ * empty, with TABs, newlines, `=`, control characters or zero bytes. So may a key, but no two keys of
+ * an element are equal. A name is not empty.
  *
  * Each call writes its answer to `out`, a buffer of `out_size` bytes, and returns a status:
  *
@@ -16,9 +19,18 @@
  *   any other               nothing was written; `*len` is 0
  *
  * Bytes of `out` after the answer are unchanged, and an answer has no zero byte at its end. A call
- * keeps nothing: any thread may call at any time, with buffers of its own. The library allocates by
- * malloc, realloc and free, and a call leaves nothing allocated. Do not call it from a signal
- * handler. `out`, `len` and `place` must not overlap each other or a text.
+ * whose buffer is too small does its whole work again when it is repeated: pass a buffer of a likely
+ * size first.
+ *
+ * A call keeps nothing: any thread may call at any time, with an `out`, `len` and `place` of its own;
+ * threads may share what they pass for reading. The library allocates by malloc, realloc and free, and
+ * a call leaves nothing allocated. Do not call it from a signal handler. `out`, `len` and `place` must
+ * not overlap each other or anything that is passed for reading.
+ *
+ * Time: a style sheet is read in time that grows as its texts and, to put n rules in order, as
+ * n log n. A tree is read in time that grows as its strings. Of each element those rules are tested
+ * whose id, class, name or attribute it has; a test takes no longer than the selector's components
+ * times the element's depth.
  */
 #ifndef SIMPLECSS_H
 #define SIMPLECSS_H
@@ -30,25 +42,44 @@
 extern "C" {
 #endif
 
-/* The version of this interface. */
+/* The version of this header. That of the library is what simplecss_version writes. */
 #define SIMPLECSS_VERSION "0.1.0"
 
 /* The statuses of calls. */
 #define SIMPLECSS_DONE 0u          /* the answer was written */
 #define SIMPLECSS_REFUSED 1u       /* a selector is refused, or ends are not those of texts */
-#define SIMPLECSS_TREE_FAULT 2u    /* the text of a tree has a fault, at `*place` */
+#define SIMPLECSS_TREE_FAULT 2u    /* the tree has a fault, at `*place` */
 #define SIMPLECSS_OUT_OF_MEMORY 3u /* an allocation failed */
-#define SIMPLECSS_NOT_UTF8 5u      /* a text is not UTF-8 */
+#define SIMPLECSS_NOT_UTF8 5u      /* a text is not UTF-8, or the strings of a tree are not */
 #define SIMPLECSS_TOO_SMALL 6u     /* the answer is longer than the buffer */
 
-/* Where the text of a tree has a fault. Set at SIMPLECSS_TREE_FAULT only.
- *
- * The faults: 1, the depth is no number or is too great; 2, the name is missing or empty; 3, an
- * attribute has no `=`; 4, an attribute has the key of an earlier one. Lines begin at 1. */
+/* An element of a tree. The depth of a root is 0, and that of any other element is one more than its
+ * parent's. So the depth of the first element is 0, and that of another at most the depth of the
+ * element before it and one more. */
+typedef struct simplecss_element {
+    size_t depth;      /* how many ancestors the element has */
+    size_t attributes; /* how many attributes it has */
+} simplecss_element;
+
+/* The faults of a tree. */
+#define SIMPLECSS_BAD_DEPTH 1u    /* the depth is greater than it may be */
+#define SIMPLECSS_EMPTY_NAME 2u   /* the name is empty */
+#define SIMPLECSS_BAD_STRINGS 3u  /* a string of the element is missing: there are too few ends, or an
+                                     end is less than the one before, greater than `strings_len` or
+                                     not between two characters. At one more than the number of
+                                     elements: there are strings, or bytes, that no element has */
+#define SIMPLECSS_REPEATED_KEY 4u /* two attributes have one key */
+
+/* Where a tree has a fault: the first fault of its first faulty element, in the order of these numbers
+ * but for the name, which is tested after the strings. Set at SIMPLECSS_TREE_FAULT only. Elements are
+ * numbered from 1. */
 typedef struct simplecss_place {
     uint32_t fault;
-    size_t line;
+    size_t element;
 } simplecss_place;
+
+/* Writes the version of the library, as "0.1.0". */
+uint32_t simplecss_version(uint8_t *out, size_t out_size, size_t *len);
 
 /* Writes the printed selector of a text, a TAB, its specificity as three numbers with commas between
  * them, and a newline. Reading stops before `,` and `{`. */
@@ -83,17 +114,27 @@ uint32_t simplecss_rules(const uint8_t *texts, size_t texts_len,
 uint32_t simplecss_skipped(const uint8_t *text, size_t text_len,
                            uint8_t *out, size_t out_size, size_t *len);
 
+/* The next four calls match elements. `:first-child` matches an element without a previous sibling, a
+ * first root too. `:lang(x)` tests the attribute `lang` of the element or of its nearest ancestor that
+ * has one. `:link`, `:visited`, `:hover`, `:active` and `:focus` match no element. Names, keys and
+ * values are compared byte by byte. The words of a value, of which `.a` and `[k~=a]` test one, are what
+ * spaces part: where other white space of a `class` is to part words too, replace it by spaces. */
+
 /* Writes a line for each element of a tree: its number, a colon, the number of each rule that matches
  * it after a space, and a newline. Elements and rules are numbered from 1. */
 uint32_t simplecss_match(const uint8_t *texts, size_t texts_len,
                          const size_t *ends, size_t ends_count,
-                         const uint8_t *tree, size_t tree_len,
+                         const simplecss_element *elements, size_t elements_count,
+                         const uint8_t *strings, size_t strings_len,
+                         const size_t *string_ends, size_t string_ends_count,
                          uint8_t *out, size_t out_size, size_t *len, simplecss_place *place);
 
 /* Writes the number of each element of a tree that one of the selectors of a list matches, and a
  * newline. */
 uint32_t simplecss_select(const uint8_t *selectors, size_t selectors_len,
-                          const uint8_t *tree, size_t tree_len,
+                          const simplecss_element *elements, size_t elements_count,
+                          const uint8_t *strings, size_t strings_len,
+                          const size_t *string_ends, size_t string_ends_count,
                           uint8_t *out, size_t out_size, size_t *len, simplecss_place *place);
 
 /* Writes a line for each element of a tree: its number, a colon, the value of the declaration that
@@ -101,7 +142,9 @@ uint32_t simplecss_select(const uint8_t *selectors, size_t selectors_len,
  * newlines; simplecss_styles escapes them. */
 uint32_t simplecss_style(const uint8_t *texts, size_t texts_len,
                          const size_t *ends, size_t ends_count,
-                         const uint8_t *tree, size_t tree_len,
+                         const simplecss_element *elements, size_t elements_count,
+                         const uint8_t *strings, size_t strings_len,
+                         const size_t *string_ends, size_t string_ends_count,
                          const uint8_t *name, size_t name_len,
                          uint8_t *out, size_t out_size, size_t *len, simplecss_place *place);
 
@@ -110,7 +153,9 @@ uint32_t simplecss_style(const uint8_t *texts, size_t texts_len,
  * [{"name":"color","value":"red","important":false}] */
 uint32_t simplecss_styles(const uint8_t *texts, size_t texts_len,
                           const size_t *ends, size_t ends_count,
-                          const uint8_t *tree, size_t tree_len,
+                          const simplecss_element *elements, size_t elements_count,
+                          const uint8_t *strings, size_t strings_len,
+                          const size_t *string_ends, size_t string_ends_count,
                           uint8_t *out, size_t out_size, size_t *len, simplecss_place *place);
 
 #ifdef __cplusplus

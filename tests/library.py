@@ -1,6 +1,6 @@
-"""Tests the C library and the Python package: builds the library by tools/build_library, compiles the C example by the
-toolchain's clang and runs it, refuses each of its requests for memory in turn, installs into a folder, and runs the
-package's unit tests. The last line is `N passed, M failed`."""
+"""Tests the C library and the Python package: builds the library by tools/build_library, tests its calls by
+library_calls.py, compiles the C example by the toolchain's clang and runs it, refuses each request for memory of each
+call in turn, installs into a folder, and runs the package's unit tests. The last line is `N passed, M failed`."""
 
 import glob
 import os
@@ -9,9 +9,14 @@ import subprocess
 import sys
 import tempfile
 
+import library_calls
+
 TOP = os.path.dirname(os.path.dirname(os.path.abspath(__file__)))
 OUT = os.path.join(TOP, "out")
 EXPECTED = b"1:\n2: 1 2\n3: 1\n"
+# How many calls tests/library_refused.c makes, and which takes no memory.
+CALLS = 11
+VERSION_CALL = 10
 
 passed = failed = 0
 
@@ -75,26 +80,48 @@ def test_example(clang, folder, headers):
         file.write("#include <simplecss.h>\n")
     made = run([*clang, "-fsyntax-only", "-Wall", "-Werror", include, header])
     check(made.returncode == 0, "the header in C++", made.stderr.decode()[-500:])
-    return program
 
 
-def test_refused(clang, program, folder):
-    """Where a request for memory is refused, the example says so or prints all."""
+def test_refused(clang, folder, headers):
+    """Where a request for memory of a call is refused, the call says so and writes nothing, or its answer is whole."""
     shim = os.path.join(folder, "refuse.so")
-    source = os.path.join(TOP, "tests", "refuse.c")
-    made = run([clang, "-O1", "-shared", "-fPIC", "-nostdlib", "-o", shim, source])
+    made = run([clang, "-O1", "-shared", "-fPIC", "-nostdlib", "-o", shim, os.path.join(TOP, "tests", "refuse.c")])
     check(made.returncode == 0, "refuse.c")
-    statuses = []
-    for number in range(1, 200):
-        made = run([program], env={**os.environ, "LD_PRELOAD": shim, "REFUSE": str(number)})
-        is_whole = (made.returncode, made.stdout) == (0, EXPECTED)
-        is_told = (made.returncode, made.stdout) == (1, b"")
-        check(is_whole or is_told, "refused request", f"{number}: {made}")
-        statuses.append(made.returncode)
-        if statuses[-3:] == [0, 0, 0]:
-            break
-    check(1 in statuses, "a refused request shows")
-    check(statuses[-3:] == [0, 0, 0], "the requests end")
+    program = os.path.join(folder, "refused")
+    words = [clang, *(f"-isystem{path}" for path in headers), "-I" + os.path.join(folder, "include"), "-Wall", "-Werror"]
+    source = os.path.join(TOP, "tests", "library_refused.c")
+    made = run([*words, source, os.path.join(folder, "lib", "libsimplecss.a"), "-o", program])
+    check(made.returncode == 0, "library_refused.c", made.stderr.decode()[-500:])
+    if made.returncode:
+        return
+    for number in range(CALLS):
+        whole = run([program, str(number)])
+        check(whole.returncode == 0 and whole.stdout.startswith(b"0\n"), "call", f"{number}: {whole}")
+        statuses = []
+        while statuses[-3:] != [b"0", b"0", b"0"] and len(statuses) < 400:
+            refused = {"LD_PRELOAD": shim, "REFUSE": str(len(statuses) + 1), "REFUSE_MARKED": "1"}
+            made = run([program, str(number)], env={**os.environ, **refused})
+            is_right = made.returncode == 0 and made.stdout in (whole.stdout, b"3\n")
+            check(is_right, "refused request", f"call {number}, request {len(statuses) + 1}: {made}")
+            statuses.append(made.stdout[:1])
+        check(statuses[-3:] == [b"0", b"0", b"0"], "the requests end", str(number))
+        check((b"3" in statuses) == (number != VERSION_CALL), "a refused request shows", str(number))
+
+
+def test_sanitized(clang, folder, headers):
+    """The example with AddressSanitizer, where the toolchain's archive of it links."""
+    program = os.path.join(folder, "sanitized")
+    words = [clang, "-fsanitize=address", "-fno-sanitize-link-runtime", "-rdynamic", *(f"-isystem{path}" for path in headers),
+             "-I" + os.path.join(folder, "include")]
+    runtime = ["-Wl,--whole-archive", os.path.join(kit(), "c", "asan.a"), "-Wl,--no-whole-archive", "-lpthread", "-ldl", "-lm"]
+    source = os.path.join(TOP, "tests", "library_refused.c")
+    made = run([*words, source, os.path.join(folder, "lib", "libsimplecss.a"), *runtime, "-o", program])
+    if made.returncode:
+        print("library.py: AddressSanitizer does not link: " + made.stderr.decode().strip().split("\n")[-1][:200])
+        return
+    for number in range(CALLS):
+        made = run([program, str(number)])
+        check(made.returncode == 0 and b"Sanitizer" not in made.stderr, "AddressSanitizer", f"{number}: {made}")
 
 
 def test_package():
@@ -127,10 +154,12 @@ def main():
             test_install(folder)
             headers = header_folders()
             if headers:
-                program = test_example(clang, folder, headers)
-                test_refused(clang, program, folder)
+                test_example(clang, folder, headers)
+                test_refused(clang, folder, headers)
+                test_sanitized(clang, folder, headers)
             else:
                 print("library.py: the system has no C headers, so the C example was not compiled")
+        library_calls.run(check, os.path.join(OUT, "libsimplecss.so"))
         test_package()
     print(f"{passed} passed, {failed} failed")
     return 1 if failed else 0

@@ -7,18 +7,32 @@
 #include <stdlib.h>
 #include <string.h>
 
+#define COUNT(array) (sizeof(array) / sizeof((array)[0]))
+
 static const char *const texts[] = {"ul > li { color: red }", ".new { color: blue !important }"};
-static const char tree[] = "0\tul\n1\tli\tclass=new\n1\tli\n";
+
+/* <ul><li class="new"></li><li title="a&#10;b"></li></ul> */
+static const simplecss_element elements[] = {{0, 0}, {1, 1}, {1, 1}};
+static const char *const strings[] = {"ul", "li", "class", "new", "li", "title", "a\nb"};
+
+/* Puts texts one after another into a buffer, with the end of each. Returns their length. */
+static size_t put(const char *const *from, size_t count, char *buffer, size_t *ends) {
+    size_t end = 0;
+    for (size_t i = 0; i < count; i++) {
+        memcpy(buffer + end, from[i], strlen(from[i]));
+        end += strlen(from[i]);
+        ends[i] = end;
+    }
+    return end;
+}
 
 int main(void) {
     char sheet[256];
-    size_t ends[2];
-    size_t end = 0;
-    for (size_t i = 0; i < 2; i++) {
-        memcpy(sheet + end, texts[i], strlen(texts[i]));
-        end += strlen(texts[i]);
-        ends[i] = end;
-    }
+    size_t sheet_ends[COUNT(texts)];
+    size_t sheet_len = put(texts, COUNT(texts), sheet, sheet_ends);
+    char names[256];
+    size_t name_ends[COUNT(strings)];
+    size_t names_len = put(strings, COUNT(strings), names, name_ends);
 
     /* The first call asks for the length, and the second writes. */
     uint8_t *out = malloc(1);
@@ -27,8 +41,9 @@ int main(void) {
     simplecss_place place = {0, 0};
     uint32_t status = SIMPLECSS_TOO_SMALL;
     while (out != NULL) {
-        status = simplecss_match((const uint8_t *)sheet, end, ends, 2, (const uint8_t *)tree,
-                                 strlen(tree), out, size, &len, &place);
+        status = simplecss_match((const uint8_t *)sheet, sheet_len, sheet_ends, COUNT(texts),
+                                 elements, COUNT(elements), (const uint8_t *)names, names_len,
+                                 name_ends, COUNT(strings), out, size, &len, &place);
         if (status != SIMPLECSS_TOO_SMALL) {
             break;
         }
@@ -37,7 +52,7 @@ int main(void) {
         out = malloc(size);
     }
     if (out == NULL || status != SIMPLECSS_DONE) {
-        fprintf(stderr, "status %u, line %zu\n", (unsigned)status, place.line);
+        fprintf(stderr, "status %u, element %zu\n", (unsigned)status, place.element);
         free(out);
         return 1;
     }

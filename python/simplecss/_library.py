@@ -2,12 +2,14 @@
 
 from __future__ import annotations
 
+import array
 import ctypes
 import ctypes.util
 import functools
+import itertools
 import os
 from pathlib import Path
-from typing import Any, List, NamedTuple, Optional, Sequence, Tuple
+from typing import Any, Iterable, List, NamedTuple, Optional, Sequence, Tuple
 
 DONE = 0
 REFUSED = 1
@@ -17,6 +19,8 @@ NOT_UTF8 = 5
 TOO_SMALL = 6
 
 _NAME = "libsimplecss.so"
+# The type code of arrays whose items are as wide as a `size_t`.
+_SIZE = next(c for c in "QLI" if array.array(c).itemsize == ctypes.sizeof(ctypes.c_size_t))
 
 
 class LibraryError(OSError):
@@ -24,10 +28,10 @@ class LibraryError(OSError):
 
 
 class TreeFault(NamedTuple):
-    """Where the text of a tree has a fault: the number of its kind, and of the line from 1."""
+    """Where a tree has a fault: the number of its kind, and of the element from 1."""
 
     number: int
-    line: int
+    element: int
 
 
 class Answer(NamedTuple):
@@ -39,7 +43,35 @@ class Answer(NamedTuple):
 
 
 class _Place(ctypes.Structure):
-    _fields_ = [("fault", ctypes.c_uint32), ("line", ctypes.c_size_t)]
+    _fields_ = [("fault", ctypes.c_uint32), ("element", ctypes.c_size_t)]
+
+
+class _Element(ctypes.Structure):
+    _fields_ = [("depth", ctypes.c_size_t), ("attributes", ctypes.c_size_t)]
+
+
+class TreeArrays:
+    """The arrays of a tree, which a call takes as three arguments."""
+
+    def __init__(self, shapes: Sequence[int], strings: Sequence[str]) -> None:
+        """Takes the depth and the number of attributes of each element, and the strings of all.
+
+        The strings of an element are its name, and a key and a value for each attribute. A lone
+        surrogate raises `UnicodeEncodeError`.
+        """
+        texts = [string.encode("utf-8") for string in strings]
+        self._elements = (_Element * (len(shapes) // 2)).from_buffer_copy(_sizes(shapes))
+        self._strings = b"".join(texts)
+        self._ends = ends_of(texts)
+
+    def __len__(self) -> int:
+        """The number of bytes of all strings."""
+        return len(self._strings)
+
+    @property
+    def arguments(self) -> Tuple[Any, Any, Any]:
+        """The elements, the strings and their ends."""
+        return (self._elements, self._strings, self._ends)
 
 
 def library_path() -> str:
@@ -82,27 +114,30 @@ def _function(name: str) -> Any:
     return function
 
 
+def _sizes(numbers: Iterable[int]) -> "array.array[int]":
+    """Returns an array of numbers as wide as a `size_t`."""
+    return array.array(_SIZE, numbers)
+
+
 def ends_of(texts: Sequence[bytes]) -> "ctypes.Array[ctypes.c_size_t]":
     """Returns where each text ends in the buffer that has them one after another."""
-    ends = (ctypes.c_size_t * len(texts))()
-    end = 0
-    for place, text in enumerate(texts):
-        end += len(text)
-        ends[place] = end
-    return ends
+    ends = _sizes(itertools.accumulate(map(len, texts)))
+    return (ctypes.c_size_t * len(texts)).from_buffer_copy(ends)
 
 
 def call(name: str, *arguments: Any, room: int, with_place: bool = False) -> Answer:
     """Calls a function of the library.
 
-    An argument is a text or an array of ends. `room` is the length of the first buffer; a call
-    that needs a longer one is made again.
+    An argument is a text, an array of ends, or the arrays of a tree. `room` is the length of the
+    first buffer; a call that needs a longer one is made again.
     """
     function = _function(name)
     words: List[Any] = []
     for argument in arguments:
-        words.append(argument)
-        words.append(ctypes.c_size_t(len(argument)))
+        parts = argument.arguments if isinstance(argument, TreeArrays) else (argument,)
+        for part in parts:
+            words.append(part)
+            words.append(ctypes.c_size_t(len(part)))
     place = _Place()
     length = ctypes.c_size_t(0)
     tail: Tuple[Any, ...] = (ctypes.byref(place),) if with_place else ()
@@ -114,6 +149,6 @@ def call(name: str, *arguments: Any, room: int, with_place: bool = False) -> Ans
         room = length.value
     if status == OUT_OF_MEMORY:
         raise MemoryError(name)
-    fault = TreeFault(place.fault, place.line) if status == TREE_FAULT else None
+    fault = TreeFault(place.fault, place.element) if status == TREE_FAULT else None
     output = ctypes.string_at(buffer, length.value) if status == DONE else b""
     return Answer(status, output, fault)

@@ -131,7 +131,7 @@ class StyleSheet:
         self._ends = library.ends_of(self._texts)
         self._rules: Optional[Tuple[Rule, ...]] = None
 
-    def _call(self, name: str, *arguments: bytes, room: int, with_place: bool = False) -> bytes:
+    def _call(self, name: str, *arguments: Any, room: int, with_place: bool = False) -> bytes:
         answer = library.call(
             name, self._buffer, self._ends, *arguments, room=room, with_place=with_place
         )
@@ -178,8 +178,9 @@ class StyleSheet:
 
     def match(self, tree: Tree) -> List[List[int]]:
         """Returns for each element the indexes of the rules that match it, in order."""
-        text = tree._text(self._selectors)
-        output = self._call("simplecss_match", text, room=1024 + 4 * len(text), with_place=True)
+        arrays = tree._arrays(self._selectors)
+        room = 1024 + 16 * len(tree) + 4 * len(arrays)
+        output = self._call("simplecss_match", arrays, room=room, with_place=True)
         lines = output.split(b"\n")
         lines.pop()
         table = _Numbers()
@@ -191,8 +192,9 @@ class StyleSheet:
         They are in the order in which the cascade applies them: in that of their rules, and in a
         rule as they appear.
         """
-        text = tree._text(self._selectors)
-        output = self._call("simplecss_styles", text, room=1024 + 16 * len(text), with_place=True)
+        arrays = tree._arrays(self._selectors)
+        room = 1024 + 64 * len(tree) + 16 * len(arrays)
+        output = self._call("simplecss_styles", arrays, room=room, with_place=True)
         return [[_declaration(value) for value in values] for values in _lines(output)]
 
     def style(self, tree: Tree, name: str) -> List[Optional[Declaration]]:

@@ -162,7 +162,7 @@ def _local_attributes(items: Iterable[Tuple[Any, Any]]) -> Dict[str, str]:
     return found
 
 
-_SPECIAL = re.compile("[\t\n]")
+_WHITE_SPACE = re.compile("[\t\n\f\r]")
 _WHOLE_CLASS = re.compile(r"\[class\|?=")
 
 
@@ -173,8 +173,9 @@ class Tree:
         """Takes elements in document order: a parent comes before its children."""
         self._elements = list(elements)
         self._depths: List[int] = []
-        self._plain: Optional[bytes] = None
-        self._has_special = False
+        self._has_white_space = False
+        # The arrays of the tree, with the values of `class` as they are and with single spaces.
+        self._passed: Dict[bool, library.TreeArrays] = {}
         last: List[int] = []
         for place, element in enumerate(self._elements):
             self._place(place, element, last)
@@ -191,13 +192,10 @@ class Tree:
         del last[depth:]
         last.append(place)
         self._depths.append(depth)
-        if not element.name or _SPECIAL.search(element.name):
-            raise self._error(element, f"the name {element.name!r} cannot be matched")
-        for key, value in element.attributes.items():
-            if "=" in key or _SPECIAL.search(key):
-                raise self._error(element, f"the attribute {key!r} cannot be matched")
-            if _SPECIAL.search(value):
-                self._has_special = True
+        if not element.name:
+            raise self._error(element, "the name is empty")
+        if _WHITE_SPACE.search(element.attributes.get("class", "")):
+            self._has_white_space = True
 
     @staticmethod
     def _error(element: Element, reason: str) -> TreeError:
@@ -260,48 +258,27 @@ class Tree:
     def __repr__(self) -> str:
         return f"<Tree of {len(self)} elements>"
 
-    def _write(self, value_of: Callable[[Element, str, str], str]) -> bytes:
-        lines: List[str] = []
-        for depth, element in zip(self._depths, self._elements):
-            fields = [str(depth), element.name]
-            for key, value in element.attributes.items():
-                fields.append(f"{key}={value_of(element, key, value)}")
-            lines.append("\t".join(fields))
-        lines.append("")
-        try:
-            return "\n".join(lines).encode("utf-8")
-        except UnicodeEncodeError as error:
-            raise TreeError(f"a text is not Unicode: {error.reason}", None, None) from None
+    def _arrays(self, selectors: Callable[[], str]) -> library.TreeArrays:
+        """Returns the arrays of the tree, as calls of the library take them.
 
-    def _text(self, selectors: Callable[[], str]) -> bytes:
-        """Returns the text of the tree.
-
-        The text cannot hold a TAB or a newline in a value. Each is written as a character that no
-        selector has, so that each test answers as for the value itself; where a selector has a TAB
-        or a newline, such a value is refused. In `class` they part words, as a space does, unless a
-        selector compares the whole value.
+        Words of a value are parted by spaces. In `class`, other white space parts them too, unless
+        a selector compares the whole value.
         """
-        if self._plain is not None:
-            return self._plain
-        if not self._has_special:
-            self._plain = self._write(lambda element, key, value: value)
-            return self._plain
-        asked = selectors()
-        unused = [chr(code) for code in range(1, 9) if chr(code) not in asked][:2]
-        parts_class = not _WHOLE_CLASS.search(asked)
-
-        def value_of(element: Element, key: str, value: str) -> str:
-            if not _SPECIAL.search(value):
-                return value
-            if key == "class" and parts_class:
-                return _SPECIAL.sub(" ", value)
-            if _SPECIAL.search(asked) or len(unused) < 2:
-                raise self._error(
-                    element, f"the value of {key!r} has a TAB or a newline, as a selector has"
-                )
-            return value.replace("\t", unused[0]).replace("\n", unused[1])
-
-        return self._write(value_of)
+        is_parted = self._has_white_space and not _WHOLE_CLASS.search(selectors())
+        if is_parted not in self._passed:
+            shapes: List[int] = []
+            strings: List[str] = []
+            for depth, element in zip(self._depths, self._elements):
+                shapes += (depth, len(element.attributes))
+                strings.append(element.name)
+                for key, value in element.attributes.items():
+                    parts = is_parted and key == "class"
+                    strings += (key, _WHITE_SPACE.sub(" ", value) if parts else value)
+            try:
+                self._passed[is_parted] = library.TreeArrays(shapes, strings)
+            except UnicodeEncodeError as error:
+                raise TreeError(f"a text is not Unicode: {error.reason}", None, None) from None
+        return self._passed[is_parted]
 
     def select(self, selectors: str) -> List[int]:
         """Returns the indexes of the elements that one of the selectors matches, in order.
@@ -310,11 +287,10 @@ class Tree:
         """
         from ._sheet import _encode, selector_error
 
-        text = self._text(lambda: selectors)
         answer = library.call(
             "simplecss_select",
             _encode(selectors),
-            text,
+            self._arrays(lambda: selectors),
             room=1024 + 8 * len(self._elements),
             with_place=True,
         )

@@ -1,1 +1,5 @@
 pub mod Cuts
+pub mod Strings
+pub mod RepeatedKeys
+pub mod Building
+pub mod PageCalls

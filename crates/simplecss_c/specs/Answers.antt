@@ -1,8 +1,7 @@
 -- What a call leaves in its caller's memory.
 use Rattle.std.specs.Prelude.{◌≡◌, ℕ, ◌<◌, ◌≤◌, List, ◌++◌, length, drop, Result, Ok, Err}
-use Rattle.cssq_tree.specs.declared.tree.TreeFault.{TreeFault}
-use Rattle.cssq_tree.specs.declared.tree.TreeFault.TheVariants as told
-use Rattle.cssq_tree.specs.TreeText.{fault_number, fault_line}
+use Rattle.simplecss_c.specs.declared.elements.ElementFault.{ElementFault}
+use Rattle.simplecss_c.specs.Elements.{fault_number, fault_element}
 use Rattle.simplecss_c.specs.declared.answer.Failure.{Failure}
 use Rattle.simplecss_c.specs.declared.answer.Failure.TheVariants.{Refused, Tree, Memory, NotUtf8}
 use Rattle.simplecss_c.specs.declared.answer.TreePlace.{TreePlace}
@@ -28,22 +27,14 @@ abbrev pub Answers : Result (List ℕ) Failure → ℕ → List ℕ → List ℕ
 Answers (Ok bytes) status old new len = IsHandedOver bytes status old new len
 Answers (Err failure) status old new len = (status ≡ status_of failure) × (new ≡ old) × (len ≡ 0)
 
--- the number and the line of a fault
-abbrev pub place_of : TreeFault → TreePlace
-place_of fault = record { fault = fault_number fault; line = fault_line fault }
+-- the number of a fault's kind and of its element
+abbrev pub place_of : ElementFault → TreePlace
+place_of fault = record { fault = fault_number fault; element = fault_element fault }
 
--- if the failure is a fault of the tree this is its number and line; else it is unchanged
+-- if the failure is a fault of the tree this is its number and the element's; else it is unchanged
 abbrev pub IsPlaced : Result (List ℕ) Failure → TreePlace → TreePlace → Type 0
 IsPlaced (Ok bytes) old new = new ≡ old
 IsPlaced (Err Refused) old new = new ≡ old
 IsPlaced (Err (Tree fault)) old new = new ≡ place_of fault
 IsPlaced (Err Memory) old new = new ≡ old
 IsPlaced (Err NotUtf8) old new = new ≡ old
-
--- a tree that runs out of memory is a call that does
-abbrev pub tree_failure : TreeFault → Failure
-tree_failure (told.Memory line) = Memory
-tree_failure (told.BadDepth line) = Tree (told.BadDepth line)
-tree_failure (told.EmptyName line) = Tree (told.EmptyName line)
-tree_failure (told.NoEquals line) = Tree (told.NoEquals line)
-tree_failure (told.RepeatedKey line) = Tree (told.RepeatedKey line)

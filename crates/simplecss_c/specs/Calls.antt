@@ -1,25 +1,26 @@
 -- What each call must write, and when it fails.
-use Rattle.std.specs.Prelude.{◌≡◌, ◌⊎◌, ℕ, List, Option, None, Some, Result, Ok, Err}
+use Rattle.std.specs.Prelude.{◌≡◌, ◌⊎◌, ℕ, List, None, Some, Result, Ok, Err}
 use Rattle.std.specs.List.{All}
 use Rattle.std.specs.Str.{IsUtf8}
 use Rattle.simplecss.specs.Components.{Component}
 use Rattle.simplecss.specs.ThisEdition.{this_edition}
 use Rattle.simplecss.specs.Statements.{StyleRule}
 use Rattle.simplecss.specs.Sheets.{sheet}
-use Rattle.cssq_tree.specs.declared.tree.TreeFault.{TreeFault}
-use Rattle.cssq_tree.specs.TreeText.{Row, tree_of}
-use Rattle.cssq.specs.declared.runs.Asked.{Asked}
-use Rattle.cssq.specs.PageRuns.{IsToldText}
+use Rattle.simplecss_tree.specs.Rows.{Row}
 use Rattle.cssq.specs.SelectorRuns.{selector_in, selector_line}
 use Rattle.cssq.specs.SheetRuns.{sheet_output}
-use Rattle.cssq.specs.MatchRuns.{IsMatchText}
-use Rattle.cssq.specs.StyleRuns.{IsStyleText}
+use Rattle.simplecss_c.specs.declared.calls.Passed.{Passed as SeenPassed}
+use Rattle.simplecss_c.specs.declared.elements.ElementFault.{ElementFault}
+use Rattle.simplecss_c.specs.declared.elements.TreeElement.{TreeElement}
 use Rattle.simplecss_c.specs.declared.answer.Failure.{Failure}
 use Rattle.simplecss_c.specs.declared.answer.Failure.TheVariants.{Refused, Tree, Memory, NotUtf8}
+use Rattle.simplecss_c.specs.declared.pages.Asked.TheVariants.{Numbers}
 use Rattle.simplecss_c.specs.Texts.{texts_in}
+use Rattle.simplecss_c.specs.Elements.{tree_of}
+use Rattle.simplecss_c.specs.Lines.{AreLinesOf, AreWinnerLines}
 
 -- A failure has its own reason. Any call may be out of memory.
-abbrev pub FailsFor : Type 0 → (TreeFault → Type 0) → Type 0 → Failure → Type 0
+abbrev pub FailsFor : Type 0 → (ElementFault → Type 0) → Type 0 → Failure → Type 0
 FailsFor IsRefused IsFaulty IsBroken Refused = IsRefused
 FailsFor IsRefused IsFaulty IsBroken (Tree fault) = IsFaulty fault
 FailsFor IsRefused IsFaulty IsBroken Memory = Unit {0}
@@ -57,30 +58,40 @@ IsSheetCall IsText buffer ends (Err failure) =
 abbrev pub IsPrinted : List StyleRule → List ℕ → Type 0
 IsPrinted rules bytes = bytes ≡ sheet_output rules
 
--- what is written for the sheet of the texts and a tree, or why nothing is
-abbrev pub IsPageCall : (List StyleRule → List Row → List ℕ → Type 0) → List ℕ → List ℕ → List ℕ
-    → Result (List ℕ) Failure → Type 0
-IsPageCall IsText buffer ends tree (Ok bytes) =
-    (texts : List (List ℕ)) × (rows : List Row) × HasTexts buffer ends texts × IsUtf8 tree
-    × (tree_of tree ≡ Ok rows) × IsText (sheet this_edition texts) rows bytes
-IsPageCall IsText buffer ends tree (Err failure) =
-    FailsFor (HasBadEnds buffer ends) (λ fault. tree_of tree ≡ Err fault)
-    (IsBrokenUtf8 buffer ends ⊎ ¬ (IsUtf8 tree)) failure
+-- A tree as a caller passes it: its elements, a buffer of their strings, and where each ends.
+pub record Passed : Type 0 where
+  pub elements : List TreeElement
+  pub strings : List ℕ
+  pub ends : List ℕ
 
--- the answer for each element
-abbrev pub IsAskedCall : Asked → List ℕ → List ℕ → List ℕ → Result (List ℕ) Failure → Type 0
-IsAskedCall asked = IsPageCall (IsToldText asked)
+-- what contracts see of it
+abbrev pub passed_of : SeenPassed → Passed
+passed_of p = record { elements = p.elements.now; strings = p.strings.now; ends = p.ends.now }
+
+-- the tree that is passed, or its fault
+abbrev pub passed_tree : Passed → Result (List Row) ElementFault
+passed_tree passed = tree_of passed.elements passed.strings passed.ends
+
+-- what is written for the sheet of the texts and a tree, or why nothing is
+abbrev pub IsPageCall : (List StyleRule → List Row → List ℕ → Type 0) → List ℕ → List ℕ → Passed
+    → Result (List ℕ) Failure → Type 0
+IsPageCall IsText buffer ends passed (Ok bytes) =
+    (texts : List (List ℕ)) × (rows : List Row) × HasTexts buffer ends texts × IsUtf8 passed.strings
+    × (passed_tree passed ≡ Ok rows) × IsText (sheet this_edition texts) rows bytes
+IsPageCall IsText buffer ends passed (Err failure) =
+    FailsFor (HasBadEnds buffer ends) (λ fault. passed_tree passed ≡ Err fault)
+    (IsBrokenUtf8 buffer ends ⊎ ¬ (IsUtf8 passed.strings)) failure
 
 -- which rules match each element
-abbrev pub IsMatchCall : List ℕ → List ℕ → List ℕ → Result (List ℕ) Failure → Type 0
-IsMatchCall = IsPageCall IsMatchText
+abbrev pub IsMatchCall : List ℕ → List ℕ → Passed → Result (List ℕ) Failure → Type 0
+IsMatchCall = IsPageCall (AreLinesOf Numbers)
 
 -- what wins for a name on each element; the name is UTF-8
-abbrev pub IsStyleCall : List ℕ → List ℕ → List ℕ → List ℕ → Result (List ℕ) Failure → Type 0
-IsStyleCall buffer ends tree name (Err NotUtf8) =
-    IsPageCall (IsStyleText name) buffer ends tree (Err NotUtf8) ⊎ ¬ (IsUtf8 name)
-IsStyleCall buffer ends tree name (Err Refused) = HasBadEnds buffer ends
-IsStyleCall buffer ends tree name (Err Memory) = Unit {0}
-IsStyleCall buffer ends tree name (Err (Tree fault)) = tree_of tree ≡ Err fault
-IsStyleCall buffer ends tree name (Ok bytes) =
-    IsUtf8 name × IsPageCall (IsStyleText name) buffer ends tree (Ok bytes)
+abbrev pub IsStyleCall : List ℕ → List ℕ → Passed → List ℕ → Result (List ℕ) Failure → Type 0
+IsStyleCall buffer ends passed name (Err NotUtf8) =
+    IsPageCall (AreWinnerLines name) buffer ends passed (Err NotUtf8) ⊎ ¬ (IsUtf8 name)
+IsStyleCall buffer ends passed name (Err Refused) = HasBadEnds buffer ends
+IsStyleCall buffer ends passed name (Err Memory) = Unit {0}
+IsStyleCall buffer ends passed name (Err (Tree fault)) = passed_tree passed ≡ Err fault
+IsStyleCall buffer ends passed name (Ok bytes) =
+    IsUtf8 name × IsPageCall (AreWinnerLines name) buffer ends passed (Ok bytes)

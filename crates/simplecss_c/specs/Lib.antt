@@ -1,4 +1,6 @@
 pub mod Outcomes
 pub mod Texts
+pub mod Elements
 pub mod Answers
+pub mod Lines
 pub mod Calls

@@ -2,11 +2,12 @@
 
 ghost use Rattle.std.specs.Prelude.{◌≡◌, Ok, Err};
 ghost use Rattle.std.specs.Prelude.{string_bytes};
-ghost use Rattle.simplecss_c.specs.Answers.{status_of, IsHandedOver, Answers, IsPlaced, tree_failure};
+ghost use Rattle.simplecss_c.specs.Answers.{status_of, IsHandedOver, Answers, IsPlaced};
 ghost use Rattle.simplecss_c.specs.Outcomes.{outcome_of};
 ghost use Rattle.simplecss_c.specs.declared.answer.Failure.TheVariants.{Memory};
 
-use cssq::tree::TreeFault;
+use crate::elements::ElementFault;
+use simplecss_tree::TreeError;
 use std::alloc::{AllocError, AllocFailed};
 
 /// The status of a call that has written its answer.
@@ -19,8 +20,8 @@ const TOO_SMALL: u32 = 6;
 pub enum Failure {
     /// A text is no selector, or the ends are not those of texts in their buffer.
     Refused,
-    /// The text of a tree has a fault.
-    Tree(TreeFault),
+    /// A tree has a fault.
+    Tree(ElementFault),
     /// An allocation failed.
     Memory,
     /// A text is not UTF-8.
@@ -57,29 +58,27 @@ impl<T: Drop> From<AllocFailed<T>> for Failure {
     }
 }
 
-impl From<TreeFault> for Failure {
-    ghost from_gives = { λ fault failure. failure ≡ tree_failure fault };
+/// Each element is added after its parent, so that adding one fails only if an allocation fails.
+impl From<TreeError> for Failure {
+    ghost from_gives = { λ _ failure. failure ≡ Memory };
 
-    fn from(fault: TreeFault) -> Failure {
-        match fault {
-            TreeFault::Memory(_) => Failure::Memory,
-            other => Failure::Tree(other),
-        }
+    fn from(_error: TreeError) -> Failure {
+        Failure::Memory
     }
 }
 
-/// Where the text of a tree has a fault.
+/// Where a tree has a fault.
 #[repr(C)]
 pub struct TreePlace {
     /// The number of the kind of fault.
     pub fault: u32,
-    /// The number of the line, from 1.
-    pub line: usize,
+    /// The number of the element, from 1.
+    pub element: usize,
 }
 
 /// Copies all bytes to the front of the buffer, or nothing where they are too many for it, and sets
 /// the length to their number.
-fn copy_whole(bytes: &[u8], out: &mut [u8], len: &mut usize) -> u32
+pub fn copy_whole(bytes: &[u8], out: &mut [u8], len: &mut usize) -> u32
     ensures { IsHandedOver bytes.now result out.old out.new len.new }
 {
     *len = bytes.len();
@@ -108,7 +107,7 @@ pub fn set_place(outcome: &Result<String, Failure>, place: &mut TreePlace)
     ensures { IsPlaced (outcome_of outcome.now) place.old place.new }
 {
     if let Err(Failure::Tree(fault)) = outcome {
-        place.fault = u32::from(fault.number());
-        place.line = fault.line();
+        place.fault = fault.number();
+        place.element = fault.element();
     }
 }

@@ -1,26 +1,25 @@
 //! What each call answers.
 
-ghost use Rattle.std.specs.Prelude.{◌≡◌, ◌∷◌, [], List, ℕ, MatchResult, Ok, Err, string_bytes};
-ghost use Rattle.simplecss.specs.Sheets.{sheet};
-ghost use Rattle.simplecss.specs.SeenRules.{rules_of};
-ghost use Rattle.simplecss.specs.ThisEdition.{this_edition};
-ghost use Rattle.cssq.specs.PageRuns.{IsToldText};
+ghost use Rattle.std.specs.Prelude.{◌≡◌, MatchResult, string_bytes};
+ghost use Rattle.simplecss.specs.SeenRules.{rules_in};
 ghost use Rattle.simplecss_c.specs.Outcomes.{outcome_of};
+ghost use Rattle.simplecss_c.specs.Lines.{AreLinesOf, AreWinnerLines};
 ghost use Rattle.simplecss_c.specs.Calls.{IsSelectorCall, IsSheetCall, IsPrinted, IsMatchCall};
-ghost use Rattle.simplecss_c.specs.Calls.{IsStyleCall, IsAskedCall};
+ghost use Rattle.simplecss_c.specs.Calls.{IsPageCall, IsStyleCall, passed_of};
 
 use crate::answer::Failure;
+use crate::elements::{TreeElement, read_tree};
 use crate::lists::selectors_of;
+use crate::pages::{Asked, lines, winner_lines};
 use crate::texts::{text_of, texts_of};
 use crate::{json, lists};
 use cssq::cascade::best_places;
-use cssq::runs::{Asked, page_lines, selector_line, sheet_text};
-use cssq::tree::Page;
+use cssq::runs::{selector_line, sheet_text};
 use log::sink::Discard;
 use simplecss::{Declaration, Rule, RuleIndex, Selector, StyleSheet};
 use simplecss_faults::find_faults;
+use simplecss_tree::Tree;
 use std::alloc::{AllocError, Global};
-use std::fmt::Write as _;
 
 /// The line of a selector.
 pub fn selector(alloc: Global, text: &[u8]) -> Result<String, Failure>
@@ -42,24 +41,6 @@ pub fn sheet(alloc: Global, buffer: &[u8], ends: &[usize]) -> Result<String, Fai
     let sheet = StyleSheet::parse_all(&Discard, alloc, &texts)?;
     let text = sheet_text(alloc, &sheet)?;
     Ok(text)
-}
-
-/// What is asked of the elements of a tree.
-fn page_text(
-    alloc: Global,
-    asked: Asked<'_>,
-    sheet: &StyleSheet<'_>,
-    page: &Page<'_>,
-) -> Result<String, Failure>
-    ensures { MatchResult result
-        (λ text. IsToldText asked.entry (rules_of sheet.now.rules.items) page.now (string_bytes text))
-        (λ failure. failure ≡ Failure.Memory) }
-{
-    let index = RuleIndex::new(alloc, &sheet.rules)?;
-    match page_lines(alloc, asked, &index, &sheet.rules, page) {
-        Ok(text) => Ok(text),
-        Err(_) => Err(Failure::Memory),
-    }
 }
 
 /// The lines of the rules of a sheet, in JSON.
@@ -86,29 +67,22 @@ pub fn refusal(alloc: Global, text: &[u8]) -> Result<String, Failure> {
     lists::refusal(alloc, text_of(text)?)
 }
 
-/// The numbers of the elements of a page that a selector matches.
-fn selected(alloc: Global, selectors: &[Rule<'_>], page: &Page<'_>) -> Result<String, Failure> {
-    let index = RuleIndex::new(alloc, selectors)?;
-    let mut places = Vec::new(alloc);
-    let mut out = String::new(alloc);
-    for place in 0..page.len() {
-        let Some(element) = page.node(place) else {
-            break;
-        };
-        index.matching(selectors, &element, &mut places)?;
-        if !places.is_empty() {
-            let number = place + 1;
-            writeln!(out, "{number}")?;
-        }
-    }
-    Ok(out)
+/// A tree as a caller passes it.
+#[derive(Clone, Copy)]
+pub struct Passed<'t> {
+    /// Its elements, in document order.
+    pub elements: &'t [TreeElement],
+    /// The bytes of all its strings, one after another.
+    pub strings: &'t [u8],
+    /// Where each string ends.
+    pub ends: &'t [usize],
 }
 
 /// The numbers of the elements of a tree that one of the selectors of a list matches.
-pub fn select(alloc: Global, text: &[u8], tree: &[u8]) -> Result<String, Failure> {
+pub fn select(alloc: Global, text: &[u8], tree: Passed<'_>) -> Result<String, Failure> {
     let selectors = selectors_of(alloc, text_of(text)?)?;
-    let page = Page::read(alloc, text_of(tree)?)?;
-    selected(alloc, &selectors, &page)
+    let tree = read_tree(alloc, tree.elements, tree.strings, tree.ends)?;
+    lines(alloc, Asked::Selected, &selectors, &tree)
 }
 
 /// The declarations of the rules at the places, in order.
@@ -142,12 +116,12 @@ fn winners_of<'a>(
 }
 
 /// The lines of the winners on each element of a page, in JSON.
-fn winner_lines(alloc: Global, rules: &[Rule<'_>], page: &Page<'_>) -> Result<String, Failure> {
+fn json_lines(alloc: Global, rules: &[Rule<'_>], tree: &Tree<'_>) -> Result<String, Failure> {
     let index = RuleIndex::new(alloc, rules)?;
     let mut places = Vec::new(alloc);
     let mut out = String::new(alloc);
-    for place in 0..page.len() {
-        let Some(element) = page.node(place) else {
+    for place in 0..tree.len() {
+        let Some(element) = tree.node(place) else {
             break;
         };
         index.matching(rules, &element, &mut places)?;
@@ -164,37 +138,53 @@ pub fn styles(
     alloc: Global,
     buffer: &[u8],
     ends: &[usize],
-    tree: &[u8],
+    tree: Passed<'_>,
 ) -> Result<String, Failure> {
     let texts = texts_of(alloc, buffer, ends)?;
-    let tree = text_of(tree)?;
+    let tree = read_tree(alloc, tree.elements, tree.strings, tree.ends)?;
     let sheet = StyleSheet::parse_all(&Discard, alloc, &texts)?;
-    let page = Page::read(alloc, tree)?;
-    winner_lines(alloc, &sheet.rules, &page)
+    json_lines(alloc, &sheet.rules, &tree)
 }
 
-/// What is asked of the elements of a tree, by the sheet of the texts.
-fn page_answer(
-    alloc: Global,
-    asked: Asked<'_>,
-    buffer: &[u8],
-    ends: &[usize],
-    tree: &[u8],
-) -> Result<String, Failure>
-    ensures { IsAskedCall asked.entry buffer.now ends.now tree.now (outcome_of result) }
+/// The numbers of the rules of a sheet that match each element of a tree.
+fn match_lines(alloc: Global, sheet: &StyleSheet<'_>, tree: &Tree<'_>) -> Result<String, Failure>
+    ensures { MatchResult result
+        (λ text. AreLinesOf Asked.Numbers (rules_in sheet.now) tree.now (string_bytes text))
+        (λ failure. failure ≡ Failure.Memory) }
 {
-    let texts = texts_of(alloc, buffer, ends)?;
-    let tree = text_of(tree)?;
-    let sheet = StyleSheet::parse_all(&Discard, alloc, &texts)?;
-    let page = Page::read(alloc, tree)?;
-    page_text(alloc, asked, &sheet, &page)
+    lines(alloc, Asked::Numbers, &sheet.rules, tree)
 }
 
 /// The numbers of the rules that match each element of a tree.
-pub fn matches(alloc: Global, buffer: &[u8], ends: &[usize], tree: &[u8]) -> Result<String, Failure>
-    ensures { IsMatchCall buffer.now ends.now tree.now (outcome_of result) }
+pub fn matches(
+    alloc: Global,
+    buffer: &[u8],
+    ends: &[usize],
+    tree: Passed<'_>,
+) -> Result<String, Failure>
+    ensures { IsMatchCall buffer.now ends.now (passed_of tree.entry) (outcome_of result) }
 {
-    page_answer(alloc, Asked::Rules, buffer, ends, tree)
+    let texts = texts_of(alloc, buffer, ends)?;
+    let tree = read_tree(alloc, tree.elements, tree.strings, tree.ends)?;
+    let sheet = StyleSheet::parse_all(&Discard, alloc, &texts)?;
+    match_lines(alloc, &sheet, &tree)
+}
+
+/// What wins for a name on each element of a tree, by the sheet of the texts.
+fn style_text(
+    alloc: Global,
+    buffer: &[u8],
+    ends: &[usize],
+    tree: Passed<'_>,
+    name: &str,
+) -> Result<String, Failure>
+    ensures { IsPageCall (AreWinnerLines name.now) buffer.now ends.now (passed_of tree.entry)
+        (outcome_of result) }
+{
+    let texts = texts_of(alloc, buffer, ends)?;
+    let tree = read_tree(alloc, tree.elements, tree.strings, tree.ends)?;
+    let sheet = StyleSheet::parse_all(&Discard, alloc, &texts)?;
+    winner_lines(alloc, &sheet, &tree, name)
 }
 
 /// What wins for a name on each element of a tree.
@@ -202,11 +192,11 @@ pub fn style(
     alloc: Global,
     buffer: &[u8],
     ends: &[usize],
-    tree: &[u8],
+    tree: Passed<'_>,
     name: &[u8],
 ) -> Result<String, Failure>
-    ensures { IsStyleCall buffer.now ends.now tree.now name.now (outcome_of result) }
+    ensures { IsStyleCall buffer.now ends.now (passed_of tree.entry) name.now (outcome_of result) }
 {
     let name = text_of(name)?;
-    page_answer(alloc, Asked::Winner(name), buffer, ends, tree)
+    style_text(alloc, buffer, ends, tree, name)
 }

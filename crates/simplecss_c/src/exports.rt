@@ -7,13 +7,26 @@
 
 ghost use Rattle.std.specs.Prelude.{◌≡◌, List, ℕ, Result};
 ghost use Rattle.simplecss_c.specs.declared.answer.Failure.{Failure as SeenFailure};
-ghost use Rattle.simplecss_c.specs.Answers.{Answers, IsPlaced};
+ghost use Rattle.simplecss_c.specs.Answers.{Answers, IsHandedOver, IsPlaced};
 ghost use Rattle.simplecss_c.specs.Calls.{IsSelectorCall, IsSheetCall, IsPrinted, IsMatchCall};
 ghost use Rattle.simplecss_c.specs.Calls.{IsStyleCall};
 
-use crate::answer::{TreePlace, hand_over, set_place};
+use crate::answer::{TreePlace, copy_whole, hand_over, set_place};
 use crate::calls;
+use crate::calls::Passed;
+use crate::elements::TreeElement;
 use std::alloc::Global;
+
+/// The version of the library. The changelog begins with it.
+const VERSION: &str = "0.1.0";
+
+/// Writes the version of the library.
+#[unsafe(no_mangle)]
+pub extern "C" fn simplecss_version(out: &mut [u8], len: &mut usize) -> u32
+    ensures { IsHandedOver VERSION.now result out.old out.new len.new }
+{
+    copy_whole(VERSION.as_bytes(), out, len)
+}
 
 /// Writes the printed selector of a text, a TAB, its specificity as three numbers with commas
 /// between them, and a newline.
@@ -108,15 +121,23 @@ pub extern "C" fn simplecss_match(
     alloc: Global,
     texts: &[u8],
     ends: &[usize],
-    tree: &[u8],
+    elements: &[TreeElement],
+    strings: &[u8],
+    string_ends: &[usize],
     out: &mut [u8],
     len: &mut usize,
     place: &mut TreePlace,
 ) -> u32
-    ensures { (outcome : Result (List ℕ) SeenFailure) × IsMatchCall texts.now ends.now tree.now outcome
+    ensures { (outcome : Result (List ℕ) SeenFailure) × IsMatchCall texts.now ends.now
+        (record { elements = elements.now; strings = strings.now; ends = string_ends.now }) outcome
         × Answers outcome result out.old out.new len.new
         × IsPlaced outcome place.old place.new }
 {
+    let tree = Passed {
+        elements,
+        strings,
+        ends: string_ends,
+    };
     let outcome = calls::matches(alloc, texts, ends, tree);
     set_place(&outcome, place);
     hand_over(outcome, out, len)
@@ -128,7 +149,9 @@ pub extern "C" fn simplecss_match(
 pub extern "C" fn simplecss_select(
     alloc: Global,
     selectors: &[u8],
-    tree: &[u8],
+    elements: &[TreeElement],
+    strings: &[u8],
+    string_ends: &[usize],
     out: &mut [u8],
     len: &mut usize,
     place: &mut TreePlace,
@@ -137,6 +160,11 @@ pub extern "C" fn simplecss_select(
         × Answers outcome result out.old out.new len.new
         × IsPlaced outcome place.old place.new }
 {
+    let tree = Passed {
+        elements,
+        strings,
+        ends: string_ends,
+    };
     let outcome = calls::select(alloc, selectors, tree);
     set_place(&outcome, place);
     hand_over(outcome, out, len)
@@ -149,16 +177,24 @@ pub extern "C" fn simplecss_style(
     alloc: Global,
     texts: &[u8],
     ends: &[usize],
-    tree: &[u8],
+    elements: &[TreeElement],
+    strings: &[u8],
+    string_ends: &[usize],
     name: &[u8],
     out: &mut [u8],
     len: &mut usize,
     place: &mut TreePlace,
 ) -> u32
-    ensures { (outcome : Result (List ℕ) SeenFailure) × IsStyleCall texts.now ends.now tree.now name.now outcome
+    ensures { (outcome : Result (List ℕ) SeenFailure) × IsStyleCall texts.now ends.now
+        (record { elements = elements.now; strings = strings.now; ends = string_ends.now }) name.now outcome
         × Answers outcome result out.old out.new len.new
         × IsPlaced outcome place.old place.new }
 {
+    let tree = Passed {
+        elements,
+        strings,
+        ends: string_ends,
+    };
     let outcome = calls::style(alloc, texts, ends, tree, name);
     set_place(&outcome, place);
     hand_over(outcome, out, len)
@@ -171,7 +207,9 @@ pub extern "C" fn simplecss_styles(
     alloc: Global,
     texts: &[u8],
     ends: &[usize],
-    tree: &[u8],
+    elements: &[TreeElement],
+    strings: &[u8],
+    string_ends: &[usize],
     out: &mut [u8],
     len: &mut usize,
     place: &mut TreePlace,
@@ -180,6 +218,11 @@ pub extern "C" fn simplecss_styles(
         × Answers outcome result out.old out.new len.new
         × IsPlaced outcome place.old place.new }
 {
+    let tree = Passed {
+        elements,
+        strings,
+        ends: string_ends,
+    };
     let outcome = calls::styles(alloc, texts, ends, tree);
     set_place(&outcome, place);
     hand_over(outcome, out, len)

@@ -7,7 +7,9 @@
 
 mod answer;
 mod calls;
+mod elements;
 mod exports;
 mod json;
 mod lists;
+mod pages;
 mod texts;

@@ -1,0 +1,36 @@
+-- What a call over a tree answers.
+-- Serves `calls::{matches, style_text}` and `pages::push_winning`.
+use Rattle.std.proofs.Common.{◌≡◌, ℕ, ◌↔◌, List, Option, None, Some, IfSome, refl, sym, subst}
+use Rattle.std.specs.Prelude.{Result, Ok, Err, MatchResult, IsNone, string_bytes}
+use Rattle.std.specs.declared.string.String.{String}
+use Rattle.std.specs.Option.{option_map}
+use Rattle.std.specs.Str.{IsUtf8}
+use Rattle.simplecss.specs.Declarations.{StyleDeclaration}
+use Rattle.simplecss.specs.Sheets.{sheet}
+use Rattle.simplecss.specs.Statements.{StyleRule}
+use Rattle.simplecss.specs.ThisEdition.{this_edition}
+use Rattle.simplecss.specs.Trees.{Tree}
+use Rattle.simplecss_tree.specs.Rows.{Row}
+use Rattle.cssq.specs.Winners.{IsStated, Wins, IsWinner, HasNoWinner}
+use Rattle.simplecss_c.specs.declared.answer.Failure.{Failure}
+use Rattle.simplecss_c.specs.declared.answer.Failure.TheVariants.{Memory}
+use Rattle.simplecss_c.specs.Outcomes.{outcome_of}
+use Rattle.simplecss_c.specs.Calls.{HasTexts, Passed, passed_tree, IsPageCall}
+
+-- the text that is due, or want of memory
+pub page_due : {Z : Type 0} (IsText : List StyleRule → List Row → List ℕ → Type 0) (buffer ends : List ℕ) (passed : Passed) (texts : List (List ℕ)) (rows : List Row)
+    → HasTexts buffer ends texts → IsUtf8 passed.strings → passed_tree passed ≡ Ok rows
+    → (rules : List StyleRule) → rules ≡ sheet this_edition texts
+    → (r : Result (String Z) Failure) → MatchResult r (λ text. IsText rules rows (string_bytes text)) (λ failure. failure ≡ Memory)
+    → IsPageCall IsText buffer ends passed (outcome_of r)
+page_due IsText buffer ends passed texts rows has utf8 tree rules are (Ok text) due =
+    (texts, rows, has, utf8, tree, subst (λ rules. IsText rules rows (string_bytes text)) are due)
+page_due IsText buffer ends passed texts rows has utf8 tree rules are (Err failure) due =
+    subst (λ failure. IsPageCall IsText buffer ends passed (Err failure)) (sym due) tt
+
+-- what wins, or that none does
+pub wins_or_none : {Node D : Type 0} (tree : Tree Node) (n : Node) (rules : List StyleRule) (name : List ℕ) (f : D → StyleDeclaration) (r : Option D)
+    → IfSome r (λ d. IsWinner tree n name rules (f d)) → (IsNone r ↔ HasNoWinner tree n name rules)
+    → Wins (IsStated tree n rules) name (option_map f r)
+wins_or_none tree n rules name f None some none = none.0 refl
+wins_or_none tree n rules name f (Some d) some none = some

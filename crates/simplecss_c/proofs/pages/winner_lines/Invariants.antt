@@ -1,0 +1,9 @@
+use Rattle.std.proofs.Common.{string_bytes}
+use Rattle.simplecss.specs.SeenRules.{rules_in}
+use Rattle.cssq.proofs.MatchLines.{LinesSoFar}
+use Rattle.simplecss_c.specs.Lines.{IsWinnerLine}
+use Rattle.simplecss_c.proofs.pages.winner_lines.Given as goal
+
+-- the lines of the elements so far
+abbrev pub invariant-loop-place : goal.invariant-loop-place
+invariant-loop-place l = LinesSoFar (IsWinnerLine l.name (rules_in l.sheet) l.tree) l.place (string_bytes l.text)

@@ -1,0 +1,245 @@
+//! A tree as a caller passes it: its elements in document order, and all their strings in one buffer.
+
+ghost use Rattle.std.specs.Prelude.{◌≡◌, ◌+◌, ◌*◌, ◌^◌, ◌<◌, ◌≤◌, ◌++◌, ◌∷◌, [], ℕ, List, length};
+ghost use Rattle.std.specs.Prelude.{map, true, false, None, Some, Ok, Err};
+ghost use Rattle.std.specs.Prelude.{MatchOption, MatchResult, IfOk, IfErr, OnOk};
+ghost use Rattle.std.specs.List.{slice_range};
+ghost use Rattle.std.specs.Str.{IsCharBoundary, IsUtf8};
+ghost use Rattle.simplecss_c.specs.Elements.{Strings, may_end, strings_in, IsPath, limit_after};
+ghost use Rattle.simplecss_c.specs.Elements.{parent_after, element_row, repeats_key, strings_of};
+ghost use Rattle.simplecss_c.specs.Elements.{fault_in, with_element, tree_from, tree_of};
+ghost use Rattle.simplecss_c.specs.Elements.{fault_number, fault_element};
+ghost use Rattle.simplecss_c.specs.Calls.{FailsFor};
+
+use crate::answer::Failure;
+use crate::texts::text_of;
+use simplecss_tree::{Tree, TreeError};
+use std::alloc::{AllocError, Global};
+use std::collections::BTreeSet;
+
+/// An element of a tree.
+#[repr(C)]
+#[derive(Clone, Copy, Debug)]
+pub struct TreeElement {
+    /// How many ancestors the element has.
+    pub depth: usize,
+    /// How many attributes it has.
+    pub attributes: usize,
+}
+
+/// What is wrong with a tree, with the number of the element, the first being 1.
+#[derive(Clone, Copy, Debug, PartialEq)]
+pub enum ElementFault {
+    /// The depth is greater than that of the element before and one more, or than 0 at the first.
+    BadDepth(usize),
+    /// The name is empty.
+    EmptyName(usize),
+    /// A string of the element is missing. At one more than the number of elements: there are
+    /// strings, or bytes of the buffer, that no element has.
+    BadStrings(usize),
+    /// Two attributes have one key.
+    RepeatedKey(usize),
+}
+
+impl ElementFault {
+    /// The number of the kind of fault.
+    pub fn number(&self) -> u32
+        ensures { result ≡ fault_number self.now }
+    {
+        match self {
+            ElementFault::BadDepth(_) => 1,
+            ElementFault::EmptyName(_) => 2,
+            ElementFault::BadStrings(_) => 3,
+            ElementFault::RepeatedKey(_) => 4,
+        }
+    }
+
+    /// The number of the element.
+    pub fn element(&self) -> usize
+        ensures { result ≡ fault_element self.now }
+    {
+        match self {
+            ElementFault::BadDepth(element)
+            | ElementFault::EmptyName(element)
+            | ElementFault::BadStrings(element)
+            | ElementFault::RepeatedKey(element) => *element,
+        }
+    }
+}
+
+/// The string between two places of a buffer, if one may end at the second.
+fn string_between(buffer: &str, start: usize, end: usize) -> Option<&str>
+    requires { IsCharBoundary buffer.now start }
+    ensures { MatchOption result (may_end buffer.now start end ≡ false)
+        (λ string. (may_end buffer.now start end ≡ true)
+        × (string.now ≡ slice_range buffer.now start end) × IsCharBoundary buffer.now end) }
+{
+    if end < start || !buffer.is_char_boundary(end) {
+        return None;
+    }
+    buffer.get(start..end)
+}
+
+/// The strings of a buffer, by where each ends, up to the first end that none may have, and whether
+/// they are all of the buffer.
+fn cut_strings<'t>(
+    alloc: Global,
+    buffer: &'t str,
+    ends: &[usize],
+) -> Result<(Vec<&'t str>, bool), AllocError>
+    ensures { IfOk result (λ cut. strings_in buffer.now ends.now
+        ≡ record { strings = map (λ string. string.now) cut.0.items; are_all = cut.1 }) }
+{
+    let mut strings = Vec::with_capacity(alloc, ends.len())?;
+    let mut start = 0;
+    for end in ends {
+        let Some(string) = string_between(buffer, start, *end) else {
+            return Ok((strings, false));
+        };
+        strings.push(string)?;
+        start = *end;
+    }
+    Ok((strings, start == buffer.len()))
+}
+
+/// Whether one of the first attributes has the key of an earlier one.
+fn repeats_key(alloc: Global, fields: &[&str], count: usize) -> Result<bool, AllocError>
+    requires { 2 * count ≤ length fields.now }
+    ensures { IfOk result
+        (λ repeats. repeats ≡ repeats_key (map (λ field. field.now) fields.now) count) }
+{
+    let mut keys = BTreeSet::new(alloc);
+    for i in 0..count {
+        if !keys.insert(fields[2 * i])? {
+            return Ok(true);
+        }
+    }
+    Ok(false)
+}
+
+/// What is wrong with an element of this number, of which the strings that are left have the first.
+fn fault_in(
+    alloc: Global,
+    number: usize,
+    limit: usize,
+    element: TreeElement,
+    strings: &[&str],
+) -> Result<Option<ElementFault>, AllocError>
+    ensures { IfOk result (λ fault. fault
+        ≡ fault_in number limit element (map (λ string. string.now) strings.now)) }
+{
+    if limit < element.depth {
+        return Ok(Some(ElementFault::BadDepth(number)));
+    }
+    let [name, fields @ ..] = strings else {
+        return Ok(Some(ElementFault::BadStrings(number)));
+    };
+    if fields.len() / 2 < element.attributes {
+        return Ok(Some(ElementFault::BadStrings(number)));
+    }
+    if name.is_empty() {
+        return Ok(Some(ElementFault::EmptyName(number)));
+    }
+    if element.attributes > 1 && repeats_key(alloc, fields, element.attributes)? {
+        return Ok(Some(ElementFault::RepeatedKey(number)));
+    }
+    Ok(None)
+}
+
+/// Adds an element with its attributes as the last child of its parent.
+fn add_element<'t>(
+    tree: &mut Tree<'t>,
+    parent: Option<usize>,
+    name: &'t str,
+    fields: &[&'t str],
+    count: usize,
+) -> Result<(), TreeError>
+    requires { 2 * count ≤ length fields.now }
+    ensures { OnOk result (tree.new ≡ tree.old
+        ++ element_row tree.old parent name.now (map (λ field. field.now) fields.now) count ∷ []) }
+{
+    tree.push(parent, name)?;
+    for i in 0..count {
+        tree.set_attribute(fields[2 * i], fields[2 * i + 1])?;
+    }
+    Ok(())
+}
+
+/// The parent of an element of this depth, by the places of the last element and its ancestors.
+fn parent_of(path: &[usize], depth: usize) -> Option<usize>
+    ensures { (depths : List ℕ) → IsPath path.now depths → depth ≤ length path.now
+        → result ≡ parent_after depths depth }
+{
+    path.get(depth.checked_sub(1)?).copied()
+}
+
+/// Adds the next element, and returns how many of the strings that are left it has.
+fn add_next<'t>(
+    alloc: Global,
+    tree: &mut Tree<'t>,
+    path: &mut Vec<usize>,
+    element: TreeElement,
+    strings: &[&'t str],
+) -> Result<usize, Failure>
+    requires { length tree.old + 1 < 2 ^ 64 }
+    ensures { (depths : List ℕ) → IsPath path.old.items depths → length depths ≡ length tree.old
+        → let all = map (λ string. string.now) strings.now in
+        let fault = fault_in (length tree.old + 1) (limit_after depths) element all in
+        MatchResult result (λ read. (fault ≡ None)
+        × (tree.new ≡ with_element tree.old depths element all)
+        × IsPath path.new.items (depths ++ element.depth ∷ [])
+        × (read ≡ strings_of element) × (read ≤ length strings.now))
+        (λ failure. FailsFor ⊥ (λ told. fault ≡ Some told) ⊥ failure) }
+{
+    let place = tree.len();
+    if let Some(fault) = fault_in(alloc, place + 1, path.len(), element, strings)? {
+        return Err(Failure::Tree(fault));
+    }
+    let parent = parent_of(path, element.depth);
+    add_element(tree, parent, strings[0], &strings[1..], element.attributes)?;
+    path.truncate(element.depth);
+    path.push(place)?;
+    Ok(2 * element.attributes + 1)
+}
+
+/// The tree of the elements, by their strings.
+fn link<'t>(
+    alloc: Global,
+    elements: &[TreeElement],
+    strings: &[&'t str],
+    are_all: bool,
+) -> Result<Tree<'t>, Failure>
+    ensures { let due = tree_from [] []
+        (record { strings = map (λ string. string.now) strings.now; are_all = are_all })
+        elements.now in
+        MatchResult result (λ tree. due ≡ Ok tree)
+        (λ failure. FailsFor ⊥ (λ fault. due ≡ Err fault) ⊥ failure) }
+{
+    let mut tree = Tree::new(alloc);
+    let mut path = Vec::new(alloc);
+    let mut next = 0;
+    for element in elements {
+        next += add_next(alloc, &mut tree, &mut path, *element, &strings[next..])?;
+    }
+    if next < strings.len() || !are_all {
+        return Err(Failure::Tree(ElementFault::BadStrings(elements.len() + 1)));
+    }
+    Ok(tree)
+}
+
+/// The tree of the elements, by a buffer of strings and where each ends.
+pub fn read_tree<'t>(
+    alloc: Global,
+    elements: &[TreeElement],
+    buffer: &'t [u8],
+    ends: &[usize],
+) -> Result<Tree<'t>, Failure>
+    ensures { MatchResult result
+        (λ tree. IsUtf8 buffer.now × (tree_of elements.now buffer.now ends.now ≡ Ok tree))
+        (λ failure. FailsFor ⊥ (λ fault. tree_of elements.now buffer.now ends.now ≡ Err fault)
+        (¬ (IsUtf8 buffer.now)) failure) }
+{
+    let buffer = text_of(buffer)?;
+    let (strings, are_all) = cut_strings(alloc, buffer, ends)?;
+    link(alloc, elements, &strings, are_all)
+}

@@ -1,0 +1,155 @@
+//! What is written of the elements of a tree, a line for each.
+
+ghost use Rattle.std.specs.Prelude.{◌≡◌, ◌+◌, ◌^◌, ◌<◌, ◌++◌, All, OnOk, MatchResult, List, ℕ};
+ghost use Rattle.std.specs.Prelude.{length, map, string_bytes};
+ghost use Rattle.std.specs.Option.{option_map};
+ghost use Rattle.simplecss.specs.SeenDeclarations.{declaration_of};
+ghost use Rattle.simplecss.specs.SeenRules.{rules_of, rules_in};
+ghost use Rattle.cssq.specs.MatchRuns.{numbers_line};
+ghost use Rattle.cssq.specs.StyleRuns.{style_line};
+ghost use Rattle.simplecss_c.specs.Lines.{selected_line, places_line, IsLineOf, AreLinesOf};
+ghost use Rattle.simplecss_c.specs.Lines.{IsWinnerLine, AreWinnerLines};
+
+use crate::answer::Failure;
+use cssq::cascade::winning;
+use simplecss::{Declaration, Rule, RuleIndex, StyleSheet};
+use simplecss_tree::Tree;
+use std::alloc::{AllocError, Global};
+use std::fmt::Write as _;
+
+/// What is written of an element that some rules match.
+#[derive(Clone, Copy)]
+pub enum Asked {
+    /// The element's number, and the numbers of the rules.
+    Numbers,
+    /// The element's number, if there is a rule.
+    Selected,
+}
+
+/// Appends an element's number, and the numbers of the rules at the places.
+fn push_numbers(out: &mut String, number: usize, places: &[usize]) -> Result<(), AllocError>
+    requires { All (λ place. place + 1 < 2 ^ 64) places.now }
+    ensures { OnOk result (string_bytes out.new
+        ≡ string_bytes out.old ++ numbers_line number (map (λ place. place + 1) places.now)) }
+{
+    write!(out, "{number}:")?;
+    for place in places {
+        let rule_number = *place + 1;
+        write!(out, " {rule_number}")?;
+    }
+    out.push('\n')
+}
+
+/// Appends an element's number, if there is a place.
+fn push_selected(out: &mut String, number: usize, places: &[usize]) -> Result<(), AllocError>
+    ensures { OnOk result
+        (string_bytes out.new ≡ string_bytes out.old ++ selected_line number places.now) }
+{
+    if places.is_empty() {
+        return Ok(());
+    }
+    writeln!(out, "{number}")
+}
+
+/// Appends an element's number, and the declaration that wins on it, if there is one.
+fn push_winner(
+    out: &mut String,
+    number: usize,
+    winner: Option<Declaration<'_>>,
+) -> Result<(), AllocError>
+    ensures { OnOk result (string_bytes out.new
+        ≡ string_bytes out.old ++ style_line number (option_map declaration_of winner.entry)) }
+{
+    let Some(declaration) = winner else {
+        return writeln!(out, "{number}:");
+    };
+    let value = declaration.value;
+    let mark = if declaration.important {
+        " !important"
+    } else {
+        ""
+    };
+    writeln!(out, "{number}: {value}{mark}")
+}
+
+/// Appends the line of the element at a place, by an index of the rules. What was in `places` is
+/// dropped.
+fn push_line<'a>(
+    out: &mut String,
+    asked: Asked,
+    index: &RuleIndex<'a>,
+    rules: &[Rule<'a>],
+    tree: &Tree<'_>,
+    place: usize,
+    places: &mut Vec<usize>,
+) -> Result<(), AllocError>
+    requires index { index.now ≡ map (λ rule. rule.selector) rules.now }
+    requires place { place < length tree.now }
+    requires number { place + 1 < 2 ^ 64 }
+    ensures { OnOk result ((line : List ℕ) × IsLineOf asked (rules_of rules.now) tree.now place line
+        × (string_bytes out.new ≡ string_bytes out.old ++ line)) }
+{
+    let node = tree.node(place).unwrap();
+    index.matching(rules, &node, places)?;
+    let places = places.as_slice();
+    match asked {
+        Asked::Numbers => push_numbers(out, place + 1, places),
+        Asked::Selected => push_selected(out, place + 1, places),
+    }
+}
+
+/// The lines of the elements of a tree, by which rules match each.
+pub fn lines(
+    alloc: Global,
+    asked: Asked,
+    rules: &[Rule<'_>],
+    tree: &Tree<'_>,
+) -> Result<String, Failure>
+    ensures { MatchResult result
+        (λ text. AreLinesOf asked (rules_of rules.now) tree.now (string_bytes text))
+        (λ failure. failure ≡ Failure.Memory) }
+{
+    let index = RuleIndex::new(alloc, rules)?;
+    let mut places = Vec::new(alloc);
+    let mut text = String::new(alloc);
+    for place in 0..tree.len() {
+        push_line(&mut text, asked, &index, rules, tree, place, &mut places)?;
+    }
+    Ok(text)
+}
+
+/// Appends the line of what wins for a name on the element at a place.
+fn push_winning(
+    out: &mut String,
+    sheet: &StyleSheet<'_>,
+    tree: &Tree<'_>,
+    place: usize,
+    name: &str,
+) -> Result<(), AllocError>
+    requires place { place < length tree.now }
+    requires number { place + 1 < 2 ^ 64 }
+    ensures { OnOk result
+        ((line : List ℕ) × IsWinnerLine name.now (rules_in sheet.now) tree.now place line
+        × (string_bytes out.new ≡ string_bytes out.old ++ line)) }
+{
+    let node = tree.node(place).unwrap();
+    push_winner(out, place + 1, winning(sheet, &node, name))
+}
+
+/// The lines of what wins for a name on each element of a tree.
+pub fn winner_lines(
+    alloc: Global,
+    sheet: &StyleSheet<'_>,
+    tree: &Tree<'_>,
+    name: &str,
+) -> Result<String, Failure>
+    ensures { MatchResult result
+        (λ text. AreWinnerLines name.now (rules_in sheet.now) tree.now (string_bytes text))
+        (λ failure. failure ≡ Failure.Memory) }
+{
+    let mut text = String::new(alloc);
+    for place in 0..tree.len() {
+        push_winning(&mut text, sheet, tree, place, name)?;
+    }
+    Ok(text)
+}

@@ -1,0 +1,220 @@
+"""Tests the calls of the C library by ctypes: each call with each of its statuses, with a buffer of each length up to
+what the answer needs, in eight threads at once, and on texts of 10 MB. `run(check, path)` is what library.py calls."""
+
+import ctypes
+import itertools
+import os
+import re
+import threading
+
+TOP = os.path.dirname(os.path.dirname(os.path.abspath(__file__)))
+DONE, REFUSED, TREE_FAULT, NOT_UTF8, TOO_SMALL = 0, 1, 2, 5, 6
+SIZE = ctypes.c_size_t
+MARK = 0xA5
+
+
+class Place(ctypes.Structure):
+    """Where a tree has a fault."""
+
+    _fields_ = [("fault", ctypes.c_uint32), ("element", SIZE)]
+
+
+def sizes(numbers):
+    """An array of sizes."""
+    return (SIZE * len(numbers))(*numbers)
+
+
+def buffer_of(texts):
+    """The texts one after another, and where each ends."""
+    return b"".join(texts), sizes(list(itertools.accumulate(map(len, texts))))
+
+
+def tree_of(*elements):
+    """The arrays of a tree: each element is a depth, a name, and keys and values."""
+    shapes = [number for depth, _, *fields in elements for number in (depth, len(fields) // 2)]
+    strings, ends = buffer_of([string for _, *strings in elements for string in strings])
+    return Elements(shapes), strings, ends
+
+
+class Elements:
+    """The depth and the number of attributes of each element."""
+
+    def __init__(self, shapes):
+        self.array = sizes(shapes)
+
+    def __len__(self):
+        return len(self.array) // 2
+
+
+def words_of(arguments):
+    """Each argument as a pointer and a length."""
+    words = []
+    for argument in arguments:
+        words += (argument.array if isinstance(argument, Elements) else argument, SIZE(len(argument)))
+    return words
+
+
+def call(library, name, arguments, room):
+    """The status, the buffer, the length, and the place of a call with a buffer of so many bytes."""
+    out = (ctypes.c_uint8 * (room + 4))(*([MARK] * (room + 4)))
+    length, place = SIZE(77), Place(88, 99)
+    tail = (ctypes.byref(place),) if name in WITH_TREE else ()
+    status = getattr(library, name)(*words_of(arguments), out, SIZE(room), ctypes.byref(length), *tail)
+    return status, bytes(out), length.value, (place.fault, place.element)
+
+
+SHEET = buffer_of((b"ul > li { color: red }", b".new { color: blue !important }"))
+PAGE = tree_of((0, b"ul"), (1, b"li", b"class", b"new"), (1, b"li", b"title", b"a\tb\n=\x01\0", b"alt", b"a\tb"))
+WITH_TREE = ("simplecss_match", "simplecss_select", "simplecss_style", "simplecss_styles")
+RED = b'{"name":"color","value":"red","important":false}'
+BLUE = b'{"name":"color","value":"blue","important":true}'
+
+# A call, its arguments, and the answer.
+ANSWERS = (
+    ("simplecss_version", (), b"0.1.0"),
+    ("simplecss_selector", (b"ul>li.a , b",), b"ul > li[class~='a']\t0,1,2\n"),
+    ("simplecss_list", (b"a, #b",), b'{"selector":"a","specificity":[0,0,1]}\n'
+     b'{"selector":"*[id=\'b\']","specificity":[1,0,0]}\n'),
+    ("simplecss_list", (b'[a="\x01\\""]',),
+     b'{"selector":"*[a=\'\\u0001\\\\\\"\']","specificity":[0,1,0]}\n'),
+    ("simplecss_refusal", (b"a, b",), b""),
+    ("simplecss_refusal", (b"a,\n b:none",), b'{"row":2,"column":8,"reason":"unknown pseudo-class"}\n'),
+    ("simplecss_sheet", SHEET, b"ul > li { color:red; }\n*[class~='new'] { color:blue !important; }\n"),
+    ("simplecss_sheet", (b"", sizes([])), b""),
+    ("simplecss_rules", SHEET, b'{"selector":"ul > li","specificity":[0,0,2],"declarations":[' + RED + b"]}\n"
+     b'{"selector":"*[class~=\'new\']","specificity":[0,1,0],"declarations":[' + BLUE + b"]}\n"),
+    ("simplecss_skipped", (b"a { b: c }\n @media print { }",),
+     b'{"row":2,"column":2,"reason":"at-rule not supported","text":"@media print"}\n'),
+    ("simplecss_match", (*SHEET, *PAGE), b"1:\n2: 1 2\n3: 1\n"),
+    ("simplecss_select", (b"li", *PAGE), b"2\n3\n"),
+    ("simplecss_select", (b"[alt='a\tb'], .new", *PAGE), b"2\n3\n"),
+    ("simplecss_style", (*SHEET, *PAGE, b"color"), b"1:\n2: blue !important\n3: red\n"),
+    ("simplecss_styles", (*SHEET, *PAGE), b"[]\n[" + BLUE + b"]\n[" + RED + b"]\n"),
+)
+
+BROKEN = b"\xff"
+BAD_PAGES = (
+    (tree_of((1, b"a")), 1, 1),
+    (tree_of((0, b"a"), (2, b"b")), 1, 2),
+    (tree_of((0, b"a"), (0, b"")), 2, 2),
+    ((Elements([0, 0]), b"", sizes([])), 3, 1),
+    ((Elements([0, 1]), b"ak", sizes([1, 2])), 3, 1),
+    ((Elements([0, 2**63]), b"a", sizes([1])), 3, 1),
+    ((Elements([0, 0]), b"a", sizes([2])), 3, 1),
+    ((Elements([0, 1]), b"akv", sizes([2, 1, 3])), 3, 1),
+    ((Elements([0, 0]), "é".encode(), sizes([1])), 3, 1),
+    ((Elements([0, 0]), b"ab", sizes([1])), 3, 2),
+    ((Elements([0, 0]), b"ab", sizes([1, 2])), 3, 2),
+    ((Elements([]), b"", sizes([0])), 3, 1),
+    (tree_of((0, b"a"), (1, b"b", b"k", b"1", b"k", b"2")), 4, 2),
+    (tree_of((0, b"a", *[b"k%d" % (n // 2 % 40) for n in range(82)])), 4, 1),
+)
+
+# A call, its arguments, and the status that is no answer.
+FAILURES = [
+    (name, (text,), status)
+    for name in ("simplecss_selector", "simplecss_list")
+    for text, status in ((b"", REFUSED), (b"a:none", REFUSED), (BROKEN, NOT_UTF8))
+] + [("simplecss_refusal", (BROKEN,), NOT_UTF8), ("simplecss_skipped", (BROKEN,), NOT_UTF8)]
+for _sheet, _status in (((b"ab", sizes([1])), REFUSED), ((b"ab", sizes([2, 1])), REFUSED),
+                        ((b"ab", sizes([3])), REFUSED), ((BROKEN, sizes([1])), NOT_UTF8),
+                        (("é".encode(), sizes([1, 2])), NOT_UTF8)):
+    FAILURES += [("simplecss_sheet", _sheet, _status), ("simplecss_rules", _sheet, _status),
+                 ("simplecss_match", (*_sheet, *PAGE), _status), ("simplecss_styles", (*_sheet, *PAGE), _status),
+                 ("simplecss_style", (*_sheet, *PAGE, b"color"), _status)]
+_BROKEN_PAGE = (Elements([0, 0]), BROKEN, sizes([1]))
+FAILURES += [
+    ("simplecss_select", (b"a,", *PAGE), REFUSED),
+    ("simplecss_select", (BROKEN, *PAGE), NOT_UTF8),
+    ("simplecss_select", (b"a", *_BROKEN_PAGE), NOT_UTF8),
+    ("simplecss_match", (*SHEET, *_BROKEN_PAGE), NOT_UTF8),
+    ("simplecss_styles", (*SHEET, *_BROKEN_PAGE), NOT_UTF8),
+    ("simplecss_style", (*SHEET, *_BROKEN_PAGE, b"color"), NOT_UTF8),
+    ("simplecss_style", (*SHEET, *PAGE, BROKEN), NOT_UTF8),
+]
+
+
+def test_answers(check, library):
+    """Each call's answer, in a buffer of each length up to what it needs and one more."""
+    for name, arguments, expected in ANSWERS:
+        need = len(expected)
+        for room in range(need + 2):
+            status, out, length, place = call(library, name, arguments, room)
+            fits = room >= need
+            front = expected if fits else b""
+            whole = front + bytes([MARK] * (room + 4 - len(front)))
+            due = (DONE if fits else TOO_SMALL, whole, need, (88, 99))
+            check((status, out, length, place) == due, name, f"room {room}: {status} {out} {length} {place}")
+
+
+def test_failures(check, library):
+    """Each status that is no answer: nothing is written, and the length is 0."""
+    rows = [(name, arguments, status, (88, 99)) for name, arguments, status in FAILURES]
+    for page, fault, element in BAD_PAGES:
+        rows += [(name, arguments, TREE_FAULT, (fault, element)) for name, arguments in (
+            ("simplecss_match", (*SHEET, *page)), ("simplecss_styles", (*SHEET, *page)),
+            ("simplecss_style", (*SHEET, *page, b"color")), ("simplecss_select", (b"a", *page)))]
+    for name, arguments, status, place in rows:
+        for room in (0, 64):
+            found = call(library, name, arguments, room)
+            check(found == (status, bytes([MARK] * (room + 4)), 0, place), name, f"{status}: {found}")
+
+
+def test_threads(check, library):
+    """Eight threads at once have the answers that one has."""
+    found = []
+
+    def work():
+        for _ in range(50):
+            found.append(tuple(call(library, name, arguments, 4096)[1][: len(expected)] == expected
+                               for name, arguments, expected in ANSWERS))
+
+    threads = [threading.Thread(target=work) for _ in range(8)]
+    for thread in threads:
+        thread.start()
+    for thread in threads:
+        thread.join()
+    check(len(found) == 400 and all(map(all, found)), "eight threads")
+
+
+def test_large(check, library):
+    """Texts of 10 MB: a sheet, a selector list, a tree of many elements and one of a long value."""
+    count = 10_000_000
+    sheet = b"a { b: c }\n" * (count // 11)
+    status, _, length, _ = call(library, "simplecss_sheet", (sheet, sizes([len(sheet)])), 0)
+    check((status, length) == (TOO_SMALL, len(sheet) // 11 * len(b"a { b:c; }\n")), "a sheet of 10 MB", (status, length))
+    listed = b"a," * (count // 2) + b"a"
+    status, _, length, _ = call(library, "simplecss_refusal", (listed,), 0)
+    check((status, length) == (DONE, 0), "a list of 10 MB", (status, length))
+    elements = 400_000
+    page = (Elements([0, 1] * elements), b"elementclassmore-of-it-to-come"[:25] * elements,
+            sizes([25 * (n // 3) + (7, 12, 25)[n % 3] for n in range(3 * elements)]))
+    status, _, length, _ = call(library, "simplecss_select", (b"element", *page), 0)
+    check((status, length) == (TOO_SMALL, sum(len(str(n)) + 1 for n in range(1, elements + 1))),
+          "a tree of 10 MB", (status, length))
+    value = b"x " * (count // 2) + b"y"
+    page = tree_of((0, b"a", b"class", value))
+    check(call(library, "simplecss_select", (b".y", *page), 8)[2] == 2, "a value of 10 MB")
+
+
+def test_version(check):
+    """The version is the first of the changelog, and the header's and the package's are the same."""
+    def first(path, pattern):
+        with open(os.path.join(TOP, path), encoding="utf-8") as file:
+            found = re.search(pattern, file.read(), re.M)
+        return found and found.group(1)
+
+    version = ANSWERS[0][2].decode()
+    for path, pattern in (("CHANGELOG.md", r"^## (\S+)"), ("include/simplecss.h", r'^#define SIMPLECSS_VERSION "(.*)"'),
+                          ("python/pyproject.toml", r'^version = "(.*)"')):
+        check(first(path, pattern) == version, "version", path)
+
+
+def run(check, path):
+    """Runs all over the library at a path."""
+    library = ctypes.CDLL(path)
+    test_version(check)
+    test_answers(check, library)
+    test_failures(check, library)
+    test_threads(check, library)
+    test_large(check, library)

@@ -1,0 +1,52 @@
+/* Makes one call of the C library, for library.py: the word is the number of the call. Standard error gets `begin`
+   before it and `end` after it, between which refuse.c counts requests for memory. Standard output gets the status, a
+   newline and the answer; the exit status is 1 if the buffer or the length is not as the status says. */
+#include <simplecss.h>
+#include <stdio.h>
+#include <stdlib.h>
+#include <string.h>
+#include <unistd.h>
+
+#define TEXT(text) (const uint8_t *)(text), sizeof(text) - 1
+#define SHEET TEXT(sheet), sheet_ends, 2
+#define TREE elements, 3, TEXT(strings), string_ends, 7
+#define OUT out, sizeof(out) - 1, &len
+
+static const char sheet[] = "ul > li { color: red }.new { color: blue !important } @media x { } a:b { c: d }";
+static const size_t sheet_ends[] = {22, sizeof(sheet) - 1};
+static const simplecss_element elements[] = {{0, 0}, {1, 1}, {1, 1}};
+static const char strings[] = "ullicl\tssnewlititlea\nb";
+static const size_t string_ends[] = {2, 4, 9, 12, 14, 19, 22};
+static uint8_t out[4096];
+
+int main(int count, char **words) {
+    size_t len = 77;
+    simplecss_place place = {0, 0};
+    int call = count == 2 ? atoi(words[1]) : -1;
+    uint32_t status = 99;
+    memset(out, 0xA5, sizeof(out));
+    (void)!write(2, "begin", 5);
+    switch (call) {
+    case 0: status = simplecss_selector(TEXT("a b > c.d[e='f']:hover"), OUT); break;
+    case 1: status = simplecss_list(TEXT("a b, c > d, e + f"), OUT); break;
+    case 2: status = simplecss_refusal(TEXT("a b, c > > d"), OUT); break;
+    case 3: status = simplecss_sheet(SHEET, OUT); break;
+    case 4: status = simplecss_rules(SHEET, OUT); break;
+    case 5: status = simplecss_skipped(TEXT(sheet), OUT); break;
+    case 6: status = simplecss_match(SHEET, TREE, OUT, &place); break;
+    case 7: status = simplecss_select(TEXT("li, ul > .new"), TREE, OUT, &place); break;
+    case 8: status = simplecss_style(SHEET, TREE, TEXT("color"), OUT, &place); break;
+    case 9: status = simplecss_styles(SHEET, TREE, OUT, &place); break;
+    case 10: status = simplecss_version(OUT); break;
+    default: break;
+    }
+    (void)!write(2, "end", 3);
+    if (status != SIMPLECSS_DONE && len != 0)
+        return 1;
+    for (size_t i = status == SIMPLECSS_DONE ? len : 0; i < sizeof(out); i++)
+        if (out[i] != 0xA5)
+            return 1;
+    printf("%u\n", (unsigned)status);
+    fwrite(out, 1, status == SIMPLECSS_DONE ? len : 0, stdout);
+    return 0;
+}
