@@ -48,6 +48,10 @@ def test_install(folder):
     check(made.returncode == 0, "install", made.stderr.decode()[-500:])
     for name in ("lib/libsimplecss.so", "lib/libsimplecss.a", "include/simplecss.h", "lib/pkgconfig/simplecss.pc"):
         check(os.path.isfile(os.path.join(folder, name)), "installed", name)
+    with open(os.path.join(folder, "lib", "pkgconfig", "simplecss.pc"), encoding="utf-8") as file:
+        lines = file.read().split("\n")
+    for line in (f"prefix={folder}", "libdir=${prefix}/lib", f"Version: {library_calls.VERSION}", "Libs: -L${libdir} -lsimplecss"):
+        check(line in lines, "simplecss.pc", line)
     check(run(["tools/build_library", "--other"]).returncode == 2, "wrong words")
 
 
