@@ -3,3 +3,4 @@ pub mod Strings
 pub mod RepeatedKeys
 pub mod Building
 pub mod PageCalls
+pub mod ReadLists

@@ -1,10 +1,11 @@
 -- What a call over a tree answers.
--- Serves `calls::{matches, style_text}` and `pages::push_winning`.
+-- Serves `calls::{matches, select, style_text}` and `pages::push_winning`.
 use Rattle.std.proofs.Common.{◌≡◌, ℕ, ◌↔◌, List, Option, None, Some, IfSome, refl, sym, subst}
 use Rattle.std.specs.Prelude.{Result, Ok, Err, MatchResult, IsNone, string_bytes}
 use Rattle.std.specs.declared.string.String.{String}
 use Rattle.std.specs.Option.{option_map}
 use Rattle.std.specs.Str.{IsUtf8}
+use Rattle.simplecss.specs.Components.{Component}
 use Rattle.simplecss.specs.Declarations.{StyleDeclaration}
 use Rattle.simplecss.specs.Sheets.{sheet}
 use Rattle.simplecss.specs.Statements.{StyleRule}
@@ -15,7 +16,10 @@ use Rattle.cssq.specs.Winners.{IsStated, Wins, IsWinner, HasNoWinner}
 use Rattle.simplecss_c.specs.declared.answer.Failure.{Failure}
 use Rattle.simplecss_c.specs.declared.answer.Failure.TheVariants.{Memory}
 use Rattle.simplecss_c.specs.Outcomes.{outcome_of}
-use Rattle.simplecss_c.specs.Calls.{HasTexts, Passed, passed_tree, IsPageCall}
+use Rattle.simplecss_c.specs.declared.pages.Asked.TheVariants.{Selected}
+use Rattle.simplecss_c.specs.Calls.{HasTexts, Passed, passed_tree, IsPageCall, IsSelectCall}
+use Rattle.simplecss_c.specs.Lines.{AreLinesOf}
+use Rattle.simplecss_c.specs.SelectorLists.{selectors_in}
 
 -- the text that is due, or want of memory
 pub page_due : {Z : Type 0} (IsText : List StyleRule → List Row → List ℕ → Type 0) (buffer ends : List ℕ) (passed : Passed) (texts : List (List ℕ)) (rows : List Row)
@@ -34,3 +38,14 @@ pub wins_or_none : {Node D : Type 0} (tree : Tree Node) (n : Node) (rules : List
     → Wins (IsStated tree n rules) name (option_map f r)
 wins_or_none tree n rules name f None some none = none.0 refl
 wins_or_none tree n rules name f (Some d) some none = some
+
+-- the text that is due for a list of selectors, or want of memory
+pub select_due : {Z : Type 0} (text : List ℕ) (passed : Passed) (selectors : List (List Component)) (rows : List Row)
+    → IsUtf8 text → selectors_in text ≡ Some selectors → IsUtf8 passed.strings → passed_tree passed ≡ Ok rows
+    → (matched : List (List Component)) → matched ≡ selectors
+    → (r : Result (String Z) Failure) → MatchResult r (λ text. AreLinesOf Selected matched rows (string_bytes text)) (λ failure. failure ≡ Memory)
+    → IsSelectCall text passed (outcome_of r)
+select_due text passed selectors rows utf8 is strings tree matched are (Ok lines) due =
+    (selectors, rows, utf8, is, strings, tree, subst (λ ss. AreLinesOf Selected ss rows (string_bytes lines)) are due)
+select_due text passed selectors rows utf8 is strings tree matched are (Err failure) due =
+    subst (λ failure. IsSelectCall text passed (Err failure)) (sym due) tt

@@ -14,10 +14,11 @@ use Rattle.simplecss_c.specs.declared.elements.ElementFault.{ElementFault}
 use Rattle.simplecss_c.specs.declared.elements.TreeElement.{TreeElement}
 use Rattle.simplecss_c.specs.declared.answer.Failure.{Failure}
 use Rattle.simplecss_c.specs.declared.answer.Failure.TheVariants.{Refused, Tree, Memory, NotUtf8}
-use Rattle.simplecss_c.specs.declared.pages.Asked.TheVariants.{Numbers}
+use Rattle.simplecss_c.specs.declared.pages.Asked.TheVariants.{Selected}
 use Rattle.simplecss_c.specs.Texts.{texts_in}
 use Rattle.simplecss_c.specs.Elements.{tree_of}
-use Rattle.simplecss_c.specs.Lines.{AreLinesOf, AreWinnerLines}
+use Rattle.simplecss_c.specs.Lines.{AreLinesOf, AreMatchLines, AreWinnerLines}
+use Rattle.simplecss_c.specs.SelectorLists.{selectors_in}
 
 -- A failure has its own reason. Any call may be out of memory.
 abbrev pub FailsFor : Type 0 → (ElementFault → Type 0) → Type 0 → Failure → Type 0
@@ -84,7 +85,7 @@ IsPageCall IsText buffer ends passed (Err failure) =
 
 -- which rules match each element
 abbrev pub IsMatchCall : List ℕ → List ℕ → Passed → Result (List ℕ) Failure → Type 0
-IsMatchCall = IsPageCall (AreLinesOf Numbers)
+IsMatchCall = IsPageCall AreMatchLines
 
 -- what wins for a name on each element; the name is UTF-8
 abbrev pub IsStyleCall : List ℕ → List ℕ → Passed → List ℕ → Result (List ℕ) Failure → Type 0
@@ -95,3 +96,13 @@ IsStyleCall buffer ends passed name (Err Memory) = Unit {0}
 IsStyleCall buffer ends passed name (Err (Tree fault)) = passed_tree passed ≡ Err fault
 IsStyleCall buffer ends passed name (Ok bytes) =
     IsUtf8 name × IsPageCall (AreWinnerLines name) buffer ends passed (Ok bytes)
+
+-- which elements one of the selectors of a list matches
+abbrev pub IsSelectCall : List ℕ → Passed → Result (List ℕ) Failure → Type 0
+IsSelectCall text passed (Ok bytes) =
+    (selectors : List (List Component)) × (rows : List Row) × IsUtf8 text
+    × (selectors_in text ≡ Some selectors) × IsUtf8 passed.strings × (passed_tree passed ≡ Ok rows)
+    × AreLinesOf Selected selectors rows bytes
+IsSelectCall text passed (Err failure) =
+    FailsFor (selectors_in text ≡ None) (λ fault. passed_tree passed ≡ Err fault)
+    (¬ (IsUtf8 text) ⊎ ¬ (IsUtf8 passed.strings)) failure

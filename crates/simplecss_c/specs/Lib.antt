@@ -3,4 +3,5 @@ pub mod Texts
 pub mod Elements
 pub mod Answers
 pub mod Lines
+pub mod SelectorLists
 pub mod Calls

@@ -1,6 +1,7 @@
 -- What is written of the elements of a tree, a line for each.
 use Rattle.std.specs.Prelude.{◌≡◌, ℕ, ◌+◌, List, [], ◌∷◌, ◌++◌, length, map, decimal, Option}
 use Rattle.simplecss.specs.AsciiBytes.{newline}
+use Rattle.simplecss.specs.Components.{Component}
 use Rattle.simplecss.specs.Declarations.{StyleDeclaration}
 use Rattle.simplecss.specs.ListTrees.{spot}
 use Rattle.simplecss.specs.Matching.{AreMatches}
@@ -13,30 +14,33 @@ use Rattle.cssq.specs.Winners.{IsStated, Wins}
 use Rattle.simplecss_c.specs.declared.pages.Asked.{Asked}
 use Rattle.simplecss_c.specs.declared.pages.Asked.TheVariants.{Numbers, Selected}
 
--- the places are in order, and are those of the rules that match the element at a place
-abbrev pub MatchAt : List Row → ℕ → List StyleRule → List ℕ → Type 0
-MatchAt rows place rules =
-    AreMatches element_tree (spot rows place) (map (λ rule. rule.components) rules)
+-- the selectors of rules
+abbrev pub selectors_of : List StyleRule → List (List Component)
+selectors_of rules = map (λ rule. rule.components) rules
 
--- an element's number, where a rule matches it
+-- an element's number, where a selector matches it
 abbrev pub selected_line : ℕ → List ℕ → List ℕ
 selected_line number [] = []
 selected_line number (place ∷ places) = decimal number ++ newline ∷ []
 
--- the line of an element of this number, which the rules at these places match
+-- the line of an element of this number, which the selectors at these places match
 abbrev pub places_line : Asked → ℕ → List ℕ → List ℕ
 places_line Numbers number places = numbers_line number (map (λ place. place + 1) places)
 places_line Selected number places = selected_line number places
 
--- the line of the element at a place
-abbrev pub IsLineOf : Asked → List StyleRule → List Row → ℕ → List ℕ → Type 0
-IsLineOf asked rules rows place line =
-    (places : List ℕ) × MatchAt rows place rules places
+-- the line of the element at a place, by the places of the selectors that match it, in order
+abbrev pub IsLineOf : Asked → List (List Component) → List Row → ℕ → List ℕ → Type 0
+IsLineOf asked selectors rows place line =
+    (places : List ℕ) × AreMatches element_tree (spot rows place) selectors places
     × (line ≡ places_line asked (place + 1) places)
 
 -- the lines of all elements, in order
-abbrev pub AreLinesOf : Asked → List StyleRule → List Row → List ℕ → Type 0
-AreLinesOf asked rules rows = AreLines (IsLineOf asked rules rows) (length rows)
+abbrev pub AreLinesOf : Asked → List (List Component) → List Row → List ℕ → Type 0
+AreLinesOf asked selectors rows = AreLines (IsLineOf asked selectors rows) (length rows)
+
+-- the lines of the numbers of the rules that match each element
+abbrev pub AreMatchLines : List StyleRule → List Row → List ℕ → Type 0
+AreMatchLines rules = AreLinesOf Numbers (selectors_of rules)
 
 -- the line of what wins for a name on the element at a place
 abbrev pub IsWinnerLine : List ℕ → List StyleRule → List Row → ℕ → List ℕ → Type 0

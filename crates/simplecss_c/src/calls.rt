@@ -3,9 +3,9 @@
 ghost use Rattle.std.specs.Prelude.{◌≡◌, MatchResult, string_bytes};
 ghost use Rattle.simplecss.specs.SeenRules.{rules_in};
 ghost use Rattle.simplecss_c.specs.Outcomes.{outcome_of};
-ghost use Rattle.simplecss_c.specs.Lines.{AreLinesOf, AreWinnerLines};
+ghost use Rattle.simplecss_c.specs.Lines.{AreMatchLines, AreWinnerLines};
 ghost use Rattle.simplecss_c.specs.Calls.{IsSelectorCall, IsSheetCall, IsPrinted, IsMatchCall};
-ghost use Rattle.simplecss_c.specs.Calls.{IsPageCall, IsStyleCall, passed_of};
+ghost use Rattle.simplecss_c.specs.Calls.{IsPageCall, IsSelectCall, IsStyleCall, passed_of};
 
 use crate::answer::Failure;
 use crate::elements::{TreeElement, read_tree};
@@ -79,8 +79,11 @@ pub struct Passed<'t> {
 }
 
 /// The numbers of the elements of a tree that one of the selectors of a list matches.
-pub fn select(alloc: Global, text: &[u8], tree: Passed<'_>) -> Result<String, Failure> {
-    let selectors = selectors_of(alloc, text_of(text)?)?;
+pub fn select(alloc: Global, text: &[u8], tree: Passed<'_>) -> Result<String, Failure>
+    ensures { IsSelectCall text.now (passed_of tree.entry) (outcome_of result) }
+{
+    let text = text_of(text)?;
+    let selectors = selectors_of(alloc, text)?;
     let tree = read_tree(alloc, tree.elements, tree.strings, tree.ends)?;
     lines(alloc, Asked::Selected, &selectors, &tree)
 }
@@ -149,7 +152,7 @@ pub fn styles(
 /// The numbers of the rules of a sheet that match each element of a tree.
 fn match_lines(alloc: Global, sheet: &StyleSheet<'_>, tree: &Tree<'_>) -> Result<String, Failure>
     ensures { MatchResult result
-        (λ text. AreLinesOf Asked.Numbers (rules_in sheet.now) tree.now (string_bytes text))
+        (λ text. AreMatchLines (rules_in sheet.now) tree.now (string_bytes text))
         (λ failure. failure ≡ Failure.Memory) }
 {
     lines(alloc, Asked::Numbers, &sheet.rules, tree)

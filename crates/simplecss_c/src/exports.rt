@@ -9,7 +9,7 @@ ghost use Rattle.std.specs.Prelude.{◌≡◌, List, ℕ, Result};
 ghost use Rattle.simplecss_c.specs.declared.answer.Failure.{Failure as SeenFailure};
 ghost use Rattle.simplecss_c.specs.Answers.{Answers, IsHandedOver, IsPlaced};
 ghost use Rattle.simplecss_c.specs.Calls.{IsSelectorCall, IsSheetCall, IsPrinted, IsMatchCall};
-ghost use Rattle.simplecss_c.specs.Calls.{IsStyleCall};
+ghost use Rattle.simplecss_c.specs.Calls.{IsSelectCall, IsStyleCall};
 
 use crate::answer::{TreePlace, copy_whole, hand_over, set_place};
 use crate::calls;
@@ -156,7 +156,8 @@ pub extern "C" fn simplecss_select(
     len: &mut usize,
     place: &mut TreePlace,
 ) -> u32
-    ensures { (outcome : Result (List ℕ) SeenFailure)
+    ensures { (outcome : Result (List ℕ) SeenFailure) × IsSelectCall selectors.now
+        (record { elements = elements.now; strings = strings.now; ends = string_ends.now }) outcome
         × Answers outcome result out.old out.new len.new
         × IsPlaced outcome place.old place.new }
 {

@@ -1,5 +1,10 @@
 //! Lists of selectors, with commas between them.
 
+ghost use Rattle.std.specs.Prelude.{◌≡◌, ◌+◌, drop, map, None, Some, IfOk, MatchResult};
+ghost use Rattle.std.specs.Str.{IsCharBoundary};
+ghost use Rattle.simplecss_c.specs.Calls.{FailsFor};
+ghost use Rattle.simplecss_c.specs.SelectorLists.{selectors_in, seen_list};
+
 use crate::answer::Failure;
 use crate::json;
 use log::sink::Discard;
@@ -10,7 +15,7 @@ use std::alloc::{AllocError, Global};
 
 /// What a text is as a list of selectors.
 #[derive(Drop)]
-enum List<'a> {
+enum Listed<'a> {
     /// Each part is a selector, here of a rule without declarations.
     Selectors(Vec<Rule<'a>>),
     /// The part that begins at the first place is none, and reading stopped at the second.
@@ -19,41 +24,56 @@ enum List<'a> {
     NoComma(usize),
 }
 
-/// What stands from a place of the text on.
+/// The text from a place on.
 fn tail(text: &str, place: usize) -> &str {
     text.get(place..).unwrap_or("")
 }
 
+/// The text from a place on, which is a character's.
+fn rest_from(text: &str, place: usize) -> &str
+    requires { IsCharBoundary text.now place }
+    ensures { result.now ≡ drop place text.now }
+{
+    &text[place..]
+}
+
 /// Reads a list of selectors. A comma within an attribute's value, as in `[a="b,c"]`, ends none.
-fn read_list(alloc: Global, text: &str) -> Result<List<'_>, AllocError> {
+fn read_list(alloc: Global, text: &str) -> Result<Listed<'_>, AllocError>
+    ensures { IfOk result (λ listed. seen_list listed ≡ selectors_in text.now) }
+{
     let mut selectors = Vec::new(alloc);
     let mut start: usize = 0;
-    for _ in 0..=text.len() {
-        let (selector, len) = Selector::parse_front(&Discard, alloc, tail(text, start))?;
-        let end = start.saturating_add(len);
+    let most = text.len() + 1;
+    for round in 0..most {
+        let (selector, len) = Selector::parse_front(&Discard, alloc, rest_from(text, start))?;
+        let end = start + len;
         let Some(selector) = selector else {
-            return Ok(List::Refused(start, end));
+            return Ok(Listed::Refused(start, end));
         };
         selectors.push(Rule {
             selector,
             declarations: Vec::new(alloc),
         })?;
-        let behind = tail(text, end);
-        if behind.is_empty() {
-            return Ok(List::Selectors(selectors));
+        let after = rest_from(text, end).as_bytes();
+        if after.is_empty() {
+            return Ok(Listed::Selectors(selectors));
         }
-        if !behind.starts_with(',') {
-            return Ok(List::NoComma(end));
+        if after[0] != b',' {
+            return Ok(Listed::NoComma(end));
         }
-        start = end.saturating_add(1);
+        start = end + 1;
     }
-    Ok(List::NoComma(text.len()))
+    Ok(Listed::NoComma(text.len()))
 }
 
 /// The selectors of a list, each in a rule without declarations, or the refusal.
-pub fn selectors_of(alloc: Global, text: &str) -> Result<Vec<Rule<'_>>, Failure> {
+pub fn selectors_of(alloc: Global, text: &str) -> Result<Vec<Rule<'_>>, Failure>
+    ensures { MatchResult result
+        (λ rules. selectors_in text.now ≡ Some (map (λ rule. rule.selector) rules.items))
+        (λ failure. FailsFor (selectors_in text.now ≡ None) (λ fault. ⊥) ⊥ failure) }
+{
     match read_list(alloc, text)? {
-        List::Selectors(selectors) => Ok(selectors),
+        Listed::Selectors(selectors) => Ok(selectors),
         _ => Err(Failure::Refused),
     }
 }
@@ -84,9 +104,9 @@ fn error_line(alloc: Global, text: &str, start: usize, end: usize) -> Result<Str
 /// The line of the first error in a list of selectors, or nothing where there is none.
 pub fn refusal(alloc: Global, text: &str) -> Result<String, Failure> {
     match read_list(alloc, text)? {
-        List::Selectors(_) => Ok(String::new(alloc)),
-        List::Refused(start, end) => error_line(alloc, text, start, end),
-        List::NoComma(end) => {
+        Listed::Selectors(_) => Ok(String::new(alloc)),
+        Listed::Refused(start, end) => error_line(alloc, text, start, end),
+        Listed::NoComma(end) => {
             let at = position(text, end);
             json::place_line(alloc, at.row, at.col, "a comma or the end was expected")
         }

@@ -4,7 +4,7 @@ ghost use Rattle.std.specs.Prelude.{◌≡◌, ◌+◌, ◌^◌, ◌<◌, ◌++�
 ghost use Rattle.std.specs.Prelude.{length, map, string_bytes};
 ghost use Rattle.std.specs.Option.{option_map};
 ghost use Rattle.simplecss.specs.SeenDeclarations.{declaration_of};
-ghost use Rattle.simplecss.specs.SeenRules.{rules_of, rules_in};
+ghost use Rattle.simplecss.specs.SeenRules.{rules_in};
 ghost use Rattle.cssq.specs.MatchRuns.{numbers_line};
 ghost use Rattle.cssq.specs.StyleRuns.{style_line};
 ghost use Rattle.simplecss_c.specs.Lines.{selected_line, places_line, IsLineOf, AreLinesOf};
@@ -86,7 +86,8 @@ fn push_line<'a>(
     requires index { index.now ≡ map (λ rule. rule.selector) rules.now }
     requires place { place < length tree.now }
     requires number { place + 1 < 2 ^ 64 }
-    ensures { OnOk result ((line : List ℕ) × IsLineOf asked (rules_of rules.now) tree.now place line
+    ensures { OnOk result ((line : List ℕ) × IsLineOf asked
+        (map (λ rule. rule.selector) rules.now) tree.now place line
         × (string_bytes out.new ≡ string_bytes out.old ++ line)) }
 {
     let node = tree.node(place).unwrap();
@@ -106,7 +107,7 @@ pub fn lines(
     tree: &Tree<'_>,
 ) -> Result<String, Failure>
     ensures { MatchResult result
-        (λ text. AreLinesOf asked (rules_of rules.now) tree.now (string_bytes text))
+        (λ text. AreLinesOf asked (map (λ rule. rule.selector) rules.now) tree.now (string_bytes text))
         (λ failure. failure ≡ Failure.Memory) }
 {
     let index = RuleIndex::new(alloc, rules)?;

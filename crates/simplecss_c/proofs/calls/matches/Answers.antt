@@ -2,15 +2,14 @@ use Rattle.std.proofs.Common.{map, ap, ◌∙◌}
 use Rattle.simplecss.specs.SeenRules.{rules_in}
 use Rattle.simplecss.specs.Sheets.{sheet}
 use Rattle.simplecss.specs.ThisEdition.{this_edition}
-use Rattle.simplecss_c.specs.declared.pages.Asked.TheVariants.{Numbers}
 use Rattle.simplecss_c.specs.Calls.{passed_of}
-use Rattle.simplecss_c.specs.Lines.{AreLinesOf}
+use Rattle.simplecss_c.specs.Lines.{AreMatchLines}
 use Rattle.simplecss_c.proofs.PageCalls.{page_due}
 use Rattle.simplecss_c.proofs.calls.matches.Goals as goal
 
 pub returns : goal.returns
 returns c =
-    page_due (AreLinesOf Numbers) c.args.buffer.now c.args.ends.now (passed_of c.args.tree) (map (λ text. text.now) c.in_ok-texts.texts.items) c.in_ok-tree.tree
+    page_due AreMatchLines c.args.buffer.now c.args.ends.now (passed_of c.args.tree) (map (λ text. text.now) c.in_ok-texts.texts.items) c.in_ok-tree.tree
     c.in_ok-texts.ensures c.in_ok-tree.ensures.0 c.in_ok-tree.ensures.1 (rules_in c.in_ok-sheet.sheet)
     (c.in_ok-sheet.ensures.sheet ∙ ap (λ texts. sheet this_edition (map (λ text. text.now) texts)) c.deref.ensures.value)
     c.match_lines.result c.match_lines.ensures

@@ -2,17 +2,15 @@ use Rattle.std.proofs.Common.{◌≡◌, ℕ, List, ◌++◌, ◌+◌, ◌^◌, 
 use Rattle.std.proofs.lemmas.List.{get_or_default}
 use Rattle.std.proofs.lemmas.Result.{on_ok_weaker}
 use Rattle.simplecss.specs.ListTrees.{spot}
-use Rattle.simplecss.specs.SeenRules.{rule_of, rules_of}
 use Rattle.simplecss.specs.Matching.{AreMatches}
 use Rattle.simplecss_tree.specs.Nodes.{element_tree}
 use Rattle.cssq.proofs.Among.{place_within}
-use Rattle.cssq.proofs.Indexed.{same_selectors}
 use Rattle.simplecss_c.specs.declared.pages.Asked.TheVariants.{Numbers, Selected}
-use Rattle.simplecss_c.specs.Lines.{MatchAt, places_line, IsLineOf}
+use Rattle.simplecss_c.specs.Lines.{places_line, IsLineOf}
 use Rattle.simplecss_c.proofs.pages.push_line.Goals.{After-as_slice-places}
 use Rattle.simplecss_c.proofs.pages.push_line.Goals as goal
 
--- the places are those of the rules that match the element
+-- the places are those of the selectors that match the element
 found : (c : After-as_slice-places) → AreMatches element_tree (spot c.args.tree.now c.args.place) (map (λ rule. rule.selector) c.args.rules.now) c.as_slice-places.result.now
 found c =
     let at = subst (λ r. MatchOption r (length c.args.tree.now ≤ c.args.place) (λ node. (c.args.place < length c.args.tree.now) × (node ≡ spot c.args.tree.now c.args.place))) c.unwrap-node.ensures c.node.ensures in
@@ -27,18 +25,14 @@ push_numbers-requires c = λ k d within.
     let same = get_or_default c.as_slice-places.result.now k d 0 within in
     omega (arith, bound, at, same)
 
--- they are those of what the rules say
-said : (c : After-as_slice-places) → MatchAt c.args.tree.now c.args.place (rules_of c.args.rules.now) c.as_slice-places.result.now
-said c = subst (λ selectors. AreMatches element_tree (spot c.args.tree.now c.args.place) selectors c.as_slice-places.result.now) (same_selectors rule_of c.args.rules.now) (found c)
-
 pub returns-in-Numbers : goal.returns-in-Numbers
 returns-in-Numbers c =
-    let are = said (goal.at.returns-in-Numbers c).After-as_slice-places in
-    subst (λ asked. OnOk c.push_numbers.result ((line : List ℕ) × IsLineOf asked (rules_of c.args.rules.now) c.args.tree.now c.args.place line × (string_bytes c.push_numbers.new.out ≡ string_bytes c.args.out.now ++ line))) (sym c.in-Numbers.is)
+    let are = found (goal.at.returns-in-Numbers c).After-as_slice-places in
+    subst (λ asked. OnOk c.push_numbers.result ((line : List ℕ) × IsLineOf asked (map (λ rule. rule.selector) c.args.rules.now) c.args.tree.now c.args.place line × (string_bytes c.push_numbers.new.out ≡ string_bytes c.args.out.now ++ line))) (sym c.in-Numbers.is)
     (on_ok_weaker c.push_numbers.result (λ wrote. (places_line Numbers (c.args.place + 1) c.as_slice-places.result.now, (c.as_slice-places.result.now, are, refl), wrote)) c.push_numbers.ensures)
 
 pub returns-in-Selected : goal.returns-in-Selected
 returns-in-Selected c =
-    let are = said (goal.at.returns-in-Selected c).After-as_slice-places in
-    subst (λ asked. OnOk c.push_selected.result ((line : List ℕ) × IsLineOf asked (rules_of c.args.rules.now) c.args.tree.now c.args.place line × (string_bytes c.push_selected.new.out ≡ string_bytes c.args.out.now ++ line))) (sym c.in-Selected.is)
+    let are = found (goal.at.returns-in-Selected c).After-as_slice-places in
+    subst (λ asked. OnOk c.push_selected.result ((line : List ℕ) × IsLineOf asked (map (λ rule. rule.selector) c.args.rules.now) c.args.tree.now c.args.place line × (string_bytes c.push_selected.new.out ≡ string_bytes c.args.out.now ++ line))) (sym c.in-Selected.is)
     (on_ok_weaker c.push_selected.result (λ wrote. (places_line Selected (c.args.place + 1) c.as_slice-places.result.now, (c.as_slice-places.result.now, are, refl), wrote)) c.push_selected.ensures)
