@@ -76,7 +76,13 @@ fn show_texts(rt: &HostRuntime, names: &[&str], texts: &[&str]) -> ExitCode {
         return ended(rt, Err(RunFault::Memory));
     };
     let mut sheet = StyleSheet::new(rt.alloc());
-    let outcome = run_sheet_into(&mut warnings, rt.alloc(), texts, &mut sheet, &mut rt.stdout());
+    let outcome = run_sheet_into(
+        &mut warnings,
+        rt.alloc(),
+        texts,
+        &mut sheet,
+        &mut rt.stdout(),
+    );
     let _ = warnings.finish();
     mem::forget(sheet);
     ended(rt, outcome)
