@@ -1,4 +1,4 @@
--- What wins as the rules that take an element are looked at by their places, from the last to the
+-- What wins as the rules that match an element are examined by their places, from the last to the
 -- first.
 -- Serves `run_style` (the winner among the rules that an index finds).
 use Rattle.std.proofs.Common.{◌≡◌, ℕ, suc, ◌+◌, ◌<◌, ◌≤◌, Bool, true, List, [], length, map, get_or, Option, Some, None, sym, ap, ◌∙◌, subst, arith}
@@ -39,7 +39,7 @@ module _ {Node : Type 0} (tree : Tree Node) (n : Node) (rules : List Rule) (plac
         let end = get_or_past places (length places) (length (map (λ rule. rule.selector) rules)) (omega arith) ∙ same_number ∙ sym (length-map rules rule_of) in
         subst (λ place. KnownFrom (IsStated tree n (rules_of rules)) name place None) (sym end) (known_none tree n (rules_of rules) name)
 
-    -- none of the rules between two places that follow one another takes the element
+    -- none of the rules between two consecutive places matches the element
     between : (j : ℕ) → j ≤ length places → (w : Option StyleDeclaration) → KnownFrom (IsStated tree n (rules_of rules)) name (get_or places j (length (map (λ rule. rule.selector) rules))) w → KnownFrom (IsStated tree n (rules_of rules)) name (behind places j) w
     between j le = known_skipped tree n (rules_of rules) name (behind places j) (get_or places j (length (map (λ rule. rule.selector) rules))) (behind_within are j le)
         (λ k rule from to at takes. none_between are j k le from to (subst (λ cs. HasPlacement tree cs n) (sym (selector_there rules k rule at)) takes))

@@ -20,7 +20,7 @@ use Rattle.cssq.proofs.Cascading.{OneMore, beats_as_later, not_two, in_rule_more
 use Rattle.cssq.proofs.FromLast.{here_or_later, before_or_from}
 use Rattle.cssq.proofs.Listing.{placed_at, slice_get_some, lists_none, lists_more, lists_same}
 
--- ---- one more declaration behind a list
+-- ---- one more declaration after a list
 
 over_at : (v p : StyleDeclaration) (k m : ℕ) → k < m → (weight p.important ≡ weight v.important) ⊎ (weight v.important + 1 ≤ weight p.important) → Beats p 0 m v 0 k
 over_at v p k m lt (inl e) = by_place e refl lt
@@ -122,7 +122,7 @@ module _ (stands : Standing) (ps : List StyleDeclaration) (lists : ListsInOrder 
   long : length lists.placed ≡ length ps
   long = sym (length-map lists.placed (λ x. x.declaration)) ∙ ap length lists.are
 
-  -- where a declaration stands
+  -- where a declaration is
   pub placed_of : (l : ℕ) (q : StyleDeclaration) → slice_get ps l ≡ Some q → (b : Placed) × (slice_get lists.placed l ≡ Some b) × (b.declaration ≡ q)
   placed_of l q at =
       let within = slice_get_within ps l q at in
@@ -173,7 +173,7 @@ module _ (stands : Standing) (ps : List StyleDeclaration) (lists : ListsInOrder 
     unbeaten = λ i l q st named beats. index_unbeaten name k a at won i l q st.0 named beats (placed_of l q st.1);
   }
 
-  -- what stands before a place of the list, and wins for its name
+  -- what is before a place of the list, and wins for its name
   abbrev pub Kept : ℕ → Standing
   Kept m i j p = WinsAt stands p.name i j p × ((k : ℕ) × (k < m) × (slice_get lists.placed k ≡ Some (placed_at i j p)))
 
@@ -267,7 +267,7 @@ other_place (Some m) k e is = both_ways _ e ((unsigned_Decides m k).1 (same_Some
 
 -- ---- reads of a list of declarations
 
--- what a read past the end would give
+-- what a read past the end would return
 abbrev pub nothing : Declaration
 nothing = record { name = record { ref_ptr = (0, 0); now = [] }; value = record { ref_ptr = (0, 0); now = [] }; important = false }
 

@@ -24,7 +24,7 @@ beats_weight (by_importance a) = omega (arith, a)
 beats_weight (by_rule a b) = omega (arith, a)
 beats_weight (by_place a b d) = omega (arith, a)
 
--- one of an earlier rule beats by importance alone
+-- one of an earlier rule beats only by importance
 pub beats_earlier : {x y : StyleDeclaration} {i j k l : ℕ} → Beats x i j y k l → i < k → weight y.important < weight x.important
 beats_earlier (by_importance a) h = a
 beats_earlier (by_rule a b) h = absurd (omega (arith, b, h))
@@ -65,9 +65,9 @@ weights false false = inl refl
 pub not_two : (stands : Standing) (name : List ℕ) (i k j l : ℕ) (p q : StyleDeclaration) → IsEarlier i k j l → WinsAt stands name i k p → WinsAt stands name j l q → ⊥
 not_two stands name i k j l p q lt won other = not_two_by stands name i k j l p q lt won other (weights q.important p.important)
 
--- ---- one more that stands behind all others
+-- ---- one more after all others
 
--- what stands, and one more behind all of it
+-- what is stated, and one more after all of it
 pub record OneMore (before after : Standing) (i j : ℕ) (p : StyleDeclaration) : Type 0 where
   pub kept : (k l : ℕ) (q : StyleDeclaration) → before k l q → after k l q
   pub new : after i j p

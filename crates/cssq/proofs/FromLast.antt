@@ -28,7 +28,7 @@ none_important ps name b won light j p = heavier_at ps name b won light j p p.im
 
 -- ---- the rules from a place on
 
--- what stands in the rules from a place on
+-- what the rules from a place on state
 abbrev pub From : Standing → ℕ → Standing
 From stands place k l q = (place ≤ k) × stands k l q
 
@@ -60,14 +60,14 @@ module _ {Node : Type 0} (tree : Tree Node) (n : Node) (rules : List StyleRule) 
   stated_here k l q e stated = ap (λ r. slice_get r.declarations l) (sym (stated_rule k l q e stated)) ∙ stated.declared
 
 module _ {Node : Type 0} (tree : Tree Node) (n : Node) (rules : List StyleRule) (name : List ℕ) where
-  -- behind the last rule there is nothing
+  -- after the last rule there is nothing
   pub known_none : KnownFrom (IsStated tree n rules) name (length rules) None
   known_none = record {
     wins = λ k l q stands named. let within = slice_get_within rules k stands.1.rule stands.1.rule_at in omega (arith, within, stands.0);
     light = tt;
   }
 
-  -- nothing stands in the rules from a place up to another, where none of them takes the node
+  -- the rules from a place up to another state nothing if none of them matches the node
   pub known_skipped : (place later : ℕ) → place ≤ later → ((k : ℕ) (rule : StyleRule) → place ≤ k → k < later → slice_get rules k ≡ Some rule → HasPlacement tree rule.components n → ⊥)
       → (w : Option StyleDeclaration) → KnownFrom (IsStated tree n rules) name later w → KnownFrom (IsStated tree n rules) name place w
   known_skipped place later le none None known = record {
@@ -128,7 +128,7 @@ module _ {Node : Type 0} (tree : Tree Node) (n : Node) (rules : List StyleRule) 
 
   module _ (place : ℕ) (rule : StyleRule) (at : slice_get rules place ≡ Some rule) where
     module _ {A : Type 0} (f : A → StyleDeclaration) (known : Bool) where
-      -- the rule at the place was passed over
+      -- the rule at the place was skipped
       passed_unbeaten : (v : StyleDeclaration) (m j : ℕ) → place + 1 ≤ m → v.important ≡ false → IsPassedOver tree n rule name known → (k l : ℕ) (q : StyleDeclaration) → IsStated tree n rules k l q → q.name ≡ name → Beats q k l v m j → k ≡ place → ⊥
       passed_unbeaten v m j behind light passed k l q stated named beats e =
           let q_light = (passed (stated_takes tree n rules place rule at k l q e stated) l q (stated_here tree n rules place rule at k l q e stated) named).1 in

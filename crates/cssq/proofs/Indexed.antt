@@ -1,5 +1,5 @@
--- What the places that an index gives tell of the rules between them.
--- Serves `run_match` and `run_style` (what an index finds is what asking each rule gives).
+-- What the places that an index finds say of the rules between them.
+-- Serves `run_match` and `run_style` (what an index finds is what testing each rule finds).
 use Rattle.std.proofs.Common.{◌≡◌, ℕ, zero, suc, ◌+◌, ◌-◌, ◌<◌, ◌≤◌, List, [], ◌⊎◌, inl, inr, length, map, take, get_or, sym, ap, ◌∙◌, subst, arith}
 use Rattle.std.proofs.lemmas.List.{get_or_default, get_or_past, get_or-map, length-map, take_all, take_more}
 use Rattle.std.proofs.lemmas.Simd.{map-map}
@@ -15,7 +15,7 @@ use Rattle.cssq.specs.MatchRuns.{Takes, AreAnswers, numbers_line, IsLineOf}
 use Rattle.cssq.proofs.FromLast.{before_or_from, here_or_later}
 use Rattle.cssq.proofs.MatchLines.{AnsweredSoFar, answered_none, answered_yes, answered_no}
 
--- the place behind that of number j - 1, or the first place of all
+-- the place after that of number j - 1, or the first place of all
 abbrev pub behind : List ℕ → ℕ → ℕ
 behind places zero = 0
 behind places (suc j) = get_or places j 0 + 1
@@ -23,7 +23,7 @@ behind places (suc j) = get_or places j 0 + 1
 -- ---- between places
 
 module _ {P : ℕ → Type 0} {number : ℕ} {places : List ℕ} (are : AreThePlaces P number places) where
-  -- what stands at a place among them is as wanted
+  -- what is at a place among them is as wanted
   pub wanted_at : (j : ℕ) → j < length places → (get_or places j 0 < number) × P (get_or places j 0)
   wanted_at j within = (are.exactly (get_or places j 0)).0 (Contains-get_or places j 0 within)
 
@@ -56,8 +56,7 @@ module _ {P : ℕ → Type 0} {number : ℕ} {places : List ℕ} (are : AreThePl
     | inr more ↦ (let here = get_or_default places j number 0 (omega (arith, more, within)) in let there = get_or_default places i k 0 within in let up = rising j i (omega (arith, more)) within in omega (arith, here, there, is, to, up))
   ]
 
-  -- none that is wanted stands between two places that follow one another, nor before the first,
-  -- nor behind the last
+  -- none that is wanted is between two consecutive places, before the first or after the last
   pub none_between : (j k : ℕ) → j ≤ length places → behind places j ≤ k → k < get_or places j number → P k → ⊥
   none_between j k le from to wanted =
       let below = next_within j in
@@ -80,7 +79,7 @@ module _ (rules : List StyleRule) (element : Spot) where
   takes_there : (k : ℕ) → k < length rules → HasPlacement page_tree (selector_at (map (λ rule. rule.components) rules) k) element → Takes (get_or rules k nothing) element
   takes_there k within placed = subst (λ cs. HasPlacement page_tree cs element) (get_or-map (λ rule. rule.components) rules k nothing [] within) placed
 
-  -- none of the next n rules takes the element
+  -- none of the next n rules matches the element
   skipped : {ps : List ℕ} (n i : ℕ) → AnsweredSoFar rules element i ps → i + n ≤ length rules → ((k : ℕ) → i ≤ k → k < i + n → Takes (get_or rules k nothing) element → ⊥) → AnsweredSoFar rules element (i + n) ps
   skipped {ps} zero i so_far le none = let same : i ≡ i + 0 = omega arith in subst (λ m. AnsweredSoFar rules element m ps) same so_far
   skipped {ps} (suc n) i so_far le none =
@@ -123,7 +122,7 @@ module _ (rules : List StyleRule) (element : Spot) where
         (subst (λ ps. AnsweredSoFar rules element (get_or places (length places) (length (map (λ rule. rule.components) rules))) ps) (take_all (length places) places (omega arith))
         (up_to (length places) (omega arith) (first_places (length places) (omega arith))))
 
-    -- the line with the numbers of these places tells of the element
+    -- the line with the numbers of these places is that of the element
     pub numbers_told : (rows : List Row) (place : ℕ) → element ≡ spot rows place → IsLineOf rules rows place (numbers_line (place + 1) (map (λ place. place + 1) places))
     numbers_told rows place is = (
       all_places.answers,

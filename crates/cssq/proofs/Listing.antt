@@ -1,4 +1,4 @@
--- Lists of what stands somewhere, in the order of the places.
+-- Lists of what rules state, in the order of the places.
 -- Serves `cascade::winners` (in the order of their places).
 use Rattle.std.proofs.Common.{◌≡◌, ℕ, zero, suc, ◌+◌, ◌<◌, ◌≤◌, ◌⊎◌, inl, inr, List, [], ◌∷◌, ◌++◌, length, take, Some, refl, sym, ap, ◌∙◌, subst, append_assoc, append-nil, arith}
 use Rattle.std.specs.List.{slice_get}
@@ -15,7 +15,7 @@ use Rattle.cssq.proofs.FromLast.{before_or_from, stated_takes, stated_here}
 abbrev pub placed_at : ℕ → ℕ → StyleDeclaration → Placed
 placed_at i j p = record { rule = i; place = j; declaration = p }
 
--- where nothing stands, there is nothing to list
+-- where nothing is stated, there is nothing to list
 pub lists_none : {stands : Standing} → ((i j : ℕ) (p : StyleDeclaration) → stands i j p → ⊥) → ListsInOrder stands []
 lists_none none = record {
   placed = [];
@@ -25,7 +25,7 @@ lists_none none = record {
   all = λ i j p h. absurd (none i j p h);
 }
 
--- where the same stands, the same list does
+-- where the same is stated, the list is the same
 pub lists_same : {before after : Standing} {ps : List StyleDeclaration} → ((i j : ℕ) (p : StyleDeclaration) → before i j p → after i j p) → ((i j : ℕ) (p : StyleDeclaration) → after i j p → before i j p) → ListsInOrder before ps → ListsInOrder after ps
 lists_same forth back lists = record {
   placed = lists.placed;
@@ -50,7 +50,7 @@ module _ {before after : Standing} {i j : ℕ} {p : StyleDeclaration} (more : On
   new_all k l q (inl h) = let found = lists.all k l q h in (found.0, slice_get_kept lists.placed (placed_at i j p) found.0 (placed_at k l q) found.1)
   new_all k l q (inr e) = (length lists.placed, slice_get_last lists.placed (placed_at i j p) ∙ (λ t. Some (placed_at (sym e.0 t) (sym e.1 t) (sym e.2 t))))
 
-  -- one more, which stands behind all others
+  -- one more, after all others
   pub lists_more : ListsInOrder after (ps ++ p ∷ [])
   lists_more = record {
     placed = lists.placed ++ placed_at i j p ∷ [];
@@ -62,11 +62,11 @@ module _ {before after : Standing} {i j : ℕ} {p : StyleDeclaration} (more : On
 
 -- ---- the declarations of one rule after another
 
--- what stands in the rules before a place
+-- what the rules before a place state
 abbrev pub Before : Standing → ℕ → Standing
 Before stands m i j p = (i < m) × stands i j p
 
--- what stands there, and the first declarations of the next rule
+-- the same, and the first declarations of the next rule
 abbrev Partly : Standing → ℕ → List StyleDeclaration → ℕ → Standing
 Partly stands m declared c i j p = ((i < m) × stands i j p) ⊎ ((i ≡ m) × (j < c) × (slice_get declared j ≡ Some p))
 

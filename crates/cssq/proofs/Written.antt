@@ -1,4 +1,4 @@
--- A write takes the front of what is left.
+-- A write accepts the front of what is left.
 -- Serves `run_selector`, `run_sheet`, `run_match` and `run_style` (what the writer got).
 use Rattle.std.proofs.Common.{◌≡◌, ℕ, ◌-◌, List, ◌++◌, length, take, drop, Option, Some, None, refl, sym, ap, subst, ◌∙◌, append_assoc, take-append-drop, arith}
 use Rattle.std.proofs.lemmas.Grind.{common_steps}
@@ -50,7 +50,7 @@ pub runs_failed : (IsDue : Result (List ℕ) RunFault → Type 0) (r : Result (U
 runs_failed IsDue (Ok x) fault known is due = absurd is
 runs_failed IsDue (Err told) fault known is due = fails_unwritten IsDue told known (subst (FailsBeforeWriting IsDue) (sym is) due)
 
--- what `?` gives on, where the fault is as wanted
+-- what `?` returns, where the fault is as wanted
 pub failed_with : {V : Type 0} (P : RunFault → Type 0) (r : Result V RunFault) (fault : RunFault) → IsErrAnd r (λ told. told ≡ fault) → P fault → IfErr r P
 failed_with P (Ok x) fault is holds = tt
 failed_with P (Err told) fault is holds = subst P (sym is) holds

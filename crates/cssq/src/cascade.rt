@@ -19,7 +19,7 @@ use std::alloc::{AllocError, Global};
 use std::collections::BTreeMap;
 use std::marker::Model;
 
-/// The later of two declarations of a rule, unless the earlier alone is important.
+/// Returns the later of two declarations of a rule, unless only the earlier is important.
 fn better_of<'a>(earlier: Option<Declaration<'a>>, later: Declaration<'a>) -> Declaration<'a>
     ensures { declaration_of result
         ≡ better_of (option_map declaration_of earlier.entry) (declaration_of later.entry) }
@@ -61,8 +61,8 @@ fn contender<'a>(rule: &Rule<'a>, name: &str, is_later_known: bool) -> Option<De
     Some(best)
 }
 
-/// The contender of a rule, if the rule takes the element. The rule is not asked where it has no
-/// contender.
+/// Returns the contender of a rule, if the rule matches the element. A rule without a contender is
+/// not tested.
 fn candidate<'a, E: Element>(
     rule: &Rule<'a>,
     element: &E,
@@ -83,11 +83,11 @@ fn candidate<'a, E: Element>(
     }
 }
 
-/// The declaration that wins for the name on the element: among the declarations of this name in
-/// the rules that take the element, an important one beats one that is not, then one of a later
-/// rule beats, then a later one of the same rule. None where there is no such declaration. The name
-/// compares byte by byte. It takes no memory, asks each rule at most once whether it takes the
-/// element, and asks no rule that has no declaration of the name.
+/// Returns the declaration that wins for the name on the element: among the declarations of this
+/// name in the rules that match the element, an important one beats one that is not, then one of a
+/// later rule beats, then a later one of the same rule. `None` if there is no such declaration. The
+/// name compares byte by byte. Allocates nothing, tests each rule at most once, and tests no rule
+/// that has no declaration of the name.
 pub fn winning<'a, E: Element>(
     sheet: &StyleSheet<'a>,
     element: &E,
@@ -117,7 +117,8 @@ pub fn winning<'a, E: Element>(
     winner
 }
 
-/// What `winning` gives for an element of a page, by the places of the rules that take it.
+/// Returns what `winning` returns for an element of a page, by the places of the rules that match
+/// it.
 pub(crate) fn winning_among<'a>(
     rules: &[Rule<'a>],
     places: &[usize],
@@ -142,7 +143,7 @@ pub(crate) fn winning_among<'a>(
     winner
 }
 
-/// The declarations of the rules that take the element, in the order of their places.
+/// Returns the declarations of the rules that match the element, in the order of their places.
 fn stated_on<'a, E: Element>(
     alloc: Global,
     rules: &[Rule<'a>],
@@ -161,8 +162,8 @@ fn stated_on<'a, E: Element>(
     Ok(all)
 }
 
-/// Whether a declaration wins over the one of its name that stands earlier in the list, if one
-/// does.
+/// Whether a declaration wins over the one of its name that is earlier in the list, if there is
+/// one.
 fn takes_over(
     declarations: &[Declaration<'_>],
     known: Option<usize>,
@@ -234,9 +235,9 @@ fn winners_of<'a, E: Element>(
 }
 
 /// Returns the declarations that win on the element: for each name the one that `winning` returns,
-/// in the order of rules and of declarations in them. Fails only if an allocation fails. Each rule is tested once against
-/// the element, and the time that the rest takes grows as that of sorting the declarations of the
-/// rules that match. [`Cascade::winners`] finds these rules by an index.
+/// in the order of rules and of declarations in them. Fails only if an allocation fails. Each rule
+/// is tested once against the element, and the rest takes the time of sorting the declarations of
+/// the rules that match. [`Cascade::winners`] finds these rules by an index.
 pub fn winners<'a, E: Element>(
     alloc: Global,
     sheet: &StyleSheet<'a>,

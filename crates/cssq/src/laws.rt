@@ -6,8 +6,8 @@ use crate::command::Command;
 use crate::runs::RunFault;
 use cssq_tree::tree::TreeFault;
 
-/// Two faults are equal exactly if they are of one kind at one line, and two commands if they ask
-/// for the same with words of the same bytes.
+/// Two faults are equal exactly if they are of one kind at one line, and two commands if they
+/// are the same request with words of the same bytes.
 pub fn equality_laws()
     ensures tree_faults { (a b : TreeFault) → IsTrue (⟦<TreeFault as PartialEq>⟧.eq a b) ↔ (a ≡ b) }
     ensures run_faults { (a b : RunFault) → IsTrue (⟦<RunFault as PartialEq>⟧.eq a b) ↔ (a ≡ b) }

@@ -35,7 +35,7 @@ use std::io::Write;
 pub enum RunFault {
     /// The text is no selector.
     Refused,
-    /// The text of a tree has a fault. A tree's want of memory is answered as `Memory`.
+    /// The text of a tree has a fault. If a tree runs out of memory, the fault is `Memory`.
     Tree(TreeFault),
     /// Memory was refused.
     Memory,
@@ -44,8 +44,8 @@ pub enum RunFault {
 }
 
 impl RunFault {
-    /// The exit status of the program: 1 where a text has a fault, 3 for want of memory, 4 where
-    /// the writer failed. It takes no memory.
+    /// The exit status of the program: 1 if a text has a fault, 3 if out of memory, 4 if the writer
+    /// failed. Allocates nothing.
     pub fn status(&self) -> u8
         ensures { result ≡ status_of self.now }
     {
@@ -172,8 +172,8 @@ pub fn sheet_text(alloc: Global, sheet: &StyleSheet<'_>) -> Result<String, Alloc
     format!(in alloc; "{sheet}\n")
 }
 
-/// Reads the texts in turn into one sheet, and writes the printed sheet, and one newline if it has
-/// a rule.
+/// Reads the texts one after another into one sheet, and writes the printed sheet, and one newline
+/// if it has a rule.
 ///
 /// The whole output is built first: after `Memory` nothing was written. After `Output` a beginning
 /// of it was, and never all of it. There is no other fault.
@@ -265,17 +265,17 @@ fn push_winner(
     writeln!(out, "{number}: {value}{mark}")
 }
 
-/// What the lines tell of the elements of a page.
+/// What the lines say of the elements of a page.
 #[derive(Clone, Copy)]
 pub enum Asked<'n> {
-    /// The numbers of the rules that take the element.
+    /// The numbers of the rules that match the element.
     Rules,
     /// The declaration of the name that wins on the element.
     Winner(&'n str),
 }
 
-/// Adds the line of the element at a place of a page, by an index of the rules. What stood in
-/// `places` is dropped.
+/// Adds the line of the element at a place of a page, by an index of the rules. The previous items
+/// of `places` are dropped.
 fn push_element<'a>(
     out: &mut String,
     asked: Asked<'_>,
@@ -321,7 +321,7 @@ pub fn page_lines<'a>(
     Ok(text)
 }
 
-/// What is asked of the elements of a tree, by the rules of a sheet.
+/// Returns the lines of the elements of a tree, by the rules of a sheet.
 fn tree_output(
     alloc: Global,
     asked: Asked<'_>,
@@ -357,7 +357,7 @@ fn page_output<'a, P: Report<'a>>(
     tree_output(alloc, asked, sheet.rules.as_slice(), tree)
 }
 
-/// Writes what is asked of the elements of a tree. The whole output is built first.
+/// Writes the lines of the elements of a tree. The whole output is built first.
 fn run_page<'a, P: Report<'a>, W: Write>(
     report: &mut P,
     alloc: Global,
@@ -374,11 +374,11 @@ fn run_page<'a, P: Report<'a>, W: Write>(
 }
 
 /// Writes for each element of a tree its number from 1, a colon, a space and the number of each
-/// rule of the sheet that takes it, and a newline.
+/// rule of the sheet that matches it, and a newline.
 ///
 /// The sheet is read first, then the tree, and then the whole output is built: after `Tree` and
 /// `Memory` nothing was written. After `Output` a beginning of it was, and never all of it.
-/// `Refused` does not come.
+/// `Refused` does not occur.
 pub fn run_match<R: Log, W: Write>(
     rt: &R,
     alloc: Global,
@@ -411,7 +411,7 @@ pub fn run_match_reporting<'a, P: Report<'a>, W: Write>(
 ///
 /// The sheet is read first, then the tree, and then the whole output is built: after `Tree` and
 /// `Memory` nothing was written. After `Output` a beginning of it was, and never all of it.
-/// `Refused` does not come.
+/// `Refused` does not occur.
 pub fn run_style<R: Log, W: Write>(
     rt: &R,
     alloc: Global,

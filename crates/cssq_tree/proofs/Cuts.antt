@@ -50,7 +50,7 @@ first_kept (b ∷ line) (next ∷ lines) some = refl
 pub split_whole : (p : ℕ → Bool) (text : List ℕ) → position_or_len p text ≡ length text → slice_split p text ≡ text ∷ []
 split_whole p text none = slice_split_none p text (All-from_get_or (λ b. p b ≡ false) text 0 (λ i lt. fails_before_first p text i 0 (omega arith)))
 
--- the first line and the text behind its newline
+-- the first line and the text after its newline
 module _ (text line others : List ℕ) (cut : (line ≡ before_first is_newline text) × (others ≡ after_first is_newline text) × (position_or_len is_newline text < length text)) where
   pub line_cut : lines_of text ≡ line ∷ lines_of others
   line_cut =

@@ -25,7 +25,7 @@ key_apart key n m field others e apart = subst (λ n. has_key (take n (field ∷
 pub has_key_more : (key : List ℕ) (n m : ℕ) (fields : List (List ℕ)) (field : List ℕ) (others : List (List ℕ)) → fields ≡ field ∷ others → n ≡ suc m → bytes_eq (key_of field) key ≡ false → has_key (take n fields) key ≡ has_key (take m others) key
 has_key_more key n m fields field others is e apart = ap (λ l. has_key (take n l) key) is ∙ key_apart key n m field others e apart
 
--- the faults of fields that stand behind others
+-- the faults of fields that follow others
 abbrev pub faults_behind : ℕ → List (List ℕ) → List (List ℕ) → List TreeFault
 faults_behind number before [] = []
 faults_behind number before (field ∷ fields) = cons_option (field_fault number before field) (faults_behind number (before ++ field ∷ []) fields)
@@ -44,7 +44,7 @@ each_behind number before (field ∷ fields) =
     (λ k. cons_option (fault_here number before field fields k) (filter_map (fault_of_field number (regrouped k)) (range_with_len (longer k) (length fields))))
     ∙ ap (cons_option (field_fault number before field)) (each_behind number (before ++ field ∷ []) fields)
 
--- the faults of fields that were passed, and of those that are left
+-- the faults of fields that were examined, and of those that are left
 pub record Passed (number : ℕ) (all rest : List (List ℕ)) (before : List (List ℕ)) : Type 0 where
   pub whole : all ≡ before ++ rest
   pub same : field_faults number all ≡ faults_behind number before rest
@@ -70,7 +70,7 @@ module _ {number : ℕ} {all rest before : List (List ℕ)} (passed : Passed num
         same = passed.same ∙ ap (faults_behind number before) is ∙ ap (λ o. cons_option o (faults_behind number (before ++ field ∷ []) others)) none;
       }
 
--- ---- with a count of the fields that were passed
+-- ---- with a count of the fields that were examined
 
 pub record Counted (number : ℕ) (all rest : List (List ℕ)) (count : ℕ) : Type 0 where
   pub before : List (List ℕ)
@@ -102,7 +102,7 @@ module _ {number : ℕ} {all rest : List (List ℕ)} {count : ℕ} (c : Counted 
     counted = length-append c.before (field ∷ []) ∙ ap (λ n. n + 1) c.counted;
   }
 
--- ---- what is told of the fields
+-- ---- what is reported of the fields
 
 no_memory : (number line : ℕ) (bare repeats : Bool) → cond bare (Some (NoEquals number)) (cond repeats (Some (RepeatedKey number)) None) ≡ Some (Memory line) → ⊥
 no_memory number line true repeats is = cc
@@ -118,7 +118,7 @@ first_memory number line fields (place ∷ places) is = from (first_memory numbe
     from later None e is = later is
     from later (Some fault) e is = no_memory number line (not (has_equals (get_or fields place []))) (has_key (take place fields) (key_of (get_or fields place []))) (e ∙ is)
 
--- the first fault of the fields is told as such
+-- the first fault of the fields is reported as such
 pub fields_told : (number : ℕ) (fields : List (List ℕ)) (fault : TreeFault) → Some fault ≡ slice_get (field_faults number fields) 0 → IsToldOf number (field_faults number fields) fault
 fields_told number fields (Memory line) is = absurd (first_memory number line fields (range_with_len 0 (length fields)) (sym is))
 fields_told number fields (BadDepth line) is = sym is
@@ -130,7 +130,7 @@ pub no_first : (faults : List TreeFault) → None ≡ slice_get faults 0 → fau
 no_first [] is = refl
 no_first (fault ∷ faults) is = absurd (cc)
 
--- the fault of a reader of the fields is told as such
+-- the fault of a reader of the fields is reported as such
 pub each_told : {A : Type 0} (number : ℕ) (fields : List (List ℕ)) (r : Result A TreeFault) → IfErr r (λ fault. Some fault ≡ slice_get (field_faults number fields) 0) → IfErr r (IsToldOf number (field_faults number fields))
 each_told number fields (Ok a) is = tt
 each_told number fields (Err fault) is = fields_told number fields fault is

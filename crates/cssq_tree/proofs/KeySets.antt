@@ -1,5 +1,5 @@
 -- The keys of fields in a set.
--- Serves `tree::first_fault_by_set` (a key that stands twice).
+-- Serves `tree::first_fault_by_set` (a key that occurs twice).
 use Rattle.std.proofs.Common.{◌≡◌, ℕ, Bool, true, false, cond, List, [], ◌∷◌, ◌++◌, refl, sym, ap, ◌∙◌, Bor, Ordering}
 use Rattle.std.specs.Prelude.{bytes_eq, not, ◌||◌}
 use Rattle.std.specs.List.{list_any}
@@ -19,7 +19,7 @@ by_text x y = slice_cmp nat_cmp x.now y.now
 abbrev pub has_text : BTreeSet (Bor (List ℕ)) → List ℕ → Bool
 has_text keys key = contains_by (λ k. slice_cmp nat_cmp key k.now) keys
 
--- the set has the keys of the fields that were passed
+-- the set has the keys of the fields that were examined
 pub record KeysAre (number : ℕ) (all rest : List (List ℕ)) (keys : BTreeSet (Bor (List ℕ))) : Type 0 where
   pub before : List (List ℕ)
   pub passed : Passed number all rest before

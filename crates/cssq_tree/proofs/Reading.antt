@@ -26,7 +26,7 @@ first_is : (faults others : List TreeFault) (fault : TreeFault) (rs : List Row) 
 first_is [] others fault rs is = absurd (cc)
 first_is (f ∷ faults) others fault rs is = let same : f ≡ fault = cc in ap Err same
 
--- what was read of a text up to its rest: the lines that were passed have no fault, and their rows
+-- what was read of a text up to its rest: the lines that were read have no fault, and their rows
 pub record ReadSoFar (text rest : List ℕ) (lines : List Line) (limit : ℕ) : Type 0 where
   pub faults : faults_in text ≡ replicate (length lines) [] ++ line_faults (length lines + 1) limit (lines_in rest)
   pub said : map row_of (lines_in text) ≡ rows lines ++ map row_of (lines_in rest)
@@ -100,7 +100,7 @@ module _ {text rest : List ℕ} {lines : List Line} {limit : ℕ} (so_far : Read
           low = omega (arith, so_far.low, longer, low);
         }
 
-  -- what the line's reader tells is the text's fault
+  -- what the line's reader reports is the text's fault
   pub fault_found : (fault : TreeFault) → IsToldOf (length lines + 1) here fault → IsFaultOf fault text
   fault_found (Memory n) is = subst (λ n. IsSoundTo n text) (sym is.0) (sound is.1)
   fault_found (BadDepth n) is = told (BadDepth n) is
@@ -126,7 +126,7 @@ read_all {text} {rest} {lines} {limit} so_far none =
     let all : map row_of (lines_in text) ≡ rows lines = so_far.said ∙ ap (λ r. rows lines ++ map row_of (lines_in r)) nothing ∙ append-nil (rows lines) in
     (λ k. first_or_rows (no_fault k) (all k))
 
--- an entry's line behind the others
+-- an entry's line after the others
 pub line_added : (old : List Line) (limit number : ℕ) (text : List ℕ) (e : Entry) (l : Line) (new : List Line) → number ≡ length old + 1 → Says number limit text e → e.depth ≤ limit → l.entry ≡ e → AreLinked (old ++ l ∷ []) → new ≡ old ++ l ∷ [] → IsAdded old limit text new (e.depth + 1)
 line_added old limit number text e l new at says within keeps linked added = record {
   line = l;

@@ -27,9 +27,9 @@ use std::marker::Model;
 /// What is wrong with a tree's text, with the number of the line at which it is, the first being 1.
 #[derive(Clone, Copy, PartialEq, Debug)]
 pub enum TreeFault {
-    /// The first field is no depth: `0`, or digits without a leading zero. Or it is one that may
-    /// not stand there: on the first line a depth is 0, and on another at most that of the line
-    /// before and one more. So it is at an empty line.
+    /// The first field is no depth (`0`, or digits without a leading zero), or one that is not
+    /// allowed there: on the first line a depth is 0, and on another at most one more than that of
+    /// the line before. An empty line has this fault.
     BadDepth(usize),
     /// There is no second field, the name, or it is empty.
     EmptyName(usize),
@@ -106,7 +106,7 @@ fn len_before(text: &str, byte: u8) -> usize
     count_before(text.as_bytes(), byte)
 }
 
-/// The first line of a text that is not empty, and the text behind it.
+/// Returns the first line of a text that is not empty, and the text after it.
 #[inline(always)]
 fn cut_line(text: &str) -> (&str, &str)
     requires { 0 < length text.now }
@@ -205,7 +205,7 @@ fn cut_attribute(field: &str) -> Option<(&str, &str)>
     }
 }
 
-/// What stands before the first `=`, and what stands behind it.
+/// Returns what is before the first `=`, and what is after it.
 fn attribute_of(field: &str) -> (&str, &str)
     ensures key { result.0.now ≡ key_of field.now }
     ensures value { result.1.now ≡ value_of field.now }
@@ -279,8 +279,8 @@ fn are_many(all: &str) -> bool {
     all.len() >= 3 * FEW && tab_count(all.as_bytes()) >= FEW
 }
 
-/// Reads many attribute fields of a line. Where memory for a set of their keys is refused, they are
-/// compared in pairs, so that want of memory is told of a sound line alone.
+/// Reads many attribute fields of a line. If memory for a set of their keys is refused, they are
+/// compared in pairs, so that `Memory` is reported only for a line with no other fault.
 fn read_many(alloc: Global, number: usize, all: &str) -> Result<Values, TreeFault>
     ensures sound { IfOk result (λ values. (field_faults number (fields_of all.now) ≡ [])
         × AreValues all.now (fields_of all.now) values) }
@@ -366,7 +366,7 @@ fn nearest(lines: &[Line<'_>], depth: usize) -> Option<usize>
     candidate
 }
 
-/// The line of an entry that stands behind others.
+/// Returns the line of an entry that follows others.
 fn link<'t>(lines: &[Line<'t>], entry: Entry<'t>) -> Line<'t>
     requires { AreLinked lines.now }
     ensures entry { result.entry ≡ entry.entry }
@@ -400,8 +400,8 @@ fn link<'t>(lines: &[Line<'t>], entry: Entry<'t>) -> Line<'t>
     }
 }
 
-/// Adds what the text of a line says behind the other lines, or tells what is wrong with it. The
-/// result is the greatest depth that the next line may have.
+/// Appends the entry of a line's text to the lines, or reports what is wrong with it. Returns the
+/// greatest depth that the next line may have.
 #[inline(always)]
 fn add_line<'t>(
     alloc: Global,

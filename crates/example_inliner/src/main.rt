@@ -33,8 +33,8 @@ fn push_declaration(style: &mut String, declaration: &Declaration<'_>) -> Result
     Ok(())
 }
 
-/// The style of an element: what wins in the sheet, and then its own declarations. So its own win
-/// over the sheet's, but for those of the sheet that alone are important.
+/// Returns the style of an element: what wins in the sheet, and then its own declarations. So its
+/// own win over the sheet's, except where only the sheet's is important.
 fn style_of(alloc: Global, winners: &[Declaration<'_>], own: &str) -> Result<String, AllocError> {
     let mut style = String::new(alloc);
     for declaration in winners {
@@ -106,7 +106,7 @@ fn run(rt: &HostRuntime, sheet: &str, tree: &str) -> io::Result<ExitCode> {
     }
 }
 
-/// Takes the names of a sheet and of a tree.
+/// The arguments are the names of a sheet and of a tree.
 fn main(rt: HostRuntime) -> io::Result<ExitCode> {
     let words: Vec<String> = env::args(&rt)?.skip(1).collect(rt.alloc())?;
     match words.as_slice() {

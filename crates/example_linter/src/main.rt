@@ -17,7 +17,7 @@ fn lint(rt: &HostRuntime, file: &str) -> io::Result<bool> {
     Ok(!faults.is_empty())
 }
 
-/// Takes the names of style sheets. The status is 1 where one of them has a fault.
+/// The arguments are the names of style sheets. The status is 1 if one of them has a fault.
 fn main(rt: HostRuntime) -> io::Result<ExitCode> {
     let files: Vec<String> = env::args(&rt)?.skip(1).collect(rt.alloc())?;
     if files.is_empty() {

@@ -94,7 +94,7 @@ fn query(rt: &HostRuntime, list: &str, file: &str) -> io::Result<ExitCode> {
     })
 }
 
-/// Takes a list of selectors and the name of a tree.
+/// The arguments are a list of selectors and the name of a tree.
 fn main(rt: HostRuntime) -> io::Result<ExitCode> {
     let words: Vec<String> = env::args(&rt)?.skip(1).collect(rt.alloc())?;
     match words.as_slice() {

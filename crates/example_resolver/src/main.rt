@@ -91,7 +91,7 @@ fn run(rt: &HostRuntime, sheet: &str, picture: &str) -> io::Result<()> {
     print(rt, &sheet, &tree)
 }
 
-/// Takes the names of a sheet and of a picture.
+/// The arguments are the names of a sheet and of a picture.
 fn main(rt: HostRuntime) -> io::Result<ExitCode> {
     let words: Vec<String> = env::args(&rt)?.skip(1).collect(rt.alloc())?;
     match words.as_slice() {

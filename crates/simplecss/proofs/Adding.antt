@@ -36,7 +36,7 @@ adds_then {P} {Q} a b c (m, e, p) (n, f, q) = (m ++ n, f ∙ ap (λ xs. xs ++ n)
 pub adds_as : {P Q : ℕ → Type 0} (old new : List ℕ) → ((place : ℕ) → P place ↔ Q place) → Adds old new P → Adds old new Q
 adds_as old new same (m, e, p) = (m, e, λ place. (λ c. (same place).0 ((p place).0 c), λ h. (p place).1 ((same place).1 h)))
 
--- what stands in a list to which places were added
+-- what a list holds to which places were added
 pub added : {P : ℕ → Type 0} (old new : List ℕ) → Adds old new P → (place : ℕ) → Contains new place ↔ (Contains old place ⊎ P place)
 added {P} old new (m, e, p) place =
     subst (λ xs. Contains xs place ↔ (Contains old place ⊎ P place)) (sym e) (
@@ -44,7 +44,7 @@ added {P} old new (m, e, p) place =
       λ h. elim h [ inl x ↦ Contains-append_left old m place x | inr y ↦ Contains-append_right old m place ((p place).1 y) ],
     )
 
--- a sort and a removal of repeats keep what stands in a list
+-- a sort and a removal of repeats keep what a list holds
 pub sorted_same : (old between new : List ℕ) → IsPermutation old between → new ≡ dedup eqb between → (place : ℕ) → Contains new place ↔ Contains old place
 sorted_same old between new moved e place =
     subst (λ xs. Contains xs place ↔ Contains old place) (sym e) (

@@ -1,4 +1,4 @@
--- Numbers in order, by a test that tells them.
+-- Numbers in order, by a test of them.
 -- Serves `RuleIndex::matching_counted` and `laws::answers_law` (places in order, each once).
 use Rattle.std.proofs.Common.{◌≡◌, ℕ, zero, suc, ◌+◌, ◌<◌, ◌≤◌, ◌↔◌, ◌⊎◌, inl, inr, List, [], ◌∷◌, Bool, true, false, cond, IsTrue, length, map, get_or, refl, sym, ap, ◌∙◌, subst, arith}
 use Rattle.std.specs.List.{Contains, filter, sum_by, range_with_len, items_where_true}
@@ -41,7 +41,8 @@ module _ (test : ℕ → Bool) where
   abbrev IsPassed : ℕ → ℕ → ℕ → Type 0
   IsPassed a n x = (a ≤ x) × (x < a + n) × (test x ≡ true)
 
-  -- the same, one further, where the first number of the range passes, and where it does not
+  -- the same, one further, where the first number of the range passes the test, and where it
+  -- does not
   with_first : (n a x : ℕ) (xs : List ℕ) → test a ≡ true → Rising a (x ∷ xs) → ((y : ℕ) → Contains (x ∷ xs) y ↔ IsPassed a (suc n) y) → (a ≡ x) × ((y : ℕ) → Contains xs y ↔ IsPassed (a + 1) n y)
   with_first n a x xs e r are = (first, λ y. (there y, back y))
     where

@@ -1,4 +1,4 @@
--- The answers of selectors that are asked in turn, by the places of those that match.
+-- The answers of selectors that are tested in order, by the places of those that match.
 -- Serves `laws::answers_law`.
 use Rattle.std.proofs.Common.{◌≡◌, ℕ, suc, ◌+◌, ◌<◌, ◌↔◌, List, [], ◌∷◌, Bool, true, length, map, get_or, nat_eq, sym, ap, ◌∙◌, subst, arith}
 use Rattle.std.specs.List.{AllZip, items_where_true, list_any, range_with_len}
@@ -13,7 +13,7 @@ use Rattle.simplecss.specs.Matching.{AreMatches, AreAnswers, places_with_yes}
 use Rattle.simplecss.specs.SelectorPlaces.{selector_at}
 use Rattle.simplecss.proofs.Ascending.{places_are, told_by}
 
--- a test at each place of a list that tells of the value there
+-- a test at each place of a list that decides a property of the value there
 all_told : {V : Type 0} (test : ℕ → Bool) (P : V → Type 0) (vs : List V) (d : V) (a : ℕ) → ((k : ℕ) → k < length vs → (test (a + k) ≡ true) ↔ P (get_or vs k d)) → AllZip (λ answer v. (answer ≡ true) ↔ P v) (map test (range_with_len a (length vs))) vs
 all_told test P [] d a tells = tt
 all_told test P (v ∷ vs) d a tells =

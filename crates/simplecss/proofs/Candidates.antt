@@ -1,5 +1,5 @@
--- The places of the selectors whose key an element tells.
--- Serves `RuleIndex::matching_counted` (only rules are asked whose key the element tells).
+-- The places of the selectors whose key an element reports.
+-- Serves `RuleIndex::matching_counted` (only rules whose key the element reports are tested).
 use Rattle.std.proofs.Common.{◌≡◌, ℕ, ◌<◌, ◌≤◌, ◌↔◌, ◌⊎◌, inl, inr, List, [], ◌∷◌, Bool, true, false, cond, Option, None, Some, IsTrue, length, get_or, refl, sym, ap, ◌∙◌, subst, arith}
 use Rattle.std.specs.Prelude.{◌&&◌}
 use Rattle.std.specs.List.{All, filter, Contains, sum_by, range_with_len}
@@ -36,13 +36,13 @@ module _ (told : Near) (lasts : WantedLasts) (links : List Link) (selectors : Li
   abbrev Has : ℕ → Type 0
   Has place = IsTrue (tells_wanted told (key_at selectors place))
 
-  -- where a key leads, there stands a selector with it
+  -- where a key leads, there is a selector with it
   led_to : (place : ℕ) → WantedLeads told lasts place → (place < length selectors) × Has place
   led_to place h =
       let at : IsLastBefore selectors (length selectors) h.0 (Some place) = subst (IsLastBefore selectors (length selectors) h.0) h.2 (lasts_lead lasts links selectors chained is h.0) in
       (at.0, subst (λ key. IsTrue (tells_wanted told key)) (sym at.1) h.1)
 
-  -- a selector whose key is told is the last with it, or before that
+  -- a selector whose key is reported is the last with it, or before that
   led_from : (place : ℕ) → place < length selectors → Has place → WantedLeads told lasts place ⊎ ((last : ℕ) × WantedLeads told lasts last × (place < last) × (key_at selectors place ≡ key_at selectors last))
   led_from place lt has = at (last_wanted lasts (key_at selectors place)) refl (lasts_lead lasts links selectors chained is (key_at selectors place))
     where
@@ -112,7 +112,7 @@ both_true : (a b : Bool) → IsTrue (a && b) ↔ (IsTrue a × IsTrue b)
 both_true true b = (λ h. (refl, h), λ h. h.1)
 both_true false b = (λ h. absurd (false≢true h), λ h. h.0)
 
--- of the selectors whose key is told those are kept whose ancestors' keys are covered
+-- of the selectors whose key is reported those are kept whose ancestors' keys are covered
 pub covered_only : (told : Near) (above : ℕ) (selectors : List (List Component)) (keyed final : List ℕ) → AreKeyed told selectors keyed → final ≡ filter (λ place. is_covered above (selector_at selectors place)) keyed → AreCandidates told above selectors final
 covered_only told above selectors keyed final are e = subst (AreCandidates told above selectors) (sym e) (record {
   ascending = IsStrictlyIncreasing-filter (λ place. is_covered above (selector_at selectors place)) keyed are.ascending;

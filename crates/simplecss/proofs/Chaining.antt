@@ -63,7 +63,7 @@ earlier_last links link =
     let longer : length links < length (links ++ link ∷ []) = omega (arith, length-append links (link ∷ [])) in
     ap (λ r. option_map_or (λ l. l.earlier) r None) (slice_get-get_or (links ++ link ∷ []) (length links) link longer ∙ ap Some (get_or-append_seam links link [] link))
 
--- a link of a selector is put behind the others
+-- a link of a selector is appended
 pub chain_push : (old new : WantedLasts) (links : List Link) (link : Link) → AreChained old links → link.earlier ≡ last_wanted old (wanted_of link.selector.value) → TakesWanted old new (wanted_of link.selector.value) (length links) → AreChained new (links ++ link ∷ [])
 chain_push old new links link chained leads takes = record {
   last = λ key. subst (λ ss. IsLastBefore ss (length (links ++ link ∷ [])) key (last_wanted new key)) (sym more) (subst (λ n. IsLastBefore (ss ++ s ∷ []) n key (last_wanted new key)) (sym number) (lasts_more ss s old new last_of (subst (TakesWanted old new (wanted_of s)) (sym same) takes) key));
@@ -99,7 +99,7 @@ chain_push old new links link chained leads takes = record {
         (subst (IsLastBefore (ss ++ s ∷ []) (length ss) (wanted_of s)) (sym (ap (earlier_at (links ++ link ∷ [])) same ∙ earlier_last links link ∙ leads))
         (last_same ss s (length ss) (wanted_of s) (last_wanted old (wanted_of s)) (omega arith) (last_of (wanted_of s)))))
 
--- a link that leads to the last selector with its key is put behind the others
+-- a link that leads to the last selector with its key is appended
 pub link_more : (old new : WantedLasts) (links more : List Link) (link : Link) (place : ℕ) (known : Option ℕ) (s : List Component) (key : Wanted) → AreChained old links → place ≡ length links → key ≡ wanted_of s → known ≡ last_wanted old key → TakesWanted old new key place → link.earlier ≡ known → link.selector.value ≡ s → more ≡ links ++ link ∷ []
     → AreChained new more × (selectors_of more ≡ selectors_of links ++ s ∷ [])
 link_more old new links more link place known s key chained place_is key_is is takes leads value e =

@@ -14,7 +14,7 @@ use Rattle.simplecss.specs.declared.index.wanted_lasts.WantedLasts.{WantedLasts}
 use Rattle.simplecss.specs.SelectorPlaces.{key_at, Adds}
 use Rattle.simplecss.proofs.Adding.{adds_none, adds_one, adds_then, adds_as}
 
--- how far a chain goes on from here
+-- how far a chain continues from here
 abbrev pub end_of : Option ℕ → ℕ
 end_of None = 0
 end_of (Some place) = place + 1
@@ -79,7 +79,7 @@ module _ (selectors : List (List Component)) where
           at (inr (inl e)) = inr e
           at (inr (inr l)) = absurd (none_after place (key_at selectors place) left h p (b.0, l, b.2 ∙ sym same))
 
-  -- a chain goes on at a place that is known
+  -- a chain continues at a place that is known
   pub chain_at : (start : ℕ) (old new : List ℕ) (left : Option ℕ) (place : ℕ) → left ≡ Some place → Follows start old new left → Follows start old new (Some place)
   chain_at start old new left place is f = subst (Follows start old new) is f
 
@@ -120,7 +120,7 @@ pub leads_back : (selectors : List (List Component)) (end : ℕ) (key : Wanted) 
 leads_back selectors end key None h = omega arith
 leads_back selectors end key (Some place) h = omega (arith, h.0)
 
--- a start that is read where places were added behind the starts
+-- a start that is read where places were added after the starts
 pub start_read : {P : ℕ → Type 0} (starts places : List ℕ) (i place : ℕ) → Adds starts places P → i < length starts → place ≡ get_or places i place → place ≡ get_or starts i place
 start_read starts places i place adds lt read =
     read ∙ ap (λ xs. get_or xs i place) adds.1 ∙ get_or_append_left starts adds.0 place i lt

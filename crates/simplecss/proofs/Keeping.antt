@@ -30,14 +30,14 @@ increasing_push places place up below k h = at (order (k + 2) (length places))
         rw (get_or_append_left places (place ∷ []) 0 k a, s) (below (get_or places k 0) (Contains-get_or places k 0 a))
 
 -- of the first i of the places those that are as wanted were kept, at the front, and the others
--- still stand there
+-- are still there
 pub record Keeps (IsWanted : ℕ → Type 0) (places now : List ℕ) (kept i : ℕ) : Type 0 where
   pub few : kept ≤ i
   pub ascending : IsStrictlyIncreasing (take kept now)
   pub exactly : (place : ℕ) → Contains (take kept now) place ↔ (Contains (take i places) place × IsWanted place)
   pub rest : (j d : ℕ) → i ≤ j → get_or now j d ≡ get_or places j d
 
--- what stands before a place is below it
+-- what is before a place is below it
 before_below : (places : List ℕ) (i place x : ℕ) → IsStrictlyIncreasing places → i < length places → place ≡ get_or places i place → Contains (take i places) x → x < place
 before_below places i place x up lt read (k, within, is) =
     let k_lt : k < i = omega (arith, within, length-take i places) in
@@ -138,13 +138,13 @@ module _ {V S : Type 0} (f : V → List S) (IsMet : List S → Type 0) (vs : Lis
     pub keeps_unmet : (IsMet (f (get_or vs (get_or now i 0) v)) → ⊥) → Keeps Met places now kept (i + 1)
     keeps_unmet h = keep_no Met places now kept i (get_or now i 0) before lt still (λ x. h (subst IsMet at x))
 
-    -- and it was asked
+    -- and it was tested
     pub asked_more : (cost : List S → ℕ) (old tests new : ℕ) → tests ≤ old + sum_by (λ place. cost (get_or (map f vs) place [])) (take i places) → new ≤ tests + cost (f (get_or vs (get_or now i 0) v)) → new ≤ old + sum_by (λ place. cost (get_or (map f vs) place [])) (take (i + 1) places)
     asked_more cost old tests new so_far one =
         let total : sum_by (λ place. cost (get_or (map f vs) place [])) (take (i + 1) places) ≡ sum_by (λ place. cost (get_or (map f vs) place [])) (take i places) + cost (get_or (map f vs) (get_or places i 0) []) = sum_by_more (λ place. cost (get_or (map f vs) place [])) places i 0 lt in
         let last : cost (get_or (map f vs) (get_or places i 0) []) ≡ cost (f (get_or vs (get_or now i 0) v)) = ap (λ place. cost (get_or (map f vs) place [])) (sym here) ∙ ap cost at in
         omega (arith, so_far, one, total, last)
 
--- what a slice of a vector's items left there, if it is as long as before
+-- what a slice of a vector's items left there, if its length is unchanged
 pub written_back : {V : Type 0} (old new : List V) (n : ℕ) → n ≡ length old → length new ≡ length old → take n (new ++ drop (length new) old) ≡ new
 written_back old new n e same = subst (λ k. take k (new ++ drop (length new) old) ≡ new) (same ∙ sym e) (take-append_seam new (drop (length new) old))

@@ -1,6 +1,6 @@
--- The last places of keys, and of those that an element tells.
--- Serves `index::lasts::Lasts` (a key takes a place) and `RuleIndex::matching_counted` (the keys that
--- an element tells).
+-- The last places of keys, and of those that an element reports.
+-- Serves `index::lasts::Lasts` (a key gets a place) and `RuleIndex::matching_counted` (the keys that
+-- an element reports).
 use Rattle.std.proofs.Common.{◌≡◌, ℕ, ◌↔◌, ◌⊎◌, inl, inr, List, [], ◌∷◌, ◌++◌, Bool, true, false, cond, IsTrue, Option, None, Some, eqb, refl, sym, ap, ◌∙◌, subst, Bor}
 use Rattle.std.specs.Prelude.{bytes_eq, ◌||◌}
 use Rattle.std.specs.BTreeMap.{BTreeMap, UpdatesBy}
@@ -120,7 +120,7 @@ all_classes lasts words value a b e = adds_as a b (λ place. (
   λ h. (h.0, (word_test words h.0).1 (subst (λ ws. list_any (λ part. bytes_eq part h.0) ws ≡ true) (sym e) h.1), h.2),
 ))
 
--- ---- all keys that are told
+-- ---- all keys that are reported
 
 module _ (told : Told) (lasts : Lasts) where
   module _ (place : ℕ) where

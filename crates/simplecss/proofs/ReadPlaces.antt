@@ -20,7 +20,7 @@ use Rattle.simplecss.proofs.Adding.{contains_none, contains_one, adds_none, adds
 abbrev pub Read : Type 0
 Read = Bor (Bor (List ℕ)) × Bor ℕ
 
--- the places of those of these whose text passes
+-- the places of those of these whose text passes the test
 abbrev pub OfRead : (List ℕ → Bool) → List Read → ℕ → Type 0
 OfRead has read place = (e : Read) × Contains read e × IsTrue (has e.0.now.now) × (e.1.now ≡ place)
 
@@ -60,7 +60,7 @@ found test (y ∷ ys) v is = at (test y.0.now) refl is (found test ys v)
     at true t h later = let same : y.1.now ≡ v = cc in (y, Contains-append_left (y ∷ []) ys y ((contains_one y y).1 refl), t, same)
     at false t h later = let r = later h in (r.0, Contains-append_right (y ∷ []) ys r.0 r.1, r.2, r.3)
 
--- a text that passes has the place in the map
+-- a text that passes the test has the place in the map
 abbrev pub Leads : BTreeMap (Bor (List ℕ)) ℕ → (List ℕ → Bool) → ℕ → Type 0
 Leads places has place = (text : List ℕ) × IsTrue (has text) × (place_for places text ≡ Some place)
 

@@ -1,4 +1,4 @@
--- Declarations and rules are equal, and lists of rules in turn, exactly if what they say is.
+-- Declarations, rules and lists of rules are equal exactly if what they say is.
 -- Serves the laws of equality.
 use Rattle.std.specs.Prelude.{◌≡◌, List, Bool, ◌&&◌}
 use Rattle.std.proofs.Common.{ap, ◌∙◌, subst}
@@ -28,7 +28,7 @@ declaration_decides a b =
     (Decides-and (text_eq a.name b.name) (text_eq a.value b.value && beq a.important b.important) (bytes_decides a.name b.name)
     (Decides-and (text_eq a.value b.value) (beq a.important b.important) (bytes_decides a.value b.value) (booleans_Decides a.important b.important)))
 
--- the same components, and the same declarations in turn
+-- the same components, and the same declarations one by one
 abbrev pub style_rule_eq : StyleRule → StyleRule → Bool
 style_rule_eq a b =
     selector_eq a.components b.components && pointwise declaration_eq a.declarations b.declarations
@@ -43,7 +43,7 @@ style_rule_decides a b =
     (Decides-and selectors lists (selector_decides a.components b.components)
     (pointwise_decides declaration_decides a.declarations b.declarations))
 
--- as the code compares rules: their selectors, and their declarations in turn
+-- as the code compares rules: their selectors, and their declarations one by one
 abbrev pub rule_eq : Rule → Rule → Bool
 rule_eq a b = selector_eq a.selector b.selector
     && pointwise (λ x y. declaration_eq (declaration_of x) (declaration_of y)) a.declarations.items b.declarations.items

@@ -1,4 +1,4 @@
--- Elements that are moved in place until they stand in an order.
+-- Elements that are moved in place until they are in an order.
 -- Serves `order::{numbered, places_in_order, arrange, sort_rules}` (the order of rules).
 use Rattle.std.proofs.Common.{◌≡◌, ◌≢◌, ℕ, zero, suc, ◌+◌, ◌<◌, ◌⊎◌, inl, inr, Bool, List, [], ◌∷◌, ◌++◌, add-one, length, get_or, map, refl, sym, ap, ◌∙◌, subst, arith}
 use Rattle.std.specs.List.{swap, SwappedAt, range_with_len}
@@ -19,7 +19,7 @@ use Rattle.simplecss.specs.RuleOrders.{no_rule, rule_at, IsOrder, OrdersRules, I
 same_or_not : (a b : ℕ) → (a ≡ b) ⊎ (a ≢ b)
 same_or_not a b = elim (eqb_tells a b) [ inl e ↦ inl e.1 | inr n ↦ inr n.1 ]
 
--- where an element of a list stood before two were exchanged
+-- where an element of a list was before two were exchanged
 record Source (l m : List ℕ) (i j k : ℕ) : Type 0 where
   was : ℕ
   is : get_or m k 0 ≡ get_or l was 0
@@ -78,8 +78,8 @@ order_moved n places moved = IsPermutation-keeps (range_with_len 0 n) (IsOrder n
     })
     places moved
 
--- Elements that are being moved: `who` says which of the old ones stands at each place, `at` where
--- each old one stands, and those before `done` stand where they are to.
+-- Elements that are being moved: `who` says which of the old ones is at each place, `at` where
+-- each old one is, and those before `done` are at their places.
 pub record IsMoving {X : Type 0} (old : List X) (order : List ℕ) (done : ℕ) (now : List X) (who at : List ℕ) : Type 0 where
   pub now_long : length now ≡ length old
   pub who_long : length who ≡ length old
@@ -165,7 +165,7 @@ module _ {X : Type 0} (old : List X) (order : List ℕ) (i : ℕ) (now : List X)
         ];
       }
 
-  -- when all are placed, each stands where the order names it
+  -- when all are placed, each is where the order names it
   pub moving_all : IsMoving old order (length old) now who at → (k : ℕ) (d : X) → k < length old → get_or now k d ≡ get_or old (get_or order k 0) d
   moving_all m k d h = m.moved k d h ∙ ap (λ n. get_or old n d) (m.placed k h)
 

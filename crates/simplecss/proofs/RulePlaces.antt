@@ -24,7 +24,7 @@ use Rattle.simplecss_text.proofs.order.OrderLemmas.{smaller_order}
 use Rattle.simplecss_text.proofs.order.RankLemmas.{ordered_keeps, ordered_arranges, sorted_from_rises}
 use Rattle.simplecss.specs.RulePlaces.{IsFrom, ComesBefore}
 
--- ---- where nothing is left out, the k-th that a function gives is of the k-th item
+-- ---- where nothing is left out, the k-th result of a function is of the k-th item
 
 cons_short : {Y : Type 0} (o : Option Y) (ys : List Y) → length (cons_option o ys) ≤ suc (length ys)
 cons_short None ys = omega arith
@@ -70,7 +70,7 @@ found : {X : Type 0} (p : ℕ × X → Bool) (n : ℕ) (xs : List X) (y : X) →
 found p n [] y is = absurd (cc)
 found p n (x ∷ xs) y is = found_step p n x xs y (p (n, x)) refl is (found p (n + 1) xs y)
 
--- each place of the ordered list is the rank of an element that stands there
+-- each place of the ordered list is the rank of the element there
 pub from_rank : (source : List StyleRule) (i : ℕ) (a : StyleRule) → slice_get (ordered source) i ≡ Some a → IsFrom source i a
 from_rank source i a at =
     let n = length source in
@@ -85,7 +85,7 @@ from_rank source i a at =
       ranked = let same : 0 + f.at ≡ f.at = omega arith in ap (λ k. rank_by is_smaller source k a) (sym same) ∙ (unsigned_Decides (rank_by is_smaller source (0 + f.at) a) i).0 f.passes;
     }
 
--- ---- of two that tie, the one of the lesser rank stands earlier
+-- ---- of two that tie, the one of the lesser rank is earlier
 
 count_front : {X : Type 0} (p : X → Bool) (xs : List X) (k l : ℕ) → l ≤ k → count_by p (take l xs) ≤ count_by p (take k xs)
 count_front p xs k l le =

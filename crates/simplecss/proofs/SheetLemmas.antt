@@ -44,7 +44,7 @@ passing_at p x xs true e h zero d l = e
 passing_at p x xs true e h (suc k) d l = h k d (omega arith)
 passing_at p x xs false e h k d l = h k d l
 
--- what is left of a list passes
+-- what a filter leaves of a list passes its test
 pub AllPass-filter : {X : Type 0} (p : X → Bool) (xs : List X) → AllPass p (filter p xs)
 AllPass-filter p [] k d l = absurd (omega arith)
 AllPass-filter p (x ∷ xs) k d l = passing_at p x (filter p xs) (p x) refl (AllPass-filter p xs) k d l
@@ -53,7 +53,7 @@ AllPass-filter p (x ∷ xs) k d l = passing_at p x (filter p xs) (p x) refl (All
 pub AllPass-sheet : (e : Edition) (texts : List (List ℕ)) → AllPass has_declaration (sheet e texts)
 AllPass-sheet e texts = subst (AllPass has_declaration) (sheet_filled e texts) (AllPass-filter has_declaration (sheet e texts))
 
--- an open comment alone gives no rules
+-- a text that is an open comment has no rules
 pub kept_open : (e : Edition) (text : List ℕ) → is_open_comment text ≡ true → kept e text ≡ []
 unfolding statements
 kept_open e text open_comment =
@@ -65,7 +65,7 @@ kept_open e text open_comment =
 pub texts_more : (e : Edition) (texts : List (List ℕ)) (t : List ℕ) → flat_map (kept e) (texts ++ t ∷ []) ≡ flat_map (kept e) texts ++ kept e t
 texts_more e texts t = flat_map-append (kept e) texts (t ∷ []) ∙ ap (λ l. flat_map (kept e) texts ++ l) (append-nil (kept e t))
 
--- one that is an open comment alone
+-- one that is an open comment
 pub texts_open : (e : Edition) (texts : List (List ℕ)) (t : List ℕ) → is_open_comment t ≡ true → flat_map (kept e) (texts ++ t ∷ []) ≡ flat_map (kept e) texts
 texts_open e texts t open_comment =
     texts_more e texts t ∙ ap (λ l. flat_map (kept e) texts ++ l) (kept_open e t open_comment) ∙ append-nil (flat_map (kept e) texts)

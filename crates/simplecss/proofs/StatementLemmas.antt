@@ -33,7 +33,7 @@ only-some (Some s) = refl
 abbrev finished : Edition → List (Option (List Component)) × List ℕ → List (List Component) × List ℕ
 finished edition listed = (filter_map (λ selector. selector) (listed.0 ++ (part edition listed.1).0 ∷ []), (part edition listed.1).1)
 
--- a part with a comma behind it
+-- a part with a comma after it
 pub parts-some : (edition : Edition) (here rest : List ℕ) (o : Option (List Component)) → part edition here ≡ (o, rest) → starts 44 rest ≡ true
     → parts edition here ≡ (option_to_list o ++ (parts edition (past_one rest)).0, (parts edition (past_one rest)).1)
 unfolding parts
@@ -105,7 +105,7 @@ blank-open text rest fault = by (opens_comment (past_blank text)) refl
     by true o e = o
     by false o e = absurd (cc)
 
--- behind an open comment no statement stands
+-- after an open comment there is no statement
 pub next_statement-open : (edition : Edition) (text rest : List ℕ) (fault : Fault) → blank text ≡ fails fault rest → next_statement edition text ≡ None
 next_statement-open edition text rest fault e = rw (blank-open text rest fault e) (by (length (past_blank text) == 0))
   where
@@ -113,7 +113,7 @@ next_statement-open edition text rest fault e = rw (blank-open text rest fault e
     by true = refl
     by false = refl
 
--- behind a blank a statement stands, unless the text ends there
+-- after a blank there is a statement, unless the text ends there
 pub next_statement-behind : (edition : Edition) (text rest : List ℕ) (ended : Bool) → blank text ≡ got tt rest → IsTrue ended ↔ (rest ≡ []) → MatchBool (not ended) (next_statement edition text ≡ Some (statement edition rest)) (next_statement edition text ≡ None)
 next_statement-behind edition text rest ended e h =
     let read = blank-got text rest e in

@@ -1,4 +1,4 @@
--- Where a statement stands, from what is left before it and behind it.
+-- Where a statement is, from what is left before it and after it.
 -- Serves `StatementReader::read_next` (where its statement begins and ends).
 use Rattle.std.proofs.Common.{◌≡◌, ℕ, ◌<◌, ◌≤◌, List, length, drop, Some, None, sym, ap, ◌∙◌, subst, arith, if◌then◌else◌}
 use Rattle.std.specs.Str.{IsCharBoundary}
@@ -20,7 +20,7 @@ module _ (text : List ℕ) (place : ℕ) (s : Statement) (start : drop s.start t
       ∙ ap (λ (t : List ℕ). if ends_statements t then None else Some (statement this_edition t)) (past_blank-again (drop place text))
       ∙ next
 
-  -- a statement takes something
+  -- a statement consumes something
   longer : length (drop s.end text) < length (drop s.start text)
   longer = subst (λ (t : List ℕ). length t < length (drop s.start text)) (sym end) (statement-less this_edition (drop s.start text) (drop s.start text) next_there)
 

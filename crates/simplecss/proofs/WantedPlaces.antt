@@ -1,4 +1,4 @@
--- The last places of what is wanted, and of what is told near an element.
+-- The last places of what is wanted, and of what is reported near an element.
 -- Serves `index::wanted_lasts::WantedLasts` and `RuleIndex::matching_counted`.
 use Rattle.std.proofs.Common.{◌≡◌, ℕ, ◌↔◌, ◌⊎◌, inl, inr, List, true, false, IsTrue, Option, None, Some, refl, ap, ◌∙◌}
 use Rattle.std.specs.Option.{option_map_or}
@@ -67,7 +67,7 @@ module _ (near : Near) (lasts : WantedLasts) (place : ℕ) where
       back (of_parent k) has is = inl (inr (beside_from lasts.parent near.parent k has is))
       back (of_previous k) has is = inr (beside_from lasts.previous near.previous k has is)
 
--- what the element and its neighbours tell was added
+-- what the element and its neighbours report was added
 pub near_added : {Node Self : Type 0} (tree : Tree Node) (node : Self → Node) (told : Self → Told) (element : Self) (lasts : WantedLasts) (a b c d : List ℕ)
     → Adds a b (KeyLeads (told element) lasts.own)
     → (t : Option Told) × IsToldOf node told (tree.parent (node element)) t × Adds b c (NeighbourLeads lasts.parent t)

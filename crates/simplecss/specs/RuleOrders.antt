@@ -1,10 +1,10 @@
--- Lists of places that say in which order the rules of a list are to stand.
+-- Lists of places that say in which order the rules of a list are to be.
 use Rattle.std.specs.Prelude.{◌≡◌, ℕ, ◌<◌, List, [], length, slice_index, slice_index_or, map}
 use Rattle.simplecss_text.specs.Specificity.{specificity}
 use Rattle.simplecss_text.specs.Statements.{StyleRule}
 use Rattle.simplecss_text.specs.Sheets.{ordered}
 
--- what stands for a rule at a place past the end
+-- in place of a rule past the end
 abbrev pub no_rule : StyleRule
 no_rule = record { components = []; declarations = [] }
 
@@ -26,7 +26,7 @@ pub record OrdersRules (rules : List StyleRule) (places : List ℕ) : Type 0 whe
   pub order : IsOrder (length rules) places
   pub gives : map (rule_at rules) places ≡ ordered rules
 
--- at each place stands the element from the place that the order names
+-- at each place is the element from the place that the order names
 abbrev pub IsMovedBy : {X : Type 0} → List ℕ → List X → List X → Type 0
 IsMovedBy {X} places old new =
     (k : ℕ) (d : X) → k < length old → slice_index_or new k d ≡ slice_index_or old (slice_index places k) d

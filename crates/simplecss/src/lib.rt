@@ -1,5 +1,5 @@
 //! CSS 2.1: selectors and the elements that they match, declarations, and style sheets whose rules
-//! stand in the order of their specificity.
+//! are in the order of their specificity.
 //!
 //! <!-- from crates/example_first/src/main.rt -->
 //! ```rust

@@ -47,7 +47,7 @@ cut_more {buffer} {ends} {start} {rest} {texts} so_far end later next rising wit
   utf8 = subst (All IsUtf8) (sym are) (All-append IsUtf8 texts (text ∷ []) so_far.utf8 (All-cons IsUtf8 text [] utf8 (All-nil IsUtf8)));
 }
 
--- the texts before and behind one, and that one
+-- the texts before and after one, and that one
 has_that : (texts : List (List ℕ)) (text : List ℕ) (more : List (List ℕ)) → All IsUtf8 ((texts ++ text ∷ []) ++ more) → IsUtf8 text
 has_that [] text more all = All-head IsUtf8 text more all
 has_that (t ∷ texts) text more all = has_that texts text more (All-tail IsUtf8 t ((texts ++ text ∷ []) ++ more) all)

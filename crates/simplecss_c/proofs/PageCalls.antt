@@ -21,7 +21,7 @@ use Rattle.simplecss_c.specs.Calls.{HasTexts, Passed, passed_tree, IsPageCall, I
 use Rattle.simplecss_c.specs.Lines.{AreLinesOf}
 use Rattle.simplecss_c.specs.SelectorLists.{selectors_in}
 
--- the text that is due, or want of memory
+-- the text that is due, or a refused allocation
 pub page_due : {Z : Type 0} (IsText : List StyleRule → List Row → List ℕ → Type 0) (buffer ends : List ℕ) (passed : Passed) (texts : List (List ℕ)) (rows : List Row)
     → HasTexts buffer ends texts → IsUtf8 passed.strings → passed_tree passed ≡ Ok rows
     → (rules : List StyleRule) → rules ≡ sheet this_edition texts
@@ -39,7 +39,7 @@ pub wins_or_none : {Node D : Type 0} (tree : Tree Node) (n : Node) (rules : List
 wins_or_none tree n rules name f None some none = none.0 refl
 wins_or_none tree n rules name f (Some d) some none = some
 
--- the text that is due for a list of selectors, or want of memory
+-- the text that is due for a list of selectors, or a refused allocation
 pub select_due : {Z : Type 0} (text : List ℕ) (passed : Passed) (selectors : List (List Component)) (rows : List Row)
     → IsUtf8 text → selectors_in text ≡ Some selectors → IsUtf8 passed.strings → passed_tree passed ≡ Ok rows
     → (matched : List (List Component)) → matched ≡ selectors

@@ -17,7 +17,7 @@ list_after list (Some selector) [] = Some (selector ∷ [])
 list_after list (Some selector) (b ∷ rest) =
     if b == comma then option_map (λ selectors. selector ∷ selectors) (list rest) else None
 
--- the list of a text, if it has at most so many selectors
+-- the list of a text, if it has at most this number of selectors
 abbrev pub list_within : ℕ → List ℕ → Option (List (List Component))
 list_within zero text = None
 list_within (suc n) text =

@@ -183,7 +183,7 @@ next_block-some edition text rest e = next_block-behind edition text ∙ ap (blo
 pub next_block-none : (edition : Edition) (text : List ℕ) → after_byte 123 text ≡ None → next_block edition text ≡ ([], [])
 next_block-none edition text e = next_block-behind edition text ∙ ap (block_behind edition) e
 
--- where the list of declarations ends by itself
+-- where no broken declaration ends the list of declarations
 pub block-ended : (edition : Edition) (text left rest : List ℕ) (front : List StyleDeclaration) → front ≡ (each (declaration_in_block edition) text).0 → EndsAt edition (each (declaration_in_block edition) text).1 None left → rest ≡ past_byte 125 left → block edition text ≡ (front, rest)
 unfolding block
 block-ended edition text left rest front f h r =
@@ -213,7 +213,7 @@ list_skips-broken edition text left e h = rw e (by (declaration edition text) h)
 list_skips-end : (edition : Edition) (text : List ℕ) → ends_list text ≡ true → list_skips edition text ≡ []
 list_skips-end edition text e = rw e refl
 
--- where the list of declarations ends by itself
+-- where no broken declaration ends the list of declarations
 pub block_skips-ended : (edition : Edition) (text left : List ℕ) → EndsAt edition (each (declaration_in_block edition) text).1 None left → [] ≡ block_skips edition text
 unfolding block_skips
 block_skips-ended edition text left h = sym (list_skips-end edition (each (declaration_in_block edition) text).1 h.0)

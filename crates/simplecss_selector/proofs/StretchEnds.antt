@@ -150,7 +150,7 @@ none_between xs r k h within above below (i, inside, is) =
 at_next : (x : ℕ) (xs : List ℕ) (r d : ℕ) → get_or (x ∷ xs) (r + 1) d ≡ get_or xs r d
 at_next x xs r d = rw add-one refl
 
--- The stretch before which so many others end.
+-- The stretch before which `r` others end.
 pub AreStretchEnds-stretch : (cs : List Component) (kept : List ℕ) (r first last : ℕ) → AreStretchEnds cs (all_stretch_ends cs kept) → r ≤ length kept → first ≡ get_or (0 ∷ kept) r 0 → last + 1 ≡ get_or (all_stretch_ends cs kept) r 0 → IsStretch cs first last
 AreStretchEnds-stretch cs kept r first last ends counted begun ended =
     let bounds : List ℕ = 0 ∷ all_stretch_ends cs kept in

@@ -4,7 +4,7 @@ ghost use Rattle.std.specs.Borrow.{ftrue};
 
 use std::marker::Model;
 
-/// A number that only contracts see. It takes no bytes.
+/// A number that only contracts see. It has no bytes.
 #[derive(Drop)]
 struct Count {
     ghost number: { ℕ },
@@ -31,7 +31,7 @@ impl Count {
 }
 
 /// The number of tests of a component against an element. Contracts see the number; at run time it
-/// takes no bytes.
+/// has no bytes.
 #[derive(Drop)]
 pub struct Tests {
     /// The number of tests.

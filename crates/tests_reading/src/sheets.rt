@@ -151,7 +151,7 @@ fn tells_the_logger_of_all_texts_in_turn(rt: HostRuntime) -> Result<(), Fail> {
     Ok(())
 }
 
-/// Swaps the two rules, and takes the declarations from the one that is then the last.
+/// Swaps the two rules, and clears the declarations of the one that is then the last.
 fn turn(sheet: &mut StyleSheet) {
     if sheet.rules.len() == 2 {
         sheet.rules.swap(0, 1);

@@ -89,7 +89,7 @@ fn pieces(text: &str) -> usize {
     ])
 }
 
-/// Makes the calls that take offsets.
+/// Makes the calls that have offsets as arguments.
 fn places() -> usize {
     let mut s = Stream::new("abc");
     s.advance(2);

@@ -330,7 +330,7 @@ fn show<R: Log>(rt: &HostRuntime, made: &Made<'_>, log: &R, words: &[&str]) -> i
     }
 }
 
-/// Takes a logger (`kept` keeps what it gets, `lost` does not), the call, and its texts.
+/// The arguments are a logger (`kept` keeps what it gets, `lost` does not), the call, and its texts.
 fn main(rt: HostRuntime) -> Result<ExitCode, io::Error> {
     let owned: Vec<String> = env::args(&rt)?.skip(1).collect(rt.alloc())?;
     let words: Vec<&str> = owned.iter().map(|word| word.as_str()).collect(rt.alloc())?;

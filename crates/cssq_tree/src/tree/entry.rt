@@ -11,7 +11,7 @@ ghost use Rattle.cssq_tree.specs.Nodes.{value_in};
 use super::{len_before, value_at};
 use simplecss_selector::element_bits;
 
-/// What stands in for an offset or a length that 32 bits do not hold: the text is searched then.
+/// Replaces an offset or a length that 32 bits do not hold: the text is searched then.
 pub(crate) const FAR: u32 = u32::MAX;
 
 /// Where the value of an attribute is in the text of a line's attribute fields.
@@ -60,8 +60,8 @@ impl Span {
     }
 }
 
-/// Where the values of the attributes `class` and `id` are, which are asked most, and whether there
-/// are others.
+/// Where the values of the attributes `class` and `id` are, which are read most often, and whether
+/// there are others.
 #[derive(Clone, Copy, Debug)]
 pub(crate) struct Values {
     /// The value of the attribute `class`.

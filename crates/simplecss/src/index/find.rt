@@ -50,7 +50,7 @@ fn push_id(lasts: &Lasts<'_>, id: Option<&str>, places: &mut Vec<usize>) -> Resu
     }
 }
 
-/// Whether looking for each class of the sheet in the value takes less than looking up each word of
+/// Whether looking for each class of the sheet in the value costs less than looking up each word of
 /// the value. So a class value of a thousand words costs no more than testing the rules.
 #[inline(always)]
 fn are_few(lasts: &Lasts<'_>, value: &str) -> bool {
@@ -121,7 +121,7 @@ fn push_attributes<E: Keyed>(
     Ok(())
 }
 
-/// Adds the last places of the keys that the element tells.
+/// Adds the last places of the keys that the element reports.
 fn push_keys_of<E: Keyed>(
     lasts: &Lasts<'_>,
     element: &E,
@@ -140,7 +140,7 @@ fn push_keys_of<E: Keyed>(
     push_attributes(lasts, element, places)
 }
 
-/// Adds the last places of the keys that a neighbour tells, if it is there.
+/// Adds the last places of the keys that a neighbour reports, if there is one.
 fn push_neighbour<E: Keyed>(
     lasts: &Lasts<'_>,
     neighbour: Option<E>,
@@ -156,7 +156,7 @@ fn push_neighbour<E: Keyed>(
     }
 }
 
-/// Adds the last places of what the element, its parent and its previous sibling tell.
+/// Adds the last places of what the element, its parent and its previous sibling report.
 fn push_near<E: Keyed>(
     lasts: &WantedLasts<'_>,
     element: &E,

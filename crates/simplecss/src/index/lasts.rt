@@ -62,7 +62,7 @@ impl<'a> Lasts<'a> {
         }
     }
 
-    /// Puts the place under the key, and gives the one that was the last there.
+    /// Stores the place under the key, and returns the one that was the last there.
     pub(crate) fn replace(
         &mut self,
         key: Key<'a>,

@@ -5,8 +5,8 @@ ghost use Rattle.simplecss.specs.Matching.{AreMatches, AreAnswers, places_with_y
 
 use simplecss_selector::Element;
 
-/// The places that an index finds are those of the selectors that answer yes, where each is asked
-/// in turn. So an index can stand for a loop that asks each.
+/// The places that an index finds are those of the selectors that match, where each is tested in
+/// order. So an index can replace a loop that tests each.
 pub fn answers_law<E: Element>()
     ensures { (selectors : List (List Component)) (element : E.Node) (places : List ℕ)
         → AreMatches E.tree element selectors places

@@ -12,7 +12,7 @@ pub(crate) struct Link<'a> {
     pub(crate) earlier: Option<usize>,
     /// The bits of the keys that an element's ancestors must have.
     pub(crate) ancestors: u64,
-    /// The selector, which contracts alone see. It takes no bytes.
+    /// The selector, which only contracts see. It has no bytes.
     pub(crate) selector: Snapshot<Selector<'a>>,
     ghost ancestors_kept: { ancestors ≡ ancestor_bits selector.value },
 }

@@ -17,8 +17,8 @@ use simplecss_selector::{Keyed, Tests};
 use std::alloc::{AllocError, Global};
 use std::marker::Model;
 
-/// Puts the links of the rules behind the others, in order: each place is put under the key of its
-/// selector, with a link to the last earlier place with that key.
+/// Appends the links of the rules, in order: each place is stored under the key of its selector,
+/// with a link to the last earlier place with that key.
 #[inline(always)]
 fn push_links<'a>(
     lasts: &mut WantedLasts<'a>,
@@ -40,9 +40,9 @@ fn push_links<'a>(
 /// An index of rules by the keys of their selectors: it finds the rules that match an element, and
 /// tests only those whose key is reported.
 ///
-/// It keeps places and not the rules, so it may stand beside its sheet in one value. It is of the
-/// rules as they stood when it was made: after an edit of their selectors, or of their number or
-/// order, make another.
+/// It keeps the places of the rules and does not borrow them, so one struct may hold it and its
+/// sheet. It is of the rules as they were when it was made: after an edit of their selectors, or of
+/// their number or order, make another.
 ///
 /// ```rust
 /// let index = RuleIndex::new(alloc, &sheet.rules)?;
@@ -53,8 +53,8 @@ fn push_links<'a>(
 /// }
 /// ```
 ///
-/// The element is of a type that implements `Keyed`. The places are those that asking each rule
-/// gives (`laws::answers_law`).
+/// The element is of a type that implements `Keyed`. The places are those that testing each rule
+/// finds (`laws::answers_law`).
 #[derive(Drop)]
 pub struct RuleIndex<'a> {
     /// The last place of each key.
@@ -108,14 +108,13 @@ impl<'a> RuleIndex<'a> {
         }
     }
 
-    /// The places of the rules that match the element, in order: what asking each rule would give.
-    /// The rules are those that the index was made of.
+    /// Finds the places of the rules that match the element, in order: those that testing each rule
+    /// would find. The rules are those that the index was made of.
     ///
-    /// What stood in `places` is dropped, and what it grows by is all the memory that the call
-    /// takes: it never holds more places than the greater of the number of rules and a few more than the
-    /// number of words in the classes of the element, its parent and its previous sibling and of
-    /// attributes that are keys. Once it has grown, further calls take none. The error
-    /// is that a growth was refused.
+    /// The previous items of `places` are dropped. Only its growth allocates: it never holds more
+    /// places than the greater of the number of rules and a few more than the number of words in
+    /// the classes of the element, its parent and its previous sibling and of attributes that are
+    /// keys. Once it has grown, further calls allocate nothing. Fails only if an allocation fails.
     pub fn matching<E: Keyed>(
         &self,
         rules: &[Rule<'a>],

@@ -9,8 +9,8 @@ use simplecss_selector::Key;
 use std::alloc::{AllocError, Global};
 use std::collections::BTreeMap;
 
-/// The index of a rule for each of some texts: an ordered map, and a filter that most other texts do
-/// not pass. A text that passes it costs a look-up.
+/// The index of a rule for each of some texts: an ordered map, and a filter that rejects most other
+/// texts. Only a text that it lets through costs a look-up.
 #[derive(Drop)]
 pub(crate) struct Texts<'a> {
     /// The index of each text.

@@ -31,7 +31,7 @@ impl<'a> WantedLasts<'a> {
         }
     }
 
-    /// Puts the place under what is wanted, and gives the one that was the last there.
+    /// Stores the place under what is wanted, and returns the one that was the last there.
     pub(crate) fn replace(
         &mut self,
         wanted: Wanted<'a>,

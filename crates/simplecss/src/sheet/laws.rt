@@ -17,9 +17,9 @@ ghost use Rattle.simplecss.specs.SeenRules.{rule_of, rules_in};
 use crate::sheet::{Rule, StyleSheet};
 use simplecss_declaration::Declaration;
 
-/// The order of the rules in a style sheet: each is kept and stands at its rank, which is the
+/// The order of the rules in a style sheet: each is kept and is at its rank, which is the
 /// number of rules of smaller specificity and of earlier ones of equal specificity. So no rule
-/// stands before one of smaller specificity, and rules of equal specificity stay in their order;
+/// is before one of smaller specificity, and rules of equal specificity stay in their order;
 /// each list of the same rules with these two properties is this one. To order a second time
 /// changes nothing.
 pub fn order_laws()
@@ -35,9 +35,9 @@ pub fn order_laws()
     ensures twice { (rules : List StyleRule) → ordered (ordered rules) ≡ ordered rules }
 {}
 
-/// What the place of a rule in a style sheet means. Of two rules of a sheet that was read the one
-/// at the lesser place has a smaller specificity, or an equal one and stands earlier in the source:
-/// the rules of all texts in turn.
+/// What the place of a rule in a style sheet means. Of two rules of a sheet that was read, the one
+/// at the lesser place has a smaller specificity, or an equal one and is earlier in the source: the
+/// rules of all texts, one text after another.
 pub fn place_law()
     ensures { (texts : List (List ℕ)) (i j : ℕ) (a b : StyleRule) → i < j
         → slice_get (sheet this_edition texts) i ≡ Some a
@@ -53,8 +53,8 @@ pub fn sheet_law()
         → SelectorsReadBack this_edition (sheet this_edition texts) }
 {}
 
-/// A text has the rules of its front up to a place and then those of what stands from there on,
-/// wherever one of its statements ends. At other places that can be false: a block may be open
+/// A text has the rules of its front up to a place and then those of what follows, wherever one of
+/// its statements ends. At other places that can be false: a block may be open
 /// there.
 pub fn cutting_law()
     ensures { (text : List ℕ) (place : ℕ) → IsUtf8 text → StatementEndsAt this_edition text place

@@ -77,8 +77,7 @@ fn sort_rules(rules: &mut Vec<Rule>) -> Result<(), AllocError>
     Ok(())
 }
 
-/// Puts the rules behind the others, which may take them as they are where there are no others. An
-/// `Err` changes nothing.
+/// Appends `more`; an empty `rules` takes its buffer. After an error `rules` is unchanged.
 pub(crate) fn join<'a>(rules: &mut Vec<Rule<'a>>, mut more: Vec<Rule<'a>>) -> Result<(), AllocError>
     ensures ok { OnOk result (rules.new.items ≡ rules.old.items ++ more.entry.items) }
     ensures err { OnErr result (rules.new.items ≡ rules.old.items) }

@@ -12,7 +12,7 @@ use simplecss_declaration::Declaration;
 use std::fmt;
 use std::fmt::Display;
 
-/// Prints the rules with a newline between two, and none behind the last. Width, fill and flags of
+/// Prints the rules with a newline between two, and none after the last. Width, fill and flags of
 /// the formatter change nothing.
 impl<'a> Display for StyleSheet<'a> {
     ghost use Rattle.std.specs.Prelude.{Some};
@@ -37,8 +37,8 @@ impl<'a> Display for StyleSheet<'a> {
     }
 }
 
-/// Prints the rule as it stands in a printed sheet: the selector, and between braces each
-/// declaration with a colon behind its name and a semicolon at its end. Width, fill and flags of
+/// Prints the rule as in a printed sheet: the selector, and between braces each declaration with a
+/// colon after its name and a semicolon at its end. Width, fill and flags of
 /// the formatter change nothing.
 impl<'a> Display for Rule<'a> {
     ghost use Rattle.std.specs.Prelude.{Some};

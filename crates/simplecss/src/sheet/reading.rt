@@ -18,7 +18,7 @@ use simplecss_text::stream::Stream;
 use simplecss_text::{readers, scan};
 use std::alloc::{AllocError, Global};
 
-/// Passes a blank, and says whether a statement stands behind it.
+/// Skips a blank, and returns whether a statement follows it.
 pub(crate) fn at_statement(s: &mut Stream<'_>) -> bool
     ensures text { text_of s.new ≡ text_of s.old }
     ensures reads { MatchBool result
@@ -30,7 +30,7 @@ pub(crate) fn at_statement(s: &mut Stream<'_>) -> bool
     readers::pass_blank(s) && !s.at_end()
 }
 
-/// Reports a comment that is open behind a blank, if one is.
+/// Reports an open comment after a blank, if there is one.
 pub(crate) fn report_end<'a, P: Report<'a>>(report: &mut P, text: &'a str) -> Result<(), AllocError>
     ensures { OnOk result
         (P.state report.new ≡ add_each P.add (P.state report.old) (end_skips text.now)) }
@@ -77,8 +77,8 @@ pub(crate) fn read_rules<'a, P: Report<'a>>(
     }
 }
 
-/// All rules of the texts in turn, of which those that have a declaration are kept. An open comment
-/// has none.
+/// Reads the rules of the texts, one text after another, and keeps those that have a declaration.
+/// A text of spaces, comments and then an open comment has none.
 pub(crate) fn read_all<'a, P: Report<'a>>(
     report: &mut P,
     alloc: Global,

@@ -12,7 +12,7 @@ use std::alloc::AllocError;
 pub struct Rule<'a> {
     /// Which elements the rule is for.
     pub selector: Selector<'a>,
-    /// What the rule says of them, in the order in which it stands.
+    /// The declarations of its block, in order.
     pub declarations: Vec<Declaration<'a>>,
 }
 

@@ -15,25 +15,25 @@ use simplecss_text::stream::Stream;
 use std::alloc::{AllocError, Global};
 use std::marker::Model;
 
-/// A statement of a style sheet (CSS 2.1 section 4.1.5), and where it stands in the text. Places
-/// count bytes from the start of the text and stand between two characters.
+/// A statement of a style sheet (CSS 2.1 section 4.1.5), and where it is in the text, as offsets on
+/// character boundaries.
 #[derive(Debug, Drop)]
 pub struct Statement<'a> {
     /// Where it begins.
     pub start: usize,
     /// Where it ends.
     pub end: usize,
-    /// The rules that it gives, as they stand: an at-rule gives none.
+    /// Its rules, in order: an at-rule has none.
     pub rules: Vec<Rule<'a>>,
 }
 
-/// Reads the statements of a text one by one, for those who ask where each stands.
+/// Iterates over the statements of a text with their byte ranges.
 ///
 /// A style sheet of the text has the rules of all statements that have a declaration, in the order
 /// of their specificity.
 #[derive(Debug, Drop)]
 pub struct StatementReader<'a> {
-    /// The text, and the place behind the last statement.
+    /// The text, with the cursor after the last statement.
     stream: Stream<'a>,
 }
 
@@ -56,9 +56,9 @@ impl<'a> StatementReader<'a> {
         }
     }
 
-    /// The next statement, or `None` for ever where there is none: at the end of the text, and at a
-    /// comment that is not closed. Only memory may be wanting, and then the reader stays where it
-    /// is. Warnings of what is passed over go to `rt`.
+    /// Returns the next statement, or `None`, from then on, if there is none: at the end of the
+    /// text, and at a comment that is not closed. Fails only if an allocation fails, and then the
+    /// reader stays where it is. Warnings of what is skipped go to `rt`.
     pub fn read_next<R: Log>(
         &mut self,
         rt: &R,

@@ -70,8 +70,8 @@ fn skip_comma<'a, P: Report<'a>>(report: &mut P, s: &mut Stream<'a>) -> Result<(
     })
 }
 
-/// Reads a part of a rule set's head, passes the space bytes behind it, and adds its selector, if it
-/// gives one. What is skipped is reported.
+/// Reads a part of a rule set's head and the space bytes after it, and adds its selector, if it has
+/// one. What is skipped is reported.
 #[tactic(auto, unfolding(simplecss_text::specs::Statements::part))]
 fn consume_part<'a, P: Report<'a>>(
     report: &mut P,
@@ -103,8 +103,8 @@ fn consume_part<'a, P: Report<'a>>(
     }
 }
 
-/// Reads the parts of a rule set's head, with a comma behind each but the last, and puts their
-/// selectors into the list, in the place of those that it held.
+/// Reads the parts of a rule set's head, with a comma after each but the last. Their selectors
+/// replace those that the list held.
 fn consume_parts<'a, P: Report<'a>>(
     report: &mut P,
     alloc: Global,
@@ -126,8 +126,8 @@ fn consume_parts<'a, P: Report<'a>>(
     }
 }
 
-/// Adds a rule for each selector, and takes the selectors out of their list. Each rule has its own
-/// list of the declarations, which takes no more memory than they need.
+/// Adds a rule for each selector, and moves the selectors out of their list. Each rule has its own
+/// list of the declarations, with no spare capacity.
 fn push_rules<'a>(
     alloc: Global,
     rules: &mut Vec<Rule<'a>>,
@@ -147,7 +147,7 @@ fn push_rules<'a>(
     Ok(())
 }
 
-/// Passes an at-rule behind its sign, and gives its name, if it has one. A faulty name ends it.
+/// Consumes an at-rule after its sign, and returns its name, if it has one. A faulty name ends it.
 #[tactic(auto, unfolding(simplecss_text::specs::Statements::at_rule_rest))]
 fn pass_at_rule<'a>(s: &mut Stream<'a>) -> Option<&'a str>
     ensures text { text_of s.new ≡ text_of s.old }
@@ -160,8 +160,8 @@ fn pass_at_rule<'a>(s: &mut Stream<'a>) -> Option<&'a str>
     Some(name)
 }
 
-/// Reads statements, and keeps the rules that they give. The lists that a rule set is read into are
-/// used again for each.
+/// Reads statements, and keeps their rules. The lists that a rule set is read into are used again
+/// for each.
 #[derive(Drop)]
 pub struct RuleReader<'a> {
     /// The rules of the statements that were read.
@@ -173,7 +173,7 @@ pub struct RuleReader<'a> {
 }
 
 impl<'a> RuleReader<'a> {
-    /// A reader that has read nothing. It takes no memory.
+    /// Returns a reader that has read nothing. Allocates nothing.
     pub fn new(alloc: Global) -> Self
         ensures { result.rules.items ≡ [] }
     {
@@ -192,7 +192,7 @@ impl<'a> RuleReader<'a> {
         rules
     }
 
-    /// Reads a rule set, and adds its rules: one for each part that gave a selector, with all
+    /// Reads a rule set, and adds its rules: one for each part that has a selector, with all
     /// declarations of the block.
     #[tactic(auto, unfolding(simplecss_text::specs::Statements::rule_set))]
     fn consume_rule_set<P: Report<'a>>(
@@ -219,7 +219,7 @@ impl<'a> RuleReader<'a> {
         )
     }
 
-    /// Reads a statement, and adds the rules that it gives. An at-rule gives none.
+    /// Reads a statement, and adds its rules. An at-rule has none.
     #[tactic(auto, unfolding(simplecss_text::specs::Statements::statement), using(simplecss_text::proofs::bytes::ByteLemmas::past_byte_there, simplecss_text::proofs::bytes::ByteLemmas::past_byte_not))]
     pub fn consume_statement<P: Report<'a>>(
         &mut self,

@@ -28,7 +28,7 @@ pub struct StyleSheet<'a> {
 }
 
 impl<'a> StyleSheet<'a> {
-    /// A style sheet without rules. It takes no memory.
+    /// Returns a style sheet without rules. Allocates nothing.
     pub fn new(alloc: Global) -> Self
         ensures none { rules_in result ≡ [] }
         ensures sheet { rules_in result ≡ sheet this_edition [] }
@@ -38,11 +38,11 @@ impl<'a> StyleSheet<'a> {
         }
     }
 
-    /// The style sheet of one text. Only memory may be wanting: what CSS 2.1 does not let stand is
-    /// passed over (section 4.2). Warnings of what is passed over go to `rt`.
+    /// Reads the style sheet of one text. Fails only if an allocation fails; text that CSS 2.1 does
+    /// not allow is skipped (section 4.2). Warnings of what is skipped go to `rt`.
     ///
-    /// A rule set's declarations are stored once for each of its selectors, so the memory that it
-    /// takes grows as the product of their numbers.
+    /// A rule set's declarations are stored once for each of its selectors, so its memory grows as
+    /// the product of their numbers.
     pub fn parse<R: Log>(rt: &R, alloc: Global, text: &'a str) -> Result<Self, AllocError>
         ensures sheet { IfOk result (λ s. rules_in s ≡ sheet this_edition (text.now ∷ [])) }
         ensures selectors { IfOk result (λ s. SelectorsReadBack this_edition (rules_in s)) }
@@ -76,9 +76,9 @@ impl<'a> StyleSheet<'a> {
         StyleSheet::parse_all_reporting(report, alloc, &[text])
     }
 
-    /// The style sheet of all these texts, read in turn: the one that [`StyleSheet::parse_more`]
-    /// gives of them one after another, but that its rules are put in order once, so that many
-    /// short texts take no more time than a long one. Warnings of what is passed over go to `rt`.
+    /// Reads the style sheet of all these texts, one after another. It is the sheet that
+    /// [`StyleSheet::parse_more`] reads of them, but its rules are ordered once, so that many short
+    /// texts take no more time than a long one. Warnings of what is skipped go to `rt`.
     pub fn parse_all<R: Log>(rt: &R, alloc: Global, texts: &[&'a str]) -> Result<Self, AllocError>
         ensures sheet { IfOk result
             (λ s. rules_in s ≡ sheet this_edition (map (λ text. text.now) texts.now)) }
@@ -113,10 +113,10 @@ impl<'a> StyleSheet<'a> {
         Ok(sheet)
     }
 
-    /// Reads a text into the style sheet: its rules come behind the others of equal specificity,
-    /// and rules without a declaration are dropped, those that stood in the sheet too. A text of
-    /// spaces, comments and then a comment that is not closed changes nothing, and where memory is
-    /// wanting the sheet is as before. Warnings of what is passed over go to `rt`.
+    /// Reads a text into the style sheet: its rules come after the others of equal specificity.
+    /// Also drops rules without declarations that were already in the sheet. A text of spaces,
+    /// comments and then a comment that is not closed changes nothing. After an error the sheet is
+    /// unchanged. Warnings of what is skipped go to `rt`.
     pub fn parse_more<R: Log>(
         &mut self,
         rt: &R,

@@ -7,7 +7,7 @@ use Rattle.cssq.proofs.Indexed.{behind}
 use Rattle.cssq.proofs.Listing.{Before}
 use Rattle.cssq.proofs.cascade.stated_at.Given as goal
 
--- what stands in the rules up to the last place that was read
+-- what the rules up to the last place that was read state
 abbrev pub invariant-loop-place : goal.invariant-loop-place
 invariant-loop-place g l =
     (l.place-index ≤ length l.places)

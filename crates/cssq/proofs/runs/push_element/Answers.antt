@@ -14,7 +14,7 @@ use Rattle.cssq.proofs.Indexed.{numbers_told, same_selectors}
 use Rattle.cssq.proofs.runs.push_element.Goals.{After-as_slice-places}
 use Rattle.cssq.proofs.runs.push_element.Goals as goal
 
--- the places are those of the rules that take the element
+-- the places are those of the rules that match the element
 found : (c : After-as_slice-places) → AreMatches page_tree (spot c.args.page.now c.args.place) (map (λ rule. rule.selector) c.args.rules.now) c.as_slice-places.result.now
 found c =
     let at = subst (λ r. MatchOption r (length c.args.page.now ≤ c.args.place) (λ node. (c.args.place < length c.args.page.now) × (node ≡ spot c.args.page.now c.args.place))) c.unwrap-node.ensures c.node.ensures in

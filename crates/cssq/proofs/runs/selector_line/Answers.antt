@@ -4,7 +4,7 @@ use Rattle.std.specs.List.{join_with_byte}
 use Rattle.simplecss.specs.Printing.{selector_text}
 use Rattle.cssq.proofs.runs.selector_line.Goals as goal
 
--- the texts that are printed in turn are the numbers with commas between them
+-- the texts that are printed one after another are the numbers with commas between them
 joined : (s a b d end : List ℕ) → s ++ (9 ∷ (a ++ (44 ∷ (b ++ (44 ∷ (d ++ end)))))) ≡ s ++ (9 ∷ (join_with_byte 44 (a ∷ b ∷ d ∷ []) ++ end))
 joined s a b d end = ap (λ l. s ++ (9 ∷ l)) (sym (append_assoc a (44 ∷ (b ++ (44 ∷ d))) end ∙ ap (λ l. a ++ (44 ∷ l)) (append_assoc b (44 ∷ d) end)))
 

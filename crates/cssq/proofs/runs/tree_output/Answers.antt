@@ -25,7 +25,7 @@ fault_due : (asked : Asked) (text tree : List ℕ) (fault : TreeFault) → tree_
 fault_due Rules text tree fault is = is
 fault_due (Winner name) text tree fault is = is
 
--- want of memory comes before the first write
+-- a refused allocation comes before the first write
 memory_fails : {V : Type 0} (IsDue : Result (List ℕ) RunFault → Type 0) (r : Result V RunFault) → IfErr r (λ fault. fault ≡ Memory) → IfErr r (FailsBeforeWriting IsDue)
 memory_fails IsDue (Ok x) is = tt
 memory_fails IsDue (Err fault) is = subst (FailsBeforeWriting IsDue) (sym is) tt

@@ -17,7 +17,7 @@ returns-in_err-entry-clause-fault c =
     let told = subst (λ n. IsToldOf n (faults_of_line n limit (fields_of text)) c.in_err-entry.field-0.0) number c.in_err-entry.ensures.value in
     passed_on c.from_residual.result c.in_err-entry.field-0.0 (IsToldOf (length old + 1) (faults_of_line (length old + 1) limit (fields_of text))) c.from_residual.ensures.1 told
 
--- a growth was refused behind the check of the line
+-- a growth was refused after the check of the line
 pub returns-in-Err-clause-fault : goal.returns-in-Err-clause-fault
 returns-in-Err-clause-fault c =
     let number : c.len-number.result + 1 ≡ length c.args.lines.now.items + 1 = ap (λ n. n + 1) (c.len-number.ensures ∙ c.args.lines.now.ok.0) in

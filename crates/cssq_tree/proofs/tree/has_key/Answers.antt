@@ -4,7 +4,7 @@ use Rattle.cssq_tree.specs.TreeText.{fields_in}
 use Rattle.cssq_tree.proofs.Fields.{has_key_more}
 use Rattle.cssq_tree.proofs.tree.has_key.Goals as goal
 
--- the field that is passed has another key
+-- the field that was examined has another key
 pub loop-i-preserved : goal.loop-i-preserved
 loop-i-preserved c =
     c.loop-i.invariant

@@ -1,7 +1,7 @@
 use Rattle.simplecss.proofs.Following.{Follows, end_of}
 use Rattle.simplecss.proofs.index.find.push_earlier.Given as goal
 
--- what the chain passed was added
+-- what the chain visited was added
 abbrev pub invariant-back : goal.invariant-back
 invariant-back l = Follows l.rule_index l.place l.initial.places.items l.places.items l.known
 

@@ -12,7 +12,7 @@ use Rattle.simplecss.proofs.SheetLemmas.{texts_more, texts_open}
 use Rattle.simplecss.proofs.sheet.reading.read_all.Goals as goal
 use Rattle.simplecss.proofs.sheet.reading.read_all.Goals.{in-Some+in_ok-join, in_default}
 
--- the rules of one more text are put behind the others
+-- the rules of one more text are appended
 joined : (texts : List (List ℕ)) (text : List ℕ) (old more new : List Rule) → rules_of more ≡ flat_map (λ given. given) (statements this_edition text) → new ≡ old ++ more
     → filter has_declaration (rules_of old) ≡ flat_map (kept this_edition) texts → filter has_declaration (rules_of new) ≡ flat_map (kept this_edition) (texts ++ text ∷ [])
 joined texts text old more new read e was =

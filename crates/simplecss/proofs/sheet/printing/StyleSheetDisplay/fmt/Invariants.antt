@@ -5,7 +5,7 @@ use Rattle.simplecss_text.specs.Printing.{rule_text}
 use Rattle.simplecss.specs.SeenRules.{rule_of}
 use Rattle.simplecss.proofs.sheet.printing.StyleSheetDisplay.fmt.Given as goal
 
--- what is written behind the first rule are the lines of those that follow
+-- after the first rule, the lines of those that follow are written
 abbrev pub invariant-loop-rule : goal.invariant-loop-rule
 invariant-loop-rule g l =
     IsFlush l.initial.f → HasWrittenStyled g.W.Write.write_str_gives l.initial.f (flat_map (λ r. 10 ∷ rule_text (rule_of r)) (take l.rule-index l.rest)) l.f

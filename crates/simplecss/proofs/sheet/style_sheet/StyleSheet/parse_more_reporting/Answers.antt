@@ -47,7 +47,7 @@ merged g c texts was =
 pub returns-in-Some-clause-sheet : goal.returns-in-Some-clause-sheet
 returns-in-Some-clause-sheet g c texts was = merged g c texts was
 
--- what both outcomes give
+-- what both outcomes imply
 either_way : {X E P : Type 0} (r : Result X E) → OnOk r P → OnErr r P → P
 either_way (Ok x) ok err = ok
 either_way (Err e) ok err = err
