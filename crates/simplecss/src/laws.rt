@@ -1,11 +1,11 @@
 //! Laws that the definitions keep, each the contract of a function that does nothing. A proof calls
 //! the function to have the law; a program need not.
 //!
-//! Of texts: what comments and blanks are, and equality of positions, errors and cursors. Of
-//! selectors: their tokens, their components, their keys, printing, equality, and that elements
-//! which mean the same get the same answers. Of sheets: the order of rules, what a rule's place
-//! means, reading a text in pieces, and equality of rules and declarations. Of an index: that it
-//! finds what asking each rule finds.
+//! Of texts: what comments and blanks are, what is skipped of a text in pieces, and equality of positions, errors and
+//! cursors. Of selectors: their tokens, their components, their keys, printing, equality, and that
+//! elements which mean the same get the same answers. Of sheets: the order of rules, what a rule's
+//! place means, reading a text in pieces, and equality of rules and declarations. Of an index: that
+//! it finds what asking each rule finds.
 
 pub use crate::index::laws::answers_law;
 pub use crate::sheet::laws::{
@@ -18,5 +18,5 @@ pub use simplecss_selector::{
 };
 pub use simplecss_text::laws::{
     blank_is_cut, blank_is_longest, comment_is_closed, equality_laws as text_equality_laws,
-    open_comment_breaks_blank, space_bytes_are_parts,
+    open_comment_breaks_blank, skips_are_cut, space_bytes_are_parts,
 };

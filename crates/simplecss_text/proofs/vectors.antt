@@ -11,3 +11,4 @@ pub mod EditionVectors
 pub mod HyphenVectors
 pub mod PrintingVectors
 pub mod SkippedVectors
+pub mod SkippedLawVectors

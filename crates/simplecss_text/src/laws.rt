@@ -1,12 +1,17 @@
 //! Laws: contracts of functions that do nothing. Those of the grammar say what the readers of
 //! comments and blanks find, by definitions of comments and blanks that do not mention reading.
+//! That of what is skipped says that it stays in a text read in pieces.
 //! Those of equality say when two values are equal.
 
 ghost use Rattle.std.specs.Prelude.{◌≡◌, ℕ, ◌≤◌, ◌↔◌, List, ◌++◌, length, true, false, IsTrue};
+ghost use Rattle.std.specs.Str.{IsUtf8};
 ghost use Rattle.simplecss_text.specs.Reading.{got, before, Ends};
 ghost use Rattle.simplecss_text.specs.Comments.{opens_comment, comment, past_blank, blank};
 ghost use Rattle.simplecss_text.specs.Comments.{has_space};
 ghost use Rattle.simplecss_text.specs.Blanks.{IsComment, IsBlank, IsComments};
+ghost use Rattle.simplecss_text.specs.Characters.{Edition};
+ghost use Rattle.simplecss_text.specs.Cutting.{StatementEndsAt};
+ghost use Rattle.simplecss_text.specs.SkippedLaws.{SkipsAcross};
 ghost use Rattle.simplecss_text.specs.Cursor.{text_of, place_of};
 
 use crate::stream::Stream;
@@ -41,6 +46,13 @@ pub fn space_bytes_are_parts()
 pub fn open_comment_breaks_blank()
     ensures { (text : List ℕ) → opens_comment (past_blank text) ≡ true →
         blank text ≡ comment (past_blank text) }
+{}
+
+/// What is skipped of a text is what is skipped of its front up to a place and then what is skipped
+/// from there on, with its reasons, wherever one of its statements ends.
+pub fn skips_are_cut()
+    ensures { (edition : Edition) (text : List ℕ) (place : ℕ) → IsUtf8 text →
+        StatementEndsAt edition text place → SkipsAcross edition text place }
 {}
 
 /// Two positions are equal exactly if their rows and columns are; two errors if they are the same

@@ -117,7 +117,7 @@ at_rule-hyphen first_edition = refl
 at_rule-hyphen second_edition = refl
 
 -- Where no name begins in a text none begins in its front, but for a lone hyphen.
-no_name-front : (edition : Edition) (s v : List ℕ) → IsUtf8 s
+pub no_name-front : (edition : Edition) (s v : List ℕ) → IsUtf8 s
     → begins_name edition (chars (s ++ v)) ≡ false
     → (begins_name edition (chars s) ≡ false) ⊎ (s ≡ 45 ∷ [])
 unfolding encode

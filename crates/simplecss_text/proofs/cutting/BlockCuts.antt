@@ -42,7 +42,7 @@ at_brace x = by (cases_lt (block_end x) (length x))
         least-passes (closes_block x) (length x) l in
         inr (starts-drop 125 (block_end x) x l ∙ (both_true _ _ closes).0)
 
-taken-lost : (t x : List ℕ) → (x ≡ []) ⊎ (starts 125 x ≡ true) → length x ≤ length t
+pub taken-lost : (t x : List ℕ) → (x ≡ []) ⊎ (starts 125 x ≡ true) → length x ≤ length t
     → Lost t (past_byte 125 x)
 taken-lost t x (inl e) l = inr (ap (past_byte 125) e)
 taken-lost t x (inr e) l = inl (omega (arith, less_of_brace x e))
@@ -52,12 +52,12 @@ broken-lost : (t rest : List ℕ) → length rest ≤ length t
 broken-lost t rest l =
     taken-lost t (from_block_end rest) (at_brace rest) (omega (arith, length-from_block_end rest))
 
-brace-lost : (t x : List ℕ) → Lost t x → Lost t (past_byte 125 x)
+pub brace-lost : (t x : List ℕ) → Lost t x → Lost t (past_byte 125 x)
 brace-lost t x (inl l) = inl (omega (arith, length-past_byte 125 x))
 brace-lost t x (inr e) = inr (ap (past_byte 125) e)
 
 -- where the list of declarations ends after the brace
-list-lost : (edition : Edition) (t a : List ℕ) → length a ≤ length t
+pub list-lost : (edition : Edition) (t a : List ℕ) → length a ≤ length t
     → Lost t (past_byte 125 (past_list edition a))
 list-lost edition t a l = by (ends_list a) refl
   where
@@ -94,7 +94,7 @@ none_broken edition a e n = by (ends_list a) e n
     by true f m = absurd (cc)
     by false f m = m
 
-stuck-lost : (t : List ℕ) (d : Reading StyleDeclaration) → found d ≡ None
+pub stuck-lost : (t : List ℕ) (d : Reading StyleDeclaration) → found d ≡ None
     → length (left_after d) ≤ length t → Lost t (past_broken d)
 stuck-lost t (got p rest) e l = absurd (cc)
 stuck-lost t (fails f rest) e l = broken-lost t rest l

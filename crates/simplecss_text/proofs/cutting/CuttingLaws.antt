@@ -20,7 +20,7 @@ use Rattle.simplecss_text.proofs.cutting.StatementCuts.{next_statement-cut, next
 use Rattle.simplecss_text.proofs.reading.WellLaws.{EndsWell, well-then}
 
 -- a piece of the text ends where rest is left, or the text begins there
-data Reaches {X : Type 0} (read : List ℕ → Option (X × List ℕ)) (rest : List ℕ) : List ℕ
+pub data Reaches {X : Type 0} (read : List ℕ → Option (X × List ℕ)) (rest : List ℕ) : List ℕ
     → Type 0 where
   at_rest : Reaches read rest rest
   behind : (text next : List ℕ) (x : X) → read text ≡ Some (x, next) → Reaches read rest next
@@ -33,11 +33,11 @@ Local {X = X} read =
     → read u ≡ Some (x, w)
 
 -- each reading leaves an end of the text that is UTF-8 if the text is
-abbrev LeavesWell : {X : Type 0} → (List ℕ → Option (X × List ℕ)) → Type 0
+abbrev pub LeavesWell : {X : Type 0} → (List ℕ → Option (X × List ℕ)) → Type 0
 LeavesWell {X = X} read =
     (text rest : List ℕ) (x : X) → read text ≡ Some (x, rest) → EndsWell text rest
 
-reaches-well : {X : Type 0} (read : List ℕ → Option (X × List ℕ)) → LeavesWell read
+pub reaches-well : {X : Type 0} (read : List ℕ → Option (X × List ℕ)) → LeavesWell read
     → (rest text : List ℕ) → Reaches read rest text → EndsWell text rest
 reaches-well read well rest text at_rest = (ends-same rest, λ u. u)
 reaches-well read well rest text (behind _ next x e r) =
@@ -133,7 +133,7 @@ rests-some edition text rest rules e =
     (ap (option_map (λ (s : List StyleRule × List ℕ). (s.1, s.1))) e))
 
 -- each of these rests is reached by statements
-rests-reached : (edition : Edition) (k : ℕ) (text d : List ℕ)
+pub rests-reached : (edition : Edition) (k : ℕ) (text d : List ℕ)
     → k < length (rests_behind edition text)
     → Reaches (next_statement edition) (get_or (rests_behind edition text) k d) text
 rests-reached edition zero text d l =

@@ -23,7 +23,7 @@ use Rattle.simplecss_text.proofs.cutting.BlockEndGuards.{Exact}
 use Rattle.simplecss_text.proofs.cutting.BlockCuts.{Lost, BlockSame, block-same}
 use Rattle.simplecss_text.proofs.cutting.SelectorGuards.{selectors-guarded}
 
-opened-lost : (edition : Edition) (t x : List ℕ) → length x ≤ length t
+pub opened-lost : (edition : Edition) (t x : List ℕ) → length x ≤ length t
     → Lost t (if starts 123 x then block edition (past_one x) else ([], [])).1
 opened-lost edition t [] l = inr refl
 opened-lost edition t (b ∷ x) l = by (b == 123)
@@ -33,7 +33,7 @@ opened-lost edition t (b ∷ x) l = by (b == 123)
     by false = inr refl
 
 -- the next block, from after the brace
-next_block-lost : (edition : Edition) (t x : List ℕ) → length x ≤ length t
+pub next_block-lost : (edition : Edition) (t x : List ℕ) → length x ≤ length t
     → Lost t (next_block edition x).1
 unfolding next_block
 next_block-lost edition t x l =
@@ -70,7 +70,7 @@ next_block-same edition u v whole r s w e h =
     by x y f (inl l) = inl (opened-lost edition (u ++ v) x l)
     by x y f (inr k) = opened-same edition u v whole x y w f k
 
-part-same : (edition : Edition) (u v r s : List ℕ) → IsUtf8 r → Along (125 ∷ (u ++ v)) (125 ∷ u) r s
+pub part-same : (edition : Edition) (u v r s : List ℕ) → IsUtf8 r → Along (125 ∷ (u ++ v)) (125 ∷ u) r s
     → Same (u ++ v) u (part edition r) (part edition s)
 unfolding part
 part-same edition u v r s w h =
@@ -117,7 +117,7 @@ comma-step edition t u r s (a, x) (b, y) (inr (e, k)) stuck = one x y k
         by true = inr (e, h)
         by false = tt
 
-parts-same : (edition : Edition) (u v r s : List ℕ) → IsUtf8 r
+pub parts-same : (edition : Edition) (u v r s : List ℕ) → IsUtf8 r
     → Along (125 ∷ (u ++ v)) (125 ∷ u) r s → Same (u ++ v) u (parts edition r) (parts edition s)
 unfolding parts
 parts-same edition u v r s w h =

@@ -26,7 +26,7 @@ use Rattle.simplecss_text.proofs.cutting.OutcomeGuards.{OutcomeGuard, IsSolid, b
 
 -- where a solid piece leaves no more than n bytes, so does the place where it begins, if the table
 -- of neighbours may name that
-abbrev Passed : ℕ → NextKind → List ℕ → Reading Token → Type 0
+abbrev pub Passed : ℕ → NextKind → List ℕ → Reading Token → Type 0
 Passed n kind start (got token after) = NamesStart kind → length after ≤ n → length start ≤ n
 Passed n kind start (fails fault after) = Unit {0}
 
@@ -43,7 +43,7 @@ one_byte t u r s at other l = absurd (other refl)
 one_byte t u r s (on b r1 s1 h) other l =
     absurd (omega (arith, l, longer-along (125 ∷ t) (125 ∷ u) r1 s1 h))
 
-solid_as-passed : (edition : Edition) (t u r s : List ℕ) → Along (125 ∷ t) (125 ∷ u) r s
+pub solid_as-passed : (edition : Edition) (t u r s : List ℕ) → Along (125 ∷ t) (125 ∷ u) r s
     → (kind : NextKind) → next_kind r ≡ kind → Passed (length t) kind r (solid_as edition kind r)
 solid_as-passed edition t u r s h Stop k = tt
 solid_as-passed edition t u r s h Slash k = tt
@@ -167,7 +167,7 @@ solid_sequence-within edition n side spaced kind start (got x p) l c =
 solid_sequence-within edition n side spaced kind start (fails f p) l c =
     fault_ending-within n side kind spaced start f p l (omega (arith, c, l))
 
-gap_sequence-within : (edition : Edition) (n : ℕ) (side : Side) (r : Reading Bool)
+pub gap_sequence-within : (edition : Edition) (n : ℕ) (side : Side) (r : Reading Bool)
     → length (left_after r) ≤ n → length (left_of (outcome (gap_sequence edition side r))) ≤ n
 gap_sequence-within edition n side (fails fault after) l = rw (open_gap-outcome side fault after) l
 gap_sequence-within edition n side (got spaced start) l =

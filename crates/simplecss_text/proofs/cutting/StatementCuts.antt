@@ -28,7 +28,7 @@ use Rattle.simplecss_text.proofs.bytes.Utf8Laws.{utf8-first}
 
 -- How a statement ends after a blank: the text is used up, or it is a rule set that ends after a
 -- brace, or an at-rule.
-data NextEnds (edition : Edition) (text : List ℕ) (rules : List StyleRule) (rest : List ℕ) : Type 0
+pub data NextEnds (edition : Edition) (text : List ℕ) (rules : List StyleRule) (rest : List ℕ) : Type 0
   where
     text_ends : rest ≡ [] → NextEnds edition text rules rest
     rules_end : starts 64 text ≡ false → rule_set edition text ≡ (rules, rest)
@@ -63,7 +63,7 @@ statement-ends edition (b ∷ text) rules rest e = by (b == 64) refl e
     by false f g = of_rules f g (rule_set-behind edition (b ∷ text))
 
 -- where the statements continue, and how the next one ends
-next_statement-ends : (edition : Edition) (text : List ℕ) (rules : List StyleRule) (rest : List ℕ)
+pub next_statement-ends : (edition : Edition) (text : List ℕ) (rules : List StyleRule) (rest : List ℕ)
     → next_statement edition text ≡ Some (rules, rest)
     → (ends_statements (past_blank text) ≡ false) × NextEnds edition (past_blank text) rules rest
 next_statement-ends edition text rules rest e = by (ends_statements (past_blank text)) refl e
@@ -80,14 +80,14 @@ next_statement-ends edition text rules rest e = by (ends_statements (past_blank 
 -- ---- what is left is an end of the text, and the UTF-8 of some characters
 
 -- an at-rule that ends after a semicolon or a block ends after that byte
-semicolon-front : (edition : Edition) (text n rest left : List ℕ) → name edition text ≡ got n rest
+pub semicolon-front : (edition : Edition) (text n rest left : List ℕ) → name edition text ≡ got n rest
     → past (is_neither 59 123) rest ≡ 59 ∷ left → Ends text (59 ∷ left)
 semicolon-front edition text n rest left e f =
     ends-ends text rest (59 ∷ left)
     (ends-got text itself (name edition text) n rest (name-stands edition text) e)
     (subst (Ends rest) f (ends-past (is_neither 59 123) rest))
 
-block-front : (edition : Edition) (text n rest inner left : List ℕ) → name edition text ≡ got n rest
+pub block-front : (edition : Edition) (text n rest inner left : List ℕ) → name edition text ≡ got n rest
     → past (is_neither 59 123) rest ≡ 123 ∷ inner → from_block_end inner ≡ 125 ∷ left
     → Ends text (125 ∷ left)
 block-front edition text n rest inner left e f g =
@@ -99,7 +99,7 @@ block-front edition text n rest inner left e f g =
     (ends-ends text (123 ∷ inner) inner opened (ends-tail 123 inner))
     (subst (Ends inner) g (ends-from_block_end inner))
 
-at_rule-well : (edition : Edition) (text rest : List ℕ) → AtRuleEnds edition text rest
+pub at_rule-well : (edition : Edition) (text rest : List ℕ) → AtRuleEnds edition text rest
     → EndsWell text rest
 at_rule-well edition text rest uses_up = well-nil text
 at_rule-well edition text rest (at_fault fault left e) =
@@ -129,7 +129,7 @@ next_statement-well edition text rest rules e =
 -- ---- the texts before and after a cut
 
 -- a text and its front, from after an ASCII byte on
-along-of : (g : ℕ) (u v w : List ℕ) → Ends (u ++ v) (g ∷ (w ++ v))
+pub along-of : (g : ℕ) (u v w : List ℕ) → Ends (u ++ v) (g ∷ (w ++ v))
     → Along (g ∷ (w ++ v)) (g ∷ w) (u ++ v) u
 along-of g u v w e =
     let front : List ℕ = before (u ++ v) (g ∷ (w ++ v)) in
@@ -142,7 +142,7 @@ along-of g u v w e =
     (subst (λ (r : List ℕ). Along (g ∷ (w ++ v)) (g ∷ w) r (front ++ g ∷ w)) parts along)
 
 -- after the blanks at their fronts
-past_blank-along : (g : ℕ) (u v w : List ℕ) → Plain g → Ends (past_blank (u ++ v)) (g ∷ (w ++ v))
+pub past_blank-along : (g : ℕ) (u v w : List ℕ) → Plain g → Ends (past_blank (u ++ v)) (g ∷ (w ++ v))
     → Along (g ∷ (w ++ v)) (g ∷ w) (past_blank (u ++ v)) (past_blank u)
 past_blank-along g u v w plain e =
     by (past_blank-to g w v plain (u ++ v) u
@@ -156,7 +156,7 @@ past_blank-along g u v w plain e =
 
 -- ---- statements
 
-sign_plain : Plain 64
+pub sign_plain : Plain 64
 sign_plain = record { space = refl; slash = refl; star = refl }
 
 exact-second : (g : ℕ) (t u r s : List ℕ) → Exact g t u r s → r ≡ t → s ≡ u
@@ -190,7 +190,7 @@ rule_set-cut edition w v r s rules z h e =
         inr (rw (same, ruled) refl)
 
 -- an at-rule, from after its sign
-at_rule-cut : (edition : Edition) (s v w rest : List ℕ) → IsUtf8 (s ++ v) → IsUtf8 v → rest ≡ w ++ v
+pub at_rule-cut : (edition : Edition) (s v w rest : List ℕ) → IsUtf8 (s ++ v) → IsUtf8 v → rest ≡ w ++ v
     → AtRuleEnds edition (s ++ v) rest → (w ++ v ≡ []) ⊎ (at_rule_rest edition s ≡ w)
 at_rule-cut edition s v w rest whole cut e uses_up = inl (sym e)
 at_rule-cut edition s v w rest whole cut e (at_fault fault left f) =

@@ -131,7 +131,7 @@ hyphen_encodes : encode_utf8_all (45 ∷ []) ≡ 45 ∷ []
 unfolding encode
 hyphen_encodes = refl
 
-hyphen_no_name : (edition : Edition) (n : List ℕ) → IsName edition n → n ≡ 45 ∷ [] → ⊥
+pub hyphen_no_name : (edition : Edition) (n : List ℕ) → IsName edition n → n ≡ 45 ∷ [] → ⊥
 hyphen_no_name edition n w e =
     let letters : w.letters ≡ 45 ∷ [] = encodes_same w.letters (45 ∷ []) (w.spell ∙ e ∙ sym hyphen_encodes) in
     hyphen_begins edition (ap (begins_any_name edition) (sym letters) ∙ w.begins)

@@ -27,7 +27,7 @@ use Rattle.simplecss_text.proofs.reading.Lawful.{Lawful, Owes, byte-lawful, lawf
 use Rattle.simplecss_text.proofs.reading.LocalLaws.{Along, Equal, Guard, Never, Repeats, To, at, at-brace, before-along, on, pairs-equal, past-both}
 use Rattle.simplecss_text.proofs.reading.SearchLaws.{blank-repeats, brace_plain, opens_comment-along}
 
-string_or_name-lawful : Lawful true string_or_name string_or_name
+pub string_or_name-lawful : Lawful true string_or_name string_or_name
 unfolding string_or_name
 string_or_name-lawful =
     lawful-cases string_or_name string_or_name (λ e. absurd (cc)) (owes-fails ended ended [] [])
@@ -48,7 +48,7 @@ equated-lawful operator r s =
     owes-follow _ _ (byte-lawful 61 (omega arith) r s) (λ u r s.
     owes-follow _ _ (string_or_name-lawful r s) (λ value. owes-give (operator value)))
 
-attribute_operator-lawful : Lawful true attribute_operator attribute_operator
+pub attribute_operator-lawful : Lawful true attribute_operator attribute_operator
 unfolding attribute_operator
 attribute_operator-lawful =
     lawful-cases attribute_operator attribute_operator (λ e. absurd (cc))
@@ -71,7 +71,7 @@ attribute_after-lawful r s =
 
 -- ---- pseudo-classes
 
-all_before-lawful : (c : ℕ) → c < 128
+pub all_before-lawful : (c : ℕ) → c < 128
     → Lawful true (λ edition. all_before c) (λ edition. all_before c)
 all_before-lawful c low r s = record {
   left = λ edition. well-until c low r;

@@ -1,0 +1,273 @@
+-- A statement skips the same where the text is cut after it or later.
+-- Serves `laws::skips_are_cut` (what is skipped of a text in pieces).
+use Rattle.std.proofs.Common.{◌≡◌, ◌<◌, ◌⊎◌, ℕ, Bool, true, false, if◌then◌else◌, List, [], ◌∷◌, ◌++◌, ap, append_assoc, append-nil, arith, bytes_eq, codes, inl, inr, length, map, refl, subst, sym, ◌∙◌, IsUtf8, Some, None}
+use Rattle.std.proofs.lemmas.Slice.Eq.{bytes_eq-Decides}
+use Rattle.std.specs.Str.{chars}
+use lib.Utf8.{encode}
+use Rattle.simplecss_text.specs.Reading.{Ends, Fault, Reading, got, fails, before}
+use Rattle.simplecss_text.specs.Bytes.{is_neither, past, past_one, starts}
+use Rattle.simplecss_text.specs.Characters.{Edition, first_edition, second_edition}
+use Rattle.simplecss_text.specs.Comments.{past_blank}
+use Rattle.simplecss_text.specs.Names.{begins_name, name, past_name_chars}
+use Rattle.simplecss_text.specs.Blocks.{from_block_end}
+use Rattle.simplecss_text.specs.Statements.{StyleRule, at_rule_rest, ends_statements, next_statement, statement, rule_set}
+use Rattle.simplecss_text.specs.PrintingLaws.{is_hyphen_name}
+use Rattle.simplecss_text.specs.Skipped.{Refusal, faulty, unknown_class, Why, leading_comma, refused_selector, after_selector, missing_block, broken_declaration, extra_brace, open_comment, at_rule, Skip, name_of, rule_set_skips, statement_skips}
+use Rattle.simplecss_text.specs.SkippedLaws.{refusal_before, name_before, why_before, skip_before}
+use Rattle.simplecss_text.proofs.bytes.Utf8Laws.{utf8-behind, utf8-first}
+use Rattle.simplecss_text.proofs.printed.PrintedNames.{IsName}
+use Rattle.simplecss_text.proofs.printed.ReadNames.{name-fails, name-is, name-none_begins}
+use Rattle.simplecss_text.proofs.printed.ReadSelectors.{hyphen_no_name}
+use Rattle.simplecss_text.proofs.reading.EndsLaws.{ends-ends, ends-same}
+use Rattle.simplecss_text.proofs.reading.NameLocal.{name-same}
+use Rattle.simplecss_text.proofs.reading.StandLaws.{ends-past_blank}
+use Rattle.simplecss_text.proofs.reading.TakesLaws.{length-past}
+use Rattle.simplecss_text.proofs.reading.DeclarationLaws.{length-from_block_end}
+use Rattle.simplecss_text.proofs.reading.WellLaws.{well-past_blank}
+use Rattle.simplecss_text.proofs.reading.LocalLaws.{Along, Guard, Equal, quiet-brace, quiet-semicolon, Quiet, starts-along}
+use Rattle.simplecss_text.proofs.reading.SearchLaws.{brace_plain}
+use Rattle.simplecss_text.proofs.cutting.BlockCuts.{Lost}
+use Rattle.simplecss_text.proofs.cutting.AtRuleCuts.{along-at, no_name-front}
+use Rattle.simplecss_text.proofs.cutting.StatementEnds.{AtRuleEnds, at_block, at_fault, at_semicolon, uses_up}
+use Rattle.simplecss_text.proofs.cutting.StatementCuts.{NextEnds, along-of, at_rule-cut, at_rule-well, block-front, next_statement-ends, past_blank-along, semicolon-front, sign_plain}
+use Rattle.simplecss_text.proofs.cutting.StatementCuts.NextEnds.{text_ends, rules_end, at_rule_ends}
+use Rattle.simplecss_text.proofs.skipped.RuleSetSkipCuts.{rule_set_skips-same}
+
+-- ---- where nothing follows
+
+refusal-nil : (r : Refusal) → refusal_before [] r ≡ r
+refusal-nil (faulty within error) = rw (append-nil within) refl
+refusal-nil (unknown_class n) = refl
+
+why-nil : (w : Why) → why_before [] w ≡ w
+why-nil (refused_selector r) = ap refused_selector (refusal-nil r)
+why-nil (at_rule n) = refl
+why-nil leading_comma = refl
+why-nil after_selector = refl
+why-nil missing_block = refl
+why-nil broken_declaration = refl
+why-nil extra_brace = refl
+why-nil open_comment = refl
+
+skip-nil : (s : Skip) → skip_before [] s ≡ s
+skip-nil s = rw (append-nil s.from, append-nil s.after, why-nil s.why) refl
+
+pub skips-nil : (xs : List Skip) → map (skip_before []) xs ≡ xs
+skips-nil [] = refl
+skips-nil (x ∷ xs) = rw (skip-nil x, skips-nil xs) refl
+
+-- a text before another one, where both together are empty
+none-after : (w v : List ℕ) → w ++ v ≡ [] → v ≡ []
+none-after [] v e = e
+none-after (b ∷ w) v e = absurd (cc)
+
+-- ---- the names of at-rules
+
+-- no name that stands before more text is a single hyphen
+name-no_hyphen : (edition : Edition) (text n rest : List ℕ) → IsUtf8 text
+    → name edition text ≡ got n rest → (rest ≡ [] → ⊥) → is_hyphen_name (Some n) ≡ false
+name-no_hyphen edition text n rest u e some = by (name-is edition text n rest u e).is
+  where
+    decided : (w : IsName edition n) (k : Bool) → bytes_eq n (codes "-") ≡ k → k ≡ false
+    decided w true h = absurd (hyphen_no_name edition n w ((bytes_eq-Decides n (codes "-")).0 h))
+    decided w false h = refl
+
+    by : IsName edition n ⊎ ((n ≡ 45 ∷ []) × (rest ≡ [])) → bytes_eq n (codes "-") ≡ false
+    by (inl w) = decided w (bytes_eq n (codes "-")) refl
+    by (inr h) = absurd (some h.1)
+
+kept-name : (v n : List ℕ) → is_hyphen_name (Some n) ≡ false → Some n ≡ name_before v (Some n)
+kept-name [] n e = refl
+kept-name (b ∷ v) n e = rw e refl
+
+-- a name that is read alike
+name-alike : (edition : Edition) (g : ℕ) (s v w n x : List ℕ) → Quiet edition g → IsUtf8 (s ++ v)
+    → Along (g ∷ (w ++ v)) (g ∷ w) (s ++ v) s → name edition (s ++ v) ≡ got n x
+    → length (w ++ v) < length x
+    → name_of (name edition (s ++ v)) ≡ name_before v (name_of (name edition s))
+name-alike edition g s v w n x quiet u h e less =
+    by (name edition (s ++ v)) (name edition s) e
+    (name-same edition g (w ++ v) w quiet (s ++ v) s u h)
+  where
+    full : x ≡ [] → ⊥
+    full none = absurd (omega (arith, less, ap length none))
+
+    by : (a b : Reading (List ℕ)) → a ≡ got n x → Guard Equal true (g ∷ (w ++ v)) (g ∷ w) a b
+        → name_of a ≡ name_before v (name_of b)
+    by (fails f y) b i k = absurd (cc)
+    by (got m y) b i (inl l) =
+        let same : y ≡ x = cc in absurd (omega (arith, l, less, ap length same))
+    by (got m y) (fails f z) i (inr k) = absurd k
+    by (got m y) (got o z) i (inr k) =
+        let first : m ≡ n = cc in
+        let same : m ≡ o = k.0 in
+        let kept = kept-name v n (name-no_hyphen edition (s ++ v) n x u e full) in
+        ap (λ (n : List ℕ). Some n) first ∙ kept
+        ∙ ap (λ (n : List ℕ). name_before v (Some n)) (sym first ∙ same)
+
+hyphen-name : (edition : Edition) → name edition (45 ∷ []) ≡ got (45 ∷ []) []
+unfolding name past_name_chars chars encode
+hyphen-name first_edition = refl
+hyphen-name second_edition = refl
+
+-- a name that is missing, or the single hyphen that is one if the text is cut after it
+name-missing : (edition : Edition) (s v rest : List ℕ) (b : ℕ) (f : Fault) → IsUtf8 s
+    → name edition (s ++ (b ∷ v)) ≡ fails f rest
+    → name_of (name edition (s ++ (b ∷ v))) ≡ name_before (b ∷ v) (name_of (name edition s))
+name-missing edition s v rest b f u e =
+    ap name_of e
+    ∙ by (no_name-front edition s (b ∷ v) u
+    (name-fails edition (s ++ (b ∷ v)) rest f e).0)
+  where
+    by : (begins_name edition (chars s) ≡ false) ⊎ (s ≡ 45 ∷ [])
+        → None ≡ name_before (b ∷ v) (name_of (name edition s))
+    by (inl none) = rw (name-none_begins edition s none) refl
+    by (inr is) = rw (is, hyphen-name edition) refl
+
+name-cut : (edition : Edition) (s v w : List ℕ) → IsUtf8 (s ++ v) → IsUtf8 v
+    → AtRuleEnds edition (s ++ v) (w ++ v)
+    → (w ++ v ≡ []) ⊎ (name_of (name edition (s ++ v)) ≡ name_before v (name_of (name edition s)))
+name-cut edition s [] w whole cut ends =
+    inr (ap (λ (t : List ℕ). name_of (name edition t)) (append-nil s))
+name-cut edition s (b ∷ v) w whole cut ends = by (w ++ (b ∷ v)) refl ends
+  where
+    by : (rest : List ℕ) → rest ≡ w ++ (b ∷ v) → AtRuleEnds edition (s ++ (b ∷ v)) rest
+        → (w ++ (b ∷ v) ≡ [])
+        ⊎ (name_of (name edition (s ++ (b ∷ v))) ≡ name_before (b ∷ v) (name_of (name edition s)))
+    by rest e uses_up = inl (sym e)
+    by rest e (at_fault f left g) =
+        inr (name-missing edition s v left b f (utf8-first s (b ∷ v) whole cut) g)
+    by rest e (at_semicolon n x left f g) =
+        let behind : past (is_neither 59 123) x ≡ 59 ∷ (w ++ (b ∷ v)) =
+        g ∙ ap (λ (t : List ℕ). 59 ∷ t) e in
+        inr (name-alike edition 59 s (b ∷ v) w n x (quiet-semicolon edition) whole
+        (along-of 59 s (b ∷ v) w
+        (semicolon-front edition (s ++ (b ∷ v)) n x (w ++ (b ∷ v)) f behind)) f
+        (omega (arith, ap length behind, length-past (is_neither 59 123) x)))
+    by rest e (at_block n x inner left f g h) =
+        let behind : from_block_end inner ≡ 125 ∷ (w ++ (b ∷ v)) =
+        h ∙ ap (λ (t : List ℕ). 125 ∷ t) e in
+        inr (name-alike edition 125 s (b ∷ v) w n x (quiet-brace edition) whole
+        (along-of 125 s (b ∷ v) w
+        (block-front edition (s ++ (b ∷ v)) n x inner (w ++ (b ∷ v)) f g behind)) f
+        (omega (
+          arith,
+          ap length behind,
+          length-from_block_end inner,
+          ap length g,
+          length-past (is_neither 59 123) x,
+        )))
+
+-- where a text begins with an at-rule
+at_rule-left : (edition : Edition) (text t rest : List ℕ) (rules : List StyleRule)
+    → next_statement edition text ≡ Some (rules, rest) → past_blank text ≡ 64 ∷ t
+    → at_rule_rest edition t ≡ rest
+unfolding statement
+at_rule-left edition text t rest rules e is =
+    by (past_blank text) is (ends_statements (past_blank text)) e
+  where
+    read : List ℕ → List StyleRule × List ℕ
+    read start =
+        if starts 64 start then ([], at_rule_rest edition (past_one start))
+        else rule_set edition start
+
+    by : (start : List ℕ) → start ≡ 64 ∷ t → (k : Bool)
+        → (if k then None else Some (read start)) ≡ Some (rules, rest)
+        → at_rule_rest edition t ≡ rest
+    by start is true f = absurd (cc)
+    by start is false f =
+        let found : read start ≡ (rules, rest) = cc in
+        ap (λ (t : List ℕ). (read t).1) (sym is)
+        ∙ ap (λ (r : List StyleRule × List ℕ). r.1) found
+
+-- ---- statements
+
+-- what a statement of a text that is cut after it skips
+pub statement_skips-cut : (edition : Edition) (u v w : List ℕ) (rules : List StyleRule)
+    → IsUtf8 (u ++ v) → IsUtf8 v → next_statement edition (u ++ v) ≡ Some (rules, w ++ v)
+    → statement_skips edition (past_blank (u ++ v))
+    ≡ map (skip_before v) (statement_skips edition (past_blank u))
+unfolding statement_skips
+statement_skips-cut edition u v w rules whole cut e =
+    by (next_statement-ends edition (u ++ v) rules (w ++ v) e).1
+  where
+    Cut : Type 0
+    Cut =
+        statement_skips edition (past_blank (u ++ v))
+        ≡ map (skip_before v) (statement_skips edition (past_blank u))
+
+    nil : (v : List ℕ) → v ≡ []
+        → statement_skips edition (past_blank (u ++ v))
+        ≡ map (skip_before v) (statement_skips edition (past_blank u))
+    nil [] n =
+        ap (λ (t : List ℕ). statement_skips edition (past_blank t)) (append-nil u)
+        ∙ sym (skips-nil (statement_skips edition (past_blank u)))
+    nil (b ∷ v) n = absurd (cc)
+
+    none : w ++ v ≡ [] → Cut
+    none n = nil v (none-after w v n)
+
+    ruled : Along (125 ∷ (w ++ v)) (125 ∷ w) (past_blank (u ++ v)) (past_blank u)
+        → starts 64 (past_blank (u ++ v)) ≡ false
+        → rule_set edition (past_blank (u ++ v)) ≡ (rules, w ++ v)
+        → Lost (w ++ v) (rule_set edition (past_blank (u ++ v))).1
+        ⊎ (rule_set_skips edition (past_blank (u ++ v))
+        ≡ map (skip_before v) (rule_set_skips edition (past_blank u))) → Cut
+    ruled along other r (inl (inl l)) =
+        absurd (omega (arith, l, ap (λ (c : List StyleRule × List ℕ). length c.1) r))
+    ruled along other r (inl (inr k)) =
+        none (sym (ap (λ (c : List StyleRule × List ℕ). c.1) r) ∙ k)
+    ruled along other r (inr same) =
+        let sign : starts 64 (past_blank u) ≡ false =
+        sym (starts-along 125 (w ++ v) w 64 (past_blank (u ++ v)) (past_blank u) along)
+        ∙ other in
+        rw (other, sign) same
+
+    at_sign : (s : List ℕ) → past_blank (u ++ v) ≡ 64 ∷ (s ++ v) → past_blank u ≡ 64 ∷ s
+        → (w ++ v ≡ [])
+        ⊎ (name_of (name edition (s ++ v)) ≡ name_before v (name_of (name edition s)))
+        → at_rule_rest edition (s ++ v) ≡ w ++ v
+        → (w ++ v ≡ []) ⊎ (at_rule_rest edition s ≡ w) → Cut
+    at_sign s start is (inl n) left rest = none n
+    at_sign s start is (inr n) left (inl m) = none m
+    at_sign s start is (inr n) left (inr rest) =
+        ap (statement_skips edition) start
+        ∙ at_rule-skip s n left rest
+        ∙ ap (λ (t : List ℕ). map (skip_before v) (statement_skips edition t)) (sym is)
+      where
+        at_rule-skip : (s : List ℕ)
+            → name_of (name edition (s ++ v)) ≡ name_before v (name_of (name edition s))
+            → at_rule_rest edition (s ++ v) ≡ w ++ v → at_rule_rest edition s ≡ w
+            → statement_skips edition (64 ∷ (s ++ v))
+            ≡ map (skip_before v) (statement_skips edition (64 ∷ s))
+        at_rule-skip s n left rest = rw (n, left, rest) refl
+
+    by : NextEnds edition (past_blank (u ++ v)) rules (w ++ v) → Cut
+    by (text_ends n) = none n
+    by (rules_end other r h) =
+        let along : Along (125 ∷ (w ++ v)) (125 ∷ w) (past_blank (u ++ v)) (past_blank u) =
+        past_blank-along 125 u v w brace_plain h in
+        ruled along other r
+        (rule_set_skips-same edition w v (past_blank (u ++ v)) (past_blank u)
+        ((well-past_blank (u ++ v)).1 whole) along)
+    by (at_rule_ends after is none h) =
+        let s : List ℕ = before after (w ++ v) ++ w in
+        let parts : after ≡ s ++ v =
+        sym (append_assoc (before after (w ++ v)) w v
+        ∙ (at_rule-well edition after (w ++ v) h).0) in
+        let start : past_blank (u ++ v) ≡ 64 ∷ (s ++ v) = is ∙ ap (λ (t : List ℕ). 64 ∷ t) parts in
+        let behind : Ends (past_blank (u ++ v)) (64 ∷ (s ++ v)) =
+        subst (Ends (past_blank (u ++ v))) start (ends-same (past_blank (u ++ v))) in
+        let along : Along (64 ∷ (s ++ v)) (64 ∷ s) (past_blank (u ++ v)) (past_blank u) =
+        past_blank-along 64 u v s sign_plain behind in
+        let whole_after : IsUtf8 (s ++ v) =
+        utf8-behind (u ++ v) (s ++ v) 64 (omega arith) whole
+        (ends-ends (u ++ v) (past_blank (u ++ v)) (64 ∷ (s ++ v)) (ends-past_blank (u ++ v))
+        behind) in
+        let ends : AtRuleEnds edition (s ++ v) (w ++ v) =
+        subst (λ (t : List ℕ). AtRuleEnds edition t (w ++ v)) parts h in
+        at_sign s start
+        (along-at 64 (s ++ v) s (past_blank (u ++ v)) (past_blank u) along start)
+        (name-cut edition s v w whole_after cut ends)
+        (at_rule-left edition (u ++ v) (s ++ v) (w ++ v) rules e start)
+        (at_rule-cut edition s v w (w ++ v) whole_after cut refl ends)
