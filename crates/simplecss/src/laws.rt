@@ -1,7 +1,8 @@
 //! Laws that the definitions keep, each the contract of a function that does nothing. A proof calls
 //! the function to have the law; a program need not.
 //!
-//! Of texts: what comments and blanks are, what is skipped of a text in pieces, and equality of positions, errors and
+//! Of texts: what comments and blanks are, that all that is not among the rules is skipped, what is
+//! skipped of a text in pieces, and equality of positions, errors and
 //! cursors. Of selectors: their tokens, their components, their keys, printing, equality, and that
 //! elements which mean the same get the same answers. Of sheets: the order of rules, what a rule's
 //! place means, reading a text in pieces, and equality of rules and declarations. Of an index: that
@@ -18,5 +19,5 @@ pub use simplecss_selector::{
 };
 pub use simplecss_text::laws::{
     blank_is_cut, blank_is_longest, comment_is_closed, equality_laws as text_equality_laws,
-    open_comment_breaks_blank, skips_are_cut, space_bytes_are_parts,
+    nothing_is_lost, open_comment_breaks_blank, skips_are_cut, space_bytes_are_parts,
 };

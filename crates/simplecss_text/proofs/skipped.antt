@@ -5,3 +5,6 @@ pub mod BlockSkipCuts
 pub mod RuleSetSkipCuts
 pub mod StatementSkipCuts
 pub mod SkipsAcross
+pub mod CutUps
+pub mod CutUpRuleSets
+pub mod AccountedFor

@@ -1,6 +1,6 @@
 //! Laws: contracts of functions that do nothing. Those of the grammar say what the readers of
 //! comments and blanks find, by definitions of comments and blanks that do not mention reading.
-//! That of what is skipped says that it stays in a text read in pieces.
+//! Those of what is skipped say that it is complete, and that it stays in a text read in pieces.
 //! Those of equality say when two values are equal.
 
 ghost use Rattle.std.specs.Prelude.{◌≡◌, ℕ, ◌≤◌, ◌↔◌, List, ◌++◌, length, true, false, IsTrue};
@@ -12,6 +12,7 @@ ghost use Rattle.simplecss_text.specs.Blanks.{IsComment, IsBlank, IsComments};
 ghost use Rattle.simplecss_text.specs.Characters.{Edition};
 ghost use Rattle.simplecss_text.specs.Cutting.{StatementEndsAt};
 ghost use Rattle.simplecss_text.specs.SkippedLaws.{SkipsAcross};
+ghost use Rattle.simplecss_text.specs.NothingLost.{LosesNothing};
 ghost use Rattle.simplecss_text.specs.Cursor.{text_of, place_of};
 
 use crate::stream::Stream;
@@ -53,6 +54,12 @@ pub fn open_comment_breaks_blank()
 pub fn skips_are_cut()
     ensures { (edition : Edition) (text : List ℕ) (place : ℕ) → IsUtf8 text →
         StatementEndsAt edition text place → SkipsAcross edition text place }
+{}
+
+/// Every byte of a text belongs to a blank, to a comma or a brace, to a selector or a declaration
+/// that is among the rules of its statement, or to something that is skipped.
+pub fn nothing_is_lost()
+    ensures { (edition : Edition) (text : List ℕ) → LosesNothing edition text }
 {}
 
 /// Two positions are equal exactly if their rows and columns are; two errors if they are the same

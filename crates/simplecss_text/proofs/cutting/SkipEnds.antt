@@ -3,7 +3,6 @@
 use Rattle.std.proofs.Common.{◌≡◌, ℕ, zero, suc, List, [], ◌∷◌, ◌++◌, Bool, true, false, if◌then◌else◌, ◌==◌, ◌||◌, ◌<◌, not, length, get_or, Option, Some, None, Ok, Err, refl, sym, subst, append_assoc, arith}
 use Rattle.std.specs.List.{flat_map}
 use Rattle.std.specs.Option.{option_map}
-use Rattle.simplecss_text.specs.declared.error.Error.{Error}
 use Rattle.simplecss_text.specs.Reading.{Reading, got, fails, left_after, each, up_to, and_then, Ends}
 use Rattle.simplecss_text.specs.Bytes.{past, past_one, past_byte, starts, is_neither}
 use Rattle.simplecss_text.specs.Errors.{error_of}
@@ -285,7 +284,7 @@ ends-past_semicolon_or_block text = by (starts 123 text)
         (ends-from_block_end inner) (ends-past_byte 125 (from_block_end inner)))
     by false = ends-past_byte 59 text
 
-ends-at_rule_rest : (edition : Edition) (text : List ℕ) → Ends text (at_rule_rest edition text)
+pub ends-at_rule_rest : (edition : Edition) (text : List ℕ) → Ends text (at_rule_rest edition text)
 unfolding at_rule_rest
 ends-at_rule_rest edition text =
     by (name edition text) (stands-ends text itself (name edition text) (name-stands edition text))

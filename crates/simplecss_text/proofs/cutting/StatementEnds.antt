@@ -23,7 +23,7 @@ use Rattle.simplecss_text.proofs.cutting.BlockEndGuards.{no_brace}
 use Rattle.simplecss_text.proofs.cutting.BlockCuts.{at_brace, none_broken}
 
 -- a run of bytes that pass ends at one that does not
-past-stops : (test : ℕ → Bool) (text : List ℕ) (b : ℕ) (rest : List ℕ) → past test text ≡ b ∷ rest
+pub past-stops : (test : ℕ → Bool) (text : List ℕ) (b : ℕ) (rest : List ℕ) → past test text ≡ b ∷ rest
     → test b ≡ false
 past-stops test [] b rest e = absurd (cc)
 past-stops test (c ∷ text) b rest e = by (test c) refl (past-stops test text b rest) e

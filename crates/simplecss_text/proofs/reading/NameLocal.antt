@@ -74,7 +74,7 @@ name-quiet edition q more quiet =
     name-none_begins edition (q ∷ more) begins ∙ ap (fails (no_name (q ∷ more))) left
 
 -- a front, where more than the tail is left
-split-behind : (front r n rest : List ℕ) → front ++ r ≡ n ++ rest → length r ≤ length rest
+pub split-behind : (front r n rest : List ℕ) → front ++ r ≡ n ++ rest → length r ≤ length rest
     → (left : List ℕ) × (front ≡ n ++ left) × (rest ≡ left ++ r)
 split-behind front r [] rest e h = (front, refl, sym e)
 split-behind [] r (b ∷ n) rest e h = absurd (omega (arith, ap length e, length-append n rest))

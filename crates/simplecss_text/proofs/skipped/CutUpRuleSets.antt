@@ -1,0 +1,363 @@
+-- The pieces of parts, of blocks and of rule sets.
+-- Serves `laws::nothing_is_lost`.
+use Rattle.std.proofs.Common.{◌≡◌, ◌≤◌, ◌<◌, ℕ, zero, suc, Bool, true, false, not, if◌then◌else◌, ◌==◌, List, [], ◌∷◌, ◌++◌, ap, append-nil, arith, drop, eqb-true, inl, inr, length, refl, subst, sym, ◌∙◌, Option, Some, None}
+use Rattle.std.specs.List.{filter_map}
+use Rattle.std.specs.Str.{chars}
+use Rattle.simplecss_text.specs.Reading.{Ends, Fault, Reading, got, fails, each, found, left_after, no_name}
+use Rattle.simplecss_text.specs.Bytes.{past_byte, past_one, starts}
+use Rattle.simplecss_text.specs.Characters.{Edition}
+use Rattle.simplecss_text.specs.Comments.{blank, opens_comment, past_blank}
+use Rattle.simplecss_text.specs.Names.{name}
+use Rattle.simplecss_text.specs.Components.{Component}
+use Rattle.simplecss_text.specs.Declarations.{StyleDeclaration, declaration}
+use Rattle.simplecss_text.specs.Blocks.{block, block_end, closes_block, declaration_in_block, ends_list, from_block_end, past_broken, past_list}
+use Rattle.simplecss_text.specs.Statements.{next_block, part, part_and_comma, parts, rule_set}
+use Rattle.simplecss_text.specs.Skipped.{broken_declaration, leading_comma, open_comment, block_skips, brace_skips, comma_skips, from_brace, if_broken, list_end_skips, list_skips, next_block_skips, part_skips, parts_skips, rule_set_skips}
+use Rattle.simplecss_text.specs.NothingLost.{IsCutUp, cut_ends, mark_then, skip_then}
+use Rattle.simplecss_text.proofs.printed.GotLaws.{starts-cons}
+use Rattle.simplecss_text.proofs.printed.ReadNames.{name-none_begins}
+use Rattle.simplecss_text.proofs.reading.DeclarationLaws.{declaration_in_block-takes}
+use Rattle.simplecss_text.proofs.reading.DeclarationsLawful.{declaration-stands, ends-from_block_end}
+use Rattle.simplecss_text.proofs.reading.EachLaws.{each-none, each-some, each-stops, not_empty, option_cases, took}
+use Rattle.simplecss_text.proofs.reading.EndsLaws.{ends-ends, no_texts, stands-ends}
+use Rattle.simplecss_text.proofs.reading.LeastLaws.{least-is}
+use Rattle.simplecss_text.proofs.reading.LocalLaws.{quiet-brace}
+use Rattle.simplecss_text.proofs.reading.NameLocal.{name-quiet}
+use Rattle.simplecss_text.proofs.reading.SkipLaws.{parts_skips-last, parts_skips-some}
+use Rattle.simplecss_text.proofs.reading.StandLaws.{ends-past_blank}
+use Rattle.simplecss_text.proofs.reading.StatementLaws.{part_and_comma-takes}
+use Rattle.simplecss_text.proofs.cutting.BlockCuts.{none_broken}
+use Rattle.simplecss_text.proofs.cutting.StatementEnds.{past-stops}
+use Rattle.simplecss_text.proofs.skipped.RuleSetSkipCuts.{parts-last, parts-some}
+use Rattle.simplecss_text.proofs.skipped.BlockSkipCuts.{declaration-after_blank}
+use Rattle.simplecss_text.proofs.skipped.CutUps.{closing, declaration_to, ends-shorter, further, joined, listed, part-cut, past_blank_to, skip_to}
+
+-- ---- parts
+
+chosen-cons : (o : Option (List Component)) (l : List (Option (List Component)))
+    → filter_map (λ selector. selector) (o ∷ l) ≡ listed o ++ filter_map (λ selector. selector) l
+chosen-cons None l = refl
+chosen-cons (Some s) l = refl
+
+parts-chosen : (edition : Edition) (text : List ℕ) → starts 44 (part edition text).1 ≡ true
+    → (parts edition text).0
+    ≡ listed (part edition text).0 ++ (parts edition (past_one (part edition text).1)).0
+unfolding parts
+parts-chosen edition text e =
+    let rest = past_one (part edition text).1 in
+    let read : part_and_comma edition text ≡ Some ((part edition text).0, rest) = rw e refl in
+    let more = each (part_and_comma edition) rest in
+    ap (λ (found : List (Option (List Component)) × List ℕ).
+    filter_map (λ selector. selector) (found.0 ++ (part edition found.1).0 ∷ []))
+    (each-some (part_and_comma edition) (part_and_comma-takes edition) text rest
+    (part edition text).0 read)
+    ∙ chosen-cons (part edition text).0 (more.0 ++ (part edition more.1).0 ∷ [])
+
+parts-chosen_last : (edition : Edition) (text : List ℕ) → starts 44 (part edition text).1 ≡ false
+    → (parts edition text).0 ≡ listed (part edition text).0
+unfolding parts
+parts-chosen_last edition text e =
+    let read : part_and_comma edition text ≡ None = rw e refl in
+    ap (λ (found : List (Option (List Component)) × List ℕ).
+    filter_map (λ selector. selector) (found.0 ++ (part edition found.1).0 ∷ []))
+    (each-none (part_and_comma edition) text read)
+    ∙ chosen-cons (part edition text).0 [] ∙ append-nil (listed (part edition text).0)
+
+-- the pieces of a text's parts
+abbrev PartsCut : Edition → List ℕ → Type 0
+PartsCut edition text =
+    IsCutUp edition (from_brace (parts edition text).1) text (parts edition text).0 []
+    (parts_skips edition text)
+
+parts-step : (edition : Edition) (text : List ℕ)
+    → (starts 44 (part edition text).1 ≡ true → PartsCut edition (past_one (part edition text).1))
+    → PartsCut edition text
+parts-step edition text more = by (starts 44 x) refl
+  where
+    x : List ℕ
+    x = (part edition text).1
+
+    rest : List ℕ
+    rest = past_one x
+
+    first : (k : Bool) → starts 44 x ≡ k
+        → IsCutUp edition (if k then x else from_brace x) text (listed (part edition text).0) []
+        (part_skips edition text)
+    first k e =
+        subst (λ (k : Bool). IsCutUp edition (if k then x else from_brace x) text
+        (listed (part edition text).0) [] (part_skips edition text)) e (part-cut edition text)
+
+    by : (k : Bool) → starts 44 x ≡ k → PartsCut edition text
+    by true e =
+        let marked : IsCutUp edition (from_brace (parts edition rest).1) x (parts edition rest).0
+        [] (parts_skips edition rest) =
+        subst (λ (t : List ℕ). IsCutUp edition (from_brace (parts edition rest).1) t
+        (parts edition rest).0 [] (parts_skips edition rest)) (sym (starts-cons 44 x e))
+        (mark_then 44 rest (parts edition rest).0 [] (parts_skips edition rest) refl (more e)) in
+        rw (
+          parts-some edition text e,
+          parts-chosen edition text e,
+          parts_skips-some edition text x refl e,
+        )
+        (joined edition x (from_brace (parts edition rest).1) (parts edition rest).0 []
+        (parts_skips edition rest) (first true e) marked)
+    by false e =
+        rw (
+          parts-last edition text e,
+          parts-chosen_last edition text e,
+          parts_skips-last edition text x refl e,
+        ) (first false e)
+
+comma-less : (edition : Edition) (text : List ℕ) → starts 44 (part edition text).1 ≡ true
+    → length (past_one (part edition text).1) < length text
+comma-less edition text e =
+    took (part_and_comma edition) (part_and_comma-takes edition) text
+    (past_one (part edition text).1) (part edition text).0 (rw e refl)
+
+parts-cut : (edition : Edition) (n : ℕ) (text : List ℕ) → length text ≤ n → PartsCut edition text
+parts-cut edition zero text l =
+    parts-step edition text (λ e. absurd (omega (arith, l, comma-less edition text e)))
+parts-cut edition (suc n) text l =
+    parts-step edition text
+    (λ e. parts-cut edition n (past_one (part edition text).1)
+    (omega (arith, l, comma-less edition text e)))
+
+-- ---- blocks
+
+-- the text ends, or its first byte is a closing brace: so does the block
+block_end-here : (t : List ℕ) → from_block_end (125 ∷ t) ≡ 125 ∷ t
+unfolding block_end
+block_end-here t =
+    ap (λ (n : ℕ). drop n (125 ∷ t))
+    (least-is (closes_block (125 ∷ t)) (length (125 ∷ t)) 0 (omega arith) refl
+    (λ j l. absurd (omega arith)))
+
+block_end-nil : from_block_end [] ≡ []
+unfolding block_end
+block_end-nil = refl
+
+-- and it ends there
+at_end : (start : List ℕ) → ends_list start ≡ true → from_block_end start ≡ start
+at_end [] e = block_end-nil
+at_end (b ∷ t) e = by b (rw (not_empty b t) at e)
+  where
+    by : (b : ℕ) → (b == 125) ≡ true → from_block_end (b ∷ t) ≡ b ∷ t
+    by b f =
+        let is : b ≡ 125 = eqb-true b 125 f in
+        subst (λ (c : ℕ). from_block_end (c ∷ t) ≡ c ∷ t) (sym is) (block_end-here t)
+
+-- where the list of declarations ends after a blank, none is read
+declaration-ended : (edition : Edition) (text start : List ℕ) → past_blank text ≡ start
+    → ends_list start ≡ true → left_after (declaration edition text) ≡ start
+unfolding declaration blank chars
+declaration-ended edition text [] e ends =
+    let none : name edition [] ≡ fails (no_name []) [] = name-none_begins edition [] refl in
+    rw (e, none) refl
+declaration-ended edition text (b ∷ t) e ends = by b (rw (not_empty b t) at ends) e
+  where
+    by : (b : ℕ) → (b == 125) ≡ true → past_blank text ≡ b ∷ t
+        → left_after (declaration edition text) ≡ b ∷ t
+    by b f e =
+        let is : b ≡ 125 = eqb-true b 125 f in
+        let start : past_blank text ≡ 125 ∷ t = e ∙ ap (λ (c : ℕ). c ∷ t) is in
+        let none : name edition (125 ∷ t) ≡ fails (no_name (125 ∷ t)) (125 ∷ t) =
+        name-quiet edition 125 t (quiet-brace edition) in
+        rw (start, none) (ap (λ (c : ℕ). c ∷ t) (sym is))
+
+declaration-of : (edition : Edition) (text rest : List ℕ) (p : StyleDeclaration)
+    → declaration_in_block edition text ≡ Some (p, rest) → declaration edition text ≡ got p rest
+declaration-of edition text rest p e = by (ends_list text) (declaration edition text) e
+  where
+    by : (k : Bool) (r : Reading StyleDeclaration) → (if k then None else found r) ≡ Some (p, rest)
+        → r ≡ got p rest
+    by true r h = absurd (cc)
+    by false (got q left) h =
+        let same : (q, left) ≡ (p, rest) = cc in
+        ap (λ (x : StyleDeclaration × List ℕ). got x.0 x.1) same
+    by false (fails f left) h = absurd (cc)
+
+-- the pieces of the declarations of a text
+abbrev DeclaredCut : Edition → List ℕ → Type 0
+DeclaredCut edition text =
+    IsCutUp edition (each (declaration_in_block edition) text).1 text []
+    (each (declaration_in_block edition) text).0 []
+
+declared-step : (edition : Edition) (text : List ℕ)
+    → ((rest : List ℕ) → length rest < length text → DeclaredCut edition rest)
+    → DeclaredCut edition text
+declared-step edition text more =
+    elim (option_cases (declaration_in_block edition text)) [
+      | inl e ↦ rw (each-none (declaration_in_block edition) text e) cut_ends
+      | inr one ↦ next one.0.1 one.0.0 one.1
+    ]
+  where
+    next : (rest : List ℕ) (p : StyleDeclaration)
+        → declaration_in_block edition text ≡ Some (p, rest) → DeclaredCut edition text
+    next rest p e =
+        let less = took (declaration_in_block edition) (declaration_in_block-takes edition) text
+        rest p e in
+        let read : declaration edition text ≡ got p rest = declaration-of edition text rest p e in
+        let ends : Ends text rest =
+        subst (λ (r : Reading StyleDeclaration). Ends text (left_after r)) read
+        (stands-ends text no_texts (declaration edition text) (declaration-stands edition text)) in
+        rw (each-some (declaration_in_block edition) (declaration_in_block-takes edition) text rest
+        p e)
+        (declaration_to edition (each (declaration_in_block edition) rest).1 text rest p []
+        (each (declaration_in_block edition) rest).0 [] ends read (more rest less))
+
+declared-cut : (edition : Edition) (n : ℕ) (text : List ℕ) → length text ≤ n
+    → DeclaredCut edition text
+declared-cut edition zero text l =
+    declared-step edition text (λ rest less. absurd (omega (arith, l, less)))
+declared-cut edition (suc n) text l =
+    declared-step edition text
+    (λ rest less. declared-cut edition n rest (omega (arith, l, less)))
+
+-- what is in place of a declaration, up to the end of the block
+list_end-cut : (edition : Edition) (a rest : List ℕ) (fault : Fault)
+    → declaration edition a ≡ fails fault rest
+    → IsCutUp edition (from_block_end rest) a [] [] (list_end_skips a (from_block_end rest))
+list_end-cut edition a rest fault e =
+    past_blank_to edition after a [] [] (list_end_skips a after) (by (ends_list start) refl)
+  where
+    start : List ℕ
+    start = past_blank a
+
+    after : List ℕ
+    after = from_block_end rest
+
+    ends : Ends a rest
+    ends =
+        subst (λ (r : Reading StyleDeclaration). Ends a (left_after r)) e
+        (stands-ends a no_texts (declaration edition a) (declaration-stands edition a))
+
+    less : length rest ≤ length start
+    less =
+        subst (λ (r : Reading StyleDeclaration). length (left_after r) ≤ length start) e
+        (declaration-after_blank edition a)
+
+    inside : Ends start after
+    inside =
+        ends-ends start rest after (ends-shorter a start rest (ends-past_blank a) ends less)
+        (ends-from_block_end rest)
+
+    ended : ends_list start ≡ true → from_block_end rest ≡ start
+    ended f =
+        let same : rest ≡ start =
+        sym (ap (λ (r : Reading StyleDeclaration). left_after r) e)
+        ∙ declaration-ended edition a start refl f in
+        ap from_block_end same ∙ at_end start f
+
+    by : (k : Bool) → ends_list start ≡ k
+        → IsCutUp edition after start [] [] (if k then [] else record {
+          from = start;
+          after = after;
+          why = if opens_comment start then open_comment else broken_declaration;
+        } ∷ [])
+    by true f =
+        subst (λ (t : List ℕ). IsCutUp edition t start [] [] []) (sym (ended f)) cut_ends
+    by false f =
+        skip_to edition after start after
+        (if opens_comment start then open_comment else broken_declaration) [] [] [] inside cut_ends
+
+-- after the declarations of a block
+list-cut : (edition : Edition) (a : List ℕ) → declaration_in_block edition a ≡ None
+    → IsCutUp edition (past_byte 125 (past_list edition a)) a [] [] (list_skips edition a)
+list-cut edition a none = by (ends_list a) (declaration edition a) refl refl
+  where
+    broken : (fault : Fault) (rest : List ℕ) → declaration edition a ≡ fails fault rest
+        → IsCutUp edition (past_byte 125 (past_byte 125 (from_block_end rest))) a [] []
+        (list_end_skips a (from_block_end rest)
+        ++ brace_skips (past_byte 125 (from_block_end rest)))
+    broken fault rest e =
+        let after : List ℕ = from_block_end rest in
+        joined edition after (past_byte 125 (past_byte 125 after)) [] []
+        (brace_skips (past_byte 125 after)) (list_end-cut edition a rest fault e)
+        (joined edition (past_byte 125 after) (past_byte 125 (past_byte 125 after)) [] []
+        (brace_skips (past_byte 125 after)) (closing edition after)
+        (further edition (past_byte 125 after)))
+
+    by : (k : Bool) (r : Reading StyleDeclaration) → ends_list a ≡ k → declaration edition a ≡ r
+        → IsCutUp edition (past_byte 125 (if k then a else past_broken r)) a [] []
+        (if k then [] else if_broken a r)
+    by true r e f = closing edition a
+    by false (fails fault rest) e f = broken fault rest f
+    by false (got p rest) e f =
+        let missing : found (declaration edition a) ≡ None = none_broken edition a e none in
+        absurd (cc (ap (λ (r : Reading StyleDeclaration). found r) f))
+
+block-cut : (edition : Edition) (text : List ℕ)
+    → IsCutUp edition (block edition text).1 text [] (block edition text).0
+    (block_skips edition text)
+unfolding block block_skips
+block-cut edition text =
+    let list = each (declaration_in_block edition) text in
+    subst (λ (ds : List StyleDeclaration). IsCutUp edition
+    (past_byte 125 (past_list edition list.1)) text [] ds (list_skips edition list.1))
+    (append-nil list.0)
+    (joined edition list.1 (past_byte 125 (past_list edition list.1)) [] []
+    (list_skips edition list.1) (declared-cut edition (length text) text (omega arith))
+    (list-cut edition list.1
+    (each-stops (declaration_in_block edition) (declaration_in_block-takes edition) text)))
+
+-- without an opening brace nothing is left
+no_brace-left : (text : List ℕ) → starts 123 (from_brace text) ≡ false → from_brace text ≡ []
+no_brace-left text e = by (from_brace text) refl e
+  where
+    by : (x : List ℕ) → from_brace text ≡ x → starts 123 x ≡ false → x ≡ []
+    by [] f g = refl
+    by (b ∷ x) f g =
+        let stops = past-stops (λ b. not (b == 123)) text b x f in absurd (cc (rw g at stops))
+
+next_block-cut : (edition : Edition) (text : List ℕ)
+    → IsCutUp edition (next_block edition text).1 (from_brace text) []
+    (next_block edition text).0 (next_block_skips edition text)
+unfolding next_block next_block_skips
+next_block-cut edition text = by (starts 123 opened) refl
+  where
+    opened : List ℕ
+    opened = from_brace text
+
+    inner : List ℕ
+    inner = past_one opened
+
+    by : (k : Bool) → starts 123 opened ≡ k
+        → IsCutUp edition (if k then block edition inner else ([], [])).1 opened []
+        (if k then block edition inner else ([], [])).0
+        (if k then block_skips edition inner else [])
+    by true e =
+        subst (λ (t : List ℕ). IsCutUp edition (block edition inner).1 t []
+        (block edition inner).0 (block_skips edition inner)) (sym (starts-cons 123 opened e))
+        (mark_then 123 inner [] (block edition inner).0 (block_skips edition inner) refl
+        (block-cut edition inner))
+    by false e =
+        subst (λ (t : List ℕ). IsCutUp edition [] t [] [] []) (sym (no_brace-left text e)) cut_ends
+
+-- ---- rule sets
+
+comma-cut : (edition : Edition) (text : List ℕ)
+    → IsCutUp edition (past_byte 44 text) text [] [] (comma_skips text)
+comma-cut edition [] = cut_ends
+comma-cut edition (b ∷ text) = by (b == 44)
+  where
+    by : (k : Bool)
+        → IsCutUp edition (if k then text else b ∷ text) (b ∷ text) [] []
+        (if k then record { from = b ∷ text; after = text; why = leading_comma } ∷ [] else [])
+    by true = skip_then (b ∷ []) text leading_comma [] [] [] cut_ends
+    by false = cut_ends
+
+pub rule_set-cut : (edition : Edition) (text : List ℕ)
+    → IsCutUp edition (rule_set edition text).1 text (parts edition (past_byte 44 text)).0
+    (next_block edition (parts edition (past_byte 44 text)).1).0 (rule_set_skips edition text)
+unfolding rule_set rule_set_skips
+rule_set-cut edition text =
+    let x : List ℕ = past_byte 44 text in
+    let head = parts edition x in
+    let body = next_block edition head.1 in
+    subst (λ (ss : List (List Component)). IsCutUp edition body.1 text ss body.0
+    (comma_skips text ++ (parts_skips edition x ++ next_block_skips edition head.1)))
+    (append-nil head.0)
+    (joined edition x body.1 (head.0 ++ []) body.0
+    (parts_skips edition x ++ next_block_skips edition head.1) (comma-cut edition text)
+    (joined edition (from_brace head.1) body.1 [] body.0 (next_block_skips edition head.1)
+    (parts-cut edition (length x) x (omega arith)) (next_block-cut edition head.1)))
