@@ -2,7 +2,7 @@
 //! the function to have the law; a program need not.
 //!
 //! Of texts: what comments and blanks are, that all that is not among the rules is skipped, what is
-//! skipped of a text in pieces, and equality of positions, errors and
+//! skipped of a text in pieces and of a printed sheet, and equality of positions, errors and
 //! cursors. Of selectors: their tokens, their components, their keys, printing, equality, and that
 //! elements which mean the same get the same answers. Of sheets: the order of rules, what a rule's
 //! place means, reading a text in pieces, and equality of rules and declarations. Of an index: that
@@ -19,5 +19,6 @@ pub use simplecss_selector::{
 };
 pub use simplecss_text::laws::{
     blank_is_cut, blank_is_longest, comment_is_closed, equality_laws as text_equality_laws,
-    nothing_is_lost, open_comment_breaks_blank, skips_are_cut, space_bytes_are_parts,
+    nothing_is_lost, open_comment_breaks_blank, printed_skips_nothing, skips_are_cut,
+    space_bytes_are_parts,
 };

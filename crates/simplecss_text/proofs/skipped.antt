@@ -8,3 +8,4 @@ pub mod SkipsAcross
 pub mod CutUps
 pub mod CutUpRuleSets
 pub mod AccountedFor
+pub mod PrintedSkips

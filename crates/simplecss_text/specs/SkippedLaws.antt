@@ -1,7 +1,10 @@
--- Laws of what is skipped: of a text that is cut where a statement ends.
-use Rattle.std.specs.Prelude.{◌≡◌, ℕ, List, [], ◌∷◌, ◌++◌, if◌then◌else◌, take, drop, map, Option, None}
+-- Laws of what is skipped: of a text that is cut where a statement ends, and of a printed sheet.
+use Rattle.std.specs.Prelude.{◌≡◌, ℕ, true, List, [], ◌∷◌, ◌++◌, if◌then◌else◌, take, drop, map, Option, None}
 use Rattle.simplecss_text.specs.Characters.{Edition}
-use Rattle.simplecss_text.specs.PrintingLaws.{is_hyphen_name}
+use Rattle.simplecss_text.specs.Statements.{StyleRule}
+use Rattle.simplecss_text.specs.Sheets.{sheet}
+use Rattle.simplecss_text.specs.Printing.{sheet_text}
+use Rattle.simplecss_text.specs.PrintingLaws.{are_clean, is_hyphen_name}
 use Rattle.simplecss_text.specs.Skipped.{Refusal, faulty, unknown_class, Why, leading_comma, refused_selector, after_selector, missing_block, broken_declaration, extra_brace, open_comment, at_rule, Skip, skipped}
 
 -- the refusal, where `more` follows the text
@@ -38,3 +41,9 @@ SkipsAcross edition text place =
     skipped edition text
     ≡ map (skip_before (drop place text)) (skipped edition (take place text))
     ++ skipped edition (drop place text)
+
+-- If all selectors are clean, a new sheet that reads the printed rules has these rules, in their
+-- order, and nothing of the printed text is skipped.
+pub record PrintsWhole (edition : Edition) (rules : List StyleRule) : Type 0 where
+  pub same : are_clean rules ≡ true → sheet edition (sheet_text rules ∷ []) ≡ rules
+  pub nothing : are_clean rules ≡ true → skipped edition (sheet_text rules) ≡ []

@@ -4,14 +4,17 @@
 //! Those of equality say when two values are equal.
 
 ghost use Rattle.std.specs.Prelude.{◌≡◌, ℕ, ◌≤◌, ◌↔◌, List, ◌++◌, length, true, false, IsTrue};
+ghost use Rattle.std.specs.List.{All};
 ghost use Rattle.std.specs.Str.{IsUtf8};
 ghost use Rattle.simplecss_text.specs.Reading.{got, before, Ends};
 ghost use Rattle.simplecss_text.specs.Comments.{opens_comment, comment, past_blank, blank};
 ghost use Rattle.simplecss_text.specs.Comments.{has_space};
 ghost use Rattle.simplecss_text.specs.Blanks.{IsComment, IsBlank, IsComments};
 ghost use Rattle.simplecss_text.specs.Characters.{Edition};
+ghost use Rattle.simplecss_text.specs.Sheets.{sheet};
 ghost use Rattle.simplecss_text.specs.Cutting.{StatementEndsAt};
-ghost use Rattle.simplecss_text.specs.SkippedLaws.{SkipsAcross};
+ghost use Rattle.simplecss_text.specs.PrintingLaws.{IsNarrow};
+ghost use Rattle.simplecss_text.specs.SkippedLaws.{PrintsWhole, SkipsAcross};
 ghost use Rattle.simplecss_text.specs.NothingLost.{LosesNothing};
 ghost use Rattle.simplecss_text.specs.Cursor.{text_of, place_of};
 
@@ -60,6 +63,13 @@ pub fn skips_are_cut()
 /// that is among the rules of its statement, or to something that is skipped.
 pub fn nothing_is_lost()
     ensures { (edition : Edition) (text : List ℕ) → LosesNothing edition text }
+{}
+
+/// A sheet that was read from texts without white space past ASCII, and whose selectors are clean,
+/// prints as a text of which nothing is skipped and that reads as the same rules.
+pub fn printed_skips_nothing()
+    ensures { (edition : Edition) (texts : List (List ℕ)) → All IsNarrow texts →
+        PrintsWhole edition (sheet edition texts) }
 {}
 
 /// Two positions are equal exactly if their rows and columns are; two errors if they are the same

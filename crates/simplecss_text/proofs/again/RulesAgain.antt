@@ -32,7 +32,7 @@ pub record BeginsPart (edition : Edition) (text : List ℕ) : Type 0 where
   pub is : text ≡ first ∷ others
   pub fit : (first ≡ 42) ⊎ IsNameByte edition first
 
-begins-append : (edition : Edition) (text tail : List ℕ) → BeginsPart edition text
+pub begins-append : (edition : Edition) (text tail : List ℕ) → BeginsPart edition text
     → BeginsPart edition (text ++ tail)
 begins-append edition text tail w =
     record {
@@ -55,13 +55,13 @@ part_other edition k b low star e f (inl same) = ap (λ c. c == k) same ∙ star
 part_other first_edition k b low star e f (inr w) = other_byte first_edition k b low e w
 part_other second_edition k b low star e f (inr w) = other_byte second_edition k b low f w
 
-part_starts : (edition : Edition) (k : ℕ) (text : List ℕ) → k < 128 → (42 == k) ≡ false
+pub part_starts : (edition : Edition) (k : ℕ) (text : List ℕ) → k < 128 → (42 == k) ≡ false
     → is_name_char first_edition k ≡ false → is_name_char second_edition k ≡ false
     → BeginsPart edition text → starts k text ≡ false
 part_starts edition k text low star e f w =
     ap (starts k) w.is ∙ part_other edition k w.first low star e f w.fit
 
-part_byte : (edition : Edition) (k : ℕ) (text : List ℕ) → k < 128 → (42 == k) ≡ false
+pub part_byte : (edition : Edition) (k : ℕ) (text : List ℕ) → k < 128 → (42 == k) ≡ false
     → is_name_char first_edition k ≡ false → is_name_char second_edition k ≡ false
     → BeginsPart edition text → past_byte k text ≡ text
 part_byte edition k text low star e f w =
@@ -85,7 +85,7 @@ pub calm-blank : (text : List ℕ) → NoGap text → past_blank text ≡ text
 calm-blank text w = ap (λ r. r.1) w.none
 
 -- a selector that is before a block
-selector-begins : (edition : Edition) (s : List Component) (b : ℕ) (tail : List ℕ)
+pub selector-begins : (edition : Edition) (s : List Component) (b : ℕ) (tail : List ℕ)
     → IsSelector edition s (b ∷ tail) → BeginsPart edition (selector_text s)
 selector-begins edition [] b tail w = absurd w
 selector-begins edition (c ∷ cs) b tail w =
@@ -112,13 +112,13 @@ selector-begins edition (c ∷ cs) b tail w =
 
 -- the declarations of a block
 
-declaration-begins : (edition : Edition) (p : StyleDeclaration) (text : List ℕ)
+pub declaration-begins : (edition : Edition) (p : StyleDeclaration) (text : List ℕ)
     → IsDeclaration edition p → BeginsPart edition (declaration_text p ++ text)
 declaration-begins edition p text w =
     subst (BeginsPart edition) (sym (declaration_text-assoc p text))
     (begins-append edition p.name _ (begins-name edition p.name w.name_is))
 
-list_goes_on : (edition : Edition) (text : List ℕ) → BeginsPart edition text
+pub list_goes_on : (edition : Edition) (text : List ℕ) → BeginsPart edition text
     → ends_list text ≡ false
 list_goes_on edition text w =
     let no = part_other edition 125 w.first (omega arith) refl refl refl w.fit in
@@ -148,7 +148,7 @@ closing-blank text =
     past_blank-space 32 (125 ∷ text) refl ∙ calm-blank (125 ∷ text) (no_gap-byte 125 text refl refl)
 
 -- the declarations of a printed block, and what is left at its closing brace
-declarations-again : (edition : Edition) (p : StyleDeclaration) (ps : List StyleDeclaration)
+pub declarations-again : (edition : Edition) (p : StyleDeclaration) (ps : List StyleDeclaration)
     (text : List ℕ) → IsDeclaration edition p → AllByRecursion (IsDeclaration edition) ps
     → each (declaration_in_block edition)
     (declaration_text p ++ (flat_map declaration_text ps ++ (32 ∷ 125 ∷ text)))
@@ -189,7 +189,7 @@ declaration-space : (edition : Edition) (text : List ℕ)
 unfolding declaration
 declaration-space edition text = let same = blank-space text in rw same refl
 
-spaced-list : (edition : Edition) (text rest : List ℕ) (p : StyleDeclaration)
+pub spaced-list : (edition : Edition) (text rest : List ℕ) (p : StyleDeclaration)
     → declaration_in_block edition text ≡ Some (p, rest) → ends_list text ≡ false
     → each (declaration_in_block edition) (32 ∷ text) ≡ each (declaration_in_block edition) text
 spaced-list edition text rest p e goes =
@@ -204,7 +204,7 @@ spaced-list edition text rest p e goes =
     e)
 
 -- where something is read first, it is found
-first-found : (edition : Edition) (text : List ℕ) (p : StyleDeclaration)
+pub first-found : (edition : Edition) (text : List ℕ) (p : StyleDeclaration)
     (ps : List StyleDeclaration) (left : List ℕ)
     → each (declaration_in_block edition) text ≡ (p ∷ ps, left)
     → (found_there : Option (StyleDeclaration × List ℕ))
@@ -244,7 +244,7 @@ block-again edition p ps text w ws =
 
 -- the rule
 
-rule-assoc : (rule : StyleRule) (text : List ℕ)
+pub rule-assoc : (rule : StyleRule) (text : List ℕ)
     → rule_text rule ++ text ≡ selector_text rule.components ++
     (32 ∷ 123 ∷ 32 ∷ (flat_map declaration_text rule.declarations ++ (32 ∷ 125 ∷ text)))
 rule-assoc rule text =
@@ -258,13 +258,13 @@ rule-assoc rule text =
         ∙ append_assoc s (32 ∷ 123 ∷ 32 ∷ []) (p ++ (32 ∷ 125 ∷ text))
 
 -- a part that reads before a block
-part-again : (edition : Edition) (s : List Component) (text inside : List ℕ)
+pub part-again : (edition : Edition) (s : List Component) (text inside : List ℕ)
     → reads edition text ≡ (Some s, 123 ∷ inside) → part edition text ≡ (Some s, 123 ∷ inside)
 unfolding part
 part-again edition s text inside e =
     ap (λ (r : Option (List Component) × List ℕ). (r.0, past is_space r.1)) e ∙ refl
 
-parts-again : (edition : Edition) (s : List Component) (text inside : List ℕ)
+pub parts-again : (edition : Edition) (s : List Component) (text inside : List ℕ)
     → part edition text ≡ (Some s, 123 ∷ inside) → parts edition text ≡ (s ∷ [], 123 ∷ inside)
 unfolding parts
 parts-again edition s text inside e =

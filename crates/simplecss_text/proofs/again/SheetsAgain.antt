@@ -23,16 +23,16 @@ use Rattle.simplecss_text.proofs.order.RankLemmas.{ordered_twice}
 use Rattle.simplecss_text.proofs.order.OrderLemmas.{smaller_order}
 
 -- texts without white space past ASCII, and the declarations that are read from them
-narrow-known : (edition : Edition) → Known edition IsNarrow (IsDeclaration edition)
+pub narrow-known : (edition : Edition) → Known edition IsNarrow (IsDeclaration edition)
 narrow-known edition =
     record { is_text = λ text n. n.0; of_end = narrow-end; declares = declaration-is edition }
 
 -- rules that read back
-abbrev Printable : Edition → StyleRule → Type 0
+abbrev pub Printable : Edition → StyleRule → Type 0
 Printable edition rule =
     IsKept edition (IsDeclaration edition) rule × (is_clean rule.components ≡ true)
 
-all-printable : (edition : Edition) (rules : List StyleRule)
+pub all-printable : (edition : Edition) (rules : List StyleRule)
     → AllByRecursion (IsKept edition (IsDeclaration edition)) rules → are_clean rules ≡ true
     → AllByRecursion (Printable edition) rules
 all-printable edition [] h clean = tt
@@ -58,18 +58,18 @@ statement-there edition text w =
     ∙ ap (λ t. goes_on edition t text) goes
 
 -- a printed rule, with a text after it
-rule-there : (edition : Edition) (rule : StyleRule) (text : List ℕ) → Printable edition rule
+pub rule-there : (edition : Edition) (rule : StyleRule) (text : List ℕ) → Printable edition rule
     → next_statement edition (rule_text rule ++ text) ≡ Some (rule ∷ [], text)
 rule-there edition rule text w =
     statement-there edition (rule_text rule ++ text) (rule-begins edition rule text w.0.0.selector)
     ∙ ap (λ (r : List StyleRule × List ℕ). Some r) (rule-reads_back edition rule w.0 w.1 text)
 
-newline-there : (edition : Edition) (text : List ℕ)
+pub newline-there : (edition : Edition) (text : List ℕ)
     → next_statement edition (10 ∷ text) ≡ next_statement edition text
 newline-there edition text =
     ap (λ t. goes_on edition (ends_statements t) t) (past_blank-space 10 text refl)
 
-nothing_left : (edition : Edition) → next_statement edition [] ≡ None
+pub nothing_left : (edition : Edition) → next_statement edition [] ≡ None
 unfolding each
 nothing_left edition = refl
 
