@@ -12,3 +12,4 @@ pub mod HyphenVectors
 pub mod PrintingVectors
 pub mod SkippedVectors
 pub mod SkippedLawVectors
+pub mod NothingLostVectors

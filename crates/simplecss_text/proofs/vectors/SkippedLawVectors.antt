@@ -1,8 +1,6 @@
--- Worked texts that are cut where a statement ends or into pieces, and what is skipped of them,
--- computed.
--- Computes `skip_before` and `skipped`, which `SkipsAcross` of `specs/SkippedLaws` compares, and an
--- example of `IsAccountedFor` of `specs/NothingLost`.
-use Rattle.std.specs.Prelude.{◌≡◌, refl, List, [], ◌∷◌, codes, false, map, Some, None}
+-- Worked texts that are cut where a statement ends, and what is skipped of them, computed.
+-- Computes `skip_before` and `skipped`, which `SkipsAcross` of `specs/SkippedLaws` compares.
+use Rattle.std.specs.Prelude.{◌≡◌, refl, [], ◌∷◌, codes, false, map, Some, None}
 use Rattle.std.specs.Str.{trim_start, trim_end, chars}
 use lib.Utf8.{encode}
 use Rattle.simplecss_text.specs.Reading.{each, got}
@@ -15,14 +13,11 @@ use Rattle.simplecss_text.specs.Pieces.{attribute_operator, attribute_after, lan
 use Rattle.simplecss_text.specs.TokenSequences.{sequence_from}
 use Rattle.simplecss_text.specs.Selectors.{reads}
 use Rattle.simplecss_text.specs.Terms.{word, past_number, term}
-use Rattle.simplecss_text.specs.Declarations.{StyleDeclaration, value, importance, trailing, declaration, declarations}
+use Rattle.simplecss_text.specs.Declarations.{value, importance, trailing, declaration, declarations}
 use Rattle.simplecss_text.specs.Blocks.{block, block_end}
 use Rattle.simplecss_text.specs.Statements.{part, parts, next_block, rule_set, at_rule_rest, statement, statements}
 use Rattle.simplecss_text.specs.Cutting.{rests_behind, statement_ends}
 use Rattle.simplecss_text.specs.Skipped.{broken_declaration, at_rule, refusal, selector_skips, part_skips, skips_along, parts_skips, block_skips, next_block_skips, rule_set_skips, statement_skips, skipped}
-use Rattle.simplecss_text.specs.Components.{Component}
-use Rattle.simplecss_text.specs.Components.Combinator.{none}
-use Rattle.simplecss_text.specs.NothingLost.{IsAccountedFor, cut_ends, declaration_then, mark_then, selector_then, skip_then, statement_then, statements_end}
 use Rattle.simplecss_text.specs.SkippedLaws.{skip_before}
 
 -- a declaration that is skipped in the first piece, and nothing in the second
@@ -73,42 +68,3 @@ unfolding rests_behind each position comment blank gap past_name_chars name stri
     block_skips next_block_skips rule_set_skips statement_skips skipped
 open_string_is_taken first_edition = (refl, refl)
 open_string_is_taken second_edition = (refl, refl)
-
--- ---- nothing is lost
-
--- the selector `a`
-abbrev just_a : List Component
-just_a =
-    record {
-      combinator = none;
-      compound = record { name = Some (codes "a"); subselectors = [] };
-    } ∷ []
-
--- the declaration `b:c`
-abbrev b_is_c : StyleDeclaration
-b_is_c = record { name = codes "b"; value = codes "c"; important = false }
-
--- a text cut into its pieces: a selector, a brace, a declaration, one that is skipped, and a brace
-pub account_of_text : (edition : Edition) → IsAccountedFor edition (codes "a{b:c;d}")
-    ((record { components = just_a; declarations = b_is_c ∷ [] } ∷ []) ∷ [])
-    (record { from = codes "d}"; after = codes "}"; why = broken_declaration } ∷ [])
-unfolding rests_behind each position comment blank gap past_name_chars name string_or_name
-    attribute_operator attribute_after lang_after pseudo_class_after named_token next_kind solid
-    piece ending sequence_from chars encode trim_start trim_end reads part parts next_block rule_set
-    at_rule_rest statement statements block block_end word past_number term value importance
-    trailing declaration declarations refusal selector_skips part_skips skips_along parts_skips
-    block_skips next_block_skips rule_set_skips statement_skips skipped
-account_of_text first_edition =
-    statement_then (codes "a{b:c;d}") [] (just_a ∷ []) (b_is_c ∷ []) _ [] []
-    (selector_then (codes "a") (codes "{b:c;d}") just_a [] (b_is_c ∷ []) _ refl
-    (mark_then 123 (codes "b:c;d}") [] (b_is_c ∷ []) _ refl
-    (declaration_then (codes "b:c;") (codes "d}") b_is_c [] [] _ refl
-    (skip_then (codes "d") (codes "}") broken_declaration [] [] []
-    (mark_then 125 [] [] [] [] refl cut_ends))))) (statements_end [] [] cut_ends)
-account_of_text second_edition =
-    statement_then (codes "a{b:c;d}") [] (just_a ∷ []) (b_is_c ∷ []) _ [] []
-    (selector_then (codes "a") (codes "{b:c;d}") just_a [] (b_is_c ∷ []) _ refl
-    (mark_then 123 (codes "b:c;d}") [] (b_is_c ∷ []) _ refl
-    (declaration_then (codes "b:c;") (codes "d}") b_is_c [] [] _ refl
-    (skip_then (codes "d") (codes "}") broken_declaration [] [] []
-    (mark_then 125 [] [] [] [] refl cut_ends))))) (statements_end [] [] cut_ends)
