@@ -1,4 +1,4 @@
--- What readers take of a text, where they end, how often they are called, and what each owes.
+-- What readers consume of a text, where they end, how often they are called, and what each owes.
 pub mod EachLaws
 pub mod TakesLaws
 pub mod DeclarationLaws

@@ -11,51 +11,44 @@ use Rattle.simplecss_text.proofs.reading.TakesLaws.{Leaves, after_close-leaves, 
 use Rattle.simplecss_text.proofs.reading.LocalLaws.{Along, at, on}
 use Rattle.simplecss_text.proofs.reading.SearchLaws.{FindsAlike, close-along}
 
+-- a part of a blank, by the tests of its first byte
+pub blank_part-by : (b : ℕ) (text : List ℕ) (s o : Bool) (c : Option (List ℕ)) → is_space b ≡ s
+    → opens_comment (b ∷ text) ≡ o → after_comment (b ∷ text) ≡ c
+    → blank_part (b ∷ text)
+    ≡ (if s then Some (true, text) else (if o then option_map (λ rest. (false, rest)) c else None))
+blank_part-by b text s o c = by (is_space b) (opens_comment (b ∷ text)) (after_comment (b ∷ text))
+  where
+    by : (x y : Bool) (z : Option (List ℕ)) → x ≡ s → y ≡ o → z ≡ c
+        → Path (Option (Bool × List ℕ))
+        (if x then Some (true, text) else (if y then option_map (λ rest. (false, rest)) z
+        else None))
+        (if s then Some (true, text) else (if o then option_map (λ rest. (false, rest)) c
+        else None))
+    by x y z e f g = rw (e, f, g) refl
+
 -- a space byte before a blank belongs to it
 pub past_blank-space : (b : ℕ) (text : List ℕ) → is_space b ≡ true
     → past_blank (b ∷ text) ≡ past_blank text
 past_blank-space b text e =
-    let part : blank_part (b ∷ text) ≡ Some (true, text) = rw e refl in
-    ap (λ r. r.1) (each-some blank_part blank_part-takes (b ∷ text) text true part)
+    ap (λ r. r.1) (each-some blank_part blank_part-takes (b ∷ text) text true
+    (blank_part-by b text true _ _ e refl refl))
 
 past_blank-comment : (b : ℕ) (text rest : List ℕ) → is_space b ≡ false
     → opens_comment (b ∷ text) ≡ true → after_comment (b ∷ text) ≡ Some rest
     → past_blank (b ∷ text) ≡ past_blank rest
 past_blank-comment b text rest e f g =
-    let part : blank_part (b ∷ text) ≡ Some (false, rest) =
-    part_is (is_space b) (opens_comment (b ∷ text)) (after_comment (b ∷ text)) e f g in
-    ap (λ r. r.1) (each-some blank_part blank_part-takes (b ∷ text) rest false part)
-  where
-    part_is : (s o : Bool) (c : Option (List ℕ)) → s ≡ false → o ≡ true → c ≡ Some rest
-        → Path (Option (Bool × List ℕ))
-        (if s then Some (true, text) else
-        (if o then option_map (λ rest. (false, rest)) c else None)) (Some (false, rest))
-    part_is s o c e f g = rw (e, f, g) refl
+    ap (λ r. r.1) (each-some blank_part blank_part-takes (b ∷ text) rest false
+    (blank_part-by b text false true (Some rest) e f g))
 
 past_blank-none : (b : ℕ) (text : List ℕ) → is_space b ≡ false → opens_comment (b ∷ text) ≡ false
     → past_blank (b ∷ text) ≡ b ∷ text
 past_blank-none b text e f =
-    let part : blank_part (b ∷ text) ≡ None = part_is (is_space b) (opens_comment (b ∷ text)) e f in
-    ap (λ r. r.1) (each-none blank_part (b ∷ text) part)
-  where
-    part_is : (s o : Bool) → s ≡ false → o ≡ false
-        → Path (Option (Bool × List ℕ))
-        (if s then Some (true, text) else
-        (if o then option_map (λ rest. (false, rest)) (after_comment (b ∷ text)) else None)) None
-    part_is s o e f = rw (e, f) refl
+    ap (λ r. r.1) (each-none blank_part (b ∷ text) (blank_part-by b text false false _ e f refl))
 
 past_blank-open : (b : ℕ) (text : List ℕ) → is_space b ≡ false → opens_comment (b ∷ text) ≡ true
     → after_comment (b ∷ text) ≡ None → past_blank (b ∷ text) ≡ b ∷ text
 past_blank-open b text e f g =
-    let part : blank_part (b ∷ text) ≡ None =
-    part_is (is_space b) (opens_comment (b ∷ text)) (after_comment (b ∷ text)) e f g in
-    ap (λ r. r.1) (each-none blank_part (b ∷ text) part)
-  where
-    part_is : (s o : Bool) (c : Option (List ℕ)) → s ≡ false → o ≡ true → c ≡ None
-        → Path (Option (Bool × List ℕ))
-        (if s then Some (true, text) else
-        (if o then option_map (λ rest. (false, rest)) c else None)) None
-    part_is s o c e f g = rw (e, f, g) refl
+    ap (λ r. r.1) (each-none blank_part (b ∷ text) (blank_part-by b text false true None e f g))
 
 -- the blank in both texts, where more than the tail is left and no comment is open
 abbrev BlankAgain : (t u r s : List ℕ) → Type 0

@@ -1,15 +1,14 @@
 -- A declaration that was read, printed and read again.
 -- Serves `prints_back` of `StyleSheet::{parse, parse_all, parse_more}` (a sheet printed and read
 -- again).
-use Rattle.std.proofs.Common.{◌≡◌, ℕ, inl, inr, List, [], ◌∷◌, ◌++◌, Bool, true, false, if◌then◌else◌, ◌==◌, length, codes, refl, sym, ap, ◌∙◌, subst, append_assoc, arith, IsUtf8, Option, Some, None}
-use Rattle.std.specs.Option.{option_map}
+use Rattle.std.proofs.Common.{◌≡◌, ℕ, inl, inr, List, [], ◌∷◌, ◌++◌, Bool, true, false, ◌==◌, length, codes, refl, sym, ap, ◌∙◌, subst, append_assoc, arith, IsUtf8, None}
 use Rattle.std.proofs.lemmas.Bool.Decides.{nat_tests}
 use Rattle.std.specs.Str.{chars, trim, trim_start, trim_end}
 use Rattle.std.proofs.lemmas.Str.{IsUtf8-append}
-use Rattle.simplecss_text.specs.Reading.{no_name, no_value, Reading, got, fails, Reader, follow, before, each, left_after, Ends}
+use Rattle.simplecss_text.specs.Reading.{no_name, Reading, got, fails, Reader, follow, before, each, left_after, Ends}
 use Rattle.simplecss_text.specs.Bytes.{past_byte, byte, starts}
 use Rattle.simplecss_text.specs.Characters.{Edition, first_edition, second_edition, is_space}
-use Rattle.simplecss_text.specs.Comments.{opens_comment, after_comment, blank_part, past_blank, blank}
+use Rattle.simplecss_text.specs.Comments.{opens_comment, blank_part, past_blank, blank}
 use Rattle.simplecss_text.specs.Names.{name}
 use Rattle.simplecss_text.specs.Terms.{arguments, word, term}
 use Rattle.simplecss_text.specs.Declarations.{StyleDeclaration, last_or, terms, value, important_word, importance, semicolon, semicolons, trailing, unless_empty, declaration}
@@ -17,14 +16,13 @@ use Rattle.simplecss_text.specs.Printing.{important_text, declaration_text}
 use Rattle.simplecss_text.specs.PrintingLaws.{IsNarrow, DeclarationReadsBack}
 use Rattle.simplecss_text.proofs.reading.DeclarationsLawful.{semicolon-takes}
 use Rattle.simplecss_text.proofs.reading.EndsLaws.{before-append, ends-past_byte}
-use Rattle.simplecss_text.proofs.printed.PrintedNames.{IsName, name-reads, ends_names}
-use Rattle.simplecss_text.proofs.printed.PrintedSelectors.{ends_low}
+use Rattle.simplecss_text.proofs.printed.PrintedNames.{IsName, name-reads, ends_names, ends_names-byte}
 use Rattle.simplecss_text.proofs.reading.EachLaws.{each-none, each-some}
 use Rattle.simplecss_text.proofs.bytes.GapLaws.{past_blank-again}
 use Rattle.simplecss_text.proofs.printed.PrintedHeads.{NoGap, IsNameByte, no_gap-byte, no_gap-name, blank-at, name-first, other_byte}
-use Rattle.simplecss_text.proofs.reading.LocalLaws.{Quiet, along-front, quiet-semicolon, quiet-space}
+use Rattle.simplecss_text.proofs.reading.LocalLaws.{Quiet, along-front, quiet-mark, quiet-semicolon, quiet-space}
 use Rattle.simplecss_text.proofs.reading.NameLocal.{name-quiet}
-use Rattle.simplecss_text.proofs.again.BlankTails.{past_blank-space}
+use Rattle.simplecss_text.proofs.again.BlankTails.{blank_part-by, past_blank-space}
 use Rattle.simplecss_text.proofs.again.TermEnds.{is_bare, FirstBare}
 use Rattle.simplecss_text.proofs.printed.GotLaws.{IfGot, if_got, if_got-follow, if_got-if, got-holds}
 use Rattle.simplecss_text.proofs.bytes.Utf8Laws.{utf8-past_byte_if}
@@ -54,8 +52,8 @@ name-narrow edition text n =
     if_got (λ m rest. ReadName edition text m rest × IsNarrow rest) (name edition text)
     (λ m rest e. (
       name-is edition text m rest n.0 e,
-      got-holds (λ m rest. IsNarrow rest) (name edition text) m
-          rest (narrow-got text (name edition text) n (well-name edition text)) e,
+      got-holds (λ m rest. IsNarrow rest) _ _ _
+          (narrow-got text (name edition text) n (well-name edition text)) e,
     ))
 
 -- the declaration, from its value
@@ -79,8 +77,7 @@ stated-is edition name start important text w n = by (terms-end edition start)
 
     some_stated : (v : List ℕ) → IsValueText edition v → P v
     some_stated v x =
-        if_got-if (λ p rest. IsDeclaration edition p) (length v == 0) (fails (no_value start) text)
-        (got (record { name = name; value = v; important = important }) text) (λ e. tt)
+        if_got-if (λ p rest. IsDeclaration edition p) (length v == 0) _ _ (λ e. tt)
         (λ e. record { name_is = w; value_is = x; some = e })
 
     by : TermsEnd edition start → P (value edition start).0
@@ -95,8 +92,8 @@ stated-is edition name start important text w n = by (terms-end edition start)
         (some_stated (trim (before start x.0)) (value_text-is edition x.0 start n x.1))
 
 -- the declaration, from what follows its name
-abbrev behind_name : Edition → List ℕ → Reader StyleDeclaration
-behind_name edition name c =
+abbrev after_name : Edition → List ℕ → Reader StyleDeclaration
+after_name edition name c =
     follow (blank c)
     (λ x d. follow (byte 58 d)
     (λ x e. follow (blank e)
@@ -104,25 +101,25 @@ behind_name edition name c =
     (stated_as edition name start (value edition start).0))))
 
 named-is : (edition : Edition) (name c : List ℕ) → IsName edition name → IsNarrow c
-    → IfGot (λ p rest. IsDeclaration edition p) (behind_name edition name c)
+    → IfGot (λ p rest. IsDeclaration edition p) (after_name edition name c)
 named-is edition name c w n =
     let P : StyleDeclaration → List ℕ → Type 0 = λ p rest. IsDeclaration edition p in
     let Q : Unit {0} → List ℕ → Type 0 = λ x rest. IsNarrow rest in
-    if_got-follow Q P (blank c) _ (narrow-got c (blank c) n (well-blank c)) (λ x d nd.
-    if_got-follow Q P (byte 58 d) _ (narrow-got d (byte 58 d) nd (well-byte 58 d (omega arith)))
+    if_got-follow Q P _ _ (narrow-got c (blank c) n (well-blank c)) (λ x d nd.
+    if_got-follow Q P _ _ (narrow-got d (byte 58 d) nd (well-byte 58 d (omega arith)))
     (λ x e ne.
-    if_got-follow Q P (blank e) _ (narrow-got e (blank e) ne (well-blank e)) (λ x start ns.
-    if_got-follow (λ important rest. Unit {0}) P (trailing (value edition start).1) _
+    if_got-follow Q P _ _ (narrow-got e (blank e) ne (well-blank e)) (λ x start ns.
+    if_got-follow (λ important rest. Unit {0}) P _ _
     (if_got (λ important rest. Unit {0}) (trailing (value edition start).1)
     (λ important rest g. tt)) (λ important h t.
     stated-is edition name start important h w ns))))
 
 -- after a name that ends the text there is no colon
 ended-is : (edition : Edition) (name c : List ℕ) → c ≡ []
-    → IfGot (λ p rest. IsDeclaration edition p) (behind_name edition name c)
+    → IfGot (λ p rest. IsDeclaration edition p) (after_name edition name c)
 unfolding blank each
 ended-is edition name c e =
-    subst (λ (t : List ℕ). IfGot (λ p rest. IsDeclaration edition p) (behind_name edition name t))
+    subst (λ (t : List ℕ). IfGot (λ p rest. IsDeclaration edition p) (after_name edition name t))
     (sym e) tt
 
 -- what was read as a declaration from such a text
@@ -131,12 +128,12 @@ pub declaration-is : (edition : Edition) (text : List ℕ) → IsNarrow text
 unfolding declaration
 declaration-is edition text n =
     let P : StyleDeclaration → List ℕ → Type 0 = λ p rest. IsDeclaration edition p in
-    if_got-follow (λ x rest. IsNarrow rest) P (blank text) _
+    if_got-follow (λ x rest. IsNarrow rest) P _ _
     (narrow-got text (blank text) n (well-blank text)) (λ x a na.
     let b = past_byte 42 a in
     let nb = narrow-end a b na (ends-past_byte 42 a) (utf8-past_byte_if 42 a (omega arith) na.0) in
-    if_got-follow (λ m rest. ReadName edition b m rest × IsNarrow rest) P (name edition b)
-    (λ m. behind_name edition m) (name-narrow edition b nb) (λ m c w.
+    if_got-follow (λ m rest. ReadName edition b m rest × IsNarrow rest) P _ _
+    (name-narrow edition b nb) (λ m c w.
     elim (w.0.is) [ inl i ↦ named-is edition m c i w.1 | inr h ↦ ended-is edition m c h.1 ]))
 
 -- printed and read again
@@ -144,34 +141,6 @@ declaration-is edition text n =
 follow-got : {A B : Type 0} (r : Reading A) (x : A) (rest : List ℕ) (next : A → Reader B)
     → r ≡ got x rest → follow r next ≡ next x rest
 follow-got r x rest next e = ap (λ y. follow y next) e
-
-quiet-mark : (edition : Edition) → Quiet edition 33
-quiet-mark first_edition =
-    record {
-      low = omega arith;
-      no_char = refl;
-      no_start = refl;
-      no_digit = refl;
-      no_hex = refl;
-      no_point = refl;
-      no_percent = refl;
-      no_opening = refl;
-      no_star = refl;
-      no_hyphen = refl;
-    }
-quiet-mark second_edition =
-    record {
-      low = omega arith;
-      no_char = refl;
-      no_start = refl;
-      no_digit = refl;
-      no_hex = refl;
-      no_point = refl;
-      no_percent = refl;
-      no_opening = refl;
-      no_star = refl;
-      no_hyphen = refl;
-    }
 
 blank-none : (text : List ℕ) → NoGap text → blank text ≡ got tt text
 blank-none text w = blank-at text text (ap (λ r. r.1) w.none) w.closed
@@ -212,10 +181,10 @@ semicolons-read : (important : Bool) (text : List ℕ) → opens_comment (past_b
     → starts 59 (past_blank text) ≡ false
     → semicolons_then important (59 ∷ text) ≡ got important (past_blank text)
 semicolons-read important text o e =
-    let behind : List ℕ → Reading Bool = λ d. follow (blank d) (λ x. got important) in
-    follow-got (blank (59 ∷ text)) tt (59 ∷ text) (λ x c. follow (semicolons c) (λ x. behind))
+    let following : List ℕ → Reading Bool = λ d. follow (blank d) (λ x. got important) in
+    follow-got (blank (59 ∷ text)) tt (59 ∷ text) (λ x c. follow (semicolons c) (λ x. following))
     (blank-none (59 ∷ text) (no_gap-byte 59 text refl refl))
-    ∙ ap behind (one_semicolon text e)
+    ∙ ap following (one_semicolon text e)
     ∙ follow-got (blank (past_blank text)) tt (past_blank text) (λ x. got important)
     (blank-at (past_blank text) (past_blank text) (past_blank-again text) o)
 
@@ -260,27 +229,20 @@ value-no_gap edition v q tail w quiet = by v w.first closed
         → NoGap (v ++ (q ∷ tail))
     by [] first o = absurd first
     by (b ∷ v) first o =
-        let space = bare_no_space b first in
+        let text = v ++ (q ∷ tail) in
         record {
-          none = each-none blank_part (b ∷ (v ++ (q ∷ tail)))
-              (part_is (is_space b) (opens_comment (b ∷ (v ++ (q ∷ tail)))) space o);
+          none = each-none blank_part (b ∷ text)
+              (blank_part-by b text false false _ (bare_no_space b first) o refl);
           closed = o;
         }
-      where
-        part_is : (s t : Bool) → s ≡ false → t ≡ false
-            → Path (Option (Bool × List ℕ))
-            (if s then Some (true, v ++ (q ∷ tail)) else
-            (if t then option_map (λ rest. (false, rest)) (after_comment (b ∷ (v ++ (q ∷ tail))))
-            else None)) None
-        part_is s t e f = rw (e, f) refl
 
 -- what a value is read as, and what follows it
-record StatedAgain (edition : Edition) (v : List ℕ) (important : Bool) (text behind : List ℕ) : Type
-    0 where
+record StatedAgain (edition : Edition) (v : List ℕ) (important : Bool)
+    (text following : List ℕ) : Type 0 where
   pub left : List ℕ
   pub calm : NoGap (v ++ (important_text important ++ (59 ∷ text)))
   pub stated : value edition (v ++ (important_text important ++ (59 ∷ text))) ≡ (v, left)
-  pub trails : trailing left ≡ got important behind
+  pub trails : trailing left ≡ got important following
 
 stated-again : (edition : Edition) (v : List ℕ) (important : Bool) (text : List ℕ)
     → IsValueText edition v → opens_comment (past_blank text) ≡ false
@@ -325,11 +287,11 @@ declaration_text-assoc p text = by p.name p.value (important_text p.important)
         ∙ append_assoc (n ++ (58 ∷ [])) v (i ++ (59 ∷ text))
         ∙ append_assoc n (58 ∷ []) (v ++ (i ++ (59 ∷ text)))
 
-behind_name-reads : (edition : Edition) (p : StyleDeclaration) (text behind : List ℕ)
-    → (length p.value == 0) ≡ false → StatedAgain edition p.value p.important text behind
-    → behind_name edition p.name (58 ∷ (p.value ++ (important_text p.important ++ (59 ∷ text))))
-    ≡ got p behind
-behind_name-reads edition p text behind some w =
+after_name-reads : (edition : Edition) (p : StyleDeclaration) (text following : List ℕ)
+    → (length p.value == 0) ≡ false → StatedAgain edition p.value p.important text following
+    → after_name edition p.name (58 ∷ (p.value ++ (important_text p.important ++ (59 ∷ text))))
+    ≡ got p following
+after_name-reads edition p text following some w =
     let start = p.value ++ (important_text p.important ++ (59 ∷ text)) in
     let from_value : List ℕ → Reading StyleDeclaration =
     λ s. follow (trailing (value edition s).1) (stated_as edition p.name s (value edition s).0)
@@ -342,42 +304,38 @@ behind_name-reads edition p text behind some w =
     ∙ follow-got (blank start) tt start (λ x. from_value) (blank-none start w.calm)
     ∙ ap (λ (r : List ℕ × List ℕ). follow (trailing r.1) (stated_as edition p.name start r.0))
     w.stated
-    ∙ follow-got (trailing w.left) p.important behind (stated_as edition p.name start p.value)
+    ∙ follow-got (trailing w.left) p.important following (stated_as edition p.name start p.value)
     w.trails
     ∙ rw some refl
 
 colon_ends : (edition : Edition) (text : List ℕ) → ends_names edition (58 ∷ text) ≡ false
-colon_ends edition text = ends_low edition 58 text (omega arith) refl refl
+colon_ends edition text = ends_names-byte edition 58 text (omega arith) refl refl
 
 no_star : (edition : Edition) (b : ℕ) (text : List ℕ) → IsNameByte edition b
     → past_byte 42 (b ∷ text) ≡ b ∷ text
-no_star edition b text w = let e = by edition w in rw e refl
-  where
-    by : (edition : Edition) → IsNameByte edition b → (b == 42) ≡ false
-    by first_edition w = other_byte first_edition 42 b (omega arith) refl w
-    by second_edition w = other_byte second_edition 42 b (omega arith) refl w
+no_star edition b text w = let e = other_byte edition 42 b (omega arith) refl refl w in rw e refl
 
 -- A declaration that was read from a text without white space past ASCII reads back.
 pub printed_declaration-reads_back : (edition : Edition) (p : StyleDeclaration)
     → IsDeclaration edition p → DeclarationReadsBack edition p
 unfolding declaration
 printed_declaration-reads_back edition p w text o e =
-    let behind = 58 ∷ (p.value ++ (important_text p.important ++ (59 ∷ text))) in
+    let following = 58 ∷ (p.value ++ (important_text p.important ++ (59 ∷ text))) in
     let f = name-first edition p.name w.name_is in
-    let whole = p.name ++ behind in
-    let begins : whole ≡ f.first ∷ (f.others ++ behind) = ap (λ l. l ++ behind) f.is in
+    let whole = p.name ++ following in
+    let begins : whole ≡ f.first ∷ (f.others ++ following) = ap (λ l. l ++ following) f.is in
     let calm : NoGap whole =
-    subst NoGap (sym begins) (no_gap-name edition f.first (f.others ++ behind) f.fit) in
+    subst NoGap (sym begins) (no_gap-name edition f.first (f.others ++ following) f.fit) in
     let star : past_byte 42 whole ≡ whole =
-    ap (past_byte 42) begins ∙ no_star edition f.first (f.others ++ behind) f.fit
+    ap (past_byte 42) begins ∙ no_star edition f.first (f.others ++ following) f.fit
     ∙ sym begins in
     let from_name : List ℕ → Reading StyleDeclaration =
-    λ b. follow (name edition b) (λ m. behind_name edition m) in
+    λ b. follow (name edition b) (λ m. after_name edition m) in
     ap (declaration edition) (declaration_text-assoc p text)
     ∙ follow-got (blank whole) tt whole (λ x a. from_name (past_byte 42 a)) (blank-none whole calm)
     ∙ ap from_name star
-    ∙ follow-got (name edition whole) p.name behind (λ m. behind_name edition m)
-    (name-reads edition p.name behind w.name_is
+    ∙ follow-got (name edition whole) p.name following (λ m. after_name edition m)
+    (name-reads edition p.name following w.name_is
     (colon_ends edition (p.value ++ (important_text p.important ++ (59 ∷ text)))))
-    ∙ behind_name-reads edition p text (past_blank text) w.some
+    ∙ after_name-reads edition p text (past_blank text) w.some
     (stated-again edition p.value p.important text w.value_is o e)

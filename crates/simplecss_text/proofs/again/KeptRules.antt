@@ -52,38 +52,9 @@ IfKept edition R rule = has_declaration rule ≡ true → IsRule edition R rule
 abbrev IsBeforeBlock : Edition → List Component → Type 0
 IsBeforeBlock edition s = IsSelector edition s (123 ∷ [])
 
--- a part before more text
-part-is : (edition : Edition) (text : List ℕ) → IsUtf8 text → ((part edition text).1 ≡ [] → ⊥)
-    → IfSome (part edition text).0 (IsBeforeBlock edition)
-unfolding part
-part-is edition text u some = by (reads edition text).0 (reads edition text).1 refl refl
-  where
-    by : (o : Option (List Component)) (rest : List ℕ) → (reads edition text).0 ≡ o
-        → (reads edition text).1 ≡ rest → IfSome o (IsBeforeBlock edition)
-    by None rest e f = tt
-    by (Some s) [] e f = absurd (some (ap (past is_space) f))
-    by (Some s) (b ∷ rest) e f =
-        let read : reads edition text ≡ (Some s, b ∷ rest) = rw (← e, ← f) refl in
-        selector-behind edition s (b ∷ rest) (123 ∷ []) (λ none_there. absurd (cc))
-        (reads-is edition text (b ∷ rest) s u read)
-
 some_starts : (c : ℕ) (text : List ℕ) → starts c text ≡ true → text ≡ [] → ⊥
 some_starts c [] s e = cc
 some_starts c (b ∷ text) s e = cc
-
-part_and_comma-is : (edition : Edition) (text : List ℕ) → IsUtf8 text
-    → IfTaken (λ o. IfSome o (IsBeforeBlock edition)) IsUtf8 (part_and_comma edition text)
-part_and_comma-is edition text u = by (starts 44 (part edition text).1) refl
-  where
-    by : (t : Bool) → starts 44 (part edition text).1 ≡ t
-        → IfTaken (λ o. IfSome o (IsBeforeBlock edition)) IsUtf8
-        (if t then Some ((part edition text).0, past_one (part edition text).1) else None)
-    by true s = (
-      part-is edition text u (some_starts 44 (part edition text).1 s),
-      utf8-past_one text
-          (part edition text).1 44 (omega arith) u (part-ends edition text) s,
-    )
-    by false s = tt
 
 each_found : {A : Type 0} (P : A → Type 0) (os : List (Option A))
     → AllByRecursion (λ o. IfSome o P) os → AllByRecursion P (filter_map (λ x. x) os)
@@ -97,161 +68,6 @@ all-append : {A : Type 0} (P : A → Type 0) (xs ys : List A) → AllByRecursion
 all-append P [] ys h k = k
 all-append P (x ∷ xs) ys h k = (h.0, all-append P xs ys h.1 k)
 
--- the parts before a block
-parts-are : (edition : Edition) (text : List ℕ) → IsUtf8 text → ((parts edition text).1 ≡ [] → ⊥)
-    → AllByRecursion (IsBeforeBlock edition) (parts edition text).0
-unfolding parts
-parts-are edition text u some =
-    let P : Option (List Component) → Type 0 = λ o. IfSome o (IsBeforeBlock edition) in
-    let listed = each-all P IsUtf8 (part_and_comma edition) (part_and_comma-is edition) text u in
-    let rest = (each (part_and_comma edition) text).1 in
-    let final = part-is edition rest listed.1 some in
-    each_found (IsBeforeBlock edition)
-    ((each (part_and_comma edition) text).0 ++ (part edition rest).0 ∷ [])
-    (all-append P (each (part_and_comma edition) text).0 ((part edition rest).0 ∷ []) listed.0
-    (final, tt))
-
--- declarations
-
-declared : (edition : Edition) (Q : List ℕ → Type 0) (R : StyleDeclaration → Type 0)
-    → Known edition Q R → (text : List ℕ) → Q text → (r : Reading StyleDeclaration)
-    → IfGot (λ p rest. R p) r → Stands text no_texts r → IsUtf8 (left_after r)
-    → IfTaken R Q (found r)
-declared edition Q R known text q (got p rest) h k l = (h, known.of_end text rest q k.at l)
-declared edition Q R known text q (fails fault rest) h k l = tt
-
-in_block : (edition : Edition) (Q : List ℕ → Type 0) (R : StyleDeclaration → Type 0)
-    → Known edition Q R → (text : List ℕ) → Q text → IfTaken R Q (declaration_in_block edition text)
-in_block edition Q R known text q = by (ends_list text)
-  where
-    by : (t : Bool) → IfTaken R Q (if t then None else found (declaration edition text))
-    by true = tt
-    by false =
-        declared edition Q R known text q (declaration edition text) (known.declares text q)
-        (declaration-stands edition text)
-        (lawful-text declaration declaration declaration-lawful edition text (known.is_text text q))
-
-block-declares : (edition : Edition) (Q : List ℕ → Type 0) (R : StyleDeclaration → Type 0)
-    → Known edition Q R → (text : List ℕ) → Q text → AllByRecursion R (block edition text).0
-unfolding block
-block-declares edition Q R known text q =
-    (each-all R Q (declaration_in_block edition) (in_block edition Q R known) text q).0
-
-next_block-declares : (edition : Edition) (Q : List ℕ → Type 0) (R : StyleDeclaration → Type 0)
-    → Known edition Q R → (whole text : List ℕ) → Q whole → Ends whole text
-    → AllByRecursion R (next_block edition text).0
-unfolding next_block
-next_block-declares edition Q R known whole text q e = by (starts 123 opened) refl
-  where
-    opened : List ℕ
-    opened = past (λ b. not (b == 123)) text
-
-    end : Ends whole opened
-    end = ends-ends whole text opened e (ends-past (λ b. not (b == 123)) text)
-
-    by : (t : Bool) → starts 123 opened ≡ t
-        → AllByRecursion R (if t then block edition (past_one opened) else ([], [])).0
-    by true s =
-        let u = utf8-past_one whole opened 123 (omega arith) (known.is_text whole q) end s in
-        block-declares edition Q R known (past_one opened)
-        (known.of_end whole (past_one opened) q
-        (ends-ends whole opened (past_one opened) end (ends-past_one opened)) u)
-    by false s = tt
-
--- rule sets
-
-rules-are : (edition : Edition) (R : StyleDeclaration → Type 0)
-    (declarations : List StyleDeclaration) (selectors : List (List Component))
-    → AllByRecursion R declarations → AllByRecursion (IsBeforeBlock edition) selectors
-    → AllByRecursion (IfKept edition R)
-    (map (λ selector. record { components = selector; declarations = declarations }) selectors)
-rules-are edition R declarations [] ps h = tt
-rules-are edition R declarations (s ∷ selectors) ps h = (
-  (λ kept. record { selector = h.0; declarations = ps }),
-  rules-are edition R declarations
-      selectors ps h.1,
-)
-
-rules-dropped : (edition : Edition) (R : StyleDeclaration → Type 0)
-    (declarations : List StyleDeclaration) (selectors : List (List Component)) → declarations ≡ []
-    → AllByRecursion (IfKept edition R)
-    (map (λ selector. record { components = selector; declarations = declarations }) selectors)
-rules-dropped edition R declarations [] e = tt
-rules-dropped edition R declarations (s ∷ selectors) e = (
-  (λ kept. absurd (let none_there : not (length declarations == 0) ≡ false = rw e refl in cc)),
-  rules-dropped edition R declarations selectors e,
-)
-
-next_block-nil : (edition : Edition) → (next_block edition []).0 ≡ []
-unfolding next_block
-next_block-nil edition = refl
-
-rule_set-are : (edition : Edition) (Q : List ℕ → Type 0) (R : StyleDeclaration → Type 0)
-    → Known edition Q R → (text : List ℕ) → Q text
-    → AllByRecursion (IfKept edition R) (rule_set edition text).0
-unfolding rule_set
-rule_set-are edition Q R known text q = by (parts edition start).1 refl
-  where
-    start : List ℕ
-    start = past_byte 44 text
-
-    declarations : List StyleDeclaration
-    declarations = (next_block edition (parts edition start).1).0
-
-    u : IsUtf8 start
-    u = utf8-past_byte_if 44 text (omega arith) (known.is_text text q)
-
-    by : (rest : List ℕ) → (parts edition start).1 ≡ rest
-        → AllByRecursion (IfKept edition R)
-        (map (λ selector. record { components = selector; declarations = declarations })
-        (parts edition start).0)
-    by [] e =
-        rules-dropped edition R declarations (parts edition start).0
-        (ap (λ t. (next_block edition t).0) e ∙ next_block-nil edition)
-    by (b ∷ rest) e =
-        rules-are edition R declarations (parts edition start).0
-        (next_block-declares edition Q R known text (parts edition start).1 q
-        (ends-ends text start (parts edition start).1 (ends-past_byte 44 text)
-        (parts-ends edition start)))
-        (parts-are edition start u (λ none_left. let both = sym e ∙ none_left in cc))
-
-statement-are : (edition : Edition) (Q : List ℕ → Type 0) (R : StyleDeclaration → Type 0)
-    → Known edition Q R → (text : List ℕ) → Q text
-    → AllByRecursion (IfKept edition R) (statement edition text).0
-unfolding statement
-statement-are edition Q R known text q = by (starts 64 text)
-  where
-    by : (t : Bool)
-        → AllByRecursion (IfKept edition R)
-        (if t then ([], at_rule_rest edition (past_one text)) else rule_set edition text).0
-    by true = tt
-    by false = rule_set-are edition Q R known text q
-
-next_statement-are : (edition : Edition) (Q : List ℕ → Type 0) (R : StyleDeclaration → Type 0)
-    → Known edition Q R → (text : List ℕ) → Q text
-    → IfTaken (AllByRecursion (IfKept edition R)) Q (next_statement edition text)
-next_statement-are edition Q R known text q = by (ends_statements (past_blank text)) refl
-  where
-    start : List ℕ
-    start = past_blank text
-
-    left : List ℕ
-    left = (statement edition start).1
-
-    by : (t : Bool) → ends_statements start ≡ t
-        → IfTaken (AllByRecursion (IfKept edition R)) Q
-        (if t then None else Some (statement edition start))
-    by true e = tt
-    by false e =
-        let u = known.is_text text q in
-        let there : next_statement edition text ≡ Some (statement edition start) = rw e refl in
-        let well : EndsWell text left =
-        next_statement-well edition text left (statement edition start).0 there in (
-          statement-are edition Q R known start
-              (known.of_end text start q (ends-past_blank text) ((well-past_blank text).1 u)),
-          known.of_end text left q well.0 (well.1 u),
-        )
-
 all-flat_map : {A : Type 0} (P : A → Type 0) (xss : List (List A))
     → AllByRecursion (AllByRecursion P) xss → AllByRecursion P (flat_map (λ xs. xs) xss)
 all-flat_map P [] h = tt
@@ -260,30 +76,6 @@ all-flat_map P (xs ∷ xss) h = all-append P xs (flat_map (λ xs. xs) xss) h.0 (
 -- a rule with a declaration
 abbrev pub IsKept : Edition → (StyleDeclaration → Type 0) → StyleRule → Type 0
 IsKept edition R rule = IsRule edition R rule × (has_declaration rule ≡ true)
-
-all-kept : (edition : Edition) (R : StyleDeclaration → Type 0) (rules : List StyleRule)
-    → AllByRecursion (IfKept edition R) rules
-    → AllByRecursion (IsKept edition R) (filter has_declaration rules)
-all-kept edition R [] h = tt
-all-kept edition R (rule ∷ rules) h = by (has_declaration rule) refl (all-kept edition R rules h.1)
-  where
-    by : (t : Bool) → has_declaration rule ≡ t
-        → AllByRecursion (IsKept edition R) (filter has_declaration rules)
-        → AllByRecursion (IsKept edition R)
-        (cond t (rule ∷ filter has_declaration rules) (filter has_declaration rules))
-    by true e more = ((h.0 e, e), more)
-    by false e more = more
-
--- the kept rules of a text
-pub kept-are : (edition : Edition) (Q : List ℕ → Type 0) (R : StyleDeclaration → Type 0)
-    → Known edition Q R → (text : List ℕ) → Q text
-    → AllByRecursion (IsKept edition R) (kept edition text)
-unfolding statements
-kept-are edition Q R known text q =
-    all-kept edition R (flat_map (λ rules. rules) (statements edition text))
-    (all-flat_map (IfKept edition R) (statements edition text)
-    (each-all (AllByRecursion (IfKept edition R)) Q (next_statement edition)
-    (next_statement-are edition Q R known) text q).0)
 
 -- in their order
 
@@ -326,18 +118,212 @@ all-ordered_by {A = A} P less xs h =
     (all-find (λ (p : ℕ × A). P p.1) (λ (p : ℕ × A). rank_by less xs p.0 p.1 == k)
     (enumerate_from 0 xs) (all-enumerate P 0 xs h)))
 
-each-kept : (edition : Edition) (Q : List ℕ → Type 0) (R : StyleDeclaration → Type 0)
-    → Known edition Q R → (texts : List (List ℕ)) → AllByRecursion Q texts
-    → AllByRecursion (IsKept edition R) (flat_map (kept edition) texts)
-each-kept edition Q R known [] q = tt
-each-kept edition Q R known (text ∷ texts) q =
-    all-append (IsKept edition R) (kept edition text) (flat_map (kept edition) texts)
-    (kept-are edition Q R known text q.0) (each-kept edition Q R known texts q.1)
+module _ (edition : Edition) where
+  -- a part before more text
+  part-is : (text : List ℕ) → IsUtf8 text → ((part edition text).1 ≡ [] → ⊥)
+      → IfSome (part edition text).0 (IsBeforeBlock edition)
+  unfolding part
+  part-is text u some = by (reads edition text).0 (reads edition text).1 refl refl
+    where
+      by : (o : Option (List Component)) (rest : List ℕ) → (reads edition text).0 ≡ o
+          → (reads edition text).1 ≡ rest → IfSome o (IsBeforeBlock edition)
+      by None rest e f = tt
+      by (Some s) [] e f = absurd (some (ap (past is_space) f))
+      by (Some s) (b ∷ rest) e f =
+          let read : reads edition text ≡ (Some s, b ∷ rest) = rw (← e, ← f) refl in
+          selector-behind edition s (b ∷ rest) (123 ∷ []) (λ none_there. absurd (cc))
+          (reads-is edition text (b ∷ rest) s u read)
 
--- the rules of a sheet
-pub sheet-are : (edition : Edition) (Q : List ℕ → Type 0) (R : StyleDeclaration → Type 0)
-    → Known edition Q R → (texts : List (List ℕ)) → AllByRecursion Q texts
-    → AllByRecursion (IsKept edition R) (sheet edition texts)
-sheet-are edition Q R known texts q =
-    all-ordered_by (IsKept edition R) is_smaller (flat_map (kept edition) texts)
-    (each-kept edition Q R known texts q)
+  part_and_comma-is : (text : List ℕ) → IsUtf8 text
+      → IfTaken (λ o. IfSome o (IsBeforeBlock edition)) IsUtf8 (part_and_comma edition text)
+  part_and_comma-is text u = by (starts 44 (part edition text).1) refl
+    where
+      by : (t : Bool) → starts 44 (part edition text).1 ≡ t
+          → IfTaken (λ o. IfSome o (IsBeforeBlock edition)) IsUtf8
+          (if t then Some ((part edition text).0, past_one (part edition text).1) else None)
+      by true s = (
+        part-is text u (some_starts 44 (part edition text).1 s),
+        utf8-past_one text
+            (part edition text).1 44 (omega arith) u (part-ends edition text) s,
+      )
+      by false s = tt
+
+  -- the parts before a block
+  parts-are : (text : List ℕ) → IsUtf8 text → ((parts edition text).1 ≡ [] → ⊥)
+      → AllByRecursion (IsBeforeBlock edition) (parts edition text).0
+  unfolding parts
+  parts-are text u some =
+      let P : Option (List Component) → Type 0 = λ o. IfSome o (IsBeforeBlock edition) in
+      let listed = each-all P IsUtf8 (part_and_comma edition) part_and_comma-is text u in
+      let rest = (each (part_and_comma edition) text).1 in
+      let final = part-is rest listed.1 some in
+      each_found (IsBeforeBlock edition)
+      ((each (part_and_comma edition) text).0 ++ (part edition rest).0 ∷ [])
+      (all-append P (each (part_and_comma edition) text).0 ((part edition rest).0 ∷ []) listed.0
+      (final, tt))
+
+  rules-are : (R : StyleDeclaration → Type 0) (declarations : List StyleDeclaration)
+      (selectors : List (List Component)) → AllByRecursion R declarations
+      → AllByRecursion (IsBeforeBlock edition) selectors
+      → AllByRecursion (IfKept edition R)
+      (map (λ selector. record { components = selector; declarations = declarations }) selectors)
+  rules-are R declarations [] ps h = tt
+  rules-are R declarations (s ∷ selectors) ps h = (
+    (λ kept. record { selector = h.0; declarations = ps }),
+    rules-are R declarations
+        selectors ps h.1,
+  )
+
+  rules-dropped : (R : StyleDeclaration → Type 0) (declarations : List StyleDeclaration)
+      (selectors : List (List Component)) → declarations ≡ []
+      → AllByRecursion (IfKept edition R)
+      (map (λ selector. record { components = selector; declarations = declarations }) selectors)
+  rules-dropped R declarations [] e = tt
+  rules-dropped R declarations (s ∷ selectors) e = (
+    (λ kept. absurd (let none_there : not (length declarations == 0) ≡ false = rw e refl in cc)),
+    rules-dropped R declarations selectors e,
+  )
+
+  next_block-nil : (next_block edition []).0 ≡ []
+  unfolding next_block
+  next_block-nil = refl
+
+  all-kept : (R : StyleDeclaration → Type 0) (rules : List StyleRule)
+      → AllByRecursion (IfKept edition R) rules
+      → AllByRecursion (IsKept edition R) (filter has_declaration rules)
+  all-kept R [] h = tt
+  all-kept R (rule ∷ rules) h = by (has_declaration rule) refl (all-kept R rules h.1)
+    where
+      by : (t : Bool) → has_declaration rule ≡ t
+          → AllByRecursion (IsKept edition R) (filter has_declaration rules)
+          → AllByRecursion (IsKept edition R)
+          (cond t (rule ∷ filter has_declaration rules) (filter has_declaration rules))
+      by true e more = ((h.0 e, e), more)
+      by false e more = more
+
+  module _ (Q : List ℕ → Type 0) (R : StyleDeclaration → Type 0) (known : Known edition Q R) where
+    declared : (text : List ℕ) → Q text → (r : Reading StyleDeclaration) → IfGot (λ p rest. R p) r
+        → Stands text no_texts r → IsUtf8 (left_after r) → IfTaken R Q (found r)
+    declared text q (got p rest) h k l = (h, known.of_end text rest q k.at l)
+    declared text q (fails fault rest) h k l = tt
+
+    in_block : (text : List ℕ) → Q text → IfTaken R Q (declaration_in_block edition text)
+    in_block text q = by (ends_list text)
+      where
+        by : (t : Bool) → IfTaken R Q (if t then None else found (declaration edition text))
+        by true = tt
+        by false =
+            declared text q (declaration edition text) (known.declares text q)
+            (declaration-stands edition text)
+            (lawful-text declaration declaration declaration-lawful edition text
+            (known.is_text text q))
+
+    block-declares : (text : List ℕ) → Q text → AllByRecursion R (block edition text).0
+    unfolding block
+    block-declares text q =
+        (each-all R Q (declaration_in_block edition) in_block text q).0
+
+    next_block-declares : (whole text : List ℕ) → Q whole → Ends whole text
+        → AllByRecursion R (next_block edition text).0
+    unfolding next_block
+    next_block-declares whole text q e = by (starts 123 opened) refl
+      where
+        opened : List ℕ
+        opened = past (λ b. not (b == 123)) text
+
+        end : Ends whole opened
+        end = ends-ends whole text opened e (ends-past (λ b. not (b == 123)) text)
+
+        by : (t : Bool) → starts 123 opened ≡ t
+            → AllByRecursion R (if t then block edition (past_one opened) else ([], [])).0
+        by true s =
+            let u = utf8-past_one whole opened 123 (omega arith) (known.is_text whole q) end s in
+            block-declares (past_one opened) (known.of_end whole (past_one opened) q
+            (ends-ends whole opened (past_one opened) end (ends-past_one opened)) u)
+        by false s = tt
+
+    rule_set-are : (text : List ℕ) → Q text
+        → AllByRecursion (IfKept edition R) (rule_set edition text).0
+    unfolding rule_set
+    rule_set-are text q = by (parts edition start).1 refl
+      where
+        start : List ℕ
+        start = past_byte 44 text
+
+        declarations : List StyleDeclaration
+        declarations = (next_block edition (parts edition start).1).0
+
+        u : IsUtf8 start
+        u = utf8-past_byte_if 44 text (omega arith) (known.is_text text q)
+
+        by : (rest : List ℕ) → (parts edition start).1 ≡ rest
+            → AllByRecursion (IfKept edition R)
+            (map (λ selector. record { components = selector; declarations = declarations })
+            (parts edition start).0)
+        by [] e =
+            rules-dropped R declarations (parts edition start).0
+            (ap (λ t. (next_block edition t).0) e ∙ next_block-nil)
+        by (b ∷ rest) e =
+            rules-are R declarations (parts edition start).0
+            (next_block-declares text (parts edition start).1 q
+            (ends-ends text start (parts edition start).1 (ends-past_byte 44 text)
+            (parts-ends edition start)))
+            (parts-are start u (λ none_left. let both = sym e ∙ none_left in cc))
+
+    statement-are : (text : List ℕ) → Q text
+        → AllByRecursion (IfKept edition R) (statement edition text).0
+    unfolding statement
+    statement-are text q = by (starts 64 text)
+      where
+        by : (t : Bool)
+            → AllByRecursion (IfKept edition R)
+            (if t then ([], at_rule_rest edition (past_one text)) else rule_set edition text).0
+        by true = tt
+        by false = rule_set-are text q
+
+    next_statement-are : (text : List ℕ) → Q text
+        → IfTaken (AllByRecursion (IfKept edition R)) Q (next_statement edition text)
+    next_statement-are text q = by (ends_statements (past_blank text)) refl
+      where
+        start : List ℕ
+        start = past_blank text
+
+        left : List ℕ
+        left = (statement edition start).1
+
+        by : (t : Bool) → ends_statements start ≡ t
+            → IfTaken (AllByRecursion (IfKept edition R)) Q
+            (if t then None else Some (statement edition start))
+        by true e = tt
+        by false e =
+            let u = known.is_text text q in
+            let there : next_statement edition text ≡ Some (statement edition start) = rw e refl in
+            let well : EndsWell text left =
+            next_statement-well edition text left (statement edition start).0 there in (
+              statement-are start
+                  (known.of_end text start q (ends-past_blank text) ((well-past_blank text).1 u)),
+              known.of_end text left q well.0 (well.1 u),
+            )
+
+    -- the kept rules of a text
+    pub kept-are : (text : List ℕ) → Q text → AllByRecursion (IsKept edition R) (kept edition text)
+    unfolding statements
+    kept-are text q =
+        all-kept R (flat_map (λ rules. rules) (statements edition text))
+        (all-flat_map (IfKept edition R) (statements edition text)
+        (each-all (AllByRecursion (IfKept edition R)) Q (next_statement edition)
+        next_statement-are text q).0)
+
+    each-kept : (texts : List (List ℕ)) → AllByRecursion Q texts
+        → AllByRecursion (IsKept edition R) (flat_map (kept edition) texts)
+    each-kept [] q = tt
+    each-kept (text ∷ texts) q =
+        all-append (IsKept edition R) (kept edition text) (flat_map (kept edition) texts)
+        (kept-are text q.0) (each-kept texts q.1)
+
+    -- the rules of a sheet
+    pub sheet-are : (texts : List (List ℕ)) → AllByRecursion Q texts
+        → AllByRecursion (IsKept edition R) (sheet edition texts)
+    sheet-are texts q =
+        all-ordered_by (IsKept edition R) is_smaller (flat_map (kept edition) texts)
+        (each-kept texts q)

@@ -13,55 +13,79 @@ use Rattle.simplecss_text.proofs.printed.GotLaws.{Anything, if_got}
 use Rattle.simplecss_text.proofs.printed.ReadSelectors.{selector-reads_back_both, selector-no_hyphen}
 use Rattle.simplecss_text.proofs.again.KeptRules.{Known, IsKept, kept-are, sheet-are, all-ordered_by}
 
--- of texts alone, with nothing known of the declarations
-texts-known : (edition : Edition) → Known edition IsUtf8 Anything
-texts-known edition = record {
-  is_text = λ text u. u;
-  of_end = λ text rest u e v. v;
-  declares = λ text u. if_got (λ p rest. Unit {0}) (declaration edition text) (λ p rest e. tt);
-}
-
 -- a selector that reads back, and ends in no lone hyphen
 abbrev ReadsBackAsKept : Edition → StyleRule → Type 0
-ReadsBackAsKept edition rule = SelectorReadsBack edition rule.components × (ends_in_hyphen rule.components ≡ false)
+ReadsBackAsKept edition rule = SelectorReadsBack edition rule.components
+    × (ends_in_hyphen rule.components ≡ false)
 
-kept-both : (edition : Edition) (R : StyleDeclaration → Type 0) (rules : List StyleRule) → AllByRecursion (IsKept edition R) rules → AllByRecursion (ReadsBackAsKept edition) rules
-kept-both edition R [] h = tt
-kept-both edition R (rule ∷ rules) h =
-    ((selector-reads_back_both edition rule.components 123 [] h.0.0.selector, selector-no_hyphen edition rule.components 123 [] h.0.0.selector), kept-both edition R rules h.1)
+module _ (edition : Edition) where
+  -- of texts, with nothing known of the declarations
+  texts-known : Known edition IsUtf8 Anything
+  texts-known = record {
+    is_text = λ text u. u;
+    of_end = λ text rest u e v. v;
+    declares = λ text u. if_got (λ p rest. Unit {0}) (declaration edition text) (λ p rest e. tt);
+  }
 
--- of each rule
-from_each : (edition : Edition) (rules : List StyleRule) → All (ReadsBackAsKept edition) rules → SelectorsReadBack edition rules
-from_each edition rules h = record {
-  each_selector = All-weaker (ReadsBackAsKept edition) (λ rule. SelectorReadsBack edition rule.components) (λ rule w. w.0) rules h;
-  no_hyphen = All-weaker (ReadsBackAsKept edition) (λ rule. ends_in_hyphen rule.components ≡ false) (λ rule w. w.1) rules h;
-}
+  kept-both : (R : StyleDeclaration → Type 0) (rules : List StyleRule)
+      → AllByRecursion (IsKept edition R) rules → AllByRecursion (ReadsBackAsKept edition) rules
+  kept-both R [] h = tt
+  kept-both R (rule ∷ rules) h = (
+    (
+      selector-reads_back_both edition rule.components 123 [] h.0.0.selector,
+      selector-no_hyphen
+          edition rule.components 123 [] h.0.0.selector,
+    ),
+    kept-both R rules h.1,
+  )
 
-to_each : (edition : Edition) (rules : List StyleRule) → SelectorsReadBack edition rules → All (ReadsBackAsKept edition) rules
-to_each edition rules h k d less = (h.each_selector k d less, h.no_hyphen k d less)
+  -- of each rule
+  from_each : (rules : List StyleRule) → All (ReadsBackAsKept edition) rules
+      → SelectorsReadBack edition rules
+  from_each rules h = record {
+    each_selector = All-weaker (ReadsBackAsKept edition) (λ rule. SelectorReadsBack edition
+        rule.components) (λ rule w. w.0) rules h;
+    no_hyphen = All-weaker (ReadsBackAsKept edition) (λ rule. ends_in_hyphen rule.components
+        ≡ false) (λ rule w. w.1) rules h;
+  }
 
--- The selectors of the rules that a text gives read back, and none ends in a lone hyphen.
-kept-reads_back : (edition : Edition) (text : List ℕ) → IsUtf8 text → SelectorsReadBack edition (kept edition text)
-kept-reads_back edition text u =
-    from_each edition (kept edition text) (All-from_recursion (ReadsBackAsKept edition) (kept edition text)
-    (kept-both edition Anything (kept edition text) (kept-are edition IsUtf8 Anything (texts-known edition) text u)))
+  to_each : (rules : List StyleRule) → SelectorsReadBack edition rules
+      → All (ReadsBackAsKept edition) rules
+  to_each rules h k d less = (h.each_selector k d less, h.no_hyphen k d less)
 
--- So do those of rules in the order of their specificity.
-ordered-reads_back : (edition : Edition) (rules : List StyleRule) → SelectorsReadBack edition rules → SelectorsReadBack edition (ordered rules)
-ordered-reads_back edition rules h =
-    let P : StyleRule → Type 0 = ReadsBackAsKept edition in
-    from_each edition (ordered rules) (All-from_recursion P (ordered rules) (all-ordered_by P is_smaller rules (recursion_from_All P rules (to_each edition rules h))))
+  -- The selectors of the rules of a text read back, and none ends in a lone hyphen.
+  kept-reads_back : (text : List ℕ) → IsUtf8 text → SelectorsReadBack edition (kept edition text)
+  kept-reads_back text u =
+      from_each (kept edition text) (All-from_recursion (ReadsBackAsKept edition)
+      (kept edition text)
+      (kept-both Anything (kept edition text) (kept-are edition IsUtf8 Anything texts-known text
+      u)))
 
--- So do those of a sheet that texts were read into.
-pub sheet-reads_back : (edition : Edition) (texts : List (List ℕ)) → All IsUtf8 texts → SelectorsReadBack edition (sheet edition texts)
-sheet-reads_back edition texts u =
-    from_each edition (sheet edition texts) (All-from_recursion (ReadsBackAsKept edition) (sheet edition texts)
-    (kept-both edition Anything (sheet edition texts) (sheet-are edition IsUtf8 Anything (texts-known edition) texts (recursion_from_All IsUtf8 texts u))))
+  -- So do those of rules in the order of their specificity.
+  ordered-reads_back : (rules : List StyleRule) → SelectorsReadBack edition rules
+      → SelectorsReadBack edition (ordered rules)
+  ordered-reads_back rules h =
+      let P : StyleRule → Type 0 = ReadsBackAsKept edition in
+      from_each (ordered rules) (All-from_recursion P (ordered rules)
+      (all-ordered_by P is_smaller rules (recursion_from_All P rules (to_each rules h))))
 
--- So do those of a sheet into which one more text was read.
-pub more-reads_back : (edition : Edition) (rules : List StyleRule) (text : List ℕ) → SelectorsReadBack edition rules → IsUtf8 text → SelectorsReadBack edition (ordered (filter has_declaration rules ++ kept edition text))
-more-reads_back edition rules text h u =
-    let P : StyleRule → Type 0 = ReadsBackAsKept edition in
-    ordered-reads_back edition (filter has_declaration rules ++ kept edition text)
-    (from_each edition (filter has_declaration rules ++ kept edition text)
-    (All-append P (filter has_declaration rules) (kept edition text) (All-filter has_declaration P rules (to_each edition rules h)) (to_each edition (kept edition text) (kept-reads_back edition text u))))
+  -- So do those of a sheet that texts were read into.
+  pub sheet-reads_back : (texts : List (List ℕ)) → All IsUtf8 texts
+      → SelectorsReadBack edition (sheet edition texts)
+  sheet-reads_back texts u =
+      from_each (sheet edition texts) (All-from_recursion (ReadsBackAsKept edition)
+      (sheet edition texts)
+      (kept-both Anything (sheet edition texts) (sheet-are edition IsUtf8 Anything texts-known texts
+      (recursion_from_All IsUtf8 texts u))))
+
+  -- So do those of a sheet into which one more text was read.
+  pub more-reads_back : (rules : List StyleRule) (text : List ℕ) → SelectorsReadBack edition rules
+      → IsUtf8 text → SelectorsReadBack edition
+      (ordered (filter has_declaration rules ++ kept edition text))
+  more-reads_back rules text h u =
+      let P : StyleRule → Type 0 = ReadsBackAsKept edition in
+      ordered-reads_back (filter has_declaration rules ++ kept edition text)
+      (from_each (filter has_declaration rules ++ kept edition text)
+      (All-append P (filter has_declaration rules) (kept edition text)
+      (All-filter has_declaration P rules (to_each rules h)) (to_each (kept edition text)
+      (kept-reads_back text u))))

@@ -25,7 +25,7 @@ use Rattle.simplecss_text.proofs.bytes.Utf8Laws.{past-yes, past-no, utf8-past_by
 abbrev pub is_bare : ℕ → Bool
 is_bare b = not ((nat_lt 8 b && nat_lt b 14) || b == 32)
 
--- Nothing was passed, or what was passed ends with such a byte.
+-- Nothing was consumed, or what was consumed ends with such a byte.
 data EndsBare (text rest : List ℕ) : Type 0 where
   nothing : text ≡ rest → EndsBare text rest
   some : (passed : List ℕ) (b : ℕ) → text ≡ passed ++ (b ∷ rest) → is_bare b ≡ true
@@ -86,55 +86,6 @@ all_high (b ∷ bytes) h =
     let others = all_high bytes (λ k less. h (suc k) (omega arith)) in
     rw (first, others) refl
 
-encoded_bare : (edition : Edition) (c : ℕ) → is_name_char edition c ≡ true
-    → list_all is_bare (encode_utf8 c) ≡ true
-encoded_bare edition c e = by (cases_lt c 128)
-  where
-    high : 128 ≤ c → (k : ℕ) → k < length (encode_utf8 c)
-        → (get_or (encode_utf8 c) k 0 < 128) ⊎ (128 ≤ get_or (encode_utf8 c) k 0)
-        → 128 ≤ get_or (encode_utf8 c) k 0
-    high h k less (inr ok) = ok
-    high h k less (inl low) =
-        absurd (omega
-        (arith, inside_one c [] (encode_utf8 c) k (sym (append-nil (encode_utf8 c))) less low))
-
-    by : (c < 128) ⊎ (128 ≤ c) → list_all is_bare (encode_utf8 c) ≡ true
-    by (inl low) =
-        let one = char_bare edition c e low in ap (list_all is_bare) (encode_ascii c low)
-        ∙ rw one refl
-    by (inr h) =
-        all_high (encode_utf8 c)
-        (λ k less. high h k less (cases_lt (get_or (encode_utf8 c) k 0) 128))
-
-letters_bare : (edition : Edition) (letters : List ℕ)
-    → list_all (is_name_char edition) letters ≡ true
-    → list_all is_bare (encode_utf8_all letters) ≡ true
-letters_bare edition [] h = refl
-letters_bare edition (c ∷ letters) h =
-    let parts = both_true (is_name_char edition c) (list_all (is_name_char edition) letters) h in
-    let first = encoded_bare edition c parts.0 in
-    let others = letters_bare edition letters parts.1 in
-    list_all-append is_bare (encode_utf8 c) (encode_utf8_all letters) ∙ rw (first, others) refl
-
--- no byte of a name is white space of ASCII
-name-bare : (edition : Edition) (text n rest : List ℕ) → ReadName edition text n rest
-    → list_all is_bare n ≡ true
-name-bare edition text n rest w =
-    elim (w.is) [
-      | inl i ↦ ap (list_all is_bare) (sym i.spell) ∙ letters_bare edition i.letters i.pass
-      | inr h ↦ ap (list_all is_bare) h.0
-    ]
-
-bare-name : (edition : Edition) (text : List ℕ) → IsUtf8 text → (r : Reading (List ℕ))
-    → name edition text ≡ r → EndsBare text (left_after r)
-bare-name edition text u (got n rest) e =
-    let read = name-is edition text n rest u e in
-    subst (λ (t : List ℕ). EndsBare t rest) (sym read.joined)
-    (bare-all n rest (name-bare edition text n rest read))
-bare-name edition text u (fails fault rest) e =
-    subst (EndsBare text) (sym (name-fails edition text rest fault e).1)
-    (bare-past_byte 45 text refl)
-
 -- terms
 
 digit_bare : (b : ℕ) → is_digit b ≡ true → is_bare b ≡ true
@@ -160,34 +111,6 @@ bare-decimals (b ∷ text) = by (b == 46) refl
         (bare-past is_digit text digit_bare)
     by false e = nothing refl
 
-bare-unit : (edition : Edition) (text : List ℕ) → IsUtf8 text
-    → EndsBare text (past_unit edition text)
-bare-unit edition [] u = bare-name edition [] u (name edition []) refl
-bare-unit edition (b ∷ text) u = by (b == 37) refl
-  where
-    by : (t : Bool) → (b == 37) ≡ t
-        → EndsBare (b ∷ text) (if t then text else left_after (name edition (b ∷ text)))
-    by true e = bare-cons b text text (ap is_bare (eqb-true b 37 e)) (nothing refl)
-    by false e = bare-name edition (b ∷ text) u (name edition (b ∷ text)) refl
-
-bare-number : (edition : Edition) (text : List ℕ) → IsUtf8 text
-    → EndsBare text (past_number edition text)
-unfolding past_number
-bare-number edition text u =
-    let digits = past is_digit text in
-    let v = utf8-past is_digit text digit_low u in
-    bare-then text digits (past_number edition text) (bare-past is_digit text digit_bare)
-    (bare-then digits (past_decimals digits) (past_number edition text) (bare-decimals digits)
-    (bare-unit edition (past_decimals digits)
-    (((past_decimals-lawful true digits digits).left edition).1 v)))
-
-bare-hash : (edition : Edition) (text : List ℕ) → IsUtf8 text → (r : Reading (List ℕ))
-    → name edition text ≡ r → EndsBare text (past_hash r)
-bare-hash edition text u (got n rest) e = bare-name edition text u (got n rest) e
-bare-hash edition text u (fails fault rest) e =
-    bare-then text rest (past is_hex_digit rest) (bare-name edition text u (fails fault rest) e)
-    (bare-past is_hex_digit rest hex_bare)
-
 bare-closed : (c : ℕ) (text : List ℕ) (fault : Fault) (o : Option (List ℕ)) → is_bare c ≡ true
     → IfBehind c text o → IfGot (λ x rest. EndsBare text rest) (closed_or fault o)
 bare-closed c text fault None e h = tt
@@ -195,21 +118,9 @@ bare-closed c text fault (Some rest) e h = some h.0 c h.1 e
 
 bare-arguments : (text : List ℕ) → IfGot (λ x rest. EndsBare text rest) (arguments text)
 bare-arguments text =
-    if_got-if (λ x rest. EndsBare text rest) (starts 40 text) (closed_or ended (after_byte 41 text))
-    (got tt text)
+    if_got-if (λ x rest. EndsBare text rest) (starts 40 text) _ _
     (λ e. bare-closed 41 text ended (after_byte 41 text) refl (after_byte-behind 41 text))
     (λ e. nothing refl)
-
-bare-word : (edition : Edition) (text : List ℕ) → IsUtf8 text
-    → IfGot (λ x rest. EndsBare text rest) (word edition text)
-unfolding word
-bare-word edition text u =
-    if_got-follow (λ n rest. EndsBare text rest) (λ x rest. EndsBare text rest) (name edition text)
-    (λ n. arguments)
-    (if_got (λ n rest. EndsBare text rest) (name edition text)
-    (λ n rest e. bare-name edition text u (got n rest) e))
-    (λ n rest h. if_got-weaker (λ x last. EndsBare rest last) (λ x last. EndsBare text last)
-    (arguments rest) (λ x last k. bare-then text rest last h k) (bare-arguments rest))
 
 bare-quoted : (quote : ℕ) (text : List ℕ) → is_bare quote ≡ true
     → IfGot (λ x rest. EndsBare text rest) (quoted quote text)
@@ -232,44 +143,6 @@ single_bare second_edition b text e = by (b == 44) (b == 47) refl refl e
     by false true h k e = ap is_bare (eqb-true b 47 k)
     by false false h k e = absurd (cc)
 
-bare-term : (edition : Edition) (text : List ℕ) → IsUtf8 text
-    → IfGot (λ x rest. EndsBare text rest) (term edition text)
-unfolding term
-bare-term edition [] u = tt
-bare-term edition (b ∷ text) u =
-    let P : Unit {0} → List ℕ → Type 0 = λ x rest. EndsBare (b ∷ text) rest in
-    if_got-if P (b == 35) (got tt (past_hash (name edition text))) _
-    (λ e. bare-cons b text (past_hash (name edition text)) (ap is_bare (eqb-true b 35 e))
-    (bare-hash edition text
-    (utf8-past_byte b text (let hash = eqb-true b 35 e in omega arith) u) (name edition text)
-    refl))
-    (λ e0. if_got-if P (begins_number b) (got tt (past_number edition text)) _
-    (λ e. bare-cons b text (past_number edition text) (number_bare b e)
-    (bare-number edition text (utf8-past_byte b text (number_low b e) u)))
-    (λ e1. if_got-if P (is_quote b) (quoted b text) _
-    (λ e. if_got-weaker (λ x rest. EndsBare text rest) P (quoted b text)
-    (λ x rest h. bare-cons b text rest (quote_bare b e) h)
-    (bare-quoted b text (quote_bare b e)))
-    (λ e2. if_got-if P (b == 44 || is_slash_term edition b text) (got tt text)
-    (word edition (b ∷ text))
-    (λ e. bare-cons b text text (single_bare edition b text e) (nothing refl))
-    (λ e3. bare-word edition (b ∷ text) u))))
-
--- the byte that ends a term
-pub term-ends_bare : (edition : Edition) (text rest : List ℕ) (x : Unit {0}) → IsUtf8 text
-    → term edition text ≡ got x rest → (passed : List ℕ) × (b : ℕ) × (text ≡ passed ++ (b ∷ rest))
-    × (is_bare b ≡ true)
-term-ends_bare edition text rest x u e =
-    by (got-holds (λ x rest. EndsBare text rest) (term edition text) x rest
-    (bare-term edition text u) e)
-  where
-    by : EndsBare text rest → (passed : List ℕ) × (b : ℕ) × (text ≡ passed ++ (b ∷ rest))
-        × (is_bare b ≡ true)
-    by (nothing same) =
-        absurd (let cuts = subst (λ (y : Reading (Unit {0})). Cuts text y) e
-        (term-cuts edition text) in omega (arith, cuts, ap length same))
-    by (some passed b is bare) = (passed, b, is, bare)
-
 -- the byte that begins one
 
 -- the text begins with a byte that is no white space of ASCII
@@ -277,56 +150,171 @@ abbrev pub FirstBare : List ℕ → Type 0
 FirstBare [] = ⊥
 FirstBare (b ∷ text) = is_bare b ≡ true
 
-some_name : (edition : Edition) (text n rest : List ℕ) → ReadName edition text n rest → n ≡ [] → ⊥
-some_name edition text n rest w e =
-    elim (w.is)
-    [ inl i ↦ no_letters i.letters (i.spell ∙ e) i.begins | inr h ↦ (let both = sym h.0 ∙ e in cc) ]
-  where
-    no_letters : (letters : List ℕ) → encode_utf8_all letters ≡ []
-        → begins_any_name edition letters ≡ true → ⊥
-    no_letters [] e h = cc
-    no_letters (c ∷ letters) e h =
-        omega (
-          arith,
-          ap length e,
-          length-append (encode_utf8 c) (encode_utf8_all letters),
-          length-encode c,
-          len_utf8_bounds c,
-        )
+module _ (edition : Edition) where
+  encoded_bare : (c : ℕ) → is_name_char edition c ≡ true → list_all is_bare (encode_utf8 c) ≡ true
+  encoded_bare c e = by (cases_lt c 128)
+    where
+      high : 128 ≤ c → (k : ℕ) → k < length (encode_utf8 c)
+          → (get_or (encode_utf8 c) k 0 < 128) ⊎ (128 ≤ get_or (encode_utf8 c) k 0)
+          → 128 ≤ get_or (encode_utf8 c) k 0
+      high h k less (inr ok) = ok
+      high h k less (inl low) =
+          absurd (omega
+          (arith, inside_one c [] (encode_utf8 c) k (sym (append-nil (encode_utf8 c))) less low))
 
-name-begins_bare : (edition : Edition) (text n rest : List ℕ) → ReadName edition text n rest
-    → FirstBare text
-name-begins_bare edition text n rest w =
-    subst FirstBare (sym w.joined)
-    (by n (some_name edition text n rest w) (name-bare edition text n rest w))
-  where
-    by : (n : List ℕ) → (n ≡ [] → ⊥) → list_all is_bare n ≡ true → FirstBare (n ++ rest)
-    by [] some_there h = absurd (some_there refl)
-    by (b ∷ n) some_there h = (both_true (is_bare b) (list_all is_bare n) h).0
+      by : (c < 128) ⊎ (128 ≤ c) → list_all is_bare (encode_utf8 c) ≡ true
+      by (inl low) =
+          let one = char_bare edition c e low in ap (list_all is_bare) (encode_ascii c low)
+          ∙ rw one refl
+      by (inr h) =
+          all_high (encode_utf8 c)
+          (λ k less. high h k less (cases_lt (get_or (encode_utf8 c) k 0) 128))
 
-word-begins_bare : (edition : Edition) (text : List ℕ) → IsUtf8 text
-    → IfGot (λ x rest. FirstBare text) (word edition text)
-unfolding word
-word-begins_bare edition text u =
-    if_got-follow (λ n rest. FirstBare text) (λ x rest. FirstBare text) (name edition text)
-    (λ n. arguments)
-    (if_got (λ n rest. FirstBare text) (name edition text)
-    (λ n rest e. name-begins_bare edition text n rest (name-is edition text n rest u e)))
-    (λ n rest h. if_got (λ x last. FirstBare text) (arguments rest) (λ x last e. h))
+  letters_bare : (letters : List ℕ) → list_all (is_name_char edition) letters ≡ true
+      → list_all is_bare (encode_utf8_all letters) ≡ true
+  letters_bare [] h = refl
+  letters_bare (c ∷ letters) h =
+      let parts = both_true (is_name_char edition c) (list_all (is_name_char edition) letters) h in
+      let first = encoded_bare c parts.0 in
+      let others = letters_bare letters parts.1 in
+      list_all-append is_bare (encode_utf8 c) (encode_utf8_all letters) ∙ rw (first, others) refl
 
--- the text that a term was read from begins with such a byte
-pub term-begins_bare : (edition : Edition) (text : List ℕ) → IsUtf8 text
-    → IfGot (λ x rest. FirstBare text) (term edition text)
-unfolding term
-term-begins_bare edition [] u = tt
-term-begins_bare edition (b ∷ text) u =
-    let P : Unit {0} → List ℕ → Type 0 = λ x rest. is_bare b ≡ true in
-    if_got-if P (b == 35) (got tt (past_hash (name edition text))) _
-    (λ e. ap is_bare (eqb-true b 35 e))
-    (λ e0. if_got-if P (begins_number b) (got tt (past_number edition text)) _
-    (λ e. number_bare b e)
-    (λ e1. if_got-if P (is_quote b) (quoted b text) _
-    (λ e. if_got P (quoted b text) (λ x rest f. quote_bare b e))
-    (λ e2. if_got-if P (b == 44 || is_slash_term edition b text) (got tt text)
-    (word edition (b ∷ text)) (λ e. single_bare edition b text e)
-    (λ e3. word-begins_bare edition (b ∷ text) u))))
+  -- no byte of a name is white space of ASCII
+  name-bare : (text n rest : List ℕ) → ReadName edition text n rest → list_all is_bare n ≡ true
+  name-bare text n rest w =
+      elim (w.is) [
+        | inl i ↦ ap (list_all is_bare) (sym i.spell) ∙ letters_bare i.letters i.pass
+        | inr h ↦ ap (list_all is_bare) h.0
+      ]
+
+  bare-name : (text : List ℕ) → IsUtf8 text → (r : Reading (List ℕ)) → name edition text ≡ r
+      → EndsBare text (left_after r)
+  bare-name text u (got n rest) e =
+      let read = name-is edition text n rest u e in
+      subst (λ (t : List ℕ). EndsBare t rest) (sym read.joined)
+      (bare-all n rest (name-bare text n rest read))
+  bare-name text u (fails fault rest) e =
+      subst (EndsBare text) (sym (name-fails edition text rest fault e).1)
+      (bare-past_byte 45 text refl)
+
+  bare-unit : (text : List ℕ) → IsUtf8 text → EndsBare text (past_unit edition text)
+  bare-unit [] u = bare-name [] u (name edition []) refl
+  bare-unit (b ∷ text) u = by (b == 37) refl
+    where
+      by : (t : Bool) → (b == 37) ≡ t
+          → EndsBare (b ∷ text) (if t then text else left_after (name edition (b ∷ text)))
+      by true e = bare-cons b text text (ap is_bare (eqb-true b 37 e)) (nothing refl)
+      by false e = bare-name (b ∷ text) u (name edition (b ∷ text)) refl
+
+  bare-number : (text : List ℕ) → IsUtf8 text → EndsBare text (past_number edition text)
+  unfolding past_number
+  bare-number text u =
+      let digits = past is_digit text in
+      let v = utf8-past is_digit text digit_low u in
+      bare-then text digits (past_number edition text) (bare-past is_digit text digit_bare)
+      (bare-then digits (past_decimals digits) (past_number edition text) (bare-decimals digits)
+      (bare-unit (past_decimals digits)
+      (((past_decimals-lawful true digits digits).left edition).1 v)))
+
+  bare-hash : (text : List ℕ) → IsUtf8 text → (r : Reading (List ℕ)) → name edition text ≡ r
+      → EndsBare text (past_hash r)
+  bare-hash text u (got n rest) e = bare-name text u (got n rest) e
+  bare-hash text u (fails fault rest) e =
+      bare-then text rest (past is_hex_digit rest) (bare-name text u (fails fault rest) e)
+      (bare-past is_hex_digit rest hex_bare)
+
+  bare-word : (text : List ℕ) → IsUtf8 text
+      → IfGot (λ x rest. EndsBare text rest) (word edition text)
+  unfolding word
+  bare-word text u =
+      if_got-follow (λ n rest. EndsBare text rest) (λ x rest. EndsBare text rest) _ _
+      (if_got (λ n rest. EndsBare text rest) (name edition text)
+      (λ n rest e. bare-name text u (got n rest) e))
+      (λ n rest h. if_got-weaker (λ x last. EndsBare rest last) (λ x last. EndsBare text last)
+      _ (λ x last k. bare-then text rest last h k) (bare-arguments rest))
+
+  bare-term : (text : List ℕ) → IsUtf8 text
+      → IfGot (λ x rest. EndsBare text rest) (term edition text)
+  unfolding term
+  bare-term [] u = tt
+  bare-term (b ∷ text) u =
+      let P : Unit {0} → List ℕ → Type 0 = λ x rest. EndsBare (b ∷ text) rest in
+      if_got-if P (b == 35) _ _
+      (λ e. bare-cons b text _ (ap is_bare (eqb-true b 35 e)) (bare-hash text
+      (utf8-past_byte b text (let hash = eqb-true b 35 e in omega arith) u) (name edition text)
+      refl))
+      (λ e0. if_got-if P (begins_number b) _ _
+      (λ e. bare-cons b text _ (number_bare b e)
+      (bare-number text (utf8-past_byte b text (number_low b e) u)))
+      (λ e1. if_got-if P (is_quote b) _ _
+      (λ e. if_got-weaker (λ x rest. EndsBare text rest) P _
+      (λ x rest h. bare-cons b text rest (quote_bare b e) h) (bare-quoted b text (quote_bare b e)))
+      (λ e2. if_got-if P (b == 44 || is_slash_term edition b text) _ _
+      (λ e. bare-cons b text text (single_bare edition b text e) (nothing refl))
+      (λ e3. bare-word (b ∷ text) u))))
+
+  -- the byte that ends a term
+  pub term-ends_bare : (text rest : List ℕ) (x : Unit {0}) → IsUtf8 text
+      → term edition text ≡ got x rest → (passed : List ℕ) × (b : ℕ) × (text ≡ passed ++ (b ∷ rest))
+      × (is_bare b ≡ true)
+  term-ends_bare text rest x u e =
+      by (got-holds (λ x rest. EndsBare text rest) _ _ _ (bare-term text u) e)
+    where
+      by : EndsBare text rest → (passed : List ℕ) × (b : ℕ) × (text ≡ passed ++ (b ∷ rest))
+          × (is_bare b ≡ true)
+      by (nothing same) =
+          absurd (let cuts = subst (λ (y : Reading (Unit {0})). Cuts text y) e
+          (term-cuts edition text) in omega (arith, cuts, ap length same))
+      by (some passed b is bare) = (passed, b, is, bare)
+
+  some_name : (text n rest : List ℕ) → ReadName edition text n rest → n ≡ [] → ⊥
+  some_name text n rest w e =
+      elim (w.is) [
+        | inl i ↦ no_letters i.letters (i.spell ∙ e) i.begins
+        | inr h ↦ (let both = sym h.0
+            ∙ e in cc)
+      ]
+    where
+      no_letters : (letters : List ℕ) → encode_utf8_all letters ≡ []
+          → begins_any_name edition letters ≡ true → ⊥
+      no_letters [] e h = cc
+      no_letters (c ∷ letters) e h =
+          omega (
+            arith,
+            ap length e,
+            length-append (encode_utf8 c) (encode_utf8_all letters),
+            length-encode c,
+            len_utf8_bounds c,
+          )
+
+  name-begins_bare : (text n rest : List ℕ) → ReadName edition text n rest → FirstBare text
+  name-begins_bare text n rest w =
+      subst FirstBare (sym w.joined) (by n (some_name text n rest w) (name-bare text n rest w))
+    where
+      by : (n : List ℕ) → (n ≡ [] → ⊥) → list_all is_bare n ≡ true → FirstBare (n ++ rest)
+      by [] some_there h = absurd (some_there refl)
+      by (b ∷ n) some_there h = (both_true (is_bare b) (list_all is_bare n) h).0
+
+  word-begins_bare : (text : List ℕ) → IsUtf8 text
+      → IfGot (λ x rest. FirstBare text) (word edition text)
+  unfolding word
+  word-begins_bare text u =
+      if_got-follow (λ n rest. FirstBare text) (λ x rest. FirstBare text) _ _
+      (if_got (λ n rest. FirstBare text) (name edition text)
+      (λ n rest e. name-begins_bare text n rest (name-is edition text n rest u e)))
+      (λ n rest h. if_got (λ x last. FirstBare text) (arguments rest) (λ x last e. h))
+
+  -- the text that a term was read from begins with such a byte
+  pub term-begins_bare : (text : List ℕ) → IsUtf8 text
+      → IfGot (λ x rest. FirstBare text) (term edition text)
+  unfolding term
+  term-begins_bare [] u = tt
+  term-begins_bare (b ∷ text) u =
+      let P : Unit {0} → List ℕ → Type 0 = λ x rest. is_bare b ≡ true in
+      if_got-if P (b == 35) _ _ (λ e. ap is_bare (eqb-true b 35 e))
+      (λ e0. if_got-if P (begins_number b) _ _ (λ e. number_bare b e)
+      (λ e1. if_got-if P (is_quote b) _ _
+      (λ e. if_got P (quoted b text) (λ x rest f. quote_bare b e))
+      (λ e2. if_got-if P (b == 44 || is_slash_term edition b text) _ _
+      (λ e. single_bare edition b text e)
+      (λ e3. word-begins_bare (b ∷ text) u))))

@@ -48,10 +48,10 @@ last-append previous [] b text = refl
 last-append previous (c ∷ front) b text = last-append c front b text
 
 -- some bytes more in front
-last-behind : (previous other : ℕ) (front text : List ℕ) → 0 < length text
+last-front : (previous other : ℕ) (front text : List ℕ) → 0 < length text
     → last_after previous (front ++ text) ≡ last_after other text
-last-behind previous other front [] h = absurd (omega arith)
-last-behind previous other front (b ∷ text) h = last-append previous front b text
+last-front previous other front [] h = absurd (omega arith)
+last-front previous other front (b ∷ text) h = last-append previous front b text
 
 some_bytes : (c : ℕ) (cs : List ℕ) → 0 < length (encode_utf8_all (c ∷ cs))
 some_bytes c cs =
@@ -79,7 +79,7 @@ ends-bare (c ∷ d ∷ cs) b w =
     let more =
     ends-bare (d ∷ cs)
     (ap is_bare
-    (sym (last-behind 0 0 (encode_utf8 c) (encode_utf8_all (d ∷ cs)) (some_bytes d cs))) ∙ b)
+    (sym (last-front 0 0 (encode_utf8 c) (encode_utf8_all (d ∷ cs)) (some_bytes d cs))) ∙ b)
     (both_false (is_wide_space c) (list_any is_wide_space (d ∷ cs)) w).1 in
     ap (λ (l : List ℕ). cond (is_whitespace c && (length l == 0)) [] (c ∷ l)) more
     ∙ kept_end (is_whitespace c) c d cs

@@ -1,5 +1,5 @@
 -- A gap, a part at a time.
--- Serves `scan::{closed_part, long_gap, find_gap}` (a gap passed part by part).
+-- Serves `scan::{closed_part, long_gap, find_gap}` (a gap consumed part by part).
 use Rattle.std.proofs.Common.{◌≡◌, ℕ, ◌+◌, Bool, true, false, ◌||◌, nat_lt, List, drop, Some, None, refl, sym, ap, ◌∙◌, subst, [], ◌∷◌, arith}
 use Rattle.std.proofs.lemmas.Bool.{lt-ltb}
 use Rattle.std.specs.List.{prefix_len}

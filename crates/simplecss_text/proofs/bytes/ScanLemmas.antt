@@ -5,7 +5,8 @@ use Rattle.simplecss_text.specs.Bytes.{starts_two, after_byte}
 use Rattle.simplecss_text.specs.Comments.{after_close}
 
 -- a text that does not begin with two bytes
-starts_two-lacks : (one two : ℕ) (text : List ℕ) → ((rest : List ℕ) → text ≢ one ∷ two ∷ rest) → starts_two one two text ≡ false
+starts_two-lacks : (one two : ℕ) (text : List ℕ) → ((rest : List ℕ) → text ≢ one ∷ two ∷ rest)
+    → starts_two one two text ≡ false
 starts_two-lacks one two [] h = refl
 starts_two-lacks one two (a ∷ []) h = by (a == one)
   where
@@ -22,44 +23,60 @@ starts_two-lacks one two (a ∷ b ∷ rest) h = by (a == one) (b == two) refl re
         let second : b ≡ two = eqb-true b two f in
         absurd (h rest (cc))
 
--- a text in which no `*/` stands
-pub after_close-none : (text : List ℕ) → ((i : ℕ) → i ≤ length text → (rest : List ℕ) → drop i text ≢ 42 ∷ 47 ∷ rest) → after_close text ≡ None
+-- a text without a `*/`
+pub after_close-none : (text : List ℕ) → ((i : ℕ) → i ≤ length text → (rest : List ℕ)
+    → drop i text ≢ 42 ∷ 47 ∷ rest) → after_close text ≡ None
 after_close-none [] h = refl
 after_close-none (b ∷ text) h =
-    let here : starts_two 42 47 (b ∷ text) ≡ false = starts_two-lacks 42 47 (b ∷ text) (h 0 (omega arith)) in
+    let here : starts_two 42 47 (b ∷ text) ≡ false = starts_two-lacks 42 47 (b ∷ text)
+    (h 0 (omega arith)) in
     rw here (after_close-none text (λ i l rest. h (suc i) (omega arith) rest))
 
--- a text in which the first `*/` stands at i
-pub after_close-at : (text rest : List ℕ) (i : ℕ) → ((k : ℕ) → k < i → (r : List ℕ) → drop k text ≢ 42 ∷ 47 ∷ r) → drop i text ≡ 42 ∷ 47 ∷ rest → after_close text ≡ Some rest
+-- a text whose first `*/` is at i
+pub after_close-at : (text rest : List ℕ) (i : ℕ)
+    → ((k : ℕ) → k < i → (r : List ℕ) → drop k text ≢ 42 ∷ 47 ∷ r) → drop i text ≡ 42 ∷ 47 ∷ rest
+    → after_close text ≡ Some rest
 after_close-at [] rest zero h e = absurd (cc)
 after_close-at [] rest (suc i) h e = absurd (cc)
-after_close-at (b ∷ text) rest zero h e = subst (λ (t : List ℕ). after_close t ≡ Some rest) (sym e) refl
+after_close-at (b ∷ text) rest zero h e = subst (λ (t : List ℕ). after_close t ≡ Some rest) (sym e)
+    refl
 after_close-at (b ∷ text) rest (suc i) h e =
-    let here : starts_two 42 47 (b ∷ text) ≡ false = starts_two-lacks 42 47 (b ∷ text) (h 0 (omega arith)) in
+    let here : starts_two 42 47 (b ∷ text) ≡ false = starts_two-lacks 42 47 (b ∷ text)
+    (h 0 (omega arith)) in
     rw here (after_close-at text rest i (λ k l r. h (suc k) (omega arith) r) e)
 
--- a text in which the byte does not stand
-after_byte-none : (byte : ℕ) (text : List ℕ) → ((i : ℕ) → i < length text → get_or text i 0 ≢ byte) → after_byte byte text ≡ None
+-- a text without the byte
+after_byte-none : (byte : ℕ) (text : List ℕ) → ((i : ℕ) → i < length text → get_or text i 0 ≢ byte)
+    → after_byte byte text ≡ None
 after_byte-none byte [] h = refl
-after_byte-none byte (b ∷ text) h = by (b == byte) refl (after_byte-none byte text (λ i l. h (suc i) (omega arith)))
+after_byte-none byte (b ∷ text) h = by (b == byte) refl
+    (after_byte-none byte text (λ i l. h (suc i) (omega arith)))
   where
-    by : (x : Bool) → (b == byte) ≡ x → after_byte byte text ≡ None → after_byte byte (b ∷ text) ≡ None
+    by : (x : Bool) → (b == byte) ≡ x → after_byte byte text ≡ None
+        → after_byte byte (b ∷ text) ≡ None
     by true e rest = absurd (h 0 (omega arith) (eqb-true b byte e))
     by false e rest = rw e rest
 
--- a text in which the byte stands first at i
-after_byte-at : (byte : ℕ) (text : List ℕ) (i : ℕ) → i < length text → get_or text i 0 ≡ byte → ((k : ℕ) → k < i → get_or text k 0 ≢ byte) → after_byte byte text ≡ Some (drop (suc i) text)
+-- a text in which the byte is first at i
+after_byte-at : (byte : ℕ) (text : List ℕ) (i : ℕ) → i < length text → get_or text i 0 ≡ byte
+    → ((k : ℕ) → k < i → get_or text k 0 ≢ byte) → after_byte byte text ≡ Some (drop (suc i) text)
 after_byte-at byte [] i l e h = absurd (omega arith)
-after_byte-at byte (b ∷ text) zero l e h = let same : (b == byte) ≡ true = eq-eqb b byte e in rw same refl
-after_byte-at byte (b ∷ text) (suc i) l e h = by (b == byte) refl (after_byte-at byte text i (omega arith) e (λ k m. h (suc k) (omega arith)))
+after_byte-at byte (b ∷ text) zero l e h = let same : (b == byte)
+    ≡ true = eq-eqb b byte e in rw same refl
+after_byte-at byte (b ∷ text) (suc i) l e h = by (b == byte) refl
+    (after_byte-at byte text i (omega arith) e (λ k m. h (suc k) (omega arith)))
   where
-    by : (x : Bool) → (b == byte) ≡ x → after_byte byte text ≡ Some (drop (suc i) text) → after_byte byte (b ∷ text) ≡ Some (drop (suc i) text)
+    by : (x : Bool) → (b == byte) ≡ x → after_byte byte text ≡ Some (drop (suc i) text)
+        → after_byte byte (b ∷ text) ≡ Some (drop (suc i) text)
     by true f rest = absurd (h 0 (omega arith) (eqb-true b byte f))
     by false f rest = rw f rest
 
 -- what a search for the byte finds
 pub after_byte-found : (byte : ℕ) (text : List ℕ) (r : Option ℕ)
-    → MatchOption r ((i : ℕ) → i < length text → get_or text i 0 ≢ byte) (λ k. (k < length text) × (get_or text k 0 ≡ byte) × ((i : ℕ) → i < k → get_or text i 0 ≢ byte))
-    → MatchOption r (after_byte byte text ≡ None) (λ n. after_byte byte text ≡ Some (drop (n + 1) text))
+    → MatchOption r ((i : ℕ) → i < length text
+    → get_or text i 0 ≢ byte) (λ k. (k < length text) × (get_or text k 0 ≡ byte) × ((i : ℕ)
+    → i < k → get_or text i 0 ≢ byte))
+    → MatchOption r (after_byte byte text ≡ None)
+    (λ n. after_byte byte text ≡ Some (drop (n + 1) text))
 after_byte-found byte text None h = after_byte-none byte text h
 after_byte-found byte text (Some k) h = rw add-one (after_byte-at byte text k h.0 h.1 h.2)

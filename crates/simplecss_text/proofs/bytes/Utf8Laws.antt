@@ -70,14 +70,14 @@ utf8-before_byte front b text h u =
     (IsUtf8-take (front ++ (b ∷ text)) (length front) u (boundary front b text h))
 
 -- what follows an ASCII byte
-pub utf8-behind_byte : (front : List ℕ) (b : ℕ) (text : List ℕ) → b < 128
+pub utf8-after_byte : (front : List ℕ) (b : ℕ) (text : List ℕ) → b < 128
     → IsUtf8 (front ++ (b ∷ text)) → IsUtf8 text
-utf8-behind_byte front b text h u =
+utf8-after_byte front b text h u =
     utf8-behind (front ++ (b ∷ text)) text b h u (ends-append front (b ∷ text))
 
 -- after an ASCII byte that begins a text
 pub utf8-past_byte : (b : ℕ) (text : List ℕ) → b < 128 → IsUtf8 (b ∷ text) → IsUtf8 text
-utf8-past_byte b text h u = utf8-behind_byte [] b text h u
+utf8-past_byte b text h u = utf8-after_byte [] b text h u
 
 -- what follows an ASCII byte, if it is there
 pub utf8-past_byte_if : (c : ℕ) (text : List ℕ) → c < 128 → IsUtf8 text → IsUtf8 (past_byte c text)

@@ -58,7 +58,7 @@ pub data Exact (g : ℕ) (t u : List ℕ) : List ℕ → List ℕ → Type 0 whe
   behind_it : Exact g t u t u
   before_it : (r s : List ℕ) → Along (g ∷ t) (g ∷ u) r s → Exact g t u r s
 
--- a brace is taken
+-- a brace is consumed
 pub past_brace-exact : (t u r s : List ℕ) → Along (125 ∷ t) (125 ∷ u) r s
     → Exact 125 t u (past_byte 125 r) (past_byte 125 s)
 past_brace-exact t u r s at = behind_it
@@ -80,7 +80,7 @@ pub less_of_brace : (t : List ℕ) → starts 125 t ≡ true → length (past_by
 less_of_brace [] e = absurd (cc)
 less_of_brace (b ∷ t) e = rw e (omega arith)
 
--- one that follows is taken too, and then less is left than after the first
+-- one that follows is consumed too, and then less is left than after the first
 pub past_further-exact : (u v r s : List ℕ) → Exact 125 (u ++ v) u r s
     → (length (past_byte 125 r) < length (u ++ v)) ⊎ Exact 125 (u ++ v) u (past_byte 125 r)
     (past_byte 125 s)

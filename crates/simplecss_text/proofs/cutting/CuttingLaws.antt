@@ -23,7 +23,7 @@ use Rattle.simplecss_text.proofs.reading.WellLaws.{EndsWell, well-then}
 pub data Reaches {X : Type 0} (read : List ℕ → Option (X × List ℕ)) (rest : List ℕ) : List ℕ
     → Type 0 where
   at_rest : Reaches read rest rest
-  behind : (text next : List ℕ) (x : X) → read text ≡ Some (x, next) → Reaches read rest next
+  following : (text next : List ℕ) (x : X) → read text ≡ Some (x, next) → Reaches read rest next
       → Reaches read rest text
 
 -- What follows the end of what is read makes no difference.
@@ -40,7 +40,7 @@ LeavesWell {X = X} read =
 pub reaches-well : {X : Type 0} (read : List ℕ → Option (X × List ℕ)) → LeavesWell read
     → (rest text : List ℕ) → Reaches read rest text → EndsWell text rest
 reaches-well read well rest text at_rest = (ends-same rest, λ u. u)
-reaches-well read well rest text (behind _ next x e r) =
+reaches-well read well rest text (following _ next x e r) =
     well-then text next rest (well text next x e) (reaches-well read well rest next r)
 
 -- Cut where a piece ends, the text has the pieces of its front and then those of its rest.
@@ -52,7 +52,7 @@ each-cut {X = X} read takes well local nil v text at_rest i u e =
     ap (λ t. (each read t).0) (nothing_in_front u v (omega (arith, ap length e)))
     ∙ ap (λ r. r.0) (each-none read [] nil) in
     ap (λ (l : List X). l ++ (each read v).0) (sym none)
-each-cut {X = X} read takes well local nil v text (behind _ next x f r) i u e =
+each-cut {X = X} read takes well local nil v text (following _ next x f r) i u e =
     let w : List ℕ = before next v in
     let parts : next ≡ w ++ v = sym (reaches-well read well v next r).0 in
     let whole : read (u ++ v) ≡ Some (x, w ++ v) =
@@ -92,131 +92,126 @@ kept-append (x ∷ a) b =
     ∙ ap (λ (l : List StyleRule). l ++ filter has_declaration (flat_map (λ rules. rules) b))
     (sym (filter-append x (flat_map (λ rules. rules) a)))
 
--- the kept rules of a text that is cut where a statement ends
-kept-cut : (edition : Edition) (v text : List ℕ) → Reaches (next_statement edition) v text
-    → IsUtf8 text → (u : List ℕ) → text ≡ u ++ v
-    → kept edition text ≡ kept edition u ++ kept edition v
-unfolding statements each
-kept-cut edition v text r i u e =
-    let parts : (each (next_statement edition) text).0 ≡ (each (next_statement edition) u).0 ++
-    (each (next_statement edition) v).0
-    = each-cut (next_statement edition) (next_statement-takes edition) (next_statement-well edition)
-    (next_statement-cut edition) refl v text r i u e in
-    rw parts (kept-append (each (next_statement edition) u).0 (each (next_statement edition) v).0)
-
--- ---- the places at which statements end
-
-behind_statement-takes : (edition : Edition) → Takes (behind_statement edition)
-behind_statement-takes edition text =
-    by (next_statement edition text) (next_statement-takes edition text)
-  where
-    by : (o : Option (List StyleRule × List ℕ)) → Shrinks text o
-        → Shrinks text (option_map (λ (s : List StyleRule × List ℕ). (s.1, s.1)) o)
-    by None h = tt
-    by (Some x) h = h
-
-rests-none : (edition : Edition) (text : List ℕ) → next_statement edition text ≡ None
-    → rests_behind edition text ≡ []
-unfolding rests_behind
-rests-none edition text e =
-    ap (λ r. r.0)
-    (each-none (behind_statement edition) text
-    (ap (option_map (λ (s : List StyleRule × List ℕ). (s.1, s.1))) e))
-
-rests-some : (edition : Edition) (text rest : List ℕ) (rules : List StyleRule)
-    → next_statement edition text ≡ Some (rules, rest)
-    → rests_behind edition text ≡ rest ∷ rests_behind edition rest
-unfolding rests_behind
-rests-some edition text rest rules e =
-    ap (λ r. r.0)
-    (each-some (behind_statement edition) (behind_statement-takes edition) text rest rest
-    (ap (option_map (λ (s : List StyleRule × List ℕ). (s.1, s.1))) e))
-
--- each of these rests is reached by statements
-pub rests-reached : (edition : Edition) (k : ℕ) (text d : List ℕ)
-    → k < length (rests_behind edition text)
-    → Reaches (next_statement edition) (get_or (rests_behind edition text) k d) text
-rests-reached edition zero text d l =
-    elim (option_cases (next_statement edition text)) [
-      | inl e ↦ absurd (omega (arith, l, ap length (rests-none edition text e)))
-      | inr found ↦
-          let rests : rests_behind edition text ≡ found.0.1 ∷ rests_behind edition found.0.1 =
-          rests-some edition text found.0.1 found.0.0 found.1 in
-          rw rests (behind text found.0.1 found.0.0 found.1 at_rest)
-    ]
-rests-reached edition (suc k) text d l =
-    elim (option_cases (next_statement edition text)) [
-      | inl e ↦ absurd (omega (arith, l, ap length (rests-none edition text e)))
-      | inr found ↦
-          let rests : rests_behind edition text ≡ found.0.1 ∷ rests_behind edition found.0.1 =
-          rests-some edition text found.0.1 found.0.0 found.1 in
-          let less : k < length (rests_behind edition found.0.1) =
-          omega (arith, l, ap length rests) in
-          rw rests (behind text found.0.1 found.0.0 found.1
-          (rests-reached edition k found.0.1 d less))
-    ]
-
 -- a rest and the place where it begins
 pub drop_place : (text rest : List ℕ) → Ends text rest → drop (rest_place text rest) text ≡ rest
 drop_place text rest e =
     append_cancel_left (before text rest) (drop (rest_place text rest) text) rest
     (take-append-drop (rest_place text rest) text ∙ sym e)
 
--- The rules of a text that is cut where one of its statements ends are those of the front and then
--- those of the rest.
-pub keeps_across : (edition : Edition) (text : List ℕ) (place : ℕ) → IsUtf8 text
-    → StatementEndsAt edition text place → KeepsAcross edition text place
-keeps_across edition text place i (k, l, is) =
-    let within : k < length (rests_behind edition text) =
-    omega (arith, l, length-map (rests_behind edition text) (rest_place text)) in
-    let rest : List ℕ = get_or (rests_behind edition text) k [] in
-    let reached : Reaches (next_statement edition) rest text =
-    rests-reached edition k text [] within in
-    let ends : Ends text rest =
-    (reaches-well (next_statement edition) (next_statement-well edition) rest text reached).0 in
-    let here : rest_place text rest ≡ place =
-    sym (get_or-map (rest_place text) (rests_behind edition text) k [] place within) ∙ is in
-    let there : KeepsAcross edition text (rest_place text rest) =
-    kept-cut edition rest text reached i (before text rest) (sym ends)
-    ∙ ap (λ (t : List ℕ). kept edition (before text rest) ++ kept edition t)
-    (sym (drop_place text rest ends)) in
-    subst (KeepsAcross edition text) here there
+module _ (edition : Edition) where
+  -- the kept rules of a text that is cut where a statement ends
+  kept-cut : (v text : List ℕ) → Reaches (next_statement edition) v text → IsUtf8 text
+      → (u : List ℕ) → text ≡ u ++ v → kept edition text ≡ kept edition u ++ kept edition v
+  unfolding statements each
+  kept-cut v text r i u e =
+      let parts : (each (next_statement edition) text).0 ≡ (each (next_statement edition) u).0 ++
+      (each (next_statement edition) v).0
+      = each-cut (next_statement edition) (next_statement-takes edition)
+      (next_statement-well edition)
+      (next_statement-cut edition) refl v text r i u e in
+      rw parts (kept-append (each (next_statement edition) u).0 (each (next_statement edition) v).0)
 
--- ---- sheets
+  -- ---- the places at which statements end
 
--- one more text
-kept-more : (edition : Edition) (texts : List (List ℕ)) (text : List ℕ)
-    → flat_map (kept edition) (texts ++ text ∷ []) ≡ flat_map (kept edition) texts ++ kept edition
-    text
-kept-more edition texts text =
-    flat_map-append (kept edition) texts (text ∷ [])
-    ∙ ap (λ (rules : List StyleRule). flat_map (kept edition) texts ++ rules)
-    (append-nil (kept edition text))
+  behind_statement-takes : Takes (behind_statement edition)
+  behind_statement-takes text =
+      by (next_statement edition text) (next_statement-takes edition text)
+    where
+      by : (o : Option (List StyleRule × List ℕ)) → Shrinks text o
+          → Shrinks text (option_map (λ (s : List StyleRule × List ℕ). (s.1, s.1)) o)
+      by None h = tt
+      by (Some x) h = h
 
--- a text read in two pieces yields the sheet that it yields as a whole, where its rules are those
--- of the pieces
-sheet-across : (edition : Edition) (texts : List (List ℕ)) (text : List ℕ) (place : ℕ)
-    → KeepsAcross edition text place
-    → sheet edition ((texts ++ take place text ∷ []) ++ drop place text ∷ []) ≡ sheet edition
-    (texts ++ text ∷ [])
-sheet-across edition texts text place e =
-    let front : List ℕ = take place text in
-    let rest : List ℕ = drop place text in
-    ap ordered (kept-more edition (texts ++ front ∷ []) rest
-    ∙ ap (λ (rules : List StyleRule). rules ++ kept edition rest) (kept-more edition texts front)
-    ∙ append_assoc (flat_map (kept edition) texts) (kept edition front) (kept edition rest)
-    ∙ ap (λ (rules : List StyleRule). flat_map (kept edition) texts ++ rules) (sym e)
-    ∙ sym (kept-more edition texts text))
+  rests-none : (text : List ℕ) → next_statement edition text ≡ None → rests_behind edition text ≡ []
+  unfolding rests_behind
+  rests-none text e =
+      ap (λ r. r.0) (each-none (behind_statement edition) text
+      (ap (option_map (λ (s : List StyleRule × List ℕ). (s.1, s.1))) e))
 
--- A sheet that adds to the texts it was read from the one that it reads continues where a statement
--- of a text has ended.
-pub goes_on : (edition : Edition) (old : List StyleRule) (text : List ℕ) (new : List StyleRule)
-    → ((texts : List (List ℕ)) → old ≡ sheet edition texts
-    → new ≡ sheet edition (texts ++ text ∷ [])) → GoesOn edition old text new
-goes_on edition old text new adds texts whole place i ends is before =
-    adds (texts ++ take place whole ∷ []) before
-    ∙ ap (λ (t : List ℕ). sheet edition ((texts ++ take place whole ∷ []) ++ t ∷ [])) is
-    ∙ sheet-across edition texts whole place (keeps_across edition whole place i ends)
+  rests-some : (text rest : List ℕ) (rules : List StyleRule)
+      → next_statement edition text ≡ Some (rules, rest)
+      → rests_behind edition text ≡ rest ∷ rests_behind edition rest
+  unfolding rests_behind
+  rests-some text rest rules e =
+      ap (λ r. r.0) (each-some (behind_statement edition) behind_statement-takes text rest rest
+      (ap (option_map (λ (s : List StyleRule × List ℕ). (s.1, s.1))) e))
+
+  -- each of these rests is reached by statements
+  pub rests-reached : (k : ℕ) (text d : List ℕ) → k < length (rests_behind edition text)
+      → Reaches (next_statement edition) (get_or (rests_behind edition text) k d) text
+  rests-reached zero text d l =
+      elim (option_cases (next_statement edition text)) [
+        | inl e ↦ absurd (omega (arith, l, ap length (rests-none text e)))
+        | inr found ↦
+            let rests : rests_behind edition text ≡ found.0.1 ∷ rests_behind edition found.0.1 =
+            rests-some text found.0.1 found.0.0 found.1 in
+            rw rests (following text found.0.1 found.0.0 found.1 at_rest)
+      ]
+  rests-reached (suc k) text d l =
+      elim (option_cases (next_statement edition text)) [
+        | inl e ↦ absurd (omega (arith, l, ap length (rests-none text e)))
+        | inr found ↦
+            let rests : rests_behind edition text ≡ found.0.1 ∷ rests_behind edition found.0.1 =
+            rests-some text found.0.1 found.0.0 found.1 in
+            let less : k < length (rests_behind edition found.0.1) =
+            omega (arith, l, ap length rests) in
+            rw rests (following text found.0.1 found.0.0 found.1 (rests-reached k found.0.1 d less))
+      ]
+
+  -- The rules of a text that is cut where one of its statements ends are those of the front and
+  -- then those of the rest.
+  pub keeps_across : (text : List ℕ) (place : ℕ) → IsUtf8 text → StatementEndsAt edition text place
+      → KeepsAcross edition text place
+  keeps_across text place i (k, l, is) =
+      let within : k < length (rests_behind edition text) =
+      omega (arith, l, length-map (rests_behind edition text) (rest_place text)) in
+      let rest : List ℕ = get_or (rests_behind edition text) k [] in
+      let reached : Reaches (next_statement edition) rest text =
+      rests-reached k text [] within in
+      let ends : Ends text rest =
+      (reaches-well (next_statement edition) (next_statement-well edition) rest text reached).0 in
+      let here : rest_place text rest ≡ place =
+      sym (get_or-map (rest_place text) (rests_behind edition text) k [] place within) ∙ is in
+      let there : KeepsAcross edition text (rest_place text rest) =
+      kept-cut rest text reached i (before text rest) (sym ends)
+      ∙ ap (λ (t : List ℕ). kept edition (before text rest) ++ kept edition t)
+      (sym (drop_place text rest ends)) in
+      subst (KeepsAcross edition text) here there
+
+  -- ---- sheets
+
+  -- one more text
+  kept-more : (texts : List (List ℕ)) (text : List ℕ)
+      → flat_map (kept edition) (texts ++ text ∷ [])
+      ≡ flat_map (kept edition) texts ++ kept edition text
+  kept-more texts text =
+      flat_map-append (kept edition) texts (text ∷ [])
+      ∙ ap (λ (rules : List StyleRule). flat_map (kept edition) texts ++ rules)
+      (append-nil (kept edition text))
+
+  -- a text read in two pieces yields the sheet that it yields as a whole, where its rules are those
+  -- of the pieces
+  sheet-across : (texts : List (List ℕ)) (text : List ℕ) (place : ℕ)
+      → KeepsAcross edition text place → sheet edition
+      ((texts ++ take place text ∷ []) ++ drop place text ∷ []) ≡ sheet edition (texts ++ text ∷ [])
+  sheet-across texts text place e =
+      let front : List ℕ = take place text in
+      let rest : List ℕ = drop place text in
+      ap ordered (kept-more (texts ++ front ∷ []) rest
+      ∙ ap (λ (rules : List StyleRule). rules ++ kept edition rest) (kept-more texts front)
+      ∙ append_assoc (flat_map (kept edition) texts) (kept edition front) (kept edition rest)
+      ∙ ap (λ (rules : List StyleRule). flat_map (kept edition) texts ++ rules) (sym e)
+      ∙ sym (kept-more texts text))
+
+  -- A sheet that adds to the texts it was read from the one that it reads continues where a
+  -- statement of a text has ended.
+  pub goes_on : (old : List StyleRule) (text : List ℕ) (new : List StyleRule)
+      → ((texts : List (List ℕ)) → old ≡ sheet edition texts
+      → new ≡ sheet edition (texts ++ text ∷ [])) → GoesOn edition old text new
+  goes_on old text new adds texts whole place i ends is before =
+      adds (texts ++ take place whole ∷ []) before
+      ∙ ap (λ (t : List ℕ). sheet edition ((texts ++ take place whole ∷ []) ++ t ∷ [])) is
+      ∙ sheet-across texts whole place (keeps_across whole place i ends)
 
 -- the same of a call that may find no memory
 pub goes_on-ok : {T E : Type 0} (result : Result T E) (edition : Edition) (old : List StyleRule)

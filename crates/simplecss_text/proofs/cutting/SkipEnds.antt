@@ -217,7 +217,7 @@ list_skips-within : (edition : Edition) (text : List ℕ) → AllWithin text (li
 list_skips-within edition text =
     within-if text (ends_list text) [] (if_broken text (declaration edition text)) tt
     (by (declaration edition text)
-    (stands-ends text no_texts (declaration edition text) (declaration-stands edition text)))
+    (stands-ends _ no_texts _ (declaration-stands edition text)))
   where
     by : (r : Reading StyleDeclaration) → Ends text (left_after r)
         → AllWithin text (if_broken text r)
@@ -287,7 +287,7 @@ ends-past_semicolon_or_block text = by (starts 123 text)
 pub ends-at_rule_rest : (edition : Edition) (text : List ℕ) → Ends text (at_rule_rest edition text)
 unfolding at_rule_rest
 ends-at_rule_rest edition text =
-    by (name edition text) (stands-ends text itself (name edition text) (name-stands edition text))
+    by (name edition text) (stands-ends _ itself _ (name-stands edition text))
   where
     by : (r : Reading (List ℕ)) → Ends text (left_after r) → Ends text (at_rule_rest_by_name r)
     by (got n rest) h =

@@ -10,7 +10,7 @@ use Rattle.simplecss_text.specs.Comments.{past_blank}
 use Rattle.simplecss_text.specs.Names.{name}
 use Rattle.simplecss_text.specs.Blocks.{from_block_end}
 use Rattle.simplecss_text.specs.Statements.{StyleRule, ends_statements, next_statement, at_rule_rest, rule_set, statement}
-use Rattle.simplecss_text.proofs.reading.EndsLaws.{ends-ends, ends-got, ends-past, ends-same, ends-tail, itself, length-ends}
+use Rattle.simplecss_text.proofs.reading.EndsLaws.{ends-ends, ends-got, ends-past, ends-same, ends-tail, length-ends}
 use Rattle.simplecss_text.proofs.reading.StandLaws.{name-stands, ends-past_blank}
 use Rattle.simplecss_text.proofs.bytes.Utf8Laws.{utf8-behind}
 use Rattle.simplecss_text.proofs.reading.WellLaws.{EndsWell, well-behind, well-name, well-nil, well-past_blank, well-then}
@@ -35,96 +35,6 @@ pub data NextEnds (edition : Edition) (text : List ℕ) (rules : List StyleRule)
         → Ends text (125 ∷ rest) → NextEnds edition text rules rest
     at_rule_ends : (after : List ℕ) → text ≡ 64 ∷ after → rules ≡ [] → AtRuleEnds edition after rest
         → NextEnds edition text rules rest
-
-statement-ends : (edition : Edition) (text : List ℕ) (rules : List StyleRule) (rest : List ℕ)
-    → statement edition text ≡ (rules, rest) → NextEnds edition text rules rest
-unfolding statement
-statement-ends edition [] rules rest e = of_rules (rule_set-behind edition [])
-  where
-    of_rules : BehindBrace [] (rule_set edition []).1 → NextEnds edition [] rules rest
-    of_rules (inl h) = text_ends (sym (ap (λ r. r.1) e) ∙ h)
-    of_rules (inr h) =
-        rules_end refl e (subst (λ (x : List ℕ). Ends [] (125 ∷ x)) (ap (λ r. r.1) e) h)
-statement-ends edition (b ∷ text) rules rest e = by (b == 64) refl e
-  where
-    of_rules : (b == 64) ≡ false → rule_set edition (b ∷ text) ≡ (rules, rest)
-        → BehindBrace (b ∷ text) (rule_set edition (b ∷ text)).1
-        → NextEnds edition (b ∷ text) rules rest
-    of_rules f g (inl h) = text_ends (sym (ap (λ r. r.1) g) ∙ h)
-    of_rules f g (inr h) =
-        rules_end f g (subst (λ (x : List ℕ). Ends (b ∷ text) (125 ∷ x)) (ap (λ r. r.1) g) h)
-
-    by : (k : Bool) → (b == 64) ≡ k
-        → (if k then ([], at_rule_rest edition text) else rule_set edition (b ∷ text))
-        ≡ (rules, rest) → NextEnds edition (b ∷ text) rules rest
-    by true f g =
-        at_rule_ends text (ap (λ (c : ℕ). c ∷ text) (eqb-true b 64 f)) (sym (ap (λ r. r.0) g))
-        (subst (AtRuleEnds edition text) (ap (λ r. r.1) g) (at_rule-ends edition text))
-    by false f g = of_rules f g (rule_set-behind edition (b ∷ text))
-
--- where the statements continue, and how the next one ends
-pub next_statement-ends : (edition : Edition) (text : List ℕ) (rules : List StyleRule) (rest : List ℕ)
-    → next_statement edition text ≡ Some (rules, rest)
-    → (ends_statements (past_blank text) ≡ false) × NextEnds edition (past_blank text) rules rest
-next_statement-ends edition text rules rest e = by (ends_statements (past_blank text)) refl e
-  where
-    by : (k : Bool) → ends_statements (past_blank text) ≡ k
-        → (if k then None else Some (statement edition (past_blank text))) ≡ Some (rules, rest)
-        → (ends_statements (past_blank text) ≡ false) × NextEnds edition (past_blank text) rules
-        rest
-    by true f g = absurd (cc)
-    by false f g =
-        let same : statement edition (past_blank text) ≡ (rules, rest) = cc in
-        (f, statement-ends edition (past_blank text) rules rest same)
-
--- ---- what is left is an end of the text, and the UTF-8 of some characters
-
--- an at-rule that ends after a semicolon or a block ends after that byte
-pub semicolon-front : (edition : Edition) (text n rest left : List ℕ) → name edition text ≡ got n rest
-    → past (is_neither 59 123) rest ≡ 59 ∷ left → Ends text (59 ∷ left)
-semicolon-front edition text n rest left e f =
-    ends-ends text rest (59 ∷ left)
-    (ends-got text itself (name edition text) n rest (name-stands edition text) e)
-    (subst (Ends rest) f (ends-past (is_neither 59 123) rest))
-
-pub block-front : (edition : Edition) (text n rest inner left : List ℕ) → name edition text ≡ got n rest
-    → past (is_neither 59 123) rest ≡ 123 ∷ inner → from_block_end inner ≡ 125 ∷ left
-    → Ends text (125 ∷ left)
-block-front edition text n rest inner left e f g =
-    let opened : Ends text (123 ∷ inner) =
-    ends-ends text rest (123 ∷ inner)
-    (ends-got text itself (name edition text) n rest (name-stands edition text) e)
-    (subst (Ends rest) f (ends-past (is_neither 59 123) rest)) in
-    ends-ends text inner (125 ∷ left)
-    (ends-ends text (123 ∷ inner) inner opened (ends-tail 123 inner))
-    (subst (Ends inner) g (ends-from_block_end inner))
-
-pub at_rule-well : (edition : Edition) (text rest : List ℕ) → AtRuleEnds edition text rest
-    → EndsWell text rest
-at_rule-well edition text rest uses_up = well-nil text
-at_rule-well edition text rest (at_fault fault left e) =
-    subst (λ r. EndsWell text (left_after r)) e (well-name edition text)
-at_rule-well edition text rest (at_semicolon n x left e f) =
-    well-behind 59 text rest (omega arith) (semicolon-front edition text n x rest e f)
-at_rule-well edition text rest (at_block n x inner left e f g) =
-    well-behind 125 text rest (omega arith) (block-front edition text n x inner rest e f g)
-
--- what is left after a blank and a statement
-next-well : (edition : Edition) (text start : List ℕ) (rules : List StyleRule) (rest : List ℕ)
-    → Ends text start → NextEnds edition start rules rest → EndsWell text rest
-next-well edition text start rules rest b (text_ends e) =
-    subst (EndsWell text) (sym e) (well-nil text)
-next-well edition text start rules rest b (rules_end e f h) =
-    well-behind 125 text rest (omega arith) (ends-ends text start (125 ∷ rest) b h)
-next-well edition text start rules rest b (at_rule_ends after e f h) =
-    well-then text after rest (well-behind 64 text after (omega arith) (subst (Ends text) e b))
-    (at_rule-well edition after rest h)
-
-pub next_statement-well : (edition : Edition) (text rest : List ℕ) (rules : List StyleRule)
-    → next_statement edition text ≡ Some (rules, rest) → EndsWell text rest
-next_statement-well edition text rest rules e =
-    next-well edition text (past_blank text) rules rest (ends-past_blank text)
-    (next_statement-ends edition text rules rest e).1
 
 -- ---- the texts before and after a cut
 
@@ -171,116 +81,207 @@ ends_statements-along t u r s (on b r1 s1 h) =
     rw (not_empty b r1, not_empty b s1)
     (opens_comment-along 125 t u brace_plain (b ∷ r1) (b ∷ s1) (on b r1 s1 h))
 
--- a rule set that ends after a brace
-rule_set-cut : (edition : Edition) (w v r s : List ℕ) (rules : List StyleRule) → IsUtf8 r
-    → Along (125 ∷ (w ++ v)) (125 ∷ w) r s → rule_set edition r ≡ (rules, w ++ v)
-    → (w ++ v ≡ []) ⊎ (rule_set edition s ≡ (rules, w))
-rule_set-cut edition w v r s rules z h e =
-    by (rule_set edition r) (rule_set edition s) e (rule_set-same edition w v r s z h)
-  where
-    by : (a b : List StyleRule × List ℕ) → a ≡ (rules, w ++ v) → RulesSame (w ++ v) w a b
-        → (w ++ v ≡ []) ⊎ (b ≡ (rules, w))
-    by (x, p) b f (inl (inl l)) =
-        absurd (omega (arith, l, ap (λ (c : List StyleRule × List ℕ). length c.1) f))
-    by (x, p) b f (inl (inr k)) = inl (sym (ap (λ (c : List StyleRule × List ℕ). c.1) f) ∙ k)
-    by (x, p) (y, q) f (inr (k, exact)) =
-        let rest : p ≡ w ++ v = ap (λ (c : List StyleRule × List ℕ). c.1) f in
-        let same : q ≡ w = exact-second 125 (w ++ v) w p q exact rest in
-        let ruled : y ≡ rules = sym k ∙ ap (λ (c : List StyleRule × List ℕ). c.0) f in
-        inr (rw (same, ruled) refl)
+module _ (edition : Edition) where
+  statement-ends : (text : List ℕ) (rules : List StyleRule) (rest : List ℕ)
+      → statement edition text ≡ (rules, rest) → NextEnds edition text rules rest
+  unfolding statement
+  statement-ends [] rules rest e = of_rules (rule_set-behind edition [])
+    where
+      of_rules : BehindBrace [] (rule_set edition []).1 → NextEnds edition [] rules rest
+      of_rules (inl h) = text_ends (sym (ap (λ r. r.1) e) ∙ h)
+      of_rules (inr h) =
+          rules_end refl e (subst (λ (x : List ℕ). Ends [] (125 ∷ x)) (ap (λ r. r.1) e) h)
+  statement-ends (b ∷ text) rules rest e = by (b == 64) refl e
+    where
+      of_rules : (b == 64) ≡ false → rule_set edition (b ∷ text) ≡ (rules, rest)
+          → BehindBrace (b ∷ text) (rule_set edition (b ∷ text)).1
+          → NextEnds edition (b ∷ text) rules rest
+      of_rules f g (inl h) = text_ends (sym (ap (λ r. r.1) g) ∙ h)
+      of_rules f g (inr h) =
+          rules_end f g (subst (λ (x : List ℕ). Ends (b ∷ text) (125 ∷ x)) (ap (λ r. r.1) g) h)
 
--- an at-rule, from after its sign
-pub at_rule-cut : (edition : Edition) (s v w rest : List ℕ) → IsUtf8 (s ++ v) → IsUtf8 v → rest ≡ w ++ v
-    → AtRuleEnds edition (s ++ v) rest → (w ++ v ≡ []) ⊎ (at_rule_rest edition s ≡ w)
-at_rule-cut edition s v w rest whole cut e uses_up = inl (sym e)
-at_rule-cut edition s v w rest whole cut e (at_fault fault left f) =
-    inr (at_rule-fault edition s v w fault (utf8-first s v whole cut) (f ∙ ap (fails fault) e))
-at_rule-cut edition s v w rest whole cut e (at_semicolon n x left f g) =
-    let behind : past (is_neither 59 123) x ≡ 59 ∷ (w ++ v) = g ∙ ap (λ (t : List ℕ). 59 ∷ t) e in
-    inr (at_rule-semicolon edition (w ++ v) w (s ++ v) s n x whole
-    (along-of 59 s v w (semicolon-front edition (s ++ v) n x (w ++ v) f behind)) f behind)
-at_rule-cut edition s v w rest whole cut e (at_block n x inner left f g h) =
-    let behind : from_block_end inner ≡ 125 ∷ (w ++ v) = h ∙ ap (λ (t : List ℕ). 125 ∷ t) e in
-    inr (at_rule-block edition w v (s ++ v) s n x inner whole
-    (along-of 125 s v w (block-front edition (s ++ v) n x inner (w ++ v) f g behind)) f g
-    behind)
+      by : (k : Bool) → (b == 64) ≡ k
+          → (if k then ([], at_rule_rest edition text) else rule_set edition (b ∷ text))
+          ≡ (rules, rest) → NextEnds edition (b ∷ text) rules rest
+      by true f g =
+          at_rule_ends text (ap (λ (c : ℕ). c ∷ text) (eqb-true b 64 f)) (sym (ap (λ r. r.0) g))
+          (subst (AtRuleEnds edition text) (ap (λ r. r.1) g) (at_rule-ends edition text))
+      by false f g = of_rules f g (rule_set-behind edition (b ∷ text))
 
--- ---- the next statement
+  -- where the statements continue, and how the next one ends
+  pub next_statement-ends : (text : List ℕ) (rules : List StyleRule) (rest : List ℕ)
+      → next_statement edition text ≡ Some (rules, rest)
+      → (ends_statements (past_blank text) ≡ false) × NextEnds edition (past_blank text) rules rest
+  next_statement-ends text rules rest e = by (ends_statements (past_blank text)) refl e
+    where
+      by : (k : Bool) → ends_statements (past_blank text) ≡ k
+          → (if k then None else Some (statement edition (past_blank text))) ≡ Some (rules, rest)
+          → (ends_statements (past_blank text) ≡ false) × NextEnds edition (past_blank text) rules
+          rest
+      by true f g = absurd (cc)
+      by false f g =
+          let same : statement edition (past_blank text) ≡ (rules, rest) = cc in
+          (f, statement-ends (past_blank text) rules rest same)
 
-next-nil : (edition : Edition) (u v w : List ℕ) (rules : List StyleRule) → w ++ v ≡ []
-    → next_statement edition (u ++ v) ≡ Some (rules, w ++ v)
-    → next_statement edition u ≡ Some (rules, w)
-next-nil edition u [] w rules e f =
-    subst (λ (t : List ℕ). next_statement edition t ≡ Some (rules, w)) (append-nil u)
-    (f ∙ ap (λ (t : List ℕ). Some (rules, t)) (append-nil w))
-next-nil edition u (b ∷ v) w rules e f =
-    absurd (omega (arith, ap length e, length-append w (b ∷ v)))
+  -- ---- what is left is an end of the text, and the UTF-8 of some characters
 
-next_statement-reads : (edition : Edition) (u w : List ℕ) (rules : List StyleRule)
-    → ends_statements (past_blank u) ≡ false → statement edition (past_blank u) ≡ (rules, w)
-    → next_statement edition u ≡ Some (rules, w)
-next_statement-reads edition u w rules e f = rw (e, f) refl
+  -- an at-rule that ends after a semicolon or a block ends after that byte
+  pub semicolon-front : (text n rest left : List ℕ) → name edition text ≡ got n rest
+      → past (is_neither 59 123) rest ≡ 59 ∷ left → Ends text (59 ∷ left)
+  semicolon-front text n rest left e f =
+      ends-ends text rest (59 ∷ left)
+      (ends-got _ _ _ _ _ (name-stands edition text) e)
+      (subst (Ends rest) f (ends-past (is_neither 59 123) rest))
 
--- What follows the end of a statement makes no difference to it.
-pub next_statement-cut : (edition : Edition) (u v w : List ℕ) (rules : List StyleRule)
-    → IsUtf8 (u ++ v) → IsUtf8 v → next_statement edition (u ++ v) ≡ Some (rules, w ++ v)
-    → next_statement edition u ≡ Some (rules, w)
-unfolding statement
-next_statement-cut edition u v w rules whole cut e =
-    by (next_statement-ends edition (u ++ v) rules (w ++ v) e).0
-    (next_statement-ends edition (u ++ v) rules (w ++ v) e).1
-  where
-    nil : w ++ v ≡ [] → next_statement edition u ≡ Some (rules, w)
-    nil n = next-nil edition u v w rules n e
+  pub block-front : (text n rest inner left : List ℕ) → name edition text ≡ got n rest
+      → past (is_neither 59 123) rest ≡ 123 ∷ inner → from_block_end inner ≡ 125 ∷ left
+      → Ends text (125 ∷ left)
+  block-front text n rest inner left e f g =
+      let opened : Ends text (123 ∷ inner) =
+      ends-ends text rest (123 ∷ inner)
+      (ends-got _ _ _ _ _ (name-stands edition text) e)
+      (subst (Ends rest) f (ends-past (is_neither 59 123) rest)) in
+      ends-ends text inner (125 ∷ left)
+      (ends-ends text (123 ∷ inner) inner opened (ends-tail 123 inner))
+      (subst (Ends inner) g (ends-from_block_end inner))
 
-    ruled : Along (125 ∷ (w ++ v)) (125 ∷ w) (past_blank (u ++ v)) (past_blank u)
-        → ends_statements (past_blank (u ++ v)) ≡ false → starts 64 (past_blank (u ++ v)) ≡ false
-        → (w ++ v ≡ []) ⊎ (rule_set edition (past_blank u) ≡ (rules, w))
-        → next_statement edition u ≡ Some (rules, w)
-    ruled along more other (inl n) = nil n
-    ruled along more other (inr r) =
-        let sign : starts 64 (past_blank u) ≡ false =
-        sym (starts-along 125 (w ++ v) w 64 (past_blank (u ++ v)) (past_blank u) along)
-        ∙ other in
-        let goes : ends_statements (past_blank u) ≡ false =
-        sym (ends_statements-along (w ++ v) w (past_blank (u ++ v)) (past_blank u) along)
-        ∙ more in
-        next_statement-reads edition u w rules goes (rw sign r)
+  pub at_rule-well : (text rest : List ℕ) → AtRuleEnds edition text rest → EndsWell text rest
+  at_rule-well text rest uses_up = well-nil text
+  at_rule-well text rest (at_fault fault left e) =
+      subst (λ r. EndsWell text (left_after r)) e (well-name edition text)
+  at_rule-well text rest (at_semicolon n x left e f) =
+      well-behind 59 text rest (omega arith) (semicolon-front text n x rest e f)
+  at_rule-well text rest (at_block n x inner left e f g) =
+      well-behind 125 text rest (omega arith) (block-front text n x inner rest e f g)
 
-    at_sign : (s : List ℕ) → past_blank u ≡ 64 ∷ s → rules ≡ []
-        → (w ++ v ≡ []) ⊎ (at_rule_rest edition s ≡ w) → next_statement edition u ≡ Some (rules, w)
-    at_sign s is none (inl n) = nil n
-    at_sign s is none (inr r) =
-        let goes : ends_statements (past_blank u) ≡ false =
-        ap ends_statements is ∙ rw (not_empty 64 s) refl in
-        let read : statement edition (past_blank u) ≡ (rules, w) =
-        ap (statement edition) is ∙ rw (r, none) refl in
-        next_statement-reads edition u w rules goes read
+  -- what is left after a blank and a statement
+  next-well : (text start : List ℕ) (rules : List StyleRule) (rest : List ℕ) → Ends text start
+      → NextEnds edition start rules rest → EndsWell text rest
+  next-well text start rules rest b (text_ends e) =
+      subst (EndsWell text) (sym e) (well-nil text)
+  next-well text start rules rest b (rules_end e f h) =
+      well-behind 125 text rest (omega arith) (ends-ends text start (125 ∷ rest) b h)
+  next-well text start rules rest b (at_rule_ends after e f h) =
+      well-then text after rest (well-behind 64 text after (omega arith) (subst (Ends text) e b))
+      (at_rule-well after rest h)
 
-    by : ends_statements (past_blank (u ++ v)) ≡ false
-        → NextEnds edition (past_blank (u ++ v)) rules (w ++ v)
-        → next_statement edition u ≡ Some (rules, w)
-    by more (text_ends n) = nil n
-    by more (rules_end other r h) =
-        let along : Along (125 ∷ (w ++ v)) (125 ∷ w) (past_blank (u ++ v)) (past_blank u) =
-        past_blank-along 125 u v w brace_plain h in
-        ruled along more other
-        (rule_set-cut edition w v (past_blank (u ++ v)) (past_blank u) rules
-        ((well-past_blank (u ++ v)).1 whole) along r)
-    by more (at_rule_ends after is none h) =
-        let s : List ℕ = before after (w ++ v) ++ w in
-        let parts : after ≡ s ++ v =
-        sym (append_assoc (before after (w ++ v)) w v
-        ∙ (at_rule-well edition after (w ++ v) h).0) in
-        let start : past_blank (u ++ v) ≡ 64 ∷ (s ++ v) = is ∙ ap (λ (t : List ℕ). 64 ∷ t) parts in
-        let behind : Ends (past_blank (u ++ v)) (64 ∷ (s ++ v)) =
-        subst (Ends (past_blank (u ++ v))) start (ends-same (past_blank (u ++ v))) in
-        let along : Along (64 ∷ (s ++ v)) (64 ∷ s) (past_blank (u ++ v)) (past_blank u) =
-        past_blank-along 64 u v s sign_plain behind in
-        let whole_after : IsUtf8 (s ++ v) =
-        utf8-behind (u ++ v) (s ++ v) 64 (omega arith) whole
-        (ends-ends (u ++ v) (past_blank (u ++ v)) (64 ∷ (s ++ v)) (ends-past_blank (u ++ v))
-        behind) in
-        at_sign s (along-at 64 (s ++ v) s (past_blank (u ++ v)) (past_blank u) along start) none
-        (at_rule-cut edition s v w (w ++ v) whole_after cut refl
-        (subst (λ (t : List ℕ). AtRuleEnds edition t (w ++ v)) parts h))
+  pub next_statement-well : (text rest : List ℕ) (rules : List StyleRule)
+      → next_statement edition text ≡ Some (rules, rest) → EndsWell text rest
+  next_statement-well text rest rules e =
+      next-well text (past_blank text) rules rest (ends-past_blank text)
+      (next_statement-ends text rules rest e).1
+
+  -- a rule set that ends after a brace
+  rule_set-cut : (w v r s : List ℕ) (rules : List StyleRule) → IsUtf8 r
+      → Along (125 ∷ (w ++ v)) (125 ∷ w) r s → rule_set edition r ≡ (rules, w ++ v)
+      → (w ++ v ≡ []) ⊎ (rule_set edition s ≡ (rules, w))
+  rule_set-cut w v r s rules z h e =
+      by (rule_set edition r) (rule_set edition s) e (rule_set-same edition w v r s z h)
+    where
+      by : (a b : List StyleRule × List ℕ) → a ≡ (rules, w ++ v) → RulesSame (w ++ v) w a b
+          → (w ++ v ≡ []) ⊎ (b ≡ (rules, w))
+      by (x, p) b f (inl (inl l)) =
+          absurd (omega (arith, l, ap (λ (c : List StyleRule × List ℕ). length c.1) f))
+      by (x, p) b f (inl (inr k)) = inl (sym (ap (λ (c : List StyleRule × List ℕ). c.1) f) ∙ k)
+      by (x, p) (y, q) f (inr (k, exact)) =
+          let rest : p ≡ w ++ v = ap (λ (c : List StyleRule × List ℕ). c.1) f in
+          let same : q ≡ w = exact-second 125 (w ++ v) w p q exact rest in
+          let ruled : y ≡ rules = sym k ∙ ap (λ (c : List StyleRule × List ℕ). c.0) f in
+          inr (rw (same, ruled) refl)
+
+  -- an at-rule, from after its sign
+  pub at_rule-cut : (s v w rest : List ℕ) → IsUtf8 (s ++ v) → IsUtf8 v → rest ≡ w ++ v
+      → AtRuleEnds edition (s ++ v) rest → (w ++ v ≡ []) ⊎ (at_rule_rest edition s ≡ w)
+  at_rule-cut s v w rest whole cut e uses_up = inl (sym e)
+  at_rule-cut s v w rest whole cut e (at_fault fault left f) =
+      inr (at_rule-fault edition s v w fault (utf8-first s v whole cut) (f ∙ ap (fails fault) e))
+  at_rule-cut s v w rest whole cut e (at_semicolon n x left f g) =
+      let following : past (is_neither 59 123) x ≡ 59 ∷ (w ++ v) = g
+      ∙ ap (λ (t : List ℕ). 59 ∷ t) e in
+      inr (at_rule-semicolon edition (w ++ v) w (s ++ v) s n x whole
+      (along-of 59 s v w (semicolon-front (s ++ v) n x (w ++ v) f following)) f following)
+  at_rule-cut s v w rest whole cut e (at_block n x inner left f g h) =
+      let following : from_block_end inner ≡ 125 ∷ (w ++ v) = h ∙ ap (λ (t : List ℕ). 125 ∷ t) e in
+      inr (at_rule-block edition w v (s ++ v) s n x inner whole
+      (along-of 125 s v w (block-front (s ++ v) n x inner (w ++ v) f g following)) f g following)
+
+  -- ---- the next statement
+
+  next-nil : (u v w : List ℕ) (rules : List StyleRule) → w ++ v ≡ []
+      → next_statement edition (u ++ v) ≡ Some (rules, w ++ v)
+      → next_statement edition u ≡ Some (rules, w)
+  next-nil u [] w rules e f =
+      subst (λ (t : List ℕ). next_statement edition t ≡ Some (rules, w)) (append-nil u)
+      (f ∙ ap (λ (t : List ℕ). Some (rules, t)) (append-nil w))
+  next-nil u (b ∷ v) w rules e f =
+      absurd (omega (arith, ap length e, length-append w (b ∷ v)))
+
+  next_statement-reads : (u w : List ℕ) (rules : List StyleRule)
+      → ends_statements (past_blank u) ≡ false → statement edition (past_blank u) ≡ (rules, w)
+      → next_statement edition u ≡ Some (rules, w)
+  next_statement-reads u w rules e f = rw (e, f) refl
+
+  -- What follows the end of a statement makes no difference to it.
+  pub next_statement-cut : (u v w : List ℕ) (rules : List StyleRule) → IsUtf8 (u ++ v) → IsUtf8 v
+      → next_statement edition (u ++ v) ≡ Some (rules, w ++ v)
+      → next_statement edition u ≡ Some (rules, w)
+  unfolding statement
+  next_statement-cut u v w rules whole cut e =
+      by (next_statement-ends (u ++ v) rules (w ++ v) e).0
+      (next_statement-ends (u ++ v) rules (w ++ v) e).1
+    where
+      nil : w ++ v ≡ [] → next_statement edition u ≡ Some (rules, w)
+      nil n = next-nil u v w rules n e
+
+      ruled : Along (125 ∷ (w ++ v)) (125 ∷ w) (past_blank (u ++ v)) (past_blank u)
+          → ends_statements (past_blank (u ++ v)) ≡ false → starts 64 (past_blank (u ++ v)) ≡ false
+          → (w ++ v ≡ []) ⊎ (rule_set edition (past_blank u) ≡ (rules, w))
+          → next_statement edition u ≡ Some (rules, w)
+      ruled along more other (inl n) = nil n
+      ruled along more other (inr r) =
+          let sign : starts 64 (past_blank u) ≡ false =
+          sym (starts-along 125 (w ++ v) w 64 (past_blank (u ++ v)) (past_blank u) along)
+          ∙ other in
+          let goes : ends_statements (past_blank u) ≡ false =
+          sym (ends_statements-along (w ++ v) w (past_blank (u ++ v)) (past_blank u) along)
+          ∙ more in
+          next_statement-reads u w rules goes (rw sign r)
+
+      at_sign : (s : List ℕ) → past_blank u ≡ 64 ∷ s → rules ≡ []
+          → (w ++ v ≡ []) ⊎ (at_rule_rest edition s ≡ w) → next_statement edition u ≡ Some
+          (rules, w)
+      at_sign s is none (inl n) = nil n
+      at_sign s is none (inr r) =
+          let goes : ends_statements (past_blank u) ≡ false =
+          ap ends_statements is ∙ rw (not_empty 64 s) refl in
+          let read : statement edition (past_blank u) ≡ (rules, w) =
+          ap (statement edition) is ∙ rw (r, none) refl in
+          next_statement-reads u w rules goes read
+
+      by : ends_statements (past_blank (u ++ v)) ≡ false
+          → NextEnds edition (past_blank (u ++ v)) rules (w ++ v)
+          → next_statement edition u ≡ Some (rules, w)
+      by more (text_ends n) = nil n
+      by more (rules_end other r h) =
+          let along : Along (125 ∷ (w ++ v)) (125 ∷ w) (past_blank (u ++ v)) (past_blank u) =
+          past_blank-along 125 u v w brace_plain h in
+          ruled along more other (rule_set-cut w v (past_blank (u ++ v)) (past_blank u) rules
+          ((well-past_blank (u ++ v)).1 whole) along r)
+      by more (at_rule_ends after is none h) =
+          let s : List ℕ = before after (w ++ v) ++ w in
+          let parts : after ≡ s ++ v =
+          sym (append_assoc (before after (w ++ v)) w v
+          ∙ (at_rule-well after (w ++ v) h).0) in
+          let start : past_blank (u ++ v) ≡ 64 ∷ (s ++ v) = is ∙ ap (λ
+          (t : List ℕ). 64 ∷ t) parts in
+          let following : Ends (past_blank (u ++ v)) (64 ∷ (s ++ v)) =
+          subst (Ends (past_blank (u ++ v))) start (ends-same (past_blank (u ++ v))) in
+          let along : Along (64 ∷ (s ++ v)) (64 ∷ s) (past_blank (u ++ v)) (past_blank u) =
+          past_blank-along 64 u v s sign_plain following in
+          let whole_after : IsUtf8 (s ++ v) =
+          utf8-behind (u ++ v) (s ++ v) 64 (omega arith) whole
+          (ends-ends (u ++ v) (past_blank (u ++ v)) (64 ∷ (s ++ v)) (ends-past_blank (u ++ v))
+          following) in
+          at_sign s (along-at 64 (s ++ v) s (past_blank (u ++ v)) (past_blank u) along start) none
+          (at_rule-cut s v w (w ++ v) whole_after cut refl
+          (subst (λ (t : List ℕ). AtRuleEnds edition t (w ++ v)) parts h))

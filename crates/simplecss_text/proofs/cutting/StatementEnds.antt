@@ -42,20 +42,20 @@ starts-is c (b ∷ text) e = rw e (ap (λ (x : ℕ). x ∷ text) (eqb-true b c e
 abbrev pub BehindBrace : List ℕ → List ℕ → Type 0
 BehindBrace text rest = (rest ≡ []) ⊎ Ends text (125 ∷ rest)
 
-behind-from : (text middle rest : List ℕ) → Ends text middle → BehindBrace middle rest
+after-from : (text middle rest : List ℕ) → Ends text middle → BehindBrace middle rest
     → BehindBrace text rest
-behind-from text middle rest h (inl e) = inl e
-behind-from text middle rest h (inr k) = inr (ends-ends text middle (125 ∷ rest) h k)
+after-from text middle rest h (inl e) = inl e
+after-from text middle rest h (inr k) = inr (ends-ends text middle (125 ∷ rest) h k)
 
-behind-brace : (text rest : List ℕ) → Ends text rest → (rest ≡ []) ⊎ (starts 125 rest ≡ true)
+after-brace : (text rest : List ℕ) → Ends text rest → (rest ≡ []) ⊎ (starts 125 rest ≡ true)
     → BehindBrace text (past_byte 125 rest)
-behind-brace text rest h (inl e) = inl (ap (past_byte 125) e)
-behind-brace text rest h (inr e) = inr (subst (Ends text) (starts-is 125 rest e) h)
+after-brace text rest h (inl e) = inl (ap (past_byte 125) e)
+after-brace text rest h (inr e) = inr (subst (Ends text) (starts-is 125 rest e) h)
 
-behind-further : (text rest : List ℕ) → BehindBrace text rest
+after-further : (text rest : List ℕ) → BehindBrace text rest
     → BehindBrace text (past_byte 125 rest)
-behind-further text rest (inl e) = inl (ap (past_byte 125) e)
-behind-further text rest (inr h) = by (starts 125 rest) refl
+after-further text rest (inl e) = inl (ap (past_byte 125) e)
+after-further text rest (inr h) = by (starts 125 rest) refl
   where
     by : (k : Bool) → starts 125 rest ≡ k → BehindBrace text (past_byte 125 rest)
     by true e =
@@ -68,100 +68,6 @@ behind-further text rest (inr h) = by (starts 125 rest) refl
 list_end : (text : List ℕ) → ends_list text ≡ true → (text ≡ []) ⊎ (starts 125 text ≡ true)
 list_end [] e = inl refl
 list_end (b ∷ text) e = inr (rw (not_empty b text) at e)
-
-broken-behind : (edition : Edition) (text : List ℕ) → found (declaration edition text) ≡ None
-    → BehindBrace text (past_byte 125 (past_broken (declaration edition text)))
-broken-behind edition text none =
-    by (declaration edition text) (declaration-stands edition text) none
-  where
-    by : (r : Reading StyleDeclaration) → Stands text no_texts r → found r ≡ None
-        → BehindBrace text (past_byte 125 (past_broken r))
-    by (got declared rest) h e = absurd (cc)
-    by (fails fault rest) h e =
-        behind-further text (past_byte 125 (from_block_end rest))
-        (behind-brace text (from_block_end rest)
-        (ends-ends text rest (from_block_end rest) h.at (ends-from_block_end rest)) (at_brace rest))
-
-block-behind : (edition : Edition) (text : List ℕ) → BehindBrace text (block edition text).1
-unfolding block
-block-behind edition text = by (ends_list a) refl
-  where
-    a : List ℕ
-    a = (each (declaration_in_block edition) text).1
-
-    left : Ends text a
-    left = each-ends (declaration_in_block edition) (declaration_in_block-ends edition) text
-
-    by : (k : Bool) → ends_list a ≡ k
-        → BehindBrace text (past_byte 125 (if k then a else past_broken (declaration edition a)))
-    by true e = behind-brace text a left (list_end a e)
-    by false e =
-        behind-from text a _ left
-        (broken-behind edition a
-        (none_broken edition a e
-        (each-stops (declaration_in_block edition) (declaration_in_block-takes edition) text)))
-
--- ---- rule sets
-
-next_block-behind : (edition : Edition) (text : List ℕ)
-    → BehindBrace text (next_block edition text).1
-unfolding next_block
-next_block-behind edition text = by (starts 123 opened)
-  where
-    opened : List ℕ
-    opened = past (λ b. not (b == 123)) text
-
-    inside : Ends text (past_one opened)
-    inside =
-        ends-ends text opened (past_one opened) (ends-past (λ b. not (b == 123)) text)
-        (ends-past_one opened)
-
-    by : (k : Bool) → BehindBrace text (if k then block edition (past_one opened) else ([], [])).1
-    by true = behind-from text (past_one opened) _ inside (block-behind edition (past_one opened))
-    by false = inl refl
-
-pub part-ends : (edition : Edition) (text : List ℕ) → Ends text (part edition text).1
-unfolding part
-part-ends edition text =
-    ends-ends text (reads edition text).1 (past is_space (reads edition text).1)
-    (reads-ends edition text) (ends-past is_space (reads edition text).1)
-
-pub part_and_comma-well : (edition : Edition) (text : List ℕ)
-    → WellFound text (part_and_comma edition text)
-part_and_comma-well edition text = by (starts 44 rest) refl
-  where
-    rest : List ℕ
-    rest = (part edition text).1
-
-    by : (k : Bool) → starts 44 rest ≡ k
-        → WellFound text (if k then Some ((part edition text).0, past_one rest) else None)
-    by true e =
-        well-behind 44 text (past_one rest) (omega arith)
-        (subst (Ends text) (starts-cons 44 rest e) (part-ends edition text))
-    by false e = tt
-
-pub part_and_comma-ends : (edition : Edition) (text : List ℕ)
-    → EndsFound text (part_and_comma edition text)
-part_and_comma-ends edition text =
-    found-ends text (part_and_comma edition text) (part_and_comma-well edition text)
-
-pub parts-ends : (edition : Edition) (text : List ℕ) → Ends text (parts edition text).1
-unfolding parts
-parts-ends edition text =
-    let rest = (each (part_and_comma edition) text).1 in
-    ends-ends text rest (part edition rest).1
-    (each-ends (part_and_comma edition) (part_and_comma-ends edition) text)
-    (part-ends edition rest)
-
--- a rule set uses up the text, or ends directly after a closing brace
-pub rule_set-behind : (edition : Edition) (text : List ℕ)
-    → BehindBrace text (rule_set edition text).1
-unfolding rule_set
-rule_set-behind edition text =
-    let head = (parts edition (past_byte 44 text)).1 in
-    behind-from text head _
-    (ends-ends text (past_byte 44 text) head (ends-past_byte 44 text)
-    (parts-ends edition (past_byte 44 text))) (next_block-behind edition head)
 
 -- ---- at-rules
 
@@ -184,39 +90,126 @@ neither_one b e f = by (b == 59) (rw f at e)
     by true h = refl
     by false h = absurd (cc)
 
-at_block-ends : (edition : Edition) (text n rest inner : List ℕ) → name edition text ≡ got n rest
-    → past (is_neither 59 123) rest ≡ 123 ∷ inner
-    → AtRuleEnds edition text (past_byte 125 (from_block_end inner))
-at_block-ends edition text n rest inner e f = by (at_brace inner)
-  where
-    by : (from_block_end inner ≡ []) ⊎ (starts 125 (from_block_end inner) ≡ true)
-        → AtRuleEnds edition text (past_byte 125 (from_block_end inner))
-    by (inl h) = rw h uses_up
-    by (inr h) =
-        at_block n rest inner (past_byte 125 (from_block_end inner)) e f
-        (starts-is 125 (from_block_end inner) h)
+module _ (edition : Edition) where
+  broken-after : (text : List ℕ) → found (declaration edition text) ≡ None
+      → BehindBrace text (past_byte 125 (past_broken (declaration edition text)))
+  broken-after text none =
+      by (declaration edition text) (declaration-stands edition text) none
+    where
+      by : (r : Reading StyleDeclaration) → Stands text no_texts r → found r ≡ None
+          → BehindBrace text (past_byte 125 (past_broken r))
+      by (got declared rest) h e = absurd (cc)
+      by (fails fault rest) h e =
+          after-further text (past_byte 125 (from_block_end rest))
+          (after-brace text (from_block_end rest)
+          (ends-ends text rest (from_block_end rest) h.at (ends-from_block_end rest))
+          (at_brace rest))
 
-at_end-ends : (edition : Edition) (text n rest : List ℕ) → name edition text ≡ got n rest
-    → (x : List ℕ) → past (is_neither 59 123) rest ≡ x
-    → AtRuleEnds edition text (past_semicolon_or_block x)
-at_end-ends edition text n rest e [] f = uses_up
-at_end-ends edition text n rest e (b ∷ x) f = by (b == 123) refl
-  where
-    by : (j : Bool) → (b == 123) ≡ j
-        → AtRuleEnds edition text
-        (if j then past_byte 125 (from_block_end x) else (if b == 59 then x else b ∷ x))
-    by true g = at_block-ends edition text n rest x e (f ∙ ap (λ (c : ℕ). c ∷ x) (eqb-true b 123 g))
-    by false g =
-        let semicolon : (b == 59) ≡ true =
-        neither_one b (past-stops (is_neither 59 123) rest b x f) g in
-        rw semicolon (at_semicolon n rest x e (f ∙ ap (λ (c : ℕ). c ∷ x) (eqb-true b 59 semicolon)))
+  block-after : (text : List ℕ) → BehindBrace text (block edition text).1
+  unfolding block
+  block-after text = by (ends_list a) refl
+    where
+      a : List ℕ
+      a = (each (declaration_in_block edition) text).1
 
-pub at_rule-ends : (edition : Edition) (text : List ℕ)
-    → AtRuleEnds edition text (at_rule_rest edition text)
-unfolding at_rule_rest
-at_rule-ends edition text = by (name edition text) refl
-  where
-    by : (r : Reading (List ℕ)) → name edition text ≡ r
-        → AtRuleEnds edition text (at_rule_rest_by_name r)
-    by (fails fault left) e = at_fault fault left e
-    by (got n rest) e = at_end-ends edition text n rest e (past (is_neither 59 123) rest) refl
+      left : Ends text a
+      left = each-ends (declaration_in_block edition) (declaration_in_block-ends edition) text
+
+      by : (k : Bool) → ends_list a ≡ k
+          → BehindBrace text (past_byte 125 (if k then a else past_broken (declaration edition a)))
+      by true e = after-brace text a left (list_end a e)
+      by false e =
+          after-from text a _ left (broken-after a (none_broken edition a e
+          (each-stops (declaration_in_block edition) (declaration_in_block-takes edition) text)))
+
+  -- ---- rule sets
+
+  next_block-behind : (text : List ℕ) → BehindBrace text (next_block edition text).1
+  unfolding next_block
+  next_block-behind text = by (starts 123 opened)
+    where
+      opened : List ℕ
+      opened = past (λ b. not (b == 123)) text
+
+      inside : Ends text (past_one opened)
+      inside =
+          ends-ends text opened (past_one opened) (ends-past (λ b. not (b == 123)) text)
+          (ends-past_one opened)
+
+      by : (k : Bool) → BehindBrace text (if k then block edition (past_one opened) else ([], [])).1
+      by true = after-from text (past_one opened) _ inside (block-after (past_one opened))
+      by false = inl refl
+
+  pub part-ends : (text : List ℕ) → Ends text (part edition text).1
+  unfolding part
+  part-ends text =
+      ends-ends text (reads edition text).1 (past is_space (reads edition text).1)
+      (reads-ends edition text) (ends-past is_space (reads edition text).1)
+
+  pub part_and_comma-well : (text : List ℕ) → WellFound text (part_and_comma edition text)
+  part_and_comma-well text = by (starts 44 rest) refl
+    where
+      rest : List ℕ
+      rest = (part edition text).1
+
+      by : (k : Bool) → starts 44 rest ≡ k
+          → WellFound text (if k then Some ((part edition text).0, past_one rest) else None)
+      by true e =
+          well-behind 44 text (past_one rest) (omega arith)
+          (subst (Ends text) (starts-cons 44 rest e) (part-ends text))
+      by false e = tt
+
+  pub part_and_comma-ends : (text : List ℕ) → EndsFound text (part_and_comma edition text)
+  part_and_comma-ends text =
+      found-ends text (part_and_comma edition text) (part_and_comma-well text)
+
+  pub parts-ends : (text : List ℕ) → Ends text (parts edition text).1
+  unfolding parts
+  parts-ends text =
+      let rest = (each (part_and_comma edition) text).1 in
+      ends-ends text rest (part edition rest).1
+      (each-ends (part_and_comma edition) part_and_comma-ends text) (part-ends rest)
+
+  -- a rule set uses up the text, or ends directly after a closing brace
+  pub rule_set-behind : (text : List ℕ) → BehindBrace text (rule_set edition text).1
+  unfolding rule_set
+  rule_set-behind text =
+      let head = (parts edition (past_byte 44 text)).1 in
+      after-from text head _ (ends-ends text (past_byte 44 text) head (ends-past_byte 44 text)
+      (parts-ends (past_byte 44 text))) (next_block-behind head)
+
+  at_block-ends : (text n rest inner : List ℕ) → name edition text ≡ got n rest
+      → past (is_neither 59 123) rest ≡ 123 ∷ inner
+      → AtRuleEnds edition text (past_byte 125 (from_block_end inner))
+  at_block-ends text n rest inner e f = by (at_brace inner)
+    where
+      by : (from_block_end inner ≡ []) ⊎ (starts 125 (from_block_end inner) ≡ true)
+          → AtRuleEnds edition text (past_byte 125 (from_block_end inner))
+      by (inl h) = rw h uses_up
+      by (inr h) =
+          at_block n rest inner (past_byte 125 (from_block_end inner)) e f
+          (starts-is 125 (from_block_end inner) h)
+
+  at_end-ends : (text n rest : List ℕ) → name edition text ≡ got n rest → (x : List ℕ)
+      → past (is_neither 59 123) rest ≡ x → AtRuleEnds edition text (past_semicolon_or_block x)
+  at_end-ends text n rest e [] f = uses_up
+  at_end-ends text n rest e (b ∷ x) f = by (b == 123) refl
+    where
+      by : (j : Bool) → (b == 123) ≡ j
+          → AtRuleEnds edition text
+          (if j then past_byte 125 (from_block_end x) else (if b == 59 then x else b ∷ x))
+      by true g = at_block-ends text n rest x e (f ∙ ap (λ (c : ℕ). c ∷ x) (eqb-true b 123 g))
+      by false g =
+          let semicolon : (b == 59) ≡ true =
+          neither_one b (past-stops (is_neither 59 123) rest b x f) g in
+          rw semicolon (at_semicolon n rest x e (f ∙ ap (λ (c : ℕ). c ∷ x)
+          (eqb-true b 59 semicolon)))
+
+  pub at_rule-ends : (text : List ℕ) → AtRuleEnds edition text (at_rule_rest edition text)
+  unfolding at_rule_rest
+  at_rule-ends text = by (name edition text) refl
+    where
+      by : (r : Reading (List ℕ)) → name edition text ≡ r
+          → AtRuleEnds edition text (at_rule_rest_by_name r)
+      by (fails fault left) e = at_fault fault left e
+      by (got n rest) e = at_end-ends text n rest e (past (is_neither 59 123) rest) refl

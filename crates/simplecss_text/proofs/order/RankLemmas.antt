@@ -114,7 +114,7 @@ module _ {X : Type 0} (lt : X → X → Bool) (o : IsStrictWeakOrder lt) where
       self_at z zs k y (lt z y) refl (all_at (λ w. lt w z ≡ false) zs k d r.0 short)
       (self zs k d r.1 short)
 
--- ---- the list that the ranks give
+-- ---- the list in the order of the ranks
 
 module _ {X : Type 0} (lt : X → X → Bool) (o : IsStrictWeakOrder lt) where
   -- the element of rank k is the one at k of the sorted list
@@ -260,9 +260,8 @@ module _ {X : Type 0} (lt : X → X → Bool) (o : IsStrictWeakOrder lt) where
       absurd (cc)
 
   swapped : (w x y : X) (zs : List X) (b c : Bool) → ties lt w x ≡ b → ties lt w y ≡ c
-      → lt y x ≡ true
-      → cond c (y ∷ cond b (x ∷ zs) zs) (cond b (x ∷ zs) zs) ≡ cond b (x ∷ cond c (y ∷ zs) zs)
-      (cond c (y ∷ zs) zs)
+      → lt y x ≡ true → cond c (y ∷ cond b (x ∷ zs) zs) (cond b (x ∷ zs) zs)
+      ≡ cond b (x ∷ cond c (y ∷ zs) zs) (cond c (y ∷ zs) zs)
   swapped w x y zs true true p q less = absurd (not_both w x y less p q)
   swapped w x y zs true false p q less = refl
   swapped w x y zs false true p q less = refl
@@ -334,8 +333,8 @@ module _ {X : Type 0} (lt : X → X → Bool) (o : IsStrictWeakOrder lt) where
   ordered_twice xs = ordered_same (ordered_by lt xs) (ordered_arranges xs).rises
 
   -- to order a part first changes nothing
-  pub ordered_front : (xs zs : List X)
-      → ordered_by lt (ordered_by lt xs ++ zs) ≡ ordered_by lt (xs ++ zs)
+  pub ordered_front : (xs zs : List X) → ordered_by lt (ordered_by lt xs ++ zs)
+      ≡ ordered_by lt (xs ++ zs)
   ordered_front xs zs =
       let a = ordered_arranges xs in
       let b = ordered_arranges (ordered_by lt xs ++ zs) in

@@ -3,7 +3,7 @@
 -- again).
 use Rattle.std.proofs.Common.{◌&&◌, ◌<◌, ◌≡◌, ℕ, zero, suc, List, [], ◌∷◌, ◌++◌, Bool, true, false, if◌then◌else◌, ◌==◌, length, Option, Some, None, refl, ap, subst, IsUtf8, eqb-true}
 use Rattle.std.specs.List.{AllByRecursion}
-use Rattle.simplecss_text.specs.Reading.{wrong_byte, Reading, got, fails, Reader, follow, and_then, up_to, each, Ends}
+use Rattle.simplecss_text.specs.Reading.{Reading, got, fails, Reader, follow, and_then, up_to, each, Ends}
 use Rattle.simplecss_text.specs.Bytes.{byte, past_one, starts, starts_two, after_byte}
 use Rattle.simplecss_text.specs.Comments.{after_close, opens_comment}
 use Rattle.simplecss_text.proofs.bytes.Utf8Laws.{utf8-behind}
@@ -48,8 +48,8 @@ if_got-weaker P Q (fails fault rest) n h = tt
 pub byte-is : (c : ℕ) (text : List ℕ) → IfGot (λ u rest. text ≡ c ∷ rest) (byte c text)
 byte-is c [] = tt
 byte-is c (b ∷ text) =
-    if_got-if (λ u rest. b ∷ text ≡ c ∷ rest) (b == c) (got tt text)
-    (fails (wrong_byte c (b ∷ text)) (b ∷ text)) (λ e. ap (λ k. k ∷ text) (eqb-true b c e))
+    if_got-if (λ u rest. b ∷ text ≡ c ∷ rest) (b == c) _ _
+    (λ e. ap (λ k. k ∷ text) (eqb-true b c e))
     (λ e. tt)
 
 -- where something is left, it follows this byte of the text
@@ -58,10 +58,10 @@ IfBehind c text None = Unit {0}
 IfBehind c text (Some rest) = (front : List ℕ) × (text ≡ front ++ (c ∷ rest))
 
 -- one byte more in front
-behind-later : (c b : ℕ) (text : List ℕ) (o : Option (List ℕ)) → IfBehind c text o
+follows-later : (c b : ℕ) (text : List ℕ) (o : Option (List ℕ)) → IfBehind c text o
     → IfBehind c (b ∷ text) o
-behind-later c b text None h = tt
-behind-later c b text (Some rest) h = (b ∷ h.0, ap (λ l. b ∷ l) h.1)
+follows-later c b text None h = tt
+follows-later c b text (Some rest) h = (b ∷ h.0, ap (λ l. b ∷ l) h.1)
 
 -- what is left after the byte follows it
 pub after_byte-behind : (c : ℕ) (text : List ℕ) → IfBehind c text (after_byte c text)
@@ -71,7 +71,7 @@ after_byte-behind c (b ∷ text) = by (b == c) refl (after_byte-behind c text)
     by : (t : Bool) → (b == c) ≡ t → IfBehind c text (after_byte c text)
         → IfBehind c (b ∷ text) (if t then Some text else after_byte c text)
     by true e more = ([], ap (λ k. k ∷ text) (eqb-true b c e))
-    by false e more = behind-later c b text (after_byte c text) more
+    by false e more = follows-later c b text (after_byte c text) more
 
 -- a byte that begins a text
 pub starts-cons : (c : ℕ) (text : List ℕ) → starts c text ≡ true → text ≡ c ∷ past_one text
@@ -104,7 +104,7 @@ after_close-behind (b ∷ text) = by (starts_two 42 47 (b ∷ text)) refl (after
         → IfBehind 47 (b ∷ text) (if t then Some (past_one text) else after_close text)
     by true e more =
         (b ∷ [], ap (λ l. b ∷ l) (starts-cons 47 text (both_true (b == 42) (starts 47 text) e).1))
-    by false e more = behind-later 47 b text (after_close text) more
+    by false e more = follows-later 47 b text (after_close text) more
 
 -- where something was taken off a text, this holds of it, and that of what is left
 abbrev pub IfTaken : {A : Type 0} → (A → Type 0) → (List ℕ → Type 0) → Option (A × List ℕ) → Type 0

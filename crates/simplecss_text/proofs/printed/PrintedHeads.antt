@@ -18,7 +18,7 @@ use Rattle.simplecss_text.specs.Selectors.Part.{any_type, of_type}
 use Rattle.simplecss_text.specs.Printing.{type_text}
 use Rattle.simplecss_text.proofs.reading.EachLaws.{each-none, each-some}
 use Rattle.simplecss_text.proofs.reading.TakesLaws.{blank_part-takes}
-use Rattle.simplecss_text.proofs.printed.PrintedNames.{IsName, name-reads, ends_names, begins_any_name}
+use Rattle.simplecss_text.proofs.printed.PrintedNames.{IsName, name-reads, ends_names, begins_any_name, in_either}
 
 -- a byte that may begin a name: a name character, or one past ASCII
 abbrev pub IsNameByte : Edition → ℕ → Type 0
@@ -75,9 +75,10 @@ name-first edition n w = by n w.letters w.spell w.begins w.pass
         }
 
 -- a byte of a name is no other ASCII byte
-pub other_byte : (edition : Edition) (k b : ℕ) → k < 128 → is_name_char edition k ≡ false
+pub other_byte : (edition : Edition) (k b : ℕ) → k < 128
+    → is_name_char first_edition k ≡ false → is_name_char second_edition k ≡ false
     → IsNameByte edition b → (b == k) ≡ false
-other_byte edition k b less e0 h = by (b == k) refl h
+other_byte edition k b less e0 f0 h = by (b == k) refl h
   where
     by : (t : Bool) → (b == k) ≡ t → IsNameByte edition b → t ≡ false
     by false e w = refl
@@ -85,6 +86,7 @@ other_byte edition k b less e0 h = by (b == k) refl h
     by true e (inr w) =
         let same : b ≡ k = eqb-true b k e in
         let yes : is_name_char edition k ≡ true = ap (is_name_char edition) (sym same) ∙ w in
+        let no = in_either (λ edition. is_name_char edition k ≡ false) e0 f0 edition in
         absurd (cc)
 
 -- no gap begins there, nor an open comment
@@ -131,23 +133,17 @@ pub no_gap-name : (edition : Edition) (b : ℕ) (text : List ℕ) → IsNameByte
 no_gap-name edition b text w =
     no_gap-byte b text
     (rw (
-      no 32 (omega arith) (low edition).0,
-      no 9 (omega arith) (low edition).1,
-      no 10
-          (omega arith) (low edition).2,
-      no 13 (omega arith) (low edition).3,
-      no 12 (omega arith)
-          (low edition).4,
-    ) refl) (no 47 (omega arith) (low edition).5)
+      no 32 (omega arith) refl refl,
+      no 9 (omega arith) refl refl,
+      no 10 (omega arith) refl refl,
+      no 13 (omega arith) refl refl,
+      no 12 (omega arith) refl refl,
+    ) refl)
+    (no 47 (omega arith) refl refl)
   where
-    low : (edition : Edition) → (is_name_char edition 32 ≡ false) × (is_name_char edition 9 ≡ false)
-        × (is_name_char edition 10 ≡ false) × (is_name_char edition 13 ≡ false)
-        × (is_name_char edition 12 ≡ false) × (is_name_char edition 47 ≡ false)
-    low first_edition = (refl, refl, refl, refl, refl, refl)
-    low second_edition = (refl, refl, refl, refl, refl, refl)
-
-    no : (k : ℕ) → k < 128 → is_name_char edition k ≡ false → (b == k) ≡ false
-    no k less e = other_byte edition k b less e w
+    no : (k : ℕ) → k < 128 → is_name_char first_edition k ≡ false
+        → is_name_char second_edition k ≡ false → (b == k) ≡ false
+    no k less e f = other_byte edition k b less e f w
 
 named_token-type : (edition : Edition) (n tail : List ℕ) → IsName edition n
     → ends_names edition tail ≡ false
@@ -161,38 +157,28 @@ solid-name_byte : (edition : Edition) (b : ℕ) (text : List ℕ) → IsNameByte
 unfolding solid next_kind
 solid-name_byte edition b text w =
     rw (
-      no 44 (omega arith) (low edition).0,
-      no 123 (omega arith) (low edition).1,
-      no 47
-          (omega arith) (low edition).2,
-      no 62 (omega arith) (low edition).3,
-      no 43 (omega arith)
-          (low edition).4,
-      no 42 (omega arith) (low edition).5,
-      no 35 (omega arith) (low edition).6,
-      no 46 (omega arith) (low edition).7,
-      no 91 (omega arith) (low edition).8,
-      no 58
-          (omega arith) (low edition).9,
+      no 44 (omega arith) refl refl,
+      no 123 (omega arith) refl refl,
+      no 47 (omega arith) refl
+          refl,
+      no 62 (omega arith) refl refl,
+      no 43 (omega arith) refl refl,
+      no 42 (omega arith) refl refl,
+      no 35 (omega arith) refl refl,
+      no 46 (omega arith) refl refl,
+      no 91 (omega arith) refl refl,
+      no 58 (omega arith) refl refl,
     ) refl
   where
-    low : (edition : Edition)
-        → (is_name_char edition 44 ≡ false) × (is_name_char edition 123 ≡ false)
-        × (is_name_char edition 47 ≡ false) × (is_name_char edition 62 ≡ false)
-        × (is_name_char edition 43 ≡ false) × (is_name_char edition 42 ≡ false)
-        × (is_name_char edition 35 ≡ false) × (is_name_char edition 46 ≡ false)
-        × (is_name_char edition 91 ≡ false) × (is_name_char edition 58 ≡ false)
-    low first_edition = (refl, refl, refl, refl, refl, refl, refl, refl, refl, refl)
-    low second_edition = (refl, refl, refl, refl, refl, refl, refl, refl, refl, refl)
-
-    no : (k : ℕ) → k < 128 → is_name_char edition k ≡ false → (b == k) ≡ false
-    no k less e = other_byte edition k b less e w
+    no : (k : ℕ) → k < 128 → is_name_char first_edition k ≡ false
+        → is_name_char second_edition k ≡ false → (b == k) ≡ false
+    no k less e f = other_byte edition k b less e f w
 
 -- What the type of a component satisfies that was read, where this text follows it. A hyphen
 -- alone is a type only where it ends the text.
 abbrev pub IsTypeName : Edition → Option (List ℕ) → List ℕ → Type 0
-IsTypeName edition None behind = Unit {0}
-IsTypeName edition (Some n) behind = IsName edition n ⊎ ((n ≡ 45 ∷ []) × (behind ≡ []))
+IsTypeName edition None following = Unit {0}
+IsTypeName edition (Some n) following = IsName edition n ⊎ ((n ≡ 45 ∷ []) × (following ≡ []))
 
 hyphen-reads : (edition : Edition) → solid edition (45 ∷ []) ≡ got (type_selector (45 ∷ [])) []
 unfolding solid next_kind named_token name past_name_chars chars encode

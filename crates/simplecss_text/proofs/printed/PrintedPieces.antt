@@ -22,7 +22,7 @@ use Rattle.simplecss_text.specs.Selectors.{role_of}
 use Rattle.simplecss_text.specs.Selectors.Part.{with}
 use Rattle.simplecss_text.specs.Selectors.Role.{part}
 use Rattle.simplecss_text.specs.Printing.{pseudo_class_text, operator_text, subselector_text, escaped_after, is_clean_operator, is_clean_subselector}
-use Rattle.simplecss_text.proofs.printed.PrintedNames.{IsName, name-reads, ends_names, ends_names-byte, prefix_len-whole, begins_any_name}
+use Rattle.simplecss_text.proofs.printed.PrintedNames.{IsName, name-reads, ends_names, ends_names-byte, prefix_len-whole, begins_any_name, in_either}
 
 -- the last byte of a text, before which is `previous`
 abbrev pub last_after : ℕ → List ℕ → ℕ
@@ -94,30 +94,6 @@ last-start : (v : List ℕ) → IsValue v → (last_after 39 v == 92) ≡ false
 last-start [] h = refl
 last-start (b ∷ v) h = h
 
--- a clean value is read back between apostrophes
-string-reads : (edition : Edition) (v tail : List ℕ) → IsValue v → escaped_after 0 v ≡ true
-    → string_or_name edition (39 ∷ (v ++ (39 ∷ tail))) ≡ got v tail
-unfolding string_or_name
-string-reads edition v tail l c =
-    let closes = from_quote-clean 39 v tail (escaped-start v ∙ c) (last-start v l) in
-    let value = before-append v (39 ∷ tail) in
-    rw (closes, value) refl
-
--- one that is not clean is cut short
-pub string-cut : (edition : Edition) (v tail : List ℕ) → escaped_after 0 v ≡ false
-    → (front more : List ℕ) × (v ≡ front ++ (39 ∷ more))
-    × (string_or_name edition (39 ∷ (v ++ tail)) ≡ got front (more ++ tail))
-unfolding string_or_name
-string-cut edition v tail c =
-    let s = from_quote-unclean 39 v tail (escaped-start v ∙ c) in
-    let closing = 39 ∷ (s.more ++ tail) in
-    let text : v ++ tail ≡ s.front ++ (39 ∷ (s.more ++ tail)) =
-    ap (λ l. l ++ tail) s.is ∙ append_assoc s.front (39 ∷ s.more) tail in
-    let value : before (v ++ tail) (39 ∷ (s.more ++ tail)) ≡ s.front =
-    ap (λ l. before l (39 ∷ (s.more ++ tail))) text
-    ∙ before-append s.front (39 ∷ (s.more ++ tail)) in
-    (s.front, s.more, s.is, rw (s.closes, value) refl)
-
 -- its value ends with no backslash
 abbrev pub IsOperator : Operator → Type 0
 IsOperator exists = Unit {0}
@@ -129,52 +105,13 @@ IsOperator (begins_with value) = IsValue value
 pub quoted : (v tail : List ℕ) → (v ++ (39 ∷ [])) ++ (93 ∷ tail) ≡ v ++ (39 ∷ (93 ∷ tail))
 quoted v tail = append_assoc v (39 ∷ []) (93 ∷ tail)
 
--- an equals sign and a clean value are read back
-equated-reads : (edition : Edition) (operator : List ℕ → Operator) (v tail : List ℕ) → IsValue v
-    → escaped_after 0 v ≡ true
-    → equated edition operator (61 ∷ (39 ∷ ((v ++ (39 ∷ [])) ++ (93 ∷ tail)))) ≡ got (operator v)
-    (93 ∷ tail)
-equated-reads edition operator v tail l c =
-    let s = string-reads edition v (93 ∷ tail) l c in rw (quoted v tail, s) refl
-
--- so is what is required of an attribute
-operator-reads : (edition : Edition) (o : Operator) (tail : List ℕ) → IsOperator o
-    → is_clean_operator o ≡ true → attribute_operator edition (operator_text o ++ (93 ∷ tail))
-    ≡ got o (93 ∷ tail)
-unfolding attribute_operator
-operator-reads edition exists tail w c = refl
-operator-reads edition (equals v) tail w c = equated-reads edition equals v tail w c
-operator-reads edition (has_word v) tail w c = equated-reads edition has_word v tail w c
-operator-reads edition (begins_with v) tail w c = equated-reads edition begins_with v tail w c
-
 -- no name continues with it
 pub operator-ends : (edition : Edition) (o : Operator) (tail : List ℕ)
     → ends_names edition (operator_text o ++ (93 ∷ tail)) ≡ false
-operator-ends first_edition exists tail = ends_names-byte first_edition 93 _ (omega arith) refl
-operator-ends first_edition (equals v) tail = ends_names-byte first_edition 61 _ (omega arith) refl
-operator-ends first_edition (has_word v) tail =
-    ends_names-byte first_edition 126 _ (omega arith) refl
-operator-ends first_edition (begins_with v) tail =
-    ends_names-byte first_edition 124 _ (omega arith) refl
-operator-ends second_edition exists tail = ends_names-byte second_edition 93 _ (omega arith) refl
-operator-ends second_edition (equals v) tail =
-    ends_names-byte second_edition 61 _ (omega arith) refl
-operator-ends second_edition (has_word v) tail =
-    ends_names-byte second_edition 126 _ (omega arith) refl
-operator-ends second_edition (begins_with v) tail =
-    ends_names-byte second_edition 124 _ (omega arith) refl
-
--- so is a clean attribute after its bracket
-attribute-reads : (edition : Edition) (n : List ℕ) (o : Operator) (tail : List ℕ) → IsName edition n
-    → IsOperator o → is_clean_operator o ≡ true
-    → attribute_after edition (n ++ (operator_text o ++ (93 ∷ tail))) ≡ got (attribute_selector n o)
-    tail
-unfolding attribute_after
-attribute-reads edition n o tail w x c =
-    let first =
-    name-reads edition n (operator_text o ++ (93 ∷ tail)) w (operator-ends edition o tail) in
-    let second = operator-reads edition o tail x c in
-    rw (first, second) refl
+operator-ends edition exists tail = ends_names-byte edition 93 _ (omega arith) refl refl
+operator-ends edition (equals v) tail = ends_names-byte edition 61 _ (omega arith) refl refl
+operator-ends edition (has_word v) tail = ends_names-byte edition 126 _ (omega arith) refl refl
+operator-ends edition (begins_with v) tail = ends_names-byte edition 124 _ (omega arith) refl refl
 
 -- a language, without white space round it and without a closing parenthesis
 pub record IsLanguage (v : List ℕ) : Type 0 where
@@ -213,45 +150,17 @@ IsClass focus = Unit {0}
 IsClass (lang v) = IsLanguage v
 
 -- a name of ASCII letters and hyphens
-abbrev pub word_name : (edition : Edition) (n : List ℕ) → all_scalars n ≡ true
-    → encode_utf8_all n ≡ n → list_all (is_name_char edition) n ≡ true
-    → begins_any_name edition n ≡ true → IsName edition n
-word_name edition n s e p b = record { letters = n; scalars = s; spell = e; pass = p; begins = b }
-
-first_child_name : (edition : Edition) → IsName edition (codes "first-child")
-unfolding encode
-first_child_name first_edition = word_name first_edition (codes "first-child") refl refl refl refl
-first_child_name second_edition = word_name second_edition (codes "first-child") refl refl refl refl
-
-link_name : (edition : Edition) → IsName edition (codes "link")
-unfolding encode
-link_name first_edition = word_name first_edition (codes "link") refl refl refl refl
-link_name second_edition = word_name second_edition (codes "link") refl refl refl refl
-
-visited_name : (edition : Edition) → IsName edition (codes "visited")
-unfolding encode
-visited_name first_edition = word_name first_edition (codes "visited") refl refl refl refl
-visited_name second_edition = word_name second_edition (codes "visited") refl refl refl refl
-
-hover_name : (edition : Edition) → IsName edition (codes "hover")
-unfolding encode
-hover_name first_edition = word_name first_edition (codes "hover") refl refl refl refl
-hover_name second_edition = word_name second_edition (codes "hover") refl refl refl refl
-
-active_name : (edition : Edition) → IsName edition (codes "active")
-unfolding encode
-active_name first_edition = word_name first_edition (codes "active") refl refl refl refl
-active_name second_edition = word_name second_edition (codes "active") refl refl refl refl
-
-focus_name : (edition : Edition) → IsName edition (codes "focus")
-unfolding encode
-focus_name first_edition = word_name first_edition (codes "focus") refl refl refl refl
-focus_name second_edition = word_name second_edition (codes "focus") refl refl refl refl
+pub word_name : {n : List ℕ} → all_scalars n ≡ true → encode_utf8_all n ≡ n
+    → list_all (is_name_char first_edition) n ≡ true
+    → list_all (is_name_char second_edition) n ≡ true → begins_any_name first_edition n ≡ true
+    → begins_any_name second_edition n ≡ true → (edition : Edition) → IsName edition n
+word_name {n} s e p q b c = in_either (λ edition. IsName edition n)
+    (record { letters = n; scalars = s; spell = e; pass = p; begins = b })
+    (record { letters = n; scalars = s; spell = e; pass = q; begins = c })
 
 lang_name : (edition : Edition) → IsName edition (codes "lang")
 unfolding encode
-lang_name first_edition = word_name first_edition (codes "lang") refl refl refl refl
-lang_name second_edition = word_name second_edition (codes "lang") refl refl refl refl
+lang_name = word_name refl refl refl refl refl refl
 
 -- the token of a printed pseudo-class
 abbrev pub class_token : KnownPseudoClass → Token
@@ -263,48 +172,12 @@ class_token active = named_pseudo_class (codes "active")
 class_token focus = named_pseudo_class (codes "focus")
 class_token (lang v) = lang_pseudo_class v
 
-named-reads : (edition : Edition) (n tail : List ℕ) → IsName edition n
-    → bytes_eq n (codes "lang") ≡ false → ends_names edition tail ≡ false
-    → pseudo_class_after edition (n ++ tail) ≡ got (named_pseudo_class n) tail
-unfolding pseudo_class_after
-named-reads edition n tail w l s =
-    ap (λ r. follow r pseudo_class_named) (name-reads edition n tail w s) ∙ rw l refl
-
 open_ends : (edition : Edition) (text : List ℕ) → ends_names edition (40 ∷ text) ≡ false
-open_ends first_edition text = ends_names-byte first_edition 40 text (omega arith) refl
-open_ends second_edition text = ends_names-byte second_edition 40 text (omega arith) refl
+open_ends edition text = ends_names-byte edition 40 text (omega arith) refl refl
 
 closed : (v tail : List ℕ)
     → (codes "lang(" ++ (v ++ codes ")")) ++ tail ≡ codes "lang" ++ (40 ∷ (v ++ (41 ∷ tail)))
 closed v tail = ap (λ l. codes "lang(" ++ l) (append_assoc v (codes ")") tail)
-
-lang_class-reads : (edition : Edition) (v tail : List ℕ) → IsLanguage v
-    → pseudo_class_after edition (codes "lang" ++ (40 ∷ (v ++ (41 ∷ tail))))
-    ≡ got (lang_pseudo_class v) tail
-unfolding pseudo_class_after
-lang_class-reads edition v tail w =
-    ap (λ r. follow r pseudo_class_named)
-    (name-reads edition (codes "lang") (40 ∷ (v ++ (41 ∷ tail))) (lang_name edition)
-    (open_ends edition (v ++ (41 ∷ tail)))) ∙ lang-reads v tail w
-
--- a pseudo-class is read back
-class-reads : (edition : Edition) (class : KnownPseudoClass) (tail : List ℕ) → IsClass class
-    → ends_names edition tail ≡ false → pseudo_class_after edition (pseudo_class_text class ++ tail)
-    ≡ got (class_token class) tail
-class-reads edition first_child tail w s =
-    named-reads edition (codes "first-child") tail (first_child_name edition) refl s
-class-reads edition link tail w s =
-    named-reads edition (codes "link") tail (link_name edition) refl s
-class-reads edition visited tail w s =
-    named-reads edition (codes "visited") tail (visited_name edition) refl s
-class-reads edition hover tail w s =
-    named-reads edition (codes "hover") tail (hover_name edition) refl s
-class-reads edition active tail w s =
-    named-reads edition (codes "active") tail (active_name edition) refl s
-class-reads edition focus tail w s =
-    named-reads edition (codes "focus") tail (focus_name edition) refl s
-class-reads edition (lang v) tail w s =
-    ap (pseudo_class_after edition) (closed v tail) ∙ lang_class-reads edition v tail w
 
 -- what a subselector that was read satisfies
 abbrev pub IsSubselector : Edition → Subselector → Type 0
@@ -335,25 +208,111 @@ printed_token-role (pseudo_class class) = class-role class
 pub bracketed : (n o tail : List ℕ) → ((n ++ o) ++ (93 ∷ [])) ++ tail ≡ n ++ (o ++ (93 ∷ tail))
 bracketed n o tail = append_assoc (n ++ o) (93 ∷ []) tail ∙ append_assoc n o (93 ∷ tail)
 
--- a bracket begins an attribute, and a colon a pseudo-class
-pub solid-attribute : (edition : Edition) (text : List ℕ)
-    → solid edition (91 ∷ text) ≡ attribute_after edition text
-unfolding solid next_kind
-solid-attribute edition text = refl
+module _ (edition : Edition) where
+  -- a clean value is read back between apostrophes
+  string-reads : (v tail : List ℕ) → IsValue v → escaped_after 0 v ≡ true
+      → string_or_name edition (39 ∷ (v ++ (39 ∷ tail))) ≡ got v tail
+  unfolding string_or_name
+  string-reads v tail l c =
+      let closes = from_quote-clean 39 v tail (escaped-start v ∙ c) (last-start v l) in
+      let value = before-append v (39 ∷ tail) in
+      rw (closes, value) refl
 
-solid-pseudo_class : (edition : Edition) (text : List ℕ)
-    → solid edition (58 ∷ text) ≡ pseudo_class_after edition text
-unfolding solid next_kind
-solid-pseudo_class edition text = refl
+  -- one that is not clean is cut short
+  pub string-cut : (v tail : List ℕ) → escaped_after 0 v ≡ false
+      → (front more : List ℕ) × (v ≡ front ++ (39 ∷ more))
+      × (string_or_name edition (39 ∷ (v ++ tail)) ≡ got front (more ++ tail))
+  unfolding string_or_name
+  string-cut v tail c =
+      let s = from_quote-unclean 39 v tail (escaped-start v ∙ c) in
+      let closing = 39 ∷ (s.more ++ tail) in
+      let text : v ++ tail ≡ s.front ++ (39 ∷ (s.more ++ tail)) =
+      ap (λ l. l ++ tail) s.is ∙ append_assoc s.front (39 ∷ s.more) tail in
+      let value : before (v ++ tail) (39 ∷ (s.more ++ tail)) ≡ s.front =
+      ap (λ l. before l (39 ∷ (s.more ++ tail))) text
+      ∙ before-append s.front (39 ∷ (s.more ++ tail)) in
+      (s.front, s.more, s.is, rw (s.closes, value) refl)
 
--- a printed subselector is one solid piece
-pub subselector-reads : (edition : Edition) (s : Subselector) (tail : List ℕ)
-    → IsSubselector edition s → is_clean_subselector s ≡ true → ends_names edition tail ≡ false
-    → solid edition (subselector_text s ++ tail) ≡ got (printed_token s) tail
-subselector-reads edition (attribute n o) tail w c e =
-    solid-attribute edition (((n ++ operator_text o) ++ (93 ∷ [])) ++ tail)
-    ∙ ap (attribute_after edition) (bracketed n (operator_text o) tail)
-    ∙ attribute-reads edition n o tail w.0 w.1 c
-subselector-reads edition (pseudo_class class) tail w c e =
-    solid-pseudo_class edition (pseudo_class_text class ++ tail)
-    ∙ class-reads edition class tail w e
+  -- an equals sign and a clean value are read back
+  equated-reads : (operator : List ℕ → Operator) (v tail : List ℕ) → IsValue v
+      → escaped_after 0 v ≡ true → equated edition operator
+      (61 ∷ (39 ∷ ((v ++ (39 ∷ [])) ++ (93 ∷ tail)))) ≡ got (operator v) (93 ∷ tail)
+  equated-reads operator v tail l c =
+      let s = string-reads v (93 ∷ tail) l c in rw (quoted v tail, s) refl
+
+  -- so is what is required of an attribute
+  operator-reads : (o : Operator) (tail : List ℕ) → IsOperator o → is_clean_operator o ≡ true
+      → attribute_operator edition (operator_text o ++ (93 ∷ tail)) ≡ got o (93 ∷ tail)
+  unfolding attribute_operator
+  operator-reads exists tail w c = refl
+  operator-reads (equals v) tail w c = equated-reads equals v tail w c
+  operator-reads (has_word v) tail w c = equated-reads has_word v tail w c
+  operator-reads (begins_with v) tail w c = equated-reads begins_with v tail w c
+
+  -- so is a clean attribute after its bracket
+  attribute-reads : (n : List ℕ) (o : Operator) (tail : List ℕ) → IsName edition n → IsOperator o
+      → is_clean_operator o ≡ true → attribute_after edition (n ++ (operator_text o ++ (93 ∷ tail)))
+      ≡ got (attribute_selector n o) tail
+  unfolding attribute_after
+  attribute-reads n o tail w x c =
+      let first =
+      name-reads edition n (operator_text o ++ (93 ∷ tail)) w (operator-ends edition o tail) in
+      let second = operator-reads o tail x c in
+      rw (first, second) refl
+
+  named-reads : (n tail : List ℕ) → IsName edition n → bytes_eq n (codes "lang") ≡ false
+      → ends_names edition tail ≡ false → pseudo_class_after edition (n ++ tail)
+      ≡ got (named_pseudo_class n) tail
+  unfolding pseudo_class_after
+  named-reads n tail w l s =
+      ap (λ r. follow r pseudo_class_named) (name-reads edition n tail w s) ∙ rw l refl
+
+  lang_class-reads : (v tail : List ℕ) → IsLanguage v
+      → pseudo_class_after edition (codes "lang" ++ (40 ∷ (v ++ (41 ∷ tail))))
+      ≡ got (lang_pseudo_class v) tail
+  unfolding pseudo_class_after
+  lang_class-reads v tail w =
+      ap (λ r. follow r pseudo_class_named)
+      (name-reads edition (codes "lang") (40 ∷ (v ++ (41 ∷ tail))) (lang_name edition)
+      (open_ends edition (v ++ (41 ∷ tail)))) ∙ lang-reads v tail w
+
+  -- a pseudo-class is read back
+  class-reads : (class : KnownPseudoClass) (tail : List ℕ) → IsClass class
+      → ends_names edition tail ≡ false → pseudo_class_after edition
+      (pseudo_class_text class ++ tail) ≡ got (class_token class) tail
+  unfolding encode
+  class-reads first_child tail w s = named-reads (codes "first-child") tail
+      (word_name refl refl refl refl refl refl edition) refl s
+  class-reads link tail w s = named-reads (codes "link") tail
+      (word_name refl refl refl refl refl refl edition) refl s
+  class-reads visited tail w s = named-reads (codes "visited") tail
+      (word_name refl refl refl refl refl refl edition) refl s
+  class-reads hover tail w s = named-reads (codes "hover") tail
+      (word_name refl refl refl refl refl refl edition) refl s
+  class-reads active tail w s = named-reads (codes "active") tail
+      (word_name refl refl refl refl refl refl edition) refl s
+  class-reads focus tail w s = named-reads (codes "focus") tail
+      (word_name refl refl refl refl refl refl edition) refl s
+  class-reads (lang v) tail w s =
+      ap (pseudo_class_after edition) (closed v tail) ∙ lang_class-reads v tail w
+
+  -- a bracket begins an attribute, and a colon a pseudo-class
+  pub solid-attribute : (text : List ℕ) → solid edition (91 ∷ text) ≡ attribute_after edition text
+  unfolding solid next_kind
+  solid-attribute text = refl
+
+  solid-pseudo_class : (text : List ℕ) → solid edition (58 ∷ text) ≡ pseudo_class_after edition text
+  unfolding solid next_kind
+  solid-pseudo_class text = refl
+
+  -- a printed subselector is one solid piece
+  pub subselector-reads : (s : Subselector) (tail : List ℕ) → IsSubselector edition s
+      → is_clean_subselector s ≡ true → ends_names edition tail ≡ false
+      → solid edition (subselector_text s ++ tail) ≡ got (printed_token s) tail
+  subselector-reads (attribute n o) tail w c e =
+      solid-attribute (((n ++ operator_text o) ++ (93 ∷ [])) ++ tail)
+      ∙ ap (attribute_after edition) (bracketed n (operator_text o) tail)
+      ∙ attribute-reads n o tail w.0 w.1 c
+  subselector-reads (pseudo_class class) tail w c e =
+      solid-pseudo_class (pseudo_class_text class ++ tail)
+      ∙ class-reads class tail w e

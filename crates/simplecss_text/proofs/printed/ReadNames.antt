@@ -8,7 +8,7 @@ use Rattle.std.proofs.lemmas.Str.{chars-encodes, encodes-append}
 use Rattle.std.proofs.lemmas.List.{take-append-drop}
 use Rattle.std.proofs.lemmas.List.Sums.{take_while-cons}
 use Rattle.std.proofs.Math.Seq.{drop-append_seam}
-use lib.Utf8.{scalar, encode}
+use lib.Utf8.{encode}
 use Rattle.simplecss_text.proofs.reading.EndsLaws.{before-append}
 use Rattle.simplecss_text.specs.Reading.{Fault, Reading, no_name, got, fails, before}
 use Rattle.simplecss_text.specs.Bytes.{past_byte, starts_by}
@@ -16,9 +16,9 @@ use Rattle.simplecss_text.specs.Characters.{Edition, is_name_start, is_name_char
 use Rattle.simplecss_text.specs.Names.{begins_name, past_name_chars, name}
 use Rattle.simplecss_text.proofs.reading.TakesLaws.{first_of_name}
 use Rattle.simplecss_text.proofs.bytes.Utf8Laws.{starts_by-past}
-use Rattle.simplecss_text.proofs.printed.PrintedNames.{IsName, ends_names, begins_any_name}
+use Rattle.simplecss_text.proofs.printed.PrintedNames.{IsName, ends_names, begins_any_name, scalars-parts}
 
--- what a run takes passes
+-- what is in a run passes the test
 pub taken_pass : (p : ℕ → Bool) (cs : List ℕ) → list_all p (take_while p cs) ≡ true
 taken_pass p [] = refl
 taken_pass p (c ∷ cs) = by (p c) refl (taken_pass p cs)
@@ -30,26 +30,6 @@ taken_pass p (c ∷ cs) = by (p c) refl (taken_pass p cs)
         ∙ rw (e, more) refl
     by false e more =
         ap (list_all p) (take_while-cons p c cs ∙ ap (λ t. cond t (c ∷ take_while p cs) []) e)
-
-scalars-parts : (a b : List ℕ) → all_scalars (a ++ b) ≡ true
-    → (all_scalars a ≡ true) × (all_scalars b ≡ true)
-scalars-parts [] b h = (refl, h)
-scalars-parts (c ∷ a) b h = by (scalar c) refl h (λ k. scalars-parts a b k)
-  where
-    by : (t : Bool) → scalar c ≡ t → (t && all_scalars (a ++ b)) ≡ true
-        → (all_scalars (a ++ b) ≡ true → (all_scalars a ≡ true) × (all_scalars b ≡ true))
-        → (all_scalars (c ∷ a) ≡ true) × (all_scalars b ≡ true)
-    by true e k more = (rw e ((more k).0), (more k).1)
-    by false e k more = absurd (cc)
-
-begins_start : (edition : Edition) (c : ℕ) (cs : List ℕ) → is_name_start edition c ≡ true
-    → begins_any_name edition (c ∷ cs) ≡ true
-begins_start edition c [] h = h
-begins_start edition c (d ∷ cs) h = rw h refl
-
-start_char : (edition : Edition) (c : ℕ) → is_name_start edition c ≡ true
-    → is_name_char edition c ≡ true
-start_char edition c h = rw h refl
 
 hyphen_start : (a b c : Bool) → a ≡ false → (a || (b && c)) ≡ true → (b ≡ true) × (c ≡ true)
 hyphen_start true b c e h = absurd (cc)
@@ -64,37 +44,6 @@ only_hyphen false b e h = h
 taken : (p : ℕ → Bool) (c : ℕ) (cs : List ℕ) → p c ≡ true
     → take_while p (c ∷ cs) ≡ c ∷ take_while p cs
 taken p c cs e = take_while-cons p c cs ∙ ap (λ t. cond t (c ∷ take_while p cs) []) e
-
--- the name characters of what begins a name begin one, but for a hyphen that ends the text
-taken_begins : (edition : Edition) (cs : List ℕ) → begins_name edition cs ≡ true
-    → (begins_any_name edition (take_while (is_name_char edition) cs) ≡ true) ⊎ (cs ≡ 45 ∷ [])
-taken_begins edition [] h = absurd (cc)
-taken_begins edition (c ∷ []) h = by (is_name_start edition c) refl
-  where
-    by : (t : Bool) → is_name_start edition c ≡ t
-        → (begins_any_name edition (take_while (is_name_char edition) (c ∷ [])) ≡ true)
-        ⊎ (c ∷ [] ≡ 45 ∷ [])
-    by true e =
-        inl (ap (begins_any_name edition)
-        (taken (is_name_char edition) c [] (start_char edition c e)) ∙ e)
-    by false e =
-        inr (ap (λ k. k ∷ []) (eqb-true c 45 (only_hyphen (is_name_start edition c) (c == 45) e h)))
-taken_begins edition (c ∷ d ∷ cs) h = by (is_name_start edition c) refl
-  where
-    by : (t : Bool) → is_name_start edition c ≡ t
-        → (begins_any_name edition (take_while (is_name_char edition) (c ∷ d ∷ cs)) ≡ true)
-        ⊎ (c ∷ d ∷ cs ≡ 45 ∷ [])
-    by true e =
-        inl (ap (begins_any_name edition)
-        (taken (is_name_char edition) c (d ∷ cs) (start_char edition c e))
-        ∙ begins_start edition c (take_while (is_name_char edition) (d ∷ cs)) e)
-    by false e =
-        let both = hyphen_start (is_name_start edition c) (c == 45) (is_name_start edition d) e h in
-        let two : take_while (is_name_char edition) (c ∷ d ∷ cs) ≡ c ∷ d ∷ take_while
-        (is_name_char edition) cs =
-        taken (is_name_char edition) c (d ∷ cs) (first_of_name edition c (d ∷ cs) h)
-        ∙ ap (λ l. c ∷ l) (taken (is_name_char edition) d cs (start_char edition d both.1)) in
-        inl (ap (begins_any_name edition) two ∙ h)
 
 -- A name that was read: it is one wherever it is, or the hyphen that ends the text. What is
 -- left is a text.
@@ -115,104 +64,143 @@ unfolding encode
 hyphen_bytes first_edition = (refl, refl)
 hyphen_bytes second_edition = (refl, refl)
 
-lone_hyphen : (edition : Edition) (cs : List ℕ) → cs ≡ 45 ∷ []
-    → (encode_utf8_all (take_while (is_name_char edition) cs) ≡ 45 ∷ [])
-    × (encode_utf8_all (drop (prefix_len (is_name_char edition) cs) cs) ≡ [])
-lone_hyphen edition cs e =
-    subst (λ (l : List ℕ). (encode_utf8_all (take_while (is_name_char edition) l) ≡ 45 ∷ [])
-    × (encode_utf8_all (drop (prefix_len (is_name_char edition) l) l) ≡ [])) (sym e)
-    (hyphen_bytes edition)
+module _ (edition : Edition) where
+  begins_start : (c : ℕ) (cs : List ℕ) → is_name_start edition c ≡ true
+      → begins_any_name edition (c ∷ cs) ≡ true
+  begins_start c [] h = h
+  begins_start c (d ∷ cs) h = rw h refl
 
--- of the characters of a text
-name-of : (edition : Edition) (cs : List ℕ) → all_scalars cs ≡ true → begins_name edition cs ≡ true
-    → ReadName edition (encode_utf8_all cs) (encode_utf8_all (take_while (is_name_char edition) cs))
-    (encode_utf8_all (drop (prefix_len (is_name_char edition) cs) cs))
-name-of edition cs s h =
-    let p = is_name_char edition in
-    let k = take_while p cs in
-    let l = drop (prefix_len p cs) cs in
-    let parts : k ++ l ≡ cs = take-append-drop (prefix_len p cs) cs in
-    let each_scalar = scalars-parts k l (ap all_scalars parts ∙ s) in
-    record {
-      is = elim (taken_begins edition cs h) [
-        | inl b ↦ inl
-            (record {
-              letters = k;
-              scalars = each_scalar.0;
-              spell = refl;
-              pass = taken_pass p cs;
-              begins = b;
-            })
-        | inr e ↦ inr (lone_hyphen edition cs e)
-      ];
-      rest_is = (l, (each_scalar.1, refl));
-      joined = ap encode_utf8_all (sym parts) ∙ encodes-append k l;
-      ends = ap (starts_by p) (chars-encodes l each_scalar.1) ∙ starts_by-past p cs;
-    }
+  start_char : (c : ℕ) → is_name_start edition c ≡ true → is_name_char edition c ≡ true
+  start_char c h = rw h refl
 
-name-value : (edition : Edition) (cs : List ℕ) → all_scalars cs ≡ true
-    → begins_name edition cs ≡ true
-    → name edition (encode_utf8_all cs)
-    ≡ got (encode_utf8_all (take_while (is_name_char edition) cs))
-    (encode_utf8_all (drop (prefix_len (is_name_char edition) cs) cs))
-unfolding name past_name_chars
-name-value edition cs s h =
-    let k = take_while (is_name_char edition) cs in
-    let l = drop (prefix_len (is_name_char edition) cs) cs in
-    let text : encode_utf8_all cs ≡ encode_utf8_all k ++ encode_utf8_all l =
-    (name-of edition cs s h).joined in
-    let decoded : chars (encode_utf8_all cs) ≡ cs = chars-encodes cs s in
-    let left : drop (length (encode_utf8_all k)) (encode_utf8_all cs) ≡ encode_utf8_all l =
-    ap (drop (length (encode_utf8_all k))) text
-    ∙ drop-append_seam (encode_utf8_all k) (encode_utf8_all l) in
-    let value : before (encode_utf8_all cs) (encode_utf8_all l) ≡ encode_utf8_all k =
-    ap (λ t. before t (encode_utf8_all l)) text
-    ∙ before-append (encode_utf8_all k) (encode_utf8_all l) in
-    rw (decoded, h, left, value) refl
+  -- the name characters of what begins a name begin one, but for a hyphen that ends the text
+  taken_begins : (cs : List ℕ) → begins_name edition cs ≡ true
+      → (begins_any_name edition (take_while (is_name_char edition) cs) ≡ true) ⊎ (cs ≡ 45 ∷ [])
+  taken_begins [] h = absurd (cc)
+  taken_begins (c ∷ []) h = by (is_name_start edition c) refl
+    where
+      by : (t : Bool) → is_name_start edition c ≡ t
+          → (begins_any_name edition (take_while (is_name_char edition) (c ∷ [])) ≡ true)
+          ⊎ (c ∷ [] ≡ 45 ∷ [])
+      by true e =
+          inl (ap (begins_any_name edition)
+          (taken (is_name_char edition) c [] (start_char c e)) ∙ e)
+      by false e =
+          inr (ap (λ k. k ∷ []) (eqb-true c 45 (only_hyphen (is_name_start edition c)
+          (c == 45) e h)))
+  taken_begins (c ∷ d ∷ cs) h = by (is_name_start edition c) refl
+    where
+      by : (t : Bool) → is_name_start edition c ≡ t
+          → (begins_any_name edition (take_while (is_name_char edition) (c ∷ d ∷ cs)) ≡ true)
+          ⊎ (c ∷ d ∷ cs ≡ 45 ∷ [])
+      by true e =
+          inl (ap (begins_any_name edition)
+          (taken (is_name_char edition) c (d ∷ cs) (start_char c e))
+          ∙ begins_start c (take_while (is_name_char edition) (d ∷ cs)) e)
+      by false e =
+          let both = hyphen_start (is_name_start edition c) (c == 45)
+          (is_name_start edition d) e h in
+          let two : take_while (is_name_char edition) (c ∷ d ∷ cs) ≡ c ∷ d ∷ take_while
+          (is_name_char edition) cs =
+          taken (is_name_char edition) c (d ∷ cs) (first_of_name edition c (d ∷ cs) h)
+          ∙ ap (λ l. c ∷ l) (taken (is_name_char edition) d cs (start_char d both.1)) in
+          inl (ap (begins_any_name edition) two ∙ h)
 
-name-none : (edition : Edition) (cs : List ℕ) → all_scalars cs ≡ true
-    → begins_name edition cs ≡ false
-    → name edition (encode_utf8_all cs) ≡ fails (no_name (encode_utf8_all cs))
-    (past_byte 45 (encode_utf8_all cs))
-unfolding name
-name-none edition cs s h = let decoded = chars-encodes cs s in rw (decoded, h) refl
+  lone_hyphen : (cs : List ℕ) → cs ≡ 45 ∷ []
+      → (encode_utf8_all (take_while (is_name_char edition) cs) ≡ 45 ∷ [])
+      × (encode_utf8_all (drop (prefix_len (is_name_char edition) cs) cs) ≡ [])
+  lone_hyphen cs e =
+      subst (λ (l : List ℕ). (encode_utf8_all (take_while (is_name_char edition) l) ≡ 45 ∷ [])
+      × (encode_utf8_all (drop (prefix_len (is_name_char edition) l) l) ≡ [])) (sym e)
+      (hyphen_bytes edition)
 
--- what is read as a name from a text
-pub name-is : (edition : Edition) (text n rest : List ℕ) → IsUtf8 text
-    → name edition text ≡ got n rest → ReadName edition text n rest
-name-is edition text n rest u e = by (begins_name edition u.0) refl
-  where
-    by : (t : Bool) → begins_name edition u.0 ≡ t → ReadName edition text n rest
-    by true h =
-        let same =
-        got_both _ _ _ _ (sym (name-value edition u.0 u.1.0 h) ∙ ap (name edition) u.1.1 ∙ e) in
-        subst (λ (t : List ℕ). ReadName edition t n rest) u.1.1
-        (subst (λ (m : List ℕ). ReadName edition (encode_utf8_all u.0) m rest) same.0
-        (subst (λ (r : List ℕ). ReadName edition (encode_utf8_all u.0)
-        (encode_utf8_all (take_while (is_name_char edition) u.0)) r) same.1
-        (name-of edition u.0 u.1.0 h)))
-    by false h =
-        let none = sym (name-none edition u.0 u.1.0 h) ∙ ap (name edition) u.1.1 ∙ e in
-        absurd (cc)
+  -- of the characters of a text
+  name-of : (cs : List ℕ) → all_scalars cs ≡ true → begins_name edition cs ≡ true
+      → ReadName edition (encode_utf8_all cs)
+      (encode_utf8_all (take_while (is_name_char edition) cs))
+      (encode_utf8_all (drop (prefix_len (is_name_char edition) cs) cs))
+  name-of cs s h =
+      let p = is_name_char edition in
+      let k = take_while p cs in
+      let l = drop (prefix_len p cs) cs in
+      let parts : k ++ l ≡ cs = take-append-drop (prefix_len p cs) cs in
+      let each_scalar = scalars-parts k l (ap all_scalars parts ∙ s) in
+      record {
+        is = elim (taken_begins cs h) [
+          | inl b ↦ inl
+              (record {
+                letters = k;
+                scalars = each_scalar.0;
+                spell = refl;
+                pass = taken_pass p cs;
+                begins = b;
+              })
+          | inr e ↦ inr (lone_hyphen cs e)
+        ];
+        rest_is = (l, (each_scalar.1, refl));
+        joined = ap encode_utf8_all (sym parts) ∙ encodes-append k l;
+        ends = ap (starts_by p) (chars-encodes l each_scalar.1) ∙ starts_by-past p cs;
+      }
 
--- where no name was read, none begins there, and a hyphen was passed
-pub name-fails : (edition : Edition) (text rest : List ℕ) (fault : Fault)
-    → name edition text ≡ fails fault rest
-    → (begins_name edition (chars text) ≡ false) × (rest ≡ past_byte 45 text)
-unfolding name
-name-fails edition text rest fault e = by (begins_name edition (chars text)) refl e
-  where
-    by : (t : Bool) → begins_name edition (chars text) ≡ t
-        → Path (Reading (List ℕ))
-        (if t then got (before text (past_name_chars edition text)) (past_name_chars edition text)
-        else fails (no_name text) (past_byte 45 text)) (fails fault rest)
-        → (begins_name edition (chars text) ≡ false) × (rest ≡ past_byte 45 text)
-    by true b h = absurd (cc)
-    by false b h = (b, cc)
+  name-value : (cs : List ℕ) → all_scalars cs ≡ true → begins_name edition cs ≡ true
+      → name edition (encode_utf8_all cs)
+      ≡ got (encode_utf8_all (take_while (is_name_char edition) cs))
+      (encode_utf8_all (drop (prefix_len (is_name_char edition) cs) cs))
+  unfolding name past_name_chars
+  name-value cs s h =
+      let k = take_while (is_name_char edition) cs in
+      let l = drop (prefix_len (is_name_char edition) cs) cs in
+      let text : encode_utf8_all cs ≡ encode_utf8_all k ++ encode_utf8_all l =
+      (name-of cs s h).joined in
+      let decoded : chars (encode_utf8_all cs) ≡ cs = chars-encodes cs s in
+      let left : drop (length (encode_utf8_all k)) (encode_utf8_all cs) ≡ encode_utf8_all l =
+      ap (drop (length (encode_utf8_all k))) text
+      ∙ drop-append_seam (encode_utf8_all k) (encode_utf8_all l) in
+      let value : before (encode_utf8_all cs) (encode_utf8_all l) ≡ encode_utf8_all k =
+      ap (λ t. before t (encode_utf8_all l)) text
+      ∙ before-append (encode_utf8_all k) (encode_utf8_all l) in
+      rw (decoded, h, left, value) refl
 
--- where no name begins, none is read
-pub name-none_begins : (edition : Edition) (text : List ℕ)
-    → begins_name edition (chars text) ≡ false
-    → name edition text ≡ fails (no_name text) (past_byte 45 text)
-unfolding name
-name-none_begins edition text b = rw b refl
+  name-none : (cs : List ℕ) → all_scalars cs ≡ true → begins_name edition cs ≡ false
+      → name edition (encode_utf8_all cs)
+      ≡ fails (no_name (encode_utf8_all cs)) (past_byte 45 (encode_utf8_all cs))
+  unfolding name
+  name-none cs s h = let decoded = chars-encodes cs s in rw (decoded, h) refl
+
+  -- what is read as a name from a text
+  pub name-is : (text n rest : List ℕ) → IsUtf8 text → name edition text ≡ got n rest
+      → ReadName edition text n rest
+  name-is text n rest u e = by (begins_name edition u.0) refl
+    where
+      by : (t : Bool) → begins_name edition u.0 ≡ t → ReadName edition text n rest
+      by true h =
+          let same =
+          got_both _ _ _ _ (sym (name-value u.0 u.1.0 h) ∙ ap (name edition) u.1.1 ∙ e) in
+          subst (λ (t : List ℕ). ReadName edition t n rest) u.1.1
+          (subst (λ (m : List ℕ). ReadName edition (encode_utf8_all u.0) m rest) same.0
+          (subst (λ (r : List ℕ). ReadName edition (encode_utf8_all u.0)
+          (encode_utf8_all (take_while (is_name_char edition) u.0)) r) same.1
+          (name-of u.0 u.1.0 h)))
+      by false h =
+          let none = sym (name-none u.0 u.1.0 h) ∙ ap (name edition) u.1.1 ∙ e in
+          absurd (cc)
+
+  -- where no name was read, none begins there, and a hyphen was consumed
+  pub name-fails : (text rest : List ℕ) (fault : Fault) → name edition text ≡ fails fault rest
+      → (begins_name edition (chars text) ≡ false) × (rest ≡ past_byte 45 text)
+  unfolding name
+  name-fails text rest fault e = by (begins_name edition (chars text)) refl e
+    where
+      by : (t : Bool) → begins_name edition (chars text) ≡ t
+          → Path (Reading (List ℕ))
+          (if t then got (before text (past_name_chars edition text)) (past_name_chars edition text)
+          else fails (no_name text) (past_byte 45 text)) (fails fault rest)
+          → (begins_name edition (chars text) ≡ false) × (rest ≡ past_byte 45 text)
+      by true b h = absurd (cc)
+      by false b h = (b, cc)
+
+  -- where no name begins, none is read
+  pub name-none_begins : (text : List ℕ) → begins_name edition (chars text) ≡ false
+      → name edition text ≡ fails (no_name text) (past_byte 45 text)
+  unfolding name
+  name-none_begins text b = rw b refl

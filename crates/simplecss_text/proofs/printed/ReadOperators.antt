@@ -2,12 +2,9 @@
 -- Serves `Selector::{parse, parse_front}` and `StyleSheet::parse` (a selector printed and read
 -- again).
 use Rattle.std.proofs.Common.{◌≡◌, ℕ, List, [], ◌∷◌, ◌==◌, arith, subst, IsUtf8}
-use Rattle.simplecss_text.specs.Reading.{got, fails, no_attribute_form}
-use Rattle.simplecss_text.specs.Bytes.{byte}
 use Rattle.simplecss_text.specs.Characters.{Edition}
-use Rattle.simplecss_text.specs.Strings.{string_or_name}
 use Rattle.simplecss_text.specs.Components.{Operator}
-use Rattle.simplecss_text.specs.Components.Operator.{exists, equals, has_word, begins_with}
+use Rattle.simplecss_text.specs.Components.Operator.{equals, has_word, begins_with}
 use Rattle.simplecss_text.specs.Pieces.{attribute_operator, equated}
 use Rattle.simplecss_text.proofs.bytes.Utf8Laws.{utf8-past_byte}
 use Rattle.simplecss_text.proofs.printed.PrintedPieces.{IsValue, IsOperator}
@@ -22,10 +19,9 @@ equated-gives : (edition : Edition) (operator : List ℕ → Operator) (text : L
     → ((v : List ℕ) → IsValue v → IsOperator (operator v)) → IsUtf8 text
     → IfGot GoodOperator (equated edition operator text)
 equated-gives edition operator text each u =
-    if_got-follow (λ x rest. text ≡ 61 ∷ rest) GoodOperator (byte 61 text) _ (byte-is 61 text)
+    if_got-follow (λ x rest. text ≡ 61 ∷ rest) GoodOperator _ _ (byte-is 61 text)
     (λ x rest e.
-    if_got-follow (λ v last. IsValue v) GoodOperator (string_or_name edition rest)
-    (λ v. got (operator v))
+    if_got-follow (λ v last. IsValue v) GoodOperator _ _
     (string_or_name-gives edition rest
     (utf8-past_byte 61 rest (omega arith) (subst IsUtf8 e u)))
     (λ v last w. each v w))
@@ -36,13 +32,12 @@ pub attribute_operator-gives : (edition : Edition) (text : List ℕ) → IsUtf8 
 unfolding attribute_operator
 attribute_operator-gives edition [] u = tt
 attribute_operator-gives edition (b ∷ text) u =
-    if_got-if GoodOperator (b == 93) (got exists (b ∷ text)) _ (λ e. tt) (λ e.
-    if_got-if GoodOperator (b == 61) (equated edition equals (b ∷ text)) _
+    if_got-if GoodOperator (b == 93) _ _ (λ e. tt) (λ e.
+    if_got-if GoodOperator (b == 61) _ _
     (λ f. equated-gives edition equals (b ∷ text) (λ v w. w) u) (λ f.
-    if_got-if GoodOperator (b == 126) (equated edition has_word text) _
+    if_got-if GoodOperator (b == 126) _ _
     (λ g. equated-gives edition has_word text (λ v w. w)
     (utf8-past_byte 126 text (omega arith) (same_begins b 126 text g u))) (λ g.
-    if_got-if GoodOperator (b == 124) (equated edition begins_with text)
-    (fails no_attribute_form (b ∷ text))
+    if_got-if GoodOperator (b == 124) _ _
     (λ h. equated-gives edition begins_with text (λ v w. w)
     (utf8-past_byte 124 text (omega arith) (same_begins b 124 text h u))) (λ h. tt))))

@@ -6,8 +6,8 @@ use Rattle.std.specs.Str.{trim}
 use Rattle.std.specs.List.{list_all, prefix_len, take_while}
 use Rattle.std.proofs.lemmas.List.{take-append-drop}
 use Rattle.simplecss_text.proofs.reading.EndsLaws.{before-append}
-use Rattle.simplecss_text.specs.Reading.{Reading, ended, no_language, got, fails, before}
-use Rattle.simplecss_text.specs.Bytes.{past_one, past, byte, all_before}
+use Rattle.simplecss_text.specs.Reading.{Reading, ended, got, fails, before}
+use Rattle.simplecss_text.specs.Bytes.{past_one, past, all_before}
 use Rattle.simplecss_text.specs.declared.next_kind.NextKind.{NextKind}
 use Rattle.simplecss_text.specs.declared.next_kind.NextKind.TheVariants.{Stop, Slash, Child, Adjacent, Universal, Id, Class, Attribute, Colon, Other}
 use Rattle.simplecss_text.specs.Characters.{Edition}
@@ -15,9 +15,9 @@ use Rattle.simplecss_text.specs.Names.{name}
 use Rattle.simplecss_text.specs.Components.{Operator}
 use Rattle.simplecss_text.specs.Tokens.{Token}
 use Rattle.simplecss_text.specs.Tokens.Token.{universal_selector, type_selector, id_selector, class_selector, attribute_selector, named_pseudo_class, lang_pseudo_class, descendant_combinator, child_combinator, adjacent_combinator}
-use Rattle.simplecss_text.specs.Pieces.{attribute_operator, attribute_after, lang_of, lang_after, pseudo_class_named, pseudo_class_after, named_token, next_kind, solid_as, solid}
+use Rattle.simplecss_text.specs.Pieces.{attribute_operator, attribute_after, lang_of, lang_after, pseudo_class_after, named_token, next_kind, solid_as, solid}
 use Rattle.simplecss_text.proofs.reading.KindLaws.{HasSign, sign-begins}
-use Rattle.simplecss_text.proofs.printed.PrintedNames.{IsName, both_true}
+use Rattle.simplecss_text.proofs.printed.PrintedNames.{IsName, both_pass}
 use Rattle.simplecss_text.proofs.printed.PrintedPieces.{IsValue, IsOperator, IsLanguage}
 use Rattle.simplecss_text.proofs.bytes.Utf8Laws.{utf8-past_byte, utf8-before_byte}
 use Rattle.simplecss_text.proofs.bytes.TrimLaws.{Trimmed, trim-is}
@@ -39,63 +39,10 @@ GoodToken edition descendant_combinator rest = ⊥
 GoodToken edition child_combinator rest = Unit {0}
 GoodToken edition adjacent_combinator rest = Unit {0}
 
--- where a name was read
-name-gives : (edition : Edition) (text : List ℕ) → IsUtf8 text
-    → IfGot (λ n rest. ReadName edition text n rest) (name edition text)
-name-gives edition text u =
-    if_got (λ n rest. ReadName edition text n rest) (name edition text)
-    (λ n rest e. name-is edition text n rest u e)
-
--- a name that was read is a value of an attribute
-read_name-value : (edition : Edition) (text n rest : List ℕ) → ReadName edition text n rest
-    → IsValue n
-read_name-value edition text n rest w =
-    elim (w.is) [ inl i ↦ name-value_is edition n i | inr h ↦ subst IsValue (sym h.0) refl ]
-
-named_token-gives : (edition : Edition) (token : List ℕ → Token) (text : List ℕ)
-    → ((n rest : List ℕ) → ReadName edition text n rest → GoodToken edition (token n) rest)
-    → IsUtf8 text → IfGot (GoodToken edition) (named_token edition token text)
-unfolding named_token
-named_token-gives edition token text each u =
-    if_got-follow (λ n rest. ReadName edition text n rest) (GoodToken edition) (name edition text)
-    (λ n. got (token n)) (name-gives edition text u) each
-
--- a name that more follows is no lone hyphen
-name_before : (edition : Edition) (text n rest : List ℕ) → ReadName edition text n rest
-    → (rest ≡ [] → ⊥) → IsName edition n
-name_before edition text n rest w some = elim (w.is) [ inl i ↦ i | inr h ↦ absurd (some h.1) ]
-
-operator-nil : (edition : Edition) → attribute_operator edition [] ≡ fails ended []
-unfolding attribute_operator
-operator-nil edition = refl
-
--- where an operator was read, the text had not ended
-operator_text_is : (edition : Edition) (rest : List ℕ)
-    → IfGot (λ o next. rest ≡ [] → ⊥) (attribute_operator edition rest)
-operator_text_is edition rest =
-    if_got (λ o next. rest ≡ [] → ⊥) (attribute_operator edition rest) (λ o next e h.
-    let both : Path (Reading Operator) (fails ended []) (got o next) =
-    sym (operator-nil edition) ∙ ap (attribute_operator edition) (sym h) ∙ e in absurd (cc))
-
 both_got : {A : Type 0} (P Q : A → List ℕ → Type 0) (r : Reading A) → IfGot P r → IfGot Q r
     → IfGot (λ x rest. P x rest × Q x rest) r
 both_got P Q (got x rest) p q = (p, q)
 both_got P Q (fails fault rest) p q = tt
-
-attribute_after-gives : (edition : Edition) (text : List ℕ) → IsUtf8 text
-    → IfGot (GoodToken edition) (attribute_after edition text)
-unfolding attribute_after
-attribute_after-gives edition text u =
-    if_got-follow (λ n rest. ReadName edition text n rest) (GoodToken edition) (name edition text) _
-    (name-gives edition text u) (λ n rest w.
-    if_got-follow (λ o next. GoodOperator o next × (rest ≡ [] → ⊥)) (GoodToken edition)
-    (attribute_operator edition rest) _
-    (both_got GoodOperator (λ o next. rest ≡ [] → ⊥) (attribute_operator edition rest)
-    (attribute_operator-gives edition rest w.rest_is) (operator_text_is edition rest))
-    (λ o next x.
-    if_got-follow (λ y last. next ≡ 93 ∷ last) (GoodToken edition) (byte 93 next)
-    (λ y. got (attribute_selector n o)) (byte-is 93 next) (λ y last e.
-    (name_before edition text n rest w x.1, x.0))))
 
 -- what is before a byte, and the text from there on
 abbrev StandsBefore : List ℕ → List ℕ → List ℕ → Type 0
@@ -110,52 +57,12 @@ all_before-is text =
     let value : before text rest ≡ front = ap (λ t. before t rest) is ∙ before-append front rest in
     rw value (is, taken_pass test text)
 
-parts_all : (test : ℕ → Bool) (a b : List ℕ) → list_all test (a ++ b) ≡ true
-    → (list_all test a ≡ true) × (list_all test b ≡ true)
-parts_all test [] b h = (refl, h)
-parts_all test (c ∷ a) b h =
-    let here = both_true (test c) (list_all test (a ++ b)) h in
-    let more = parts_all test a b here.1 in
-    (rw (here.0, more.0) refl, more.1)
-
 inside_all : (test : ℕ → Bool) (v inside : List ℕ) → Trimmed v inside → list_all test v ≡ true
     → list_all test inside ≡ true
 inside_all test v inside w h =
-    let first = parts_all test w.front (inside ++ w.behind) (ap (list_all test) (sym w.is) ∙ h) in
-    (parts_all test inside w.behind first.1).0
-
-lang_of-gives : (edition : Edition) (v text : List ℕ) → IsUtf8 v
-    → list_all (λ b. not (b == 41)) v ≡ true → IfGot (GoodToken edition) (lang_of (trim v) text)
-lang_of-gives edition v text u h =
-    let w = trim-is v u in
-    if_got-if (GoodToken edition) (length (trim v) == 0) (fails no_language text)
-    (got (lang_pseudo_class (trim v)) text) (λ e. tt)
-    (λ e. record
-    { trimmed = w.again; some = e; within = inside_all (λ b. not (b == 41)) v (trim v) w h })
-
-lang_after-gives : (edition : Edition) (text : List ℕ) → IsUtf8 text
-    → IfGot (GoodToken edition) (lang_after text)
-unfolding lang_after
-lang_after-gives edition text u =
-    if_got-follow (λ x rest. text ≡ 40 ∷ rest) (GoodToken edition) (byte 40 text) _
-    (byte-is 40 text) (λ x rest e.
-    if_got-follow (StandsBefore rest) (GoodToken edition) (all_before 41 rest) _
-    (all_before-is rest) (λ value next w.
-    if_got-follow (λ y last. next ≡ 41 ∷ last) (GoodToken edition) (byte 41 next) _
-    (byte-is 41 next) (λ y last f.
-    let all : IsUtf8 (value ++ (41 ∷ last)) =
-    subst IsUtf8 (w.0 ∙ ap (λ l. value ++ l) f)
-    (utf8-past_byte 40 rest (omega arith) (subst IsUtf8 e u)) in
-    lang_of-gives edition value last (utf8-before_byte value 41 last (omega arith) all) w.1)))
-
-pseudo_class_after-gives : (edition : Edition) (text : List ℕ) → IsUtf8 text
-    → IfGot (GoodToken edition) (pseudo_class_after edition text)
-unfolding pseudo_class_after
-pseudo_class_after-gives edition text u =
-    if_got-follow (λ n rest. ReadName edition text n rest) (GoodToken edition) (name edition text)
-    pseudo_class_named (name-gives edition text u) (λ n rest w.
-    if_got-if (GoodToken edition) (bytes_eq n (codes "lang")) (lang_after rest)
-    (got (named_pseudo_class n) rest) (λ e. lang_after-gives edition rest w.rest_is) (λ e. tt))
+    let first = both_pass test w.front (inside ++ w.following) (ap (list_all test) (sym w.is) ∙ h)
+    in
+    (both_pass test inside w.following first.1).0
 
 -- what is left after an ASCII byte
 utf8-past : (kind : NextKind) (text : List ℕ) → HasSign kind → next_kind text ≡ kind → IsUtf8 text
@@ -164,28 +71,110 @@ utf8-past kind text h k u =
     let sign = sign-begins kind text h k in utf8-past_byte sign.byte (past_one text) sign.ascii
     (subst IsUtf8 sign.is u)
 
-solid_as-gives : (edition : Edition) (text : List ℕ) (kind : NextKind) → next_kind text ≡ kind
-    → IsUtf8 text → IfGot (GoodToken edition) (solid_as edition kind text)
-solid_as-gives edition text Stop k u = tt
-solid_as-gives edition text Slash k u = tt
-solid_as-gives edition text Child k u = tt
-solid_as-gives edition text Adjacent k u = tt
-solid_as-gives edition text Universal k u = tt
-solid_as-gives edition text Id k u =
-    named_token-gives edition id_selector (past_one text)
-    (λ n rest w. read_name-value edition (past_one text) n rest w) (utf8-past Id text tt k u)
-solid_as-gives edition text Class k u =
-    named_token-gives edition class_selector (past_one text)
-    (λ n rest w. read_name-value edition (past_one text) n rest w) (utf8-past Class text tt k u)
-solid_as-gives edition text Attribute k u =
-    attribute_after-gives edition (past_one text) (utf8-past Attribute text tt k u)
-solid_as-gives edition text Colon k u =
-    pseudo_class_after-gives edition (past_one text) (utf8-past Colon text tt k u)
-solid_as-gives edition text Other k u =
-    named_token-gives edition type_selector text (λ n rest w. w.is) u
+module _ (edition : Edition) where
+  -- where a name was read
+  name-gives : (text : List ℕ) → IsUtf8 text
+      → IfGot (λ n rest. ReadName edition text n rest) (name edition text)
+  name-gives text u =
+      if_got (λ n rest. ReadName edition text n rest) (name edition text)
+      (λ n rest e. name-is edition text n rest u e)
 
--- a solid piece that was read from a text
-pub solid-gives : (edition : Edition) (text : List ℕ) → IsUtf8 text
-    → IfGot (GoodToken edition) (solid edition text)
-unfolding solid
-solid-gives edition text u = solid_as-gives edition text (next_kind text) refl u
+  -- a name that was read is a value of an attribute
+  read_name-value : (text n rest : List ℕ) → ReadName edition text n rest → IsValue n
+  read_name-value text n rest w =
+      elim (w.is) [ inl i ↦ name-value_is edition n i | inr h ↦ subst IsValue (sym h.0) refl ]
+
+  named_token-gives : (token : List ℕ → Token) (text : List ℕ)
+      → ((n rest : List ℕ) → ReadName edition text n rest → GoodToken edition (token n) rest)
+      → IsUtf8 text → IfGot (GoodToken edition) (named_token edition token text)
+  unfolding named_token
+  named_token-gives token text each u =
+      if_got-follow (λ n rest. ReadName edition text n rest) (GoodToken edition) _ _
+      (name-gives text u) each
+
+  -- a name that more follows is no lone hyphen
+  name_before : (text n rest : List ℕ) → ReadName edition text n rest → (rest ≡ [] → ⊥)
+      → IsName edition n
+  name_before text n rest w some = elim (w.is) [ inl i ↦ i | inr h ↦ absurd (some h.1) ]
+
+  operator-nil : attribute_operator edition [] ≡ fails ended []
+  unfolding attribute_operator
+  operator-nil = refl
+
+  -- where an operator was read, the text had not ended
+  operator_text_is : (rest : List ℕ) → IfGot (λ o next. rest ≡ [] → ⊥)
+      (attribute_operator edition rest)
+  operator_text_is rest =
+      if_got (λ o next. rest ≡ [] → ⊥) (attribute_operator edition rest) (λ o next e h.
+      let both : Path (Reading Operator) (fails ended []) (got o next) =
+      sym operator-nil ∙ ap (attribute_operator edition) (sym h) ∙ e in absurd (cc))
+
+  attribute_after-gives : (text : List ℕ) → IsUtf8 text
+      → IfGot (GoodToken edition) (attribute_after edition text)
+  unfolding attribute_after
+  attribute_after-gives text u =
+      if_got-follow (λ n rest. ReadName edition text n rest) (GoodToken edition)
+      _ _
+      (name-gives text u) (λ n rest w.
+      if_got-follow (λ o next. GoodOperator o next × (rest ≡ [] → ⊥)) (GoodToken edition)
+      _ _
+      (both_got GoodOperator (λ o next. rest ≡ [] → ⊥) (attribute_operator edition rest)
+      (attribute_operator-gives edition rest w.rest_is) (operator_text_is rest)) (λ o next x.
+      if_got-follow (λ y last. next ≡ 93 ∷ last) (GoodToken edition) _ _ (byte-is 93 next)
+      (λ y last e.
+      (name_before text n rest w x.1, x.0))))
+
+  lang_of-gives : (v text : List ℕ) → IsUtf8 v → list_all (λ b. not (b == 41)) v ≡ true
+      → IfGot (GoodToken edition) (lang_of (trim v) text)
+  lang_of-gives v text u h =
+      let w = trim-is v u in
+      if_got-if (GoodToken edition) (length (trim v) == 0) _ _ (λ e. tt) (λ e. record
+      { trimmed = w.again; some = e; within = inside_all (λ b. not (b == 41)) v (trim v) w h })
+
+  lang_after-gives : (text : List ℕ) → IsUtf8 text → IfGot (GoodToken edition) (lang_after text)
+  unfolding lang_after
+  lang_after-gives text u =
+      if_got-follow (λ x rest. text ≡ 40 ∷ rest) (GoodToken edition) _ _
+      (byte-is 40 text) (λ x rest e.
+      if_got-follow (StandsBefore rest) (GoodToken edition) (all_before 41 rest) _
+      (all_before-is rest) (λ value next w.
+      if_got-follow (λ y last. next ≡ 41 ∷ last) (GoodToken edition) _ _
+      (byte-is 41 next) (λ y last f.
+      let all : IsUtf8 (value ++ (41 ∷ last)) =
+      subst IsUtf8 (w.0 ∙ ap (λ l. value ++ l) f)
+      (utf8-past_byte 40 rest (omega arith) (subst IsUtf8 e u)) in
+      lang_of-gives value last (utf8-before_byte value 41 last (omega arith) all) w.1)))
+
+  pseudo_class_after-gives : (text : List ℕ) → IsUtf8 text
+      → IfGot (GoodToken edition) (pseudo_class_after edition text)
+  unfolding pseudo_class_after
+  pseudo_class_after-gives text u =
+      if_got-follow (λ n rest. ReadName edition text n rest) (GoodToken edition) _ _
+      (name-gives text u) (λ n rest w.
+      if_got-if (GoodToken edition) (bytes_eq n (codes "lang")) _ _
+      (λ e. lang_after-gives rest w.rest_is) (λ e. tt))
+
+  solid_as-gives : (text : List ℕ) (kind : NextKind) → next_kind text ≡ kind → IsUtf8 text
+      → IfGot (GoodToken edition) (solid_as edition kind text)
+  solid_as-gives text Stop k u = tt
+  solid_as-gives text Slash k u = tt
+  solid_as-gives text Child k u = tt
+  solid_as-gives text Adjacent k u = tt
+  solid_as-gives text Universal k u = tt
+  solid_as-gives text Id k u =
+      named_token-gives id_selector (past_one text)
+      (λ n rest w. read_name-value (past_one text) n rest w) (utf8-past Id text tt k u)
+  solid_as-gives text Class k u =
+      named_token-gives class_selector (past_one text)
+      (λ n rest w. read_name-value (past_one text) n rest w) (utf8-past Class text tt k u)
+  solid_as-gives text Attribute k u =
+      attribute_after-gives (past_one text) (utf8-past Attribute text tt k u)
+  solid_as-gives text Colon k u =
+      pseudo_class_after-gives (past_one text) (utf8-past Colon text tt k u)
+  solid_as-gives text Other k u =
+      named_token-gives type_selector text (λ n rest w. w.is) u
+
+  -- a solid piece that was read from a text
+  pub solid-gives : (text : List ℕ) → IsUtf8 text → IfGot (GoodToken edition) (solid edition text)
+  unfolding solid
+  solid-gives text u = solid_as-gives text (next_kind text) refl u

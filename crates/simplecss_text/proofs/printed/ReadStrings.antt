@@ -11,9 +11,9 @@ use Rattle.simplecss_text.proofs.printed.GotLaws.{IfGot}
 -- where the closing quote is: what is before it ends with no backslash
 pub record Closes (quote previous : ℕ) (text closing : List ℕ) : Type 0 where
   pub front : List ℕ
-  pub behind : List ℕ
-  pub closing_is : closing ≡ quote ∷ behind
-  pub is : text ≡ front ++ (quote ∷ behind)
+  pub following : List ℕ
+  pub closing_is : closing ≡ quote ∷ following
+  pub is : text ≡ front ++ (quote ∷ following)
   pub open_end : (last_after previous front == 92) ≡ false
 
 both_parts : (a b : Bool) → (a && not b) ≡ true → (a ≡ true) × (b ≡ false)
@@ -32,7 +32,7 @@ closes-later quote previous b text None h = tt
 closes-later quote previous b text (Some closing) h =
     record {
       front = b ∷ h.front;
-      behind = h.behind;
+      following = h.following;
       closing_is = h.closing_is;
       is = ap (λ l. b ∷ l)
           h.is;
@@ -53,7 +53,7 @@ from_quote-closes quote previous (b ∷ text) =
     by true h more =
         let known = both_parts (b == quote) (previous == 92) h in
         let same = ap (λ k. k ∷ text) (eqb-true b quote known.0) in
-        record { front = []; behind = text; closing_is = same; is = same; open_end = known.1 }
+        record { front = []; following = text; closing_is = same; is = same; open_end = known.1 }
     by false h more = closes-later quote previous b text (from_quote quote b text) more
 
 quote_start : (quote : ℕ) (front : List ℕ) → (last_after quote front == 92) ≡ false → IsValue front

@@ -1,9 +1,9 @@
--- The token of a solid piece tells its kind.
+-- The token of a solid piece determines its kind.
 -- Serves `Selector::{parse, parse_front}` and `StyleSheet::parse` (a selector printed and read
 -- again).
 use Rattle.std.proofs.Common.{◌≡◌, ℕ, List, Bool, true, codes, bytes_eq, ◌==◌, length, ap, ◌∙◌, refl}
 use Rattle.std.specs.Str.{trim}
-use Rattle.simplecss_text.specs.Reading.{Reading, Reader, got, fails, follow, no_language}
+use Rattle.simplecss_text.specs.Reading.{Reading, Reader, got, follow}
 use Rattle.simplecss_text.specs.Bytes.{byte, all_before, past_one}
 use Rattle.simplecss_text.specs.Characters.{Edition}
 use Rattle.simplecss_text.specs.Comments.{gap}
@@ -35,57 +35,77 @@ kind_of adjacent_combinator = Adjacent
 abbrev OfKind : NextKind → Token → List ℕ → Type 0
 OfKind kind token rest = kind ≡ kind_of token
 
-behind : {A : Type 0} (kind : NextKind) (r : Reading A) (next : A → Reader Token) → ((x : A) (rest : List ℕ) → IfGot (OfKind kind) (next x rest)) → IfGot (OfKind kind) (follow r next)
-behind kind r next h = if_got-follow (λ x rest. Unit {0}) (OfKind kind) r next (if_got (λ x rest. Unit {0}) r (λ x rest e. tt)) (λ x rest u. h x rest)
-
-named_token-kind : (edition : Edition) (kind : NextKind) (token : List ℕ → Token) → ((n : List ℕ) → kind ≡ kind_of (token n)) → (text : List ℕ) → IfGot (OfKind kind) (named_token edition token text)
-unfolding named_token
-named_token-kind edition kind token is text = behind kind (name edition text) (λ n. got (token n)) (λ n rest. is n)
-
-attribute_after-kind : (edition : Edition) (text : List ℕ) → IfGot (OfKind Attribute) (attribute_after edition text)
-unfolding attribute_after
-attribute_after-kind edition text =
-    behind Attribute (name edition text) _ (λ n rest.
-    behind Attribute (attribute_operator edition rest) _ (λ operator next.
-    behind Attribute (byte 93 next) (λ u. got (attribute_selector n operator)) (λ u last. refl)))
+following : {A : Type 0} (kind : NextKind) (r : Reading A) (next : A → Reader Token)
+    → ((x : A) (rest : List ℕ) → IfGot (OfKind kind) (next x rest))
+    → IfGot (OfKind kind) (follow r next)
+following kind r next h = if_got-follow (λ x rest. Unit {0}) (OfKind kind) _ _
+    (if_got (λ x rest. Unit {0}) r (λ x rest e. tt)) (λ x rest u. h x rest)
 
 lang_after-kind : (text : List ℕ) → IfGot (OfKind Colon) (lang_after text)
 unfolding lang_after
 lang_after-kind text =
-    behind Colon (byte 40 text) _ (λ u rest.
-    behind Colon (all_before 41 rest) _ (λ value next.
-    behind Colon (byte 41 next) (λ u. lang_of (trim value)) (λ u last.
-    if_got-if (OfKind Colon) (length (trim value) == 0) (fails no_language last) (got (lang_pseudo_class (trim value)) last) (λ e. tt) (λ e. refl))))
+    following Colon (byte 40 text) _ (λ u rest.
+    following Colon (all_before 41 rest) _ (λ value next.
+    following Colon (byte 41 next) (λ u. lang_of (trim value)) (λ u last.
+    if_got-if (OfKind Colon) (length (trim value) == 0) _ _ (λ e. tt) (λ e. refl))))
 
-pseudo_class_after-kind : (edition : Edition) (text : List ℕ) → IfGot (OfKind Colon) (pseudo_class_after edition text)
-unfolding pseudo_class_after
-pseudo_class_after-kind edition text =
-    behind Colon (name edition text) pseudo_class_named (λ n rest.
-    if_got-if (OfKind Colon) (bytes_eq n (codes "lang")) (lang_after rest) (got (named_pseudo_class n) rest) (λ e. lang_after-kind rest) (λ e. refl))
+module _ (edition : Edition) where
+  named_token-kind : (kind : NextKind) (token : List ℕ → Token)
+      → ((n : List ℕ) → kind ≡ kind_of (token n)) → (text : List ℕ)
+      → IfGot (OfKind kind) (named_token edition token text)
+  unfolding named_token
+  named_token-kind kind token is text = following kind (name edition text) (λ n. got (token n))
+      (λ n rest. is n)
 
-solid_as-kind : (edition : Edition) (kind : NextKind) (text : List ℕ) → IfGot (OfKind kind) (solid_as edition kind text)
-solid_as-kind edition Stop text = tt
-solid_as-kind edition Slash text = tt
-solid_as-kind edition Child text = refl
-solid_as-kind edition Adjacent text = refl
-solid_as-kind edition Universal text = refl
-solid_as-kind edition Id text = named_token-kind edition Id id_selector (λ n. refl) (past_one text)
-solid_as-kind edition Class text = named_token-kind edition Class class_selector (λ n. refl) (past_one text)
-solid_as-kind edition Attribute text = attribute_after-kind edition (past_one text)
-solid_as-kind edition Colon text = pseudo_class_after-kind edition (past_one text)
-solid_as-kind edition Other text = named_token-kind edition Other type_selector (λ n. refl) text
+  attribute_after-kind : (text : List ℕ) → IfGot (OfKind Attribute) (attribute_after edition text)
+  unfolding attribute_after
+  attribute_after-kind text =
+      following Attribute (name edition text) _ (λ n rest.
+      following Attribute (attribute_operator edition rest) _ (λ operator next.
+      following Attribute (byte 93 next) (λ u. got (attribute_selector n operator))
+      (λ u last. refl)))
 
--- where a token was read, its kind is next
-pub solid-kind : (edition : Edition) (text after : List ℕ) (token : Token) → solid edition text ≡ got token after → next_kind text ≡ kind_of token
-unfolding solid
-solid-kind edition text after token s = got-holds (OfKind (next_kind text)) (solid edition text) token after (solid_as-kind edition (next_kind text) text) s
+  pseudo_class_after-kind : (text : List ℕ) → IfGot (OfKind Colon) (pseudo_class_after edition text)
+  unfolding pseudo_class_after
+  pseudo_class_after-kind text =
+      following Colon (name edition text) pseudo_class_named (λ n rest.
+      if_got-if (OfKind Colon) (bytes_eq n (codes "lang")) _ _ (λ e. lang_after-kind rest)
+      (λ e. refl))
 
--- a solid piece behind a gap: what stands before it, its token, and the sequence behind it
-pub sequence_from-token : (edition : Edition) (side : Side) (text start after : List ℕ) (spaced : Bool) (token : Token) → gap text ≡ got spaced start → solid edition start ≡ got token after → sequence_from edition side text ≡ answered (between side spaced (kind_of token) start after) start (token_then token after (sequence_from edition (side_behind (kind_of token)) after))
-sequence_from-token edition side text start after spaced token g s =
-    sequence_from-solid edition side text start spaced (got token after) g s
-    ∙ ap (λ k. solid_sequence edition side spaced k start (got token after)) (solid-kind edition start after token s)
+  solid_as-kind : (kind : NextKind) (text : List ℕ)
+      → IfGot (OfKind kind) (solid_as edition kind text)
+  solid_as-kind Stop text = tt
+  solid_as-kind Slash text = tt
+  solid_as-kind Child text = refl
+  solid_as-kind Adjacent text = refl
+  solid_as-kind Universal text = refl
+  solid_as-kind Id text = named_token-kind Id id_selector (λ n. refl) (past_one text)
+  solid_as-kind Class text = named_token-kind Class class_selector (λ n. refl) (past_one text)
+  solid_as-kind Attribute text = attribute_after-kind (past_one text)
+  solid_as-kind Colon text = pseudo_class_after-kind (past_one text)
+  solid_as-kind Other text = named_token-kind Other type_selector (λ n. refl) text
 
--- behind a simple piece and a space byte: a descendant combinator
-pub descends-token : (edition : Edition) (text start after : List ℕ) (token : Token) → gap text ≡ got true start → solid edition start ≡ got token after → IsSimplePiece (kind_of token) → sequence_from edition closed_side text ≡ token_then descendant_combinator start (sequence_from edition open_side start)
-descends-token edition text start after token g s simple = sequence_from-descends edition text start (kind_of token) g (solid-kind edition start after token s) simple
+  -- where a token was read, its kind is next
+  pub solid-kind : (text after : List ℕ) (token : Token) → solid edition text ≡ got token after
+      → next_kind text ≡ kind_of token
+  unfolding solid
+  solid-kind text after token s = got-holds (OfKind (next_kind text))
+      _ _ _ (solid_as-kind (next_kind text) text) s
+
+  -- a solid piece after a gap: what is before it, its token, and the sequence after it
+  pub sequence_from-token : (side : Side) (text start after : List ℕ) (spaced : Bool)
+      (token : Token) → gap text ≡ got spaced start → solid edition start ≡ got token after
+      → sequence_from edition side text ≡ answered (between side spaced (kind_of token) start after)
+      start (token_then token after (sequence_from edition (side_behind (kind_of token)) after))
+  sequence_from-token side text start after spaced token g s =
+      sequence_from-solid edition side text start spaced (got token after) g s
+      ∙ ap (λ k. solid_sequence edition side spaced k start (got token after))
+      (solid-kind start after token s)
+
+  -- after a simple piece and a space byte: a descendant combinator
+  pub descends-token : (text start after : List ℕ) (token : Token) → gap text ≡ got true start
+      → solid edition start ≡ got token after → IsSimplePiece (kind_of token)
+      → sequence_from edition closed_side text
+      ≡ token_then descendant_combinator start (sequence_from edition open_side start)
+  descends-token text start after token g s simple = sequence_from-descends edition text start
+      (kind_of token) g (solid-kind start after token s) simple

@@ -9,38 +9,39 @@ use Rattle.simplecss_text.specs.declared.next_kind.NextKind.TheVariants.{Attribu
 use Rattle.simplecss_text.specs.Characters.{Edition}
 use Rattle.simplecss_text.specs.Comments.{gap}
 use Rattle.simplecss_text.specs.Strings.{string_or_name}
-use Rattle.simplecss_text.specs.Components.{Operator, Subselector, Combinator, Compound, Component}
+use Rattle.simplecss_text.specs.Components.{Operator, Subselector, Combinator, Component}
 use Rattle.simplecss_text.specs.Components.Operator.{exists, equals, has_word, begins_with}
 use Rattle.simplecss_text.specs.Components.Subselector.{attribute, pseudo_class}
-use Rattle.simplecss_text.specs.Components.Combinator.{none, descendant, child, adjacent}
 use Rattle.simplecss_text.specs.Tokens.{Token}
 use Rattle.simplecss_text.specs.Tokens.Token.{attribute_selector}
 use Rattle.simplecss_text.specs.Pieces.{attribute_operator, equated, attribute_after, next_kind, solid}
-use Rattle.simplecss_text.specs.Neighbours.Side.{open_side, closed_side}
-use Rattle.simplecss_text.specs.TokenSequences.{sequence_from, sequence_of, token_then}
+use Rattle.simplecss_text.specs.Neighbours.Side.{closed_side}
+use Rattle.simplecss_text.specs.TokenSequences.{sequence_from, sequence_of}
 use Rattle.simplecss_text.specs.Selectors.{Outcome, with_role, after_role, outcome, cut, subselectors_among, component_of, selector_of, reads}
 use Rattle.simplecss_text.specs.Selectors.Part.{with}
 use Rattle.simplecss_text.specs.Selectors.Role.{part, joint}
 use Rattle.simplecss_text.specs.Selectors.Outcome.{refused, accepted}
-use Rattle.simplecss_text.specs.Printing.{operator_text, subselector_text, type_text, component_text, selector_text, is_clean_operator, is_clean_subselector, is_clean}
+use Rattle.simplecss_text.specs.Printing.{operator_text, subselector_text, component_text, selector_text, is_clean_operator, is_clean_subselector, is_clean}
 use Rattle.simplecss_text.proofs.reading.SequenceSteps.{solid_sequence, sequence_from-solid}
-use Rattle.simplecss_text.proofs.printed.TokenKinds.{sequence_from-token, descends-token}
 use Rattle.simplecss_text.proofs.printed.PrintedNames.{IsName, name-reads, ends_names}
 use Rattle.simplecss_text.proofs.printed.PrintedPieces.{string-cut, quoted, operator-ends, bracketed, solid-attribute, IsSubselector, printed_token-role}
-use Rattle.simplecss_text.proofs.printed.PrintedHeads.{gap-none, gap-space, IsTypeName, head_token, head_part, head-reads}
-use Rattle.simplecss_text.proofs.printed.PrintedSelectors.{ends_low, subselector-ends, subselector-no_gap, subselector-sequence, EachIs, head-answer, head-simple, compound-assoc, compound-no_gap, child-sequence, adjacent-sequence, IsCompound, compound_text, is_clean_compound, Joins, joined_text, component-assoc, EachJoined, IsSelector}
+use Rattle.simplecss_text.proofs.printed.PrintedHeads.{gap-none, head_part}
+use Rattle.simplecss_text.proofs.printed.PrintedSelectors.{subselector-no_gap, subselector-sequence, EachIs, compound-no_gap, compound-outcome, joined-ends, joined-outcome, subselectors-end, compound_text, is_clean_compound, joined_text, component-assoc, EachJoined, IsSelector}
 
 longer : (v front more : List ℕ) → v ≡ front ++ (39 ∷ more) → front ≡ v → ⊥
-longer v front more e same = omega (arith, ap length e, ap length same, length-append front (39 ∷ more))
+longer v front more e same = omega (
+  arith,
+  ap length e,
+  ap length same,
+  length-append front
+      (39 ∷ more),
+)
 
 value_of : Operator → List ℕ
 value_of exists = []
 value_of (equals v) = v
 value_of (has_word v) = v
 value_of (begins_with v) = v
-
-equated-cut : (edition : Edition) (operator : List ℕ → Operator) (v front more tail : List ℕ) → string_or_name edition (39 ∷ (v ++ (39 ∷ 93 ∷ tail))) ≡ got front (more ++ (39 ∷ 93 ∷ tail)) → equated edition operator (61 ∷ (39 ∷ ((v ++ (39 ∷ [])) ++ (93 ∷ tail)))) ≡ got (operator front) (more ++ (39 ∷ 93 ∷ tail))
-equated-cut edition operator v front more tail e = rw (quoted v tail, e) refl
 
 -- an operator that is not clean reads as another one
 record OtherOperator (edition : Edition) (o : Operator) (tail : List ℕ) : Type 0 where
@@ -49,32 +50,12 @@ record OtherOperator (edition : Edition) (o : Operator) (tail : List ℕ) : Type
   pub differs : other ≡ o → ⊥
   pub reads : attribute_operator edition (operator_text o ++ (93 ∷ tail)) ≡ got other rest
 
--- one that is not clean is cut short
-operator-cut : (edition : Edition) (o : Operator) (tail : List ℕ) → is_clean_operator o ≡ false → OtherOperator edition o tail
-unfolding attribute_operator value_of
-operator-cut edition exists tail c = absurd (cc)
-operator-cut edition (equals v) tail c =
-    let s = string-cut edition v (39 ∷ 93 ∷ tail) c in
-    record { other = equals s.0; rest = s.1 ++ (39 ∷ 93 ∷ tail); differs = λ e. longer v s.0 s.1 s.2 (ap value_of e); reads = equated-cut edition equals v s.0 s.1 tail s.3 }
-operator-cut edition (has_word v) tail c =
-    let s = string-cut edition v (39 ∷ 93 ∷ tail) c in
-    record { other = has_word s.0; rest = s.1 ++ (39 ∷ 93 ∷ tail); differs = λ e. longer v s.0 s.1 s.2 (ap value_of e); reads = equated-cut edition has_word v s.0 s.1 tail s.3 }
-operator-cut edition (begins_with v) tail c =
-    let s = string-cut edition v (39 ∷ 93 ∷ tail) c in
-    record { other = begins_with s.0; rest = s.1 ++ (39 ∷ 93 ∷ tail); differs = λ e. longer v s.0 s.1 s.2 (ap value_of e); reads = equated-cut edition begins_with v s.0 s.1 tail s.3 }
-
-attribute-cut : (edition : Edition) (n : List ℕ) (o : Operator) (tail : List ℕ) → IsName edition n → (x : OtherOperator edition o tail) → attribute_after edition (n ++ (operator_text o ++ (93 ∷ tail))) ≡ follow (byte 93 x.rest) (λ u. got (attribute_selector n x.other))
-unfolding attribute_after
-attribute-cut edition n o tail w x =
-    let first = name-reads edition n (operator_text o ++ (93 ∷ tail)) w (operator-ends edition o tail) in
-    let second = x.reads in
-    rw (first, second) refl
-
--- The outcome behind a simple piece gives other subselectors or other components than these, or
+-- The outcome after a simple piece has other subselectors or other components than these, or
 -- none.
 abbrev Differs : Outcome → List Subselector → List Component → Type 0
 Differs (refused left) ss cs = Unit {0}
-Differs (accepted roles left) ss cs = subselectors_among (cut roles).0 ≡ ss → map component_of (cut roles).1 ≡ cs → ⊥
+Differs (accepted roles left) ss cs = subselectors_among (cut roles).0 ≡ ss
+    → map component_of (cut roles).1 ≡ cs → ⊥
 
 head_of : Subselector → List Subselector → Subselector
 head_of s [] = s
@@ -84,12 +65,14 @@ tail_of : {A : Type 0} → List A → List A
 tail_of [] = []
 tail_of (t ∷ ts) = ts
 
-differs-other : (o : Outcome) (s t : Subselector) (ss : List Subselector) (cs : List Component) → (s ≡ t → ⊥) → Differs (with_role (part (with s)) o) (t ∷ ss) cs
+differs-other : (o : Outcome) (s t : Subselector) (ss : List Subselector) (cs : List Component)
+    → (s ≡ t → ⊥) → Differs (with_role (part (with s)) o) (t ∷ ss) cs
 unfolding head_of
 differs-other (refused left) s t ss cs h = tt
 differs-other (accepted roles left) s t ss cs h = λ e f. h (ap (head_of s) e)
 
-differs-with : (o : Outcome) (s : Subselector) (ss : List Subselector) (cs : List Component) → Differs o ss cs → Differs (with_role (part (with s)) o) (s ∷ ss) cs
+differs-with : (o : Outcome) (s : Subselector) (ss : List Subselector) (cs : List Component)
+    → Differs o ss cs → Differs (with_role (part (with s)) o) (s ∷ ss) cs
 unfolding tail_of
 differs-with (refused left) s ss cs h = tt
 differs-with (accepted roles left) s ss cs h = λ e f. h (ap tail_of e) f
@@ -98,112 +81,26 @@ first_subselectors : List Subselector → List Component → List Subselector
 first_subselectors none_there [] = none_there
 first_subselectors none_there (c ∷ cs) = c.compound.subselectors
 
-differs-joint : (o : Outcome) (j : Combinator) (name : Option (List ℕ)) (ss : List Subselector) (c : Component) (cs : List Component) → Differs o c.compound.subselectors cs → Differs (with_role (joint j) (with_role (part (head_part name)) o)) ss (c ∷ cs)
+differs-joint : (o : Outcome) (j : Combinator) (name : Option (List ℕ)) (ss : List Subselector)
+    (c : Component) (cs : List Component) → Differs o c.compound.subselectors cs
+    → Differs (with_role (joint j) (with_role (part (head_part name)) o)) ss (c ∷ cs)
 unfolding tail_of first_subselectors
 differs-joint (refused left) j None ss c cs h = tt
 differs-joint (refused left) j (Some n) ss c cs h = tt
-differs-joint (accepted roles left) j None ss c cs h = λ e f. h (ap (first_subselectors []) f) (ap tail_of f)
-differs-joint (accepted roles left) j (Some n) ss c cs h = λ e f. h (ap (first_subselectors []) f) (ap tail_of f)
+differs-joint (accepted roles left) j None ss c cs h = λ e f. h (ap (first_subselectors []) f)
+    (ap tail_of f)
+differs-joint (accepted roles left) j (Some n) ss c cs h = λ e f. h (ap (first_subselectors []) f)
+    (ap tail_of f)
 
 attribute-kind : (text more : List ℕ) → text ≡ 91 ∷ more → next_kind text ≡ Attribute
 unfolding next_kind
 attribute-kind text more is = ap next_kind is
 
--- an attribute that is not clean
-other-sequence : (edition : Edition) (n : List ℕ) (p o : Operator) (rest text more : List ℕ) (ss : List Subselector) (cs : List Component) → (p ≡ o → ⊥) → text ≡ 91 ∷ more → gap text ≡ got false text → solid edition text ≡ follow (byte 93 rest) (λ u. got (attribute_selector n p)) → Differs (outcome (sequence_from edition closed_side text)) (attribute n o ∷ ss) cs
-other-sequence edition n p o rest text more ss cs differs is g s = by (byte 93 rest) s
-  where
-    operator_in : Subselector → Operator
-    operator_in (attribute m q) = q
-    operator_in (pseudo_class class) = o
-
-    runs : (r : Reading Token) → solid edition text ≡ r → outcome (sequence_from edition closed_side text) ≡ outcome (solid_sequence edition closed_side false Attribute text r)
-    runs r e = ap outcome (sequence_from-solid edition closed_side text text false r g e ∙ ap (λ k. solid_sequence edition closed_side false k text r) (attribute-kind text more is))
-
-    by : (r : Reading (Unit {0})) → solid edition text ≡ follow r (λ u. got (attribute_selector n p)) → Differs (outcome (sequence_from edition closed_side text)) (attribute n o ∷ ss) cs
-    by (got u after) e =
-        subst (λ (k : Outcome). Differs k (attribute n o ∷ ss) cs) (sym (runs (got (attribute_selector n p) after) e))
-        (differs-other (outcome (sequence_from edition closed_side after)) (attribute n p) (attribute n o) ss cs (λ same. differs (ap operator_in same)))
-    by (fails fault after) e = subst (λ (k : Outcome). Differs k (attribute n o ∷ ss) cs) (sym (runs (fails fault after) e)) tt
-
-unclean-differs : (edition : Edition) (s : Subselector) (ss : List Subselector) (tail : List ℕ) (cs : List Component) → IsSubselector edition s → is_clean_subselector s ≡ false → Differs (outcome (sequence_from edition closed_side (subselector_text s ++ tail))) (s ∷ ss) cs
-unclean-differs edition (attribute n o) ss tail cs w c =
-    let x = operator-cut edition o tail c in
-    let more = ((n ++ operator_text o) ++ (93 ∷ [])) ++ tail in
-    other-sequence edition n x.other o x.rest (subselector_text (attribute n o) ++ tail) more ss cs x.differs refl (gap-none (subselector_text (attribute n o) ++ tail) (subselector-no_gap (attribute n o) tail))
-    (solid-attribute edition more ∙ ap (attribute_after edition) (bracketed n (operator_text o) tail) ∙ attribute-cut edition n o tail w.0 x)
-unclean-differs edition (pseudo_class class) ss tail cs w c = absurd (cc)
-
-clean-differs : (edition : Edition) (s : Subselector) (ss : List Subselector) (tail : List ℕ) (cs : List Component) → IsSubselector edition s → is_clean_subselector s ≡ true → ends_names edition tail ≡ false → Differs (outcome (sequence_from edition closed_side tail)) ss cs → Differs (outcome (sequence_from edition closed_side (subselector_text s ++ tail))) (s ∷ ss) cs
-clean-differs edition s ss tail cs w c e d =
-    let o = outcome (sequence_from edition closed_side tail) in
-    let is = ap outcome (subselector-sequence edition s tail w c e) ∙ ap (λ r. after_role r tail (outcome (sequence_from edition closed_side tail))) (printed_token-role s) in
-    subst (λ (k : Outcome). Differs k (s ∷ ss) cs) (sym is) (differs-with o s ss cs d)
-
-subselectors-end : (edition : Edition) (ss : List Subselector) (tail : List ℕ) → ends_names edition tail ≡ false → ends_names edition (flat_map subselector_text ss ++ tail) ≡ false
-subselectors-end edition [] tail e = e
-subselectors-end edition (s ∷ ss) tail e = ap (ends_names edition) (append_assoc (subselector_text s) (flat_map subselector_text ss) tail) ∙ subselector-ends edition s (flat_map subselector_text ss ++ tail)
-
-subselectors-differ : (edition : Edition) (ss : List Subselector) (tail : List ℕ) (cs : List Component) → EachIs edition ss → ends_names edition tail ≡ false → (list_all is_clean_subselector ss ≡ false) ⊎ Differs (outcome (sequence_from edition closed_side tail)) [] cs → Differs (outcome (sequence_from edition closed_side (flat_map subselector_text ss ++ tail))) ss cs
-subselectors-differ edition [] tail cs w e (inl h) = absurd (cc)
-subselectors-differ edition [] tail cs w e (inr d) = d
-subselectors-differ edition (s ∷ ss) tail cs w e h =
-    subst (λ (t : List ℕ). Differs (outcome (sequence_from edition closed_side t)) (s ∷ ss) cs) (sym (append_assoc (subselector_text s) (flat_map subselector_text ss) tail))
-    (by (is_clean_subselector s) refl h (λ k. subselectors-differ edition ss tail cs w.1 e k))
-  where
-    by : (t : Bool) → is_clean_subselector s ≡ t → (t && list_all is_clean_subselector ss ≡ false) ⊎ Differs (outcome (sequence_from edition closed_side tail)) [] cs
-        → ((list_all is_clean_subselector ss ≡ false) ⊎ Differs (outcome (sequence_from edition closed_side tail)) [] cs → Differs (outcome (sequence_from edition closed_side (flat_map subselector_text ss ++ tail))) ss cs)
-        → Differs (outcome (sequence_from edition closed_side (subselector_text s ++ (flat_map subselector_text ss ++ tail)))) (s ∷ ss) cs
-    by false c k more = unclean-differs edition s ss (flat_map subselector_text ss ++ tail) cs w.0 c
-    by true c k more = clean-differs edition s ss (flat_map subselector_text ss ++ tail) cs w.0 c (subselectors-end edition ss tail e) (more k)
-
--- a printed head and what stands behind it
-abbrev head_text : Option (List ℕ) → List ℕ → List ℕ
-head_text o tail = type_text o ++ tail
-
-head-outcome : (edition : Edition) (o : Option (List ℕ)) (text tail : List ℕ) (spaced : Bool) → IsTypeName edition o tail → gap text ≡ got spaced (head_text o tail) → ends_names edition tail ≡ false → outcome (sequence_from edition open_side text) ≡ with_role (part (head_part o)) (outcome (sequence_from edition closed_side tail))
-head-outcome edition o text tail spaced w g e =
-    let start = head_text o tail in
-    ap outcome (sequence_from-token edition open_side text start tail spaced (head_token o) g (head-reads edition o tail w e))
-    ∙ ap outcome (head-answer o spaced start tail (λ l. sequence_from edition l tail))
-    ∙ by o
-  where
-    by : (o : Option (List ℕ)) → outcome (token_then (head_token o) tail (sequence_from edition closed_side tail)) ≡ with_role (part (head_part o)) (outcome (sequence_from edition closed_side tail))
-    by None = refl
-    by (Some n) = refl
-
-joined-outcome : (edition : Edition) (j : Combinator) (c : Compound) (tail : List ℕ) → Joins j → IsCompound edition c tail → ends_names edition tail ≡ false → outcome (sequence_from edition closed_side (joined_text j (compound_text c ++ tail))) ≡ with_role (joint j) (with_role (part (head_part c.name)) (outcome (sequence_from edition closed_side (flat_map subselector_text c.subselectors ++ tail))))
-joined-outcome edition none c tail n w e = absurd n
-joined-outcome edition descendant c tail n w e =
-    let text = compound_text c ++ tail in
-    let behind = flat_map subselector_text c.subselectors ++ tail in
-    let calm = compound-no_gap edition c tail w in
-    let ends = subselectors-end edition c.subselectors tail e in
-    ap outcome (descends-token edition (32 ∷ text) text behind (head_token c.name) (gap-space text calm) (ap (solid edition) (compound-assoc c tail) ∙ head-reads edition c.name behind w.head ends) (head-simple c.name))
-    ∙ ap (with_role (joint descendant)) (head-outcome edition c.name text behind false w.head (gap-none text calm ∙ ap (got false) (compound-assoc c tail)) ends)
-joined-outcome edition child c tail n w e =
-    let text = compound_text c ++ tail in
-    let behind = flat_map subselector_text c.subselectors ++ tail in
-    ap outcome (child-sequence edition (32 ∷ text))
-    ∙ ap (with_role (joint child)) (head-outcome edition c.name (32 ∷ text) behind true w.head (gap-space text (compound-no_gap edition c tail w) ∙ ap (got true) (compound-assoc c tail)) (subselectors-end edition c.subselectors tail e))
-joined-outcome edition adjacent c tail n w e =
-    let text = compound_text c ++ tail in
-    let behind = flat_map subselector_text c.subselectors ++ tail in
-    ap outcome (adjacent-sequence edition (32 ∷ text))
-    ∙ ap (with_role (joint adjacent)) (head-outcome edition c.name (32 ∷ text) behind true w.head (gap-space text (compound-no_gap edition c tail w) ∙ ap (got true) (compound-assoc c tail)) (subselectors-end edition c.subselectors tail e))
-
-joined-ends : (edition : Edition) (j : Combinator) (text : List ℕ) → Joins j → ends_names edition (joined_text j text) ≡ false
-joined-ends edition none text n = absurd n
-joined-ends edition descendant text n = ends_low edition 32 text (omega arith) refl refl
-joined-ends edition child text n = ends_low edition 32 (62 ∷ 32 ∷ text) (omega arith) refl refl
-joined-ends edition adjacent text n = ends_low edition 32 (43 ∷ 32 ∷ text) (omega arith) refl refl
-
-components-assoc : (c : Component) (cs : List Component) (tail : List ℕ) → selector_text (c ∷ cs) ++ tail ≡ joined_text c.combinator (compound_text c.compound ++ (selector_text cs ++ tail))
-components-assoc c cs tail = append_assoc (component_text c) (selector_text cs) tail ∙ component-assoc c (selector_text cs ++ tail)
-
-components-end : (edition : Edition) (cs : List Component) (tail : List ℕ) → EachJoined edition cs tail → ends_names edition tail ≡ false → ends_names edition (selector_text cs ++ tail) ≡ false
-components-end edition [] tail w e = e
-components-end edition (c ∷ cs) tail w e = ap (ends_names edition) (components-assoc c cs tail) ∙ joined-ends edition c.combinator (compound_text c.compound ++ (selector_text cs ++ tail)) w.0.joins
+components-assoc : (c : Component) (cs : List Component) (tail : List ℕ)
+    → selector_text (c ∷ cs) ++ tail ≡ joined_text c.combinator
+    (compound_text c.compound ++ (selector_text cs ++ tail))
+components-assoc c cs tail = append_assoc (component_text c) (selector_text cs) tail
+    ∙ component-assoc c (selector_text cs ++ tail)
 
 either_unclean : (a b : Bool) → (a && b) ≡ false → (a ≡ false) ⊎ (b ≡ false)
 either_unclean false b h = inl refl
@@ -213,40 +110,196 @@ or_later : {A B C : Type 0} → (B → C) → A ⊎ B → A ⊎ C
 or_later f (inl a) = inl a
 or_later f (inr b) = inr (f b)
 
-components-differ : (edition : Edition) (cs : List Component) (tail : List ℕ) → EachJoined edition cs tail → ends_names edition tail ≡ false → is_clean cs ≡ false → Differs (outcome (sequence_from edition closed_side (selector_text cs ++ tail))) [] cs
-components-differ edition [] tail w e h = absurd (cc)
-components-differ edition (c ∷ cs) tail w e h =
-    let behind = selector_text cs ++ tail in
-    let ends = components-end edition cs tail w.1 e in
-    let o = outcome (sequence_from edition closed_side (flat_map subselector_text c.compound.subselectors ++ behind)) in
-    let inner = subselectors-differ edition c.compound.subselectors behind cs w.0.compound.others ends (or_later (components-differ edition cs tail w.1 e) (either_unclean (is_clean_compound c.compound) (is_clean cs) h)) in
-    let is = ap (λ t. outcome (sequence_from edition closed_side t)) (components-assoc c cs tail) ∙ joined-outcome edition c.combinator c.compound behind w.0.joins w.0.compound ends in
-    subst (λ (k : Outcome). Differs k [] (c ∷ cs)) (sym is) (differs-joint o c.combinator c.compound.name [] c cs inner)
-
 -- the list of a selector that was found
 found_list : Option (List Component) → List Component
 found_list None = []
 found_list (Some cs) = cs
 
-differs-selector : (o : Outcome) (name : Option (List ℕ)) (c : Component) (cs : List Component) → Differs o c.compound.subselectors cs → (selector_of (with_role (part (head_part name)) o)).0 ≡ Some (c ∷ cs) → ⊥
+differs-selector : (o : Outcome) (name : Option (List ℕ)) (c : Component) (cs : List Component)
+    → Differs o c.compound.subselectors cs
+    → (selector_of (with_role (part (head_part name)) o)).0 ≡ Some (c ∷ cs) → ⊥
 unfolding found_list first_subselectors tail_of
 differs-selector (refused left) None c cs d e = absurd (cc)
 differs-selector (refused left) (Some n) c cs d e = absurd (cc)
-differs-selector (accepted roles left) None c cs d e = d (ap (λ o. first_subselectors [] (found_list o)) e) (ap (λ o. tail_of (found_list o)) e)
-differs-selector (accepted roles left) (Some n) c cs d e = d (ap (λ o. first_subselectors [] (found_list o)) e) (ap (λ o. tail_of (found_list o)) e)
+differs-selector (accepted roles left) None c cs d e = d
+    (ap (λ o. first_subselectors [] (found_list o)) e) (ap (λ o. tail_of (found_list o)) e)
+differs-selector (accepted roles left) (Some n) c cs d e = d
+    (ap (λ o. first_subselectors [] (found_list o)) e) (ap (λ o. tail_of (found_list o)) e)
 
--- A selector that is not clean prints as a text that does not read back as it.
-pub printed-differs : (edition : Edition) (s : List Component) (tail : List ℕ) → IsSelector edition s tail → is_clean s ≡ false → ends_names edition tail ≡ false → (reads edition (selector_text s ++ tail)).0 ≡ Some s → ⊥
-unfolding reads
-printed-differs edition [] tail w h e = absurd w
-printed-differs edition (c ∷ cs) tail w h e =
-    let behind = selector_text cs ++ tail in
-    let ends = components-end edition cs tail w.2 e in
-    let o = outcome (sequence_from edition closed_side (flat_map subselector_text c.compound.subselectors ++ behind)) in
-    let inner = subselectors-differ edition c.compound.subselectors behind cs w.1.others ends (or_later (components-differ edition cs tail w.2 e) (either_unclean (is_clean_compound c.compound) (is_clean cs) h)) in
-    let first : selector_text (c ∷ cs) ++ tail ≡ compound_text c.compound ++ behind = components-assoc c cs tail ∙ ap (λ j. joined_text j (compound_text c.compound ++ behind)) w.0 in
-    let text = compound_text c.compound ++ behind in
-    let is : outcome (sequence_of edition (selector_text (c ∷ cs) ++ tail)) ≡ with_role (part (head_part c.compound.name)) o =
-    ap (λ t. outcome (sequence_of edition t)) first
-    ∙ head-outcome edition c.compound.name text (flat_map subselector_text c.compound.subselectors ++ behind) false w.1.head (gap-none text (compound-no_gap edition c.compound behind w.1) ∙ ap (got false) (compound-assoc c.compound behind)) (subselectors-end edition c.compound.subselectors behind ends) in
-    λ found. differs-selector o c.compound.name c cs inner (ap (λ k. (selector_of k).0) (sym is) ∙ found)
+module _ (edition : Edition) where
+  equated-cut : (operator : List ℕ → Operator) (v front more tail : List ℕ)
+      → string_or_name edition (39 ∷ (v ++ (39 ∷ 93 ∷ tail))) ≡ got front (more ++ (39 ∷ 93 ∷ tail))
+      → equated edition operator (61 ∷ (39 ∷ ((v ++ (39 ∷ [])) ++ (93 ∷ tail))))
+      ≡ got (operator front) (more ++ (39 ∷ 93 ∷ tail))
+  equated-cut operator v front more tail e = rw (quoted v tail, e) refl
+
+  -- one that is not clean is cut short
+  operator-cut : (o : Operator) (tail : List ℕ) → is_clean_operator o ≡ false
+      → OtherOperator edition o tail
+  unfolding attribute_operator value_of
+  operator-cut exists tail c = absurd (cc)
+  operator-cut (equals v) tail c =
+      let s = string-cut edition v (39 ∷ 93 ∷ tail) c in
+      record {
+        other = equals s.0;
+        rest = s.1 ++ (39 ∷ 93 ∷ tail);
+        differs = λ e. longer v s.0 s.1
+            s.2 (ap value_of e);
+        reads = equated-cut equals v s.0 s.1 tail s.3;
+      }
+  operator-cut (has_word v) tail c =
+      let s = string-cut edition v (39 ∷ 93 ∷ tail) c in
+      record {
+        other = has_word s.0;
+        rest = s.1 ++ (39 ∷ 93 ∷ tail);
+        differs = λ e. longer v s.0 s.1
+            s.2 (ap value_of e);
+        reads = equated-cut has_word v s.0 s.1 tail s.3;
+      }
+  operator-cut (begins_with v) tail c =
+      let s = string-cut edition v (39 ∷ 93 ∷ tail) c in
+      record {
+        other = begins_with s.0;
+        rest = s.1 ++ (39 ∷ 93 ∷ tail);
+        differs = λ e. longer v s.0
+            s.1 s.2 (ap value_of e);
+        reads = equated-cut begins_with v s.0 s.1 tail s.3;
+      }
+
+  attribute-cut : (n : List ℕ) (o : Operator) (tail : List ℕ) → IsName edition n
+      → (x : OtherOperator edition o tail)
+      → attribute_after edition (n ++ (operator_text o ++ (93 ∷ tail)))
+      ≡ follow (byte 93 x.rest) (λ u. got (attribute_selector n x.other))
+  unfolding attribute_after
+  attribute-cut n o tail w x =
+      let first = name-reads edition n (operator_text o ++ (93 ∷ tail)) w
+      (operator-ends edition o tail) in
+      let second = x.reads in
+      rw (first, second) refl
+
+  -- an attribute that is not clean
+  other-sequence : (n : List ℕ) (p o : Operator) (rest text more : List ℕ) (ss : List Subselector)
+      (cs : List Component) → (p ≡ o → ⊥) → text ≡ 91 ∷ more → gap text ≡ got false text
+      → solid edition text ≡ follow (byte 93 rest) (λ u. got (attribute_selector n p))
+      → Differs (outcome (sequence_from edition closed_side text)) (attribute n o ∷ ss) cs
+  other-sequence n p o rest text more ss cs differs is g s = by (byte 93 rest) s
+    where
+      operator_in : Subselector → Operator
+      operator_in (attribute m q) = q
+      operator_in (pseudo_class class) = o
+
+      runs : (r : Reading Token) → solid edition text ≡ r → outcome
+          (sequence_from edition closed_side text) ≡ outcome (solid_sequence edition closed_side
+          false Attribute text r)
+      runs r e = ap outcome (sequence_from-solid edition closed_side text text false r g e ∙ ap
+          (λ k. solid_sequence edition closed_side false k text r) (attribute-kind text more is))
+
+      by : (r : Reading (Unit {0})) → solid edition text ≡ follow r (λ u. got
+          (attribute_selector n p)) → Differs (outcome (sequence_from edition closed_side text))
+          (attribute n o ∷ ss) cs
+      by (got u after) e =
+          subst (λ (k : Outcome). Differs k (attribute n o ∷ ss) cs) (sym (runs (got
+          (attribute_selector n p) after) e))
+          (differs-other (outcome (sequence_from edition closed_side after)) (attribute n p)
+          (attribute n o) ss cs (λ same. differs (ap operator_in same)))
+      by (fails fault after) e = subst (λ (k : Outcome). Differs k (attribute n o ∷ ss) cs) (sym
+          (runs (fails fault after) e)) tt
+
+  unclean-differs : (s : Subselector) (ss : List Subselector) (tail : List ℕ) (cs : List Component)
+      → IsSubselector edition s → is_clean_subselector s ≡ false
+      → Differs (outcome (sequence_from edition closed_side (subselector_text s ++ tail))) (s ∷ ss)
+      cs
+  unclean-differs (attribute n o) ss tail cs w c =
+      let x = operator-cut o tail c in
+      let more = ((n ++ operator_text o) ++ (93 ∷ [])) ++ tail in
+      other-sequence n x.other o x.rest (subselector_text (attribute n o) ++ tail) more ss cs
+      x.differs refl (gap-none (subselector_text (attribute n o) ++ tail) (subselector-no_gap
+      (attribute n o) tail))
+      (solid-attribute edition more ∙ ap (attribute_after edition) (bracketed n
+      (operator_text o) tail) ∙ attribute-cut n o tail w.0 x)
+  unclean-differs (pseudo_class class) ss tail cs w c = absurd (cc)
+
+  clean-differs : (s : Subselector) (ss : List Subselector) (tail : List ℕ) (cs : List Component)
+      → IsSubselector edition s → is_clean_subselector s ≡ true → ends_names edition tail ≡ false
+      → Differs (outcome (sequence_from edition closed_side tail)) ss cs
+      → Differs (outcome (sequence_from edition closed_side (subselector_text s ++ tail))) (s ∷ ss)
+      cs
+  clean-differs s ss tail cs w c e d =
+      let o = outcome (sequence_from edition closed_side tail) in
+      let is = ap outcome (subselector-sequence edition s tail w c e) ∙ ap (λ r. after_role r tail
+      (outcome (sequence_from edition closed_side tail))) (printed_token-role s) in
+      subst (λ (k : Outcome). Differs k (s ∷ ss) cs) (sym is) (differs-with o s ss cs d)
+
+  subselectors-differ : (ss : List Subselector) (tail : List ℕ) (cs : List Component)
+      → EachIs edition ss → ends_names edition tail ≡ false
+      → (list_all is_clean_subselector ss ≡ false)
+      ⊎ Differs (outcome (sequence_from edition closed_side tail)) [] cs
+      → Differs (outcome (sequence_from edition closed_side (flat_map subselector_text ss ++ tail)))
+      ss cs
+  subselectors-differ [] tail cs w e (inl h) = absurd (cc)
+  subselectors-differ [] tail cs w e (inr d) = d
+  subselectors-differ (s ∷ ss) tail cs w e h =
+      subst (λ (t : List ℕ). Differs (outcome (sequence_from edition closed_side t)) (s ∷ ss) cs)
+      (sym (append_assoc (subselector_text s) (flat_map subselector_text ss) tail))
+      (by (is_clean_subselector s) refl h (λ k. subselectors-differ ss tail cs w.1 e k))
+    where
+      by : (t : Bool) → is_clean_subselector s ≡ t → (t && list_all is_clean_subselector ss ≡ false)
+          ⊎ Differs (outcome (sequence_from edition closed_side tail)) [] cs
+          → ((list_all is_clean_subselector ss ≡ false) ⊎ Differs (outcome
+          (sequence_from edition closed_side tail)) [] cs → Differs (outcome
+          (sequence_from edition closed_side (flat_map subselector_text ss ++ tail))) ss cs)
+          → Differs (outcome (sequence_from edition closed_side (subselector_text s ++
+          (flat_map subselector_text ss ++ tail)))) (s ∷ ss) cs
+      by false c k more = unclean-differs s ss (flat_map subselector_text ss ++ tail) cs w.0 c
+      by true c k more = clean-differs s ss (flat_map subselector_text ss ++ tail) cs w.0 c
+          (subselectors-end edition ss tail e) (more k)
+
+  components-end : (cs : List Component) (tail : List ℕ) → EachJoined edition cs tail
+      → ends_names edition tail ≡ false → ends_names edition (selector_text cs ++ tail) ≡ false
+  components-end [] tail w e = e
+  components-end (c ∷ cs) tail w e = ap (ends_names edition) (components-assoc c cs tail)
+      ∙ joined-ends edition c.combinator (compound_text c.compound ++ (selector_text cs ++ tail))
+      w.0.joins
+
+  components-differ : (cs : List Component) (tail : List ℕ) → EachJoined edition cs tail
+      → ends_names edition tail ≡ false → is_clean cs ≡ false
+      → Differs (outcome (sequence_from edition closed_side (selector_text cs ++ tail))) [] cs
+  components-differ [] tail w e h = absurd (cc)
+  components-differ (c ∷ cs) tail w e h =
+      let following = selector_text cs ++ tail in
+      let ends = components-end cs tail w.1 e in
+      let o = outcome (sequence_from edition closed_side (flat_map subselector_text
+      c.compound.subselectors ++ following)) in
+      let inner = subselectors-differ c.compound.subselectors following cs w.0.compound.others ends
+      (or_later (components-differ cs tail w.1 e) (either_unclean (is_clean_compound c.compound)
+      (is_clean cs) h)) in
+      let is = ap (λ t. outcome (sequence_from edition closed_side t)) (components-assoc c cs tail)
+      ∙ joined-outcome edition c.combinator c.compound following w.0.joins w.0.compound ends in
+      subst (λ (k : Outcome). Differs k [] (c ∷ cs)) (sym is)
+      (differs-joint o c.combinator c.compound.name [] c cs inner)
+
+  -- A selector that is not clean prints as a text that does not read back as it.
+  pub printed-differs : (s : List Component) (tail : List ℕ) → IsSelector edition s tail
+      → is_clean s ≡ false → ends_names edition tail ≡ false
+      → (reads edition (selector_text s ++ tail)).0 ≡ Some s → ⊥
+  unfolding reads
+  printed-differs [] tail w h e = absurd w
+  printed-differs (c ∷ cs) tail w h e =
+      let following = selector_text cs ++ tail in
+      let ends = components-end cs tail w.2 e in
+      let o = outcome (sequence_from edition closed_side (flat_map subselector_text
+      c.compound.subselectors ++ following)) in
+      let inner = subselectors-differ c.compound.subselectors following cs w.1.others ends (or_later
+      (components-differ cs tail w.2 e) (either_unclean (is_clean_compound c.compound)
+      (is_clean cs) h)) in
+      let first : selector_text (c ∷ cs) ++ tail ≡ compound_text c.compound ++ following =
+      components-assoc c cs tail ∙ ap (λ j. joined_text j
+      (compound_text c.compound ++ following)) w.0 in
+      let text = compound_text c.compound ++ following in
+      let is : outcome (sequence_of edition (selector_text (c ∷ cs) ++ tail)) ≡ with_role (part
+      (head_part c.compound.name)) o =
+      ap (λ t. outcome (sequence_of edition t)) first
+      ∙ compound-outcome edition c.compound text following false w.1
+      (gap-none text (compound-no_gap edition c.compound following w.1)) ends in
+      λ found. differs-selector o c.compound.name c cs inner (ap (λ k. (selector_of k).0) (sym is)
+      ∙ found)

@@ -1,4 +1,4 @@
--- Declarations and blocks take bytes.
+-- Declarations and blocks consume bytes.
 -- Serves `DeclarationTokenizer` and `consume_declarations` (their loops end), and
 -- `laws::cutting_law`.
 use Rattle.std.proofs.Common.{ℕ, ◌≤◌, List, Bool, true, false, if◌then◌else◌, length, Option, None, arith, length-drop}
@@ -10,33 +10,46 @@ use Rattle.simplecss_text.proofs.reading.DeclarationsLawful.{declaration-cuts}
 use Rattle.simplecss_text.proofs.reading.EachLaws.{Shrinks, Takes}
 use Rattle.simplecss_text.proofs.reading.TakesLaws.{Keeps, cuts-keeps, length-past_byte, each-within, found-shrinks}
 
-pub next_declaration-takes : (edition : Edition) → Takes (next_declaration edition)
-next_declaration-takes edition text = found-shrinks text (declaration edition text) (declaration-cuts edition text)
-
-shrinks-unless : {A : Type 0} (text : List ℕ) (t : Bool) (o : Option (A × List ℕ)) → Shrinks text o → Shrinks text (if t then None else o)
+shrinks-unless : {A : Type 0} (text : List ℕ) (t : Bool) (o : Option (A × List ℕ)) → Shrinks text o
+    → Shrinks text (if t then None else o)
 shrinks-unless text true o h = tt
 shrinks-unless text false o h = h
-
-pub declaration_in_block-takes : (edition : Edition) → Takes (declaration_in_block edition)
-declaration_in_block-takes edition text = shrinks-unless text (ends_list text) (next_declaration edition text) (next_declaration-takes edition text)
 
 pub length-from_block_end : (text : List ℕ) → length (from_block_end text) ≤ length text
 length-from_block_end text = omega (arith, length-drop (block_end text) text)
 
-length-past_broken : (text : List ℕ) (r : Reading StyleDeclaration) → Keeps text r → length (past_broken r) ≤ length text
+length-past_broken : (text : List ℕ) (r : Reading StyleDeclaration) → Keeps text r
+    → length (past_broken r) ≤ length text
 length-past_broken text (got declared rest) h = h
-length-past_broken text (fails fault rest) h = omega (arith, length-past_byte 125 (from_block_end rest), length-from_block_end rest)
+length-past_broken text (fails fault rest) h = omega
+    (arith, length-past_byte 125 (from_block_end rest), length-from_block_end rest)
 
-length-past_list : (edition : Edition) (text : List ℕ) → length (past_list edition text) ≤ length text
-length-past_list edition text = by (ends_list text)
-  where
-    by : (t : Bool) → length (if t then text else past_broken (declaration edition text)) ≤ length text
-    by true = omega arith
-    by false = length-past_broken text (declaration edition text) (cuts-keeps text (declaration edition text) (declaration-cuts edition text))
+module _ (edition : Edition) where
+  pub next_declaration-takes : Takes (next_declaration edition)
+  next_declaration-takes text = found-shrinks text (declaration edition text)
+      (declaration-cuts edition text)
 
--- what is left after a block is no more than the text
-pub length-block : (edition : Edition) (text : List ℕ) → length (block edition text).1 ≤ length text
-unfolding block
-length-block edition text =
-    let rest = (each (declaration_in_block edition) text).1 in
-    omega (arith, each-within (declaration_in_block edition) (declaration_in_block-takes edition) text, length-past_list edition rest, length-past_byte 125 (past_list edition rest))
+  pub declaration_in_block-takes : Takes (declaration_in_block edition)
+  declaration_in_block-takes text = shrinks-unless text (ends_list text)
+      (next_declaration edition text) (next_declaration-takes text)
+
+  length-past_list : (text : List ℕ) → length (past_list edition text) ≤ length text
+  length-past_list text = by (ends_list text)
+    where
+      by : (t : Bool) → length (if t then text else past_broken
+          (declaration edition text)) ≤ length text
+      by true = omega arith
+      by false = length-past_broken text (declaration edition text) (cuts-keeps text
+          (declaration edition text) (declaration-cuts edition text))
+
+  -- what is left after a block is no more than the text
+  pub length-block : (text : List ℕ) → length (block edition text).1 ≤ length text
+  unfolding block
+  length-block text =
+      let rest = (each (declaration_in_block edition) text).1 in
+      omega (
+        arith,
+        each-within (declaration_in_block edition) declaration_in_block-takes text,
+        length-past_list rest,
+        length-past_byte 125 (past_list edition rest),
+      )

@@ -1,4 +1,4 @@
--- Terms, values and declarations owe what every reader owes, and take bytes.
+-- Terms, values and declarations owe what every reader owes, and consume bytes.
 -- Serves `DeclarationTokenizer`, `take_value`, `StyleSheet::{parse, parse_more}` and
 -- `laws::{cutting_law, edition_law}`.
 use Rattle.std.proofs.Common.{◌≡◌, ◌⊎◌, ◌≤◌, Bool, List, None, Option, Some, [], ap, arith, codes, drop, IsUtf8, ◌<◌, subst, sym, take, eqb, false, if◌then◌else◌, inl, inr, length, length-append, not, refl, true, ℕ, ◌&&◌, ◌++◌, ◌==◌, ◌||◌, ◌∙◌, ◌∷◌, eqb-true}
@@ -139,7 +139,7 @@ word-cuts edition text =
     cuts-follow text (name edition text) (λ n. arguments) (name-cuts edition text)
     (λ n rest. lawful-keeps _ _ (arguments-lawful true) edition rest)
 
--- a term takes a byte or more
+-- a term consumes a byte or more
 pub term-cuts : (edition : Edition) (text : List ℕ) → Cuts text (term edition text)
 unfolding term
 term-cuts edition [] = omega arith
@@ -189,14 +189,14 @@ slash_passed t text b e =
     ∙ ap (λ (k : ℕ). word second_edition (k ∷ text)) (sym (eqb-true b 47 e))) tt
 
 -- The test comes out the same. Or a comment opens in the first tail: then the slash begins no term.
-single-behind : (edition : Edition) (c : Bool) (t : List ℕ) (b : ℕ) (r s : List ℕ)
+single-after : (edition : Edition) (c : Bool) (t : List ℕ) (b : ℕ) (r s : List ℕ)
     → (starts 42 r ≡ starts 42 s) ⊎ ((c ≡ false) × (r ≡ t) × (starts 42 r ≡ true))
     → (is_single edition b r ≡ is_single edition b s) ⊎ Passed c t (single edition b r)
-single-behind first_edition c t b r s h = inl refl
-single-behind second_edition c t b r s (inl e) =
+single-after first_edition c t b r s h = inl refl
+single-after second_edition c t b r s (inl e) =
     inl (ap (λ (k : Bool). b == 44 || (b == 47 && not k)) e)
-single-behind second_edition true t b r s (inr h) = absurd (let e : true ≡ false = h.0 in cc)
-single-behind second_edition false t b r s (inr h) = rw h.2 (by (b == 44) (b == 47) refl)
+single-after second_edition true t b r s (inr h) = absurd (let e : true ≡ false = h.0 in cc)
+single-after second_edition false t b r s (inr h) = rw h.2 (by (b == 44) (b == 47) refl)
   where
     by : (j k : Bool) → (b == 47) ≡ k
         → ((j || (k && false)) ≡ (j || (k && not (starts 42 s)))) ⊎ Passed false t
@@ -209,7 +209,7 @@ single-seam : (edition : Edition) (c : Bool) (t u : List ℕ) → Seam edition c
     → (b d : ℕ) (r s : List ℕ) → Along t u (b ∷ r) (d ∷ s)
     → (is_single edition b r ≡ is_single edition d s) ⊎ Passed c t (single edition b r)
 single-seam edition c t u m b d r s (on _ _ _ h) =
-    single-behind edition c t b r s (starts-seam c t u 42 (λ q e w. w.no_star) m r s h)
+    single-after edition c t b r s (starts-seam c t u 42 (λ q e w. w.no_star) m r s h)
 single-seam first_edition c t u (at_brace x y) b d r s at = inl refl
 single-seam second_edition c t u (at_brace x y) b d r s at = inl refl
 single-seam edition c t u (at_quiet _ q more w z) b d r s at =
@@ -490,8 +490,8 @@ unless_empty-lawful start other declared r s =
     owes-if (length declared.value == 0) (owes-fails _ _ r s) (owes-give declared r s)
 
 -- a declaration after its name
-abbrev behind_name : List ℕ → Edition → Reader StyleDeclaration
-behind_name property edition = do
+abbrev after_name : List ℕ → Edition → Reader StyleDeclaration
+after_name property edition = do
   blank
   byte 58
   blank
@@ -500,8 +500,8 @@ behind_name property edition = do
   important ← trailing
   unless_empty start (record { name = property; value = stated; important = important })
 
-behind_name-lawful : (property : List ℕ) → Lawful true (behind_name property) (behind_name property)
-behind_name-lawful property r s =
+after_name-lawful : (property : List ℕ) → Lawful true (after_name property) (after_name property)
+after_name-lawful property r s =
     owes-follow _ _ (blank-lawful r s) (λ u r s.
     owes-follow _ _ (byte-lawful 58 (omega arith) r s) (λ u r s.
     owes-follow _ _ (blank-lawful r s) (λ u start other.
@@ -515,18 +515,18 @@ unfolding declaration
 declaration-lawful r s =
     owes-follow _ _ (blank-lawful r s) (λ u r s.
     owes-follow _ _ (optional-lawful 42 (omega arith) refl r s) (λ u r s.
-    owes-follow _ _ (name-lawful r s) behind_name-lawful))
+    owes-follow _ _ (name-lawful r s) after_name-lawful))
 
--- it takes a byte or more
+-- it consumes a byte or more
 pub declaration-cuts : (edition : Edition) (text : List ℕ) → Cuts text (declaration edition text)
 unfolding declaration
 declaration-cuts edition text =
     follow-cuts text (blank text) _ (length-ends text (left_after (blank text)) (well-blank text).0)
     (λ u a.
     follow-cuts a (optional 42 a) _ (length-past_byte 42 a) (λ u b.
-    cuts-follow b (name edition b) (λ property. behind_name property edition) (name-cuts edition b)
-    (λ property. lawful-keeps (behind_name property) (behind_name property)
-    (behind_name-lawful property) edition)))
+    cuts-follow b (name edition b) (λ property. after_name property edition) (name-cuts edition b)
+    (λ property. lawful-keeps (after_name property) (after_name property)
+    (after_name-lawful property) edition)))
 
 pub declaration-stands : (edition : Edition) (text : List ℕ)
     → Stands text no_texts (declaration edition text)

@@ -13,7 +13,7 @@ abbrev pub Shrinks : {A : Type 0} → List ℕ → Option (A × List ℕ) → Ty
 Shrinks text None = Unit {0}
 Shrinks text (Some x) = length x.1 < length text
 
--- what read takes is a byte or more
+-- what `read` consumes is a byte or more
 abbrev pub Takes : {A : Type 0} → (List ℕ → Option (A × List ℕ)) → Type 0
 Takes read = (text : List ℕ) → Shrinks text (read text)
 

@@ -1,4 +1,4 @@
--- Ends of a text, and texts that are in what reading passes.
+-- Ends of a text, and texts that are in what reading consumes.
 -- Serves `next` of both tokenizers (slices in order), `StyleSheet::parse_more`, `laws::cutting_law`
 -- and `laws::edition_law`.
 use Rattle.std.proofs.Common.{◌≡◌, ℕ, zero, suc, ◌≤◌, List, [], ◌∷◌, ◌++◌, Bool, true, false, if◌then◌else◌, length, take, drop, ◌-◌, ◌==◌, Option, Some, None, arith, refl, ap, ◌∙◌, subst, append_assoc, append-nil, length-append}
@@ -179,7 +179,7 @@ stands-got text texts r x rest h e = subst (StandsIn text texts) e h.at
 pub ends-got : {A : Type 0} (text : List ℕ) (texts : A → List (List ℕ)) (r : Reading A) (x : A)
     (rest : List ℕ) → Stands text texts r → r ≡ got x rest → Ends text rest
 ends-got text texts r x rest h e =
-    stand-ends text rest (texts x) (stands-got text texts r x rest h e)
+    stand-ends text rest (texts x) (stands-got _ _ _ _ _ h e)
 
 pub ends-fails : {A : Type 0} (text : List ℕ) (texts : A → List (List ℕ)) (r : Reading A)
     (fault : Fault) (rest : List ℕ) → Stands text texts r → r ≡ fails fault rest → Ends text rest
@@ -193,13 +193,13 @@ stands-from text middle texts (got x rest) e h =
 stands-from text middle texts (fails fault rest) e h =
     record { at = ends-ends text middle rest e h.at }
 
-pub stands-if : {A : Type 0} (text : List ℕ) (texts : A → List (List ℕ)) (t : Bool)
-    (x y : Reading A) → Stands text texts x → Stands text texts y
+pub stands-if : {A : Type 0} {text : List ℕ} {texts : A → List (List ℕ)} (t : Bool)
+    {x y : Reading A} → Stands text texts x → Stands text texts y
     → Stands text texts (if t then x else y)
-stands-if text texts true x y a b = a
-stands-if text texts false x y a b = b
+stands-if true a b = a
+stands-if false a b = b
 
--- one thing after another, where texts were passed before the first
+-- one thing after another, where texts were consumed before the first
 pub stands-then : {A B : Type 0} (from text : List ℕ) (front : List (List ℕ))
     (seen : A → List (List ℕ)) (texts : B → List (List ℕ)) (r : Reading A) (next : A → Reader B)
     → StandBetween from text front → Stands text seen r

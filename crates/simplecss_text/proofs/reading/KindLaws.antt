@@ -1,4 +1,4 @@
--- The kind of what stands next, the byte that it tells, and the table of neighbours by kinds.
+-- The kind of what is next, the byte that has it, and the table of neighbours by kinds.
 -- Serves `SelectorTokenizer`, `Selector::parse_front` and `laws::{cutting_law, edition_law}`.
 use Rattle.std.proofs.Common.{◌≡◌, ℕ, ◌<◌, List, [], ◌∷◌, Bool, true, false, if◌then◌else◌, ◌==◌, refl, sym, ap, subst, arith}
 use Rattle.std.proofs.lemmas.Bool.{eqb-true}
@@ -28,7 +28,8 @@ Tells Attribute b = b ≡ 91
 Tells Colon b = b ≡ 58
 Tells Other b = Unit {0}
 
-tells-if : (b c : ℕ) (one other : NextKind) → (b ≡ c → Tells one b) → Tells other b → Tells (if b == c then one else other) b
+tells-if : (b c : ℕ) (one other : NextKind) → (b ≡ c → Tells one b) → Tells other b
+    → Tells (if b == c then one else other) b
 tells-if b c one other h k = by (b == c) refl
   where
     by : (t : Bool) → (b == c) ≡ t → Tells (if t then one else other) b
@@ -38,11 +39,12 @@ tells-if b c one other h k = by (b == c) refl
 kind_of_byte-tells : (b : ℕ) → Tells (kind_of_byte b) b
 kind_of_byte-tells b =
     tells-if b 44 Stop _ (λ e. tt) (tells-if b 123 Stop _ (λ e. tt) (tells-if b 47 Slash _ (λ e. e)
-    (tells-if b 62 Child _ (λ e. e) (tells-if b 43 Adjacent _ (λ e. e) (tells-if b 42 Universal _ (λ e. e)
+    (tells-if b 62 Child _ (λ e. e) (tells-if b 43 Adjacent _ (λ e. e)
+    (tells-if b 42 Universal _ (λ e. e)
     (tells-if b 35 Id _ (λ e. e) (tells-if b 46 Class _ (λ e. e) (tells-if b 91 Attribute _ (λ e. e)
     (tells-if b 58 Colon Other (λ e. e) tt)))))))))
 
--- one byte alone is of this kind
+-- only one byte has this kind
 abbrev pub HasSign : NextKind → Type 0
 HasSign Stop = ⊥
 HasSign Other = ⊥
@@ -67,19 +69,26 @@ pub record BeginsAscii (text : List ℕ) : Type 0 where
   pub is : text ≡ byte ∷ past_one text
 
 -- where a sign is next, it is ASCII
-pub sign-begins : (kind : NextKind) (text : List ℕ) → HasSign kind → next_kind text ≡ kind → BeginsAscii text
+pub sign-begins : (kind : NextKind) (text : List ℕ) → HasSign kind → next_kind text ≡ kind
+    → BeginsAscii text
 unfolding next_kind
 sign-begins kind [] s e = absurd (subst HasSign (sym e) s)
-sign-begins kind (b ∷ text) s e = record { byte = b; ascii = sign-ascii kind b s (subst (λ k. Tells k b) e (kind_of_byte-tells b)); is = refl }
+sign-begins kind (b ∷ text) s e = record {
+  byte = b;
+  ascii = sign-ascii kind b s
+      (subst (λ k. Tells k b) e (kind_of_byte-tells b));
+  is = refl;
+}
 
--- a slash stands where it is announced
+-- a slash is where its kind is next
 pub slash-starts : (text : List ℕ) → next_kind text ≡ Slash → starts 47 text ≡ true
 unfolding next_kind
 slash-starts [] e = absurd (cc)
 slash-starts (b ∷ text) e = rw (subst (λ k. Tells k b) e (kind_of_byte-tells b)) refl
 
 -- a solid piece, where the kind is known
-pub solid-kind_known : (edition : Edition) (kind : NextKind) (text : List ℕ) → next_kind text ≡ kind → solid edition text ≡ solid_as edition kind text
+pub solid-kind_known : (edition : Edition) (kind : NextKind) (text : List ℕ) → next_kind text ≡ kind
+    → solid edition text ≡ solid_as edition kind text
 unfolding solid
 solid-kind_known edition kind text k = ap (λ k. solid_as edition k text) k
 
@@ -94,9 +103,13 @@ NamesStart Colon = ⊥
 NamesStart Other = ⊥
 NamesStart kind = Unit {0}
 
--- what the table answers in two texts: nothing, a descendant combinator behind a space byte, or a
--- fault at the start of what follows, or behind it
-pub between-both : (P : Answer → Answer → Type 0) (side : Side) (spaced : Bool) (kind : NextKind) (a x b y : List ℕ) → P nothing nothing → (spaced ≡ true → P descends descends) → ((f e : Fault) → NamesStart kind → P (refuses f a) (refuses e b)) → ((f e : Fault) → P (refuses f x) (refuses e y)) → P (between side spaced kind a x) (between side spaced kind b y)
+-- the answer of the table in two texts: nothing, a descendant combinator after a space byte, or a
+-- fault at the start of what follows, or after it
+pub between-both : (P : Answer → Answer → Type 0) (side : Side) (spaced : Bool) (kind : NextKind)
+    (a x b y : List ℕ) → P nothing nothing → (spaced ≡ true → P descends descends)
+    → ((f e : Fault) → NamesStart kind → P (refuses f a) (refuses e b))
+    → ((f e : Fault) → P (refuses f x) (refuses e y))
+    → P (between side spaced kind a x) (between side spaced kind b y)
 between-both P open_side spaced Stop a x b y n d s r = s _ _ tt
 between-both P open_side spaced Slash a x b y n d s r = s _ _ tt
 between-both P open_side spaced Child a x b y n d s r = s _ _ tt
@@ -126,11 +139,18 @@ between-both P closed_side true Colon a x b y n d s r = d refl
 between-both P closed_side true Other a x b y n d s r = d refl
 
 -- the same in one text
-pub between-case : (P : Answer → Type 0) (side : Side) (spaced : Bool) (kind : NextKind) (start after : List ℕ) → P nothing → (spaced ≡ true → P descends) → ((f : Fault) → NamesStart kind → P (refuses f start)) → ((f : Fault) → P (refuses f after)) → P (between side spaced kind start after)
-between-case P side spaced kind start after n d s r = between-both (λ one other. P one) side spaced kind start after start after n d (λ f e k. s f k) (λ f e. r f)
+pub between-case : (P : Answer → Type 0) (side : Side) (spaced : Bool) (kind : NextKind)
+    (start after : List ℕ) → P nothing → (spaced ≡ true → P descends)
+    → ((f : Fault) → NamesStart kind → P (refuses f start)) → ((f : Fault) → P (refuses f after))
+    → P (between side spaced kind start after)
+between-case P side spaced kind start after n d s r = between-both (λ one other. P one) side spaced
+    kind start after start after n d (λ f e k. s f k) (λ f e. r f)
 
 -- what ends the pieces at a fault
-pub fault_ending-case : (P : Ending → Type 0) (kind : NextKind) (spaced : Bool) (start : List ℕ) (fault : Fault) (after : List ℕ) → (kind ≡ Stop → P (at_stop spaced start)) → (kind ≡ Slash → P (at_slash spaced start)) → P (without_head spaced start fault after) → P (within_piece spaced start fault after) → P (fault_ending kind spaced start fault after)
+pub fault_ending-case : (P : Ending → Type 0) (kind : NextKind) (spaced : Bool) (start : List ℕ)
+    (fault : Fault) (after : List ℕ) → (kind ≡ Stop → P (at_stop spaced start))
+    → (kind ≡ Slash → P (at_slash spaced start)) → P (without_head spaced start fault after)
+    → P (within_piece spaced start fault after) → P (fault_ending kind spaced start fault after)
 fault_ending-case P Stop spaced start fault after s l h p = s refl
 fault_ending-case P Slash spaced start fault after s l h p = l refl
 fault_ending-case P Child spaced start fault after s l h p = p

@@ -1,4 +1,4 @@
--- What every reader owes, as one record, and what keeps it: choosing, passing a byte, reading one
+-- What every reader owes, as one record, and what keeps it: choosing, consuming a byte, reading one
 -- thing after another.
 -- Serves the tokenizers, `take_value`, `StyleSheet::{parse, parse_all, parse_more}` and
 -- `laws::{cutting_law, edition_law}`.
@@ -20,7 +20,7 @@ use Rattle.simplecss_text.proofs.printed.ReadValues.{quote_low}
 use Rattle.simplecss_text.proofs.editions.EditionLaws.{Shared, name-editions, shared-ends}
 
 -- What a reading of the text r owes, in either edition. `left`: what it leaves is an end of r, and
--- UTF-8 if r is. `same`: where r has ASCII bytes alone and no slash, both editions come to the
+-- UTF-8 if r is. `same`: where r has only ASCII bytes and no slash, both editions come to the
 -- same. `guard`, the law of locality: where another text s is alike up to where both part, and b
 -- reads s, the first reading passed that place or both come to the same. With `true` this is owed
 -- where the second text is cut after a closing brace; with `false` where the first continues with
@@ -176,7 +176,7 @@ pub owes-past : {A : Type 0} {c : Bool} {r s : List ℕ} {a b : Edition → Read
 owes-past {r = r} {s = s} k low p =
     owes-past_one (k ∷ r) (k ∷ s) (omega arith) (well-tail k r low) p
 
--- a choice by the ASCII byte that is next, which is passed
+-- a choice by the ASCII byte that is next, which is consumed
 pub owes-sign : {A : Type 0} {k : Bool} {r s : List ℕ} {a b x y : Edition → Reading A} (n : ℕ)
     → n < 128 → ((edition : Edition) (q : ℕ) → k ≡ false → Quiet edition q → (q == n) ≡ false)
     → Owes k (past_one r) (past_one s) a b → Owes k r s x y
@@ -238,7 +238,8 @@ cases-guard c m n takes some edition t u (at_brace x y) r s v at =
 cases-guard c m n takes some edition t u (at_quiet _ q more w z) r s v at =
     inl (takes-passed t (m edition t) (takes refl edition t))
 
--- By the first byte, and where there is none. Where faults are not alike a byte or more is taken.
+-- By the first byte, and where there is none. Where faults are not alike a byte or more is
+-- consumed.
 pub lawful-cases : {A : Type 0} {c : Bool} (m n : Edition → Reader A)
     → (c ≡ false → (edition : Edition) (text : List ℕ) → Cuts text (m edition text))
     → Owes c [] [] (λ edition. m edition []) (λ edition. n edition [])
@@ -269,7 +270,7 @@ pub lawful-keeps : {A : Type 0} {c : Bool} (m n : Edition → Reader A) → Lawf
 lawful-keeps m n p edition text =
     length-ends text (left_after (m edition text)) ((p text text).left edition).0
 
--- and after a byte that was passed it is less
+-- and after a byte that was consumed it is less
 pub owes-cuts : {A : Type 0} {c : Bool} {r s : List ℕ} {a b : Edition → Reading A} (k : ℕ)
     → Owes c r s a b → (edition : Edition) → Cuts (k ∷ r) (a edition)
 owes-cuts {r = r} {a = a} k p edition =
@@ -293,7 +294,7 @@ pub lawful-guarded : {A : Type 0} (m n : Edition → Reader A) → Lawful true m
 lawful-guarded m n p edition u v r s w h =
     (p r s).guard edition (125 ∷ (u ++ v)) (125 ∷ u) (at_brace u v) w h
 
--- what is left, by the ASCII byte that is next, which is passed
+-- what is left, by the ASCII byte that is next, which is consumed
 pub passes-sign : {k : Bool} {r s : List ℕ} (n : ℕ) → n < 128
     → ((edition : Edition) (q : ℕ) → k ≡ false → Quiet edition q → (q == n) ≡ false)
     → (a b x y : Edition → List ℕ)
@@ -390,7 +391,7 @@ name-owes c r s some =
 pub name-lawful : Lawful true name name
 name-lawful r s = name-owes true r s (λ e. absurd (cc))
 
--- what is left after a name, or after the hyphen that a missing one passes
+-- what is left after a name, or after the hyphen that a missing one consumes
 pub past_name-lawful : (c : Bool)
     → Lawful c (λ edition text. got (tt {0}) (left_after (name edition text)))
     (λ edition text. got tt (left_after (name edition text)))

@@ -31,89 +31,47 @@ pub record Quiet (edition : Edition) (q : ℕ) : Type 0 where
   pub no_star : (q == 42) ≡ false
   pub no_hyphen : (q == 45) ≡ false
 
+quiet-by : {q : ℕ} → q < 128 → is_name_char first_edition q ≡ false
+    → is_name_char second_edition q ≡ false → is_name_start first_edition q ≡ false
+    → is_name_start second_edition q ≡ false → is_digit q ≡ false → is_hex_digit q ≡ false
+    → (q == 46) ≡ false → (q == 37) ≡ false → (q == 40) ≡ false → (q == 42) ≡ false
+    → (q == 45) ≡ false → (edition : Edition) → Quiet edition q
+quiet-by low c d s e digit hex point percent opening star hyphen first_edition = record {
+  low = low;
+  no_char = c;
+  no_start = s;
+  no_digit = digit;
+  no_hex = hex;
+  no_point = point;
+  no_percent = percent;
+  no_opening = opening;
+  no_star = star;
+  no_hyphen = hyphen;
+}
+quiet-by low c d s e digit hex point percent opening star hyphen second_edition = record {
+  low = low;
+  no_char = d;
+  no_start = e;
+  no_digit = digit;
+  no_hex = hex;
+  no_point = point;
+  no_percent = percent;
+  no_opening = opening;
+  no_star = star;
+  no_hyphen = hyphen;
+}
+
 pub quiet-brace : (edition : Edition) → Quiet edition 125
-quiet-brace first_edition =
-    record {
-      low = omega arith;
-      no_char = refl;
-      no_start = refl;
-      no_digit = refl;
-      no_hex = refl;
-      no_point = refl;
-      no_percent = refl;
-      no_opening = refl;
-      no_star = refl;
-      no_hyphen = refl;
-    }
-quiet-brace second_edition =
-    record {
-      low = omega arith;
-      no_char = refl;
-      no_start = refl;
-      no_digit = refl;
-      no_hex = refl;
-      no_point = refl;
-      no_percent = refl;
-      no_opening = refl;
-      no_star = refl;
-      no_hyphen = refl;
-    }
+quiet-brace = quiet-by (omega arith) refl refl refl refl refl refl refl refl refl refl refl
 
 pub quiet-semicolon : (edition : Edition) → Quiet edition 59
-quiet-semicolon first_edition =
-    record {
-      low = omega arith;
-      no_char = refl;
-      no_start = refl;
-      no_digit = refl;
-      no_hex = refl;
-      no_point = refl;
-      no_percent = refl;
-      no_opening = refl;
-      no_star = refl;
-      no_hyphen = refl;
-    }
-quiet-semicolon second_edition =
-    record {
-      low = omega arith;
-      no_char = refl;
-      no_start = refl;
-      no_digit = refl;
-      no_hex = refl;
-      no_point = refl;
-      no_percent = refl;
-      no_opening = refl;
-      no_star = refl;
-      no_hyphen = refl;
-    }
+quiet-semicolon = quiet-by (omega arith) refl refl refl refl refl refl refl refl refl refl refl
 
 pub quiet-space : (edition : Edition) → Quiet edition 32
-quiet-space first_edition =
-    record {
-      low = omega arith;
-      no_char = refl;
-      no_start = refl;
-      no_digit = refl;
-      no_hex = refl;
-      no_point = refl;
-      no_percent = refl;
-      no_opening = refl;
-      no_star = refl;
-      no_hyphen = refl;
-    }
-quiet-space second_edition =
-    record {
-      low = omega arith;
-      no_char = refl;
-      no_start = refl;
-      no_digit = refl;
-      no_hex = refl;
-      no_point = refl;
-      no_percent = refl;
-      no_opening = refl;
-      no_star = refl;
-      no_hyphen = refl;
-    }
+quiet-space = quiet-by (omega arith) refl refl refl refl refl refl refl refl refl refl refl
+
+pub quiet-mark : (edition : Edition) → Quiet edition 33
+quiet-mark = quiet-by (omega arith) refl refl refl refl refl refl refl refl refl refl refl
 
 -- How two texts part. `at_brace`: both at a closing brace, where the second ends where the first is
 -- cut. `at_quiet`: the first at any text, the second at a byte that continues nothing. The Bool is
@@ -206,7 +164,7 @@ guard-if R k t u false false a b x y e p q = q
 guard-if R k t u true false a b x y e p q = absurd (cc)
 guard-if R k t u false true a b x y e p q = absurd (cc)
 
--- what is left, given
+-- a value, and what is left
 pub guard-got : {A : Type 0} (R : A → A → Type 0) (c : Bool) (t u : List ℕ) (x y : A) (r s : List ℕ)
     → R x y → To c t u r s → Guard R c t u (got x r) (got y s)
 guard-got R c t u x y r s e (inl h) = inl (passed-beyond c t (got x r) h)
@@ -260,7 +218,7 @@ pub past_one-along : (g : ℕ) (t u r s : List ℕ) → Along (g ∷ t) (g ∷ u
 past_one-along g t u r s at = inl (omega arith)
 past_one-along g t u r s (on b r1 s1 h) = inr h
 
--- a byte is passed, if it is there
+-- a byte is consumed, if it is there
 pub past_byte-to : (t u : List ℕ) (c : ℕ) → past_byte c u ≡ u → (r s : List ℕ) → Along t u r s
     → (length (past_byte c r) < length t) ⊎ Along t u (past_byte c r) (past_byte c s)
 past_byte-to [] u c e r s at = inr (rw e at)

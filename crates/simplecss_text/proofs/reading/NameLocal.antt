@@ -18,70 +18,15 @@ use Rattle.simplecss_text.proofs.reading.TakesLaws.{length-past}
 use Rattle.simplecss_text.proofs.reading.LocalLaws.{Along, Equal, Guard, Quiet, Seam, To, along-front, along-split, beyond-less, passed-beyond, past-seam, past_byte-to, quiet-brace}
 use Rattle.simplecss_text.proofs.reading.LocalLaws.Seam.{at_brace, at_quiet}
 
-ends-alike : (edition : Edition) (r : List ℕ) (q : ℕ) (more front : List ℕ) → Quiet edition q
-    → IsUtf8 front → ends_names edition (front ++ r) ≡ false
-    → ends_names edition (front ++ (q ∷ more)) ≡ false
-ends-alike edition r q more front quiet u e =
-    ap (starts_by (is_name_char edition)) (chars-append front (q ∷ more) u)
-    ∙ by (chars front) (ap (starts_by (is_name_char edition)) (sym (chars-append front r u)) ∙ e)
-  where
-    by : (cs : List ℕ) → starts_by (is_name_char edition) (cs ++ chars r) ≡ false
-        → starts_by (is_name_char edition) (cs ++ chars (q ∷ more)) ≡ false
-    by [] h = ap (starts_by (is_name_char edition)) (chars-byte q more quiet.low) ∙ quiet.no_char
-    by (c ∷ cs) h = h
-
--- no name begins with such a byte
-pub begins-quiet : (edition : Edition) (q : ℕ) (ds : List ℕ) → Quiet edition q
-    → begins_name edition (q ∷ ds) ≡ false
-begins-quiet edition q [] quiet = rw (quiet.no_start, quiet.no_hyphen) refl
-begins-quiet edition q (d ∷ ds) quiet = rw (quiet.no_start, quiet.no_hyphen) refl
-
-begins-one : (edition : Edition) (c q : ℕ) (rs ds : List ℕ) → Quiet edition q
-    → begins_name edition (c ∷ rs) ≡ false → begins_name edition (c ∷ q ∷ ds) ≡ false
-begins-one edition c q rs ds quiet h =
-    let start = by rs h in rw (start, quiet.no_start) (hyphen (c == 45))
-  where
-    by : (rs : List ℕ) → begins_name edition (c ∷ rs) ≡ false → is_name_start edition c ≡ false
-    by [] h = (both_false (is_name_start edition c) (c == 45) h).0
-    by (d ∷ rs) h = (both_false (is_name_start edition c) (c == 45 && is_name_start edition d) h).0
-
-    hyphen : (t : Bool) → (t && false) ≡ false
-    hyphen true = refl
-    hyphen false = refl
-
-begins-alike : (edition : Edition) (r : List ℕ) (q : ℕ) (more front : List ℕ) → Quiet edition q
-    → IsUtf8 front → begins_name edition (chars (front ++ r)) ≡ false
-    → begins_name edition (chars (front ++ (q ∷ more))) ≡ false
-begins-alike edition r q more front quiet u e =
-    ap (begins_name edition) (chars-append front (q ∷ more) u
-    ∙ ap (λ l. chars front ++ l) (chars-byte q more quiet.low))
-    ∙ by (chars front) (ap (begins_name edition) (sym (chars-append front r u)) ∙ e)
-  where
-    by : (cs : List ℕ) → begins_name edition (cs ++ chars r) ≡ false
-        → begins_name edition (cs ++ (q ∷ chars more)) ≡ false
-    by [] h = begins-quiet edition q (chars more) quiet
-    by (c ∷ []) h = begins-one edition c q (chars r) (chars more) quiet h
-    by (c ∷ d ∷ cs) h = h
-
--- at such a byte no name is read
-pub name-quiet : (edition : Edition) (q : ℕ) (more : List ℕ) → Quiet edition q
-    → name edition (q ∷ more) ≡ fails (no_name (q ∷ more)) (q ∷ more)
-name-quiet edition q more quiet =
-    let begins : begins_name edition (chars (q ∷ more)) ≡ false =
-    ap (begins_name edition) (chars-byte q more quiet.low)
-    ∙ begins-quiet edition q (chars more) quiet in
-    let left : past_byte 45 (q ∷ more) ≡ q ∷ more = let p = quiet.no_hyphen in rw p refl in
-    name-none_begins edition (q ∷ more) begins ∙ ap (fails (no_name (q ∷ more))) left
-
 -- a front, where more than the tail is left
-pub split-behind : (front r n rest : List ℕ) → front ++ r ≡ n ++ rest → length r ≤ length rest
+pub split-after : (front r n rest : List ℕ) → front ++ r ≡ n ++ rest → length r ≤ length rest
     → (left : List ℕ) × (front ≡ n ++ left) × (rest ≡ left ++ r)
-split-behind front r [] rest e h = (front, refl, sym e)
-split-behind [] r (b ∷ n) rest e h = absurd (omega (arith, ap length e, length-append n rest))
-split-behind (c ∷ front) r (b ∷ n) rest e h =
+split-after front r [] rest e h = (front, refl, sym e)
+split-after [] r (b ∷ n) rest e h = absurd (omega (arith, ap length e, length-append n rest))
+split-after (c ∷ front) r (b ∷ n) rest e h =
     let first : c ≡ b = cc in
     let others : front ++ r ≡ n ++ rest = cc in
-    let more = split-behind front r n rest others h in
+    let more = split-after front r n rest others h in
     (more.0, (ap (λ k. k ∷ front) first ∙ ap (λ l. b ∷ l) more.1), more.2)
 
 -- the name that begins both texts, or a hyphen that ends the first, or none
@@ -98,112 +43,165 @@ pub data NamesAlike (edition : Edition) (t u text other : List ℕ) : Type 0 whe
 name_utf8 : (edition : Edition) (n : List ℕ) → IsName edition n → IsUtf8 n
 name_utf8 edition n w = (w.letters, (w.scalars, w.spell))
 
-same_name : (edition : Edition) (r : List ℕ) (q : ℕ) (more front n rest : List ℕ) → Quiet edition q
-    → IsUtf8 front → name edition (front ++ r) ≡ got n rest → IsName edition n
-    → front ++ r ≡ n ++ rest → ends_names edition rest ≡ false → length r ≤ length rest
-    → NamesAlike edition r (q ∷ more) (front ++ r) (front ++ (q ∷ more))
-same_name edition r q more front n rest quiet u e w joined ends h =
-    let split = split-behind front r n rest joined h in
-    let left = split.0 in
-    let v : IsUtf8 left = utf8-second n left (subst IsUtf8 split.1 u) (name_utf8 edition n w) in
-    let stops =
-    ends-alike edition r q more left quiet v (ap (ends_names edition) (sym split.2) ∙ ends) in
-    let text : front ++ (q ∷ more) ≡ n ++ (left ++ (q ∷ more)) =
-    ap (λ l. l ++ (q ∷ more)) split.1 ∙ append_assoc n left (q ∷ more) in
-    let again : name edition (front ++ (q ∷ more)) ≡ got n (left ++ (q ∷ more)) =
-    ap (name edition) text ∙ name-reads edition n (left ++ (q ∷ more)) w stops in
-    same n rest (left ++ (q ∷ more)) e again
-    (subst (λ (x : List ℕ). Along r (q ∷ more) x (left ++ (q ∷ more))) (sym split.2)
-    (along-front r (q ∷ more) left))
+module _ (edition : Edition) (q : ℕ) (more : List ℕ) (quiet : Quiet edition q) where
+  ends-alike : (r front : List ℕ) → IsUtf8 front → ends_names edition (front ++ r) ≡ false
+      → ends_names edition (front ++ (q ∷ more)) ≡ false
+  ends-alike r front u e =
+      ap (starts_by (is_name_char edition)) (chars-append front (q ∷ more) u)
+      ∙ by (chars front) (ap (starts_by (is_name_char edition)) (sym (chars-append front r u)) ∙ e)
+    where
+      by : (cs : List ℕ) → starts_by (is_name_char edition) (cs ++ chars r) ≡ false
+          → starts_by (is_name_char edition) (cs ++ chars (q ∷ more)) ≡ false
+      by [] h = ap (starts_by (is_name_char edition)) (chars-byte q more quiet.low) ∙ quiet.no_char
+      by (c ∷ cs) h = h
 
-begins_hyphen : (edition : Edition) (q : ℕ) (more : List ℕ) → Quiet edition q
-    → begins_name edition (chars (45 ∷ q ∷ more)) ≡ false
-begins_hyphen edition q more quiet =
-    ap (begins_name edition) (chars-byte 45 (q ∷ more) (omega arith)
-    ∙ ap (λ l. 45 ∷ l) (chars-byte q more quiet.low)) ∙ by edition quiet.no_start
-  where
-    by : (edition : Edition) → is_name_start edition q ≡ false
-        → begins_name edition (45 ∷ q ∷ chars more) ≡ false
-    by first_edition e = rw e refl
-    by second_edition e = rw e refl
+  -- no name begins with such a byte
+  begins-quiet : (ds : List ℕ) → begins_name edition (q ∷ ds) ≡ false
+  begins-quiet [] = rw (quiet.no_start, quiet.no_hyphen) refl
+  begins-quiet (d ∷ ds) = rw (quiet.no_start, quiet.no_hyphen) refl
 
-lone_name : (edition : Edition) (r : List ℕ) (q : ℕ) (more front n rest : List ℕ) → Quiet edition q
-    → name edition (front ++ r) ≡ got n rest → n ≡ 45 ∷ [] → rest ≡ [] → front ++ r ≡ n ++ rest
-    → length r ≤ length rest → NamesAlike edition r (q ∷ more) (front ++ r) (front ++ (q ∷ more))
-lone_name edition r q more front n rest quiet e hyphen ended joined h =
-    let none_left : r ≡ [] = no_length r (omega (arith, ap length ended)) in
-    let whole : front ≡ 45 ∷ [] =
-    sym (append-nil front) ∙ ap (λ l. front ++ l) (sym none_left) ∙ joined
-    ∙ ap (λ l. n ++ l) ended ∙ append-nil n ∙ hyphen in
-    let text = 45 ∷ q ∷ more in
-    let again : name edition (front ++ (q ∷ more)) ≡ fails (no_name text) (q ∷ more) =
-    ap (λ l. name edition (l ++ (q ∷ more))) whole
-    ∙ name-none_begins edition text (begins_hyphen edition q more quiet) in
-    lone n (no_name text) (e ∙ ap (got n) ended) again none_left (joined ∙ ap (λ l. n ++ l) ended
-    ∙ append-nil n ∙ hyphen)
-  where
-    no_length : (l : List ℕ) → length l ≤ 0 → l ≡ []
-    no_length [] h = refl
-    no_length (b ∷ l) h = absurd (omega arith)
+  begins-one : (c : ℕ) (rs ds : List ℕ) → begins_name edition (c ∷ rs) ≡ false
+      → begins_name edition (c ∷ q ∷ ds) ≡ false
+  begins-one c rs ds h =
+      let start = by rs h in rw (start, quiet.no_start) (hyphen (c == 45))
+    where
+      by : (rs : List ℕ) → begins_name edition (c ∷ rs) ≡ false → is_name_start edition c ≡ false
+      by [] h = (both_false (is_name_start edition c) (c == 45) h).0
+      by (d ∷ rs) h = (both_false (is_name_start edition c) (c == 45 && is_name_start edition d)
+          h).0
 
-no_name_there : (edition : Edition) (r : List ℕ) (q : ℕ) (more front rest : List ℕ) (fault : Fault)
-    → Quiet edition q → IsUtf8 front → name edition (front ++ r) ≡ fails fault rest
-    → length r ≤ length rest → NamesAlike edition r (q ∷ more) (front ++ r) (front ++ (q ∷ more))
-no_name_there edition r q more front rest fault quiet u e h =
-    let failed = name-fails edition (front ++ r) rest fault e in
-    let begins = begins-alike edition r q more front quiet u failed.0 in
-    by (subst (λ (x : List ℕ). length r ≤ length x) failed.1 h) failed.1 begins
-    (past_byte-to r (q ∷ more) 45 (let p = quiet.no_hyphen in rw p refl) (front ++ r)
-    (front ++ (q ∷ more)) (along-front r (q ∷ more) front))
-  where
-    by : length r ≤ length (past_byte 45 (front ++ r)) → rest ≡ past_byte 45 (front ++ r)
-        → begins_name edition (chars (front ++ (q ∷ more))) ≡ false
-        → (length (past_byte 45 (front ++ r)) < length r) ⊎ Along r (q ∷ more)
-        (past_byte 45 (front ++ r)) (past_byte 45 (front ++ (q ∷ more)))
-        → NamesAlike edition r (q ∷ more) (front ++ r) (front ++ (q ∷ more))
-    by l is begins (inl k) = absurd (omega arith)
-    by l is begins (inr along) =
-        none fault (no_name (front ++ (q ∷ more))) rest (past_byte 45 (front ++ (q ∷ more))) e
-        (name-none_begins edition (front ++ (q ∷ more)) begins)
-        (subst (λ (x : List ℕ). Along r (q ∷ more) x (past_byte 45 (front ++ (q ∷ more)))) (sym is)
-        along)
+      hyphen : (t : Bool) → (t && false) ≡ false
+      hyphen true = refl
+      hyphen false = refl
 
--- a name is read alike where no more than the tail is left
-name-front : (edition : Edition) (r : List ℕ) (q : ℕ) (more front : List ℕ) → Quiet edition q
-    → IsUtf8 r → IsUtf8 front → length r ≤ length (left_after (name edition (front ++ r)))
-    → NamesAlike edition r (q ∷ more) (front ++ r) (front ++ (q ∷ more))
-name-front edition r q more front quiet v u = by (name edition (front ++ r)) refl
-  where
-    by : (x : Reading (List ℕ)) → name edition (front ++ r) ≡ x → length r ≤ length (left_after x)
-        → NamesAlike edition r (q ∷ more) (front ++ r) (front ++ (q ∷ more))
-    by (got n rest) e h =
-        let read = name-is edition (front ++ r) n rest (IsUtf8-append front r u v) e in
-        elim (read.is) [
-          | inl w ↦ same_name edition r q more front n rest quiet u e w read.joined read.ends h
-          | inr hyphen ↦ lone_name edition r q more front n rest quiet e hyphen.0 hyphen.1
-              read.joined h
-        ]
-    by (fails fault rest) e h = no_name_there edition r q more front rest fault quiet u e h
+  begins-alike : (r front : List ℕ) → IsUtf8 front
+      → begins_name edition (chars (front ++ r)) ≡ false
+      → begins_name edition (chars (front ++ (q ∷ more))) ≡ false
+  begins-alike r front u e =
+      ap (begins_name edition) (chars-append front (q ∷ more) u
+      ∙ ap (λ l. chars front ++ l) (chars-byte q more quiet.low))
+      ∙ by (chars front) (ap (begins_name edition) (sym (chars-append front r u)) ∙ e)
+    where
+      by : (cs : List ℕ) → begins_name edition (cs ++ chars r) ≡ false
+          → begins_name edition (cs ++ (q ∷ chars more)) ≡ false
+      by [] h = begins-quiet (chars more)
+      by (c ∷ []) h = begins-one c (chars r) (chars more) h
+      by (c ∷ d ∷ cs) h = h
 
-pub name-alike : (edition : Edition) (t : List ℕ) (q : ℕ) (more : List ℕ) → Quiet edition q
-    → IsUtf8 t → (r s : List ℕ) → IsUtf8 r → Along t (q ∷ more) r s
-    → (length (left_after (name edition r)) < length t) ⊎ NamesAlike edition t (q ∷ more) r s
-name-alike edition t q more quiet v r s u h =
-    by (along-split t (q ∷ more) r s h) (cases_lt (length (left_after (name edition r))) (length t))
-  where
-    by : (front : List ℕ) × (r ≡ front ++ t) × (s ≡ front ++ (q ∷ more))
-        → (length (left_after (name edition r)) < length t)
-        ⊎ (length t ≤ length (left_after (name edition r)))
-        → (length (left_after (name edition r)) < length t) ⊎ NamesAlike edition t (q ∷ more) r s
-    by (front, is, also) (inl l) = inl l
-    by (front, is, also) (inr l) =
-        let whole : IsUtf8 (front ++ t) = subst IsUtf8 is u in
-        let alike =
-        name-front edition t q more front quiet v (utf8-first front t whole v)
-        (subst (λ (x : List ℕ). length t ≤ length (left_after (name edition x))) is l) in
-        inr (subst (λ (x : List ℕ). NamesAlike edition t (q ∷ more) r x) (sym also)
-        (subst (λ (x : List ℕ). NamesAlike edition t (q ∷ more) x (front ++ (q ∷ more)))
-        (sym is) alike))
+  -- at such a byte no name is read
+  pub name-quiet : name edition (q ∷ more) ≡ fails (no_name (q ∷ more)) (q ∷ more)
+  name-quiet =
+      let begins : begins_name edition (chars (q ∷ more)) ≡ false =
+      ap (begins_name edition) (chars-byte q more quiet.low)
+      ∙ begins-quiet (chars more) in
+      let left : past_byte 45 (q ∷ more) ≡ q ∷ more = let p = quiet.no_hyphen in rw p refl in
+      name-none_begins edition (q ∷ more) begins ∙ ap (fails (no_name (q ∷ more))) left
+
+  same_name : (r front n rest : List ℕ) → IsUtf8 front → name edition (front ++ r) ≡ got n rest
+      → IsName edition n → front ++ r ≡ n ++ rest → ends_names edition rest ≡ false
+      → length r ≤ length rest → NamesAlike edition r (q ∷ more) (front ++ r) (front ++ (q ∷ more))
+  same_name r front n rest u e w joined ends h =
+      let split = split-after front r n rest joined h in
+      let left = split.0 in
+      let v : IsUtf8 left = utf8-second n left (subst IsUtf8 split.1 u) (name_utf8 edition n w) in
+      let stops =
+      ends-alike r left v (ap (ends_names edition) (sym split.2) ∙ ends) in
+      let text : front ++ (q ∷ more) ≡ n ++ (left ++ (q ∷ more)) =
+      ap (λ l. l ++ (q ∷ more)) split.1 ∙ append_assoc n left (q ∷ more) in
+      let again : name edition (front ++ (q ∷ more)) ≡ got n (left ++ (q ∷ more)) =
+      ap (name edition) text ∙ name-reads edition n (left ++ (q ∷ more)) w stops in
+      same n rest (left ++ (q ∷ more)) e again
+      (subst (λ (x : List ℕ). Along r (q ∷ more) x (left ++ (q ∷ more))) (sym split.2)
+      (along-front r (q ∷ more) left))
+
+  begins_hyphen : begins_name edition (chars (45 ∷ q ∷ more)) ≡ false
+  begins_hyphen =
+      ap (begins_name edition) (chars-byte 45 (q ∷ more) (omega arith)
+      ∙ ap (λ l. 45 ∷ l) (chars-byte q more quiet.low)) ∙ by edition quiet.no_start
+    where
+      by : (edition : Edition) → is_name_start edition q ≡ false
+          → begins_name edition (45 ∷ q ∷ chars more) ≡ false
+      by first_edition e = rw e refl
+      by second_edition e = rw e refl
+
+  lone_name : (r front n rest : List ℕ) → name edition (front ++ r) ≡ got n rest → n ≡ 45 ∷ []
+      → rest ≡ [] → front ++ r ≡ n ++ rest → length r ≤ length rest
+      → NamesAlike edition r (q ∷ more) (front ++ r) (front ++ (q ∷ more))
+  lone_name r front n rest e hyphen ended joined h =
+      let none_left : r ≡ [] = no_length r (omega (arith, ap length ended)) in
+      let whole : front ≡ 45 ∷ [] =
+      sym (append-nil front) ∙ ap (λ l. front ++ l) (sym none_left) ∙ joined
+      ∙ ap (λ l. n ++ l) ended ∙ append-nil n ∙ hyphen in
+      let text = 45 ∷ q ∷ more in
+      let again : name edition (front ++ (q ∷ more)) ≡ fails (no_name text) (q ∷ more) =
+      ap (λ l. name edition (l ++ (q ∷ more))) whole
+      ∙ name-none_begins edition text begins_hyphen in
+      lone n (no_name text) (e ∙ ap (got n) ended) again none_left (joined ∙ ap (λ l. n ++ l) ended
+      ∙ append-nil n ∙ hyphen)
+    where
+      no_length : (l : List ℕ) → length l ≤ 0 → l ≡ []
+      no_length [] h = refl
+      no_length (b ∷ l) h = absurd (omega arith)
+
+  no_name_there : (r front rest : List ℕ) (fault : Fault) → IsUtf8 front
+      → name edition (front ++ r) ≡ fails fault rest → length r ≤ length rest
+      → NamesAlike edition r (q ∷ more) (front ++ r) (front ++ (q ∷ more))
+  no_name_there r front rest fault u e h =
+      let failed = name-fails edition (front ++ r) rest fault e in
+      let begins = begins-alike r front u failed.0 in
+      by (subst (λ (x : List ℕ). length r ≤ length x) failed.1 h) failed.1 begins
+      (past_byte-to r (q ∷ more) 45 (let p = quiet.no_hyphen in rw p refl) (front ++ r)
+      (front ++ (q ∷ more)) (along-front r (q ∷ more) front))
+    where
+      by : length r ≤ length (past_byte 45 (front ++ r)) → rest ≡ past_byte 45 (front ++ r)
+          → begins_name edition (chars (front ++ (q ∷ more))) ≡ false
+          → (length (past_byte 45 (front ++ r)) < length r) ⊎ Along r (q ∷ more)
+          (past_byte 45 (front ++ r)) (past_byte 45 (front ++ (q ∷ more)))
+          → NamesAlike edition r (q ∷ more) (front ++ r) (front ++ (q ∷ more))
+      by l is begins (inl k) = absurd (omega arith)
+      by l is begins (inr along) =
+          none fault (no_name (front ++ (q ∷ more))) rest (past_byte 45 (front ++ (q ∷ more))) e
+          (name-none_begins edition (front ++ (q ∷ more)) begins)
+          (subst (λ (x : List ℕ). Along r (q ∷ more) x (past_byte 45 (front ++ (q ∷ more))))
+          (sym is)
+          along)
+
+  -- a name is read alike where no more than the tail is left
+  name-front : (r front : List ℕ) → IsUtf8 r → IsUtf8 front
+      → length r ≤ length (left_after (name edition (front ++ r)))
+      → NamesAlike edition r (q ∷ more) (front ++ r) (front ++ (q ∷ more))
+  name-front r front v u = by (name edition (front ++ r)) refl
+    where
+      by : (x : Reading (List ℕ)) → name edition (front ++ r) ≡ x → length r ≤ length (left_after x)
+          → NamesAlike edition r (q ∷ more) (front ++ r) (front ++ (q ∷ more))
+      by (got n rest) e h =
+          let read = name-is edition (front ++ r) n rest (IsUtf8-append front r u v) e in
+          elim (read.is) [
+            | inl w ↦ same_name r front n rest u e w read.joined read.ends h
+            | inr hyphen ↦ lone_name r front n rest e hyphen.0 hyphen.1
+                read.joined h
+          ]
+      by (fails fault rest) e h = no_name_there r front rest fault u e h
+
+  pub name-alike : (t : List ℕ) → IsUtf8 t → (r s : List ℕ) → IsUtf8 r → Along t (q ∷ more) r s
+      → (length (left_after (name edition r)) < length t) ⊎ NamesAlike edition t (q ∷ more) r s
+  name-alike t v r s u h =
+      by (along-split t (q ∷ more) r s h) (cases_lt (length (left_after (name edition r)))
+      (length t))
+    where
+      by : (front : List ℕ) × (r ≡ front ++ t) × (s ≡ front ++ (q ∷ more))
+          → (length (left_after (name edition r)) < length t)
+          ⊎ (length t ≤ length (left_after (name edition r)))
+          → (length (left_after (name edition r)) < length t) ⊎ NamesAlike edition t (q ∷ more) r s
+      by (front, is, also) (inl l) = inl l
+      by (front, is, also) (inr l) =
+          let whole : IsUtf8 (front ++ t) = subst IsUtf8 is u in
+          let alike =
+          name-front t front v (utf8-first front t whole v)
+          (subst (λ (x : List ℕ). length t ≤ length (left_after (name edition x))) is l) in
+          inr (subst (λ (x : List ℕ). NamesAlike edition t (q ∷ more) r x) (sym also)
+          (subst (λ (x : List ℕ). NamesAlike edition t (q ∷ more) x (front ++ (q ∷ more)))
+          (sym is) alike))
 
 -- the text after a front that an ASCII byte ends
 utf8-from : (t u : List ℕ) (g : ℕ) (r s : List ℕ) → g < 128 → IsUtf8 r → Along (g ∷ t) u r s
@@ -217,10 +215,10 @@ names-seam : {edition : Edition} (c : Bool) (t u : List ℕ) → Seam edition c 
     → IsUtf8 r → Along t u r s
     → (length (left_after (name edition r)) < length t) ⊎ NamesAlike edition t u r s
 names-seam {edition = edition} c t u (at_brace x y) r s v h =
-    name-alike edition (125 ∷ (x ++ y)) 125 x (quiet-brace edition)
+    name-alike edition 125 x (quiet-brace edition) (125 ∷ (x ++ y))
     (utf8-from (x ++ y) (125 ∷ x) 125 r s (omega arith) v h) r s v h
 names-seam {edition = edition} c t u (at_quiet _ q more w tail) r s v h =
-    name-alike edition t q more w tail r s v h
+    name-alike edition q more w t tail r s v h
 
 -- where the first text is no lone hyphen
 name-by : (edition : Edition) (c : Bool) (t u r s : List ℕ) → (t ≡ [] → r ≡ 45 ∷ [] → ⊥)
@@ -244,9 +242,9 @@ pub name-same : (edition : Edition) (g : ℕ) (t u : List ℕ) → Quiet edition
     → Guard Equal true (g ∷ t) (g ∷ u) (name edition r) (name edition s)
 name-same edition g t u w r s v h =
     name-by edition true (g ∷ t) (g ∷ u) r s (λ none_there. absurd (cc))
-    (name-alike edition (g ∷ t) g u w (utf8-from t (g ∷ u) g r s w.low v h) r s v h)
+    (name-alike edition g u w (g ∷ t) (utf8-from t (g ∷ u) g r s w.low v h) r s v h)
 
--- what is left after a name, or after the hyphen that a missing one passes
+-- what is left after a name, or after the hyphen that a missing one consumes
 pub past_name-seam : {edition : Edition} (c : Bool) (t u : List ℕ) → Seam edition c t u
     → (r s : List ℕ) → IsUtf8 r → Along t u r s
     → To c t u (left_after (name edition r)) (left_after (name edition s))

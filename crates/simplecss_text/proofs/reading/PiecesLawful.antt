@@ -1,4 +1,4 @@
--- The pieces of a selector owe what every reader owes, and take bytes.
+-- The pieces of a selector owe what every reader owes, and consume bytes.
 -- Serves `SelectorTokenizer`, `StyleSheet::{parse, parse_more}` and `laws::{cutting_law,
 -- edition_law}`.
 use Rattle.std.proofs.Common.{◌≡◌, ◌≤◌, Bool, List, [], ap, arith, bytes_eq, codes, false, if◌then◌else◌, inl, inr, length, not, refl, subst, true, ℕ, ◌++◌, ◌==◌, ◌∷◌, ◌<◌, eqb-true}
@@ -201,7 +201,7 @@ gap-guarded u v r s h =
     gap_of-to (u ++ v) u (each blank_part r) (each blank_part s)
     (blank-repeats 125 u v brace_plain r s h)
 
--- ---- pieces take a byte or more
+-- ---- pieces consume a byte or more
 
 named_token-cuts : (edition : Edition) (token : List ℕ → Token) (text : List ℕ)
     → Cuts text (named_token edition token text)
@@ -224,7 +224,7 @@ solid_as-cuts edition Attribute b text = owes-cuts b (attribute_after-lawful tex
 solid_as-cuts edition Colon b text = owes-cuts b (pseudo_class_after-lawful text text) edition
 solid_as-cuts edition Other b text = named_token-cuts edition type_selector (b ∷ text)
 
--- a solid piece takes a byte or more
+-- a solid piece consumes a byte or more
 pub solid-cuts : (edition : Edition) (text : List ℕ) → Cuts text (solid edition text)
 unfolding solid next_kind
 solid-cuts edition [] = omega arith

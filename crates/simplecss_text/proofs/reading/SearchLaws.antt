@@ -213,9 +213,9 @@ string-passed true t whole quote previous None h = omega arith
 string-passed false t whole quote previous None h = tt
 string-passed c t whole quote previous (Some closing) h =
     rw h.closing_is
-    (passed-beyond c t (got (before whole (quote ∷ h.behind)) h.behind)
-    (beyond-less c t h.behind
-    (omega (arith, ap length h.is, length-append h.front (quote ∷ h.behind)))))
+    (passed-beyond c t (got (before whole (quote ∷ h.following)) h.following)
+    (beyond-less c t h.following
+    (omega (arith, ap length h.is, length-append h.front (quote ∷ h.following)))))
 
 pub string-along : (c : Bool) (t u whole other : List ℕ) → Along t u whole other
     → (quote previous : ℕ) (r s : List ℕ) → Along t u r s

@@ -9,7 +9,7 @@ use Rattle.std.proofs.lemmas.Str.{encodes-append, encodes-chars, scalars-chars, 
 use Rattle.std.proofs.lemmas.List.Sums.{prefix_len-le-length}
 use Rattle.std.proofs.lemmas.Bool.{eqb-true}
 use Rattle.std.proofs.lemmas.Slice.Eq.{bytes_eq-Decides}
-use Rattle.simplecss_text.specs.Reading.{no_name, no_language, wrong_byte, Reading, got, fails, before, Ends}
+use Rattle.simplecss_text.specs.Reading.{no_name, wrong_byte, Reading, got, fails, before, Ends}
 use Rattle.simplecss_text.specs.Bytes.{past, past_one, past_byte, byte}
 use Rattle.simplecss_text.specs.declared.next_kind.NextKind.{NextKind}
 use Rattle.simplecss_text.specs.declared.next_kind.NextKind.TheVariants.{Stop, Slash, Child, Adjacent, Universal, Id, Class, Attribute, Colon, Other}
@@ -23,6 +23,7 @@ use Rattle.simplecss_text.specs.Components.Operator.{equals, has_word, begins_wi
 use Rattle.simplecss_text.specs.Tokens.{Token, token_texts, operator_texts}
 use Rattle.simplecss_text.specs.Tokens.Token.{universal_selector, type_selector, id_selector, class_selector, attribute_selector, named_pseudo_class, lang_pseudo_class, child_combinator, adjacent_combinator}
 use Rattle.simplecss_text.specs.Pieces.{attribute_operator, equated, attribute_after, lang_of, lang_after, pseudo_class_named, pseudo_class_after, named_token, next_kind, solid_as, solid}
+use Rattle.simplecss_text.proofs.printed.PrintedNames.{scalars-parts}
 use Rattle.simplecss_text.proofs.reading.KindLaws.{sign-begins}
 use Rattle.simplecss_text.proofs.reading.WellLaws.{ends-past_name_chars, well-blank, well-gap, well-past_blank}
 use Rattle.simplecss_text.proofs.bytes.Utf8Laws.{until-boundary, utf8-behind}
@@ -33,8 +34,7 @@ use Rattle.simplecss_text.proofs.reading.EndsLaws.{before-append, ends-append, e
 pub byte-stands : (c : ℕ) (text : List ℕ) → Stands text no_texts (byte c text)
 byte-stands c [] = record { at = ends-same [] }
 byte-stands c (b ∷ text) =
-    stands-if (b ∷ text) no_texts (b == c) (got (tt {0}) text)
-    (fails (wrong_byte c (b ∷ text)) (b ∷ text)) (record { at = ends-tail b text })
+    stands-if (b == c) (record { at = ends-tail b text })
     (record { at = ends-same (b ∷ text) })
 
 pub ends-past_blank : (text : List ℕ) → Ends text (past_blank text)
@@ -51,9 +51,7 @@ gap-stands text = stands-none text (gap text) (well-gap text).0
 pub name-stands : (edition : Edition) (text : List ℕ) → Stands text itself (name edition text)
 unfolding name
 name-stands edition text =
-    stands-if text itself (begins_name edition (chars text))
-    (got (before text (past_name_chars edition text)) (past_name_chars edition text))
-    (fails (no_name text) (past_byte 45 text))
+    stands-if (begins_name edition (chars text))
     (record {
       at = stand-before text (past_name_chars edition text)
           (ends-past_name_chars edition text);
@@ -82,8 +80,7 @@ string_or_name-stands : (edition : Edition) (text : List ℕ)
 unfolding string_or_name
 string_or_name-stands edition [] = record { at = ends-same [] }
 string_or_name-stands edition (b ∷ text) =
-    stands-if (b ∷ text) itself (is_quote b) (string_up_to text (from_quote b b text))
-    (name edition (b ∷ text))
+    stands-if (is_quote b)
     (stands-from (b ∷ text) text itself (string_up_to text (from_quote b b text)) (ends-tail b text)
     (string_up_to-stands text (from_quote b b text) (from_quote-ends b b text)))
     (name-stands edition (b ∷ text))
@@ -105,13 +102,13 @@ attribute_operator-stands : (edition : Edition) (text : List ℕ)
 unfolding attribute_operator
 attribute_operator-stands edition [] = record { at = ends-same [] }
 attribute_operator-stands edition (b ∷ text) =
-    stands-if (b ∷ text) operator_texts (b == 93) _ _ (record { at = ends-same (b ∷ text) })
-    (stands-if (b ∷ text) operator_texts (b == 61) _ _
+    stands-if (b == 93) (record { at = ends-same (b ∷ text) })
+    (stands-if (b == 61)
     (equated-stands edition equals (λ v. refl) (b ∷ text))
-    (stands-if (b ∷ text) operator_texts (b == 126) _ _
+    (stands-if (b == 126)
     (stands-from (b ∷ text) text operator_texts (equated edition has_word text)
     (ends-tail b text) (equated-stands edition has_word (λ v. refl) text))
-    (stands-if (b ∷ text) operator_texts (b == 124) _ _
+    (stands-if (b == 124)
     (stands-from (b ∷ text) text operator_texts (equated edition begins_with text)
     (ends-tail b text) (equated-stands edition begins_with (λ v. refl) text))
     (record { at = ends-same (b ∷ text) }))))
@@ -159,14 +156,6 @@ drop-trailing (c ∷ cs) =
     let rest = drop-trailing cs in drop-case c cs (drop_trailing_whitespace cs) rest.0
     (is_whitespace c && length (drop_trailing_whitespace cs) == 0) rest.1
 
-second-true : (a b : Bool) → (a && b) ≡ true → b ≡ true
-second-true true b h = h
-second-true false b h = absurd (cc)
-
-scalars-rest : (w x : List ℕ) → all_scalars (w ++ x) ≡ true → all_scalars x ≡ true
-scalars-rest [] x h = h
-scalars-rest (c ∷ w) x h = scalars-rest w x (second-true _ (all_scalars (w ++ x)) h)
-
 -- a text is what its trim takes off its front, what is left of it, and what the trim takes off its
 -- end
 pub trim-parts : (bs : List ℕ) → IsUtf8 bs
@@ -179,7 +168,7 @@ trim-parts bs u =
     let front = skip-leading cs in
     let back = drop-trailing k in
     let good : all_scalars k ≡ true =
-    scalars-rest front.0 k (sym (ap all_scalars front.1) ∙ scalars-chars bs u) in
+    (scalars-parts front.0 k (sym (ap all_scalars front.1) ∙ scalars-chars bs u)).1 in
     let trimmed : trim bs ≡ encode_utf8_all d =
     ap (λ x. encode_utf8_all (drop_trailing_whitespace x)) (chars-encodes k good) in (
       encode_utf8_all front.0,
@@ -227,7 +216,8 @@ language-stands text u =
 -- Which texts of a token are to be seen, of texts that are good. Of one that need not be the UTF-8
 -- of characters a language may be trimmed to what does not are in it, so there no texts are seen.
 pub record Sees (Good : List ℕ → Type 0) (texts : Token → List (List ℕ)) : Type 0 where
-  pub behind : (text rest : List ℕ) (b : ℕ) → b < 128 → Good text → Ends text (b ∷ rest) → Good rest
+  pub following : (text rest : List ℕ) (b : ℕ) → b < 128 → Good text → Ends text (b ∷ rest)
+      → Good rest
   pub seen : (text : List ℕ) (r : Reading Token) → Stands text token_texts r → Stands text texts r
   pub language : (text : List ℕ) → Good text
       → StandBetween text (past (λ b. not (b == 41)) text)
@@ -239,14 +229,14 @@ Any text = Unit {0}
 
 pub sees_nothing : Sees Any no_texts
 sees_nothing = record {
-  behind = λ text rest b a g e. tt;
+  following = λ text rest b a g e. tt;
   seen = λ text r h. stands-unseen text token_texts r h;
   language = λ text g. ends-past (λ b. not (b == 41)) text;
 }
 
 pub sees_texts : Sees IsUtf8 token_texts
 sees_texts = record {
-  behind = utf8-behind;
+  following = utf8-behind;
   seen = λ text r h. h;
   language = language-stands;
 }
@@ -273,13 +263,12 @@ lang_after-stands {Good = Good} {texts = texts} sees text good =
     (ends-same (40 ∷ rest)) in
     let front : StandBetween text end (texts (lang_pseudo_class value)) =
     stand-from text rest end _ h
-    (sees.language rest (sees.behind text rest 40 (omega arith) good opened)) in
+    (sees.language rest (sees.following text rest 40 (omega arith) good opened)) in
     stands-then text end (texts (lang_pseudo_class value)) no_texts texts (byte 41 end)
     (λ u. lang_of value) front (byte-stands 41 end) (λ u last f k.
     let k : StandBetween text last (texts (lang_pseudo_class value)) =
     subst (StandBetween text last) (append-nil (texts (lang_pseudo_class value))) k in
-    stands-if text texts (length value == 0) (fails no_language last)
-    (got (lang_pseudo_class value) last) (record { at = stand-ends text last _ k })
+    stands-if (length value == 0) (record { at = stand-ends text last _ k })
     (record { at = k })))
 
 -- a name that was read is what is before the rest
@@ -315,7 +304,7 @@ pseudo_class_after-stands {Good = Good} {texts = texts} sees edition text good =
         ap (λ s. s ++ rest) (sym lang ∙ is) ∙ stand-ends text rest (n ∷ []) h in
         stands-from text rest texts (lang_after rest) (stand-ends text rest (n ∷ []) h)
         (lang_after-stands sees rest
-        (sees.behind text rest 103 (omega arith) good
+        (sees.following text rest 103 (omega arith) good
         (ends-by text (108 ∷ 97 ∷ 110 ∷ []) (103 ∷ rest) whole)))
     by n rest h is false t = sees.seen text (got (named_pseudo_class n) rest) (record { at = h })
 
@@ -354,7 +343,7 @@ solid_as-stands {Good = Good} {texts = texts} sees edition whole text good e = b
         let sign = sign-begins Colon text tt k in
         stands-from text (past_one text) texts _ (ends-past_one text)
         (pseudo_class_after-stands sees edition (past_one text)
-        (sees.behind whole (past_one text) sign.byte sign.ascii good
+        (sees.following whole (past_one text) sign.byte sign.ascii good
         (subst (Ends whole) sign.is e)))
     by Other k = sees.seen text _ (named_token-stands edition type_selector (λ n. refl) text)
 

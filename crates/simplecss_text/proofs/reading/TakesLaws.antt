@@ -1,7 +1,7 @@
--- What takes bytes, and leaves no more than there was: one thing after another, blanks, names,
+-- What consumes bytes, and leaves no more than there was: one thing after another, blanks, names,
 -- strings.
 -- Serves every loop that reads: the tokenizers, `take_value`, `consume_declarations` and
--- `read_rules` (each turn takes a byte).
+-- `read_rules` (each turn consumes a byte).
 use Rattle.std.proofs.Common.{◌≡◌, ℕ, zero, suc, ◌+◌, ◌<◌, ◌≤◌, List, [], ◌∷◌, Bool, true, false, if◌then◌else◌, ◌||◌, ◌&&◌, ◌==◌, length, take, drop, Option, Some, None, arith, refl, length-append, length-drop, encode_utf8, encode_utf8_all}
 use Rattle.std.specs.Str.{chars}
 use Rattle.std.specs.Option.{option_map}
@@ -193,7 +193,7 @@ name-cuts edition text = by (begins_name edition (chars text)) refl
         )
     by false e = length-past_byte 45 text
 
--- a reading that reports no fault takes what the reading takes
+-- a reading that reports no fault consumes what the reading consumes
 pub found-shrinks : {A : Type 0} (text : List ℕ) (r : Reading A) → Cuts text r
     → Shrinks text (found r)
 found-shrinks text (got x rest) h = h

@@ -201,4 +201,5 @@ well-string quote text low = by (from_quote quote quote text) (from_quote-closes
     by None c = well-nil text
     by (Some closing) c =
         rw c.closing_is
-        (well-behind quote text c.behind low (ends-by text c.front (quote ∷ c.behind) (sym c.is)))
+        (well-behind quote text c.following low
+        (ends-by text c.front (quote ∷ c.following) (sym c.is)))

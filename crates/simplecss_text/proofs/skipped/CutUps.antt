@@ -19,7 +19,7 @@ use Rattle.simplecss_text.specs.Skipped.{Refusal, Skip, Why, extra_brace, refuse
 use Rattle.simplecss_text.specs.NothingLost.{IsCutUp, cut_ends, blank_then, mark_then, selector_then, declaration_then, skip_then, is_mark}
 use Rattle.simplecss_text.proofs.bytes.BlankLaws.{past_blank-cut}
 use Rattle.simplecss_text.proofs.reading.EndsLaws.{ends-by, ends-ends, ends-past, ends-same}
-use Rattle.simplecss_text.proofs.reading.NameLocal.{split-behind}
+use Rattle.simplecss_text.proofs.reading.NameLocal.{split-after}
 use Rattle.simplecss_text.proofs.reading.SequenceStandLaws.{reads-ends}
 use Rattle.simplecss_text.proofs.reading.StandLaws.{ends-past_blank}
 use Rattle.simplecss_text.proofs.skipped.RuleSetSkipCuts.{reads-after_blank}
@@ -188,7 +188,7 @@ listed (Some s) = s ∷ []
 pub ends-shorter : (text long short : List ℕ) → Ends text long → Ends text short
     → length short ≤ length long → Ends long short
 ends-shorter text long short e f l =
-    let parts = split-behind (before text short) short (before text long) long (f ∙ sym e) l in
+    let parts = split-after (before text short) short (before text long) long (f ∙ sym e) l in
     ends-by long parts.0 short (sym parts.2)
 
 past_refused-ends : (x : List ℕ) → Ends x (past_refused x)

@@ -13,7 +13,7 @@ use Rattle.simplecss_text.proofs.reading.SkipLaws.{skipped-none, skips_along-som
 use Rattle.simplecss_text.proofs.reading.StatementLaws.{next_statement-takes}
 use Rattle.simplecss_text.proofs.cutting.AtRuleCuts.{nothing_in_front}
 use Rattle.simplecss_text.proofs.cutting.StatementCuts.{next_statement-cut, next_statement-well}
-use Rattle.simplecss_text.proofs.cutting.CuttingLaws.{Reaches, at_rest, behind, drop_place, reaches-well, rests-reached}
+use Rattle.simplecss_text.proofs.cutting.CuttingLaws.{Reaches, at_rest, following, drop_place, reaches-well, rests-reached}
 use Rattle.simplecss_text.proofs.skipped.StatementSkipCuts.{statement_skips-cut}
 
 -- what a blank and a statement skip, and what the rest does
@@ -39,7 +39,7 @@ skipped-cut edition v text at_rest i u e =
     ap (skipped edition) (nothing_in_front u v (omega (arith, ap length e)))
     ∙ skipped-nil edition in
     rw none refl
-skipped-cut edition v text (behind _ next rules f r) i u e =
+skipped-cut edition v text (following _ next rules f r) i u e =
     let w : List ℕ = before next v in
     let parts : next ≡ w ++ v =
     sym (reaches-well (next_statement edition) (next_statement-well edition) v next r).0 in

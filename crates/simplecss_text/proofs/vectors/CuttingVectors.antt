@@ -22,7 +22,7 @@ use Rattle.simplecss_text.specs.Sheets.{sheet}
 use Rattle.simplecss_text.specs.Cutting.{rests_behind, statement_ends, KeepsAcross, StatementEndsAt}
 use Rattle.simplecss_text.specs.Printing.{sheet_text}
 
--- a block of a blank alone takes a further brace, so its statement ends behind the second one
+-- a block of only a blank consumes a further brace, so its statement ends after the second one
 abbrev pub further_brace : List ℕ
 further_brace = codes "a { }} b { c:d }"
 
@@ -42,7 +42,7 @@ rule_b = record {
   declarations = record { name = codes "c"; value = codes "d"; important = false } ∷ [];
 }
 
--- cut where its first statement ends, the two pieces give the rule that the whole gives
+-- cut where its first statement ends, the two pieces yield the rule that the whole yields
 pub cut_at_statement : (edition : Edition) →
     (kept edition further_brace ≡ rule_b ∷ [])
     × (take 6 further_brace ≡ codes "a { }}")
@@ -59,7 +59,7 @@ ends_at_six edition = rw (ends_of_statements edition).0 (0, omega arith, refl)
 pub across_statement : (edition : Edition) → KeepsAcross edition further_brace 6
 across_statement edition = (cut_at_statement edition).0 ∙ sym (ap (λ (rules : List StyleRule). rules ++ kept edition (drop 6 further_brace)) (cut_at_statement edition).2 ∙ (cut_at_statement edition).3)
 
--- cut a byte before, they give none, since the second piece begins with the further brace
+-- cut a byte before, they yield none, since the second piece begins with the further brace
 pub cut_elsewhere : (edition : Edition) →
     (take 5 further_brace ≡ codes "a { }")
     × (kept edition (take 5 further_brace) ≡ [])

@@ -89,7 +89,7 @@ unfolding each comment blank gap past_name_chars name string_or_name word past_n
 terms_in_values first_edition = (refl, refl, refl, refl, refl)
 terms_in_values second_edition = (refl, refl, refl, refl, refl)
 
--- a slash is a term in the second edition alone
+-- a slash is a term only in the second edition
 pub slashes : (edition : Edition) →
     (declarations edition (codes "a:b/* x") ≡ [])
 unfolding each comment blank gap past_name_chars name string_or_name word past_number term value importance trailing declaration declarations chars encode trim_start trim_end

@@ -1,6 +1,6 @@
--- A lone hyphen is a type only where it ends the text, so its printed text reads back alone, and
--- not before a brace.
--- Computes `reads` of `specs/Selectors` with `selector_text` of `specs/Printing`.
+-- A lone hyphen is a type only where it ends the text, so its printed text reads back only by
+-- itself, and not before a brace. Computes `reads` of `specs/Selectors` with `selector_text` of
+-- `specs/Printing`.
 use Rattle.std.specs.Prelude.{◌≡◌, refl, [], ◌∷◌, codes, Some, None, true}
 use Rattle.std.specs.Str.{trim_start, trim_end, chars}
 use lib.Utf8.{encode}

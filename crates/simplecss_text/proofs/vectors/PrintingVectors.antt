@@ -20,7 +20,7 @@ use Rattle.simplecss_text.specs.Sheets.{sheet}
 use Rattle.simplecss_text.specs.Printing.{sheet_text}
 use Rattle.simplecss_text.specs.PrintingLaws.{has_wide_space, are_clean}
 
--- an apostrophe that no backslash stands before ends the printed value
+-- an apostrophe without a backslash before it ends the printed value
 pub bare_apostrophe : (edition : Edition) →
     (are_clean (sheet edition (codes "[a=\"it's\"] { b:c }" ∷ [])) ≡ false)
     × (sheet_text (sheet edition (codes "[a=\"it's\"] { b:c }" ∷ [])) ≡ codes "*[a='it's'] { b:c; }")
@@ -29,7 +29,7 @@ unfolding each comment blank gap past_name_chars name string_or_name attribute_o
 bare_apostrophe first_edition = (refl, refl, refl)
 bare_apostrophe second_edition = (refl, refl, refl)
 
--- behind a backslash it stays
+-- after a backslash it stays
 pub escaped_apostrophe : (edition : Edition) →
     (are_clean (sheet edition (codes "[a=\"it\\'s\"] { b:c }" ∷ [])) ≡ true)
     × (sheet_text (sheet edition (codes "[a=\"it\\'s\"] { b:c }" ∷ [])) ≡ codes "*[a='it\\'s'] { b:c; }")

@@ -66,7 +66,7 @@ pub names-editions :
 unfolding each comment blank gap past_name_chars name string_or_name word past_number term position block_end chars encode
 names-editions = (refl, refl)
 
--- strings and what may stand in their place
+-- strings and what may be in their place
 pub strings : (edition : Edition) →
     (string_or_name edition (codes "'a\"b' c") ≡ got (codes "a\"b") (codes " c"))
     × (string_or_name edition (codes "''a") ≡ got [] (codes "a"))
@@ -108,7 +108,7 @@ pub block_ends :
 unfolding each comment blank gap past_name_chars name string_or_name word past_number term position block_end chars encode
 block_ends = (refl, refl, refl, refl)
 
--- the errors that tell faults
+-- the errors that report faults
 pub errors :
     (error_of (codes "a\nbc <") (no_name (codes "<")) ≡ InvalidIdent (record { row = 2; col = 4 }))
     × (error_of (encode_utf8_all (codes "[a=\"x\"é]")) (wrong_byte 93 (encode_utf8_all (codes "é]"))) ≡ InvalidByte 93 195 (record { row = 1; col = 7 }))

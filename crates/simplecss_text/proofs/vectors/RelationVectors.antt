@@ -9,11 +9,11 @@ use Rattle.simplecss_text.specs.Components.Operator.{equals}
 use Rattle.simplecss_text.specs.Tokens.{token_texts}
 use Rattle.simplecss_text.specs.Tokens.Token.{attribute_selector, child_combinator, type_selector}
 
--- no text stands between a rest and a later one
+-- no text is between a rest and a later one
 pub none_between : StandBetween (codes "ab") (codes "b") []
 none_between = refl
 
--- one text stands there, and it may be empty
+-- one text is there, and it may be empty
 pub one_between : StandBetween (codes "abc") [] (codes "b" ∷ [])
 one_between = (codes "bc", codes "c", refl, refl, refl, refl)
 

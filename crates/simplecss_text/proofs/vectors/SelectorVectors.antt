@@ -207,7 +207,7 @@ pub wide_type_names-editions :
 unfolding each comment blank gap past_name_chars name string_or_name attribute_operator attribute_after lang_after pseudo_class_after named_token next_kind solid piece ending sequence_from chars encode trim_start trim_end reads
 wide_type_names-editions = (refl, refl)
 
--- comments between the pieces, and a slash behind them
+-- comments between the pieces, and a slash after them
 pub gaps_of_comments : (edition : Edition) →
     (option_map selector_text (reads edition (codes "/**//**//**/a")).0 ≡ Some (codes "a"))
     × ((reads edition (codes "/**//**//**/a")).1 ≡ [])

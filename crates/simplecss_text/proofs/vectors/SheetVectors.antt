@@ -33,7 +33,7 @@ unfolding each comment blank gap past_name_chars name string_or_name attribute_o
 rule_sets first_edition = (refl, refl, refl, refl, refl)
 rule_sets second_edition = (refl, refl, refl, refl, refl)
 
--- braces behind a block
+-- braces after a block
 pub braces : (edition : Edition) →
     (sheet_text (sheet edition ((codes "a { }} b { color:red }") ∷ [])) ≡ (codes "b { color:red; }"))
     × (sheet_text (sheet edition ((codes "a { } } b { color:red }") ∷ [])) ≡ [])
@@ -61,7 +61,7 @@ pub broken_declarations-editions :
 unfolding each comment blank gap past_name_chars name string_or_name attribute_operator attribute_after lang_after pseudo_class_after named_token next_kind solid piece ending sequence_from chars encode trim_start trim_end reads part parts next_block rule_set at_rule_rest statement statements block block_end word past_number term value importance trailing declaration declarations
 broken_declarations-editions = (refl, refl)
 
--- at-rules are passed
+-- at-rules are skipped
 pub at_rules : (edition : Edition) →
     (sheet_text (sheet edition ((codes "@ a { color:red }") ∷ [])) ≡ (codes "a { color:red; }"))
     × (sheet_text (sheet edition ((codes "@media screen { p:before { content: 'Hello'; } } a { color:red }") ∷ [])) ≡ (codes "a { color:red; }"))
@@ -70,7 +70,7 @@ unfolding each comment blank gap past_name_chars name string_or_name attribute_o
 at_rules first_edition = (refl, refl, refl)
 at_rules second_edition = (refl, refl, refl)
 
--- texts read into one sheet in turn
+-- texts read into one sheet, one after another
 pub sheets_of_texts : (edition : Edition) →
     (sheet_text (sheet edition ([])) ≡ [])
     × (sheet_text (sheet edition ([] ∷ [])) ≡ [])
@@ -94,7 +94,7 @@ unfolding each comment blank gap past_name_chars name string_or_name attribute_o
 no_rules first_edition = (refl, refl, refl, refl, refl, refl, refl)
 no_rules second_edition = (refl, refl, refl, refl, refl, refl, refl)
 
--- empty parts, comments behind a block, and at-rules without one
+-- empty parts, comments after a block, and at-rules without one
 pub commas_and_comments : (edition : Edition) →
     (sheet_text (sheet edition ((codes "a { color:red }") ∷ [])) ≡ (codes "a { color:red; }"))
     × (sheet_text (sheet edition ((codes "a { b:c }") ∷ [])) ≡ (codes "a { b:c; }"))
@@ -165,7 +165,7 @@ pub wide_names :
 unfolding each comment blank gap past_name_chars name string_or_name attribute_operator attribute_after lang_after pseudo_class_after named_token next_kind solid piece ending sequence_from chars encode trim_start trim_end reads part parts next_block rule_set at_rule_rest statement statements block block_end word past_number term value importance trailing declaration declarations
 wide_names = (refl, refl, refl, refl)
 
--- where reading goes on after a part that is refused
+-- where reading continues after a part that is refused
 pub parts_after_refusals : (edition : Edition) →
     (sheet_text (sheet edition ((codes "[a]b,c{d:e}") ∷ [])) ≡ (codes "c { d:e; }"))
     × (sheet_text (sheet edition ((codes "a*,c{d:e}") ∷ [])) ≡ [])
@@ -187,7 +187,7 @@ unfolding each comment blank gap past_name_chars name string_or_name attribute_o
 parts_after_refusals first_edition = (refl, refl, refl, refl, refl, refl, refl, refl, refl, refl, refl, refl, refl, refl, refl, refl)
 parts_after_refusals second_edition = (refl, refl, refl, refl, refl, refl, refl, refl, refl, refl, refl, refl, refl, refl, refl, refl)
 
--- where reading goes on after a declaration that is broken
+-- where reading continues after a declaration that is broken
 pub blocks_after_faults : (edition : Edition) →
     (sheet_text (sheet edition ((codes "a{b:/*}d{e:f}") ∷ [])) ≡ [])
     × (sheet_text (sheet edition ((codes "a{b:'}d{e:f}") ∷ [])) ≡ [])

@@ -19,7 +19,7 @@ use Rattle.simplecss_text.specs.Statements.{part, parts, next_block, rule_set, a
 use Rattle.simplecss_text.specs.Ranks.{ordered_by}
 use Rattle.simplecss_text.specs.Printing.{selector_text}
 
--- the declarations of a block behind its brace, and what is left after it
+-- the declarations of a block after its brace, and what is left after it
 pub blocks : (edition : Edition) →
     (block edition (codes "a:b; c:d}e") ≡ (record { name = (codes "a"); value = (codes "b"); important = false } ∷ record { name = (codes "c"); value = (codes "d"); important = false } ∷ [], (codes "e")))
     × (block edition (codes "}}a") ≡ ([], (codes "}a")))
@@ -42,7 +42,7 @@ unfolding each comment blank gap past_name_chars name string_or_name attribute_o
 statement_ends first_edition = (refl, refl, refl, refl, refl, refl)
 statement_ends second_edition = (refl, refl, refl, refl, refl, refl)
 
--- what is left after a part and the space bytes behind it
+-- what is left after a part and the space bytes after it
 pub part_ends : (edition : Edition) →
     ((part edition (codes "a , b")).1 ≡ (codes ", b"))
     × ((part edition (codes "a {")).1 ≡ (codes "{"))
@@ -52,7 +52,7 @@ unfolding each comment blank gap past_name_chars name string_or_name attribute_o
 part_ends first_edition = (refl, refl, refl, refl)
 part_ends second_edition = (refl, refl, refl, refl)
 
--- the selectors that the parts of a rule set give
+-- the selectors of the parts of a rule set
 pub parts_of_sets : (edition : Edition) →
     (map selector_text (parts edition (codes "a, b > c {")).0 ≡ (codes "a") ∷ (codes "b > c") ∷ [])
     × (map selector_text (parts edition (codes "a, :x, b")).0 ≡ (codes "a") ∷ (codes "b") ∷ [])
@@ -79,7 +79,7 @@ pub ranks :
 unfolding each comment blank gap past_name_chars name string_or_name attribute_operator attribute_after lang_after pseudo_class_after named_token next_kind solid piece ending sequence_from chars encode trim_start trim_end reads part parts next_block rule_set at_rule_rest statement statements block block_end word past_number term value importance trailing declaration declarations
 ranks = (refl, refl, refl)
 
--- where a block ends: one further brace is taken behind a declaration that is broken
+-- where a block ends: one further brace is consumed after a broken declaration
 pub block_ends : (edition : Edition) →
     (block edition (codes "}a") ≡ ([], (codes "a")))
     × (block edition [] ≡ ([], []))
@@ -102,7 +102,7 @@ unfolding each comment blank gap past_name_chars name string_or_name attribute_o
 block_ends first_edition = (refl, refl, refl, refl, refl, refl, refl, refl, refl, refl, refl, refl, refl, refl, refl, refl, refl)
 block_ends second_edition = (refl, refl, refl, refl, refl, refl, refl, refl, refl, refl, refl, refl, refl, refl, refl, refl, refl)
 
--- behind a part space bytes are passed and comments are not
+-- after a part space bytes are skipped and comments are not
 pub parts_and_blanks : (edition : Edition) →
     ((part edition (codes "- ,b")).1 ≡ (codes ",b"))
     × ((part edition (codes "-/**/,b")).1 ≡ (codes "/**/,b"))
@@ -118,7 +118,7 @@ unfolding each comment blank gap past_name_chars name string_or_name attribute_o
 parts_and_blanks first_edition = (refl, refl, refl, refl, refl, refl, refl, refl, refl, refl)
 parts_and_blanks second_edition = (refl, refl, refl, refl, refl, refl, refl, refl, refl, refl)
 
--- the selectors that a rule set gives
+-- the selectors that a rule set yields
 pub rule_sets : (edition : Edition) →
     (map (λ rule. selector_text rule.components) (rule_set edition (codes "a,,b{c:d}")).0 ≡ (codes "a") ∷ (codes "b") ∷ [])
     × (map (λ rule. selector_text rule.components) (rule_set edition (codes ",a{c:d}")).0 ≡ (codes "a") ∷ [])

@@ -104,7 +104,7 @@ unfolding each comment blank gap past_name_chars name string_or_name attribute_o
 combinators first_edition = (refl, refl, refl, refl, refl, refl, refl, refl, refl)
 combinators second_edition = (refl, refl, refl, refl, refl, refl, refl, refl, refl)
 
--- pieces where none may stand, and none where one must
+-- pieces where none may be, and none where one must be
 pub misplaced : (edition : Edition) →
     (tokens_of edition (codes ">") ≡ Err UnexpectedCombinator ∷ [])
     × (tokens_of edition (codes "+") ≡ Err UnexpectedCombinator ∷ [])
@@ -130,7 +130,7 @@ unfolding each comment blank gap past_name_chars name string_or_name attribute_o
 faults_in_pieces first_edition = (refl, refl, refl, refl, refl)
 faults_in_pieces second_edition = (refl, refl, refl, refl, refl)
 
--- a second fault where a head is missing or a comment is open behind an open left side
+-- a second fault where a head is missing or a comment is open after an open left side
 pub second_faults : (edition : Edition) →
     (tokens_of edition (codes "<") ≡ Err (InvalidIdent (record { row = 1; col = 1 })) ∷ Err SelectorMissing ∷ [])
     × (tokens_of edition (codes "a <") ≡ Ok (type_selector (codes "a")) ∷ Ok descendant_combinator ∷ Err (InvalidIdent (record { row = 1; col = 3 })) ∷ Err SelectorMissing ∷ [])
@@ -181,7 +181,7 @@ pub wide_characters-editions :
 unfolding each comment blank gap past_name_chars name string_or_name attribute_operator attribute_after lang_after pseudo_class_after named_token next_kind solid piece ending sequence_from position chars encode trim_start trim_end
 wide_characters-editions = (refl, refl)
 
--- pieces that break off or go wrong behind their first byte
+-- pieces that break off or go wrong after their first byte
 pub unfinished_pieces : (edition : Edition) →
     (tokens_of edition (codes "#") ≡ Err (InvalidIdent (record { row = 1; col = 2 })) ∷ [])
     × (tokens_of edition (codes "[") ≡ Err (InvalidIdent (record { row = 1; col = 2 })) ∷ [])
@@ -209,7 +209,7 @@ unfolding each comment blank gap past_name_chars name string_or_name attribute_o
 near_misses first_edition = (refl, refl, refl, refl, refl, refl, refl)
 near_misses second_edition = (refl, refl, refl, refl, refl, refl, refl)
 
--- a vertical tab is white space of a language alone, and a form feed is a space byte
+-- a vertical tab is white space only of a language, and a form feed is a space byte
 pub white_space : (edition : Edition) →
     (tokens_of edition (97 ∷ 11 ∷ []) ≡ Ok (type_selector (codes "a")) ∷ Err (InvalidIdent (record { row = 1; col = 2 })) ∷ [])
     × (tokens_of edition (97 ∷ 12 ∷ []) ≡ Ok (type_selector (codes "a")) ∷ [])
@@ -246,8 +246,8 @@ unfolding each comment blank gap past_name_chars name string_or_name attribute_o
 slashes first_edition = (refl, refl, refl)
 slashes second_edition = (refl, refl, refl)
 
--- what is left where a name is missing: a hyphen is passed, and behind an open left side a missing
--- head is told twice
+-- what is left where a name is missing: a hyphen is consumed, and after an open left side a missing
+-- head is reported twice
 pub places_of_missing_names : (edition : Edition) →
     (sequence_of edition (codes "<,b") ≡ item (Err (no_name (codes "<,b"))) (codes "<,b") (item (Err no_selector) (codes "<,b") (sequence_end (codes "<,b"))))
     × (sequence_of edition (codes "-,b") ≡ item (Err (no_name (codes "-,b"))) (codes ",b") (item (Err no_selector) (codes ",b") (sequence_end (codes ",b"))))
@@ -285,7 +285,7 @@ unfolding each comment blank gap past_name_chars name string_or_name attribute_o
 places_within_attributes first_edition = (refl, refl, refl, refl, refl, refl, refl, refl, refl, refl, refl, refl, refl, refl)
 places_within_attributes second_edition = (refl, refl, refl, refl, refl, refl, refl, refl, refl, refl, refl, refl, refl, refl)
 
--- what is left after each token, at a stop, and after a neighbour that may not stand there
+-- what is left after each token, at a stop, and after a neighbour that may not be there
 pub places_of_neighbours : (edition : Edition) →
     (sequence_of edition (codes "> a") ≡ item (Err unexpected_combinator) (codes "> a") (sequence_end (codes "> a")))
     × (sequence_of edition (codes "a>+b") ≡ item (Ok (type_selector (codes "a"))) (codes ">+b") (item (Ok child_combinator) (codes "+b") (item (Err unexpected_combinator) (codes "+b") (sequence_end (codes "+b")))))
