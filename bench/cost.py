@@ -1,9 +1,9 @@
-"""How the time of the program grows with what it reads: each input at a size and at ten times that size.
+"""Measures how the time of the program grows with its input: each input at a size and at ten times that size.
 
     cost.py PROGRAM     PROGRAM is the built `cssq`
 
 Prints a line for each input: processor time in milliseconds at both sizes, least of some runs, and their ratio. Time that
-grows no faster than N log N has a ratio of about 10 to 12. The last input is a product by its meaning, since each of its N
+grows no faster than N log N has a ratio of about 10 to 12. The output of the last input is a product, since each of its N
 rules has N declarations of its own: its ratio nears 100. Inputs are made by this script; nothing else is needed.
 """
 import os
@@ -28,8 +28,8 @@ def milliseconds(words, stdin=None, runs=5):
     best, status = float("inf"), 0
     for _ in range(runs):
         before = resource.getrusage(resource.RUSAGE_CHILDREN)
-        with open(stdin or os.devnull, "rb") as given:
-            status = subprocess.run([program, *words], stdin=given, stdout=subprocess.DEVNULL, stderr=subprocess.DEVNULL, check=False).returncode
+        with open(stdin or os.devnull, "rb") as file:
+            status = subprocess.run([program, *words], stdin=file, stdout=subprocess.DEVNULL, stderr=subprocess.DEVNULL, check=False).returncode
         after = resource.getrusage(resource.RUSAGE_CHILDREN)
         spent = after.ru_utime + after.ru_stime - before.ru_utime - before.ru_stime
         best = min(best, 1000 * spent)
@@ -57,17 +57,17 @@ def match_of(sheet, tree):
 
 
 def children(words):
-    """A parent with so many words in its class, and n children."""
+    """A parent with `words` words in its class, and n children."""
     return lambda n: "0\tr\tclass=" + " ".join(f"w{i}" for i in range(words)) + "\n" + "1\ta\n" * n
 
 
 def rules_of(count, selector):
-    """So many rules, each with its number in the selector."""
+    """`count` rules, or n, each with its number in the selector."""
     return lambda n: "".join(selector.format(i) + " { b:c }\n" for i in range(count or n))
 
 
 INPUTS = [
-    ("a selector behind comments", 10_000, selector_of(lambda n: "/**/" * n + "a")),
+    ("a selector after comments", 10_000, selector_of(lambda n: "/**/" * n + "a")),
     ("comments within a compound", 10_000, selector_of(lambda n: "a" + "/**/" * n + ".b")),
     ("comments within a gap", 10_000, selector_of(lambda n: "a " + "/**/" * n + "b")),
     ("a selector of components", 100_000, selector_of(chain)),
@@ -77,7 +77,7 @@ INPUTS = [
     ("a rule set of selectors", 4_000, sheet_of(lambda n: ", ".join(f"a{i}" for i in range(n)) + " { b:c }")),
     ("a block of declarations", 40_000, sheet_of(lambda n: "a { " + "b:c; " * n + "}")),
     ("refused rule sets", 50_000, sheet_of(lambda n: "a < b { c:d } " * n)),
-    ("at-rules of one at-sign, told", 20_000, sheet_of(lambda n: "a:zz {}" + "@" * n)),
+    ("at-rules of one at-sign, reported", 20_000, sheet_of(lambda n: "a:zz {}" + "@" * n)),
     ("rule sets of one specificity", 20_000, sheet_of(lambda n: "".join(f".c{i} {{ d:e }}\n" for i in range(n)))),
     ("a line of attributes", 40_000, match_of(lambda n: "a { b:c }", lambda n: "0\ta\t" + "\t".join(f"k{i}=v" for i in range(n)))),
     ("a chain of elements, and one step", 10_000, match_of(lambda n: "x > a { b:c }", deep)),

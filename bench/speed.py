@@ -1,12 +1,12 @@
-"""Times of the built program on a real style sheet and a real page, beside other programs of the same commands.
+"""Measures the built program on a real style sheet and a real page, beside other programs of the same commands.
 
     speed.py PROGRAM [OTHER] [--matcher MATCHER] [--out FOLDER] [--runs N] [--quick]
 
-PROGRAM is the built `cssq`. OTHER and MATCHER, where they are given, are run in turn with it on the same files; their standard
+PROGRAM is the built `cssq`. OTHER and MATCHER, if given, are run on the same files, one run of each after another; their standard
 output must be the same. MATCHER is run for the rows of `match` only. OTHER is called the Rust crate, and MATCHER Servo's crates.
 The style sheet is bootstrap.css of Debian's libjs-bootstrap4 and the page that of developers-reference, fetched by
-`apt-get download` into FOLDER (cssq-speed in the temporary folder) once; where that fails, both are made here, and the table
-says so. FOLDER does not lie in the repository: packages have links, which the toolchain refuses there.
+`apt-get download` into FOLDER (cssq-speed in the temporary folder) once; if that fails, both are made here, and the table
+says so. FOLDER is outside the repository: packages have links, which the toolchain refuses there.
 
 Prints a table, and writes it with a picture to FOLDER: speed.md and speed.svg. Each time is the least of N runs of the whole
 process, in milliseconds of processor time.
@@ -27,7 +27,7 @@ parser.add_argument("other", nargs="?")
 parser.add_argument("--matcher")
 parser.add_argument("--out", default=os.path.join(tempfile.gettempdir(), "cssq-speed"))
 parser.add_argument("--runs", type=int, default=7)
-parser.add_argument("--quick", action="store_true", help="small inputs alone")
+parser.add_argument("--quick", action="store_true", help="only small inputs")
 words = parser.parse_args()
 program = os.path.abspath(words.program)
 others = [("the Rust crate", "#c04a17", words.other, ("sheet", "match", "style")), ("Servo's crates", "#2c8a3a", words.matcher, ("match",))]
@@ -117,7 +117,7 @@ def timed(binary, args):
 
 
 def compared(args, runs):
-    """The least time of each program that has the command, run in turn, and none for one that has not."""
+    """The least time of each program that has the command, one run of each after another, and None for one that has not."""
     programs = [program, *(path if args[0] in commands else None for _, _, path, commands in others)]
     best = [path and float("inf") for path in programs]
     for _ in range(runs):
@@ -160,7 +160,7 @@ sheet = put("sheet.css", css)
 for times in (1, 2, 4) if words.quick else (1, 2, 4, 8, 16):
     path = put(f"sheet{times}.css", css * times)
     size = os.path.getsize(path)
-    # A crate that reads in the square of the size is not waited for.
+    # A program whose time grows as the square of the size is not waited for.
     runs = words.runs if times < 8 else 3
     curves["reading"].append((size, *row(f"sheet: {size / 1e6:.1f} MB", ["sheet", path], runs)))
 for part in (8, 4, 2, 1):

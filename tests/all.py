@@ -1,7 +1,7 @@
 #!/usr/bin/env python3
 """Every check of the repository. First `rt ci`: every proof from nothing, every test, every wrong body that must be refused,
-and the stored runs. Then, over the programs that it has built, each request for memory refused in turn, and the program `cssq`
-with its words, files and streams. So nothing is proved twice. Last what the documents show, the scripts `cssq` and `build`, and the
+and the stored runs. Then, over the programs that it has built, each request for memory refused, and the program `cssq` with its
+words, files and streams. So nothing is proved twice. Last what the documents show, the scripts `cssq` and `build`, and the
 C library with the Python package over it.
 
 The last line is 'N passed, M failed', of all together.
@@ -22,7 +22,7 @@ passed = failed = 0
 
 
 def fail(line):
-    """Counts a check that could not be made, and tells why."""
+    """Counts a check that could not be made, and prints why."""
     global failed
     failed += 1
     print(f"tests/all.py: {line}", flush=True)
@@ -51,7 +51,7 @@ def program_of(crate):
 
 
 def shim_in(folder):
-    """Builds what refuses requests for memory, by the clang of the toolchain. Gives its path, or none where that fails."""
+    """Builds what refuses requests for memory, with the toolchain's clang. Returns its path, or None if that fails."""
     page = subprocess.run(["rt", "doc"], stdout=subprocess.PIPE, text=True, check=False).stdout.strip()
     clang = os.path.join(os.path.dirname(page), "toolchain", "bin", "clang")
     if not os.path.exists(clang):
@@ -86,7 +86,7 @@ def look():
 
 def main():
     for _, crate in SWEEPS:
-        # What an earlier run left is not swept in the place of what this one builds.
+        # The sweeps must not run the program of an earlier build.
         if os.path.exists(program_of(crate)):
             os.remove(program_of(crate))
     if shutil.which("rt"):

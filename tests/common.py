@@ -10,7 +10,7 @@ class Counts:
         self.passed = self.failed = 0
 
     def expect(self, holds, what):
-        """Counts an expectation, and tells it where it does not hold."""
+        """Counts an expectation, and prints it if it does not hold."""
         if holds:
             self.passed += 1
         else:
@@ -18,13 +18,13 @@ class Counts:
             print("FAILED", what)
 
     def end(self):
-        """Prints the last line, and gives the exit status."""
+        """Prints the last line, and returns the exit status."""
         print(f"{self.passed} passed, {self.failed} failed")
         return 1 if self.failed else 0
 
 
 def run(program, shim, words, refuse, marked=False, **streams):
-    """Runs a program with the request of this number refused, 0 for none. Gives its status, what it wrote to standard output
+    """Runs a program with the request of this number refused, 0 for none. Returns its status, what it wrote to standard output
     and to standard error, and a byte for each request that was counted, `x` for the refused one."""
     environment = dict(os.environ)
     reader, writer = os.pipe()

@@ -1,11 +1,13 @@
-"""The documents against what they speak of.
+"""Compares the documents with the sources and the program.
 
     docs.py PROGRAM     PROGRAM is the built `cssq`
 
-A block of code below a line `<!-- from FILE -->` stands in that file, apart from indentation; so does one in the documentation of
-an item. What the README's table of commands shows is what the program answers, with the files of the blocks below lines
-`<!-- file NAME -->`, and what docs/DIFFERENCES.md shows of sheets is what it prints of them. There are no other blocks. Prints
-'N passed, M failed' in the end; the status is 1 if something failed.
+A block of code below a line `<!-- from FILE -->` is a part of that file, apart from indentation; so is one in the documentation of
+an item. The README's table of commands shows what the program prints, with the files of the blocks below lines
+`<!-- file NAME -->`, of which page.tree is what tools/html_tree.py writes of page.html. The words of its other command lines are
+files of the repository. What docs/DIFFERENCES.md shows of sheets is what the program prints. The files
+that the recipes of docs/ARCHITECTURE.md name exist. The lines of docs/USING.md below `<!-- run -->` are run in an empty folder. There are no other blocks. Prints 'N passed, M failed' in the end; the
+status is 1 if something failed.
 """
 import os
 import re
@@ -34,7 +36,7 @@ def flush(lines):
     return [line[depth:].rstrip() for line in lines]
 
 
-def stands_in(block, text):
+def is_part(block, text):
     """Whether the lines of a block follow one another in a text, apart from indentation."""
     lines = text.split("\n")
     wanted = flush(block)
@@ -74,10 +76,27 @@ for name, text in documents:
         if source:
             named += 1
             where = os.path.join(top, source[1])
-            expect(os.path.isfile(where) and stands_in(block, read(source[1])), f"{name}: {source[1]} has no {block[:1]}..")
+            expect(os.path.isfile(where) and is_part(block, read(source[1])), f"{name}: {source[1]} has no {block[:1]}..")
         else:
-            expect(above.startswith("<!-- file "), f"{name}: no source is named of {block[:1]}..")
+            expect(above.startswith("<!-- file ") or above == "<!-- run -->", f"{name}: no source is named of {block[:1]}..")
 expect(named > 0, "no document names a source")
+
+# ---- the files that the recipes of docs/ARCHITECTURE.md name
+
+
+def choices(path):
+    """The paths that a path with alternatives in braces means."""
+    braces = re.search(r"\{([^{}]*)\}", path)
+    if not braces:
+        return [path]
+    return [whole for part in braces[1].split(",") for whole in choices(path[: braces.start()] + part + path[braces.end() :])]
+
+
+for crate, files in re.findall(r"^\| (`\w+`|tests, documents) \| (.*) \|$", read("docs/ARCHITECTURE.md").split("## How to add a rule", 1)[-1], re.MULTILINE):
+    folders = [os.path.join("crates", crate.strip("`"))] if "`" in crate else ["crates", ""]
+    for path in (whole for words in re.findall(r"`([^` *]+/[^` *]*)`", files) for whole in choices(words)):
+        places = [os.path.join(top, folder, path + ending) for folder in folders for ending in ("", ".antt", ".rt")]
+        expect(any(map(os.path.exists, places)), f"docs/ARCHITECTURE.md: {crate} has no {path}")
 
 # ---- the sheets that docs/DIFFERENCES.md shows
 
@@ -101,6 +120,9 @@ with tempfile.TemporaryDirectory() as folder:
         if file:
             with open(os.path.join(folder, file[1]), "w", encoding="utf-8") as made:
                 made.write("\n".join(block) + "\n")
+    written = subprocess.run([sys.executable, os.path.join(top, "tools", "html_tree.py"), "page.html"], cwd=folder, capture_output=True, check=False)
+    with open(os.path.join(folder, "page.tree"), "rb") as shown:
+        expect((written.returncode, written.stdout) == (0, shown.read()), f"README: tools/html_tree.py writes {written.stdout!r} of page.html")
     tried = set()
     for words, shown in re.findall(r"^\| `\./cssq ([^`]*)` \| (.*) \|$", readme, re.MULTILINE):
         text = "".join(span + {"TAB": "\t", "<br>": "\n", "": "\n"}[between.strip()] for span, between in re.findall(r"`([^`]*)`([^`]*)", shown))
@@ -111,4 +133,26 @@ with tempfile.TemporaryDirectory() as folder:
     usage = subprocess.run([program, "--help"], stdin=subprocess.DEVNULL, capture_output=True, check=False).stderr.decode()
     commands = set(re.findall(r"[\[|] *(\w+)", usage))
     expect(tried == commands, f"README: the table shows {sorted(tried)} of {sorted(commands)}")
+lines = re.findall(r"^    out/(\w+)(.*)$", readme, re.MULTILINE)
+examples = {name.split("/")[1] for name in names if re.fullmatch(r"crates/example_\w+/src/main.rt", name)}
+expect({program for program, _ in lines} == examples, f"README: a line for each of {sorted(examples)}")
+for program, words in lines:
+    for word in shlex.split(words):
+        expect("/" not in word or os.path.isfile(os.path.join(top, word)), f"README: {program} is run with {word}")
+
+# ---- the lines of docs/USING.md, from an empty folder to two programs that run
+
+using = read("docs/USING.md")
+script = ["set -eu"]
+for above, block in blocks(using):
+    file = re.fullmatch(r"<!-- file (\S+) -->", above)
+    if file:
+        script += [f"cat >{file[1]} <<'END'", *block, "END"]
+    elif above == "<!-- run -->":
+        script += block
+with tempfile.TemporaryDirectory() as folder:
+    done = subprocess.run(["sh", "-c", "\n".join(script)], cwd=folder, env={**os.environ, "CHECKOUT": top}, stdin=subprocess.DEVNULL, capture_output=True, text=True, check=False)
+    wanted = read("crates/example_first/stdout") + "0: false\n1: false\n2: true\n"
+    printed = "".join(line + "\n" for line in done.stdout.splitlines() if line + "\n" in wanted)
+    expect((done.returncode, printed) == (0, wanted), f"docs/USING.md: its lines end with {done.returncode}, {done.stdout!r} and {done.stderr[-1000:]!r}")
 sys.exit(checks.end())

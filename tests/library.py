@@ -14,7 +14,7 @@ import library_calls
 TOP = os.path.dirname(os.path.dirname(os.path.abspath(__file__)))
 OUT = os.path.join(TOP, "out")
 EXPECTED = b"1:\n2: 1 2\n3: 1\n"
-# How many calls tests/library_refused.c makes, and which takes no memory.
+# How many calls tests/library_refused.c makes, and which of them allocates nothing.
 CALLS = 11
 VERSION_CALL = 10
 
@@ -22,7 +22,7 @@ passed = failed = 0
 
 
 def check(is_right, name, detail=""):
-    """Counts a test, and shows it where it fails."""
+    """Counts a test, and prints it if it fails."""
     global passed, failed
     if is_right:
         passed += 1
@@ -32,7 +32,7 @@ def check(is_right, name, detail=""):
 
 
 def run(words, **options):
-    """Runs a command. Its output is kept."""
+    """Runs a command, and keeps its output."""
     return subprocess.run(words, capture_output=True, cwd=TOP, **options)
 
 
@@ -56,14 +56,14 @@ def test_install(folder):
 
 
 def header_folders():
-    """Where the system has C headers: the toolchain's clang comes without. None where a header is missing."""
+    """Returns where the system has C headers, which the toolchain's clang lacks, or None if a header is missing."""
     compilers = sorted(glob.glob("/usr/lib/gcc/*/*/include") + glob.glob("/usr/lib/llvm-*/lib/clang/*/include"))
     found = [path for path in compilers if os.path.isfile(os.path.join(path, "stddef.h"))][:1]
     return found + ["/usr/include/x86_64-linux-gnu", "/usr/include"] if found and os.path.isfile("/usr/include/stdio.h") else None
 
 
 def test_example(clang, folder, headers):
-    """The C example prints what it is to print, linked to either library."""
+    """The C example prints what it should, linked to either library."""
     clang = [clang, *(f"-isystem{path}" for path in headers)]
     source = os.path.join(TOP, "examples", "c", "page.c")
     include = "-I" + os.path.join(folder, "include")
@@ -87,7 +87,7 @@ def test_example(clang, folder, headers):
 
 
 def test_refused(clang, folder, headers):
-    """Where a request for memory of a call is refused, the call says so and writes nothing, or its answer is whole."""
+    """If a request for memory of a call is refused, the call reports it and writes nothing, or its answer is whole."""
     shim = os.path.join(folder, "refuse.so")
     made = run([clang, "-O1", "-shared", "-fPIC", "-nostdlib", "-o", shim, os.path.join(TOP, "tests", "refuse.c")])
     check(made.returncode == 0, "refuse.c")
@@ -113,7 +113,7 @@ def test_refused(clang, folder, headers):
 
 
 def test_sanitized(clang, folder, headers):
-    """The example with AddressSanitizer, where the toolchain's archive of it links."""
+    """The example with AddressSanitizer, if the toolchain's archive of it links."""
     program = os.path.join(folder, "sanitized")
     words = [clang, "-fsanitize=address", "-fno-sanitize-link-runtime", "-rdynamic", *(f"-isystem{path}" for path in headers),
              "-I" + os.path.join(folder, "include")]

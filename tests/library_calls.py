@@ -1,5 +1,5 @@
 """Tests the calls of the C library by ctypes: each call with each of its statuses, with a buffer of each length up to
-what the answer needs, in eight threads at once, and on texts of 10 MB. `run(check, path)` is what library.py calls."""
+the one that the answer needs, in eight threads at once, and on texts of 10 MB. `run(check, path)` is what library.py calls."""
 
 import ctypes
 import itertools
@@ -162,7 +162,7 @@ def test_failures(check, library):
 
 
 def test_threads(check, library):
-    """Eight threads at once have the answers that one has."""
+    """Eight threads at once get the answers that one gets."""
     found = []
 
     def work():

@@ -1,4 +1,4 @@
-"""The built program: each request for memory refused in turn, what it answers to words, files and mistakes, and its three streams
+"""Tests the built program: each request for memory refused, its answers to words, files and mistakes, and its three streams
 closed, full, or a pipe that nobody reads.
 
     program.py PROGRAM SHIM     PROGRAM is the built `cssq`, SHIM the built tests/refuse.c
@@ -24,7 +24,7 @@ NOBODY = 65534
 room = tempfile.TemporaryDirectory()
 folder = room.name
 os.chmod(folder, 0o755)
-# Nobody may run the copy, wherever the program itself stands.
+# The user nobody may run the copy, wherever the program itself is.
 program = shutil.copy(sys.argv[1], os.path.join(folder, "cssq"))
 os.chmod(program, 0o755)
 shim = os.path.abspath(sys.argv[2])
@@ -47,7 +47,7 @@ tree = put("a.tree", b"0\ta\n1\tb\n1\tc\tk=v\tl=w\n2\tb\n")
 broken = put("broken.tree", b"0\ta\n2\tb\n")
 empty = put("empty", b"")
 
-# ---- each request for memory refused in turn
+# ---- each request for memory refused, one after another
 
 
 def run_with_shim(words, stdin, refuse=0):
@@ -88,7 +88,7 @@ for words, stdin in [
     expect(number > 1, f"{words} makes no request for memory")
 print(f"the program: {refused} refused requests")
 
-# ---- what it answers
+# ---- its answers
 
 STREAMS = {"stdin": 0, "stdout": 1, "stderr": 2}
 
@@ -125,26 +125,26 @@ def start(words, kinds, **streams):
 
 
 def faults(err):
-    """The lines of standard error that tell why the program ended, and the line that came last."""
+    """The lines of standard error that say why the program ended, and the last line."""
     lines = err.decode(errors="replace").splitlines()
     return [line for line in lines if line.startswith(("cssq:", "usage:"))], lines[-1:]
 
 
 def answers(words, stdin, kinds, status, out, line):
-    """Whether the program answers so: its status, its output, and its one line behind all warnings, `""` for none. What goes to a
-    stream of some kind is not seen."""
+    """Whether the program answers so: its status, its output, and its one line after all warnings, `""` for none. What goes to a
+    stream of some kind is not compared."""
     with open(put("stdin", stdin), "rb") as file:
         child = start(words, kinds, **({} if "stdin" in kinds else {"stdin": file}))
         got, err = child.communicate()
     holds = child.returncode == status and got in (None, out.encode())
     if err is not None:
-        told, last = faults(err)
-        holds &= told == ([line] if line else []) and (not line or last == [line])
+        reasons, last = faults(err)
+        holds &= reasons == ([line] if line else []) and (not line or last == [line])
     shown = got if got is None or len(got) < 1000 else got[:1000] + b" .."
     expect(holds, f"{words} with {kinds or 'ordinary streams'}: status {child.returncode}, {shown}, {err}")
 
 
-# words, standard input, status, output, the line that tells why
+# words, standard input, status, output, the line that says why
 ANSWERS = [
     (["selector", "a > .b"], b"", 0, "a > *[class~='b']\t0,1,1\n", ""),
     (["selector", "a, b"], b"", 0, "a\t0,0,1\n", ""),
@@ -173,7 +173,7 @@ before = checks.passed
 for words, stdin, *wanted in ANSWERS:
     answers(words, stdin, {}, *wanted)
 
-# ---- mistakes: what each says. A row has what the program prints, and its lines on standard error before the one of the status
+# ---- mistakes: what the program says of each. A row has what it prints, and its lines on standard error before the one of the status
 
 
 def says(words, stdin, status, out, lines):
@@ -185,14 +185,14 @@ def says(words, stdin, status, out, lines):
     expect((child.returncode, got.decode(), err.decode()) == wanted, f"{words} of {stdin}: {child.returncode}, {got}, {err.decode()!r}, not {wanted}")
 
 
-# The text of a selector, what is printed, and the warning. Nothing is printed where the selector is refused.
+# The text of a selector, what is printed, and the warning. Nothing is printed if the selector is refused.
 SELECTORS = [
     # No selector.
     ("", "", ":1:1: '': selector missing"),
     (" ", "", ":1:2: '': selector missing"),
     ("/**/", "", ":1:5: '': selector missing"),
     (", a", "", ":1:1: '': selector missing"),
-    # A character that begins no part of one: later CSS, other languages, a name that begins as none.
+    # A character that begins no part of a selector: later CSS, other languages, a name with another first character.
     ("a < b", "", ":1:3: 'a < b': invalid ident"),
     ("a<b", "", ":1:2: 'a<b': invalid ident"),
     ("a ~ b", "", ":1:3: 'a ~ b': invalid ident"),
@@ -384,7 +384,7 @@ says(["sheet", "closed.css"], b"", 0, "a { b:url('c(d');e:'f(' g;h:i;j:k(l) m(n)
 mistakes = len(SELECTORS) + len(SHEETS) + len(TREES) + len(UNKNOWN) + len(FILES) + 1
 print(f"the program: {mistakes} mistakes, {checks.passed - began} answers to them")
 
-# ---- files that cannot be read: the first in the words' order is told, and nothing is written
+# ---- files that cannot be read: the first in the words' order is reported, and nothing is written
 
 missing = os.path.join(folder, "missing.css")
 locked = put("locked.css", b"a { b:c }", 0)
@@ -427,12 +427,12 @@ for words, stdin, out in HUGE:
     answers(words, stdin.encode(), {}, 0, out, "")
 print(f"the program: {checks.passed - before} answers to words and files")
 
-# ---- streams: what can't be written is told by the status, and a fault of standard error changes nothing
+# ---- streams: the status reports what can't be written, with no line if nobody reads it; standard error changes no status
 
 before = checks.passed
 for kind in ("closed", "full", "unread"):
     for words, stdin, status, out, line in ANSWERS:
-        fails = (4, "", CANNOT_WRITE) if out else (status, out, line)
+        fails = (4, "", "" if kind == "unread" else CANNOT_WRITE) if out else (status, out, line)
         answers(words, stdin, {"stdout": kind}, *fails)
         answers(words, stdin, {"stderr": kind}, status, out, line)
         answers(words, stdin, {"stdout": kind, "stderr": kind}, *fails)
@@ -458,7 +458,7 @@ for piece in (b"a ", b"> .", b"b\n"):
 out, err = child.communicate()
 expect((child.returncode, out) == (0, b"a > *[class~='b']\t0,1,1\n"), f"standard input in pieces: {child.returncode} {out} {err}")
 
-# More than a pipe holds: a reader that waits gets all of it, and one that goes after a byte is told of.
+# More than a pipe holds: a reader that waits gets all of it, and one that leaves after a byte is no reason for a line.
 text = "".join(f"n{i} {{ a:b; }}\n" for i in range(20_000)).encode()
 large = put("large.css", text)
 child = start(["sheet", large], {})
@@ -470,6 +470,6 @@ child.stdout.read1(1)
 child.stdout.close()
 err = child.stderr.read()
 child.stderr.close()
-expect((child.wait(), faults(err)[0]) == (4, [CANNOT_WRITE]), f"a reader that goes: {child.returncode} {err}")
+expect((child.wait(), err) == (4, b""), f"a reader that goes: {child.returncode} {err}")
 print(f"the program: {checks.passed - before} closed and full streams")
 sys.exit(checks.end())

@@ -41,8 +41,8 @@ def tests_of(crate):
     passed, failed = (int(counts[1]), int(counts[2])) if counts else (0, 0)
     if status and not failed:
         failed = 1
-    told = [line for line in out.splitlines() if failed and not re.fullmatch(r"test \S+ \.\.\. ok", line)]
-    return passed, failed, [f"{crate}: {passed} passed, {failed} failed, {seconds:.0f} s", *told]
+    shown = [line for line in out.splitlines() if failed and not re.fullmatch(r"test \S+ \.\.\. ok", line)]
+    return passed, failed, [f"{crate}: {passed} passed, {failed} failed, {seconds:.0f} s", *shown]
 
 
 def first_command():

@@ -18,7 +18,7 @@ checks = Counts()
 expect = checks.expect
 
 
-# What the calls that take no memory answer in each run.
+# What the calls that allocate nothing print in each run.
 FREE = "free: Answers { stream: 19, tokens: (6, 2), elements: 10, matches: 4, winners: (1, 1), equalities: 16, tables: (4, 4, 7, true) }"
 
 
@@ -48,7 +48,7 @@ SHEETS = [
 ]
 SELECTORS = ["[x=\"a'][y='b\"]", "[x=\"a\\'b\"]", "[x=\"a'b\"]", "a > .b", "a b > c d + e#f.g:hover", "a < b", ":le"]
 MANY = "0\ta\t" + "\t".join(f"k{i}={i}" for i in range(40))
-# Trees, and how many of their lines are sound before the first faulty one.
+# Trees, and the number of their lines before the first faulty one.
 TREES = [
     ("0\ta\n1\tb\n1\tc\n2\tb\n", 4),
     ("1\ta", 0),
@@ -64,7 +64,7 @@ TREES = [
 MATCHED = ("a > b { c:d } b { e:f }", "0\ta\n1\tb\n1\tc\n2\tb\n")
 
 def sweep(name, words, answers):
-    """Refuses the requests of a call one by one. `answers(out)` says whether an answer is want of memory."""
+    """Refuses the requests of a call one by one. `answers(out)` says whether an answer is out of memory."""
     total = 0
     for logger in ("lost", "kept"):
         status, whole, _ = run([logger, *words], 0)
@@ -78,7 +78,7 @@ def sweep(name, words, answers):
             total += 1
             lost = logger == "kept" and out == whole
             expect(status == 0 and (lost or answers(out, whole)), f"{logger} {words} with request {number} refused: {status} {out!r}")
-            # The whole answer only where nothing was lost: the keys of a faulty line are compared without memory then.
+            # The whole answer only if nothing was lost: the keys of a faulty line are then compared without memory.
             expect(logger == "kept" or out != whole or whole.startswith("fault "), f"{words} took no notice of request {number}")
     return total
 
@@ -123,7 +123,7 @@ add("RuleIndex::new, matching", ["index", *CASCADE], plain)
 add("winners", ["winners", *CASCADE], plain)
 add("Tree::push, set_attribute", ["tree", "a", "b", "c"], plain)
 
-# After a refused request the sheet is as it was, and the same call then gives all: the sheet's text, the one that is read into
+# After a refused request the sheet is unchanged, and the same call then reads all: the sheet's text, the one that is read into
 # it, and what the sheet prints before and after.
 MORE = [
     ("x { y:z }", "a, b { c:d }", "x { y:z; }\n", "x { y:z; }\na { c:d; }\nb { c:d; }\n"),

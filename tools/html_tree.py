@@ -3,9 +3,9 @@
 
     html_tree.py [FILE] > page.tree     without FILE, or with `-`, the document is read from standard input
 
-XML is told by the extension (.svg, .xml, .xhtml) or by its first bytes, and everything else is HTML. Python's standard library
-reads both; nothing has to be built. A value that has a TAB, a newline or a carriage return is written with a space for each, and
-a warning says so. The status is 1 where the document is no tree, and 4 where it cannot be read or the output cannot be written.
+A document is XML by its extension (.svg, .xml, .xhtml) or by its first bytes, and else HTML. Python's standard library reads both;
+nothing has to be built. A value that has a TAB, a newline or a carriage return is written with a space for each, and
+a warning says so. The status is 1 if the document is no tree, and 4 if it cannot be read or the output cannot be written.
 """
 import os
 import re
@@ -80,7 +80,7 @@ def main(words):
         print(f"{shown}: not UTF-8 at byte offset {error.start}", file=sys.stderr)
         return UNREADABLE
     except BrokenPipeError:
-        # The reader has what it wants. Python is not to try again at its end.
+        # The reader has all that it needs. Python must not try again when it ends.
         os.dup2(os.open(os.devnull, os.O_WRONLY), sys.stdout.fileno())
         return UNREADABLE
     except OSError as error:

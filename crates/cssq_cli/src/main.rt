@@ -4,6 +4,7 @@
 
 mod inputs;
 mod notes;
+mod output;
 mod trees;
 mod warnings;
 
@@ -13,6 +14,7 @@ use cssq::runs::{
 };
 use inputs::{INPUT, read_file, read_input};
 use log::sink::Discard;
+use output::Output;
 use simplecss::StyleSheet;
 use std::process::ExitCode;
 use std::{env, mem};
@@ -47,11 +49,21 @@ fn ended(rt: &HostRuntime, outcome: Result<(), RunFault>) -> ExitCode {
     }
 }
 
+/// Returns the exit status of a run with this output, and writes the line of its fault, but none
+/// if nobody reads the output: the reader, such as `head`, has all that it needs.
+fn written<W>(rt: &HostRuntime, outcome: Result<(), RunFault>, out: &Output<W>) -> ExitCode {
+    match outcome {
+        Err(RunFault::Output) if out.is_unread => ExitCode::from(RunFault::Output.status()),
+        outcome => ended(rt, outcome),
+    }
+}
+
 /// Shows the selector of the text, after warnings with this name.
 fn show_selector(rt: &HostRuntime, name: &str, text: &str) -> ExitCode {
     warn_of_selector(rt, name, text);
-    let outcome = run_selector(&Discard, rt.alloc(), text, &mut rt.stdout());
-    ended(rt, outcome)
+    let mut out = Output::new(rt.stdout());
+    let outcome = run_selector(&Discard, rt.alloc(), text, &mut out);
+    written(rt, outcome, &out)
 }
 
 /// Returns the texts of the files, or the exit status after the first that cannot be read.
@@ -75,17 +87,12 @@ fn show_texts(rt: &HostRuntime, names: &[&str], texts: &[&str]) -> ExitCode {
     let Ok(mut warnings) = SheetWarnings::new(rt, names) else {
         return ended(rt, Err(RunFault::Memory));
     };
+    let mut out = Output::new(rt.stdout());
     let mut sheet = StyleSheet::new(rt.alloc());
-    let outcome = run_sheet_into(
-        &mut warnings,
-        rt.alloc(),
-        texts,
-        &mut sheet,
-        &mut rt.stdout(),
-    );
+    let outcome = run_sheet_into(&mut warnings, rt.alloc(), texts, &mut sheet, &mut out);
     let _ = warnings.finish();
     mem::forget(sheet);
-    ended(rt, outcome)
+    written(rt, outcome, &out)
 }
 
 /// Returns the same strings as text.
@@ -132,14 +139,14 @@ fn show_elements(rt: &HostRuntime, file: &str, tree: &str, name: Option<&str>) -
     let Ok(mut warnings) = SheetWarnings::new(rt, &names) else {
         return ended(rt, Err(RunFault::Memory));
     };
-    let (alloc, out) = (rt.alloc(), &mut rt.stdout());
+    let (alloc, mut out) = (rt.alloc(), Output::new(rt.stdout()));
     let outcome = match name {
-        None => run_match_reporting(&mut warnings, alloc, sheet, page, out),
-        Some(name) => run_style_reporting(&mut warnings, alloc, sheet, page, name, out),
+        None => run_match_reporting(&mut warnings, alloc, sheet, page, &mut out),
+        Some(name) => run_style_reporting(&mut warnings, alloc, sheet, page, name, &mut out),
     };
     let _ = warnings.finish();
     warn_of_tree(rt, tree, page, &outcome);
-    ended(rt, outcome)
+    written(rt, outcome, &out)
 }
 
 /// Runs the command that the words after the program's name name.

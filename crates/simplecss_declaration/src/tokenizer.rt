@@ -33,6 +33,24 @@ impl<'a> DeclarationTokenizer<'a> {
 
     /// Returns the offset up to which the text was read, in bytes from its start. It is at most the
     /// text's length and is a character boundary.
+    ///
+    /// After a declaration, this is where what follows it begins, after any semicolons and blanks.
+    /// After `None` it is the length of the text. To find where a broken declaration begins, keep
+    /// the offset after each `Some`:
+    ///
+    /// <!-- from crates/simplecss_uses/src/statements.rt -->
+    /// ```rust
+    /// let mut declarations = DeclarationTokenizer::from(text);
+    /// let mut end = 0;
+    /// // Each declaration has at least one byte.
+    /// for _ in 0..text.len() {
+    ///     if declarations.next().is_none() {
+    ///         // Now `declarations.pos()` is the length of the text.
+    ///         break;
+    ///     }
+    ///     end = declarations.pos();
+    /// }
+    /// ```
     #[inline(always)]
     pub fn pos(&self) -> usize
         ensures place { result ≡ place_in self.now }

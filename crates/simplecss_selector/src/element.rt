@@ -6,19 +6,19 @@ use crate::{AttributeOperator, PseudoClass};
 ///
 /// The crate `simplecss_tree` has a ready tree. To make elements of your own match, keep them in a
 /// list, each with the indices of its parent and of its previous sibling, and write in your
-/// `specs/` what a list says of an index. For entries with a name and a class, in the crate
+/// `specs/` what a list says of an index. For entries with a name, an id and a class, in the crate
 /// `simplecss_uses`:
 ///
 /// <!-- from crates/simplecss_uses/specs/OwnTree.antt -->
 /// ```text
 /// abbrev pub entry_list : ListOf (List Entry)
 /// entry_list = record {
-///   parent = λ entries i. option_and_then (λ e. e.parent) (slice_get entries i);
-///   previous_sibling = λ entries i. option_and_then (λ e. e.previous) (slice_get entries i);
-///   is_named = λ entries i name. option_map_or (λ e. bytes_eq e.name.now name) (slice_get entries i) false;
-///   has_attribute = λ entries i name operator. bytes_eq name (codes "class")
-///       && option_map_or (λ e. is_as_asked operator e.class.now) (slice_get entries i) false;
-///   is_in_pseudo_class = λ entries i class. false;
+///   parent = named_parent;
+///   previous_sibling = named_previous;
+///   is_named = λ entries i name. bytes_eq (name_at entries i) name;
+///   has_attribute =
+///       λ entries i name operator. option_map_or (is_as_asked operator) (value_at entries i name) false;
+///   is_in_pseudo_class = is_in;
 /// }
 /// ```
 ///
@@ -56,11 +56,17 @@ use crate::{AttributeOperator, PseudoClass};
 ///     }
 ///
 ///     fn attribute_matches(&self, local_name: &str, operator: AttributeOperator<'_>) -> bool {
-///         local_name == "class" && operator.matches(self.entries[self.place].class)
+///         match self.value(local_name) {
+///             Some(value) => operator.matches(value),
+///             None => false,
+///         }
 ///     }
 ///
-///     fn pseudo_class_matches(&self, _class: PseudoClass<'_>) -> bool {
-///         false
+///     fn pseudo_class_matches(&self, class: PseudoClass<'_>) -> bool {
+///         match class {
+///             PseudoClass::FirstChild => previous_of(self.entries, self.place).is_none(),
+///             _ => false,
+///         }
 ///     }
 /// }
 /// ```

@@ -12,7 +12,37 @@ use crate::Element;
 ///
 /// To implement it, write `told`, what the element of a value reports, and prove `told_law` in your
 /// `specs/`: for each kind of key, every key that the node has is reported.
-/// `Rattle.simplecss.specs.Keys` has `Told`, `TellsKeys` and the keys.
+/// `Rattle.simplecss.specs.Keys` has `Told`, `TellsKeys` and the keys. For entries with a name, an
+/// id and a class:
+///
+/// <!-- from crates/simplecss_uses/src/own_tree.rt -->
+/// ```text
+/// impl<'t> Keyed for Spot<'t> {
+///     ghost told = { λ spot. told_at (spot.entries.now, spot.place) };
+///
+///     ghost told_law = { λ spot. keys_told (spot.entries.now, spot.place) };
+///
+///     fn local_name(&self) -> &str {
+///         self.entries[self.place].name
+///     }
+///
+///     fn id_value(&self) -> Option<&str> {
+///         self.value("id")
+///     }
+///
+///     fn class_value(&self) -> Option<&str> {
+///         self.value("class")
+///     }
+///
+///     fn has_attribute(&self, name: &str) -> bool {
+///         self.value(name).is_some()
+///     }
+///
+///     fn ancestor_bits(&self) -> u64 {
+///         all_key_bits()
+///     }
+/// }
+/// ```
 pub trait Keyed: Element {
     ghost use Rattle.std.specs.Prelude.{◌≡◌, option_map};
     ghost use Rattle.simplecss_selector.specs.Keys.{Told, TellsKeys};

@@ -58,6 +58,14 @@ pub(crate) struct Part<'a> {
 
 /// A selector: components, each a type name or any type with subselectors, and the combinator
 /// before it. There is at least one, and only the first has no combinator.
+///
+/// <!-- from crates/example_first/src/main.rt -->
+/// ```rust
+/// // None where the selector is refused.
+/// if let Some(selector) = Selector::parse(&Discard, alloc, "div > p:first-child")? {
+///     println!(rt; "{selector} {}", selector.matches(&element))?;
+/// }
+/// ```
 #[derive(Debug, Drop)]
 pub struct Selector<'a> {
     /// All components but the last, so that a selector of one component allocates nothing for it.

@@ -108,6 +108,14 @@ pub(crate) struct Entry<'t> {
 /// A tree: elements in the order in which they were added. Names, attributes and their values are
 /// slices of the document's text and are not copied; an element without attributes allocates
 /// nothing besides its entry in the list.
+///
+/// <!-- from crates/example_first/src/main.rt -->
+/// ```rust
+/// let mut tree = Tree::new(alloc);
+/// let div = tree.push(None, "div")?;
+/// let p = tree.push(Some(div), "p")?;
+/// tree.set_attribute("class", "note")?;
+/// ```
 #[derive(Debug, Drop)]
 pub struct Tree<'t> {
     /// An entry for each element.

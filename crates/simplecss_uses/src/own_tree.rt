@@ -1,24 +1,41 @@
 //! A user's own tree, against which selectors are matched: entries in a list, each with the indices
 //! of its parent and its previous sibling. Both laws of elements come from `ListTrees`.
 ghost use Rattle.std.specs.Prelude.{◌<◌, ◌≡◌, ℕ, List, IfSome, length};
+ghost use Rattle.std.specs.Option.{option_map};
 ghost use Rattle.simplecss.specs.ListTrees.{list_tree, list_counts_ancestors, list_shares_parents};
 ghost use Rattle.simplecss.specs.ListTrees.{parent_place, sibling_place};
-ghost use Rattle.simplecss_uses.specs.OwnTree.{entry_list};
+ghost use Rattle.simplecss_uses.specs.OwnTree.{entry_list, value_of, value_at, told_at, keys_told};
 ghost use Rattle.simplecss_uses.specs.declared.own_tree.Entry.{Entry};
 
-use simplecss::{AttributeOperator, Element, PseudoClass};
+use simplecss::{AttributeOperator, Element, Keyed, PseudoClass, all_key_bits};
 
-/// An entry: a name, a class, and the indices of the parent and of the previous sibling, if any.
+/// An entry: a name, an id and a class, if it has them, and the indices of the parent and of the
+/// previous sibling, if any.
 #[derive(Clone, Copy, Debug)]
 pub struct Entry<'t> {
     /// The element's name.
     pub name: &'t str,
+    /// The value of its attribute `id`.
+    pub id: Option<&'t str>,
     /// The value of its attribute `class`.
-    pub class: &'t str,
+    pub class: Option<&'t str>,
     /// The index of the parent.
     pub parent: Option<usize>,
     /// The index of the previous sibling.
     pub previous: Option<usize>,
+}
+
+impl<'t> Entry<'t> {
+    /// Returns the value of an attribute.
+    fn value(&self, name: &str) -> Option<&'t str>
+        ensures { option_map (λ value. value.now) result ≡ value_of self.now name.now }
+    {
+        match name {
+            "id" => self.id,
+            "class" => self.class,
+            _ => None,
+        }
+    }
 }
 
 /// The element at an index of a list.
@@ -55,7 +72,18 @@ fn previous_of(entries: &[Entry<'_>], place: usize) -> Option<usize>
     }
 }
 
-/// Names compare byte by byte. `class` is the only attribute, and no pseudo-class holds.
+impl<'t> Spot<'t> {
+    /// Returns the value of an attribute.
+    fn value(&self, name: &str) -> Option<&'t str>
+        ensures { option_map (λ value. value.now) result
+            ≡ value_at self.now.entries.now self.now.place name.now }
+    {
+        self.entries[self.place].value(name)
+    }
+}
+
+/// Names and values compare byte by byte. `:first-child` is an element without a previous sibling,
+/// and no other pseudo-class holds.
 impl<'t> Element for Spot<'t> {
     ghost Node = { List Entry × ℕ };
 
@@ -84,10 +112,43 @@ impl<'t> Element for Spot<'t> {
     }
 
     fn attribute_matches(&self, local_name: &str, operator: AttributeOperator<'_>) -> bool {
-        local_name == "class" && operator.matches(self.entries[self.place].class)
+        match self.value(local_name) {
+            Some(value) => operator.matches(value),
+            None => false,
+        }
     }
 
-    fn pseudo_class_matches(&self, _class: PseudoClass<'_>) -> bool {
-        false
+    fn pseudo_class_matches(&self, class: PseudoClass<'_>) -> bool {
+        match class {
+            PseudoClass::FirstChild => previous_of(self.entries, self.place).is_none(),
+            _ => false,
+        }
+    }
+}
+
+/// Reports its name, and the values of `id` and `class`.
+impl<'t> Keyed for Spot<'t> {
+    ghost told = { λ spot. told_at (spot.entries.now, spot.place) };
+
+    ghost told_law = { λ spot. keys_told (spot.entries.now, spot.place) };
+
+    fn local_name(&self) -> &str {
+        self.entries[self.place].name
+    }
+
+    fn id_value(&self) -> Option<&str> {
+        self.value("id")
+    }
+
+    fn class_value(&self) -> Option<&str> {
+        self.value("class")
+    }
+
+    fn has_attribute(&self, name: &str) -> bool {
+        self.value(name).is_some()
+    }
+
+    fn ancestor_bits(&self) -> u64 {
+        all_key_bits()
     }
 }

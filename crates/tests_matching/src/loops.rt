@@ -1,6 +1,7 @@
 //! What the loops and chains return.
 use crate::same::same;
 use simplecss::{Declaration, Error, SelectorToken, TextPos};
+use simplecss_uses::statements::{declarations_end, position_at, statements};
 use simplecss_uses::tokens::{
     all_declarations, all_items, declaration_count, error_count, first_error, first_important,
     important_count, important_count_by_chain, item_count,
@@ -138,4 +139,53 @@ fn finds_an_error(rt: HostRuntime) {
     let want = Some(Err(Error::InvalidIdent(TextPos::new(1, 3))));
     same(&rt, first_error("a < b"), want, "a < b");
     same(&rt, first_error("a > b"), None, "a > b");
+}
+
+/// Style sheets, and of each statement the text and the number of rules.
+const STATEMENTS: &[(&str, &[(&str, usize)])] = &[
+    (
+        "@x; a, b { c:d } /* e */ f {} /*",
+        &[("@x;", 0), ("a, b { c:d }", 2), ("f {}", 1)],
+    ),
+    ("é{a:b}<", &[("é{a:b}", 1), ("<", 0)]),
+    ("", &[]),
+];
+
+#[test]
+fn finds_statements(rt: HostRuntime) -> Result<(), Fail> {
+    for &(text, want) in STATEMENTS {
+        same(&rt, statements(rt.alloc(), text)?.as_slice(), want, text);
+    }
+    Ok(())
+}
+
+/// Styles, and the offsets after their last declarations.
+const ENDS: &[(&str, usize)] = &[("a:b; c:d", 8), ("a:b; c; d:e", 5), ("a", 0), ("", 0)];
+
+#[test]
+fn finds_where_declarations_end(rt: HostRuntime) {
+    for &(text, want) in ENDS {
+        same(&rt, declarations_end(text), want, text);
+    }
+}
+
+/// Offsets in a text, and their positions.
+const POSITIONS: &[(usize, Option<TextPos>)] = &[
+    (0, Some(TextPos { row: 1, col: 1 })),
+    (1, None),
+    (2, Some(TextPos { row: 1, col: 2 })),
+    (4, Some(TextPos { row: 2, col: 2 })),
+    (5, None),
+];
+
+#[test]
+fn finds_positions(rt: HostRuntime) {
+    for &(offset, want) in POSITIONS {
+        same(
+            &rt,
+            (offset, position_at("é\nb", offset)),
+            (offset, want),
+            "é",
+        );
+    }
 }

@@ -2,47 +2,63 @@
 
 use crate::same::same;
 use log::sink::Discard;
-use simplecss::Selector;
+use simplecss::{Keyed, RuleIndex, Selector, StyleSheet};
 use simplecss_uses::own_tree::{Entry, Spot};
 use std::test::Fail;
 
-/// Returns an entry with this parent and this previous sibling.
+/// Returns an entry with this parent and this previous sibling, and its id and class.
 fn entry(
     name: &'static str,
-    class: &'static str,
-    parent: Option<usize>,
-    previous: Option<usize>,
+    (parent, previous): (Option<usize>, Option<usize>),
+    id: Option<&'static str>,
+    class: Option<&'static str>,
 ) -> Entry<'static> {
     Entry {
         name,
+        id,
         class,
         parent,
         previous,
     }
 }
 
+/// Returns a list of entries.
+fn entries() -> [Entry<'static>; 6] {
+    [
+        entry("a", (None, None), None, Some("x y")),
+        entry("b", (Some(0), None), Some("i"), None),
+        entry("c", (Some(0), Some(1)), None, Some("y")),
+        entry("b", (Some(2), None), None, Some("z")),
+        // An index that is greater, or of an element with another parent, is not used.
+        entry("d", (Some(5), Some(5)), Some("j"), None),
+        entry("d", (Some(0), Some(3)), None, None),
+    ]
+}
+
+/// Selectors, and the indices of the entries that they match.
+const MATCHED: &[(&str, &[usize])] = &[
+    ("b", &[1, 3]),
+    ("a > b", &[1]),
+    ("a b", &[1, 3]),
+    ("a > b + c", &[2]),
+    (".y", &[0, 2]),
+    ("[class='x y']", &[0]),
+    ("[class]", &[0, 2, 3]),
+    ("#i", &[1]),
+    ("b#i + .y", &[2]),
+    ("[id]", &[1, 4]),
+    ("[href]", &[]),
+    ("b:first-child", &[1, 3]),
+    ("c:first-child", &[]),
+    ("a:link", &[]),
+    ("a > d", &[5]),
+    ("* + d", &[]),
+];
+
 #[test]
 fn matches_in_an_own_tree(rt: HostRuntime) -> Result<(), Fail> {
-    let entries = [
-        entry("a", "x y", None, None),
-        entry("b", "", Some(0), None),
-        entry("c", "y", Some(0), Some(1)),
-        entry("b", "z", Some(2), None),
-        // An index that is greater, or of an element with another parent, is not used.
-        entry("d", "", Some(5), Some(5)),
-        entry("d", "", Some(0), Some(3)),
-    ];
-    let table: [(&str, &[usize]); 8] = [
-        ("b", &[1, 3]),
-        ("a > b", &[1]),
-        ("a b", &[1, 3]),
-        ("a > b + c", &[2]),
-        (".y", &[0, 2]),
-        ("[class='x y']", &[0]),
-        ("a > d", &[5]),
-        ("* + d", &[]),
-    ];
-    for (text, wanted) in table {
+    let entries = entries();
+    for &(text, wanted) in MATCHED {
         let selector = Selector::parse(&Discard, rt.alloc(), text)?.ok_or("refused")?;
         for place in 0..entries.len() {
             let spot = Spot {
@@ -51,6 +67,30 @@ fn matches_in_an_own_tree(rt: HostRuntime) -> Result<(), Fail> {
             };
             let found = (place, selector.matches(&spot));
             same(&rt, found, (place, wanted.contains(&place)), text);
+        }
+    }
+    Ok(())
+}
+
+/// A style sheet, and for each entry the indices of the rules that match it.
+const SHEET: &str = "b { k:v } .y { k:v } [class] { k:v } #i { k:v } #j + d { k:v }";
+
+const RULES: &[&[usize]] = &[&[1, 2], &[0, 3], &[1, 2], &[0, 2], &[], &[]];
+
+#[test]
+fn is_found_by_an_index(rt: HostRuntime) -> Result<(), Fail> {
+    let entries = entries();
+    let sheet = StyleSheet::parse(&Discard, rt.alloc(), SHEET)?;
+    let index = RuleIndex::new(rt.alloc(), &sheet.rules)?;
+    let mut places = Vec::new(rt.alloc());
+    for (place, wanted) in RULES.iter().enumerate() {
+        if place < entries.len() {
+            let spot = Spot {
+                entries: &entries,
+                place,
+            };
+            index.matching(&sheet.rules, &spot, &mut places)?;
+            same(&rt, places.as_slice(), *wanted, spot.local_name());
         }
     }
     Ok(())

@@ -31,6 +31,22 @@ pub struct Statement<'a> {
 ///
 /// A style sheet of the text has the rules of all statements that have a declaration, in the order
 /// of their specificity.
+///
+/// A `loop` would need a measure; a `for` over the bytes ends by itself:
+///
+/// <!-- from crates/simplecss_uses/src/statements.rt -->
+/// ```rust
+/// let mut reader = StatementReader::new(text);
+/// // Each statement has at least one byte.
+/// for _ in 0..text.len() {
+///     let Some(statement) = reader.read_next(&Discard, alloc)? else {
+///         break;
+///     };
+///     if let Some(part) = text.get(statement.start..statement.end) {
+///         found.push((part, statement.rules.len()))?;
+///     }
+/// }
+/// ```
 #[derive(Debug, Drop)]
 pub struct StatementReader<'a> {
     /// The text, with the cursor after the last statement.

@@ -21,6 +21,17 @@ use simplecss_text::report::{Kept, Report, Skipped};
 use std::alloc::{AllocError, Global};
 
 /// A style sheet: the rules of the texts that were read into it, in the order of their specificity.
+///
+/// <!-- from crates/example_first/src/main.rt -->
+/// ```rust
+/// let mut sheet = StyleSheet::new(alloc);
+/// sheet.parse_more(
+///     &Discard,
+///     alloc,
+///     "p { color: green } .note { color: red !important }",
+/// )?;
+/// sheet.rules.retain(|rule| !rule.declarations.is_empty());
+/// ```
 #[derive(Debug, Drop)]
 pub struct StyleSheet<'a> {
     /// The rules, those of smaller specificity first.
