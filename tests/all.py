@@ -58,7 +58,7 @@ def shim_in(folder):
         fail(f"there is no clang at {clang}: the sweeps of tests/ were not made")
         return None
     shim = os.path.join(folder, "refuse.so")
-    words = [clang, "-O1", "-shared", "-fPIC", "-nostdlib", "-o", shim, os.path.join(TOP, "tests", "refuse.c")]
+    words = [clang, "-O1", "-shared", "-fPIC", "-nostdlib", "-fuse-ld=lld", "-o", shim, os.path.join(TOP, "tests", "refuse.c")]
     if subprocess.run(words, check=False).returncode:
         fail("clang did not build tests/refuse.c: the sweeps of tests/ were not made")
         return None

@@ -62,6 +62,15 @@ def header_folders():
     return found + ["/usr/include/x86_64-linux-gnu", "/usr/include"] if found and os.path.isfile("/usr/include/stdio.h") else None
 
 
+def can_link(clang, folder, headers):
+    """Whether a C program links: the start files and libraries that it needs come with the system's compiler."""
+    source = os.path.join(folder, "hello.c")
+    with open(source, "w") as file:
+        file.write('#include <stdio.h>\nint main(void) { return puts("hello") < 0; }\n')
+    words = [clang, *(f"-isystem{path}" for path in headers), source, "-o", os.path.join(folder, "hello")]
+    return run(words).returncode == 0
+
+
 def test_example(clang, folder, headers):
     """The C example prints what it should, linked to either library."""
     clang = [clang, *(f"-isystem{path}" for path in headers)]
@@ -89,7 +98,7 @@ def test_example(clang, folder, headers):
 def test_refused(clang, folder, headers):
     """If a request for memory of a call is refused, the call reports it and writes nothing, or its answer is whole."""
     shim = os.path.join(folder, "refuse.so")
-    made = run([clang, "-O1", "-shared", "-fPIC", "-nostdlib", "-o", shim, os.path.join(TOP, "tests", "refuse.c")])
+    made = run([clang, "-O1", "-shared", "-fPIC", "-nostdlib", "-fuse-ld=lld", "-o", shim, os.path.join(TOP, "tests", "refuse.c")])
     check(made.returncode == 0, "refuse.c")
     program = os.path.join(folder, "refused")
     words = [clang, *(f"-isystem{path}" for path in headers), "-I" + os.path.join(folder, "include"), "-Wall", "-Werror"]
@@ -157,12 +166,12 @@ def main():
         with tempfile.TemporaryDirectory() as folder:
             test_install(folder)
             headers = header_folders()
-            if headers:
+            if headers and can_link(clang, folder, headers):
                 test_example(clang, folder, headers)
                 test_refused(clang, folder, headers)
                 test_sanitized(clang, folder, headers)
             else:
-                print("library.py: the system has no C headers, so the C example was not compiled")
+                print("library.py: the system has no C headers or start files, so the C example was not compiled")
         library_calls.run(check, os.path.join(OUT, "libsimplecss.so"))
         test_package()
     print(f"{passed} passed, {failed} failed")

@@ -1,5 +1,6 @@
 """Tests of the package over the built library."""
 
+import ast
 import concurrent.futures
 import io
 import json
@@ -276,6 +277,16 @@ class CommandLine(unittest.TestCase):
             file.write("a { b: c }\n@x;")
         status, out, _ = self.run_command("lint", self.sheet)
         self.assertEqual((status, out), (1, f"{self.sheet}:2:1: '@x': at-rule not supported\n"))
+
+
+class Syntax(unittest.TestCase):
+    def test_python_3_9(self):
+        folder = os.path.dirname(simplecss.__file__)
+        names = [name for name in os.listdir(folder) if name.endswith(".py")]
+        self.assertIn("_sheet.py", names)
+        for name in names:
+            with open(os.path.join(folder, name), encoding="utf-8") as file:
+                ast.parse(file.read(), name, feature_version=(3, 9))
 
 
 if __name__ == "__main__":
