@@ -1,7 +1,7 @@
 //! Laws that the definitions keep, each the contract of a function that does nothing. A proof calls
 //! the function to have the law; a program need not.
 //!
-//! Of texts: what comments and blanks are, that all that is not among the rules is skipped, what is
+//! Of texts: what comments and blanks are, that all that is not read is skipped, what is
 //! skipped of a text in pieces and of a printed sheet, and equality of positions, errors and
 //! cursors. Of selectors: their tokens, their components, their keys, printing, equality, and that
 //! elements which mean the same get the same answers. Of sheets: the order of rules, what a rule's

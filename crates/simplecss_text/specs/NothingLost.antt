@@ -1,5 +1,5 @@
 -- Nothing is lost: every byte of a text belongs to a blank, to a comma or a brace, to a selector or
--- a declaration that is among the rules, or to something that is skipped.
+-- a declaration that is read, or to something that is skipped.
 use Rattle.std.specs.Prelude.{◌≡◌, ℕ, Bool, true, ◌==◌, ◌||◌, List, [], ◌∷◌, ◌++◌, map, Some}
 use Rattle.simplecss_text.specs.AsciiBytes.{comma, open_brace, close_brace}
 use Rattle.simplecss_text.specs.Reading.{got}
@@ -56,6 +56,13 @@ abbrev pub rules_from : List (List Component) → List StyleDeclaration → List
 rules_from selectors declared =
     map (λ selector. record { components = selector; declarations = declared }) selectors
 
+-- A statement without a selector has something skipped: it is an at-rule, or a rule set whose
+-- selectors are refused, and then its declarations are in no rule.
+abbrev pub IsExplained : List (List Component) → List Skip → Type 0
+IsExplained [] [] = ⊥
+IsExplained [] (x ∷ skips) = Unit {0}
+IsExplained (selector ∷ selectors) skips = Unit {0}
+
 -- The text is cut into statements, each of which is cut into pieces and has the rules that its
 -- selectors and its declarations make. The lists are the rules of each statement and what is
 -- skipped of all, in order. After the last statement no rule follows.
@@ -65,15 +72,17 @@ pub data IsAccountedFor (edition : Edition) :
       → IsAccountedFor edition text [] skips
   statement_then : (text rest : List ℕ) (selectors : List (List Component))
       (declared : List StyleDeclaration) (skips later : List Skip) (rules : List (List StyleRule))
-      → IsCutUp edition rest text selectors declared skips → IsAccountedFor edition rest rules later
+      → IsCutUp edition rest text selectors declared skips → IsExplained selectors skips
+      → IsAccountedFor edition rest rules later
       → IsAccountedFor edition text (rules_from selectors declared ∷ rules) (skips ++ later)
 
--- Every byte of the text is accounted for: the rules of its statements have all that is read of it,
--- and all else but blanks, commas and braces is skipped. So a declaration that is not among the
--- rules is within something skipped, and of a text that skips nothing all is read. (A sheet keeps
--- the rules that have a declaration: that of `a{}` it does not. What a declaration is read from may
--- have more than its name and its value: after the value an exclamation mark without `important`,
--- or a string or a function that is not closed, which takes the rest of the text.)
+-- Every byte of the text is accounted for: all but blanks, commas and braces is a selector or a
+-- declaration that is read, or it is skipped. A declaration of a block that is not read is within
+-- something skipped, and one that is read is in each rule of its rule set, or all its selectors are
+-- refused and skipped. So of a text that skips nothing all is read and is among the rules. (A sheet
+-- keeps the rules that have a declaration: that of `a{}` it does not. What a declaration is read
+-- from may have more than its name and its value: after the value an exclamation mark without
+-- `important`, or a string or a function that is not closed, which takes the rest of the text.)
 abbrev pub LosesNothing : Edition → List ℕ → Type 0
 LosesNothing edition text =
     IsAccountedFor edition text (statements edition text) (skipped edition text)

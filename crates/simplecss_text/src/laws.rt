@@ -60,7 +60,8 @@ pub fn skips_are_cut()
 {}
 
 /// Every byte of a text belongs to a blank, to a comma or a brace, to a selector or a declaration
-/// that is among the rules of its statement, or to something that is skipped.
+/// that is read, or to something that is skipped. The rules of a statement are its selectors, each
+/// with all its declarations, and a statement without a selector has something skipped.
 pub fn nothing_is_lost()
     ensures { (edition : Edition) (text : List ℕ) → LosesNothing edition text }
 {}

@@ -8,14 +8,14 @@ use Rattle.simplecss_text.specs.Components.{Component}
 use Rattle.simplecss_text.specs.Declarations.{StyleDeclaration}
 use Rattle.simplecss_text.specs.Statements.{StyleRule, at_rule_rest, ends_statements, next_block, next_statement, parts, rule_set, statement, statements}
 use Rattle.simplecss_text.specs.Skipped.{open_comment, at_rule_skip, end_skips, skipped, statement_skips}
-use Rattle.simplecss_text.specs.NothingLost.{IsCutUp, LosesNothing, cut_ends, rules_from, statement_then, statements_end}
+use Rattle.simplecss_text.specs.NothingLost.{IsCutUp, IsExplained, LosesNothing, cut_ends, rules_from, statement_then, statements_end}
 use Rattle.simplecss_text.proofs.reading.EachLaws.{each-none, each-some, not_empty, took}
 use Rattle.simplecss_text.proofs.reading.EndsLaws.{ends-ends, ends-nil, ends-past_one}
 use Rattle.simplecss_text.proofs.reading.SkipLaws.{skipped-none}
 use Rattle.simplecss_text.proofs.reading.StatementLaws.{next_statement-takes}
 use Rattle.simplecss_text.proofs.cutting.SkipEnds.{ends-at_rule_rest}
 use Rattle.simplecss_text.proofs.skipped.CutUps.{past_blank_to, skip_to}
-use Rattle.simplecss_text.proofs.skipped.CutUpRuleSets.{rule_set-cut}
+use Rattle.simplecss_text.proofs.skipped.CutUpRuleSets.{rule_set-cut, rule_set-explained}
 use Rattle.simplecss_text.proofs.skipped.SkipsAcross.{skipped-next}
 
 -- a statement is cut into pieces, and has the rules that they make
@@ -25,6 +25,7 @@ record StatementCut (edition : Edition) (text : List ℕ) : Type 0 where
   cut : IsCutUp edition (statement edition text).1 text selectors declared
       (statement_skips edition text)
   rules : (statement edition text).0 ≡ rules_from selectors declared
+  explained : IsExplained selectors (statement_skips edition text)
 
 statement-cut : (edition : Edition) (text : List ℕ) → StatementCut edition text
 unfolding statement statement_skips rule_set
@@ -41,12 +42,14 @@ statement-cut edition text = by (starts 64 text) refl
           (ends-ends text (past_one text) after (ends-past_one text)
           (ends-at_rule_rest edition (past_one text))) cut_ends);
       rules = rw e refl;
+      explained = rw e tt;
     }
     by false e = record {
       selectors = (parts edition (past_byte 44 text)).0;
       declared = (next_block edition (parts edition (past_byte 44 text)).1).0;
       cut = rw e (rule_set-cut edition text);
       rules = rw e refl;
+      explained = rw e (rule_set-explained edition text);
     }
 
 -- after the last statement there is a blank, and maybe an open comment
@@ -115,7 +118,7 @@ account-step edition text more = by (next-is edition text (next_statement editio
           pieces.rules,
         )
         (statement_then text rest pieces.selectors pieces.declared (statement_skips edition start)
-        (skipped edition rest) (statements edition rest) cut (more rest less))
+        (skipped edition rest) (statements edition rest) cut pieces.explained (more rest less))
 
 account : (edition : Edition) (n : ℕ) (text : List ℕ) → length text ≤ n → LosesNothing edition text
 account edition zero text l =

@@ -4,16 +4,17 @@ use Rattle.std.proofs.Common.{◌≡◌, ◌≤◌, ◌<◌, ℕ, zero, suc, Boo
 use Rattle.std.specs.List.{filter_map}
 use Rattle.std.specs.Str.{chars}
 use Rattle.simplecss_text.specs.Reading.{Ends, Fault, Reading, got, fails, each, found, left_after, no_name}
-use Rattle.simplecss_text.specs.Bytes.{past_byte, past_one, starts}
-use Rattle.simplecss_text.specs.Characters.{Edition}
+use Rattle.simplecss_text.specs.Bytes.{past, past_byte, past_one, starts}
+use Rattle.simplecss_text.specs.Characters.{Edition, is_space}
 use Rattle.simplecss_text.specs.Comments.{blank, opens_comment, past_blank}
 use Rattle.simplecss_text.specs.Names.{name}
 use Rattle.simplecss_text.specs.Components.{Component}
+use Rattle.simplecss_text.specs.Selectors.{reads}
 use Rattle.simplecss_text.specs.Declarations.{StyleDeclaration, declaration}
 use Rattle.simplecss_text.specs.Blocks.{block, block_end, closes_block, declaration_in_block, ends_list, from_block_end, past_broken, past_list}
 use Rattle.simplecss_text.specs.Statements.{next_block, part, part_and_comma, parts, rule_set}
-use Rattle.simplecss_text.specs.Skipped.{broken_declaration, leading_comma, open_comment, block_skips, brace_skips, comma_skips, from_brace, if_broken, list_end_skips, list_skips, next_block_skips, part_skips, parts_skips, rule_set_skips}
-use Rattle.simplecss_text.specs.NothingLost.{IsCutUp, cut_ends, mark_then, skip_then}
+use Rattle.simplecss_text.specs.Skipped.{Skip, broken_declaration, leading_comma, open_comment, block_skips, brace_skips, comma_skips, from_brace, if_broken, list_end_skips, list_skips, next_block_skips, part_skips, parts_skips, rule_set_skips, Refusal, refusal, refused_part, selector_skips, skips_after_read}
+use Rattle.simplecss_text.specs.NothingLost.{IsCutUp, IsExplained, cut_ends, mark_then, skip_then}
 use Rattle.simplecss_text.proofs.printed.GotLaws.{starts-cons}
 use Rattle.simplecss_text.proofs.printed.ReadNames.{name-none_begins}
 use Rattle.simplecss_text.proofs.reading.DeclarationLaws.{declaration_in_block-takes}
@@ -30,7 +31,7 @@ use Rattle.simplecss_text.proofs.cutting.BlockCuts.{none_broken}
 use Rattle.simplecss_text.proofs.cutting.StatementEnds.{past-stops}
 use Rattle.simplecss_text.proofs.skipped.RuleSetSkipCuts.{parts-last, parts-some}
 use Rattle.simplecss_text.proofs.skipped.BlockSkipCuts.{declaration-after_blank}
-use Rattle.simplecss_text.proofs.skipped.CutUps.{closing, declaration_to, ends-shorter, further, joined, listed, part-cut, past_blank_to, skip_to}
+use Rattle.simplecss_text.proofs.skipped.CutUps.{IsDecided, selector-decided, closing, declaration_to, ends-shorter, further, joined, listed, part-cut, past_blank_to, skip_to}
 
 -- ---- parts
 
@@ -361,3 +362,64 @@ rule_set-cut edition text =
     (parts_skips edition x ++ next_block_skips edition head.1) (comma-cut edition text)
     (joined edition (from_brace head.1) body.1 [] body.0 (next_block_skips edition head.1)
     (parts-cut edition (length x) x (omega arith)) (next_block-cut edition head.1)))
+
+-- ---- what has no selector has something skipped
+
+explained-more : (ss ts : List (List Component)) (xs ys : List Skip) → IsExplained ss xs
+    → IsExplained (ss ++ ts) (xs ++ ys)
+explained-more [] [] [] ys h = absurd h
+explained-more [] (t ∷ ts) [] ys h = absurd h
+explained-more [] [] (x ∷ xs) ys h = tt
+explained-more [] (t ∷ ts) (x ∷ xs) ys h = tt
+explained-more (s ∷ ss) ts xs ys h = tt
+
+explained-before : (ss : List (List Component)) (xs ys : List Skip) → IsExplained ss ys
+    → IsExplained ss (xs ++ ys)
+explained-before ss [] ys h = h
+explained-before [] (x ∷ xs) ys h = tt
+explained-before (s ∷ ss) (x ∷ xs) ys h = tt
+
+part-explained : (edition : Edition) (text : List ℕ)
+    → IsExplained (listed (part edition text).0) (part_skips edition text)
+unfolding part part_skips selector_skips
+part-explained edition text =
+    by (reads edition text).0 (refusal edition text) (selector-decided edition text)
+  where
+    x : List ℕ
+    x = past is_space (reads edition text).1
+
+    by : (o : Option (List Component)) (r : Option Refusal) → IsDecided o r
+        → IsExplained (listed o) (refused_part text x r ++ skips_after_read o x)
+    by (Some s) None h = tt
+    by (Some s) (Some r) h = absurd h
+    by None None h = absurd h
+    by None (Some r) h = tt
+
+parts-explained : (edition : Edition) (text : List ℕ)
+    → IsExplained (parts edition text).0 (parts_skips edition text)
+parts-explained edition text = by (starts 44 x) refl
+  where
+    x : List ℕ
+    x = (part edition text).1
+
+    by : (k : Bool) → starts 44 x ≡ k
+        → IsExplained (parts edition text).0 (parts_skips edition text)
+    by true e =
+        rw (parts-chosen edition text e, parts_skips-some edition text x refl e)
+        (explained-more (listed (part edition text).0) (parts edition (past_one x)).0
+        (part_skips edition text) (parts_skips edition (past_one x)) (part-explained edition text))
+    by false e =
+        rw (parts-chosen_last edition text e, parts_skips-last edition text x refl e)
+        (part-explained edition text)
+
+pub rule_set-explained : (edition : Edition) (text : List ℕ)
+    → IsExplained (parts edition (past_byte 44 text)).0 (rule_set_skips edition text)
+unfolding rule_set_skips
+rule_set-explained edition text =
+    let x : List ℕ = past_byte 44 text in
+    let ss = (parts edition x).0 in
+    let later = next_block_skips edition (parts edition x).1 in
+    explained-before ss (comma_skips text) (parts_skips edition x ++ later)
+    (subst (λ (ts : List (List Component)). IsExplained ts (parts_skips edition x ++ later))
+    (append-nil ss)
+    (explained-more ss [] (parts_skips edition x) later (parts-explained edition x)))

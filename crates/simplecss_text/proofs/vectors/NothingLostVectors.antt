@@ -48,14 +48,14 @@ account_of_text first_edition =
     (mark_then 123 (codes "b:c;d}") [] (b_is_c ∷ []) _ refl
     (declaration_then (codes "b:c;") (codes "d}") b_is_c [] [] _ refl
     (skip_then (codes "d") (codes "}") broken_declaration [] [] []
-    (mark_then 125 [] [] [] [] refl cut_ends))))) (statements_end [] [] cut_ends)
+    (mark_then 125 [] [] [] [] refl cut_ends))))) tt (statements_end [] [] cut_ends)
 account_of_text second_edition =
     statement_then (codes "a{b:c;d}") [] (just_a ∷ []) (b_is_c ∷ []) _ [] []
     (selector_then (codes "a") (codes "{b:c;d}") just_a [] (b_is_c ∷ []) _ refl
     (mark_then 123 (codes "b:c;d}") [] (b_is_c ∷ []) _ refl
     (declaration_then (codes "b:c;") (codes "d}") b_is_c [] [] _ refl
     (skip_then (codes "d") (codes "}") broken_declaration [] [] []
-    (mark_then 125 [] [] [] [] refl cut_ends))))) (statements_end [] [] cut_ends)
+    (mark_then 125 [] [] [] [] refl cut_ends))))) tt (statements_end [] [] cut_ends)
 
 -- ---- a byte that is neither read nor a blank or a mark
 
@@ -120,6 +120,6 @@ pub less_is_accounted_for : (edition : Edition) {text : List ℕ} {rules : List 
     {xs : List Skip} → IsAccountedFor edition text rules xs → text ≡ codes "<" → xs ≡ [] → ⊥
 less_is_accounted_for edition (statements_end text xs h) e f =
     let left : [] ≡ codes "<" = less_stays edition [] h e f in cc
-less_is_accounted_for edition (statement_then text rest ss ds xs later rules h k) e f =
+less_is_accounted_for edition (statement_then text rest ss ds xs later rules h told k) e f =
     let both = none_of xs later f in
     less_is_accounted_for edition k (less_stays edition rest h e both.0) both.1
