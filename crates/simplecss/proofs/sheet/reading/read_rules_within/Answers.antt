@@ -1,4 +1,4 @@
-use Rattle.std.proofs.Common.{◌≡◌, ◌++◌, ◌<◌, List, ℕ, length, map, drop, sym, ◌∙◌, ap, subst, true, false, append_assoc, append-nil, refl}
+use Rattle.std.proofs.Common.{◌≡◌, ◌+◌, ◌++◌, ◌<◌, List, ℕ, length, map, drop, sym, ◌∙◌, ap, subst, true, false, append_assoc, append-nil, refl}
 use Rattle.simplecss_text.specs.Reading.{no_comment}
 use Rattle.simplecss_text.specs.Comments.{opens_comment, past_blank}
 use Rattle.simplecss_text.specs.Statements.{statement}
@@ -7,8 +7,11 @@ use Rattle.simplecss_text.proofs.reading.SkipLaws.{add_each-append, skipped-some
 use Rattle.simplecss_text.specs.ThisEdition.{this_edition}
 use Rattle.simplecss_text.specs.Cursor.{rest_of}
 use Rattle.simplecss.specs.SeenRules.{rule_of}
+use Rattle.simplecss.specs.SharedBlocks.{rules_read}
+use Rattle.simplecss.specs.DeclarationCounts.{declaration_count}
+use Rattle.simplecss.proofs.DeclarationSums.{left-more, too_many, kept_declarations-of, kept_declarations-none}
 use Rattle.simplecss.proofs.StatementLemmas.{rules_from, rules_from-some, rules_from-none, rules_from-blank, statement-less, blank-got, blank-open, next_statement-open}
-use Rattle.simplecss.proofs.sheet.reading.read_rules.Goals as goal
+use Rattle.simplecss.proofs.sheet.reading.read_rules_within.Goals as goal
 
 pub returns-then-not-pass_blank-clause-rules : goal.returns-then-not-pass_blank-clause-rules
 returns-then-not-pass_blank-clause-rules g c =
@@ -29,6 +32,13 @@ statements-smaller g c =
     subst (λ (t : List ℕ). length t < length (rest_of c.statements.s)) (sym c.in_ok-consume_statement.ensures.rest)
     (statement-less this_edition (rest_of c.statements.s) (rest_of c.at_statement.new.s) c.if-not-at_statement.ensures.reads)
 
+-- the rules of one statement more
+kept_one_more : (g : _) (c : goal.After-in_ok-left g) → map rule_of c.keep_rules.new.self.rules.items ≡ map rule_of c.statements.reader.rules.items ++ (statement this_edition (rest_of c.at_statement.new.s)).0
+kept_one_more g c =
+    c.in_ok-left.ensures.rules
+    ∙ ap (λ l. map rule_of l ++ rules_read c.consume_statement.new.self) c.consume_statement.ensures.kept
+    ∙ ap (λ l. map rule_of c.statements.reader.rules.items ++ l) c.in_ok-consume_statement.ensures.rules
+
 pub statements-preserved : goal.statements-preserved
 statements-preserved g c =
     let read = statement this_edition (rest_of c.at_statement.new.s) in
@@ -37,16 +47,21 @@ statements-preserved g c =
     let before = g.P.Report.state c.statements.report in
     let start = rest_of c.at_statement.new.s in
     let next = rest_of c.consume_statement.new.s in
+    let old = map rule_of c.statements.reader.rules.items in
+    let more = kept_one_more g c in
     record {
       reported = ap (λ t. add_each add t (skipped this_edition next)) c.in_ok-consume_statement.ensures.reported
           ∙ sym (add_each-append add before (statement_skips this_edition start) (skipped this_edition next))
           ∙ ap (λ (t : List ℕ). add_each add before (statement_skips this_edition start ++ skipped this_edition t)) c.in_ok-consume_statement.ensures.rest
           ∙ ap (add_each add before) (sym (skipped-some this_edition (rest_of c.statements.s) start c.if-not-at_statement.ensures.reads (c.if-not-at_statement.ensures.rest refl)))
           ∙ c.statements.invariant.reported;
-      rules = ap (λ l. l ++ rules_from this_edition (rest_of c.consume_statement.new.s)) c.in_ok-consume_statement.ensures.rules
-          ∙ append_assoc (map rule_of c.statements.reader.rules.items) read.0 (rules_from this_edition (rest_of c.consume_statement.new.s))
-          ∙ ap (λ (t : List ℕ). map rule_of c.statements.reader.rules.items ++ (read.0 ++ rules_from this_edition t)) c.in_ok-consume_statement.ensures.rest
-          ∙ ap (λ l. map rule_of c.statements.reader.rules.items ++ l) (sym step)
+      left = subst (λ rules. c.in_ok-left.field-0 + declaration_count rules ≡ c.args.most) (sym more)
+          (left-more old read.0 c.statements.left c.in_ok-left.field-0 c.args.most c.statements.invariant.left
+          (ap (λ rules. c.in_ok-left.field-0 + declaration_count rules) (sym c.in_ok-consume_statement.ensures.rules) ∙ c.in_ok-left.ensures.left));
+      rules = ap (λ l. l ++ rules_from this_edition next) more
+          ∙ append_assoc old read.0 (rules_from this_edition next)
+          ∙ ap (λ (t : List ℕ). old ++ (read.0 ++ rules_from this_edition t)) c.in_ok-consume_statement.ensures.rest
+          ∙ ap (λ l. old ++ l) (sym step)
           ∙ c.statements.invariant.rules;
     }
 
@@ -64,7 +79,7 @@ returns-then-not-at_statement-clause-reported g c =
     let add = g.P.Report.add in
     let before = g.P.Report.state c.statements.report in
     c.in_ok-report_end-2.ensures
-    ∙ ap (λ (t : List ℕ). add_each add before (end_skips t)) c.slice_tail-left.ensures
+    ∙ ap (λ (t : List ℕ). add_each add before (end_skips t)) c.slice_tail-rest.ensures
     ∙ ap (add_each add before) (sym (skipped-none this_edition (rest_of c.statements.s) c.if-not-at_statement.ensures.reads))
     ∙ c.statements.invariant.reported
     ∙ ap (λ (s : g.P.Report.State). add_each add s (skipped this_edition c.args.text.now)) c.begin.ensures
