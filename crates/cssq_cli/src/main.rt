@@ -3,7 +3,6 @@
 #![tactic(auto)]
 
 mod inputs;
-mod notes;
 mod trees;
 mod warnings;
 
