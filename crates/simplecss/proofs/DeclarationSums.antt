@@ -1,10 +1,11 @@
 -- The number of declarations: of rules that share a block, of one statement more, and of a text.
 -- Serves `StyleSheet::parse_within` (when a text is refused).
-use Rattle.std.proofs.Common.{◌≡◌, ◌+◌, ◌*◌, ◌<◌, ◌∷◌, [], ◌++◌, ℕ, List, Bool, true, false, not, ◌==◌, length, arith, refl, ap, sym, ◌∙◌}
+use Rattle.std.proofs.Common.{◌≡◌, ◌+◌, ◌*◌, ◌<◌, ◌∷◌, [], ◌++◌, ℕ, List, Bool, true, false, not, ◌==◌, length, arith, refl, ap, sym, ◌∙◌, map, absurd}
 use Rattle.std.specs.Prelude.{None, Result, Ok, Err, ◌↔◌, ◌≤◌, ◌≢◌}
 use Rattle.std.specs.Result.{OnOk, IfErr}
 use Rattle.std.specs.List.{filter}
 use Rattle.std.proofs.lemmas.List.Sums.{sum_by-append}
+use Rattle.std.proofs.lemmas.List.{length-map}
 use Rattle.simplecss_text.specs.Characters.{Edition}
 use Rattle.simplecss_text.specs.Components.{Component}
 use Rattle.simplecss_text.specs.Declarations.{StyleDeclaration}
@@ -19,17 +20,22 @@ pub count-append : (a b : List StyleRule) → declaration_count (a ++ b) ≡ dec
 count-append a b = sum_by-append (λ rule. length rule.declarations) a b
 
 pub count-shared : (declarations : List StyleDeclaration) (selectors : List (List Component)) → declaration_count (rules_with declarations selectors) ≡ length selectors * length declarations
-count-shared declarations [] = refl
+count-shared declarations [] = grind arith
 count-shared declarations (selector ∷ selectors) = let more = count-shared declarations selectors in grind arith
+
+-- the same by the lengths of two lists
+pub count-read : {X : Type 0} (f : X → StyleDeclaration) (declarations : List X) (selectors : List (List Component)) (a b : ℕ) → a ≡ length selectors → b ≡ length declarations → declaration_count (rules_with (map f declarations) selectors) ≡ a * b
+count-read f declarations selectors a b one two =
+    count-shared (map f declarations) selectors ∙ ap (λ n. n * length (map f declarations)) (sym one) ∙ ap (λ n. a * n) (length-map f declarations ∙ sym two)
 
 -- a rule without a declaration counts nothing
 pub count-filled : (rules : List StyleRule) → declaration_count (filter has_declaration rules) ≡ declaration_count rules
 count-filled [] = refl
-count-filled (rule ∷ rules) = by rule.declarations refl
+count-filled (rule ∷ rules) = by rule.declarations refl (count-filled rules)
   where
-    by : (ds : List StyleDeclaration) → rule.declarations ≡ ds → declaration_count (filter has_declaration (rule ∷ rules)) ≡ declaration_count (rule ∷ rules)
-    by [] e = rw e (count-filled rules)
-    by (d ∷ ds) e = rw e (ap (λ n. length (d ∷ ds) + n) (count-filled rules))
+    by : (ds : List StyleDeclaration) → rule.declarations ≡ ds → declaration_count (filter has_declaration rules) ≡ declaration_count rules → declaration_count (filter has_declaration (rule ∷ rules)) ≡ declaration_count (rule ∷ rules)
+    by [] e more = rw e more
+    by (d ∷ ds) e more = rw e (ap (λ n. length (d ∷ ds) + n) more)
 
 pub kept_declarations-of : (edition : Edition) (text : List ℕ) → kept_declarations edition text ≡ declaration_count (rules_from edition text)
 unfolding kept_declarations

@@ -24,6 +24,7 @@ statements-init g c =
     let behind = blank-got (rest_of c.new-s.result) (rest_of c.pass_blank.new.s) c.if-not-pass_blank.ensures.reads in
     record {
       rules = rw c.new-reader.ensures (ap (rules_from this_edition) (sym behind.1) ∙ rules_from-blank this_edition (rest_of c.new-s.result) ∙ ap (rules_from this_edition) start);
+      left = rw c.new-reader.ensures (omega arith);
       reported = ap (add_each g.P.Report.add (g.P.Report.state c.begin.new.self)) (ap (skipped this_edition) (sym behind.1) ∙ skipped-blank this_edition (rest_of c.new-s.result) ∙ ap (skipped this_edition) start);
     }
 
@@ -31,13 +32,6 @@ pub statements-smaller : goal.statements-smaller
 statements-smaller g c =
     subst (λ (t : List ℕ). length t < length (rest_of c.statements.s)) (sym c.in_ok-consume_statement.ensures.rest)
     (statement-less this_edition (rest_of c.statements.s) (rest_of c.at_statement.new.s) c.if-not-at_statement.ensures.reads)
-
--- the rules of one statement more
-kept_one_more : (g : _) (c : goal.After-in_ok-left g) → map rule_of c.keep_rules.new.self.rules.items ≡ map rule_of c.statements.reader.rules.items ++ (statement this_edition (rest_of c.at_statement.new.s)).0
-kept_one_more g c =
-    c.in_ok-left.ensures.rules
-    ∙ ap (λ l. map rule_of l ++ rules_read c.consume_statement.new.self) c.consume_statement.ensures.kept
-    ∙ ap (λ l. map rule_of c.statements.reader.rules.items ++ l) c.in_ok-consume_statement.ensures.rules
 
 pub statements-preserved : goal.statements-preserved
 statements-preserved g c =
@@ -48,7 +42,10 @@ statements-preserved g c =
     let start = rest_of c.at_statement.new.s in
     let next = rest_of c.consume_statement.new.s in
     let old = map rule_of c.statements.reader.rules.items in
-    let more = kept_one_more g c in
+    let more : map rule_of c.keep_rules.new.self.rules.items ≡ old ++ read.0 =
+        c.in_ok-left.ensures.rules
+        ∙ ap (λ l. map rule_of l ++ rules_read c.consume_statement.new.self) c.consume_statement.ensures.kept
+        ∙ ap (λ l. old ++ l) c.in_ok-consume_statement.ensures.rules in
     record {
       reported = ap (λ t. add_each add t (skipped this_edition next)) c.in_ok-consume_statement.ensures.reported
           ∙ sym (add_each-append add before (statement_skips this_edition start) (skipped this_edition next))
