@@ -26,7 +26,7 @@ count-shared declarations (selector ∷ selectors) = let more = count-shared dec
 -- the same by the lengths of two lists
 pub count-read : {X : Type 0} (f : X → StyleDeclaration) (declarations : List X) (selectors : List (List Component)) (a b : ℕ) → a ≡ length selectors → b ≡ length declarations → declaration_count (rules_with (map f declarations) selectors) ≡ a * b
 count-read f declarations selectors a b one two =
-    count-shared (map f declarations) selectors ∙ ap (λ n. n * length (map f declarations)) (sym one) ∙ ap (λ n. a * n) (length-map f declarations ∙ sym two)
+    count-shared (map f declarations) selectors ∙ ap (λ n. n * length (map f declarations)) (sym one) ∙ ap (λ n. a * n) (length-map declarations f ∙ sym two)
 
 -- a rule without a declaration counts nothing
 pub count-filled : (rules : List StyleRule) → declaration_count (filter has_declaration rules) ≡ declaration_count rules
