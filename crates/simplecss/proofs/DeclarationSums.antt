@@ -1,18 +1,19 @@
 -- The number of declarations: of rules that share a block, of one statement more, and of a text.
 -- Serves `StyleSheet::parse_within` (when a text is refused).
-use Rattle.std.proofs.Common.{◌≡◌, ◌+◌, ◌*◌, ◌<◌, ◌∷◌, [], ◌++◌, ℕ, List, Bool, true, false, not, ◌==◌, length, arith, refl, ap, sym, ◌∙◌, map, absurd}
+use Rattle.std.proofs.Common.{◌≡◌, ◌+◌, ◌*◌, ◌<◌, ◌∷◌, [], ◌++◌, ℕ, List, Bool, true, false, not, ◌==◌, length, arith, refl, ap, sym, ◌∙◌, map}
 use Rattle.std.specs.Prelude.{None, Result, Ok, Err, ◌↔◌, ◌≤◌, ◌≢◌}
 use Rattle.std.specs.Result.{OnOk, IfErr}
 use Rattle.std.specs.List.{filter}
 use Rattle.std.proofs.lemmas.List.Sums.{sum_by-append}
 use Rattle.std.proofs.lemmas.List.{length-map}
+use Rattle.std.proofs.lemmas.Bool.Decides.{nat_tests}
 use Rattle.simplecss_text.specs.Characters.{Edition}
 use Rattle.simplecss_text.specs.Components.{Component}
 use Rattle.simplecss_text.specs.Declarations.{StyleDeclaration}
 use Rattle.simplecss_text.specs.Statements.{StyleRule, has_declaration, next_statement}
 use Rattle.simplecss.specs.declared.sheet.sheet_error.SheetError.{SheetError}
 use Rattle.simplecss.specs.declared.sheet.sheet_error.SheetError.TheVariants.{TooManyDeclarations, Memory}
-use Rattle.simplecss.specs.SharedBlocks.{rules_with}
+use Rattle.simplecss.specs.SharedBlocks.{rule_with, rules_with}
 use Rattle.simplecss.specs.DeclarationCounts.{declaration_count, kept_declarations}
 use Rattle.simplecss.proofs.StatementLemmas.{rules_from, rules_from-none}
 
@@ -20,8 +21,11 @@ pub count-append : (a b : List StyleRule) → declaration_count (a ++ b) ≡ dec
 count-append a b = sum_by-append (λ rule. length rule.declarations) a b
 
 pub count-shared : (declarations : List StyleDeclaration) (selectors : List (List Component)) → declaration_count (rules_with declarations selectors) ≡ length selectors * length declarations
-count-shared declarations [] = grind arith
-count-shared declarations (selector ∷ selectors) = let more = count-shared declarations selectors in grind arith
+count-shared declarations [] = omega arith
+count-shared declarations (selector ∷ selectors) =
+    let one = count-append (rule_with declarations selector ∷ []) (rules_with declarations selectors) in
+    let more = count-shared declarations selectors in
+    omega (arith, one, more)
 
 -- the same by the lengths of two lists
 pub count-read : {X : Type 0} (f : X → StyleDeclaration) (declarations : List X) (selectors : List (List Component)) (a b : ℕ) → a ≡ length selectors → b ≡ length declarations → declaration_count (rules_with (map f declarations) selectors) ≡ a * b
@@ -31,11 +35,14 @@ count-read f declarations selectors a b one two =
 -- a rule without a declaration counts nothing
 pub count-filled : (rules : List StyleRule) → declaration_count (filter has_declaration rules) ≡ declaration_count rules
 count-filled [] = refl
-count-filled (rule ∷ rules) = by rule.declarations refl (count-filled rules)
+count-filled (rule ∷ rules) = by (has_declaration rule) refl (count-filled rules)
   where
-    by : (ds : List StyleDeclaration) → rule.declarations ≡ ds → declaration_count (filter has_declaration rules) ≡ declaration_count rules → declaration_count (filter has_declaration (rule ∷ rules)) ≡ declaration_count (rule ∷ rules)
-    by [] e more = rw e more
-    by (d ∷ ds) e more = rw e (ap (λ n. length (d ∷ ds) + n) more)
+    by : (t : Bool) → has_declaration rule ≡ t → declaration_count (filter has_declaration rules) ≡ declaration_count rules → declaration_count (filter has_declaration (rule ∷ rules)) ≡ declaration_count (rule ∷ rules)
+    by true h more = rw h (count-append (rule ∷ []) (filter has_declaration rules) ∙ ap (λ n. declaration_count (rule ∷ []) + n) more ∙ sym (count-append (rule ∷ []) rules))
+    by false h more =
+        let none : length rule.declarations ≡ 0 = grind (arith, nat_tests) in
+        let one = count-append (rule ∷ []) rules in
+        rw h (omega (arith, none, one, more))
 
 pub kept_declarations-of : (edition : Edition) (text : List ℕ) → kept_declarations edition text ≡ declaration_count (rules_from edition text)
 unfolding kept_declarations

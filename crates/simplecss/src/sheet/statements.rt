@@ -265,8 +265,9 @@ impl<'a> RuleReader<'a> {
         ensures refused { IfErr result (λ error. error ≡ TooManyDeclarations
             → most < declaration_count (rules_read self.old)) }
     {
+        let selectors = self.selectors.as_slice();
         let declarations = self.declarations.as_slice();
-        let left = match left_after(most, self.selectors.len(), declarations.len()) {
+        let left = match left_after(most, selectors.len(), declarations.len()) {
             Some(left) => left,
             None => return Err(SheetError::TooManyDeclarations),
         };

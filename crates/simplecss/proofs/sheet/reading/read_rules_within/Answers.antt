@@ -1,4 +1,4 @@
-use Rattle.std.proofs.Common.{◌≡◌, ◌+◌, ◌++◌, ◌<◌, List, ℕ, length, map, drop, sym, ◌∙◌, ap, subst, true, false, append_assoc, append-nil, refl}
+use Rattle.std.proofs.Common.{◌≡◌, ◌+◌, ◌++◌, ◌<◌, List, ℕ, length, map, drop, sym, ◌∙◌, ap, subst, true, false, append_assoc, append-nil, refl, arith, ◌≤◌}
 use Rattle.simplecss_text.specs.Reading.{no_comment}
 use Rattle.simplecss_text.specs.Comments.{opens_comment, past_blank}
 use Rattle.simplecss_text.specs.Statements.{statement}
@@ -8,7 +8,7 @@ use Rattle.simplecss_text.specs.ThisEdition.{this_edition}
 use Rattle.simplecss_text.specs.Cursor.{rest_of}
 use Rattle.simplecss.specs.SeenRules.{rule_of}
 use Rattle.simplecss.specs.SharedBlocks.{rules_read}
-use Rattle.simplecss.specs.DeclarationCounts.{declaration_count}
+use Rattle.simplecss.specs.DeclarationCounts.{declaration_count, kept_declarations}
 use Rattle.simplecss.proofs.DeclarationSums.{left-more, too_many, kept_declarations-of, kept_declarations-none}
 use Rattle.simplecss.proofs.StatementLemmas.{rules_from, rules_from-some, rules_from-none, rules_from-blank, statement-less, blank-got, blank-open, next_statement-open}
 use Rattle.simplecss.proofs.sheet.reading.read_rules_within.Goals as goal
@@ -52,9 +52,9 @@ statements-preserved g c =
           ∙ ap (λ (t : List ℕ). add_each add before (statement_skips this_edition start ++ skipped this_edition t)) c.in_ok-consume_statement.ensures.rest
           ∙ ap (add_each add before) (sym (skipped-some this_edition (rest_of c.statements.s) start c.if-not-at_statement.ensures.reads (c.if-not-at_statement.ensures.rest refl)))
           ∙ c.statements.invariant.reported;
-      left = subst (λ rules. c.in_ok-left.field-0 + declaration_count rules ≡ c.args.most) (sym more)
-          (left-more old read.0 c.statements.left c.in_ok-left.field-0 c.args.most c.statements.invariant.left
-          (ap (λ rules. c.in_ok-left.field-0 + declaration_count rules) (sym c.in_ok-consume_statement.ensures.rules) ∙ c.in_ok-left.ensures.left));
+      left = subst (λ rules. c.in_ok-left.left + declaration_count rules ≡ c.args.most) (sym more)
+          (left-more old read.0 c.statements.left c.in_ok-left.left c.args.most c.statements.invariant.left
+          (ap (λ rules. c.in_ok-left.left + declaration_count rules) (sym c.in_ok-consume_statement.ensures.rules) ∙ c.in_ok-left.ensures.left));
       rules = ap (λ l. l ++ rules_from this_edition next) more
           ∙ append_assoc old read.0 (rules_from this_edition next)
           ∙ ap (λ (t : List ℕ). old ++ (read.0 ++ rules_from this_edition t)) c.in_ok-consume_statement.ensures.rest
@@ -88,3 +88,21 @@ returns-then-not-pass_blank-clause-reported g c =
     c.in_ok-report_end.ensures
     ∙ ap (λ (s : g.P.Report.State). add_each g.P.Report.add s (end_skips c.args.text.now)) c.begin.ensures
     ∙ ap (add_each g.P.Report.add (g.P.Report.state c.args.report.now)) (ap end_skips (sym start) ∙ sym (skipped-none this_edition (rest_of c.new-s.result) none) ∙ ap (skipped this_edition) start)
+
+pub returns-then-not-pass_blank-clause-within : goal.returns-then-not-pass_blank-clause-within
+returns-then-not-pass_blank-clause-within g c =
+    let start : rest_of c.new-s.result ≡ c.args.text.now = ap (λ n. drop n c.new-s.result.text.now) c.new-s.ensures.place ∙ c.new-s.ensures.text in
+    let none = next_statement-open this_edition (rest_of c.new-s.result) (rest_of c.pass_blank.new.s) (no_comment (past_blank (rest_of c.new-s.result))) c.if-not-pass_blank.ensures.reads in
+    let zero_kept = ap (kept_declarations this_edition) (sym start) ∙ kept_declarations-none this_edition (rest_of c.new-s.result) none in
+    omega (arith, zero_kept)
+
+pub returns-then-not-at_statement-clause-within : goal.returns-then-not-at_statement-clause-within
+returns-then-not-at_statement-clause-within g c =
+    let old = map rule_of c.statements.reader.rules.items in
+    let end = rules_from-none this_edition (rest_of c.statements.s) c.if-not-at_statement.ensures.reads in
+    let all = kept_declarations-of this_edition c.args.text.now ∙ ap declaration_count (sym c.statements.invariant.rules ∙ ap (λ l. old ++ l) end ∙ append-nil old) in
+    let left = c.statements.invariant.left in
+    omega (arith, all, left)
+
+pub returns-in_err-left-clause-refused : goal.returns-in_err-left-clause-refused
+returns-in_err-left-clause-refused g c = ?
