@@ -1,4 +1,6 @@
 use Rattle.std.proofs.Common.{◌≡◌, ◌+◌, ◌++◌, ◌<◌, List, ℕ, length, map, drop, sym, ◌∙◌, ap, subst, true, false, append_assoc, append-nil, refl, arith, ◌≤◌}
+use Rattle.std.specs.Prelude.{Result, Ok, Err, IfErr}
+use Rattle.simplecss.specs.declared.sheet.sheet_error.SheetError.TheVariants.{TooManyDeclarations}
 use Rattle.simplecss_text.specs.Reading.{no_comment}
 use Rattle.simplecss_text.specs.Comments.{opens_comment, past_blank}
 use Rattle.simplecss_text.specs.Statements.{statement}
@@ -104,5 +106,18 @@ returns-then-not-at_statement-clause-within g c =
     let left = c.statements.invariant.left in
     omega (arith, all, left)
 
+-- what holds of an error holds of the result that passes it on
+passed_on : {X E : Type 0} (P : E → Type 0) (r : Result X E) (error : E) → IfErr r (λ e. e ≡ error) → P error → IfErr r P
+passed_on P (Ok x) error is holds = tt
+passed_on P (Err e) error is holds = subst P (sym is) holds
+
 pub returns-in_err-left-clause-refused : goal.returns-in_err-left-clause-refused
-returns-in_err-left-clause-refused g c = ?
+returns-in_err-left-clause-refused g c =
+    let text = c.args.text.now in
+    let old = map rule_of c.statements.reader.rules.items in
+    let read = statement this_edition (rest_of c.at_statement.new.s) in
+    let step = rules_from-some this_edition (rest_of c.statements.s) (rest_of c.at_statement.new.s) c.if-not-at_statement.ensures.reads in
+    passed_on (λ error. error ≡ TooManyDeclarations → c.args.most < kept_declarations this_edition text) c.from_residual-in_err-left.result c.in_err-left.field-0.0 c.from_residual-in_err-left.ensures.1
+    (λ many. too_many this_edition text old read.0 (rules_from this_edition read.1) c.statements.left c.args.most c.statements.invariant.left
+    (subst (λ rules. c.statements.left < declaration_count rules) c.in_ok-consume_statement.ensures.rules (c.in_err-left.ensures.refused many))
+    (ap (λ l. old ++ l) (sym step) ∙ c.statements.invariant.rules))
