@@ -1,5 +1,6 @@
 use Rattle.std.proofs.Common.{◌≡◌, ◌+◌, ◌++◌, ◌<◌, List, ℕ, length, map, drop, sym, ◌∙◌, ap, subst, true, false, append_assoc, append-nil, refl, arith, ◌≤◌}
 use Rattle.std.specs.Prelude.{Result, Ok, Err, IfErr}
+use Rattle.std.specs.Result.{IsErrAnd}
 use Rattle.simplecss.specs.declared.sheet.sheet_error.SheetError.TheVariants.{TooManyDeclarations}
 use Rattle.simplecss_text.specs.Reading.{no_comment}
 use Rattle.simplecss_text.specs.Comments.{opens_comment, past_blank}
@@ -107,7 +108,7 @@ returns-then-not-at_statement-clause-within g c =
     omega (arith, all, left)
 
 -- what holds of an error holds of the result that passes it on
-passed_on : {X E : Type 0} (P : E → Type 0) (r : Result X E) (error : E) → IfErr r (λ e. e ≡ error) → P error → IfErr r P
+passed_on : {X E : Type 0} (P : E → Type 0) (r : Result X E) (error : E) → IsErrAnd r (λ e. e ≡ error) → P error → IfErr r P
 passed_on P (Ok x) error is holds = tt
 passed_on P (Err e) error is holds = subst P (sym is) holds
 
