@@ -16,8 +16,14 @@ import tempfile
 TOP = os.path.dirname(os.path.dirname(os.path.abspath(__file__)))
 # Each script of this folder, and the crate of the program that it runs.
 SWEEPS = (("refused.py", "tests_refusals"), ("program.py", "cssq_cli"))
-# The scripts that refuse no request for memory, and the crate of the program that one runs.
-PLAIN = (("docs.py", "cssq_cli"), ("pages.py", "cssq_cli"), ("script.py", None), ("library.py", None))
+# The scripts that refuse no request for memory, and the crates of the programs that one runs.
+PLAIN = (
+    ("docs.py", ("cssq_cli",)),
+    ("pages.py", ("cssq_cli",)),
+    ("skipped.py", ("example_linter", "cssq_cli")),
+    ("script.py", ()),
+    ("library.py", ()),
+)
 passed = failed = 0
 
 
@@ -76,16 +82,16 @@ def sweep(shim):
 
 def look():
     """Runs the scripts that need no shim."""
-    for script, crate in PLAIN:
-        words = [program_of(crate)] if crate else []
-        if all(os.path.exists(path) for path in words):
-            shown([sys.executable, os.path.join(TOP, "tests", script), *words], script)
+    for script, crates in PLAIN:
+        missing = [crate for crate in crates if not os.path.exists(program_of(crate))]
+        if missing:
+            fail(f"rt ci built no program of {missing[0]}: {script} was not run")
         else:
-            fail(f"rt ci built no program of {crate}: {script} was not run")
+            shown([sys.executable, os.path.join(TOP, "tests", script), *map(program_of, crates)], script)
 
 
 def main():
-    for _, crate in SWEEPS:
+    for crate in {crate for _, crate in SWEEPS} | {crate for _, crates in PLAIN for crate in crates}:
         # The sweeps must not run the program of an earlier build.
         if os.path.exists(program_of(crate)):
             os.remove(program_of(crate))

@@ -144,6 +144,7 @@ for text, more, printed, after in MORE:
     add("parse_more", ["more", text, more], lambda out, whole: whole == after and out == "refused\n" + printed + after)
 for text in SHEETS:
     add("parse_more", ["more", "x { y:z }", text], lambda out, whole: out == "refused\nx { y:z; }\n" + whole)
+    add("parse_within", ["within", "x { y:z }", text], lambda out, whole: out == "out of memory\nx { y:z; }\n" + whole)
 
 for name, number in counts.items():
     expect(number > 0, f"{name} makes no request")

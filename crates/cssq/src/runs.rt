@@ -349,6 +349,8 @@ fn page_output<'a, P: Report<'a>>(
     ensures ok { IfOk result
         (λ text. IsAskedRun asked.entry sheet.now tree.now (Ok (string_bytes text))) }
     ensures fault { IfErr result (FailsBeforeWriting (IsAskedRun asked.entry sheet.now tree.now)) }
+    ensures reported { OnOk result (P.state report.new
+        ≡ add_each P.add (P.state report.old) (skipped this_edition sheet.now)) }
 {
     let sheet = match StyleSheet::parse_reporting(report, alloc, sheet) {
         Ok(sheet) => sheet,
@@ -366,8 +368,10 @@ fn run_page<'a, P: Report<'a>, W: Write>(
     tree: &str,
     out: &mut W,
 ) -> Result<(), RunFault>
-    ensures { Writes (IsAskedRun asked.entry sheet.now tree.now) result (W.contents out.old)
+    ensures run { Writes (IsAskedRun asked.entry sheet.now tree.now) result (W.contents out.old)
         (W.contents out.new) }
+    ensures reported { OnOk result (P.state report.new
+        ≡ add_each P.add (P.state report.old) (skipped this_edition sheet.now)) }
 {
     let text = page_output(report, alloc, asked, sheet, tree)?;
     write_out(out, text.as_bytes())
@@ -400,8 +404,10 @@ pub fn run_match_reporting<'a, P: Report<'a>, W: Write>(
     tree: &str,
     out: &mut W,
 ) -> Result<(), RunFault>
-    ensures { Writes (IsMatchRun sheet.now tree.now) result (W.contents out.old)
+    ensures run { Writes (IsMatchRun sheet.now tree.now) result (W.contents out.old)
         (W.contents out.new) }
+    ensures reported { OnOk result (P.state report.new
+        ≡ add_each P.add (P.state report.old) (skipped this_edition sheet.now)) }
 {
     run_page(report, alloc, Asked::Rules, sheet, tree, out)
 }
@@ -435,8 +441,10 @@ pub fn run_style_reporting<'a, P: Report<'a>, W: Write>(
     name: &str,
     out: &mut W,
 ) -> Result<(), RunFault>
-    ensures { Writes (IsStyleRun sheet.now tree.now name.now) result (W.contents out.old)
+    ensures run { Writes (IsStyleRun sheet.now tree.now name.now) result (W.contents out.old)
         (W.contents out.new) }
+    ensures reported { OnOk result (P.state report.new
+        ≡ add_each P.add (P.state report.old) (skipped this_edition sheet.now)) }
 {
     run_page(report, alloc, Asked::Winner(name), sheet, tree, out)
 }

@@ -3,7 +3,6 @@
 #![tactic(auto)]
 
 mod inputs;
-mod notes;
 mod output;
 mod trees;
 mod warnings;

@@ -1,22 +1,21 @@
 //! Warnings on standard error: a line each, with the name of the text, the row and the column.
-use crate::notes::{Noted, find_notes, first_line};
 use simplecss::stream::Stream;
 use simplecss::{Kept, Refusal, Report, Selector, Skipped, TextPos, Why};
-use simplecss_faults::{FaultLines, Reason};
+use simplecss_faults::{FaultLines, Hint, Reason, Surprise, find_mistakes};
 use std::alloc::{AllocError, Global};
 use std::io;
 use std::io::{BufWriter, Stderr, Write};
 
 /// A reporter that writes a line for each part of the files' texts that is skipped, and for each
-/// note on what is kept, in the order of the text.
+/// mistake in what is kept, in the order of the text.
 #[derive(Debug, Drop)]
 pub struct SheetWarnings<'n, 'a, W: Write> {
     /// Writes the lines.
     lines: FaultLines<'n, 'a, W>,
-    /// The allocator of the notes.
+    /// The allocator of the hints.
     alloc: Global,
-    /// The notes on the text that is read.
-    notes: Vec<Noted<'a>>,
+    /// The hints on mistakes in the text that is read.
+    hints: Vec<Hint<'a>>,
     /// How many of them are written.
     written: usize,
 }
@@ -28,30 +27,30 @@ impl<'n, 'a> SheetWarnings<'n, 'a, BufWriter<Stderr>> {
         Ok(SheetWarnings {
             lines: FaultLines::new(out, names),
             alloc: rt.alloc(),
-            notes: Vec::new(rt.alloc()),
+            hints: Vec::new(rt.alloc()),
             written: 0,
         })
     }
 }
 
 impl<'n, 'a, W: Write + Drop> SheetWarnings<'n, 'a, W> {
-    /// Writes the notes that are left, and what is in the writer's buffers.
+    /// Writes the hints that are left, and what is in the writer's buffers.
     pub fn finish(self) -> io::Result<()> {
         let mut warnings = self;
-        warnings.write_notes(0);
+        warnings.write_hints(0);
         let SheetWarnings { lines, .. } = warnings;
         lines.finish()
     }
 }
 
 impl<'n, 'a, W: Write> SheetWarnings<'n, 'a, W> {
-    /// Writes the notes on parts before the last `len` bytes of the text.
-    fn write_notes(&mut self, len: usize) {
-        for (from, note) in self.notes.iter().skip(self.written) {
-            if from.len() <= len {
+    /// Writes the hints on parts before the last `len` bytes of the text.
+    fn write_hints(&mut self, len: usize) {
+        for hint in self.hints.iter().skip(self.written) {
+            if hint.from.len() <= len {
                 break;
             }
-            self.lines.write_line(from, note);
+            self.lines.write_line(hint.from, &hint.surprise);
             self.written = self.written.saturating_add(1);
         }
     }
@@ -65,16 +64,25 @@ impl<'n, 'a, W: Write> Report<'a> for SheetWarnings<'n, 'a, W> {
     ghost add = { λ _ _. tt };
 
     fn begin(&mut self, text: &'a str) {
-        self.write_notes(0);
+        self.write_hints(0);
         self.lines.begin(text);
         self.written = 0;
-        // Without memory for the notes there are none.
-        self.notes = find_notes(self.alloc, text).unwrap_or(Vec::new(self.alloc));
+        // Without memory for the hints there are none.
+        self.hints = find_mistakes(self.alloc, text).unwrap_or(Vec::new(self.alloc));
     }
 
     fn report(&mut self, skipped: Skipped<'a>) -> Result<(), AllocError> {
-        self.write_notes(skipped.from.len());
+        self.write_hints(skipped.from.len());
         self.lines.report(skipped)
+    }
+}
+
+/// Returns the first line of a text, without white space around it.
+fn first_line(text: &str) -> &str {
+    let text = text.trim();
+    match text.split_once(['\n', '\r']) {
+        Some((line, _)) => line.trim_end(),
+        None => text,
     }
 }
 
@@ -106,7 +114,7 @@ fn write_refusal(rt: &HostRuntime, name: &str, text: &str, skipped: &Skipped<'_>
 /// Writes the warnings of a selector: why it is refused, or what follows it and is not read.
 pub fn warn_of_selector(rt: &HostRuntime, name: &str, text: &str) {
     if text.starts_with('\u{feff}') {
-        let _ = eprintln!(rt; "{name}:1:1: {}", crate::notes::Note::ByteOrderMark);
+        let _ = eprintln!(rt; "{name}:1:1: {}", Surprise::ByteOrderMark);
     }
     let mut kept = Kept {
         skips: Vec::new(rt.alloc()),

@@ -4,6 +4,7 @@ pub mod ListLemmas
 pub mod RuleEquality
 pub mod SheetLemmas
 pub mod StatementLemmas
+pub mod DeclarationSums
 pub mod StatementPlaces
 pub mod RulePlaces
 pub mod RuleOrders

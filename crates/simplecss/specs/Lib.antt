@@ -2,6 +2,8 @@ pub mod SeenRules
 pub mod RulePlaces
 pub mod RuleOrders
 pub mod SharedBlocks
+pub mod DeclarationCounts
+pub mod SheetMessages
 pub mod SheetPlaces
 pub mod SelectorPlaces
 pub mod Matching

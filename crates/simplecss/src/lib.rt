@@ -18,7 +18,7 @@ pub mod laws;
 mod sheet;
 
 pub use index::RuleIndex;
-pub use sheet::{Rule, Statement, StatementReader, StyleSheet, find_skipped};
+pub use sheet::{Rule, SheetError, Statement, StatementReader, StyleSheet, find_skipped};
 pub use simplecss_declaration::{Declaration, DeclarationTokenizer};
 pub use simplecss_selector::{
     AttributeOperator, Element, Key, Keyed, PseudoClass, Selector, SelectorToken,

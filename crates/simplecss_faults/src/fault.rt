@@ -45,7 +45,7 @@ fn before(text: &str, one: char, two: char) -> &str {
 }
 
 /// The first line of a text, without white space around it.
-fn first_line(text: &str) -> &str {
+pub(crate) fn first_line(text: &str) -> &str {
     before(text.trim(), '\n', '\r').trim_end()
 }
 

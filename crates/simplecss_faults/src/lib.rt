@@ -4,8 +4,11 @@
 
 mod fault;
 mod finding;
+mod hints;
+mod parentheses;
 mod telling;
 
 pub use fault::{Fault, Reason};
 pub use finding::find_faults;
+pub use hints::{Hint, Surprise, find_hints, find_mistakes};
 pub use telling::FaultLines;

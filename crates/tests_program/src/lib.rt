@@ -13,6 +13,8 @@ mod failing_writers;
 #[cfg(test)]
 mod faults;
 #[cfg(test)]
+mod hints;
+#[cfg(test)]
 mod page;
 #[cfg(test)]
 mod runs;

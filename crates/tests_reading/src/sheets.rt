@@ -2,7 +2,7 @@
 
 use crate::same::same;
 use log::sink::{Discard, Memory};
-use simplecss::{Declaration, Rule, Selector, StyleSheet};
+use simplecss::{Declaration, Rule, Selector, SheetError, StyleSheet};
 use std::alloc::AllocError;
 use std::test::Fail;
 
@@ -111,6 +111,62 @@ fn reads_texts_in_turn(rt: HostRuntime) -> Result<(), Fail> {
     sheet.parse_more(&Discard, rt.alloc(), "#y { e:f } q { g:h }")?;
     let want = "p { c:d; }\nq { g:h; }\n*[id='x'] { a:b; }\n*[id='y'] { e:f; }";
     same(&rt, prints(&rt, &sheet, want)?, true, want);
+    Ok(())
+}
+
+/// Texts, and how many declarations their rules hold.
+const COUNTED: &[(&str, usize)] = &[
+    ("", 0),
+    ("/* open", 0),
+    ("a, b { }", 0),
+    ("a { b:c }", 1),
+    ("a { b:c; d:e }", 2),
+    ("a, b, c { d:e; f:g }", 6),
+    ("a, :b, c { d:e; f:g; h }", 4),
+    ("a { b:c } @media x { y { z:z } } d, e { f:g; h:i } j {}", 5),
+];
+
+/// What the sheet prints after the text is read within the limit, or why it is not read.
+fn read_within(rt: &HostRuntime, text: &str, most: usize) -> Result<String, SheetError> {
+    let mut sheet = read(rt, "x { y:z }")?;
+    let outcome = sheet.parse_within(&Discard, rt.alloc(), text, most);
+    if outcome.is_err() && !prints(rt, &sheet, "x { y:z; }")? {
+        return Ok(String::new(rt.alloc()));
+    }
+    outcome?;
+    Ok(sheet.to_string(rt.alloc())?)
+}
+
+#[test]
+fn reads_within_a_limit(rt: HostRuntime) -> Result<(), Fail> {
+    for (text, count) in COUNTED {
+        let mut sheet = read(&rt, "x { y:z }")?;
+        sheet.parse_more(&Discard, rt.alloc(), text)?;
+        let printed = read_within(&rt, text, *count)?;
+        same(&rt, prints(&rt, &sheet, printed.as_str())?, true, text);
+        let Some(less) = count.checked_sub(1) else {
+            continue;
+        };
+        let refused = read_within(&rt, text, less).err();
+        same(&rt, refused, Some(SheetError::TooManyDeclarations), text);
+    }
+    Ok(())
+}
+
+/// 20,000 selectors before 20,000 declarations are refused before any is copied.
+#[test]
+fn refuses_a_short_text_of_many_declarations(rt: HostRuntime) -> Result<(), Fail> {
+    let mut text = String::new(rt.alloc());
+    for _ in 0..20_000 {
+        text.push_str("a,")?;
+    }
+    text.push_str("a{")?;
+    for _ in 0..20_000 {
+        text.push_str("b:c;")?;
+    }
+    text.push('}')?;
+    let refused = read_within(&rt, text.as_str(), 1_000_000).err();
+    same(&rt, refused, Some(SheetError::TooManyDeclarations), "many");
     Ok(())
 }
 

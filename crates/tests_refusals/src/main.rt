@@ -94,6 +94,27 @@ fn show_more<R: Log>(
     println!(rt; "{sheet}")
 }
 
+/// Reads a second text into the sheet of a first one, within a limit that it does not exceed. If that
+/// fails, the error and the unchanged sheet are shown, and the second text is read again.
+fn show_within<R: Log>(
+    rt: &HostRuntime,
+    made: &Made<'_>,
+    log: &R,
+    text: &str,
+    more: &str,
+) -> io::Result<()> {
+    let mut sheet = StyleSheet::parse(log, rt.alloc(), text)?;
+    begin(rt);
+    let read = sheet.parse_within(log, rt.alloc(), more, 100);
+    end(rt, made);
+    if let Err(error) = read {
+        println!(rt; "{error}")?;
+        println!(rt; "{sheet}")?;
+        sheet.parse_within(log, rt.alloc(), more, 100)?;
+    }
+    println!(rt; "{sheet}")
+}
+
 /// Shows whether a copy equals the original, or that an allocation for the copy failed.
 fn show_equality(rt: &HostRuntime, equal: Result<bool, AllocError>) -> io::Result<()> {
     match equal {
@@ -280,6 +301,7 @@ fn show<R: Log>(rt: &HostRuntime, made: &Made<'_>, log: &R, words: &[&str]) -> i
         ["selector", text] => show_selector(rt, made, log, text),
         ["sheet", text] => show_sheet(rt, made, log, text),
         ["more", text, more] => show_more(rt, made, log, text, more),
+        ["within", text, more] => show_within(rt, made, log, text, more),
         ["copies", text] => show_copies(rt, made, text),
         ["page", text] => show_page(rt, made, text),
         ["sheets", texts @ ..] => show_sheets(rt, made, log, texts),

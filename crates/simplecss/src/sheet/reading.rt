@@ -1,5 +1,6 @@
 //! The rules of a text.
-ghost use Rattle.std.specs.Prelude.{◌≡◌, ◌++◌, ◌∷◌, [], List, ℕ, IfOk, IsOk, IsTrue, IsUtf8, OnOk};
+ghost use Rattle.std.specs.Prelude.{◌≡◌, ◌<◌, ◌≤◌, ◌++◌, ◌∷◌, [], List, ℕ, IfErr, IfOk, IsOk, IsTrue};
+ghost use Rattle.std.specs.Prelude.{IsUtf8, OnOk};
 ghost use Rattle.std.specs.Prelude.{MatchBool, MatchOption, None, Some, filter, map, true, false};
 ghost use Rattle.std.specs.List.{All, flat_map};
 ghost use Rattle.simplecss_text.specs.Comments.{past_blank};
@@ -9,9 +10,12 @@ ghost use Rattle.simplecss_text.specs.Skipped.{add_each, end_skips, skipped};
 ghost use Rattle.simplecss_text.specs.ThisEdition.{this_edition};
 ghost use Rattle.simplecss_text.specs.Cursor.{text_of, rest_of};
 ghost use Rattle.simplecss.specs.SeenRules.{rule_of, rules_of};
+ghost use Rattle.simplecss.specs.DeclarationCounts.{kept_declarations};
+ghost use Rattle.simplecss.specs.declared.sheet.sheet_error.SheetError.TheVariants.{TooManyDeclarations};
 
 use super::order;
 use super::rules::Rule;
+use super::sheet_error::SheetError;
 use super::statements::RuleReader;
 use simplecss_text::report::{Report, Skipped, Why};
 use simplecss_text::stream::Stream;
@@ -46,7 +50,46 @@ pub(crate) fn report_end<'a, P: Report<'a>>(report: &mut P, text: &'a str) -> Re
     })
 }
 
-/// All rules of a text in order, or `None` where the text is a blank and then an open comment.
+/// Returns all rules of a text in order, or `None` if the text is a blank and then an open comment.
+/// Stops before the rules hold more than `most` declarations.
+pub(crate) fn read_rules_within<'a, P: Report<'a>>(
+    report: &mut P,
+    alloc: Global,
+    text: &'a str,
+    most: usize,
+) -> Result<Option<Vec<Rule<'a>>>, SheetError>
+    ensures rules { IfOk result (λ read. MatchOption read (is_open_comment text.now ≡ true)
+        (λ rules. (is_open_comment text.now ≡ false)
+        × (map rule_of rules.items
+        ≡ flat_map (λ given. given) (statements this_edition text.now)))) }
+    ensures utf8 { IsUtf8 text.now }
+    ensures within { OnOk result (kept_declarations this_edition text.now ≤ most) }
+    ensures refused { IfErr result (λ error. error ≡ TooManyDeclarations
+        → most < kept_declarations this_edition text.now) }
+    ensures reported { OnOk result (P.state report.new
+        ≡ add_each P.add (P.state report.old) (skipped this_edition text.now)) }
+{
+    report.begin(text);
+    let mut s = Stream::new(text);
+    if !readers::pass_blank(&mut s) {
+        report_end(report, text)?;
+        return Ok(None);
+    }
+    let mut reader = RuleReader::new(alloc);
+    let mut left = most;
+    'statements: loop {
+        let rest = s.slice_tail();
+        if !at_statement(&mut s) {
+            report_end(report, rest)?;
+            return Ok(Some(reader.into_rules()));
+        }
+        reader.consume_statement(report, alloc, &mut s)?;
+        left = reader.keep_rules(alloc, left)?;
+    }
+}
+
+/// Returns all rules of a text as [`read_rules_within`] does, without a limit: more than
+/// `usize::MAX` declarations take more memory than there is.
 pub(crate) fn read_rules<'a, P: Report<'a>>(
     report: &mut P,
     alloc: Global,
@@ -60,20 +103,9 @@ pub(crate) fn read_rules<'a, P: Report<'a>>(
     ensures reported { OnOk result (P.state report.new
         ≡ add_each P.add (P.state report.old) (skipped this_edition text.now)) }
 {
-    report.begin(text);
-    let mut s = Stream::new(text);
-    if !readers::pass_blank(&mut s) {
-        report_end(report, text)?;
-        return Ok(None);
-    }
-    let mut reader = RuleReader::new(alloc);
-    'statements: loop {
-        let left = s.slice_tail();
-        if !at_statement(&mut s) {
-            report_end(report, left)?;
-            return Ok(Some(reader.into_rules()));
-        }
-        reader.consume_statement(report, alloc, &mut s)?;
+    match read_rules_within(report, alloc, text, usize::MAX) {
+        Ok(rules) => Ok(rules),
+        Err(_) => Err(AllocError),
     }
 }
 

@@ -117,6 +117,9 @@ impl<'a> StatementReader<'a> {
         let start = stream.pos();
         let mut reader: RuleReader<'a> = RuleReader::new(alloc);
         reader.consume_statement(report, alloc, &mut stream)?;
+        let Ok(_) = reader.keep_rules(alloc, usize::MAX) else {
+            return Err(AllocError);
+        };
         self.stream = stream;
         Ok(Some(Statement {
             start,

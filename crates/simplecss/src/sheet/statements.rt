@@ -1,5 +1,6 @@
 //! Rule sets and at-rules.
-ghost use Rattle.std.specs.Prelude.{◌≡◌, ◌++◌, ◌∷◌, [], OnOk, map, option_map, option_to_list};
+ghost use Rattle.std.specs.Prelude.{◌≡◌, ◌<◌, ◌≤◌, ◌+◌, ◌-◌, ◌*◌, ◌++◌, ◌∷◌, [], IfErr, IfOk, OnOk};
+ghost use Rattle.std.specs.Prelude.{SomeIff, map, option_map, option_to_list};
 ghost use Rattle.simplecss_text.specs.Statements.{part, parts, rule_set, at_rule_rest, statement};
 ghost use Rattle.simplecss_text.specs.Names.{name as name_read};
 ghost use Rattle.simplecss_text.specs.AsciiBytes.{comma};
@@ -11,9 +12,12 @@ ghost use Rattle.simplecss_text.specs.ThisEdition.{this_edition};
 ghost use Rattle.simplecss_text.specs.Cursor.{text_of, rest_of};
 ghost use Rattle.simplecss_declaration.specs.SeenDeclarations.{declaration_of};
 ghost use Rattle.simplecss.specs.SeenRules.{rule_of};
-ghost use Rattle.simplecss.specs.SharedBlocks.{rules_with};
+ghost use Rattle.simplecss.specs.SharedBlocks.{rules_with, rules_read};
+ghost use Rattle.simplecss.specs.DeclarationCounts.{declaration_count};
+ghost use Rattle.simplecss.specs.declared.sheet.sheet_error.SheetError.TheVariants.{TooManyDeclarations};
 
 use super::rules::Rule;
+use super::sheet_error::SheetError;
 use simplecss_declaration::{Declaration, consume_next_block, pass_semicolon_or_block};
 use simplecss_selector::Selector;
 use simplecss_text::readers;
@@ -160,13 +164,21 @@ fn pass_at_rule<'a>(s: &mut Stream<'a>) -> Option<&'a str>
     Some(name)
 }
 
+/// Returns what is left of a limit after `selectors` rules with `declarations` declarations each,
+/// or `None` if these are more.
+fn left_after(most: usize, selectors: usize, declarations: usize) -> Option<usize>
+    ensures { SomeIff result (selectors * declarations ≤ most) (most - selectors * declarations) }
+{
+    most.checked_sub(selectors.checked_mul(declarations)?)
+}
+
 /// Reads statements, and keeps their rules. The lists that a rule set is read into are used again
 /// for each.
 #[derive(Drop)]
 pub struct RuleReader<'a> {
-    /// The rules of the statements that were read.
+    /// The rules that are kept.
     rules: Vec<Rule<'a>>,
-    /// The selectors of the rule set that is read.
+    /// The selectors of the last statement.
     selectors: Vec<Selector<'a>>,
     /// The declarations of its block.
     declarations: Vec<Declaration<'a>>,
@@ -184,7 +196,7 @@ impl<'a> RuleReader<'a> {
         }
     }
 
-    /// The rules of all statements that were read.
+    /// Returns the rules that are kept.
     pub fn into_rules(self) -> Vec<Rule<'a>>
         ensures { result.items ≡ self.entry.rules.items }
     {
@@ -192,8 +204,8 @@ impl<'a> RuleReader<'a> {
         rules
     }
 
-    /// Reads a rule set, and adds its rules: one for each part that has a selector, with all
-    /// declarations of the block.
+    /// Reads a rule set. It has a rule for each part with a selector, with all declarations of the
+    /// block.
     #[tactic(auto, unfolding(simplecss_text::specs::Statements::rule_set))]
     fn consume_rule_set<P: Report<'a>>(
         &mut self,
@@ -202,24 +214,19 @@ impl<'a> RuleReader<'a> {
         s: &mut Stream<'a>,
     ) -> Result<(), AllocError>
         ensures text { text_of s.new ≡ text_of s.old }
-        ensures rules { OnOk result (map rule_of self.new.rules.items
-            ≡ map rule_of self.old.rules.items ++ (rule_set this_edition (rest_of s.old)).0) }
+        ensures kept { self.new.rules.items ≡ self.old.rules.items }
+        ensures rules { OnOk result
+            (rules_read self.new ≡ (rule_set this_edition (rest_of s.old)).0) }
         ensures rest { OnOk result (rest_of s.new ≡ (rule_set this_edition (rest_of s.old)).1) }
         ensures reported { OnOk result (P.state report.new
             ≡ add_each P.add (P.state report.old) (rule_set_skips this_edition (rest_of s.old))) }
     {
         skip_comma(report, s)?;
         consume_parts(report, alloc, s, &mut self.selectors)?;
-        consume_next_block(report, s, &mut self.declarations)?;
-        push_rules(
-            alloc,
-            &mut self.rules,
-            &mut self.selectors,
-            self.declarations.as_slice(),
-        )
+        consume_next_block(report, s, &mut self.declarations)
     }
 
-    /// Reads a statement, and adds its rules. An at-rule has none.
+    /// Reads a statement, and keeps none of its rules yet. An at-rule has none.
     #[tactic(auto, unfolding(simplecss_text::specs::Statements::statement), using(simplecss_text::proofs::bytes::ByteLemmas::past_byte_there, simplecss_text::proofs::bytes::ByteLemmas::past_byte_not))]
     pub fn consume_statement<P: Report<'a>>(
         &mut self,
@@ -228,14 +235,16 @@ impl<'a> RuleReader<'a> {
         s: &mut Stream<'a>,
     ) -> Result<(), AllocError>
         ensures text { text_of s.new ≡ text_of s.old }
-        ensures rules { OnOk result (map rule_of self.new.rules.items
-            ≡ map rule_of self.old.rules.items ++ (statement this_edition (rest_of s.old)).0) }
+        ensures kept { self.new.rules.items ≡ self.old.rules.items }
+        ensures rules { OnOk result
+            (rules_read self.new ≡ (statement this_edition (rest_of s.old)).0) }
         ensures rest { OnOk result (rest_of s.new ≡ (statement this_edition (rest_of s.old)).1) }
         ensures reported { OnOk result (P.state report.new
             ≡ add_each P.add (P.state report.old) (statement_skips this_edition (rest_of s.old))) }
     {
         let text = s.slice_tail();
         if readers::pass_byte(s, b'@') {
+            self.selectors.clear();
             let name = pass_at_rule(s);
             return report.report(Skipped {
                 from: text,
@@ -244,5 +253,25 @@ impl<'a> RuleReader<'a> {
             });
         }
         self.consume_rule_set(report, alloc, s)
+    }
+
+    /// Keeps the rules of the statement that was read last, and returns how many declarations may
+    /// still be kept. If they hold more than `most`, no declaration is copied.
+    pub fn keep_rules(&mut self, alloc: Global, most: usize) -> Result<usize, SheetError>
+        ensures rules { OnOk result (map rule_of self.new.rules.items
+            ≡ map rule_of self.old.rules.items ++ rules_read self.old) }
+        ensures left { IfOk result
+            (λ left. left + declaration_count (rules_read self.old) ≡ most) }
+        ensures refused { IfErr result (λ error. error ≡ TooManyDeclarations
+            → most < declaration_count (rules_read self.old)) }
+    {
+        let selectors = self.selectors.as_slice();
+        let declarations = self.declarations.as_slice();
+        let left = match left_after(most, selectors.len(), declarations.len()) {
+            Some(left) => left,
+            None => return Err(SheetError::TooManyDeclarations),
+        };
+        push_rules(alloc, &mut self.rules, &mut self.selectors, declarations)?;
+        Ok(left)
     }
 }

@@ -1,6 +1,6 @@
 //! Style sheets.
 ghost use Rattle.std.specs.Prelude.{◌≡◌, ◌∷◌, ◌++◌, [], ℕ, List, IfOk, OnErr, OnOk, filter, map};
-ghost use Rattle.std.specs.Prelude.{true, false};
+ghost use Rattle.std.specs.Prelude.{◌≢◌, ◌↔◌, ◌<◌, Err, true, false};
 ghost use Rattle.std.specs.List.{All, AllPass, flat_map};
 ghost use Rattle.simplecss_text.specs.Characters.{first_edition};
 ghost use Rattle.simplecss_text.specs.Editions.{IsCommon};
@@ -13,8 +13,9 @@ ghost use Rattle.simplecss_text.specs.ThisEdition.{this_edition};
 ghost use Rattle.simplecss_text.specs.PrintingLaws.{SelectorsReadBack, has_wide_space, PrintsBack};
 ghost use Rattle.simplecss_text.specs.PrintingLaws.{PrintsBackAfter};
 ghost use Rattle.simplecss.specs.SeenRules.{rules_in};
+ghost use Rattle.simplecss.specs.DeclarationCounts.{kept_declarations};
 
-use crate::sheet::{Rule, order, reading};
+use crate::sheet::{Rule, SheetError, order, reading};
 use log::Log;
 use simplecss_selector::Warnings;
 use simplecss_text::report::{Kept, Report, Skipped};
@@ -190,8 +191,97 @@ impl<'a> StyleSheet<'a> {
         ensures reported { OnOk result (P.state report.new
             ≡ add_each P.add (P.state report.old) (skipped this_edition text.now)) }
     {
-        match reading::read_rules(report, alloc, text)? {
-            Some(more) => order::merge(&mut self.rules, more),
+        // More than `usize::MAX` declarations take more memory than there is.
+        match self.parse_within_reporting(report, alloc, text, usize::MAX) {
+            Ok(()) => Ok(()),
+            Err(_) => Err(AllocError),
+        }
+    }
+
+    /// Reads a text into the style sheet as [`StyleSheet::parse_more`] does, unless its rules would
+    /// hold more than `most` declarations: then the sheet is unchanged. A rule set counts its
+    /// declarations once for each of its selectors, as often as they are stored, and is refused
+    /// before they are. For texts from untrusted sources, whose rules may else take memory as the
+    /// square of their length.
+    pub fn parse_within<R: Log>(
+        &mut self,
+        rt: &R,
+        alloc: Global,
+        text: &'a str,
+        most: usize,
+    ) -> Result<(), SheetError>
+        // The refusal comes exactly if the text's rules would hold more declarations, unless memory is
+        // refused first.
+        ensures limit { (result ≢ Err SheetError.Memory)
+            → (result ≡ Err SheetError.TooManyDeclarations)
+            ↔ (most < kept_declarations this_edition text.now) }
+        // The old rules that have a declaration and then those of the text, in order.
+        ensures ok { OnOk result (is_open_comment text.now ≡ false
+            → rules_in self.new
+            ≡ ordered (filter has_declaration (rules_in self.old) ++ kept this_edition text.now)) }
+        ensures nothing { is_open_comment text.now ≡ true → rules_in self.new ≡ rules_in self.old }
+        ensures err { OnErr result (rules_in self.new ≡ rules_in self.old) }
+        // The sheet of some texts is then the sheet of these and of this one, and each of its rules
+        // has a declaration.
+        ensures sheet { (texts : List (List ℕ)) → rules_in self.old ≡ sheet this_edition texts
+            → OnOk result (rules_in self.new ≡ sheet this_edition (texts ++ text.now ∷ [])) }
+        ensures filled { (texts : List (List ℕ)) → rules_in self.old ≡ sheet this_edition texts
+            → AllPass has_declaration (rules_in self.new) }
+        // A text may be read in pieces that are cut where a statement ends.
+        ensures pieces { OnOk result
+            (GoesOn this_edition (rules_in self.old) text.now (rules_in self.new)) }
+        // Printed selectors and printed sheets read as what was printed.
+        ensures selectors { SelectorsReadBack this_edition (rules_in self.old)
+            → SelectorsReadBack this_edition (rules_in self.new) }
+        ensures prints_back { OnOk result
+            (PrintsBackAfter this_edition (rules_in self.old) text.now (rules_in self.new)) }
+    {
+        self.parse_within_reporting(&mut Warnings::new(rt), alloc, text, most)
+    }
+
+    /// Reads a text into the style sheet as [`StyleSheet::parse_within`] does. All that is skipped is
+    /// reported, in order.
+    pub fn parse_within_reporting<P: Report<'a>>(
+        &mut self,
+        report: &mut P,
+        alloc: Global,
+        text: &'a str,
+        most: usize,
+    ) -> Result<(), SheetError>
+        // The refusal comes exactly if the text's rules would hold more declarations, unless memory is
+        // refused first.
+        ensures limit { (result ≢ Err SheetError.Memory)
+            → (result ≡ Err SheetError.TooManyDeclarations)
+            ↔ (most < kept_declarations this_edition text.now) }
+        // The old rules that have a declaration and then those of the text, in order.
+        ensures ok { OnOk result (is_open_comment text.now ≡ false
+            → rules_in self.new
+            ≡ ordered (filter has_declaration (rules_in self.old) ++ kept this_edition text.now)) }
+        ensures nothing { is_open_comment text.now ≡ true → rules_in self.new ≡ rules_in self.old }
+        ensures err { OnErr result (rules_in self.new ≡ rules_in self.old) }
+        // The sheet of some texts is then the sheet of these and of this one, and each of its rules
+        // has a declaration.
+        ensures sheet { (texts : List (List ℕ)) → rules_in self.old ≡ sheet this_edition texts
+            → OnOk result (rules_in self.new ≡ sheet this_edition (texts ++ text.now ∷ [])) }
+        ensures filled { (texts : List (List ℕ)) → rules_in self.old ≡ sheet this_edition texts
+            → AllPass has_declaration (rules_in self.new) }
+        // A text may be read in pieces that are cut where a statement ends.
+        ensures pieces { OnOk result
+            (GoesOn this_edition (rules_in self.old) text.now (rules_in self.new)) }
+        // Printed selectors and printed sheets read as what was printed.
+        ensures selectors { SelectorsReadBack this_edition (rules_in self.old)
+            → SelectorsReadBack this_edition (rules_in self.new) }
+        ensures prints_back { OnOk result
+            (PrintsBackAfter this_edition (rules_in self.old) text.now (rules_in self.new)) }
+        // The reporter receives exactly what reading the text skips, in order.
+        ensures reported { OnOk result (P.state report.new
+            ≡ add_each P.add (P.state report.old) (skipped this_edition text.now)) }
+    {
+        match reading::read_rules_within(report, alloc, text, most)? {
+            Some(more) => {
+                order::merge(&mut self.rules, more)?;
+                Ok(())
+            }
             None => Ok(()),
         }
     }

@@ -5,6 +5,7 @@ use Rattle.simplecss_text.specs.Statements.{statement}
 use Rattle.simplecss_text.specs.ThisEdition.{this_edition}
 use Rattle.simplecss.specs.SheetPlaces.{StandsNext}
 use Rattle.simplecss.specs.SeenRules.{rule_of}
+use Rattle.simplecss.specs.SharedBlocks.{rules_read}
 use Rattle.simplecss.proofs.StatementPlaces.{stands_next}
 use Rattle.simplecss.proofs.sheet.statement_reader.StatementReader.read_next_reporting.Goals as goal
 
@@ -23,6 +24,7 @@ returns-clause-ok g c =
           (c.self.inside.stream.boundary.0)
           (subst (λ (t : List ℕ). IsCharBoundary t c.pos-start.result) at_start (subst (IsCharBoundary (text_of c.at_statement.new.s)) (sym c.pos-start.ensures) c.at_statement.new.s.boundary))
           (subst (λ (t : List ℕ). IsCharBoundary t c.pos.result) at_end (subst (IsCharBoundary (text_of c.consume_statement.new.s)) (sym c.pos.ensures) c.consume_statement.new.s.boundary))
-          (ap (map rule_of) c.into_rules.ensures ∙ c.in_ok-consume_statement.ensures.rules ∙ ap (λ rules. map rule_of rules ++ (statement this_edition (rest_of c.at_statement.new.s)).0) c.new-reader.ensures ∙ ap (λ (t : List ℕ). (statement this_edition t).0) (sym begins))),
+          (ap (map rule_of) c.into_rules.ensures ∙ c.in-Ok.ensures.rules ∙ ap (λ rules. map rule_of rules ++ rules_read c.consume_statement.new.self) (c.consume_statement.ensures.kept ∙ c.new-reader.ensures)
+          ∙ c.in_ok-consume_statement.ensures.rules ∙ ap (λ (t : List ℕ). (statement this_edition t).0) (sym begins))),
       sym c.pos.ensures,
     )

@@ -1,0 +1,66 @@
+//! Hints on what a sheet's text keeps.
+
+use simplecss_faults::{Surprise, find_hints, find_mistakes};
+use std::alloc::{AllocError, Global};
+use std::fmt::Write as _;
+use std::test::Fail;
+
+/// The hints on each text: row and column, and what is surprising, a line each.
+const FOUND: &[(&str, &str)] = &[
+    ("", ""),
+    ("a, b > c { d:e; f:g !important; h: i /* j */ ; k:l ! important }", ""),
+    ("@media x { a { b:c\\9 } } d < e { f:g\\9 }", ""),
+    ("a { b:c", ""),
+    ("a { width:10px\\9; b:c }", "1:11: '10px': the value is cut here\n"),
+    ("a {\n  b: x 'c }\nd { e:f }", "2:6: 'x': the value is cut here\n"),
+    ("a { b:c *zoom:1 }", "1:7: 'c': the value is cut here\n"),
+    (
+        "a { b:calc(1px + (2px)); c:d }",
+        "1:7: 'calc(1px + (2px)': a parenthesis of the value is left open\n",
+    ),
+    (
+        "a { b:c } */ d { e:f }",
+        "1:11: a '*/' that closes no comment is read as the selector '*'\n",
+    ),
+    (
+        "x { y:z }\na:foo, b { c:d }",
+        "2:1: a selector is refused, and the others are kept\n",
+    ),
+    ("a { c:red!; d:e }", "1:7: 'red': '!' without 'important' follows\n"),
+    (
+        "a { b:c ! IMPORTANT; d:e }",
+        "1:7: 'c': '!' without 'important' follows\n",
+    ),
+    (
+        "\u{feff}a { b:c }",
+        "1:1: a byte order mark is part of the first name\n",
+    ),
+];
+
+/// Returns the hints on the text, a line each.
+fn found(alloc: Global, text: &str) -> Result<String, AllocError> {
+    let mut lines = String::new(alloc);
+    for hint in &find_hints(alloc, text)? {
+        writeln!(lines, "{hint}")?;
+    }
+    Ok(lines)
+}
+
+#[test]
+fn finds_what_is_hardly_meant(rt: HostRuntime) -> Result<(), Fail> {
+    for (text, wanted) in FOUND {
+        assert_eq!(rt; found(rt.alloc(), text)?.as_str(), *wanted, "at {text:?}");
+    }
+    Ok(())
+}
+
+/// Of the hints only two kinds are mistakes wherever they occur.
+#[test]
+fn finds_mistakes(rt: HostRuntime) -> Result<(), Fail> {
+    let text = "\u{feff}a:b, c { d:e\\9 } f { g:h((i); j:k! }";
+    let mistakes = find_mistakes(rt.alloc(), text)?;
+    assert_eq!(rt; mistakes.len(), 2);
+    assert_eq!(rt; mistakes[0].surprise, Surprise::ByteOrderMark);
+    assert_eq!(rt; mistakes[1].surprise, Surprise::OpenParenthesis("h((i)"));
+    Ok(())
+}
