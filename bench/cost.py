@@ -87,6 +87,8 @@ INPUTS = [
     ("children of a parent of 1,000 words", 30_000, match_of(rules_of(20, ".x{} > *"), children(1000))),
     ("the same with 200 classes of parents", 30_000, match_of(rules_of(200, ".x{} > *"), children(1000))),
     ("siblings of 1,000 words", 100, match_of(rules_of(200, ".x{} + *"), lambda n: ("0\tr\n" + ("1\ta\tclass=" + " ".join(f"w{i}" for i in range(1000)) + "\n") * n))),
+    ("elements of a class of their own", 30_000, match_of(rules_of(20, ".x{}"), lambda n: "0\tr\n" + "".join(f"1\ta\tclass=w{i} y\n" for i in range(n)))),
+    ("two elements of many words", 40_000, match_of(rules_of(20, ".x{}"), lambda n: "0\tr\n" + 2 * ("1\ta\tclass=" + " ".join(f"w{i}" for i in range(n)) + "\n"))),
     ("rules of one key", 2_000, match_of(rules_of(None, "p{} .a"), lambda n: "0\tb\tclass=a\n" * 100)),
     ("rules of one key that match", 2_000, match_of(rules_of(None, ".a[t=x{}], .a"), lambda n: "0\tb\tclass=a\tt=y\n" * 100)),
     ("selectors times declarations", 300, sheet_of(lambda n: ",".join(["a"] * n) + "{" + "b:c;" * n + "}")),

@@ -14,7 +14,7 @@ ghost use Rattle.cssq.specs.Winners.{ListsInOrder, HaveOwnNames};
 ghost use Rattle.cssq.specs.Candidates.{better_of, InRule, IsCandidate, IsOutdone, IsPassedOver};
 ghost use Rattle.cssq.specs.Candidates.{TellsWhether, HasBestPlaces};
 
-use simplecss::{Declaration, Element, Keyed, Rule, RuleIndex, StyleSheet};
+use simplecss::{Declaration, Element, Keyed, Recent, Rule, RuleIndex, StyleSheet};
 use std::alloc::{AllocError, Global};
 use std::collections::BTreeMap;
 use std::marker::Model;
@@ -275,6 +275,8 @@ pub struct Cascade<'s, 'a> {
     index: RuleIndex<'a>,
     /// The indices of the rules that match the last element. The list is reused.
     places: Vec<usize>,
+    /// What the index found for earlier elements by their names and classes.
+    recent: Recent<'a>,
 }
 
 impl<'s, 'a> Model for Cascade<'s, 'a> {
@@ -286,7 +288,8 @@ impl<'s, 'a> Model for Cascade<'s, 'a> {
 
     ghost view = { λ cascade. rules_of cascade.rules.now };
 
-    ghost invariant = { λ cascade. cascade.index ≡ map (λ rule. rule.selector) cascade.rules.now };
+    ghost invariant = { λ cascade. (cascade.index ≡ map (λ rule. rule.selector) cascade.rules.now)
+        × (cascade.recent ≡ cascade.index) };
 }
 
 impl<'s, 'a> Cascade<'s, 'a> {
@@ -294,11 +297,14 @@ impl<'s, 'a> Cascade<'s, 'a> {
     pub fn new(alloc: Global, rules: &'s [Rule<'a>]) -> Result<Self, AllocError>
         ensures { IfOk result (λ cascade. cascade ≡ rules_of rules.now) }
     {
+        let index = RuleIndex::new(alloc, rules)?;
+        let recent = Recent::new(alloc, &index)?;
         Ok(Cascade {
             alloc,
             rules,
-            index: RuleIndex::new(alloc, rules)?,
+            index,
             places: Vec::new(alloc),
+            recent,
         })
     }
 
@@ -309,7 +315,8 @@ impl<'s, 'a> Cascade<'s, 'a> {
             ListsInOrder (IsStated E.tree (E.node element.now) self.old) (declarations_of all.items)) }
         ensures same { self.new ≡ self.old }
     {
-        self.index.matching(self.rules, element, &mut self.places)?;
+        self.index
+            .matching_recent(self.rules, element, &mut self.places, &mut self.recent)?;
         stated_at::<E>(self.alloc, self.rules, &self.places)
     }
 

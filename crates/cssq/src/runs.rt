@@ -23,7 +23,7 @@ ghost use Rattle.simplecss.specs.SeenRules.{rules_of, rules_in};
 use crate::cascade::winning_among;
 use cssq_tree::tree::{Page, TreeFault};
 use log::Log;
-use simplecss::{Declaration, Report, Rule, RuleIndex, Selector, StyleSheet, Warnings};
+use simplecss::{Declaration, Recent, Report, Rule, RuleIndex, Selector, StyleSheet, Warnings};
 use std::alloc::{AllocError, AllocFailed, Global};
 use std::error::Error;
 use std::fmt;
@@ -274,8 +274,8 @@ pub enum Asked<'n> {
     Winner(&'n str),
 }
 
-/// Adds the line of the element at a place of a page, by an index of the rules. The previous items
-/// of `places` are dropped.
+/// Adds the line of the element at a place of a page, by an index of the rules and what it found for
+/// earlier elements. The previous items of `places` are dropped.
 fn push_element<'a>(
     out: &mut String,
     asked: Asked<'_>,
@@ -284,15 +284,18 @@ fn push_element<'a>(
     page: &Page<'_>,
     place: usize,
     places: &mut Vec<usize>,
+    recent: &mut Recent<'a>,
 ) -> Result<(), AllocError>
     requires index { index.now ≡ map (λ rule. rule.selector) rules.now }
     requires place { place < length page.now }
     requires number { place + 1 < 2 ^ 64 }
-    ensures { OnOk result (IsLineTold asked.entry (rules_of rules.now) page.now place
+    requires recent { recent.old ≡ index.now }
+    ensures told { OnOk result (IsLineTold asked.entry (rules_of rules.now) page.now place
         (string_bytes out.old) (string_bytes out.new)) }
+    ensures recent { recent.new ≡ recent.old }
 {
     let node = page.node(place).unwrap();
-    index.matching(rules, &node, places)?;
+    index.matching_recent(rules, &node, places, recent)?;
     let places = places.as_slice();
     match asked {
         Asked::Rules => push_line(out, place + 1, places),
@@ -314,9 +317,19 @@ pub fn page_lines<'a>(
     ensures fault { IfErr result (λ fault. fault ≡ RunFault.Memory) }
 {
     let mut places = Vec::new(alloc);
+    let mut recent = Recent::new(alloc, index)?;
     let mut text = String::new(alloc);
     for place in 0..page.len() {
-        push_element(&mut text, asked, index, rules, page, place, &mut places)?;
+        push_element(
+            &mut text,
+            asked,
+            index,
+            rules,
+            page,
+            place,
+            &mut places,
+            &mut recent,
+        )?;
     }
     Ok(text)
 }

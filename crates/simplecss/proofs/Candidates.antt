@@ -17,7 +17,8 @@ use Rattle.simplecss_selector.specs.Trees.{Tree, SiblingsShareParent}
 use Rattle.simplecss_selector.proofs.WantedLemmas.{wanted_needed}
 use Rattle.simplecss_selector.proofs.KeyBitLemmas.{covers_none, covers_test, ancestors_needed}
 use Rattle.simplecss.specs.Chains.{selectors_of, IsLastBefore, AreChained}
-use Rattle.simplecss.specs.WantedLasts.{last_wanted, WantedLeads}
+use Rattle.simplecss.specs.WantedLasts.{last_wanted}
+use Rattle.simplecss.specs.Recents.{Leads, AreStarts}
 use Rattle.simplecss.specs.Matching.{AreMatches, AreKeyed, is_covered, is_tested, AreCandidates, tested_for}
 use Rattle.simplecss.specs.SelectorPlaces.{selector_at, key_at, Adds}
 use Rattle.simplecss.specs.declared.index.link.Link.{Link}
@@ -32,58 +33,80 @@ lasts_lead lasts links selectors chained is key =
     let n : length links ≡ length selectors = sym (length-map links (λ l. l.selector.value)) ∙ ap length is in
     subst (λ ss. IsLastBefore ss (length selectors) key (last_wanted lasts key)) is (subst (λ m. IsLastBefore (selectors_of links) m key (last_wanted lasts key)) n (chained.last key))
 
-module _ (told : Near) (lasts : WantedLasts) (links : List Link) (selectors : List (List Component)) (chained : AreChained lasts links) (is : selectors_of links ≡ selectors) where
+module _ (is_wanted : Wanted → Bool) (lasts : WantedLasts) (links : List Link) (selectors : List (List Component)) (chained : AreChained lasts links) (is : selectors_of links ≡ selectors) where
   abbrev Has : ℕ → Type 0
-  Has place = IsTrue (tells_wanted told (key_at selectors place))
+  Has place = IsTrue (is_wanted (key_at selectors place))
 
   -- where a key leads, there is a selector with it
-  led_to : (place : ℕ) → WantedLeads told lasts place → (place < length selectors) × Has place
+  led_to : (place : ℕ) → Leads is_wanted lasts place → (place < length selectors) × Has place
   led_to place h =
       let at : IsLastBefore selectors (length selectors) h.0 (Some place) = subst (IsLastBefore selectors (length selectors) h.0) h.2 (lasts_lead lasts links selectors chained is h.0) in
-      (at.0, subst (λ key. IsTrue (tells_wanted told key)) (sym at.1) h.1)
+      (at.0, subst (λ key. IsTrue (is_wanted key)) (sym at.1) h.1)
 
-  -- a selector whose key is reported is the last with it, or before that
-  led_from : (place : ℕ) → place < length selectors → Has place → WantedLeads told lasts place ⊎ ((last : ℕ) × WantedLeads told lasts last × (place < last) × (key_at selectors place ≡ key_at selectors last))
+  -- a selector with a wanted key is the last with it, or before that
+  led_from : (place : ℕ) → place < length selectors → Has place → (last : ℕ) × Leads is_wanted lasts last × (place ≤ last) × (key_at selectors place ≡ key_at selectors last)
   led_from place lt has = at (last_wanted lasts (key_at selectors place)) refl (lasts_lead lasts links selectors chained is (key_at selectors place))
     where
-      order : (last : ℕ) → (place < last) ⊎ ((last ≡ place) ⊎ (last < place))
+      order : (last : ℕ) → (place ≤ last) ⊎ (last < place)
       order last = grind arith
 
-      at : (last : Option ℕ) → last_wanted lasts (key_at selectors place) ≡ last → IsLastBefore selectors (length selectors) (key_at selectors place) last → WantedLeads told lasts place ⊎ ((last : ℕ) × WantedLeads told lasts last × (place < last) × (key_at selectors place ≡ key_at selectors last))
+      at : (last : Option ℕ) → last_wanted lasts (key_at selectors place) ≡ last → IsLastBefore selectors (length selectors) (key_at selectors place) last → (last : ℕ) × Leads is_wanted lasts last × (place ≤ last) × (key_at selectors place ≡ key_at selectors last)
       at None e h = absurd (h place lt refl)
       at (Some last) e h = of_order (order last)
         where
-          of_order : (place < last) ⊎ ((last ≡ place) ⊎ (last < place)) → WantedLeads told lasts place ⊎ ((last : ℕ) × WantedLeads told lasts last × (place < last) × (key_at selectors place ≡ key_at selectors last))
-          of_order (inl l) = inr (last, (key_at selectors place, has, e), l, sym h.1)
-          of_order (inr (inl same)) = inl (key_at selectors place, has, e ∙ ap Some same)
-          of_order (inr (inr l)) = absurd (h.2 place l lt refl)
+          of_order : (place ≤ last) ⊎ (last < place) → (last : ℕ) × Leads is_wanted lasts last × (place ≤ last) × (key_at selectors place ≡ key_at selectors last)
+          of_order (inl l) = (last, (key_at selectors place, has, e), l, sym h.1)
+          of_order (inr l) = absurd (h.2 place l lt refl)
 
-  module _ (cleared starts sorted : List ℕ) (none : cleared ≡ []) (leads : Adds cleared starts (WantedLeads told lasts)) (same : (place : ℕ) → Contains sorted place ↔ Contains starts place) where
-    start_is : (place : ℕ) → Contains sorted place ↔ WantedLeads told lasts place
-    start_is place =
-        let more = added cleared starts leads place in (
-          λ c. elim (more.0 ((same place).0 c)) [ inl x ↦ absurd (contains_none place (subst (λ xs. Contains xs place) none x)) | inr y ↦ y ],
-          λ h. (same place).1 (more.1 (inr h)),
-        )
+  -- where the keys lead are starts
+  pub starts_led : (cleared places : List ℕ) → cleared ≡ [] → Adds cleared places (Leads is_wanted lasts) → AreStarts is_wanted selectors places
+  starts_led cleared places none leads = record {
+    within = λ place c. led_to place (only place c);
+    reached = λ place lt has. let last = led_from place lt has in (last.0, (added cleared places leads last.0).1 (inr last.1), last.2, last.3);
+  }
+    where
+      only : (place : ℕ) → Contains places place → Leads is_wanted lasts place
+      only place c = elim ((added cleared places leads place).0 c) [ inl x ↦ absurd (contains_none place (subst (λ xs. Contains xs place) none x)) | inr y ↦ y ]
 
-    pub start_within : (place : ℕ) → Contains sorted place → place < length selectors
-    start_within place c = (led_to place ((start_is place).0 c)).0
+  -- starts, and where other keys lead, are starts of all these keys
+  pub starts_more : (is_other is_one : Wanted → Bool) (old places : List ℕ) → ((key : Wanted) → IsTrue (is_one key) → IsTrue (is_other key) ⊎ IsTrue (is_wanted key)) → ((key : Wanted) → IsTrue (is_other key) → IsTrue (is_one key)) → ((key : Wanted) → IsTrue (is_wanted key) → IsTrue (is_one key))
+      → AreStarts is_other selectors old → Adds old places (Leads is_wanted lasts) → AreStarts is_one selectors places
+  starts_more is_other is_one old places splits from_other from_wanted starts leads = record {
+    within = λ place c. elim ((added old places leads place).0 c) [
+      | inl x ↦ let h = starts.within place x in (h.0, from_other (key_at selectors place) h.1)
+      | inr y ↦ let h = led_to place y in (h.0, from_wanted (key_at selectors place) h.1)
+    ];
+    reached = λ place lt has. elim (splits (key_at selectors place) has) [
+      | inl x ↦ let last = starts.reached place lt x in (last.0, (added old places leads last.0).1 (inl last.1), last.2, last.3)
+      | inr y ↦ let last = led_from place lt y in (last.0, (added old places leads last.0).1 (inr last.1), last.2, last.3)
+    ];
+  }
 
-    pub are_keyed : (all final : List ℕ) → Adds sorted all (Behind selectors sorted) → IsStrictlyIncreasing final → ((place : ℕ) → Contains final place ↔ Contains all place) → AreKeyed told selectors final
-    are_keyed all final behind up same_again = record {
-      ascending = up;
-      exactly = λ place. (λ c. there place ((added sorted all behind place).0 ((same_again place).0 c)), λ h. (same_again place).1 ((added sorted all behind place).1 (back place (led_from place h.0 h.1))));
-    }
-      where
-        there : (place : ℕ) → Contains sorted place ⊎ Behind selectors sorted place → (place < length selectors) × Has place
-        there place (inl c) = led_to place ((start_is place).0 c)
-        there place (inr h) =
-            let last = led_to h.0 ((start_is h.0).0 h.1) in
-            (omega (arith, h.2, last.0), subst (λ key. IsTrue (tells_wanted told key)) (sym h.3) last.1)
+  pub led_within : (old places sorted : List ℕ) → ((place : ℕ) → Contains old place → place < length selectors) → Adds old places (Leads is_wanted lasts) → ((place : ℕ) → Contains sorted place ↔ Contains places place) → (place : ℕ) → Contains sorted place → place < length selectors
+  led_within old places sorted within leads same place c = elim ((added old places leads place).0 ((same place).0 c)) [ inl x ↦ within place x | inr y ↦ (led_to place y).0 ]
 
-        back : (place : ℕ) → WantedLeads told lasts place ⊎ ((last : ℕ) × WantedLeads told lasts last × (place < last) × (key_at selectors place ≡ key_at selectors last)) → Contains sorted place ⊎ Behind selectors sorted place
-        back place (inl h) = inl ((start_is place).1 h)
-        back place (inr h) = inr (h.0, (start_is h.0).1 h.1, h.2, h.3)
+-- the starts, and what stands before them in their chains, are all selectors whose key is told
+pub are_keyed : (told : Near) (selectors : List (List Component)) (starts sorted all final : List ℕ) → AreStarts (tells_wanted told) selectors starts → ((place : ℕ) → Contains sorted place ↔ Contains starts place)
+    → Adds sorted all (Behind selectors sorted) → IsStrictlyIncreasing final → ((place : ℕ) → Contains final place ↔ Contains all place) → AreKeyed told selectors final
+are_keyed told selectors starts sorted all final are same behind up same_again = record {
+  ascending = up;
+  exactly = λ place. (λ c. there place ((added sorted all behind place).0 ((same_again place).0 c)), λ h. (same_again place).1 ((added sorted all behind place).1 (back place (are.reached place h.0 h.1))));
+}
+  where
+    there : (place : ℕ) → Contains sorted place ⊎ Behind selectors sorted place → (place < length selectors) × IsTrue (tells_wanted told (key_at selectors place))
+    there place (inl c) = are.within place ((same place).0 c)
+    there place (inr h) =
+        let last = are.within h.0 ((same h.0).0 h.1) in
+        (omega (arith, h.2, last.0), subst (λ key. IsTrue (tells_wanted told key)) (sym h.3) last.1)
+
+    order : (place last : ℕ) → place ≤ last → (last ≡ place) ⊎ (place < last)
+    order place last le = grind arith
+
+    back : (place : ℕ) → (last : ℕ) × Contains starts last × (place ≤ last) × (key_at selectors place ≡ key_at selectors last) → Contains sorted place ⊎ Behind selectors sorted place
+    back place h = elim (order place h.0 h.2) [
+      | inl e ↦ inl (subst (λ p. Contains sorted p) e ((same h.0).1 h.1))
+      | inr l ↦ inr (h.0, (same h.0).1 h.1, l, h.3)
+    ]
 
 filter_contains : (p : ℕ → Bool) (xs : List ℕ) (x : ℕ) → Contains (filter p xs) x ↔ (Contains xs x × IsTrue (p x))
 filter_contains p [] x = (λ c. absurd (contains_none x c), λ h. absurd (contains_none x h.0))

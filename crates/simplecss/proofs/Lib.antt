@@ -18,5 +18,6 @@ pub mod Following
 pub mod Chaining
 pub mod AskedInTurn
 pub mod Candidates
+pub mod RecentSlots
 pub mod Keeping
 pub mod Reports

@@ -3,13 +3,17 @@
 use Rattle.std.proofs.Common.{◌≡◌, ℕ, ◌↔◌, ◌⊎◌, inl, inr, List, true, false, IsTrue, Option, None, Some, refl, ap, ◌∙◌}
 use Rattle.std.specs.Option.{option_map_or}
 use Rattle.std.proofs.lemmas.Bool.{false≢true}
-use Rattle.simplecss_selector.specs.Keys.{Key, Told, tells_key}
+use Rattle.std.proofs.lemmas.Slice.Eq.{bytes_eq-Decides}
+use Rattle.simplecss_text.specs.Components.Operator.{equals, has_word}
+use Rattle.simplecss_selector.specs.Keys.{Key, Told, tells_key, is_value_as_asked}
+use Rattle.simplecss_selector.specs.Keys.Key.{by_id, by_class, by_name, by_attribute, by_nothing}
 use Rattle.simplecss_selector.specs.Trees.{Tree}
 use Rattle.simplecss_selector.specs.Wanted.{Wanted, Near, tells_wanted, IsToldOf, IsNear}
 use Rattle.simplecss_selector.specs.Wanted.Wanted.{of_element, of_parent, of_previous}
-use Rattle.simplecss.specs.Lasts.{last_for, TakesPlace, KeyLeads}
+use Rattle.simplecss.specs.Lasts.{last_for, TakesPlace, IdLeads, ClassLeads, AttributeLeads}
 use Rattle.simplecss.specs.SelectorPlaces.{Adds}
-use Rattle.simplecss.specs.WantedLasts.{last_wanted, TakesWanted, NeighbourLeads, WantedLeads}
+use Rattle.simplecss.specs.WantedLasts.{last_wanted, TakesWanted, NeighbourLeads}
+use Rattle.simplecss.specs.Recents.{Leads, adds_wanted, names_wanted}
 use Rattle.simplecss.specs.declared.index.lasts.Lasts.{Lasts}
 use Rattle.simplecss.specs.declared.index.wanted_lasts.WantedLasts.{WantedLasts}
 use Rattle.simplecss.proofs.Adding.{adds_none, adds_then, adds_as}
@@ -42,11 +46,40 @@ none_wanted lasts own parent previous (of_previous key) = previous key
 pub no_neighbour : (lasts : Lasts) (places : List ℕ) → Adds places places (NeighbourLeads lasts None)
 no_neighbour lasts places = adds_none places (NeighbourLeads lasts None) (λ place h. h)
 
-module _ (near : Near) (lasts : WantedLasts) (place : ℕ) where
-  abbrev ThreeLead : Type 0
-  ThreeLead = (KeyLeads near.own lasts.own place ⊎ NeighbourLeads lasts.parent near.parent place) ⊎ NeighbourLeads lasts.previous near.previous place
+-- an element's keys are those that its name and classes report, and the others
+module _ (near : Near) where
+  pub key_parts : (wanted : Wanted) → IsTrue (tells_wanted near wanted) → IsTrue (adds_wanted near wanted) ⊎ IsTrue (names_wanted near.own.name near.own.class wanted)
+  key_parts (of_element (by_id text)) h = inl h
+  key_parts (of_element (by_class word)) h = inr h
+  key_parts (of_element (by_name name)) h = inr h
+  key_parts (of_element (by_attribute name)) h = inl h
+  key_parts (of_element by_nothing) h = inr h
+  key_parts (of_parent key) h = inl h
+  key_parts (of_previous key) h = inl h
 
-  beside_to : (kind : Key → Wanted) (l : Lasts) (t : Option Told) → ((k : Key) → tells_wanted near (kind k) ≡ option_map_or (λ told. tells_key told k) t false) → ((k : Key) → last_wanted lasts (kind k) ≡ last_for l k) → NeighbourLeads l t place → WantedLeads near lasts place
+  pub added_key : (wanted : Wanted) → IsTrue (adds_wanted near wanted) → IsTrue (tells_wanted near wanted)
+  added_key (of_element (by_id text)) h = h
+  added_key (of_element (by_class word)) h = absurd (false≢true h)
+  added_key (of_element (by_name name)) h = absurd (false≢true h)
+  added_key (of_element (by_attribute name)) h = h
+  added_key (of_element by_nothing) h = absurd (false≢true h)
+  added_key (of_parent key) h = h
+  added_key (of_previous key) h = h
+
+  pub named_key : (wanted : Wanted) → IsTrue (names_wanted near.own.name near.own.class wanted) → IsTrue (tells_wanted near wanted)
+  named_key (of_element (by_id text)) h = absurd (false≢true h)
+  named_key (of_element (by_class word)) h = h
+  named_key (of_element (by_name name)) h = h
+  named_key (of_element (by_attribute name)) h = absurd (false≢true h)
+  named_key (of_element by_nothing) h = refl
+  named_key (of_parent key) h = absurd (false≢true h)
+  named_key (of_previous key) h = absurd (false≢true h)
+
+module _ (near : Near) (lasts : WantedLasts) (place : ℕ) where
+  abbrev FourLead : Type 0
+  FourLead = ((IdLeads lasts.own near.own.id place ⊎ AttributeLeads lasts.own near.own.has_attribute place) ⊎ NeighbourLeads lasts.parent near.parent place) ⊎ NeighbourLeads lasts.previous near.previous place
+
+  beside_to : (kind : Key → Wanted) (l : Lasts) (t : Option Told) → ((k : Key) → adds_wanted near (kind k) ≡ option_map_or (λ told. tells_key told k) t false) → ((k : Key) → last_wanted lasts (kind k) ≡ last_for l k) → NeighbourLeads l t place → Leads (adds_wanted near) lasts place
   beside_to kind l None tells leads h = absurd h
   beside_to kind l (Some t) tells leads h = (kind h.0, tells h.0 ∙ h.1, leads h.0 ∙ h.2)
 
@@ -54,26 +87,73 @@ module _ (near : Near) (lasts : WantedLasts) (place : ℕ) where
   beside_from l None k has is = absurd (false≢true has)
   beside_from l (Some t) k has is = (k, has, is)
 
-  near_leads : ThreeLead ↔ WantedLeads near lasts place
-  near_leads = (there, λ h. back h.0 h.1 h.2)
+  id_to : (id : Option (List ℕ)) → near.own.id ≡ id → IdLeads lasts.own id place → Leads (adds_wanted near) lasts place
+  id_to None e h = absurd h
+  id_to (Some text) e h = (of_element (by_id text), ap (is_value_as_asked (equals text)) e ∙ (bytes_eq-Decides text text).1 refl, h)
+
+  id_from : (id : Option (List ℕ)) (text : List ℕ) → is_value_as_asked (equals text) id ≡ true → last_for lasts.own (by_id text) ≡ Some place → IdLeads lasts.own id place
+  id_from None text has is = absurd (false≢true has)
+  id_from (Some own) text has is = ap (λ x. last_for lasts.own (by_id x)) ((bytes_eq-Decides own text).0 has) ∙ is
+
+  beside_leads : FourLead ↔ Leads (adds_wanted near) lasts place
+  beside_leads = (there, λ h. back h.0 h.1 h.2)
     where
-      there : ThreeLead → WantedLeads near lasts place
-      there (inl (inl h)) = (of_element h.0, h.1, h.2)
+      there : FourLead → Leads (adds_wanted near) lasts place
+      there (inl (inl (inl h))) = id_to near.own.id refl h
+      there (inl (inl (inr h))) = (of_element (by_attribute h.0), h.1, h.2)
       there (inl (inr h)) = beside_to of_parent lasts.parent near.parent (λ k. refl) (λ k. refl) h
       there (inr h) = beside_to of_previous lasts.previous near.previous (λ k. refl) (λ k. refl) h
 
-      back : (wanted : Wanted) → IsTrue (tells_wanted near wanted) → last_wanted lasts wanted ≡ Some place → ThreeLead
-      back (of_element k) has is = inl (inl (k, has, is))
+      back : (wanted : Wanted) → IsTrue (adds_wanted near wanted) → last_wanted lasts wanted ≡ Some place → FourLead
+      back (of_element (by_id text)) has is = inl (inl (inl (id_from near.own.id text has is)))
+      back (of_element (by_class word)) has is = absurd (false≢true has)
+      back (of_element (by_name name)) has is = absurd (false≢true has)
+      back (of_element (by_attribute name)) has is = inl (inl (inr (name, has, is)))
+      back (of_element by_nothing) has is = absurd (false≢true has)
       back (of_parent k) has is = inl (inr (beside_from lasts.parent near.parent k has is))
       back (of_previous k) has is = inr (beside_from lasts.previous near.previous k has is)
 
--- what the element and its neighbours report was added
-pub near_added : {Node Self : Type 0} (tree : Tree Node) (node : Self → Node) (told : Self → Told) (element : Self) (lasts : WantedLasts) (a b c d : List ℕ)
-    → Adds a b (KeyLeads (told element) lasts.own)
-    → (t : Option Told) × IsToldOf node told (tree.parent (node element)) t × Adds b c (NeighbourLeads lasts.parent t)
-    → (t : Option Told) × IsToldOf node told (tree.previous_sibling (node element)) t × Adds c d (NeighbourLeads lasts.previous t)
-    → (near : Near) × IsNear tree node told element near × Adds a d (WantedLeads near lasts)
-near_added tree node told element lasts a b c d own (p, p_is, p_adds) (q, q_is, q_adds) =
+-- what the element reports besides its name and classes, and what its neighbours report, was added
+pub beside_added : {Node Self : Type 0} (tree : Tree Node) (node : Self → Node) (told : Self → Told) (element : Self) (lasts : WantedLasts) (a b c d e : List ℕ)
+    → Adds a b (IdLeads lasts.own (told element).id) → Adds b c (AttributeLeads lasts.own (told element).has_attribute)
+    → (t : Option Told) × IsToldOf node told (tree.parent (node element)) t × Adds c d (NeighbourLeads lasts.parent t)
+    → (t : Option Told) × IsToldOf node told (tree.previous_sibling (node element)) t × Adds d e (NeighbourLeads lasts.previous t)
+    → (near : Near) × IsNear tree node told element near × Adds a e (Leads (adds_wanted near) lasts)
+beside_added tree node told element lasts a b c d e by_ids by_attributes (p, p_is, p_adds) (q, q_is, q_adds) =
     let near : Near = record { own = told element; parent = p; previous = q } in
     let is_near : IsNear tree node told element near = record { own = refl; parent = p_is; previous = q_is } in
-    (near, is_near, adds_as a d (near_leads near lasts) (adds_then a c d (adds_then a b c own p_adds) q_adds))
+    (near, is_near, adds_as a e (beside_leads near lasts) (adds_then a d e (adds_then a c d (adds_then a b c by_ids by_attributes) p_adds) q_adds))
+
+module _ (lasts : WantedLasts) (name : List ℕ) (class : Option (List ℕ)) (place : ℕ) where
+  abbrev ThreeLead : Type 0
+  ThreeLead = ((last_for lasts.own by_nothing ≡ Some place) ⊎ (last_for lasts.own (by_name name) ≡ Some place)) ⊎ ClassLeads lasts.own class place
+
+  class_to : (value : Option (List ℕ)) → class ≡ value → ClassLeads lasts.own value place → Leads (names_wanted name class) lasts place
+  class_to None e h = absurd h
+  class_to (Some value) e h = (of_element (by_class h.0), ap (is_value_as_asked (has_word h.0)) e ∙ h.1, h.2)
+
+  class_from : (value : Option (List ℕ)) (word : List ℕ) → is_value_as_asked (has_word word) value ≡ true → last_for lasts.own (by_class word) ≡ Some place → ClassLeads lasts.own value place
+  class_from None word has is = absurd (false≢true has)
+  class_from (Some value) word has is = (word, has, is)
+
+  named_leads : ThreeLead ↔ Leads (names_wanted name class) lasts place
+  named_leads = (there, λ h. back h.0 h.1 h.2)
+    where
+      there : ThreeLead → Leads (names_wanted name class) lasts place
+      there (inl (inl h)) = (of_element by_nothing, refl, h)
+      there (inl (inr h)) = (of_element (by_name name), (bytes_eq-Decides name name).1 refl, h)
+      there (inr h) = class_to class refl h
+
+      back : (wanted : Wanted) → IsTrue (names_wanted name class wanted) → last_wanted lasts wanted ≡ Some place → ThreeLead
+      back (of_element (by_id text)) has is = absurd (false≢true has)
+      back (of_element (by_class word)) has is = inr (class_from class word has is)
+      back (of_element (by_name other)) has is = inl (inr (ap (λ x. last_for lasts.own (by_name x)) ((bytes_eq-Decides name other).0 has) ∙ is))
+      back (of_element (by_attribute own)) has is = absurd (false≢true has)
+      back (of_element by_nothing) has is = inl (inl is)
+      back (of_parent k) has is = absurd (false≢true has)
+      back (of_previous k) has is = absurd (false≢true has)
+
+-- what a name and a class value tell was added
+pub named_added : (lasts : WantedLasts) (name : List ℕ) (class : Option (List ℕ)) (a b c d : List ℕ) → Adds a b (λ place. last_for lasts.own by_nothing ≡ Some place) → Adds b c (λ place. last_for lasts.own (by_name name) ≡ Some place)
+    → Adds c d (ClassLeads lasts.own class) → Adds a d (Leads (names_wanted name class) lasts)
+named_added lasts name class a b c d any named classes = adds_as a d (named_leads lasts name class) (adds_then a c d (adds_then a b c any named) classes)

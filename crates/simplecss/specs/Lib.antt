@@ -11,6 +11,7 @@ pub mod Chains
 pub mod TextPlaces
 pub mod Lasts
 pub mod WantedLasts
+pub mod Recents
 -- What contracts of the crates below name, under the names of this crate.
 pub use Rattle.simplecss_declaration.specs.UntoldFaults
 pub use Rattle.simplecss_declaration.specs.DeclarationTokenizers

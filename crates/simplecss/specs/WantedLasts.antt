@@ -1,7 +1,7 @@
 -- The last index for each selector's key, on the element, its parent or its previous sibling.
-use Rattle.std.specs.Prelude.{◌≡◌, ◌⊎◌, ℕ, Option, None, Some, IsTrue}
+use Rattle.std.specs.Prelude.{◌≡◌, ◌⊎◌, ℕ, Option, None, Some}
 use Rattle.simplecss_selector.specs.Keys.{Told}
-use Rattle.simplecss_selector.specs.Wanted.{Wanted, Near, tells_wanted}
+use Rattle.simplecss_selector.specs.Wanted.{Wanted}
 use Rattle.simplecss_selector.specs.Wanted.Wanted.{of_element, of_parent, of_previous}
 use Rattle.simplecss.specs.Lasts.{last_for, KeyLeads}
 use Rattle.simplecss.specs.declared.index.lasts.Lasts.{Lasts}
@@ -23,8 +23,3 @@ TakesWanted old new wanted place = (other : Wanted)
 abbrev pub NeighbourLeads : Lasts → Option Told → ℕ → Type 0
 NeighbourLeads lasts None place = ⊥
 NeighbourLeads lasts (Some told) place = KeyLeads told lasts place
-
--- a wanted key that is reported leads to the index
-abbrev pub WantedLeads : Near → WantedLasts → ℕ → Type 0
-WantedLeads near lasts place =
-    (wanted : Wanted) × IsTrue (tells_wanted near wanted) × (last_wanted lasts wanted ≡ Some place)

@@ -5,8 +5,10 @@ mod keep;
 mod lasts;
 pub mod laws;
 mod link;
+mod recent;
 mod rule_index;
 mod texts;
 mod wanted_lasts;
 
+pub use recent::Recent;
 pub use rule_index::RuleIndex;

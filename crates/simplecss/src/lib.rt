@@ -17,7 +17,7 @@ mod index;
 pub mod laws;
 mod sheet;
 
-pub use index::RuleIndex;
+pub use index::{Recent, RuleIndex};
 pub use sheet::{Rule, SheetError, Statement, StatementReader, StyleSheet, find_skipped};
 pub use simplecss_declaration::{Declaration, DeclarationTokenizer};
 pub use simplecss_selector::{

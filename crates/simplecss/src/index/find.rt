@@ -7,11 +7,13 @@ ghost use Rattle.simplecss.specs.Lasts.{last_for, IdLeads, ClassLeads, Attribute
 ghost use Rattle.simplecss_selector.specs.Keys.{Told};
 ghost use Rattle.simplecss_selector.specs.KeyBits.{CoversAncestors};
 ghost use Rattle.simplecss_selector.specs.Wanted.{Near, IsNear, IsToldOf};
-ghost use Rattle.simplecss.specs.WantedLasts.{NeighbourLeads, WantedLeads};
+ghost use Rattle.simplecss.specs.WantedLasts.{NeighbourLeads};
+ghost use Rattle.simplecss.specs.Recents.{Leads, adds_wanted, names_wanted, AreStarts};
 ghost use Rattle.simplecss.specs.Matching.{AreKeyed, AreCandidates, is_covered};
 ghost use Rattle.simplecss.specs.SelectorPlaces.{key_at, selector_at, Adds};
 
 use super::lasts::Lasts;
+use super::recent::Recent;
 use super::rule_index::RuleIndex;
 use super::wanted_lasts::WantedLasts;
 use simplecss_selector::{AttributeOperator, Key, Keyed};
@@ -156,18 +158,35 @@ fn push_neighbour<E: Keyed>(
     }
 }
 
-/// Adds the last places of what the element, its parent and its previous sibling report.
-fn push_near<E: Keyed>(
+/// Adds the last places of what the element reports by its id and by other attributes, and of what
+/// its parent and its previous sibling report.
+fn push_beside<E: Keyed>(
     lasts: &WantedLasts<'_>,
     element: &E,
     places: &mut Vec<usize>,
 ) -> Result<(), AllocError>
     ensures { OnOk result ((near : Near) × IsNear E.tree E.node E.told element.now near
-        × Adds places.old.items places.new.items (WantedLeads near lasts.now)) }
+        × Adds places.old.items places.new.items (Leads (adds_wanted near) lasts.now)) }
 {
-    push_keys_of(&lasts.own, element, places)?;
+    push_id(&lasts.own, element.id_value(), places)?;
+    push_attributes(&lasts.own, element, places)?;
     push_neighbour(&lasts.parent, element.parent_element(), places)?;
     push_neighbour(&lasts.previous, element.prev_sibling_element(), places)
+}
+
+/// Adds the last places of what an element with this name and this class value reports by them.
+fn push_named(
+    lasts: &WantedLasts<'_>,
+    name: &str,
+    class: Option<&str>,
+    places: &mut Vec<usize>,
+) -> Result<(), AllocError>
+    ensures { OnOk result (Adds places.old.items places.new.items
+        (Leads (names_wanted name.now (option_map (λ value. value.now) class.entry)) lasts.now)) }
+{
+    push_last(&lasts.own, Key::Any, places)?;
+    push_last(&lasts.own, Key::Name(name), places)?;
+    push_classes(&lasts.own, class, places)
 }
 
 /// Adds the earlier places with the key of this one.
@@ -201,24 +220,94 @@ fn push_all_earlier(rule_index: &RuleIndex<'_>, places: &mut Vec<usize>) -> Resu
     Ok(())
 }
 
-/// Leaves the places of the rules whose key is reported, in order. A word that the element's class
-/// repeats costs one look-up and one place more, and that place is dropped before the chains are
-/// followed.
+/// Leaves the last places of the keys that the element, its parent or its previous sibling reports
+/// otherwise than by the element's name and classes.
 #[inline(always)]
-fn find_keyed<E: Keyed>(
+fn find_beside<E: Keyed>(
     rule_index: &RuleIndex<'_>,
     element: &E,
     places: &mut Vec<usize>,
 ) -> Result<(), AllocError>
     ensures { OnOk result ((near : Near) × IsNear E.tree E.node E.told element.now near
-        × AreKeyed near rule_index.now places.new.items) }
+        × AreStarts (adds_wanted near) rule_index.now places.new.items) }
 {
     places.clear();
-    push_near(&rule_index.lasts, element, places)?;
+    push_beside(&rule_index.lasts, element, places)
+}
+
+/// Adds the places of the rules whose key an element with this name and this class value reports to
+/// those of the last places that are there, and puts all in order. A word that the class value
+/// repeats costs one look-up and one place more, and that place is dropped before the chains are
+/// followed.
+fn find_named(
+    rule_index: &RuleIndex<'_>,
+    name: &str,
+    class: Option<&str>,
+    places: &mut Vec<usize>,
+) -> Result<(), AllocError>
+    requires { (place : ℕ) → Contains places.old.items place → place < length rule_index.now }
+    ensures { OnOk result ((near : Near) → near.own.name ≡ name.now
+        → near.own.class ≡ option_map (λ value. value.now) class.entry
+        → AreStarts (adds_wanted near) rule_index.now places.old.items
+        → AreKeyed near rule_index.now places.new.items) }
+{
+    push_named(&rule_index.lasts, name, class, places)?;
     sort_once(places);
     push_all_earlier(rule_index, places)?;
     sort_once(places);
     Ok(())
+}
+
+/// Does what [`find_named`] does. Where no place is there, the result is taken from an earlier
+/// search by the same name and class value, or kept for later ones.
+#[inline(always)]
+fn find_again(
+    rule_index: &RuleIndex<'_>,
+    name: &str,
+    class: Option<&str>,
+    places: &mut Vec<usize>,
+    recent: &mut Recent<'_>,
+) -> Result<(), AllocError>
+    requires within { (place : ℕ) → Contains places.old.items place → place < length rule_index.now }
+    requires recent { recent.old ≡ rule_index.now }
+    ensures found { OnOk result ((near : Near) → near.own.name ≡ name.now
+        → near.own.class ≡ option_map (λ value. value.now) class.entry
+        → AreStarts (adds_wanted near) rule_index.now places.old.items
+        → AreKeyed near rule_index.now places.new.items) }
+    ensures recent { recent.new ≡ recent.old }
+{
+    if !places.is_empty() {
+        return find_named(rule_index, name, class, places);
+    }
+    if let Some(known) = recent.get(name, class) {
+        places.extend_from_slice(known)?;
+        return Ok(());
+    }
+    find_named(rule_index, name, class, places)?;
+    recent.keep(name, class, places)
+}
+
+/// Leaves the places of the rules whose key is reported, in order.
+#[inline(always)]
+fn find_keyed<E: Keyed>(
+    rule_index: &RuleIndex<'_>,
+    element: &E,
+    places: &mut Vec<usize>,
+    recent: &mut Recent<'_>,
+) -> Result<(), AllocError>
+    requires { recent.old ≡ rule_index.now }
+    ensures found { OnOk result ((near : Near) × IsNear E.tree E.node E.told element.now near
+        × AreKeyed near rule_index.now places.new.items) }
+    ensures recent { recent.new ≡ recent.old }
+{
+    find_beside(rule_index, element, places)?;
+    find_again(
+        rule_index,
+        element.local_name(),
+        element.class_value(),
+        places,
+        recent,
+    )
 }
 
 /// Keeps the places of the rules whose ancestors' keys the bits cover.
@@ -236,12 +325,15 @@ pub(crate) fn candidates<E: Keyed>(
     rule_index: &RuleIndex<'_>,
     element: &E,
     places: &mut Vec<usize>,
+    recent: &mut Recent<'_>,
 ) -> Result<(), AllocError>
-    ensures { OnOk result ((near : Near) × IsNear E.tree E.node E.told element.now near
+    requires { recent.old ≡ rule_index.now }
+    ensures found { OnOk result ((near : Near) × IsNear E.tree E.node E.told element.now near
         × (above : ℕ) × CoversAncestors E.tree (E.node element.now) above
         × AreCandidates near above rule_index.now places.new.items) }
+    ensures recent { recent.new ≡ recent.old }
 {
-    find_keyed(rule_index, element, places)?;
+    find_keyed(rule_index, element, places, recent)?;
     keep_covered(rule_index, element.ancestor_bits(), places);
     Ok(())
 }

@@ -11,6 +11,7 @@ ghost use Rattle.simplecss.specs.Matching.{AreMatches, most_tests, is_covered, t
 use super::find::candidates;
 use super::keep::keep_matching;
 use super::link::Link;
+use super::recent::Recent;
 use super::wanted_lasts::WantedLasts;
 use crate::sheet::Rule;
 use simplecss_selector::{Keyed, Tests};
@@ -129,6 +130,26 @@ impl<'a> RuleIndex<'a> {
         self.matching_counted(rules, element, places, &mut Tests::new())
     }
 
+    /// Does what [`RuleIndex::matching`] does, and keeps in `recent`, which was made of this index,
+    /// what it found by the element's name and classes. For a later element with the same name and
+    /// the same class value that is not looked up again.
+    pub fn matching_recent<E: Keyed>(
+        &self,
+        rules: &[Rule<'a>],
+        element: &E,
+        places: &mut Vec<usize>,
+        recent: &mut Recent<'a>,
+    ) -> Result<(), AllocError>
+        requires index { self.now ≡ map (λ rule. rule.selector) rules.now }
+        requires recent { recent.old ≡ self.now }
+        ensures matches { OnOk result
+            (AreMatches E.tree (E.node element.now) self.now places.new.items) }
+        ensures err { OnErr result (places.new.items ≡ []) }
+        ensures recent { recent.new ≡ recent.old }
+    {
+        self.matching_all(rules, element, places, recent, &mut Tests::new())
+    }
+
     /// `matching`, with a count of the tests that were made. A rule is tested only if its key is
     /// reported (`Selector::wanted`: by the element, its parent or its previous sibling), and
     /// `Keyed::ancestor_bits` covers the bits of `Selector::ancestor_bits`.
@@ -151,7 +172,35 @@ impl<'a> RuleIndex<'a> {
         ensures err { OnErr result (places.new.items ≡ []) }
         ensures untested { OnErr result (tests.new ≡ tests.old) }
     {
-        if let Err(error) = candidates(self, element, places) {
+        let mut recent = Recent::none(*places.allocator(), self);
+        self.matching_all(rules, element, places, &mut recent, tests)
+    }
+
+    /// `matching_counted` and `matching_recent` at once.
+    #[inline(always)]
+    fn matching_all<E: Keyed>(
+        &self,
+        rules: &[Rule<'a>],
+        element: &E,
+        places: &mut Vec<usize>,
+        recent: &mut Recent<'a>,
+        tests: &mut Tests,
+    ) -> Result<(), AllocError>
+        requires index { self.now ≡ map (λ rule. rule.selector) rules.now }
+        requires recent { recent.old ≡ self.now }
+        ensures matches { OnOk result
+            (AreMatches E.tree (E.node element.now) self.now places.new.items) }
+        ensures tests { OnOk result ((near : Near)
+            × IsNear E.tree E.node E.told element.now near
+            × (above : ℕ) × CoversAncestors E.tree (E.node element.now) above
+            × (tests.old + length (tested_for near above self.now) ≤ tests.new)
+            × (tests.new ≤ tests.old + sum_by (most_tests E.tree (E.node element.now))
+            (tested_for near above self.now))) }
+        ensures err { OnErr result (places.new.items ≡ []) }
+        ensures untested { OnErr result (tests.new ≡ tests.old) }
+        ensures recent { recent.new ≡ recent.old }
+    {
+        if let Err(error) = candidates(self, element, places, recent) {
             places.clear();
             return Err(error);
         }

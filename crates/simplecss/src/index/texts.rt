@@ -24,7 +24,7 @@ pub(crate) struct Texts<'a> {
 
 /// Returns the number of the word that has the bit of a text.
 #[inline(always)]
-fn word_of(text: &str) -> usize
+pub(crate) fn word_of(text: &str) -> usize
     ensures value { result ≡ word_of text.now }
     ensures within { result < 64 }
 {

@@ -20,7 +20,7 @@ found c =
     let at = subst (λ r. MatchOption r (length c.args.page.now ≤ c.args.place) (λ node. (c.args.place < length c.args.page.now) × (node ≡ spot c.args.page.now c.args.place))) c.unwrap-node.ensures c.node.ensures in
     subst (λ node. AreMatches page_tree node (map (λ rule. rule.selector) c.args.rules.now) c.as_slice-places.result.now) at.1
     (subst (λ selectors. AreMatches page_tree c.unwrap-node.result selectors c.as_slice-places.result.now) c.requires.index
-    (subst (AreMatches page_tree c.unwrap-node.result c.args.index.now) (sym c.as_slice-places.ensures.value) c.in_ok-matching.ensures.matches))
+    (subst (AreMatches page_tree c.unwrap-node.result c.args.index.now) (sym c.as_slice-places.ensures.value) c.in_ok-matching_recent.ensures.matches))
 
 pub push_line-requires : goal.push_line-requires
 push_line-requires c = λ k d within.
@@ -35,15 +35,15 @@ winning_among-requires c = λ k d within.
     let same = get_or_default c.as_slice-places.result.now k d 0 within in
     omega (arith, at, same)
 
-pub returns-in-Rules : goal.returns-in-Rules
-returns-in-Rules c =
-    let are = subst (λ selectors. AreMatches page_tree (spot c.args.page.now c.args.place) selectors c.as_slice-places.result.now) (same_selectors rule_of c.args.rules.now) (found (goal.at.returns-in-Rules c).After-as_slice-places) in
+pub returns-in-Rules-clause-told : goal.returns-in-Rules-clause-told
+returns-in-Rules-clause-told c =
+    let are = subst (λ selectors. AreMatches page_tree (spot c.args.page.now c.args.place) selectors c.as_slice-places.result.now) (same_selectors rule_of c.args.rules.now) (found (goal.at.returns-in-Rules-clause-told c).After-as_slice-places) in
     subst (λ asked. OnOk c.push_line.result (IsLineTold asked (rules_of c.args.rules.now) c.args.page.now c.args.place (string_bytes c.args.out.now) (string_bytes c.push_line.new.out))) (sym c.in-Rules.is)
     (on_ok_weaker c.push_line.result (λ wrote. (numbers_line (c.args.place + 1) (map (λ place. place + 1) c.as_slice-places.result.now), numbers_told (rules_of c.args.rules.now) (spot c.args.page.now c.args.place) c.as_slice-places.result.now are c.args.page.now c.args.place refl, wrote)) c.push_line.ensures)
 
-pub returns-in-Winner : goal.returns-in-Winner
-returns-in-Winner c =
+pub returns-in-Winner-clause-told : goal.returns-in-Winner-clause-told
+returns-in-Winner-clause-told c =
     let winner = option_map declaration_of c.winning_among.result in
-    let wins = c.winning_among.ensures (spot c.args.page.now c.args.place) (found (goal.at.returns-in-Winner c).After-as_slice-places) in
+    let wins = c.winning_among.ensures (spot c.args.page.now c.args.place) (found (goal.at.returns-in-Winner-clause-told c).After-as_slice-places) in
     subst (λ asked. OnOk c.push_winner.result (IsLineTold asked (rules_of c.args.rules.now) c.args.page.now c.args.place (string_bytes c.args.out.now) (string_bytes c.push_winner.new.out))) (sym c.in-Winner.is)
     (on_ok_weaker c.push_winner.result (λ wrote. (style_line (c.args.place + 1) winner, (winner, wins, refl), wrote)) c.push_winner.ensures)

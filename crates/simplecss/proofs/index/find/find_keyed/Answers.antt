@@ -1,16 +1,13 @@
-use Rattle.simplecss.proofs.Candidates.{start_within, are_keyed}
+use Rattle.std.proofs.Common.{ap, sym, ◌∙◌}
+use Rattle.std.proofs.lemmas.Result.{on_ok_weaker}
 use Rattle.simplecss.proofs.index.find.find_keyed.Goals as goal
 
-pub push_all_earlier-requires : goal.push_all_earlier-requires
-push_all_earlier-requires g c =
-    start_within c.in_ok-push_near.ensures.0 c.rule_index.inside.lasts c.rule_index.inside.links.items c.args.rule_index.now c.rule_index.invariant c.rule_index.view_is
-    c.clear.new.self.items c.push_near.new.places.items c.sort_once.new.places.items c.clear.ensures.items c.in_ok-push_near.ensures.2 c.sort_once.ensures.same
+pub find_again-requires-clause-within : goal.find_again-requires-clause-within
+find_again-requires-clause-within g c = λ place has. (c.in_ok-find_beside.ensures.2.within place has).0
 
-pub returns : goal.returns
-returns g c = (
-  c.in_ok-push_near.ensures.0,
-  c.in_ok-push_near.ensures.1,
-  are_keyed c.in_ok-push_near.ensures.0 c.rule_index.inside.lasts c.rule_index.inside.links.items c.args.rule_index.now c.rule_index.invariant c.rule_index.view_is
-      c.clear.new.self.items c.push_near.new.places.items c.sort_once.new.places.items c.clear.ensures.items c.in_ok-push_near.ensures.2 c.sort_once.ensures.same
-      c.push_all_earlier.new.places.items c.sort_once-2.new.places.items c.in_ok-push_all_earlier.ensures c.sort_once-2.ensures.ascending c.sort_once-2.ensures.same,
-)
+pub returns-clause-found : goal.returns-clause-found
+returns-clause-found g c =
+    let beside = c.in_ok-find_beside.ensures in
+    let name_is = ap (λ told. told.name) beside.1.own ∙ sym c.local_name.ensures in
+    let class_is = ap (λ told. told.class) beside.1.own ∙ sym c.class_value.ensures in
+    on_ok_weaker c.find_again.result (λ found. (beside.0, beside.1, found beside.0 name_is class_is beside.2)) c.find_again.ensures.found

@@ -1,0 +1,26 @@
+use Rattle.std.proofs.Common.{◌≡◌, ◌++◌, [], length, rules, ap, sym, ◌∙◌, subst}
+use Rattle.std.specs.Option.{option_map}
+use Rattle.simplecss.specs.Matching.{AreKeyed}
+use Rattle.simplecss.specs.Recents.{IsFound, AreStarts, adds_wanted}
+use Rattle.simplecss.proofs.RecentSlots.{no_items}
+use Rattle.simplecss.proofs.index.find.find_again.Goals as goal
+
+pub returns-in-Some-clause-found : goal.returns-in-Some-clause-found
+returns-in-Some-clause-found c = λ near name_is class_is starts.
+    let empty : length c.args.places.now.items ≡ 0 = search rules in
+    let none = no_items c.args.places.now.items empty in
+    let selectors = c.args.rule_index.now in
+    let known = c.in-Some.known.now in
+    let found = subst (λ ss. IsFound ss c.args.name.now (option_map (λ value. value.now) c.args.class) known) c.requires.recent c.in-Some.ensures in
+    subst (AreKeyed near selectors) (sym (c.in_ok-extend_from_slice.ensures.items ∙ ap (λ xs. xs ++ known) none))
+    (found near name_is class_is (subst (AreStarts (adds_wanted near) selectors) none starts))
+
+pub keep-requires : goal.keep-requires
+keep-requires c = λ near name_is class_is starts.
+    let empty : length c.args.places.now.items ≡ 0 = search rules in
+    let none = no_items c.args.places.now.items empty in
+    let selectors = c.args.rule_index.now in
+    let from_none = subst (λ ss. AreStarts (adds_wanted near) ss []) c.requires.recent starts in
+    let keyed = c.in_ok-find_named.ensures near name_is class_is (subst (AreStarts (adds_wanted near) selectors) (sym none) from_none) in
+    subst (AreKeyed near c.args.recent.now) (sym c.deref.ensures.value)
+    (subst (λ ss. AreKeyed near ss c.find_named-2.new.places.items) (sym c.requires.recent) keyed)
