@@ -10,15 +10,15 @@ use Rattle.std.proofs.lemmas.Simd.{map-map}
 use Rattle.simplecss.specs.Declarations.{StyleDeclaration}
 use Rattle.simplecss.specs.Placements.{HasPlacement}
 use Rattle.simplecss.specs.Statements.{StyleRule}
-use Rattle.simplecss.specs.SeenRules.{rule_of, rules_of}
+use Rattle.simplecss.specs.RuleViews.{rule_of, rules_of}
 use Rattle.simplecss.specs.declared.sheet.rules.Rule.{Rule}
 use Rattle.simplecss.specs.Trees.{Tree}
-use Rattle.simplecss.specs.SelectorPlaces.{selector_at}
+use Rattle.simplecss.specs.SelectorIndices.{selector_at}
 use Rattle.simplecss.specs.Matching.{AreMatches}
 use Rattle.cssq.specs.Winners.{Wins, IsStated}
-use Rattle.cssq.specs.Candidates.{InRule, IsOutdone}
+use Rattle.cssq.specs.RuleWinners.{InRule, IsOutdone}
 use Rattle.cssq.proofs.FromLast.{From, KnownFrom, known_none, known_all, known_skipped, known_passed, known_here, rule_read}
-use Rattle.cssq.proofs.Indexed.{behind, wanted_at, behind_within, none_between}
+use Rattle.cssq.proofs.Indexed.{after, wanted_at, after_within, none_between}
 
 -- the selector at a place is that of the rule there
 pub selector_there : (rules : List Rule) (k : ℕ) (rule : StyleRule) → slice_get (rules_of rules) k ≡ Some rule → selector_at (map (λ r. r.selector) rules) k ≡ rule.components
@@ -40,8 +40,8 @@ module _ {Node : Type 0} (tree : Tree Node) (n : Node) (rules : List Rule) (plac
         subst (λ place. KnownFrom (IsStated tree n (rules_of rules)) name place None) (sym end) (known_none tree n (rules_of rules) name)
 
     -- none of the rules between two consecutive places matches the element
-    between : (j : ℕ) → j ≤ length places → (w : Option StyleDeclaration) → KnownFrom (IsStated tree n (rules_of rules)) name (get_or places j (length (map (λ rule. rule.selector) rules))) w → KnownFrom (IsStated tree n (rules_of rules)) name (behind places j) w
-    between j le = known_skipped tree n (rules_of rules) name (behind places j) (get_or places j (length (map (λ rule. rule.selector) rules))) (behind_within are j le)
+    between : (j : ℕ) → j ≤ length places → (w : Option StyleDeclaration) → KnownFrom (IsStated tree n (rules_of rules)) name (get_or places j (length (map (λ rule. rule.selector) rules))) w → KnownFrom (IsStated tree n (rules_of rules)) name (after places j) w
+    between j le = known_skipped tree n (rules_of rules) name (after places j) (get_or places j (length (map (λ rule. rule.selector) rules))) (after_within are j le)
         (λ k rule from to at takes. none_between are j k le from to (subst (λ cs. HasPlacement tree cs n) (sym (selector_there rules k rule at)) takes))
 
     pub among_all : (i : ℕ) → i ≡ 0 → (w : Option StyleDeclaration) → KnownFrom (IsStated tree n (rules_of rules)) name (get_or places i (length (map (λ rule. rule.selector) rules))) w → Wins (IsStated tree n (rules_of rules)) name w
@@ -49,12 +49,12 @@ module _ {Node : Type 0} (tree : Tree Node) (n : Node) (rules : List Rule) (plac
         known_all tree n (rules_of rules) name w
         (between 0 (omega arith) w (subst (λ i. KnownFrom (IsStated tree n (rules_of rules)) name (get_or places i (length (map (λ rule. rule.selector) rules))) w) first known))
 
-    module _ (i j : ℕ) (next : i ≡ suc j) (within : j < length places) (rule : Rule) (is : rule ≡ get_or rules (get_or places j 0) rule) {A : Type 0} (f : A → StyleDeclaration) (known : Bool) (w : Option A) (tells : known ≡ is_some w) (so_far : KnownFrom (IsStated tree n (rules_of rules)) name (get_or places i (length (map (λ rule. rule.selector) rules))) (option_map f w)) where
+    module _ (i j : ℕ) (next : i ≡ suc j) (within : j < length places) (rule : Rule) (is : rule ≡ get_or rules (get_or places j 0) rule) {A : Type 0} (f : A → StyleDeclaration) (known : Bool) (w : Option A) (reports : known ≡ is_some w) (so_far : KnownFrom (IsStated tree n (rules_of rules)) name (get_or places i (length (map (λ rule. rule.selector) rules))) (option_map f w)) where
       read : slice_get (rules_of rules) (get_or places j 0) ≡ Some (rule_of rule)
       read = rule_read rules (get_or places j 0) rule (place_within j within) is
 
-      behind_it : KnownFrom (IsStated tree n (rules_of rules)) name (get_or places j 0 + 1) (option_map f w)
-      behind_it = between (suc j) (omega (arith, within)) (option_map f w) (subst (λ i. KnownFrom (IsStated tree n (rules_of rules)) name (get_or places i (length (map (λ rule. rule.selector) rules))) (option_map f w)) next so_far)
+      after_it : KnownFrom (IsStated tree n (rules_of rules)) name (get_or places j 0 + 1) (option_map f w)
+      after_it = between (suc j) (omega (arith, within)) (option_map f w) (subst (λ i. KnownFrom (IsStated tree n (rules_of rules)) name (get_or places i (length (map (λ rule. rule.selector) rules))) (option_map f w)) next so_far)
 
       same_place : get_or places j 0 ≡ get_or places j (length (map (λ rule. rule.selector) rules))
       same_place = get_or_default places j 0 (length (map (λ rule. rule.selector) rules)) within
@@ -62,10 +62,10 @@ module _ {Node : Type 0} (tree : Tree Node) (n : Node) (rules : List Rule) (plac
       pub among_passed : IsOutdone (rule_of rule) name known → KnownFrom (IsStated tree n (rules_of rules)) name (get_or places j (length (map (λ rule. rule.selector) rules))) (option_map f w)
       among_passed outdone =
           subst (λ place. KnownFrom (IsStated tree n (rules_of rules)) name place (option_map f w)) same_place
-          (known_passed tree n (rules_of rules) name (get_or places j 0) (rule_of rule) read f known w tells (λ takes. outdone) behind_it)
+          (known_passed tree n (rules_of rules) name (get_or places j 0) (rule_of rule) read f known w reports (λ takes. outdone) after_it)
 
       pub among_here : (b : StyleDeclaration) → (known ≡ true → b.important ≡ true) → ((m : ℕ) → Wins (InRule m (rule_of rule).declarations) name (Some b)) → Wins (From (IsStated tree n (rules_of rules)) (get_or places j (length (map (λ rule. rule.selector) rules)))) name (Some b)
       among_here b heavy best =
           let takes = subst (λ cs. HasPlacement tree cs n) (selector_there rules (get_or places j 0) (rule_of rule) read) (wanted_at are j within).1 in
           subst (λ place. Wins (From (IsStated tree n (rules_of rules)) place) name (Some b)) same_place
-          (known_here tree n (rules_of rules) name (get_or places j 0) (rule_of rule) read f known b w tells heavy (record { takes = takes; best = best }) behind_it)
+          (known_here tree n (rules_of rules) name (get_or places j 0) (rule_of rule) read f known b w reports heavy (record { takes = takes; best = best }) after_it)

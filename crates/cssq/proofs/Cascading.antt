@@ -6,10 +6,10 @@ use Rattle.std.specs.List.{slice_get}
 use Rattle.std.proofs.lemmas.Option.{slice_get_within, same_Some}
 use Rattle.std.proofs.lemmas.List.{take_more, take_all, length-map, get_or-map}
 use Rattle.simplecss.specs.Declarations.{StyleDeclaration}
-use Rattle.simplecss.specs.SeenDeclarations.{declaration_of, declarations_of}
+use Rattle.simplecss.specs.DeclarationViews.{declaration_of, declarations_of}
 use Rattle.simplecss.specs.declared.Declaration.{Declaration}
 use Rattle.cssq.specs.Winners.{Standing, weight, Beats, WinsAt, NoneStands, Wins, IsEarlier}
-use Rattle.cssq.specs.Candidates.{InRule, better_of}
+use Rattle.cssq.specs.RuleWinners.{InRule, better_of}
 use Rattle.cssq.specs.Winners.Beats.{by_importance, by_rule, by_place}
 
 -- ---- the order

@@ -6,12 +6,12 @@ use Rattle.std.specs.List.{slice_get}
 use Rattle.std.proofs.lemmas.Option.{slice_get_within, slice_get-map, slice_get_read, same_Some}
 use Rattle.simplecss.specs.Declarations.{StyleDeclaration}
 use Rattle.simplecss.specs.Statements.{StyleRule}
-use Rattle.simplecss.specs.SeenRules.{rule_of, rules_of}
+use Rattle.simplecss.specs.RuleViews.{rule_of, rules_of}
 use Rattle.simplecss.specs.declared.sheet.rules.Rule.{Rule}
 use Rattle.simplecss.specs.Trees.{Tree}
 use Rattle.simplecss.specs.Placements.{HasPlacement}
 use Rattle.cssq.specs.Winners.{Standing, weight, Beats, WinsAt, NoneStands, Wins, IsStated, IsEarlier}
-use Rattle.cssq.specs.Candidates.{InRule, IsCandidate, IsPassedOver}
+use Rattle.cssq.specs.RuleWinners.{InRule, IsCandidate, IsPassedOver}
 use Rattle.cssq.specs.Winners.Beats.{by_importance}
 use Rattle.cssq.proofs.Cascading.{weight_small, beats_weight, beats_earlier, not_two}
 
@@ -111,8 +111,8 @@ module _ {Node : Type 0} (tree : Tree Node) (n : Node) (rules : List StyleRule) 
   important_unbeaten : (place : ℕ) (b : StyleDeclaration) (won : Wins (From (IsStated tree n rules) place) name (Some b)) → b.important ≡ true → (k l : ℕ) (q : StyleDeclaration) → IsStated tree n rules k l q → q.name ≡ name → Beats q k l b won.0 won.1 → (k < place) ⊎ (place ≤ k) → ⊥
   important_unbeaten place b won heavy k l q stated named beats (inr late) = won.2.unbeaten k l q (late, stated) named beats
   important_unbeaten place b won heavy k l q stated named beats (inl early) =
-      let behind = won.2.stated.0 in
-      omega (arith, ap weight heavy, weight_small q.important, beats_earlier beats (omega (arith, early, behind)))
+      let after = won.2.stated.0 in
+      omega (arith, ap weight heavy, weight_small q.important, beats_earlier beats (omega (arith, early, after)))
 
   -- an important one of a later rule wins over all of earlier rules
   pub important_wins : (place : ℕ) (b : StyleDeclaration) → Wins (From (IsStated tree n rules) place) name (Some b) → b.important ≡ true → Wins (IsStated tree n rules) name (Some b)
@@ -130,9 +130,9 @@ module _ {Node : Type 0} (tree : Tree Node) (n : Node) (rules : List StyleRule) 
     module _ {A : Type 0} (f : A → StyleDeclaration) (known : Bool) where
       -- the rule at the place was skipped
       passed_unbeaten : (v : StyleDeclaration) (m j : ℕ) → place + 1 ≤ m → v.important ≡ false → IsPassedOver tree n rule name known → (k l : ℕ) (q : StyleDeclaration) → IsStated tree n rules k l q → q.name ≡ name → Beats q k l v m j → k ≡ place → ⊥
-      passed_unbeaten v m j behind light passed k l q stated named beats e =
+      passed_unbeaten v m j after light passed k l q stated named beats e =
           let q_light = (passed (stated_takes tree n rules place rule at k l q e stated) l q (stated_here tree n rules place rule at k l q e stated) named).1 in
-          omega (arith, ap weight q_light, beats_earlier beats (omega (arith, behind, e)))
+          omega (arith, ap weight q_light, beats_earlier beats (omega (arith, after, e)))
 
       pub known_passed : (w : Option A) → known ≡ is_some w → IsPassedOver tree n rule name known → KnownFrom (IsStated tree n rules) name (place + 1) (option_map f w) → KnownFrom (IsStated tree n rules) name place (option_map f w)
       known_passed None is passed so_far = record {

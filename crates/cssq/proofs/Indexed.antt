@@ -7,22 +7,22 @@ use Rattle.std.proofs.lemmas.List.Kept.{AllPairs-from_increasing}
 use Rattle.std.proofs.lemmas.List.Elements.{Contains-get_or}
 use Rattle.simplecss.specs.Placements.{HasPlacement}
 use Rattle.simplecss.specs.Statements.{StyleRule}
-use Rattle.simplecss.specs.SelectorPlaces.{selector_at, AreThePlaces}
+use Rattle.simplecss.specs.SelectorIndices.{selector_at, AreTheIndices}
 use Rattle.simplecss.specs.Matching.{AreMatches}
-use Rattle.cssq_tree.specs.TreeText.{Row}
-use Rattle.cssq_tree.specs.Nodes.{Spot, spot, page_tree}
+use Rattle.cssq_page.specs.TreeText.{Row}
+use Rattle.cssq_page.specs.PageNodes.{Spot, spot, page_tree}
 use Rattle.cssq.specs.MatchRuns.{Takes, AreAnswers, numbers_line, IsLineOf}
 use Rattle.cssq.proofs.FromLast.{before_or_from, here_or_later}
 use Rattle.cssq.proofs.MatchLines.{AnsweredSoFar, answered_none, answered_yes, answered_no}
 
 -- the place after that of number j - 1, or the first place of all
-abbrev pub behind : List ℕ → ℕ → ℕ
-behind places zero = 0
-behind places (suc j) = get_or places j 0 + 1
+abbrev pub after : List ℕ → ℕ → ℕ
+after places zero = 0
+after places (suc j) = get_or places j 0 + 1
 
 -- ---- between places
 
-module _ {P : ℕ → Type 0} {number : ℕ} {places : List ℕ} (are : AreThePlaces P number places) where
+module _ {P : ℕ → Type 0} {number : ℕ} {places : List ℕ} (are : AreTheIndices P number places) where
   -- what is at a place among them is as wanted
   pub wanted_at : (j : ℕ) → j < length places → (get_or places j 0 < number) × P (get_or places j 0)
   wanted_at j within = (are.exactly (get_or places j 0)).0 (Contains-get_or places j 0 within)
@@ -38,26 +38,26 @@ module _ {P : ℕ → Type 0} {number : ℕ} {places : List ℕ} (are : AreThePl
     | inr past ↦ (let none = get_or_past places j number past in omega (arith, none))
   ]
 
-  pub behind_within : (j : ℕ) → j ≤ length places → behind places j ≤ get_or places j number
-  behind_within zero le = omega arith
-  behind_within (suc j) le = elim (before_or_from (length places) (suc j)) [
+  pub after_within : (j : ℕ) → j ≤ length places → after places j ≤ get_or places j number
+  after_within zero le = omega arith
+  after_within (suc j) le = elim (before_or_from (length places) (suc j)) [
     | inl less ↦ (let same = get_or_default places (suc j) number 0 less in let up = rising j (suc j) (omega arith) less in omega (arith, same, up))
     | inr past ↦ (let none = get_or_past places (suc j) number past in let below = (wanted_at j (omega (arith, le))).0 in omega (arith, none, below))
   ]
 
-  apart : (j i k : ℕ) → j ≤ length places → i < length places → get_or places i k ≡ k → behind places j ≤ k → k < get_or places j number → (i < j) ⊎ (j ≤ i) → ⊥
+  apart : (j i k : ℕ) → j ≤ length places → i < length places → get_or places i k ≡ k → after places j ≤ k → k < get_or places j number → (i < j) ⊎ (j ≤ i) → ⊥
   apart zero i k le within is from to (inl less) = omega (arith, less)
   apart (suc j) i k le within is from to (inl less) = elim (here_or_later i j (omega (arith, less))) [
     | inl e ↦ (let same = get_or_default places i k 0 within ∙ ap (λ n. get_or places n 0) (sym e) in omega (arith, same, is, from))
     | inr more ↦ (let same = get_or_default places i k 0 within in let up = rising i j (omega (arith, more)) (omega (arith, le)) in omega (arith, same, is, from, up))
   ]
-  apart j i k le within is from to (inr behind_j) = elim (here_or_later j i behind_j) [
+  apart j i k le within is from to (inr after_j) = elim (here_or_later j i after_j) [
     | inl e ↦ (let same = ap (λ n. get_or places n number) (sym e) ∙ get_or_default places i number k within in omega (arith, same, is, to))
     | inr more ↦ (let here = get_or_default places j number 0 (omega (arith, more, within)) in let there = get_or_default places i k 0 within in let up = rising j i (omega (arith, more)) within in omega (arith, here, there, is, to, up))
   ]
 
   -- none that is wanted is between two consecutive places, before the first or after the last
-  pub none_between : (j k : ℕ) → j ≤ length places → behind places j ≤ k → k < get_or places j number → P k → ⊥
+  pub none_between : (j k : ℕ) → j ≤ length places → after places j ≤ k → k < get_or places j number → P k → ⊥
   none_between j k le from to wanted =
       let below = next_within j in
       let found = (are.exactly k).1 (omega (arith, to, below), wanted) in
@@ -93,17 +93,17 @@ module _ (rules : List StyleRule) (element : Spot) where
     same_number = length-map rules (λ rule. rule.components)
 
     -- up to the next place
-    up_to : (j : ℕ) → j ≤ length places → AnsweredSoFar rules element (behind places j) (take j places) → AnsweredSoFar rules element (get_or places j (length (map (λ rule. rule.components) rules))) (take j places)
+    up_to : (j : ℕ) → j ≤ length places → AnsweredSoFar rules element (after places j) (take j places) → AnsweredSoFar rules element (get_or places j (length (map (λ rule. rule.components) rules))) (take j places)
     up_to j le so_far =
         let end : ℕ = get_or places j (length (map (λ rule. rule.components) rules)) in
-        let from = behind_within are j le in
+        let from = after_within are j le in
         let most = next_within are j in
-        let same : behind places j + (end - behind places j) ≡ end = omega (arith, from) in
+        let same : after places j + (end - after places j) ≡ end = omega (arith, from) in
         subst (λ m. AnsweredSoFar rules element m (take j places)) same
-        (skipped (end - behind places j) (behind places j) so_far (omega (arith, from, most, same_number))
+        (skipped (end - after places j) (after places j) so_far (omega (arith, from, most, same_number))
         (λ k first last takes. none_between are j k le first (omega (arith, last, from)) (takes_at k (omega (arith, last, from, most, same_number)) takes)))
 
-    first_places : (j : ℕ) → j ≤ length places → AnsweredSoFar rules element (behind places j) (take j places)
+    first_places : (j : ℕ) → j ≤ length places → AnsweredSoFar rules element (after places j) (take j places)
     first_places zero le = answered_none rules element
     first_places (suc j) le =
         let within : j < length places = omega (arith, le) in
@@ -123,8 +123,8 @@ module _ (rules : List StyleRule) (element : Spot) where
         (up_to (length places) (omega arith) (first_places (length places) (omega arith))))
 
     -- the line with the numbers of these places is that of the element
-    pub numbers_told : (rows : List Row) (place : ℕ) → element ≡ spot rows place → IsLineOf rules rows place (numbers_line (place + 1) (map (λ place. place + 1) places))
-    numbers_told rows place is = (
+    pub numbers_reported : (rows : List Row) (place : ℕ) → element ≡ spot rows place → IsLineOf rules rows place (numbers_line (place + 1) (map (λ place. place + 1) places))
+    numbers_reported rows place is = (
       all_places.answers,
       subst (λ e. AreAnswers all_places.answers rules e) is (subst (λ rs. AreAnswers all_places.answers rs element) (take_all (length rules) rules (omega arith)) all_places.are),
       ap (numbers_line (place + 1)) (sym all_places.numbers),

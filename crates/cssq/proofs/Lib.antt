@@ -1,11 +1,11 @@
-pub mod StyledWrites
+pub mod FaultWrites
 pub mod Written
 pub mod MatchLines
 pub mod Operands
 pub mod Cascading
 pub mod FromLast
 pub mod Listing
-pub mod BestPlaces
+pub mod BestIndices
 pub mod Indexed
 pub mod Among
-pub mod ListedPlaces
+pub mod ListedIndices

@@ -4,7 +4,7 @@ use Rattle.std.proofs.Common.{◌≡◌, ℕ, zero, suc, ◌+◌, ◌<◌, ◌�
 use Rattle.std.specs.List.{AllZip, items_where_true, range_with_len, concat}
 use Rattle.std.proofs.lemmas.List.{take_more, length-append, map-append}
 use Rattle.simplecss.specs.Statements.{StyleRule}
-use Rattle.cssq_tree.specs.Nodes.{Spot}
+use Rattle.cssq_page.specs.PageNodes.{Spot}
 use Rattle.cssq.specs.MatchRuns.{Takes, AreAnswers, numbers_of}
 
 all_zip_push : {A B : Type 0} (R : A → B → Type 0) (xs : List A) (ys : List B) (x : A) (y : B) → AllZip R xs ys → R x y → AllZip R (xs ++ x ∷ []) (ys ++ y ∷ [])
@@ -37,9 +37,9 @@ answered_none rules element = record { answers = []; are = tt; counted = refl; n
 
 module _ {rules : List StyleRule} {element : Spot} {i : ℕ} {places : List ℕ} (so_far : AnsweredSoFar rules element i places) (rule : StyleRule) (within : i < length rules) (at : get_or rules i rule ≡ rule) where
   more : (answer : Bool) → ((answer ≡ true) ↔ Takes rule element) → AreAnswers (so_far.answers ++ answer ∷ []) (take (i + 1) rules) element
-  more answer tells =
+  more answer reports =
       subst (λ rs. AreAnswers (so_far.answers ++ answer ∷ []) rs element) (sym (take_more rules i rule within ∙ ap (λ r. take i rules ++ r ∷ []) at))
-      (all_zip_push (λ answer rule. (answer ≡ true) ↔ Takes rule element) so_far.answers (take i rules) answer rule so_far.are tells)
+      (all_zip_push (λ answer rule. (answer ≡ true) ↔ Takes rule element) so_far.answers (take i rules) answer rule so_far.are reports)
 
   longer : (answer : Bool) → length (so_far.answers ++ answer ∷ []) ≡ i + 1
   longer answer = length-append so_far.answers (answer ∷ []) ∙ ap (λ n. n + 1) so_far.counted

@@ -5,9 +5,9 @@ use Rattle.std.proofs.lemmas.Grind.{common_steps}
 use Rattle.std.specs.Prelude.{Result, Ok, Err, OnOk, OnErr, IfErr}
 use Rattle.cssq.specs.declared.runs.RunFault.{RunFault}
 use Rattle.cssq.specs.declared.runs.RunFault.TheVariants.{Refused, Tree, Memory, Output}
-use Rattle.cssq_tree.specs.declared.tree.TreeFault.{TreeFault}
-use Rattle.cssq_tree.specs.declared.tree.TreeFault.TheVariants as told
-use Rattle.cssq_tree.specs.TreeText.{tree_of, IsFaultOf}
+use Rattle.cssq_page.specs.declared.tree.TreeFault.{TreeFault}
+use Rattle.cssq_page.specs.declared.tree.TreeFault.TheVariants as reported
+use Rattle.cssq_page.specs.TreeText.{tree_of, IsFaultOf}
 use Rattle.cssq.specs.Faults.{run_fault}
 use Rattle.cssq.specs.Writing.{AppendsProperPart, Writes, FailsBeforeWriting}
 use Rattle.std.specs.Result.{IsErrAnd}
@@ -32,7 +32,7 @@ runs_written IsDue bytes (Ok x) old new due ok err fault = (bytes, due, ok)
 runs_written IsDue bytes (Err Output) old new due ok err fault = (bytes, due, err)
 runs_written IsDue bytes (Err Memory) old new due ok err fault = absurd (cc)
 runs_written IsDue bytes (Err Refused) old new due ok err fault = absurd (cc)
-runs_written IsDue bytes (Err (Tree told)) old new due ok err fault = absurd (cc)
+runs_written IsDue bytes (Err (Tree reported)) old new due ok err fault = absurd (cc)
 
 keeps_itself : (known : Option (List ℕ)) → Keeps known known
 keeps_itself None = tt
@@ -43,22 +43,22 @@ fails_unwritten : (IsDue : Result (List ℕ) RunFault → Type 0) (fault : RunFa
 fails_unwritten IsDue Memory known due = keeps_itself known
 fails_unwritten IsDue Output known due = absurd due
 fails_unwritten IsDue Refused known due = (due, keeps_itself known)
-fails_unwritten IsDue (Tree told) known due = (due, keeps_itself known)
+fails_unwritten IsDue (Tree reported) known due = (due, keeps_itself known)
 
 -- what `?` leaves where the bytes were not built
-pub runs_failed : (IsDue : Result (List ℕ) RunFault → Type 0) (r : Result (Unit {0}) RunFault) (fault : RunFault) (known : Option (List ℕ)) → IsErrAnd r (λ told. told ≡ fault) → FailsBeforeWriting IsDue fault → Writes IsDue r known known
+pub runs_failed : (IsDue : Result (List ℕ) RunFault → Type 0) (r : Result (Unit {0}) RunFault) (fault : RunFault) (known : Option (List ℕ)) → IsErrAnd r (λ reported. reported ≡ fault) → FailsBeforeWriting IsDue fault → Writes IsDue r known known
 runs_failed IsDue (Ok x) fault known is due = absurd is
-runs_failed IsDue (Err told) fault known is due = fails_unwritten IsDue told known (subst (FailsBeforeWriting IsDue) (sym is) due)
+runs_failed IsDue (Err reported) fault known is due = fails_unwritten IsDue reported known (subst (FailsBeforeWriting IsDue) (sym is) due)
 
 -- what `?` returns, where the fault is as wanted
-pub failed_with : {V : Type 0} (P : RunFault → Type 0) (r : Result V RunFault) (fault : RunFault) → IsErrAnd r (λ told. told ≡ fault) → P fault → IfErr r P
+pub failed_with : {V : Type 0} (P : RunFault → Type 0) (r : Result V RunFault) (fault : RunFault) → IsErrAnd r (λ reported. reported ≡ fault) → P fault → IfErr r P
 failed_with P (Ok x) fault is holds = tt
-failed_with P (Err told) fault is holds = subst P (sym is) holds
+failed_with P (Err reported) fault is holds = subst P (sym is) holds
 
 -- a tree's fault, handed on, is due
 pub tree_due : (IsDue : Result (List ℕ) RunFault → Type 0) (tree : List ℕ) (fault : TreeFault) → ((fault : TreeFault) → tree_of tree ≡ Err fault → IsDue (Err (Tree fault))) → IsFaultOf fault tree → FailsBeforeWriting IsDue (run_fault fault)
-tree_due IsDue tree (told.Memory n) due is = tt
-tree_due IsDue tree (told.BadDepth n) due is = due (told.BadDepth n) is
-tree_due IsDue tree (told.EmptyName n) due is = due (told.EmptyName n) is
-tree_due IsDue tree (told.NoEquals n) due is = due (told.NoEquals n) is
-tree_due IsDue tree (told.RepeatedKey n) due is = due (told.RepeatedKey n) is
+tree_due IsDue tree (reported.Memory n) due is = tt
+tree_due IsDue tree (reported.BadDepth n) due is = due (reported.BadDepth n) is
+tree_due IsDue tree (reported.EmptyName n) due is = due (reported.EmptyName n) is
+tree_due IsDue tree (reported.NoEquals n) due is = due (reported.NoEquals n) is
+tree_due IsDue tree (reported.RepeatedKey n) due is = due (reported.RepeatedKey n) is

@@ -5,11 +5,11 @@ pub mod SelectorRuns
 pub mod SheetRuns
 pub mod MatchRuns
 pub mod Winners
-pub mod Candidates
+pub mod RuleWinners
 pub mod StyleRuns
 pub mod PageRuns
 -- What contracts of trees name, under the names of this crate.
-pub use Rattle.cssq_tree.specs.TreeText
-pub use Rattle.cssq_tree.specs.ParentsAndSiblings
-pub use Rattle.cssq_tree.specs.Nodes
-pub use Rattle.cssq_tree.specs.ElementLaws
+pub use Rattle.cssq_page.specs.TreeText
+pub use Rattle.cssq_page.specs.ParentsAndSiblings
+pub use Rattle.cssq_page.specs.PageNodes
+pub use Rattle.cssq_page.specs.ElementLaws

@@ -8,8 +8,8 @@ use Rattle.simplecss.specs.Sheets.{sheet}
 use Rattle.simplecss.specs.Placements.{HasPlacement}
 use Rattle.cssq.specs.declared.runs.RunFault.{RunFault}
 use Rattle.cssq.specs.declared.runs.RunFault.TheVariants.{Refused, Tree, Memory, Output}
-use Rattle.cssq_tree.specs.TreeText.{Row, tree_of}
-use Rattle.cssq_tree.specs.Nodes.{Spot, spot, page_tree}
+use Rattle.cssq_page.specs.TreeText.{Row, tree_of}
+use Rattle.cssq_page.specs.PageNodes.{Spot, spot, page_tree}
 
 -- the rule's selector has a placement on the element
 abbrev pub Takes : StyleRule → Spot → Type 0

@@ -7,8 +7,8 @@ use Rattle.simplecss.specs.Statements.{StyleRule}
 use Rattle.simplecss.specs.Sheets.{sheet}
 use Rattle.cssq.specs.declared.runs.RunFault.{RunFault}
 use Rattle.cssq.specs.declared.runs.RunFault.TheVariants.{Refused, Tree, Memory, Output}
-use Rattle.cssq_tree.specs.TreeText.{Row, tree_of}
-use Rattle.cssq_tree.specs.Nodes.{spot, page_tree}
+use Rattle.cssq_page.specs.TreeText.{Row, tree_of}
+use Rattle.cssq_page.specs.PageNodes.{spot, page_tree}
 use Rattle.cssq.specs.MatchRuns.{AreLines}
 use Rattle.cssq.specs.Winners.{Wins, IsStated}
 

@@ -5,14 +5,14 @@ ghost use Rattle.std.specs.Prelude.{All, IsTrue, Some};
 ghost use Rattle.std.specs.Option.{option_map};
 ghost use Rattle.simplecss.specs.Declarations.{StyleDeclaration};
 ghost use Rattle.simplecss.specs.Statements.{StyleRule};
-ghost use Rattle.simplecss.specs.SeenDeclarations.{declaration_of, declarations_of};
-ghost use Rattle.simplecss.specs.SeenRules.{rule_of, rules_of, rules_in};
+ghost use Rattle.simplecss.specs.DeclarationViews.{declaration_of, declarations_of};
+ghost use Rattle.simplecss.specs.RuleViews.{rule_of, rules_of, rules_in};
 ghost use Rattle.simplecss.specs.Matching.{AreMatches};
-ghost use Rattle.cssq_tree.specs.Nodes.{Spot, page_tree};
+ghost use Rattle.cssq_page.specs.PageNodes.{Spot, page_tree};
 ghost use Rattle.cssq.specs.Winners.{Wins, IsStated, IsWinner, HasNoWinner, WinsForItsName};
 ghost use Rattle.cssq.specs.Winners.{ListsInOrder, HaveOwnNames};
-ghost use Rattle.cssq.specs.Candidates.{better_of, InRule, IsCandidate, IsOutdone, IsPassedOver};
-ghost use Rattle.cssq.specs.Candidates.{TellsWhether, HasBestPlaces};
+ghost use Rattle.cssq.specs.RuleWinners.{better_of, InRule, IsCandidate, IsOutdone, IsPassedOver};
+ghost use Rattle.cssq.specs.RuleWinners.{DecidesWhether, HasBestIndices};
 
 use simplecss::{Declaration, Element, Keyed, Recent, Rule, RuleIndex, StyleSheet};
 use std::alloc::{AllocError, Global};
@@ -170,7 +170,8 @@ fn takes_over(
     later: &Declaration<'_>,
 ) -> bool
     requires { IfSome known (λ k. k < length declarations.now) }
-    ensures { TellsWhether result (declarations_of declarations.now) known (declaration_of later.now) }
+    ensures { DecidesWhether result (declarations_of declarations.now) known
+        (declaration_of later.now) }
 {
     let Some(place) = known else {
         return true;
@@ -183,7 +184,7 @@ pub fn best_places<'a>(
     alloc: Global,
     declarations: &[Declaration<'a>],
 ) -> Result<BTreeMap<&'a str, usize>, AllocError>
-    ensures { IfOk result (λ places. HasBestPlaces places (declarations_of declarations.now)) }
+    ensures { IfOk result (λ places. HasBestIndices places (declarations_of declarations.now)) }
 {
     let mut places: BTreeMap<&'a str, usize> = BTreeMap::new(alloc);
     for (place, declaration) in declarations.iter().enumerate() {
@@ -282,7 +283,7 @@ pub struct Cascade<'s, 'a> {
 impl<'s, 'a> Model for Cascade<'s, 'a> {
     ghost use Rattle.std.specs.Prelude.{◌≡◌, List, map};
     ghost use Rattle.simplecss.specs.Statements.{StyleRule};
-    ghost use Rattle.simplecss.specs.SeenRules.{rules_of};
+    ghost use Rattle.simplecss.specs.RuleViews.{rules_of};
 
     ghost Value = { List StyleRule };
 

@@ -7,4 +7,4 @@ pub mod command;
 pub mod laws;
 pub mod runs;
 
-pub use cssq_tree::tree;
+pub use cssq_page::tree;

@@ -12,16 +12,16 @@ ghost use Rattle.cssq.specs.SelectorRuns.{selector_line, IsSelectorRun};
 ghost use Rattle.cssq.specs.SheetRuns.{sheet_output, IsSheetRun};
 ghost use Rattle.cssq.specs.MatchRuns.{numbers_line, IsMatchRun};
 ghost use Rattle.cssq.specs.StyleRuns.{style_line, IsStyleRun};
-ghost use Rattle.cssq.specs.PageRuns.{IsLineTold, IsToldText, IsAskedRun};
+ghost use Rattle.cssq.specs.PageRuns.{AppendsElementLine, AreElementLines, IsPageRun};
 ghost use Rattle.cssq.specs.declared.runs.RunFault.TheVariants.{Memory};
-ghost use Rattle.simplecss.specs.SeenDeclarations.{declaration_of};
+ghost use Rattle.simplecss.specs.DeclarationViews.{declaration_of};
 ghost use Rattle.simplecss.specs.Sheets.{sheet as sheet_of};
 ghost use Rattle.simplecss.specs.Skipped.{add_each, skipped};
 ghost use Rattle.simplecss.specs.ThisEdition.{this_edition};
-ghost use Rattle.simplecss.specs.SeenRules.{rules_of, rules_in};
+ghost use Rattle.simplecss.specs.RuleViews.{rules_of, rules_in};
 
 use crate::cascade::winning_among;
-use cssq_tree::tree::{Page, TreeFault};
+use cssq_page::tree::{Page, TreeFault};
 use log::Log;
 use simplecss::{Declaration, Recent, Report, Rule, RuleIndex, Selector, StyleSheet, Warnings};
 use std::alloc::{AllocError, AllocFailed, Global};
@@ -64,7 +64,7 @@ impl fmt::Display for RunFault {
 
     ghost styled_output = { λ fault _. Some (message_of fault) };
 
-    #[tactic(auto, using(crate::proofs::StyledWrites::plain_of_styled))]
+    #[tactic(auto, using(crate::proofs::FaultWrites::plain_of_styled))]
     fn fmt<W: fmt::Write>(&self, f: &mut fmt::Formatter<W>) -> fmt::Result {
         match *self {
             RunFault::Refused => f.write_str("cssq: selector refused"),
@@ -106,10 +106,10 @@ impl<T: Drop> From<AllocFailed<T>> for RunFault {
 }
 
 impl From<TreeFault> for RunFault {
-    ghost from_gives = { λ told fault. fault ≡ run_fault told };
+    ghost from_gives = { λ reported fault. fault ≡ run_fault reported };
 
-    fn from(told: TreeFault) -> RunFault {
-        match told {
+    fn from(reported: TreeFault) -> RunFault {
+        match reported {
             TreeFault::Memory(_) => RunFault::Memory,
             other => RunFault::Tree(other),
         }
@@ -267,7 +267,7 @@ fn push_winner(
 
 /// What the lines say of the elements of a page.
 #[derive(Clone, Copy)]
-pub enum Asked<'n> {
+pub enum LineContent<'n> {
     /// The numbers of the rules that match the element.
     Rules,
     /// The declaration of the name that wins on the element.
@@ -278,7 +278,7 @@ pub enum Asked<'n> {
 /// earlier elements. The previous items of `places` are dropped.
 fn push_element<'a>(
     out: &mut String,
-    asked: Asked<'_>,
+    content: LineContent<'_>,
     index: &RuleIndex<'a>,
     rules: &[Rule<'a>],
     page: &Page<'_>,
@@ -290,30 +290,35 @@ fn push_element<'a>(
     requires place { place < length page.now }
     requires number { place + 1 < 2 ^ 64 }
     requires recent { recent.old ≡ index.now }
-    ensures told { OnOk result (IsLineTold asked.entry (rules_of rules.now) page.now place
+    ensures reported { OnOk result (AppendsElementLine content.entry
+        (rules_of rules.now) page.now place
         (string_bytes out.old) (string_bytes out.new)) }
     ensures recent { recent.new ≡ recent.old }
 {
     let node = page.node(place).unwrap();
     index.matching_recent(rules, &node, places, recent)?;
     let places = places.as_slice();
-    match asked {
-        Asked::Rules => push_line(out, place + 1, places),
-        Asked::Winner(name) => push_winner(out, place + 1, winning_among(rules, places, name)),
+    match content {
+        LineContent::Rules => push_line(out, place + 1, places),
+        LineContent::Winner(name) => push_winner(
+            out,
+            place + 1,
+            winning_among(rules, places, name),
+        ),
     }
 }
 
 /// The lines of the elements of a page, by an index of the rules.
 pub fn page_lines<'a>(
     alloc: Global,
-    asked: Asked<'_>,
+    content: LineContent<'_>,
     index: &RuleIndex<'a>,
     rules: &[Rule<'a>],
     page: &Page<'_>,
 ) -> Result<String, RunFault>
     requires { index.now ≡ map (λ rule. rule.selector) rules.now }
     ensures ok { IfOk result
-        (λ text. IsToldText asked.entry (rules_of rules.now) page.now (string_bytes text)) }
+        (λ text. AreElementLines content.entry (rules_of rules.now) page.now (string_bytes text)) }
     ensures fault { IfErr result (λ fault. fault ≡ RunFault.Memory) }
 {
     let mut places = Vec::new(alloc);
@@ -322,7 +327,7 @@ pub fn page_lines<'a>(
     for place in 0..page.len() {
         push_element(
             &mut text,
-            asked,
+            content,
             index,
             rules,
             page,
@@ -337,31 +342,31 @@ pub fn page_lines<'a>(
 /// Returns the lines of the elements of a tree, by the rules of a sheet.
 fn tree_output(
     alloc: Global,
-    asked: Asked<'_>,
+    content: LineContent<'_>,
     rules: &[Rule<'_>],
     tree: &str,
 ) -> Result<String, RunFault>
     ensures ok { (text : List ℕ) → rules_of rules.now ≡ sheet_of this_edition (text ∷ [])
-        → IfOk result (λ lines. IsAskedRun asked.entry text tree.now (Ok (string_bytes lines))) }
+        → IfOk result (λ lines. IsPageRun content.entry text tree.now (Ok (string_bytes lines))) }
     ensures fault { (text : List ℕ)
-        → IfErr result (FailsBeforeWriting (IsAskedRun asked.entry text tree.now)) }
+        → IfErr result (FailsBeforeWriting (IsPageRun content.entry text tree.now)) }
 {
     let page = Page::read(alloc, tree)?;
     let index = RuleIndex::new(alloc, rules)?;
-    page_lines(alloc, asked, &index, rules, &page)
+    page_lines(alloc, content, &index, rules, &page)
 }
 
 /// What `run_match` and `run_style` write. The sheet is read first, then the tree.
 fn page_output<'a, P: Report<'a>>(
     report: &mut P,
     alloc: Global,
-    asked: Asked<'_>,
+    content: LineContent<'_>,
     sheet: &'a str,
     tree: &str,
 ) -> Result<String, RunFault>
     ensures ok { IfOk result
-        (λ text. IsAskedRun asked.entry sheet.now tree.now (Ok (string_bytes text))) }
-    ensures fault { IfErr result (FailsBeforeWriting (IsAskedRun asked.entry sheet.now tree.now)) }
+        (λ text. IsPageRun content.entry sheet.now tree.now (Ok (string_bytes text))) }
+    ensures fault { IfErr result (FailsBeforeWriting (IsPageRun content.entry sheet.now tree.now)) }
     ensures reported { OnOk result (P.state report.new
         ≡ add_each P.add (P.state report.old) (skipped this_edition sheet.now)) }
 {
@@ -369,24 +374,24 @@ fn page_output<'a, P: Report<'a>>(
         Ok(sheet) => sheet,
         Err(_) => return Err(RunFault::Memory),
     };
-    tree_output(alloc, asked, sheet.rules.as_slice(), tree)
+    tree_output(alloc, content, sheet.rules.as_slice(), tree)
 }
 
 /// Writes the lines of the elements of a tree. The whole output is built first.
 fn run_page<'a, P: Report<'a>, W: Write>(
     report: &mut P,
     alloc: Global,
-    asked: Asked<'_>,
+    content: LineContent<'_>,
     sheet: &'a str,
     tree: &str,
     out: &mut W,
 ) -> Result<(), RunFault>
-    ensures run { Writes (IsAskedRun asked.entry sheet.now tree.now) result (W.contents out.old)
+    ensures run { Writes (IsPageRun content.entry sheet.now tree.now) result (W.contents out.old)
         (W.contents out.new) }
     ensures reported { OnOk result (P.state report.new
         ≡ add_each P.add (P.state report.old) (skipped this_edition sheet.now)) }
 {
-    let text = page_output(report, alloc, asked, sheet, tree)?;
+    let text = page_output(report, alloc, content, sheet, tree)?;
     write_out(out, text.as_bytes())
 }
 
@@ -422,7 +427,7 @@ pub fn run_match_reporting<'a, P: Report<'a>, W: Write>(
     ensures reported { OnOk result (P.state report.new
         ≡ add_each P.add (P.state report.old) (skipped this_edition sheet.now)) }
 {
-    run_page(report, alloc, Asked::Rules, sheet, tree, out)
+    run_page(report, alloc, LineContent::Rules, sheet, tree, out)
 }
 
 /// Writes for each element of a tree its number from 1, a colon, and where a declaration of the
@@ -459,5 +464,5 @@ pub fn run_style_reporting<'a, P: Report<'a>, W: Write>(
     ensures reported { OnOk result (P.state report.new
         ≡ add_each P.add (P.state report.old) (skipped this_edition sheet.now)) }
 {
-    run_page(report, alloc, Asked::Winner(name), sheet, tree, out)
+    run_page(report, alloc, LineContent::Winner(name), sheet, tree, out)
 }

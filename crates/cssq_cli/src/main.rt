@@ -153,8 +153,8 @@ fn main(rt: HostRuntime) -> ExitCode {
     let Some(words) = all_words(&rt) else {
         return unknown_words(&rt);
     };
-    let asked = words.as_slice().get(1..).unwrap_or(&[]);
-    match Command::of(asked) {
+    let arguments = words.as_slice().get(1..).unwrap_or(&[]);
+    match Command::of(arguments) {
         Some(Command::Input) => match read_input(&rt) {
             Some(text) => show_selector(&rt, INPUT, text.as_str()),
             None => unreadable(&rt, INPUT),

@@ -28,12 +28,12 @@ fn read_list(alloc: Global, text: &str) -> Result<List<'_>, AllocError> {
             return Ok(List::Refused(rest));
         };
         selectors.push(selector)?;
-        let behind = &rest[len..];
-        if behind.is_empty() {
+        let after = &rest[len..];
+        if after.is_empty() {
             return Ok(List::Selectors(selectors));
         }
-        let Some(more) = behind.strip_prefix(',') else {
-            return Ok(List::Refused(behind));
+        let Some(more) = after.strip_prefix(',') else {
+            return Ok(List::Refused(after));
         };
         rest = more;
     }

@@ -1,5 +1,5 @@
 -- Numbers in order, by a test of them.
--- Serves `RuleIndex::matching_counted` and `laws::answers_law` (places in order, each once).
+-- Serves `RuleIndex::matching_counted` and `laws::answers_law` (indices in order, each once).
 use Rattle.std.proofs.Common.{◌≡◌, ℕ, zero, suc, ◌+◌, ◌<◌, ◌≤◌, ◌↔◌, ◌⊎◌, inl, inr, List, [], ◌∷◌, Bool, true, false, cond, IsTrue, length, map, get_or, refl, sym, ap, ◌∙◌, subst, arith}
 use Rattle.std.specs.List.{Contains, filter, sum_by, range_with_len, items_where_true}
 use Rattle.std.specs.List.Sorted.{IsStrictlyIncreasing}
@@ -7,7 +7,7 @@ use Rattle.std.proofs.lemmas.Bool.{false≢true}
 use Rattle.std.proofs.lemmas.List.Elements.{Contains-append_left, Contains-append_right, Contains-append_cases}
 use Rattle.std.proofs.lemmas.List.FromFn.{fill_by_all}
 use Rattle.std.proofs.lemmas.List.Sums.{sum_by-cons}
-use Rattle.simplecss.specs.SelectorPlaces.{AreThePlaces}
+use Rattle.simplecss.specs.SelectorIndices.{AreTheIndices}
 use Rattle.simplecss.proofs.Adding.{contains_none, contains_one}
 
 pub contains_cons : {X : Type 0} (x : X) (xs : List X) (y : X) → Contains (x ∷ xs) y ↔ ((x ≡ y) ⊎ Contains xs y)
@@ -90,15 +90,15 @@ module _ (test : ℕ → Bool) where
           ap (λ y. y ∷ xs) (sym h.0) ∙ ap (λ ys. a ∷ ys) (rest xs rising h.1)
       at rest false e xs r are = let h = without_first n a xs e r are in rest xs h.0 h.1
 
-  pub places_are : (n : ℕ) (places : List ℕ) → AreThePlaces (λ place. IsTrue (test place)) n places → places ≡ filter test (range_with_len 0 n)
-  places_are n places are = are_passed n 0 places (rises 0 places (λ some. omega arith) are.ascending) (λ x. (
+  pub places_are : (n : ℕ) (indices : List ℕ) → AreTheIndices (λ index. IsTrue (test index)) n indices → indices ≡ filter test (range_with_len 0 n)
+  places_are n indices are = are_passed n 0 indices (rises 0 indices (λ some. omega arith) are.ascending) (λ x. (
     λ c. let h = (are.exactly x).0 c in (omega arith, omega (arith, h.0), h.1),
     λ h. (are.exactly x).1 (omega (arith, h.1), h.2),
   ))
 
-  pub told_by : (xs : List ℕ) → items_where_true (map test xs) xs ≡ filter test xs
-  told_by [] = refl
-  told_by (x ∷ xs) = at (test x) (told_by xs)
+  pub reported_by : (xs : List ℕ) → items_where_true (map test xs) xs ≡ filter test xs
+  reported_by [] = refl
+  reported_by (x ∷ xs) = at (test x) (reported_by xs)
     where
       at : (b : Bool) → items_where_true (map test xs) xs ≡ filter test xs → items_where_true (b ∷ map test xs) (x ∷ xs) ≡ cond b (x ∷ filter test xs) (filter test xs)
       at true e = ap (λ ys. x ∷ ys) e
@@ -113,6 +113,6 @@ sum_of_values value test f (x ∷ xs) = at (test (value x)) (sum_of_values value
     at true e = sum_by-cons (λ x. f (value x)) x (filter (λ x. test (value x)) xs) ∙ ap (λ n. f (value x) + n) e ∙ sym (sum_by-cons f (value x) (filter test (map value xs)))
     at false e = e
 
--- the values of a list at all its places
+-- the values of a list at all its indices
 pub values_at : {V : Type 0} (vs : List V) (d : V) → map (λ k. get_or vs k d) (range_with_len 0 (length vs)) ≡ vs
 values_at vs d = sym (fill_by_all (λ k. get_or vs k d) vs (length vs) d refl (λ k lt. refl))

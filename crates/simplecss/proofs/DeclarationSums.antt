@@ -13,7 +13,7 @@ use Rattle.simplecss_text.specs.Declarations.{StyleDeclaration}
 use Rattle.simplecss_text.specs.Statements.{StyleRule, has_declaration, next_statement}
 use Rattle.simplecss.specs.declared.sheet.sheet_error.SheetError.{SheetError}
 use Rattle.simplecss.specs.declared.sheet.sheet_error.SheetError.TheVariants.{TooManyDeclarations, Memory}
-use Rattle.simplecss.specs.SharedBlocks.{rule_with, rules_with}
+use Rattle.simplecss.specs.internal.SharedBlocks.{rule_with, rules_with}
 use Rattle.simplecss.specs.DeclarationCounts.{declaration_count, kept_declarations}
 use Rattle.simplecss.proofs.StatementLemmas.{rules_from, rules_from-none}
 

@@ -14,8 +14,8 @@ use Rattle.std.proofs.lemmas.Nat.Bits.{bit_at_set_same, bit_at_or, bit_at-zero, 
 use Rattle.simplecss_selector.specs.Keys.Key.{by_class}
 use Rattle.simplecss_selector.specs.KeyBits.{key_bits, bit_by, number_from, Covers, covers}
 use Rattle.simplecss_selector.proofs.KeyBitLemmas.{covers_left, covers_right, covers_more, covers_test}
-use Rattle.simplecss.specs.TextPlaces.{place_for, word_of, may_have}
-use Rattle.simplecss.proofs.LastPlaces.{changed_text}
+use Rattle.simplecss.specs.internal.TextIndices.{index_for_text, word_of, may_have}
+use Rattle.simplecss.proofs.LastIndices.{changed_text}
 
 -- what passes the test is covered
 test_covers : (a b : ℕ) → IsTrue (covers a b) → Covers a b
@@ -47,11 +47,11 @@ module _ (words : List ℕ) (text : List ℕ) (bits : ℕ) (is : bits ≡ key_bi
         subst (λ w. IsTrue (covers w (key_bits (by_class other)))) (sym (get_or-set_other words (word_of text) (word_of other) (bit_or (get_or words (word_of text) 0) bits) 0 apart)) has
   ]
 
-  -- each text with a place has its bit after a text got a place
-  pub all_kept : (old new : BTreeMap (Bor (List ℕ)) ℕ) (place : ℕ) → UpdatesBy (λ x y. slice_cmp nat_cmp x.now y.now) (λ k. slice_cmp nat_cmp text k.now) old new (Some place)
-      → ((other : List ℕ) (p : ℕ) → place_for old other ≡ Some p → IsTrue (may_have words other))
-      → (other : List ℕ) (p : ℕ) → place_for new other ≡ Some p → IsTrue (may_have after other)
-  all_kept old new place updates kept other p found = elim (changed_text old new place text other updates) [
+  -- each text with an index has its bit after a text got an index
+  pub all_kept : (old new : BTreeMap (Bor (List ℕ)) ℕ) (index : ℕ) → UpdatesBy (λ x y. slice_cmp nat_cmp x.now y.now) (λ k. slice_cmp nat_cmp text k.now) old new (Some index)
+      → ((other : List ℕ) (p : ℕ) → index_for_text old other ≡ Some p → IsTrue (may_have words other))
+      → (other : List ℕ) (p : ℕ) → index_for_text new other ≡ Some p → IsTrue (may_have after other)
+  all_kept old new index updates kept other p found = elim (changed_text old new index text other updates) [
     | inl h ↦ subst (λ t. IsTrue (may_have after t)) h.0 text_kept
     | inr h ↦ other_kept other (kept other p (sym h.1 ∙ found))
   ]
@@ -75,6 +75,6 @@ none_there words text none has =
     bit_there (number_from 2 text) (same_from_bits (key_bits (by_class text)) 0 (λ i. let e = all i in let z = bit_at-zero i in omega (arith, e, z)))
 
 -- so it has no index
-pub none_found : (words : List ℕ) (text : List ℕ) (found : Option ℕ) → get_or words (word_of text) 0 ≡ 0 → ((place : ℕ) → found ≡ Some place → IsTrue (may_have words text)) → None ≡ found
+pub none_found : (words : List ℕ) (text : List ℕ) (found : Option ℕ) → get_or words (word_of text) 0 ≡ 0 → ((index : ℕ) → found ≡ Some index → IsTrue (may_have words text)) → None ≡ found
 none_found words text None none kept = refl
-none_found words text (Some place) none kept = absurd (none_there words text none (kept place refl))
+none_found words text (Some index) none kept = absurd (none_there words text none (kept index refl))

@@ -26,18 +26,18 @@ module _ (selectors : List (List Component)) where
 
   -- the result of a slot that is read
   pub slot_read : (slots read : List (Option Slot)) (n : ℕ) (one : Option Slot) (slot : Slot) → read ≡ slots → All (IsSlotOf selectors) slots → n < length read → one ≡ get_or read n one → one ≡ Some slot
-      → IsFound selectors (string_bytes slot.name) (option_map string_bytes slot.class) slot.places.items
+      → IsFound selectors (string_bytes slot.name) (option_map string_bytes slot.class) slot.indices.items
   slot_read slots read n one slot same all lt is known =
       subst (IsSlotOf selectors) known (subst (IsSlotOf selectors) (sym is) (subst (All (IsSlotOf selectors)) (sym same) all n one lt))
 
   -- a result serves a name and a class value that are equal to its own
-  pub found_as : (name own : List ℕ) (class value : Option (List ℕ)) (places list : List ℕ) → own ≡ name → value ≡ class → list ≡ places → IsFound selectors own value places → IsFound selectors name class list
-  found_as name own class value places list name_is class_is same found near near_name near_class starts =
+  pub found_as : (name own : List ℕ) (class value : Option (List ℕ)) (indices list : List ℕ) → own ≡ name → value ≡ class → list ≡ indices → IsFound selectors own value indices → IsFound selectors name class list
+  found_as name own class value indices list name_is class_is same found near near_name near_class starts =
       subst (AreKeyed near selectors) (sym same) (found near (near_name ∙ sym name_is) (near_class ∙ sym class_is) starts)
 
-  pub slot_set : (slots : List (Option Slot)) (n : ℕ) (slot : Slot) → All (IsSlotOf selectors) slots → IsFound selectors (string_bytes slot.name) (option_map string_bytes slot.class) slot.places.items → All (IsSlotOf selectors) (set slots n (Some slot))
+  pub slot_set : (slots : List (Option Slot)) (n : ℕ) (slot : Slot) → All (IsSlotOf selectors) slots → IsFound selectors (string_bytes slot.name) (option_map string_bytes slot.class) slot.indices.items → All (IsSlotOf selectors) (set slots n (Some slot))
   slot_set slots n slot all found = All-set (IsSlotOf selectors) slots n (Some slot) found all
 
-pub no_items : (places : List ℕ) → length places ≡ 0 → places ≡ []
+pub no_items : (indices : List ℕ) → length indices ≡ 0 → indices ≡ []
 no_items [] e = refl
 no_items (x ∷ xs) e = absurd (omega (arith, e))

@@ -5,7 +5,7 @@ use Rattle.std.specs.Prelude.{Result, Ok, Err}
 use Rattle.std.specs.Result.{OnOk}
 use Rattle.simplecss_text.specs.Characters.{Edition}
 use Rattle.simplecss_text.specs.Skipped.{Skip, add_each, skipped}
-use Rattle.simplecss_text.proofs.reading.SkipLaws.{add_each-append, skipped-more}
+use Rattle.simplecss_text.proofs.reading.SkipLemmas.{add_each-append, skipped-more}
 
 pub on_ok : {X E P : Type 0} (r : Result X E) → P → OnOk r P
 on_ok (Ok x) p = p

@@ -12,8 +12,8 @@ use Rattle.simplecss_text.specs.Bytes.{text_eq}
 use Rattle.simplecss_text.specs.Statements.{StyleRule}
 use Rattle.simplecss_selector.specs.Equality.{selector_eq}
 use Rattle.simplecss_selector.specs.EqualityLaws.{selector_decides}
-use Rattle.simplecss_declaration.specs.SeenDeclarations.{declaration_of}
-use Rattle.simplecss.specs.SeenRules.{rule_of, rules_of}
+use Rattle.simplecss_declaration.specs.DeclarationViews.{declaration_of}
+use Rattle.simplecss.specs.RuleViews.{rule_of, rules_of}
 use Rattle.simplecss.specs.declared.sheet.rules.Rule.{Rule}
 
 -- the same name, the same value, and both important or neither

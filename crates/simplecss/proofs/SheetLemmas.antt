@@ -8,7 +8,7 @@ use Rattle.simplecss_text.specs.Characters.{Edition}
 use Rattle.simplecss_text.specs.Comments.{past_blank, opens_comment}
 use Rattle.simplecss_text.specs.Statements.{has_declaration, kept, statement, statements, next_statement, ends_statements, is_open_comment}
 use Rattle.simplecss_text.specs.Sheets.{is_smaller, ordered, sheet}
-use Rattle.simplecss_text.proofs.reading.EachLaws.{each-none}
+use Rattle.simplecss_text.proofs.reading.EachLemmas.{each-none}
 use Rattle.simplecss_text.proofs.order.OrderLemmas.{smaller_order}
 use Rattle.simplecss_text.proofs.order.ListFacts.{filter_and}
 use Rattle.simplecss_text.proofs.order.RankLemmas.{ordered_filter, ordered_front}

@@ -10,9 +10,9 @@ use Rattle.simplecss_text.specs.Characters.{Edition}
 use Rattle.simplecss_text.specs.Comments.{opens_comment, past_blank, blank}
 use Rattle.simplecss_text.specs.Components.{Component}
 use Rattle.simplecss_text.specs.Statements.{StyleRule, part, part_and_comma, parts, statement, ends_statements, next_statement, statements}
-use Rattle.simplecss_text.proofs.reading.EachLaws.{took, option_cases, each-none, each-some}
-use Rattle.simplecss_text.proofs.bytes.GapLaws.{past_blank-again}
-use Rattle.simplecss_text.proofs.reading.StatementLaws.{part_and_comma-takes, next_statement-takes}
+use Rattle.simplecss_text.proofs.reading.EachLemmas.{took, option_cases, each-none, each-some}
+use Rattle.simplecss_text.proofs.bytes.GapLemmas.{past_blank-again}
+use Rattle.simplecss_text.proofs.reading.StatementTextLemmas.{part_and_comma-takes, next_statement-takes}
 
 -- ---- parts
 
@@ -114,8 +114,8 @@ next_statement-open edition text rest fault e = rw (blank-open text rest fault e
     by false = refl
 
 -- after a blank there is a statement, unless the text ends there
-pub next_statement-behind : (edition : Edition) (text rest : List ℕ) (ended : Bool) → blank text ≡ got tt rest → IsTrue ended ↔ (rest ≡ []) → MatchBool (not ended) (next_statement edition text ≡ Some (statement edition rest)) (next_statement edition text ≡ None)
-next_statement-behind edition text rest ended e h =
+pub next_statement-after : (edition : Edition) (text rest : List ℕ) (ended : Bool) → blank text ≡ got tt rest → IsTrue ended ↔ (rest ≡ []) → MatchBool (not ended) (next_statement edition text ≡ Some (statement edition rest)) (next_statement edition text ≡ None)
+next_statement-after edition text rest ended e h =
     let read = blank-got text rest e in
     let closed : opens_comment rest ≡ false = subst (λ (t : List ℕ). opens_comment t ≡ false) read.1 read.0 in
     by rest ended read.1 closed h

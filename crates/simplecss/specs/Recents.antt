@@ -3,20 +3,20 @@ use Rattle.std.specs.Prelude.{◌≡◌, ◌≤◌, ◌<◌, ℕ, List, [], Opti
 use Rattle.std.specs.Option.{option_map}
 use Rattle.simplecss_text.specs.Components.{Component}
 use Rattle.simplecss_text.specs.Components.Operator.{has_word}
-use Rattle.simplecss_selector.specs.Keys.{Key, Told, tells_key, is_value_as_asked}
+use Rattle.simplecss_selector.specs.Keys.{Key, Reported, reports_key, has_satisfying_value}
 use Rattle.simplecss_selector.specs.Keys.Key.{by_id, by_class, by_name, by_attribute, by_nothing}
-use Rattle.simplecss_selector.specs.Wanted.{Wanted, Near, tells_wanted}
+use Rattle.simplecss_selector.specs.Wanted.{Wanted, Near, reports_wanted}
 use Rattle.simplecss_selector.specs.Wanted.Wanted.{of_element, of_parent, of_previous}
 use Rattle.simplecss.specs.Matching.{AreKeyed}
-use Rattle.simplecss.specs.SelectorPlaces.{key_at}
-use Rattle.simplecss.specs.WantedLasts.{last_wanted}
+use Rattle.simplecss.specs.SelectorIndices.{key_at}
+use Rattle.simplecss.specs.internal.LastByWanted.{last_wanted}
 use Rattle.simplecss.specs.declared.index.recent.Slot.{Slot}
-use Rattle.simplecss.specs.declared.index.wanted_lasts.WantedLasts.{WantedLasts}
+use Rattle.simplecss.specs.declared.index.last_by_wanted.LastByWanted.{LastByWanted}
 
 -- whether an element with the name and the class value reports the key, whatever else it has
 abbrev pub names_key : List ℕ → Option (List ℕ) → Key → Bool
 names_key name class (by_id text) = false
-names_key name class (by_class word) = is_value_as_asked (has_word word) class
+names_key name class (by_class word) = has_satisfying_value (has_word word) class
 names_key name class (by_name own) = bytes_eq name own
 names_key name class (by_attribute own) = false
 names_key name class by_nothing = true
@@ -28,40 +28,40 @@ names_wanted name class (of_parent key) = false
 names_wanted name class (of_previous key) = false
 
 -- whether an element reports the key by its id or another attribute
-abbrev pub adds_key : Told → Key → Bool
-adds_key told (by_id text) = tells_key told (by_id text)
-adds_key told (by_class word) = false
-adds_key told (by_name name) = false
-adds_key told (by_attribute name) = tells_key told (by_attribute name)
-adds_key told by_nothing = false
+abbrev pub adds_key : Reported → Key → Bool
+adds_key reported (by_id text) = reports_key reported (by_id text)
+adds_key reported (by_class word) = false
+adds_key reported (by_name name) = false
+adds_key reported (by_attribute name) = reports_key reported (by_attribute name)
+adds_key reported by_nothing = false
 
 -- whether the wanted key is reported by the element's id, another attribute, its parent or its
 -- previous sibling
 abbrev pub adds_wanted : Near → Wanted → Bool
 adds_wanted near (of_element key) = adds_key near.own key
-adds_wanted near (of_parent key) = tells_wanted near (of_parent key)
-adds_wanted near (of_previous key) = tells_wanted near (of_previous key)
+adds_wanted near (of_parent key) = reports_wanted near (of_parent key)
+adds_wanted near (of_previous key) = reports_wanted near (of_previous key)
 
 -- a wanted key of these leads to the index
-abbrev pub Leads : (Wanted → Bool) → WantedLasts → ℕ → Type 0
-Leads is_wanted lasts place =
-    (wanted : Wanted) × IsTrue (is_wanted wanted) × (last_wanted lasts wanted ≡ Some place)
+abbrev pub Leads : (Wanted → Bool) → LastByWanted → ℕ → Type 0
+Leads is_wanted lasts index =
+    (wanted : Wanted) × IsTrue (is_wanted wanted) × (last_wanted lasts wanted ≡ Some index)
 
 -- each index is of a selector whose key is one of these, and for each selector with such a key the
 -- list has the index, or a later one of a selector with the same key
-pub record AreStarts (is_wanted : Wanted → Bool) (selectors : List (List Component)) (places : List ℕ) : Type 0 where
-  pub within : (place : ℕ) → Contains places place
-      → (place < length selectors) × IsTrue (is_wanted (key_at selectors place))
-  pub reached : (place : ℕ) → place < length selectors → IsTrue (is_wanted (key_at selectors place))
-      → (last : ℕ) × Contains places last × (place ≤ last) × (key_at selectors place ≡ key_at selectors last)
+pub record AreStarts (is_wanted : Wanted → Bool) (selectors : List (List Component)) (indices : List ℕ) : Type 0 where
+  pub within : (index : ℕ) → Contains indices index
+      → (index < length selectors) × IsTrue (is_wanted (key_at selectors index))
+  pub reached : (index : ℕ) → index < length selectors → IsTrue (is_wanted (key_at selectors index))
+      → (last : ℕ) × Contains indices last × (index ≤ last) × (key_at selectors index ≡ key_at selectors last)
 
 -- the indices are those of the selectors whose key is reported, for every element with the name and
 -- the class value, if no selector's key is reported otherwise
 abbrev pub IsFound : List (List Component) → List ℕ → Option (List ℕ) → List ℕ → Type 0
-IsFound selectors name class places = (near : Near) → near.own.name ≡ name → near.own.class ≡ class
-    → AreStarts (adds_wanted near) selectors [] → AreKeyed near selectors places
+IsFound selectors name class indices = (near : Near) → near.own.name ≡ name → near.own.class ≡ class
+    → AreStarts (adds_wanted near) selectors [] → AreKeyed near selectors indices
 
 -- a slot is empty, or has what was found by its name and class value
 abbrev pub IsSlotOf : List (List Component) → Option Slot → Type 0
 IsSlotOf selectors None = Unit {0}
-IsSlotOf selectors (Some slot) = IsFound selectors (string_bytes slot.name) (option_map string_bytes slot.class) slot.places.items
+IsSlotOf selectors (Some slot) = IsFound selectors (string_bytes slot.name) (option_map string_bytes slot.class) slot.indices.items

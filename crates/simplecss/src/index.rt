@@ -2,13 +2,13 @@
 //! found without asking each.
 mod find;
 mod keep;
-mod lasts;
+mod last_by_key;
+mod last_by_wanted;
 pub mod laws;
 mod link;
 mod recent;
 mod rule_index;
 mod texts;
-mod wanted_lasts;
 
 pub use recent::Recent;
 pub use rule_index::RuleIndex;

@@ -5,20 +5,19 @@
 //! skipped of a text in pieces and of a printed sheet, and equality of positions, errors and
 //! cursors. Of selectors: their tokens, their components, their keys, printing, equality, and that
 //! elements which mean the same get the same answers. Of sheets: the order of rules, what a rule's
-//! place means, reading a text in pieces, and equality of rules and declarations. Of an index: that
+//! index means, reading a text in pieces, and equality of rules and declarations. Of an index: that
 //! it finds what asking each rule finds.
 
 pub use crate::index::laws::answers_law;
 pub use crate::sheet::laws::{
-    cutting_law, edition_law, equality_laws, order_laws, place_law, sheet_law,
+    cutting_law, edition_law, equality_laws, index_in_sheet_law, order_laws, sheet_law,
 };
 pub use simplecss_selector::laws::{at_most_two_errors, token_equality_law};
 pub use simplecss_selector::{
-    ancestors_law, components_law, equality_law as selector_equality_law, key_equality_law,
-    key_law, operator_equality_laws, printing_law, same_meanings_law, told_near_law, wanted_law,
+    ancestors_law, components_law, key_equality_law, key_law, operator_equality_laws, printing_law,
+    reported_near_law, same_meanings_law, selector_equality_law, wanted_law,
 };
 pub use simplecss_text::laws::{
-    blank_is_cut, blank_is_longest, comment_is_closed, equality_laws as text_equality_laws,
-    nothing_is_lost, open_comment_breaks_blank, printed_skips_nothing, skips_are_cut,
-    space_bytes_are_parts,
+    blank_is_cut, blank_is_longest, comment_is_closed, nothing_is_lost, open_comment_breaks_blank,
+    printed_skips_nothing, skips_are_cut, space_bytes_are_parts, text_equality_laws,
 };

@@ -64,14 +64,14 @@ later : (b : Bool) (k : ℕ) (r : Option ℕ) (c : Bool) → elim (if b then Som
 later true k r c = refl
 later false k r c = refl
 
-last_with-append : (asked : ℕ) (depths : List ℕ) (depth : ℕ) → last_with asked (depths ++ depth ∷ []) ≡ (if depth == asked then Some (length depths) else last_with asked depths)
-last_with-append asked [] depth = refl
-last_with-append asked (d ∷ depths) depth =
-    ap (λ x. elim x [ Some i ↦ Some (suc i) | None ↦ (if d == asked then Some 0 else None) ]) (last_with-append asked depths depth)
-    ∙ later (depth == asked) (length depths) (last_with asked depths) (d == asked)
+last_with-append : (content : ℕ) (depths : List ℕ) (depth : ℕ) → last_with content (depths ++ depth ∷ []) ≡ (if depth == content then Some (length depths) else last_with content depths)
+last_with-append content [] depth = refl
+last_with-append content (d ∷ depths) depth =
+    ap (λ x. elim x [ Some i ↦ Some (suc i) | None ↦ (if d == content then Some 0 else None) ]) (last_with-append content depths depth)
+    ∙ later (depth == content) (length depths) (last_with content depths) (d == content)
 
-at_last : (asked : ℕ) (depths : List ℕ) (depth : ℕ) (b : Bool) → (depth == asked) ≡ b → last_with asked (depths ++ depth ∷ []) ≡ (if b then Some (length depths) else last_with asked depths)
-at_last asked depths depth b is = last_with-append asked depths depth ∙ ap (λ b. if b then Some (length depths) else last_with asked depths) is
+at_last : (content : ℕ) (depths : List ℕ) (depth : ℕ) (b : Bool) → (depth == content) ≡ b → last_with content (depths ++ depth ∷ []) ≡ (if b then Some (length depths) else last_with content depths)
+at_last content depths depth b is = last_with-append content depths depth ∙ ap (λ b. if b then Some (length depths) else last_with content depths) is
 
 pub path_none : IsPath [] []
 path_none = record { limit = refl; each = λ d less. absurd (omega (arith, less)) }
@@ -196,9 +196,9 @@ module _ {all : Strings} {elements rest : List TreeElement} {rows : List Row} {p
   linked_part none part number is = at_end none false (grind (arith, nat_tests, part)) ∙ ap (λ n. Err (BadStrings (n + 1))) (sym is)
 
 -- a failure that is handed on, for its own reason
-pub handed_on : {V : Type 0} (P : V → Type 0) (r : Result V Failure) (failure : Failure) (F G : ElementFault → Type 0) → IsErrAnd r (λ told. told ≡ failure) → FailsFor ⊥ F ⊥ failure → ((fault : ElementFault) → F fault → G fault) → MatchResult r P (FailsFor ⊥ G ⊥)
+pub handed_on : {V : Type 0} (P : V → Type 0) (r : Result V Failure) (failure : Failure) (F G : ElementFault → Type 0) → IsErrAnd r (λ reported. reported ≡ failure) → FailsFor ⊥ F ⊥ failure → ((fault : ElementFault) → F fault → G fault) → MatchResult r P (FailsFor ⊥ G ⊥)
 handed_on P (Ok x) failure F G is due more = absurd is
-handed_on P (Err told) Refused F G is due more = absurd due
-handed_on P (Err told) (Tree fault) F G is due more = subst (FailsFor ⊥ G ⊥) (sym is) (more fault due)
-handed_on P (Err told) Memory F G is due more = subst (FailsFor ⊥ G ⊥) (sym is) tt
-handed_on P (Err told) NotUtf8 F G is due more = absurd due
+handed_on P (Err reported) Refused F G is due more = absurd due
+handed_on P (Err reported) (Tree fault) F G is due more = subst (FailsFor ⊥ G ⊥) (sym is) (more fault due)
+handed_on P (Err reported) Memory F G is due more = subst (FailsFor ⊥ G ⊥) (sym is) tt
+handed_on P (Err reported) NotUtf8 F G is due more = absurd due

@@ -1,5 +1,5 @@
-pub mod Cuts
-pub mod Strings
+pub mod TextCuts
+pub mod StringCuts
 pub mod RepeatedKeys
 pub mod Building
 pub mod PageCalls

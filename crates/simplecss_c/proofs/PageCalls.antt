@@ -16,9 +16,9 @@ use Rattle.cssq.specs.Winners.{IsStated, Wins, IsWinner, HasNoWinner}
 use Rattle.simplecss_c.specs.declared.answer.Failure.{Failure}
 use Rattle.simplecss_c.specs.declared.answer.Failure.TheVariants.{Memory}
 use Rattle.simplecss_c.specs.Outcomes.{outcome_of}
-use Rattle.simplecss_c.specs.declared.pages.Asked.TheVariants.{Selected}
+use Rattle.simplecss_c.specs.declared.pages.LineContent.TheVariants.{Selected}
 use Rattle.simplecss_c.specs.Calls.{HasTexts, Passed, passed_tree, IsPageCall, IsSelectCall}
-use Rattle.simplecss_c.specs.Lines.{AreLinesOf}
+use Rattle.simplecss_c.specs.AnswerLines.{AreLinesOf}
 use Rattle.simplecss_c.specs.SelectorLists.{selectors_in}
 
 -- the text that is due, or a refused allocation

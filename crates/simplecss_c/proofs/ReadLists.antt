@@ -17,13 +17,13 @@ pub record ListSoFar (text : List ℕ) (start left : ℕ) (so_far : List (List C
   pub whole : selectors_in text ≡ option_map (λ more. so_far ++ more) (list_within left (drop start text))
   pub boundary : IsCharBoundary text start
 
-behind_none : (o : Option (List (List Component))) → o ≡ option_map (λ more. [] ++ more) o
-behind_none None = refl
-behind_none (Some more) = refl
+after_none : (o : Option (List (List Component))) → o ≡ option_map (λ more. [] ++ more) o
+after_none None = refl
+after_none (Some more) = refl
 
 pub list_none : (text : List ℕ) → IsUtf8 text → (left : ℕ) → left ≡ length text + 1 → (so_far : List (List Component)) → so_far ≡ [] → ListSoFar text 0 left so_far
 list_none text utf8 left is so_far none = record {
-  whole = ap (λ n. list_within n text) (sym is) ∙ behind_none (list_within left text) ∙ ap (λ front. option_map (λ more. front ++ more) (list_within left text)) (sym none);
+  whole = ap (λ n. list_within n text) (sym is) ∙ after_none (list_within left text) ∙ ap (λ front. option_map (λ more. front ++ more) (list_within left text)) (sym none);
   boundary = IsCharBoundary-start text utf8;
 }
 

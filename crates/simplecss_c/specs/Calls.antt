@@ -14,10 +14,10 @@ use Rattle.simplecss_c.specs.declared.elements.ElementFault.{ElementFault}
 use Rattle.simplecss_c.specs.declared.elements.TreeElement.{TreeElement}
 use Rattle.simplecss_c.specs.declared.answer.Failure.{Failure}
 use Rattle.simplecss_c.specs.declared.answer.Failure.TheVariants.{Refused, Tree, Memory, NotUtf8}
-use Rattle.simplecss_c.specs.declared.pages.Asked.TheVariants.{Selected}
+use Rattle.simplecss_c.specs.declared.pages.LineContent.TheVariants.{Selected}
 use Rattle.simplecss_c.specs.Texts.{texts_in}
 use Rattle.simplecss_c.specs.Elements.{tree_of}
-use Rattle.simplecss_c.specs.Lines.{AreLinesOf, AreMatchLines, AreWinnerLines}
+use Rattle.simplecss_c.specs.AnswerLines.{AreLinesOf, AreMatchLines, AreWinnerLines}
 use Rattle.simplecss_c.specs.SelectorLists.{selectors_in}
 
 -- A failure has its own reason. Any call may be out of memory.

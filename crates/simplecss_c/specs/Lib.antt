@@ -2,6 +2,6 @@ pub mod Outcomes
 pub mod Texts
 pub mod Elements
 pub mod Answers
-pub mod Lines
+pub mod AnswerLines
 pub mod SelectorLists
 pub mod Calls

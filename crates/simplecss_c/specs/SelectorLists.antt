@@ -28,7 +28,7 @@ abbrev pub selectors_in : List ℕ → Option (List (List Component))
 selectors_in text = list_within (length text + 1) text
 
 -- what contracts see of what a text was read as
-abbrev pub seen_list : Listed → Option (List (List Component))
-seen_list (Selectors rules) = Some (map (λ rule. rule.selector) rules.items)
-seen_list (Refused start end) = None
-seen_list (NoComma end) = None
+abbrev pub list_view : Listed → Option (List (List Component))
+list_view (Selectors rules) = Some (map (λ rule. rule.selector) rules.items)
+list_view (Refused start end) = None
+list_view (NoComma end) = None

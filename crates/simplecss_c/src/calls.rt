@@ -1,16 +1,16 @@
 //! What each call answers.
 
 ghost use Rattle.std.specs.Prelude.{◌≡◌, MatchResult, string_bytes};
-ghost use Rattle.simplecss.specs.SeenRules.{rules_in};
+ghost use Rattle.simplecss.specs.RuleViews.{rules_in};
 ghost use Rattle.simplecss_c.specs.Outcomes.{outcome_of};
-ghost use Rattle.simplecss_c.specs.Lines.{AreMatchLines, AreWinnerLines};
+ghost use Rattle.simplecss_c.specs.AnswerLines.{AreMatchLines, AreWinnerLines};
 ghost use Rattle.simplecss_c.specs.Calls.{IsSelectorCall, IsSheetCall, IsPrinted, IsMatchCall};
 ghost use Rattle.simplecss_c.specs.Calls.{IsPageCall, IsSelectCall, IsStyleCall, passed_of};
 
 use crate::answer::Failure;
 use crate::elements::{TreeElement, read_tree};
 use crate::lists::selectors_of;
-use crate::pages::{Asked, lines, winner_lines};
+use crate::pages::{LineContent, lines, winner_lines};
 use crate::texts::{text_of, texts_of};
 use crate::{json, lists};
 use cssq::cascade::best_places;
@@ -85,7 +85,7 @@ pub fn select(alloc: Global, text: &[u8], tree: Passed<'_>) -> Result<String, Fa
     let text = text_of(text)?;
     let selectors = selectors_of(alloc, text)?;
     let tree = read_tree(alloc, tree.elements, tree.strings, tree.ends)?;
-    lines(alloc, Asked::Selected, &selectors, &tree)
+    lines(alloc, LineContent::Selected, &selectors, &tree)
 }
 
 /// The declarations of the rules at the places, in order.
@@ -155,7 +155,7 @@ fn match_lines(alloc: Global, sheet: &StyleSheet<'_>, tree: &Tree<'_>) -> Result
         (λ text. AreMatchLines (rules_in sheet.now) tree.now (string_bytes text))
         (λ failure. failure ≡ Failure.Memory) }
 {
-    lines(alloc, Asked::Numbers, &sheet.rules, tree)
+    lines(alloc, LineContent::Numbers, &sheet.rules, tree)
 }
 
 /// The numbers of the rules that match each element of a tree.

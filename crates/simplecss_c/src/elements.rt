@@ -189,7 +189,7 @@ fn add_next<'t>(
         × (tree.new ≡ with_element tree.old depths element all)
         × IsPath path.new.items (depths ++ element.depth ∷ [])
         × (read ≡ strings_of element) × (read ≤ length strings.now))
-        (λ failure. FailsFor ⊥ (λ told. fault ≡ Some told) ⊥ failure) }
+        (λ failure. FailsFor ⊥ (λ reported. fault ≡ Some reported) ⊥ failure) }
 {
     let place = tree.len();
     if let Some(fault) = fault_in(alloc, place + 1, path.len(), element, strings)? {

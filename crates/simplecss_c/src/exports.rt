@@ -6,7 +6,7 @@
 //! written, and `len` is 0. `place` is set at 2 only.
 
 ghost use Rattle.std.specs.Prelude.{◌≡◌, List, ℕ, Result};
-ghost use Rattle.simplecss_c.specs.declared.answer.Failure.{Failure as SeenFailure};
+ghost use Rattle.simplecss_c.specs.declared.answer.Failure.{Failure as FailureView};
 ghost use Rattle.simplecss_c.specs.Answers.{Answers, IsHandedOver, IsPlaced};
 ghost use Rattle.simplecss_c.specs.Calls.{IsSelectorCall, IsSheetCall, IsPrinted, IsMatchCall};
 ghost use Rattle.simplecss_c.specs.Calls.{IsSelectCall, IsStyleCall};
@@ -37,7 +37,7 @@ pub extern "C" fn simplecss_selector(
     out: &mut [u8],
     len: &mut usize,
 ) -> u32
-    ensures { (outcome : Result (List ℕ) SeenFailure) × IsSelectorCall text.now outcome
+    ensures { (outcome : Result (List ℕ) FailureView) × IsSelectorCall text.now outcome
         × Answers outcome result out.old out.new len.new }
 {
     hand_over(calls::selector(alloc, text), out, len)
@@ -47,7 +47,7 @@ pub extern "C" fn simplecss_selector(
 /// `specificity`.
 #[unsafe(no_mangle)]
 pub extern "C" fn simplecss_list(alloc: Global, text: &[u8], out: &mut [u8], len: &mut usize) -> u32
-    ensures { (outcome : Result (List ℕ) SeenFailure)
+    ensures { (outcome : Result (List ℕ) FailureView)
         × Answers outcome result out.old out.new len.new }
 {
     hand_over(calls::list(alloc, text), out, len)
@@ -62,7 +62,7 @@ pub extern "C" fn simplecss_refusal(
     out: &mut [u8],
     len: &mut usize,
 ) -> u32
-    ensures { (outcome : Result (List ℕ) SeenFailure)
+    ensures { (outcome : Result (List ℕ) FailureView)
         × Answers outcome result out.old out.new len.new }
 {
     hand_over(calls::refusal(alloc, text), out, len)
@@ -77,7 +77,8 @@ pub extern "C" fn simplecss_sheet(
     out: &mut [u8],
     len: &mut usize,
 ) -> u32
-    ensures { (outcome : Result (List ℕ) SeenFailure) × IsSheetCall IsPrinted texts.now ends.now outcome
+    ensures { (outcome : Result (List ℕ) FailureView)
+        × IsSheetCall IsPrinted texts.now ends.now outcome
         × Answers outcome result out.old out.new len.new }
 {
     hand_over(calls::sheet(alloc, texts, ends), out, len)
@@ -93,7 +94,7 @@ pub extern "C" fn simplecss_rules(
     out: &mut [u8],
     len: &mut usize,
 ) -> u32
-    ensures { (outcome : Result (List ℕ) SeenFailure)
+    ensures { (outcome : Result (List ℕ) FailureView)
         × Answers outcome result out.old out.new len.new }
 {
     hand_over(calls::rules(alloc, texts, ends), out, len)
@@ -108,7 +109,7 @@ pub extern "C" fn simplecss_skipped(
     out: &mut [u8],
     len: &mut usize,
 ) -> u32
-    ensures { (outcome : Result (List ℕ) SeenFailure)
+    ensures { (outcome : Result (List ℕ) FailureView)
         × Answers outcome result out.old out.new len.new }
 {
     hand_over(calls::skipped(alloc, text), out, len)
@@ -128,7 +129,7 @@ pub extern "C" fn simplecss_match(
     len: &mut usize,
     place: &mut TreePlace,
 ) -> u32
-    ensures { (outcome : Result (List ℕ) SeenFailure) × IsMatchCall texts.now ends.now
+    ensures { (outcome : Result (List ℕ) FailureView) × IsMatchCall texts.now ends.now
         (record { elements = elements.now; strings = strings.now; ends = string_ends.now }) outcome
         × Answers outcome result out.old out.new len.new
         × IsPlaced outcome place.old place.new }
@@ -156,7 +157,7 @@ pub extern "C" fn simplecss_select(
     len: &mut usize,
     place: &mut TreePlace,
 ) -> u32
-    ensures { (outcome : Result (List ℕ) SeenFailure) × IsSelectCall selectors.now
+    ensures { (outcome : Result (List ℕ) FailureView) × IsSelectCall selectors.now
         (record { elements = elements.now; strings = strings.now; ends = string_ends.now }) outcome
         × Answers outcome result out.old out.new len.new
         × IsPlaced outcome place.old place.new }
@@ -186,7 +187,7 @@ pub extern "C" fn simplecss_style(
     len: &mut usize,
     place: &mut TreePlace,
 ) -> u32
-    ensures { (outcome : Result (List ℕ) SeenFailure) × IsStyleCall texts.now ends.now
+    ensures { (outcome : Result (List ℕ) FailureView) × IsStyleCall texts.now ends.now
         (record { elements = elements.now; strings = strings.now; ends = string_ends.now }) name.now outcome
         × Answers outcome result out.old out.new len.new
         × IsPlaced outcome place.old place.new }
@@ -215,7 +216,7 @@ pub extern "C" fn simplecss_styles(
     len: &mut usize,
     place: &mut TreePlace,
 ) -> u32
-    ensures { (outcome : Result (List ℕ) SeenFailure)
+    ensures { (outcome : Result (List ℕ) FailureView)
         × Answers outcome result out.old out.new len.new
         × IsPlaced outcome place.old place.new }
 {

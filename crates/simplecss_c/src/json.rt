@@ -2,7 +2,7 @@
 
 use crate::answer::Failure;
 use simplecss::{Declaration, Rule, Selector};
-use simplecss_faults::Fault;
+use simplecss_faults::SheetFault;
 use std::alloc::{AllocError, Global};
 use std::fmt::Write as _;
 
@@ -88,7 +88,7 @@ pub fn rule_lines(alloc: Global, rules: &[Rule<'_>]) -> Result<String, Failure> 
 }
 
 /// The lines of what was skipped.
-pub fn fault_lines(alloc: Global, faults: &[Fault<'_>]) -> Result<String, Failure> {
+pub fn fault_lines(alloc: Global, faults: &[SheetFault<'_>]) -> Result<String, Failure> {
     let mut out = String::new(alloc);
     for fault in faults {
         let reason = format!(in alloc; "{}", fault.reason)?;

@@ -3,7 +3,7 @@
 ghost use Rattle.std.specs.Prelude.{◌≡◌, ◌+◌, drop, map, None, Some, IfOk, MatchResult};
 ghost use Rattle.std.specs.Str.{IsCharBoundary};
 ghost use Rattle.simplecss_c.specs.Calls.{FailsFor};
-ghost use Rattle.simplecss_c.specs.SelectorLists.{selectors_in, seen_list};
+ghost use Rattle.simplecss_c.specs.SelectorLists.{selectors_in, list_view};
 
 use crate::answer::Failure;
 use crate::json;
@@ -39,7 +39,7 @@ fn rest_from(text: &str, place: usize) -> &str
 
 /// Reads a list of selectors. A comma within an attribute's value, as in `[a="b,c"]`, ends none.
 fn read_list(alloc: Global, text: &str) -> Result<Listed<'_>, AllocError>
-    ensures { IfOk result (λ listed. seen_list listed ≡ selectors_in text.now) }
+    ensures { IfOk result (λ listed. list_view listed ≡ selectors_in text.now) }
 {
     let mut selectors = Vec::new(alloc);
     let mut start: usize = 0;

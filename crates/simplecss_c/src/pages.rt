@@ -3,12 +3,12 @@
 ghost use Rattle.std.specs.Prelude.{◌≡◌, ◌+◌, ◌^◌, ◌<◌, ◌++◌, All, OnOk, MatchResult, List, ℕ};
 ghost use Rattle.std.specs.Prelude.{length, map, string_bytes};
 ghost use Rattle.std.specs.Option.{option_map};
-ghost use Rattle.simplecss.specs.SeenDeclarations.{declaration_of};
-ghost use Rattle.simplecss.specs.SeenRules.{rules_in};
+ghost use Rattle.simplecss.specs.DeclarationViews.{declaration_of};
+ghost use Rattle.simplecss.specs.RuleViews.{rules_in};
 ghost use Rattle.cssq.specs.MatchRuns.{numbers_line};
 ghost use Rattle.cssq.specs.StyleRuns.{style_line};
-ghost use Rattle.simplecss_c.specs.Lines.{selected_line, places_line, IsLineOf, AreLinesOf};
-ghost use Rattle.simplecss_c.specs.Lines.{IsWinnerLine, AreWinnerLines};
+ghost use Rattle.simplecss_c.specs.AnswerLines.{selected_line, places_line, IsLineOf, AreLinesOf};
+ghost use Rattle.simplecss_c.specs.AnswerLines.{IsWinnerLine, AreWinnerLines};
 
 use crate::answer::Failure;
 use cssq::cascade::winning;
@@ -19,7 +19,7 @@ use std::fmt::Write as _;
 
 /// What is written of an element that some rules match.
 #[derive(Clone, Copy)]
-pub enum Asked {
+pub enum LineContent {
     /// The element's number, and the numbers of the rules.
     Numbers,
     /// The element's number, if there is a rule.
@@ -76,7 +76,7 @@ fn push_winner(
 /// dropped.
 fn push_line<'a>(
     out: &mut String,
-    asked: Asked,
+    content: LineContent,
     index: &RuleIndex<'a>,
     rules: &[Rule<'a>],
     tree: &Tree<'_>,
@@ -86,35 +86,36 @@ fn push_line<'a>(
     requires index { index.now ≡ map (λ rule. rule.selector) rules.now }
     requires place { place < length tree.now }
     requires number { place + 1 < 2 ^ 64 }
-    ensures { OnOk result ((line : List ℕ) × IsLineOf asked
+    ensures { OnOk result ((line : List ℕ) × IsLineOf content
         (map (λ rule. rule.selector) rules.now) tree.now place line
         × (string_bytes out.new ≡ string_bytes out.old ++ line)) }
 {
     let node = tree.node(place).unwrap();
     index.matching(rules, &node, places)?;
     let places = places.as_slice();
-    match asked {
-        Asked::Numbers => push_numbers(out, place + 1, places),
-        Asked::Selected => push_selected(out, place + 1, places),
+    match content {
+        LineContent::Numbers => push_numbers(out, place + 1, places),
+        LineContent::Selected => push_selected(out, place + 1, places),
     }
 }
 
 /// The lines of the elements of a tree, by which rules match each.
 pub fn lines(
     alloc: Global,
-    asked: Asked,
+    content: LineContent,
     rules: &[Rule<'_>],
     tree: &Tree<'_>,
 ) -> Result<String, Failure>
     ensures { MatchResult result
-        (λ text. AreLinesOf asked (map (λ rule. rule.selector) rules.now) tree.now (string_bytes text))
+        (λ text. AreLinesOf content (map (λ rule. rule.selector) rules.now) tree.now
+        (string_bytes text))
         (λ failure. failure ≡ Failure.Memory) }
 {
     let index = RuleIndex::new(alloc, rules)?;
     let mut places = Vec::new(alloc);
     let mut text = String::new(alloc);
     for place in 0..tree.len() {
-        push_line(&mut text, asked, &index, rules, tree, place, &mut places)?;
+        push_line(&mut text, content, &index, rules, tree, place, &mut places)?;
     }
     Ok(text)
 }

@@ -1,5 +1,5 @@
 -- Blocks, a declaration at a time.
--- Serves `blocks::{brace_counts, closing_place, block_end, consume_declarations,
+-- Serves `blocks::{brace_counts, closing_offset, block_end, consume_declarations,
 -- consume_next_block}` (where a block begins and ends).
 use Rattle.std.proofs.Common.{◌≡◌, ℕ, ◌+◌, ◌-◌, ◌<◌, ◌≤◌, ◌==◌, ◌&&◌, List, [], ◌∷◌, Bool, true, false, cond, not, suc, length, take, drop, get_or, slice_index, Option, None, Some, refl, sym, ap, ◌∙◌, arith, eq-eqb, eqb-true, if◌then◌else◌, length-drop, nat_lt, ltb-true, ltb-false}
 use Rattle.std.proofs.lemmas.List.{get_or-drop, get_or-take, take-take, drop-take, length-take, length-take-le, take_rest, take_more}
@@ -13,13 +13,13 @@ use Rattle.simplecss_text.specs.Characters.{Edition}
 use Rattle.simplecss_text.specs.Declarations.{StyleDeclaration, declaration, next_declaration}
 use Rattle.simplecss_text.specs.Blocks.{count_of, closes_block, block_end, from_block_end, ends_list, declaration_in_block, past_broken, past_list, block}
 use Rattle.simplecss_text.specs.Statements.{next_block}
-use Rattle.simplecss_declaration.specs.ListEnds.{EndsAt}
+use Rattle.simplecss_declaration.specs.internal.ListEnds.{EndsAt}
 use Rattle.simplecss_text.specs.Skipped.{Skip, broken_part, if_broken, list_skips, block_skips, next_block_skips}
-use Rattle.simplecss_text.proofs.reading.EachLaws.{took, each-none, each-some}
-use Rattle.simplecss_text.proofs.reading.DeclarationLaws.{next_declaration-takes, declaration_in_block-takes}
-use Rattle.simplecss_text.proofs.reading.LeastLaws.{least-is, least-none, least-le, least-passes}
-use Rattle.simplecss_declaration.specs.UntoldFaults.{FailsAt}
-use Rattle.simplecss_declaration.specs.BlockDepths.{closes_at, ClosesFirst, ClosesNowhere}
+use Rattle.simplecss_text.proofs.reading.EachLemmas.{took, each-none, each-some}
+use Rattle.simplecss_text.proofs.reading.DeclarationLemmas.{next_declaration-takes, declaration_in_block-takes}
+use Rattle.simplecss_text.proofs.reading.LeastLemmas.{least-is, least-none, least-le, least-passes}
+use Rattle.simplecss_declaration.specs.internal.UnreportedFaults.{FailsAt}
+use Rattle.simplecss_declaration.specs.internal.BlockDepths.{closes_at, ClosesFirst, ClosesNowhere}
 use Rattle.simplecss_declaration.proofs.DeclarationLists.{found-none}
 
 first-true : (a b : Bool) → (a && b) ≡ true → a ≡ true
@@ -27,23 +27,23 @@ first-true true b e = refl
 first-true false b e = e
 
 -- the number of the byte before an offset, and up to a later one
-count_of-take-add : (byte : ℕ) (text : List ℕ) (place len : ℕ) → count_of byte (take (place + len) text) ≡ count_of byte (take place text) + count_of byte (take len (drop place text))
-count_of-take-add byte text place len =
-    let front : take place (take (place + len) text) ≡ take place text = take-take place (place + len) text (omega arith) in
-    let behind : drop place (take (place + len) text) ≡ take len (drop place text) = drop-take place len text in
-    let all : count_of byte (take place (take (place + len) text)) + count_of byte (drop place (take (place + len) text)) ≡ count_of byte (take (place + len) text) = sum_by-take-drop (λ b. cond (b == byte) 1 0) (take (place + len) text) place in
-    sym all ∙ ap (λ t. count_of byte t + count_of byte (drop place (take (place + len) text))) front ∙ ap (λ t. count_of byte (take place text) + count_of byte t) behind
+count_of-take-add : (byte : ℕ) (text : List ℕ) (offset len : ℕ) → count_of byte (take (offset + len) text) ≡ count_of byte (take offset text) + count_of byte (take len (drop offset text))
+count_of-take-add byte text offset len =
+    let front : take offset (take (offset + len) text) ≡ take offset text = take-take offset (offset + len) text (omega arith) in
+    let after : drop offset (take (offset + len) text) ≡ take len (drop offset text) = drop-take offset len text in
+    let all : count_of byte (take offset (take (offset + len) text)) + count_of byte (drop offset (take (offset + len) text)) ≡ count_of byte (take (offset + len) text) = sum_by-take-drop (λ b. cond (b == byte) 1 0) (take (offset + len) text) offset in
+    sym all ∙ ap (λ t. count_of byte t + count_of byte (drop offset (take (offset + len) text))) front ∙ ap (λ t. count_of byte (take offset text) + count_of byte t) after
 
 one_byte : (b : Bool) → 0 + cond b 1 0 ≡ bool_byte b
 one_byte true = refl
 one_byte false = refl
 
 -- one more of the byte is before the next offset, if it is at this one
-pub count_of-more : (byte : ℕ) (text : List ℕ) (place : ℕ) → place < length text → count_of byte (take place text) + bool_byte (get_or text place 0 == byte) ≡ count_of byte (take (place + 1) text)
-count_of-more byte text place within = sym (
-    ap (count_of byte) (take_more text place 0 within)
-    ∙ sum_by-append (λ b. cond (b == byte) 1 0) (take place text) (get_or text place 0 ∷ [])
-    ∙ ap (λ n. count_of byte (take place text) + n) (one_byte (get_or text place 0 == byte))
+pub count_of-more : (byte : ℕ) (text : List ℕ) (offset : ℕ) → offset < length text → count_of byte (take offset text) + bool_byte (get_or text offset 0 == byte) ≡ count_of byte (take (offset + 1) text)
+count_of-more byte text offset within = sym (
+    ap (count_of byte) (take_more text offset 0 within)
+    ∙ sum_by-append (λ b. cond (b == byte) 1 0) (take offset text) (get_or text offset 0 ∷ [])
+    ∙ ap (λ n. count_of byte (take offset text) + n) (one_byte (get_or text offset 0 == byte))
     )
 
 same_test : (a b c d : ℕ) → (a ≡ b → c ≡ d) → (c ≡ d → a ≡ b) → (a == b) ≡ (c == d)
@@ -57,63 +57,63 @@ same_test a b c d there back = by (a == b) (c == d) refl refl
 
 -- The block in which the text begins is not closed before the offset, and `depth` of those that
 -- begin before it are open there.
-pub record IsInside (text : List ℕ) (place depth : ℕ) : Type 0 where
-  pub counts : depth + count_of 125 (take place text) ≡ count_of 123 (take place text)
-  pub none : (k : ℕ) → k < place → closes_block text k ≡ false
+pub record IsInside (text : List ℕ) (offset depth : ℕ) : Type 0 where
+  pub counts : depth + count_of 125 (take offset text) ≡ count_of 123 (take offset text)
+  pub none : (k : ℕ) → k < offset → closes_block text k ≡ false
 
 -- `n` bytes from an offset on are a part of the text
-pub part_len : (text part : List ℕ) (place n : ℕ) → part ≡ take n (drop place text) → place + n ≤ length text → (part ≡ take (length part) (drop place text)) × (length part ≡ n)
-part_len text part place n p l =
-    let len : length part ≡ n = ap length p ∙ length-take-le n (drop place text) (omega (arith, length-drop place text)) in
-    (p ∙ ap (λ m. take m (drop place text)) (sym len), len)
+pub part_len : (text part : List ℕ) (offset n : ℕ) → part ≡ take n (drop offset text) → offset + n ≤ length text → (part ≡ take (length part) (drop offset text)) × (length part ≡ n)
+part_len text part offset n p l =
+    let len : length part ≡ n = ap length p ∙ length-take-le n (drop offset text) (omega (arith, length-drop offset text)) in
+    (p ∙ ap (λ m. take m (drop offset text)) (sym len), len)
 
 -- so are as many bytes of a rest of which others are left
-pub part_split : (text part left : List ℕ) (place n : ℕ) → place ≤ length text → part ≡ take n (take (length text - place) (drop place text)) → length left + n ≡ length (take (length text - place) (drop place text))
-    → (part ≡ take (length part) (drop place text)) × (length part ≡ n) × (place + n ≤ length text)
-part_split text part left place n l p e =
-    let rest : take (length text - place) (drop place text) ≡ drop place text = take_rest text place in
-    let within : place + n ≤ length text = omega (arith, e, ap length rest, length-drop place text) in
-    let split = part_len text part place n (p ∙ ap (take n) rest) within in
+pub part_split : (text part left : List ℕ) (offset n : ℕ) → offset ≤ length text → part ≡ take n (take (length text - offset) (drop offset text)) → length left + n ≡ length (take (length text - offset) (drop offset text))
+    → (part ≡ take (length part) (drop offset text)) × (length part ≡ n) × (offset + n ≤ length text)
+part_split text part left offset n l p e =
+    let rest : take (length text - offset) (drop offset text) ≡ drop offset text = take_rest text offset in
+    let within : offset + n ≤ length text = omega (arith, e, ap length rest, length-drop offset text) in
+    let split = part_len text part offset n (p ∙ ap (take n) rest) within in
     (split.0, split.1, within)
 
 -- what closes a part of the text closes the text
-closes_block-part : (text part : List ℕ) (place depth k : ℕ) → IsInside text place depth → part ≡ take (length part) (drop place text) → k < length part → closes_block text (place + k) ≡ closes_at depth part k
-closes_block-part text part place depth k inside p h =
-    let front : take k part ≡ take k (drop place text) = ap (take k) p ∙ take-take k (length part) (drop place text) (omega arith) in
-    let byte : get_or part k 0 ≡ get_or text (place + k) 0 = ap (λ t. get_or t k 0) p ∙ get_or-take (length part) (drop place text) k 0 h ∙ get_or-drop place text k 0 in
-    let begun : count_of 123 (take (place + k) text) ≡ count_of 123 (take place text) + count_of 123 (take k part) = count_of-take-add 123 text place k ∙ ap (λ t. count_of 123 (take place text) + count_of 123 t) (sym front) in
-    let ended : count_of 125 (take (place + k) text) ≡ count_of 125 (take place text) + count_of 125 (take k part) = count_of-take-add 125 text place k ∙ ap (λ t. count_of 125 (take place text) + count_of 125 t) (sym front) in
-    let even : (count_of 123 (take (place + k) text) == count_of 125 (take (place + k) text)) ≡ (depth + count_of 123 (take k part) == count_of 125 (take k part)) =
+closes_block-part : (text part : List ℕ) (offset depth k : ℕ) → IsInside text offset depth → part ≡ take (length part) (drop offset text) → k < length part → closes_block text (offset + k) ≡ closes_at depth part k
+closes_block-part text part offset depth k inside p h =
+    let front : take k part ≡ take k (drop offset text) = ap (take k) p ∙ take-take k (length part) (drop offset text) (omega arith) in
+    let byte : get_or part k 0 ≡ get_or text (offset + k) 0 = ap (λ t. get_or t k 0) p ∙ get_or-take (length part) (drop offset text) k 0 h ∙ get_or-drop offset text k 0 in
+    let begun : count_of 123 (take (offset + k) text) ≡ count_of 123 (take offset text) + count_of 123 (take k part) = count_of-take-add 123 text offset k ∙ ap (λ t. count_of 123 (take offset text) + count_of 123 t) (sym front) in
+    let ended : count_of 125 (take (offset + k) text) ≡ count_of 125 (take offset text) + count_of 125 (take k part) = count_of-take-add 125 text offset k ∙ ap (λ t. count_of 125 (take offset text) + count_of 125 t) (sym front) in
+    let even : (count_of 123 (take (offset + k) text) == count_of 125 (take (offset + k) text)) ≡ (depth + count_of 123 (take k part) == count_of 125 (take k part)) =
     same_test _ _ _ _ (λ e. omega (arith, inside.counts)) (λ e. omega (arith, inside.counts)) in
-    ap (λ b. b == 125 && count_of 123 (take (place + k) text) == count_of 125 (take (place + k) text)) (sym byte) ∙ ap (λ t. get_or part k 0 == 125 && t) even
+    ap (λ b. b == 125 && count_of 123 (take (offset + k) text) == count_of 125 (take (offset + k) text)) (sym byte) ∙ ap (λ t. get_or part k 0 == 125 && t) even
 
 -- after a part of the text in which nothing closes the block
-pub inside-passed : (text part : List ℕ) (place depth behind : ℕ) → IsInside text place depth → part ≡ take (length part) (drop place text) → ClosesNowhere depth part behind → IsInside text (place + length part) behind
-inside-passed text part place depth behind inside p nowhere = record {
-  counts = omega (arith, inside.counts, nowhere.counts, count_of-take-add 123 text place (length part), count_of-take-add 125 text place (length part), ap (count_of 123) p, ap (count_of 125) p);
-  none = λ k h. by k h (nat_lt k place) refl;
+pub inside-passed : (text part : List ℕ) (offset depth after : ℕ) → IsInside text offset depth → part ≡ take (length part) (drop offset text) → ClosesNowhere depth part after → IsInside text (offset + length part) after
+inside-passed text part offset depth after inside p nowhere = record {
+  counts = omega (arith, inside.counts, nowhere.counts, count_of-take-add 123 text offset (length part), count_of-take-add 125 text offset (length part), ap (count_of 123) p, ap (count_of 125) p);
+  none = λ k h. by k h (nat_lt k offset) refl;
 }
   where
-    by : (k : ℕ) → k < place + length part → (before : Bool) → nat_lt k place ≡ before → closes_block text k ≡ false
-    by k h true e = inside.none k (ltb-true k place e)
+    by : (k : ℕ) → k < offset + length part → (before : Bool) → nat_lt k offset ≡ before → closes_block text k ≡ false
+    by k h true e = inside.none k (ltb-true k offset e)
     by k h false e =
-        let behind : place ≤ k = ltb-false k place e in
-        let at : place + (k - place) ≡ k = omega arith in
-        ap (closes_block text) (sym at) ∙ closes_block-part text part place depth (k - place) inside p (omega arith) ∙ nowhere.none (k - place) (omega arith)
+        let after : offset ≤ k = ltb-false k offset e in
+        let at : offset + (k - offset) ≡ k = omega arith in
+        ap (closes_block text) (sym at) ∙ closes_block-part text part offset depth (k - offset) inside p (omega arith) ∙ nowhere.none (k - offset) (omega arith)
 
 -- where a part of the text is closed, the block ends that the text begins in
-pub inside-closed : (text part : List ℕ) (place depth at : ℕ) → IsInside text place depth → part ≡ take (length part) (drop place text) → ClosesFirst depth part at → block_end text ≡ place + at
+pub inside-closed : (text part : List ℕ) (offset depth at : ℕ) → IsInside text offset depth → part ≡ take (length part) (drop offset text) → ClosesFirst depth part at → block_end text ≡ offset + at
 unfolding block_end
-inside-closed text part place depth at inside p first =
-    let within : place + at < length text = omega (arith, first.within, ap length p, length-take (length part) (drop place text), length-drop place text) in
-    least-is (closes_block text) (length text) (place + at) within (closes_block-part text part place depth at inside p first.within ∙ first.closes) (λ k h. by k h (nat_lt k place) refl)
+inside-closed text part offset depth at inside p first =
+    let within : offset + at < length text = omega (arith, first.within, ap length p, length-take (length part) (drop offset text), length-drop offset text) in
+    least-is (closes_block text) (length text) (offset + at) within (closes_block-part text part offset depth at inside p first.within ∙ first.closes) (λ k h. by k h (nat_lt k offset) refl)
   where
-    by : (k : ℕ) → k < place + at → (before : Bool) → nat_lt k place ≡ before → closes_block text k ≡ false
-    by k h true e = inside.none k (ltb-true k place e)
+    by : (k : ℕ) → k < offset + at → (before : Bool) → nat_lt k offset ≡ before → closes_block text k ≡ false
+    by k h true e = inside.none k (ltb-true k offset e)
     by k h false e =
-        let behind : place ≤ k = ltb-false k place e in
-        let here : place + (k - place) ≡ k = omega arith in
-        ap (closes_block text) (sym here) ∙ closes_block-part text part place depth (k - place) inside p (omega (arith, first.within)) ∙ first.before (k - place) (omega arith)
+        let after : offset ≤ k = ltb-false k offset e in
+        let here : offset + (k - offset) ≡ k = omega arith in
+        ap (closes_block text) (sym here) ∙ closes_block-part text part offset depth (k - offset) inside p (omega (arith, first.within)) ∙ first.before (k - offset) (omega arith)
 
 -- without such a brace the block ends where the text does
 pub inside-open : (text : List ℕ) (depth : ℕ) → IsInside text (length text) depth → block_end text ≡ length text
@@ -162,26 +162,26 @@ past_list-broken edition text left e h = rw e (by (declaration edition text) h)
 -- ---- the block of a rule set
 
 -- the block after the first opening brace, if there is one
-abbrev block_behind : Edition → Option (List ℕ) → List StyleDeclaration × List ℕ
-block_behind edition None = ([], [])
-block_behind edition (Some text) = block edition text
+abbrev block_after : Edition → Option (List ℕ) → List StyleDeclaration × List ℕ
+block_after edition None = ([], [])
+block_after edition (Some text) = block edition text
 
-next_block-behind : (edition : Edition) (text : List ℕ) → next_block edition text ≡ block_behind edition (after_byte 123 text)
+next_block-after : (edition : Edition) (text : List ℕ) → next_block edition text ≡ block_after edition (after_byte 123 text)
 unfolding next_block
-next_block-behind edition [] = refl
-next_block-behind edition (b ∷ text) = by (b == 123) refl (next_block-behind edition text)
+next_block-after edition [] = refl
+next_block-after edition (b ∷ text) = by (b == 123) refl (next_block-after edition text)
   where
-    by : (t : Bool) → (b == 123) ≡ t → next_block edition text ≡ block_behind edition (after_byte 123 text) → next_block edition (b ∷ text) ≡ block_behind edition (after_byte 123 (b ∷ text))
+    by : (t : Bool) → (b == 123) ≡ t → next_block edition text ≡ block_after edition (after_byte 123 text) → next_block edition (b ∷ text) ≡ block_after edition (after_byte 123 (b ∷ text))
     by true e more = rw (e, e) refl
     by false e more =
         let one : 1 + prefix_len (λ b. not (b == 123)) text ≡ suc (prefix_len (λ b. not (b == 123)) text) = omega arith in
         rw (e, one) more
 
 pub next_block-some : (edition : Edition) (text rest : List ℕ) → after_byte 123 text ≡ Some rest → next_block edition text ≡ block edition rest
-next_block-some edition text rest e = next_block-behind edition text ∙ ap (block_behind edition) e
+next_block-some edition text rest e = next_block-after edition text ∙ ap (block_after edition) e
 
 pub next_block-none : (edition : Edition) (text : List ℕ) → after_byte 123 text ≡ None → next_block edition text ≡ ([], [])
-next_block-none edition text e = next_block-behind edition text ∙ ap (block_behind edition) e
+next_block-none edition text e = next_block-after edition text ∙ ap (block_after edition) e
 
 -- where no broken declaration ends the list of declarations
 pub block-ended : (edition : Edition) (text left rest : List ℕ) (front : List StyleDeclaration) → front ≡ (each (declaration_in_block edition) text).0 → EndsAt edition (each (declaration_in_block edition) text).1 None left → rest ≡ past_byte 125 left → block edition text ≡ (front, rest)
@@ -226,23 +226,23 @@ block_skips-broken edition text begun left h =
     ∙ sym (list_skips-broken edition (each (declaration_in_block edition) text).1 left h.0 h.2)
 
 -- the block after the first opening brace, if there is one
-abbrev skips_behind : Edition → Option (List ℕ) → List Skip
-skips_behind edition None = []
-skips_behind edition (Some text) = block_skips edition text
+abbrev skips_after : Edition → Option (List ℕ) → List Skip
+skips_after edition None = []
+skips_after edition (Some text) = block_skips edition text
 
-next_block_skips-behind : (edition : Edition) (text : List ℕ) → next_block_skips edition text ≡ skips_behind edition (after_byte 123 text)
+next_block_skips-after : (edition : Edition) (text : List ℕ) → next_block_skips edition text ≡ skips_after edition (after_byte 123 text)
 unfolding next_block_skips
-next_block_skips-behind edition [] = refl
-next_block_skips-behind edition (b ∷ text) = by (b == 123) refl (next_block_skips-behind edition text)
+next_block_skips-after edition [] = refl
+next_block_skips-after edition (b ∷ text) = by (b == 123) refl (next_block_skips-after edition text)
   where
-    by : (t : Bool) → (b == 123) ≡ t → next_block_skips edition text ≡ skips_behind edition (after_byte 123 text) → next_block_skips edition (b ∷ text) ≡ skips_behind edition (after_byte 123 (b ∷ text))
+    by : (t : Bool) → (b == 123) ≡ t → next_block_skips edition text ≡ skips_after edition (after_byte 123 text) → next_block_skips edition (b ∷ text) ≡ skips_after edition (after_byte 123 (b ∷ text))
     by true e more = rw (e, e) refl
     by false e more =
         let one : 1 + prefix_len (λ b. not (b == 123)) text ≡ suc (prefix_len (λ b. not (b == 123)) text) = omega arith in
         rw (e, one) more
 
 pub next_block_skips-some : (edition : Edition) (text rest : List ℕ) → after_byte 123 text ≡ Some rest → next_block_skips edition text ≡ block_skips edition rest
-next_block_skips-some edition text rest e = next_block_skips-behind edition text ∙ ap (skips_behind edition) e
+next_block_skips-some edition text rest e = next_block_skips-after edition text ∙ ap (skips_after edition) e
 
 pub next_block_skips-none : (edition : Edition) (text : List ℕ) → after_byte 123 text ≡ None → next_block_skips edition text ≡ []
-next_block_skips-none edition text e = next_block_skips-behind edition text ∙ ap (skips_behind edition) e
+next_block_skips-none edition text e = next_block_skips-after edition text ∙ ap (skips_after edition) e

@@ -4,9 +4,9 @@ use Rattle.std.proofs.Common.{◌≡◌, ℕ, List, [], ◌∷◌, None, refl, a
 use Rattle.simplecss_text.specs.Reading.{Reading, got, fails, found, each}
 use Rattle.simplecss_text.specs.Characters.{Edition}
 use Rattle.simplecss_text.specs.Declarations.{StyleDeclaration, declaration, next_declaration, declarations}
-use Rattle.simplecss_text.proofs.reading.EachLaws.{each-none, each-some}
-use Rattle.simplecss_text.proofs.reading.DeclarationLaws.{next_declaration-takes}
-use Rattle.simplecss_declaration.specs.UntoldFaults.{FailsAt}
+use Rattle.simplecss_text.proofs.reading.EachLemmas.{each-none, each-some}
+use Rattle.simplecss_text.proofs.reading.DeclarationLemmas.{next_declaration-takes}
+use Rattle.simplecss_declaration.specs.internal.UnreportedFaults.{FailsAt}
 
 pub declarations-some : (edition : Edition) (text rest : List ℕ) (p : StyleDeclaration) → declaration edition text ≡ got p rest → declarations edition text ≡ p ∷ declarations edition rest
 unfolding declarations

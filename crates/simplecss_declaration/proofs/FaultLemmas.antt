@@ -1,8 +1,8 @@
 -- Readings that fail.
--- Serves `reader::take_value` (a term that fails, fails the value).
+-- Serves `reader::read_value` (a term that fails, fails the value).
 use Rattle.std.proofs.Common.{◌≡◌, ℕ, List, Bool, true, false, sym, ap}
 use Rattle.simplecss_text.specs.Reading.{Fault, Reading, got, fails}
-use Rattle.simplecss_declaration.specs.UntoldFaults.{FailsAt, Passes}
+use Rattle.simplecss_declaration.specs.internal.UnreportedFaults.{FailsAt, Passes}
 
 -- there is a fault
 pub failed : {A : Type 0} (r : Reading A) (left : List ℕ) → FailsAt r left → (fault : Fault) × (r ≡ fails fault left)

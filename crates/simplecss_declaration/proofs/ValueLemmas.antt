@@ -1,5 +1,5 @@
 -- A value, a term at a time, and semicolons.
--- Serves `reader::{take_value, consume_declaration, pass_semicolons}` (a value term by term).
+-- Serves `reader::{read_value, take_declaration, skip_semicolons}` (a value term by term).
 use Rattle.std.proofs.Common.{◌≡◌, ℕ, ◌<◌, ◌-◌, List, [], ◌∷◌, Bool, true, false, length, take, refl, sym, ap, ◌∙◌, subst, arith, length-take-le, slice_range}
 use Rattle.std.specs.Str.{trim, IsUtf8, IsCharBoundary}
 use Rattle.std.proofs.lemmas.Str.{IsCharBoundary-at_seam}
@@ -11,10 +11,10 @@ use Rattle.simplecss_text.specs.Names.{name}
 use Rattle.simplecss_text.specs.Slices.{StandBetween}
 use Rattle.simplecss_text.specs.Terms.{term}
 use Rattle.simplecss_text.specs.Declarations.{after_term, term_in_value, last_or, value, semicolon, trailing}
-use Rattle.simplecss_text.proofs.reading.EndsLaws.{no_texts, itself, ends-ends, ends-got, ends-past_byte, stands-got, stand-from, stand-to, stand-append}
-use Rattle.simplecss_text.proofs.reading.StandLaws.{blank-stands, byte-stands, name-stands}
+use Rattle.simplecss_text.proofs.reading.EndsLemmas.{no_texts, itself, ends-ends, ends-got, ends-past_byte, stands-got, stand-from, stand-to, stand-append}
+use Rattle.simplecss_text.proofs.reading.StandLemmas.{blank-stands, byte-stands, name-stands}
 use Rattle.simplecss_text.proofs.reading.DeclarationsLawful.{semicolon-takes, term_in_value-takes, trailing-stands}
-use Rattle.simplecss_text.proofs.reading.EachLaws.{took, each-none, each-some}
+use Rattle.simplecss_text.proofs.reading.EachLemmas.{took, each-none, each-some}
 
 pub terms-some : (edition : Edition) (text rest : List ℕ) → term edition text ≡ got tt rest → each (term_in_value edition) text ≡ followed_by rest (each (term_in_value edition) (past_blank rest))
 terms-some edition text rest e = each-some (term_in_value edition) (term_in_value-takes edition) text (past_blank rest) rest (ap after_term e)
@@ -66,6 +66,6 @@ declaration-slices edition text a b n c d start g h v important e1 e2 e3 e4 e5 e
     let front : Ends text b = ends-ends text a b (ends-got text no_texts (blank text) tt a (blank-stands text) e1) (subst (λ (t : List ℕ). Ends a t) (sym e2) (ends-past_byte 42 a)) in
     let named : StandBetween text c (n ∷ []) = stand-from text b c (n ∷ []) front (stands-got b itself (name edition b) n c (name-stands edition b) e3) in
     let colon : Ends c start = ends-ends c d start (ends-got c no_texts (blank c) tt d (blank-stands c) e4) (ends-got d no_texts (byte 58 d) tt start (byte-stands 58 d) e5) in
-    let behind : Ends c e = ends-ends c start e colon (ends-got start no_texts (blank start) tt e (blank-stands start) e6) in
-    let stated : StandBetween c h (v ∷ []) = stand-to c g h (v ∷ []) (stand-from c e g (v ∷ []) behind e7) (ends-got g no_texts (trailing g) important h (trailing-stands g) e8) in
+    let after : Ends c e = ends-ends c start e colon (ends-got start no_texts (blank start) tt e (blank-stands start) e6) in
+    let stated : StandBetween c h (v ∷ []) = stand-to c g h (v ∷ []) (stand-from c e g (v ∷ []) after e7) (ends-got g no_texts (trailing g) important h (trailing-stands g) e8) in
     stand-append text c h (n ∷ []) (v ∷ []) named stated

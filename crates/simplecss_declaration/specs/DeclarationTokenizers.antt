@@ -3,20 +3,20 @@ use Rattle.std.specs.Prelude.{◌≡◌, ℕ, ◌≤◌, List, [], ◌∷◌, le
 use Rattle.std.specs.Iterator.{YieldsFirstBy}
 use Rattle.std.specs.Iterator.Runs.{EveryRun, ItemsMapTo}
 use Rattle.simplecss_text.specs.Slices.{StandBetween}
-use Rattle.simplecss_text.specs.Cursor.{text_of, rest_of, place_of}
+use Rattle.simplecss_text.specs.Cursor.{text_of, rest_of, offset_of}
 use Rattle.simplecss_text.specs.ThisEdition.{this_edition}
 use Rattle.simplecss_text.specs.Declarations.{StyleDeclaration, next_declaration, declarations}
 use Rattle.simplecss_declaration.specs.declared.declarations.Declaration.{Declaration}
 use Rattle.simplecss_declaration.specs.declared.tokenizer.DeclarationTokenizer.{DeclarationTokenizer}
-use Rattle.simplecss_declaration.specs.SeenDeclarations.{declaration_of}
+use Rattle.simplecss_declaration.specs.DeclarationViews.{declaration_of}
 
 -- the whole text
 abbrev pub whole_text : DeclarationTokenizer → List ℕ
 whole_text t = text_of t.stream
 
 -- how many bytes of it have been read
-abbrev pub place_in : DeclarationTokenizer → ℕ
-place_in t = place_of t.stream
+abbrev pub offset_in : DeclarationTokenizer → ℕ
+offset_in t = offset_of t.stream
 
 -- what is left to read
 abbrev pub left_of : DeclarationTokenizer → List ℕ
@@ -50,7 +50,7 @@ pub record GivesDeclaration (before : DeclarationTokenizer) (result : Option Dec
   -- its name and its value occur in what was consumed
   pub slices : StandBetween (left_of before) (left_of after) (given_texts result)
   -- the offset does not fall
-  pub forward : place_in before ≤ place_in after
+  pub forward : offset_in before ≤ offset_in after
 
 -- What calls of `next` return, from any tokenizer on, is a prefix of the declarations that are
 -- still to come there, and all of them if the calls continued to `None`.
@@ -60,7 +60,7 @@ GivesInTurn = EveryRun GivesDeclaration (λ calls. ItemsMapTo calls declaration_
 -- a tokenizer at the start of a text
 pub record Begins (text : List ℕ) (t : DeclarationTokenizer) : Type 0 where
   pub whole_text_is : whole_text t ≡ text
-  pub at_start : place_in t ≡ 0
+  pub at_start : offset_in t ≡ 0
   -- the declarations of the text are still to come: at most as many as it has bytes
   pub to_come : still_to_come t ≡ declarations this_edition text
   pub few : length (still_to_come t) ≤ length text

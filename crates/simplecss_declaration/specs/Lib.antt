@@ -1,5 +1,3 @@
-pub mod SeenDeclarations
-pub mod UntoldFaults
+pub mod DeclarationViews
 pub mod DeclarationTokenizers
-pub mod BlockDepths
-pub mod ListEnds
+pub mod internal

@@ -11,12 +11,12 @@ ghost use Rattle.simplecss_text.specs.Skipped.{list_end_skips, brace_skips, brok
 ghost use Rattle.simplecss_text.specs.Skipped.{block_skips, next_block_skips, add_each};
 ghost use Rattle.simplecss_text.specs.ThisEdition.{this_edition};
 ghost use Rattle.simplecss_text.specs.Cursor.{text_of, rest_of};
-ghost use Rattle.simplecss_declaration.specs.BlockDepths.{ClosesFirst, ClosesNowhere};
-ghost use Rattle.simplecss_declaration.specs.ListEnds.{EndsAt};
-ghost use Rattle.simplecss_declaration.specs.SeenDeclarations.{declaration_of};
+ghost use Rattle.simplecss_declaration.specs.internal.BlockDepths.{ClosesFirst, ClosesNowhere};
+ghost use Rattle.simplecss_declaration.specs.internal.ListEnds.{EndsAt};
+ghost use Rattle.simplecss_declaration.specs.DeclarationViews.{declaration_of};
 
 use super::declarations::Declaration;
-use super::reader::consume_declaration;
+use super::reader::take_declaration;
 use simplecss_text::report::{Report, Skipped, Why};
 use simplecss_text::stream::Stream;
 use simplecss_text::{readers, scan};
@@ -49,10 +49,10 @@ fn outer_brace(bytes: &[u8], depth: usize) -> Result<usize, usize>
     ensures { MatchResult result (ClosesFirst depth bytes.now) (ClosesNowhere depth bytes.now) }
 {
     let mut open = depth;
-    for (place, byte) in bytes.iter().enumerate() {
+    for (offset, byte) in bytes.iter().enumerate() {
         match *byte {
             b'{' => open += 1,
-            b'}' if open == 0 => return Ok(place),
+            b'}' if open == 0 => return Ok(offset),
             b'}' => open -= 1,
             _ => {}
         }
@@ -76,20 +76,20 @@ fn outer_brace_of_chunk(chunk: &[u8; CHUNK], depth: usize) -> Result<usize, usiz
 }
 
 /// Returns the offset at which the current block ends.
-fn closing_place(bytes: &[u8]) -> usize
+fn closing_offset(bytes: &[u8]) -> usize
     ensures { result ≡ block_end_of bytes.now }
 {
     let mut depth = 0usize;
     let mut passed = 0usize;
     'chunks: while let Some((chunk, _)) = bytes[passed..].split_first_chunk::<CHUNK>() {
         match outer_brace_of_chunk(chunk, depth) {
-            Ok(place) => return passed + place,
+            Ok(offset) => return passed + offset,
             Err(deeper) => depth = deeper,
         }
         passed += CHUNK;
     }
     match outer_brace(&bytes[passed..], depth) {
-        Ok(place) => passed + place,
+        Ok(offset) => passed + offset,
         Err(_) => bytes.len(),
     }
 }
@@ -102,11 +102,11 @@ fn block_end(text: &str) -> usize
     ensures len { result ≡ block_end_of text.now }
     ensures boundary { IsCharBoundary text.now result }
 {
-    closing_place(text.as_bytes())
+    closing_offset(text.as_bytes())
 }
 
 /// Skips the rest of the current block, up to the closing brace that ends it.
-fn pass_to_block_end(s: &mut Stream<'_>)
+fn skip_to_block_end(s: &mut Stream<'_>)
     ensures text { text_of s.new ≡ text_of s.old }
     ensures rest { rest_of s.new ≡ from_block_end (rest_of s.old) }
 {
@@ -114,11 +114,11 @@ fn pass_to_block_end(s: &mut Stream<'_>)
 }
 
 /// Skips the rest of the current block, and the closing brace that ends it.
-fn pass_block(s: &mut Stream<'_>)
+fn skip_block(s: &mut Stream<'_>)
     ensures text { text_of s.new ≡ text_of s.old }
     ensures rest { rest_of s.new ≡ past_byte close_brace (from_block_end (rest_of s.old)) }
 {
-    pass_to_block_end(s);
+    skip_to_block_end(s);
     s.try_consume_byte(b'}');
 }
 
@@ -160,7 +160,7 @@ fn skip_brace<'a, P: Report<'a>>(report: &mut P, s: &mut Stream<'a>) -> Result<(
         ≡ add_each P.add (P.state report.old) (brace_skips (rest_of s.old))) }
 {
     let from = s.slice_tail();
-    if !readers::pass_byte(s, b'}') {
+    if !readers::skip_byte(s, b'}') {
         return Ok(());
     }
     report.report(Skipped {
@@ -185,7 +185,7 @@ fn skip_broken<'a, P: Report<'a>>(
     ensures reported { OnOk result (P.state report.new ≡ add_each P.add (P.state report.old)
         (broken_part text.now (from_block_end (rest_of s.old)))) }
 {
-    pass_to_block_end(s);
+    skip_to_block_end(s);
     report_list_end(report, text, s.slice_tail())?;
     s.try_consume_byte(b'}');
     skip_brace(report, s)
@@ -218,7 +218,7 @@ fn consume_declarations<'a>(
     declarations.clear();
     'list: while !at_list_end(s) {
         let text = s.slice_tail();
-        match consume_declaration(s) {
+        match take_declaration(s) {
             Some(declaration) => declarations.push(declaration)?,
             None => return Ok(Some(text)),
         }
@@ -282,14 +282,14 @@ pub fn consume_next_block<'a, P: Report<'a>>(
 }
 
 /// Skips the rest of an at-rule after its name: up to and including a semicolon or a block.
-pub fn pass_semicolon_or_block(s: &mut Stream<'_>)
+pub fn skip_semicolon_or_block(s: &mut Stream<'_>)
     ensures text { text_of s.new ≡ text_of s.old }
     ensures rest { rest_of s.new
         ≡ past_semicolon_or_block (past (is_neither semicolon open_brace) (rest_of s.old)) }
 {
     s.skip_bytes(|byte| byte != b';' && byte != b'{');
-    if readers::pass_byte(s, b'{') {
-        pass_block(s);
+    if readers::skip_byte(s, b'{') {
+        skip_block(s);
     } else {
         s.try_consume_byte(b';');
     }

@@ -9,6 +9,6 @@ mod reader;
 mod terms;
 mod tokenizer;
 
-pub use blocks::{consume_next_block, pass_semicolon_or_block};
+pub use blocks::{consume_next_block, skip_semicolon_or_block};
 pub use declarations::Declaration;
 pub use tokenizer::DeclarationTokenizer;

@@ -12,7 +12,7 @@ use std::fmt::Display;
 impl<'a> Display for Declaration<'a> {
     ghost use Rattle.std.specs.Prelude.{Some};
     ghost use Rattle.simplecss_text.specs.Printing.{declaration_text};
-    ghost use Rattle.simplecss_declaration.specs.SeenDeclarations.{declaration_of};
+    ghost use Rattle.simplecss_declaration.specs.DeclarationViews.{declaration_of};
 
     ghost output = { λ d. Some (declaration_text (declaration_of d)) };
 

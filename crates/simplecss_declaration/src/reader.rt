@@ -10,17 +10,17 @@ ghost use Rattle.simplecss_text.specs.Declarations.{importance, semicolon, trail
 ghost use Rattle.simplecss_text.specs.Declarations.{declaration as declaration_read};
 ghost use Rattle.simplecss_text.specs.ThisEdition.{this_edition};
 ghost use Rattle.simplecss_text.specs.Cursor.{text_of, rest_of};
-ghost use Rattle.simplecss_declaration.specs.UntoldFaults.{Answers, Passes};
-ghost use Rattle.simplecss_declaration.specs.SeenDeclarations.{declaration_of};
+ghost use Rattle.simplecss_declaration.specs.internal.UnreportedFaults.{Answers, Passes};
+ghost use Rattle.simplecss_declaration.specs.DeclarationViews.{declaration_of};
 
 use super::declarations::Declaration;
-use super::terms::pass_term;
+use super::terms::skip_term;
 use simplecss_text::stream::Stream;
 use simplecss_text::{readers, scan};
 
 /// Skips a blank, up to an open comment if there is one.
 #[inline(always)]
-fn pass_gap(s: &mut Stream<'_>)
+fn skip_gap(s: &mut Stream<'_>)
     ensures text { text_of s.new ≡ text_of s.old }
     ensures rest { rest_of s.new ≡ past_blank (rest_of s.old) }
 {
@@ -30,23 +30,23 @@ fn pass_gap(s: &mut Stream<'_>)
 /// Consumes the terms of a value, and returns the text from the first to the end of the last,
 /// trimmed. The first term that could not be read is consumed too, as far as it was read.
 #[inline(always)]
-fn take_value<'a>(s: &mut Stream<'a>) -> &'a str
+fn read_value<'a>(s: &mut Stream<'a>) -> &'a str
     ensures text { text_of s.new ≡ text_of s.old }
     ensures reads { value_read this_edition (rest_of s.old) ≡ (result.now, rest_of s.new) }
     ensures stands { StandBetween (rest_of s.old) (rest_of s.new) (result.now ∷ []) }
 {
     let start = s.slice_tail();
     let mut end = start;
-    'terms: while pass_term(s) {
+    'terms: while skip_term(s) {
         end = s.slice_tail();
-        pass_gap(s);
+        skip_gap(s);
     }
     start[..start.len() - end.len()].trim()
 }
 
 /// Consumes the word `important`, if the text begins with it, and returns whether it did.
 #[inline(always)]
-fn pass_important(s: &mut Stream<'_>) -> bool
+fn skip_important(s: &mut Stream<'_>) -> bool
     ensures text { text_of s.new ≡ text_of s.old }
     ensures reads { important_word (rest_of s.old) ≡ got result (rest_of s.new) }
 {
@@ -65,23 +65,23 @@ fn take_importance(s: &mut Stream<'_>) -> Option<bool>
     ensures reads { Answers (λ important. important) (importance (rest_of s.old)) result
         (rest_of s.new) }
 {
-    if !readers::pass_byte(s, b'!') {
+    if !readers::skip_byte(s, b'!') {
         return Some(false);
     }
-    if !readers::pass_blank(s) {
+    if !readers::skip_blank(s) {
         return None;
     }
-    Some(pass_important(s))
+    Some(skip_important(s))
 }
 
 /// Skips any number of semicolons, each with the blank after it.
 #[inline(always)]
-fn pass_semicolons(s: &mut Stream<'_>)
+fn skip_semicolons(s: &mut Stream<'_>)
     ensures text { text_of s.new ≡ text_of s.old }
     ensures rest { rest_of s.new ≡ (each semicolon (rest_of s.old)).1 }
 {
-    'semicolons: while readers::pass_byte(s, b';') {
-        pass_gap(s);
+    'semicolons: while readers::skip_byte(s, b';') {
+        skip_gap(s);
     }
 }
 
@@ -93,15 +93,15 @@ fn take_trailing(s: &mut Stream<'_>) -> Option<bool>
     ensures reads { Answers (λ important. important) (trailing (rest_of s.old)) result
         (rest_of s.new) }
 {
-    if !readers::pass_blank(s) {
+    if !readers::skip_blank(s) {
         return None;
     }
     let important = take_importance(s)?;
-    if !readers::pass_blank(s) {
+    if !readers::skip_blank(s) {
         return None;
     }
-    pass_semicolons(s);
-    if !readers::pass_blank(s) {
+    skip_semicolons(s);
+    if !readers::skip_blank(s) {
         return None;
     }
     Some(important)
@@ -109,32 +109,32 @@ fn take_trailing(s: &mut Stream<'_>) -> Option<bool>
 
 /// Consumes a colon, if it is next, and returns whether it was.
 #[inline(always)]
-fn pass_colon(s: &mut Stream<'_>) -> bool
+fn skip_colon(s: &mut Stream<'_>) -> bool
     ensures text { text_of s.new ≡ text_of s.old }
     ensures reads { Passes (byte_read colon (rest_of s.old)) result (rest_of s.new) }
 {
-    readers::pass_byte(s, b':')
+    readers::skip_byte(s, b':')
 }
 
 /// Reads a declaration: a name, a colon, a value, and what follows it up to the next declaration.
 /// If there is none, the cursor is where reading stopped.
 #[inline(always)]
-pub fn consume_declaration<'a>(s: &mut Stream<'a>) -> Option<Declaration<'a>>
+pub fn take_declaration<'a>(s: &mut Stream<'a>) -> Option<Declaration<'a>>
     ensures text { text_of s.new ≡ text_of s.old }
     ensures reads { Answers declaration_of (declaration_read this_edition (rest_of s.old)) result
         (rest_of s.new) }
     ensures stands { IfSome result
         (λ d. StandBetween (rest_of s.old) (rest_of s.new) (d.name.now ∷ d.value.now ∷ [])) }
 {
-    if !readers::pass_blank(s) {
+    if !readers::skip_blank(s) {
         return None;
     }
     s.try_consume_byte(b'*');
     let name = readers::take_name(s)?;
-    if !readers::pass_blank(s) || !pass_colon(s) || !readers::pass_blank(s) {
+    if !readers::skip_blank(s) || !skip_colon(s) || !readers::skip_blank(s) {
         return None;
     }
-    let value = take_value(s);
+    let value = read_value(s);
     let important = take_trailing(s)?;
     if value.is_empty() {
         return None;

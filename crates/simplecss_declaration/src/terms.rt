@@ -7,14 +7,14 @@ ghost use Rattle.simplecss_text.specs.Names.{name as name_read};
 ghost use Rattle.simplecss_text.specs.Terms.{is_hex_digit, past_hash, past_number, word, term};
 ghost use Rattle.simplecss_text.specs.ThisEdition.{this_edition};
 ghost use Rattle.simplecss_text.specs.Cursor.{text_of, rest_of};
-ghost use Rattle.simplecss_declaration.specs.UntoldFaults.{Passes};
+ghost use Rattle.simplecss_declaration.specs.internal.UnreportedFaults.{Passes};
 
 use simplecss_text::stream::Stream;
 use simplecss_text::{readers, scan};
 
 /// Skips digits.
 #[inline(always)]
-fn pass_digits(s: &mut Stream<'_>)
+fn skip_digits(s: &mut Stream<'_>)
     ensures text { text_of s.new ≡ text_of s.old }
     ensures rest { rest_of s.new ≡ past is_digit (rest_of s.old) }
 {
@@ -23,7 +23,7 @@ fn pass_digits(s: &mut Stream<'_>)
 
 /// Skips hexadecimal digits.
 #[inline(always)]
-fn pass_hex_digits(s: &mut Stream<'_>)
+fn skip_hex_digits(s: &mut Stream<'_>)
     ensures text { text_of s.new ≡ text_of s.old }
     ensures rest { rest_of s.new ≡ past is_hex_digit (rest_of s.old) }
 {
@@ -32,33 +32,33 @@ fn pass_hex_digits(s: &mut Stream<'_>)
 
 /// Skips a hash after its number sign: a name, or if there is none, hexadecimal digits.
 #[inline(always)]
-fn pass_hash(s: &mut Stream<'_>)
+fn skip_hash(s: &mut Stream<'_>)
     ensures text { text_of s.new ≡ text_of s.old }
     ensures rest { rest_of s.new ≡ past_hash (name_read this_edition (rest_of s.old)) }
 {
     if readers::take_name(s).is_none() {
-        pass_hex_digits(s);
+        skip_hex_digits(s);
     }
 }
 
 /// Skips a number after its first byte: digits, a point and digits, and a percent sign or a unit.
 #[inline(always)]
-fn pass_number(s: &mut Stream<'_>)
+fn skip_number(s: &mut Stream<'_>)
     ensures text { text_of s.new ≡ text_of s.old }
     ensures rest { rest_of s.new ≡ past_number this_edition (rest_of s.old) }
 {
-    pass_digits(s);
-    if readers::pass_byte(s, b'.') {
-        pass_digits(s);
+    skip_digits(s);
+    if readers::skip_byte(s, b'.') {
+        skip_digits(s);
     }
-    if !readers::pass_byte(s, b'%') {
+    if !readers::skip_byte(s, b'%') {
         let _ = readers::take_name(s);
     }
 }
 
 /// Skips everything up to and including the first closing parenthesis. Without one nothing is left.
 #[inline(always)]
-fn pass_arguments(s: &mut Stream<'_>) -> bool
+fn skip_arguments(s: &mut Stream<'_>) -> bool
     ensures text { text_of s.new ≡ text_of s.old }
     ensures reads { Passes (closed_or ended (after_byte close_parenthesis (rest_of s.old))) result
         (rest_of s.new) }
@@ -77,7 +77,7 @@ fn pass_arguments(s: &mut Stream<'_>) -> bool
 
 /// Skips a name, and if a parenthesis follows directly, the arguments of the function.
 #[inline(always)]
-fn pass_word(s: &mut Stream<'_>) -> bool
+fn skip_word(s: &mut Stream<'_>) -> bool
     ensures text { text_of s.new ≡ text_of s.old }
     ensures reads { Passes (word this_edition (rest_of s.old)) result (rest_of s.new) }
 {
@@ -85,7 +85,7 @@ fn pass_word(s: &mut Stream<'_>) -> bool
         return false;
     }
     if readers::peek(s) == Some(b'(') {
-        return pass_arguments(s);
+        return skip_arguments(s);
     }
     true
 }
@@ -93,34 +93,34 @@ fn pass_word(s: &mut Stream<'_>) -> bool
 /// Skips a term: a hash, a number, a string, a comma, a slash that opens no comment, a name or a
 /// function. Returns whether there was one.
 #[inline(always)]
-pub fn pass_term(s: &mut Stream<'_>) -> bool
+pub fn skip_term(s: &mut Stream<'_>) -> bool
     ensures text { text_of s.new ≡ text_of s.old }
     ensures reads { Passes (term this_edition (rest_of s.old)) result (rest_of s.new) }
 {
     match readers::peek(s) {
         None => false,
         Some(b'#') => {
-            readers::pass_ascii(s);
-            pass_hash(s);
+            readers::skip_ascii(s);
+            skip_hash(s);
             true
         }
         Some(b'+' | b'-' | b'.' | b'0'..=b'9') => {
-            readers::pass_ascii(s);
-            pass_number(s);
+            readers::skip_ascii(s);
+            skip_number(s);
             true
         }
         Some(quote @ (b'\'' | b'"')) => {
-            readers::pass_ascii(s);
+            readers::skip_ascii(s);
             readers::take_string(s, quote).is_some()
         }
         Some(b',') => {
-            readers::pass_ascii(s);
+            readers::skip_ascii(s);
             true
         }
         Some(b'/') if !scan::opens_comment(s.slice_tail()) => {
-            readers::pass_ascii(s);
+            readers::skip_ascii(s);
             true
         }
-        Some(_) => pass_word(s),
+        Some(_) => skip_word(s),
     }
 }

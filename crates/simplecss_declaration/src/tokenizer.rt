@@ -1,6 +1,6 @@
 //! The tokenizer of declarations.
 use super::declarations::Declaration;
-use super::reader::consume_declaration;
+use super::reader::take_declaration;
 use simplecss_text::stream::Stream;
 use std::iter::FusedIterator;
 
@@ -29,7 +29,8 @@ impl<'a> From<&'a str> for DeclarationTokenizer<'a> {
 impl<'a> DeclarationTokenizer<'a> {
     ghost use Rattle.std.specs.Prelude.{◌≡◌, drop};
     ghost use Rattle.std.specs.Str.{IsCharBoundary};
-    ghost use Rattle.simplecss_declaration.specs.DeclarationTokenizers.{whole_text, place_in, left_of};
+    ghost use Rattle.simplecss_declaration.specs.DeclarationTokenizers.{whole_text, offset_in};
+    ghost use Rattle.simplecss_declaration.specs.DeclarationTokenizers.{left_of};
 
     /// Returns the offset up to which the text was read, in bytes from its start. It is at most the
     /// text's length and is a character boundary.
@@ -38,7 +39,7 @@ impl<'a> DeclarationTokenizer<'a> {
     /// After `None` it is the length of the text. To find where a broken declaration begins, keep
     /// the offset after each `Some`:
     ///
-    /// <!-- from crates/simplecss_uses/src/statements.rt -->
+    /// <!-- from crates/example_library/src/statements.rt -->
     /// ```rust
     /// let mut declarations = DeclarationTokenizer::from(text);
     /// let mut end = 0;
@@ -53,7 +54,7 @@ impl<'a> DeclarationTokenizer<'a> {
     /// ```
     #[inline(always)]
     pub fn pos(&self) -> usize
-        ensures place { result ≡ place_in self.now }
+        ensures offset { result ≡ offset_in self.now }
         ensures rest { drop result (whole_text self.now) ≡ left_of self.now }
         ensures boundary { IsCharBoundary (whole_text self.now) result }
     {
@@ -74,7 +75,7 @@ impl<'a> Iterator for DeclarationTokenizer<'a> {
     /// Returns the next declaration. Its name and value are slices of what the call consumes.
     #[inline(always)]
     fn next(&mut self) -> Option<Declaration<'a>> {
-        match consume_declaration(&mut self.stream) {
+        match take_declaration(&mut self.stream) {
             Some(declaration) => Some(declaration),
             None => {
                 self.stream.jump_to_end();

@@ -1,1 +1,1 @@
-pub mod SeenFaults
+pub mod FaultViews

@@ -4,7 +4,7 @@ use std::fmt;
 
 /// A part of a style sheet that reading it skips (CSS 2.1 section 4.2).
 #[derive(Clone, Copy, Debug, PartialEq)]
-pub struct Fault<'a> {
+pub struct SheetFault<'a> {
     /// Where it begins in the whole text.
     pub pos: TextPos,
     /// All that is skipped, from there on.
@@ -49,7 +49,7 @@ pub(crate) fn first_line(text: &str) -> &str {
     before(text.trim(), '\n', '\r').trim_end()
 }
 
-impl<'a> Fault<'a> {
+impl<'a> SheetFault<'a> {
     /// The part of the text that a message quotes: an at-rule up to its block or semicolon, a
     /// declaration up to its semicolon, and anything else as it is; of these the first line,
     /// without white space around it.
@@ -63,7 +63,7 @@ impl<'a> Fault<'a> {
 }
 
 /// Prints the row and the column, what is quoted and the reason, as `3:1: 'a < b': invalid ident`.
-impl fmt::Display for Fault<'_> {
+impl fmt::Display for SheetFault<'_> {
     fn fmt<W: fmt::Write>(&self, f: &mut fmt::Formatter<W>) -> fmt::Result {
         let quote = self.quote();
         write!(f, "{}: '{quote}': {}", self.pos, self.reason)

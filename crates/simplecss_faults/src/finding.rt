@@ -1,25 +1,26 @@
 //! What reading a style sheet skips, with positions.
 ghost use Rattle.std.specs.Prelude.{◌≡◌, ◌≤◌, ℕ, List, IfOk, map};
 ghost use Rattle.std.specs.Str.{IsCharBoundary};
-ghost use Rattle.simplecss.specs.Reading.{Ends, before, rest_place};
+ghost use Rattle.simplecss.specs.Reading.{Ends, before, rest_offset};
 ghost use Rattle.simplecss.specs.Positions.{position};
 ghost use Rattle.simplecss.specs.Errors.{position_of};
 ghost use Rattle.simplecss.specs.Skipped.{skipped};
-ghost use Rattle.simplecss.specs.SkipPlaces.{IsWhyWithin, IsWithin};
-ghost use Rattle.simplecss.specs.SeenSkips.{skip_of, why_of};
+ghost use Rattle.simplecss.specs.SkipOffsets.{IsWhyWithin, IsWithin};
+ghost use Rattle.simplecss.specs.SkipViews.{skip_of, why_of};
 ghost use Rattle.simplecss.specs.ThisEdition.{this_edition};
-ghost use Rattle.simplecss_faults.specs.SeenFaults.{error_in_whole, reason_in, fault_of, fault_in, IsKnown};
+ghost use Rattle.simplecss_faults.specs.FaultViews.{error_in_whole, reason_in, fault_of, fault_in};
+ghost use Rattle.simplecss_faults.specs.FaultViews.{IsKnown};
 
-use crate::{Fault, Reason};
+use crate::{Reason, SheetFault};
 use simplecss::stream::Stream;
 use simplecss::{Error, Refusal, Skipped, TextPos, Why, find_skipped};
 use std::alloc::{AllocError, Global};
 
-/// A place of a text whose position is known, from which later ones are counted.
+/// An offset of a text whose position is known, from which later ones are counted.
 #[derive(Clone, Copy, Debug)]
 pub(crate) struct Known {
-    /// The place, in bytes.
-    place: usize,
+    /// The offset, in bytes.
+    offset: usize,
     /// Its position.
     pos: TextPos,
 }
@@ -27,7 +28,7 @@ pub(crate) struct Known {
 impl Known {
     /// The start of a text.
     pub(crate) const START: Known = Known {
-        place: 0,
+        offset: 0,
         pos: TextPos { row: 1, col: 1 },
     };
 
@@ -39,12 +40,12 @@ impl Known {
     }
 }
 
-/// The position of a place, from that of an earlier one.
-fn position_from(text: &str, known: Known, place: usize) -> TextPos
-    ensures { IsKnown text.now known → IsCharBoundary text.now place → known.place ≤ place
-        → result ≡ position text.now place }
+/// The position of an offset, from that of an earlier one.
+fn position_from(text: &str, known: Known, offset: usize) -> TextPos
+    ensures { IsKnown text.now known → IsCharBoundary text.now offset → known.offset ≤ offset
+        → result ≡ position text.now offset }
 {
-    match text.get(known.place..place) {
+    match text.get(known.offset..offset) {
         Some(between) => known
             .pos
             .in_whole(Stream::new(between).gen_text_pos_from(between.len())),
@@ -52,20 +53,20 @@ fn position_from(text: &str, known: Known, place: usize) -> TextPos
     }
 }
 
-/// The place where the rest of the text begins. It is counted from the known place, or from the
+/// The offset where the rest of the text begins. It is counted from the known offset, or from the
 /// start of the text where it is before that.
 pub(crate) fn find(text: &str, known: Known, rest: &str) -> Known
     ensures { IsKnown text.now known → Ends text.now rest.now
-        → IsKnown text.now result × (result.place ≡ rest_place text.now rest.now) }
+        → IsKnown text.now result × (result.offset ≡ rest_offset text.now rest.now) }
 {
-    let place = text.len().saturating_sub(rest.len());
-    let from = if place < known.place {
+    let offset = text.len().saturating_sub(rest.len());
+    let from = if offset < known.offset {
         Known::START
     } else {
         known
     };
-    let pos = position_from(text, from, place);
-    Known { place, pos }
+    let pos = position_from(text, from, offset);
+    Known { offset, pos }
 }
 
 /// The error with its position in the whole text, of which a part begins at `start`.
@@ -124,7 +125,7 @@ fn between<'a>(from: &'a str, after: &'a str) -> &'a str
 }
 
 /// The fault of something that is skipped of the text.
-pub(crate) fn fault<'a>(text: &'a str, known: &mut Known, skipped: Skipped<'a>) -> Fault<'a>
+pub(crate) fn fault<'a>(text: &'a str, known: &mut Known, skipped: Skipped<'a>) -> SheetFault<'a>
     ensures known { IsKnown text.now known.old → IsWithin text.now (skip_of skipped.entry)
         → IsKnown text.now known.new }
     ensures fault { IsKnown text.now known.old → IsWithin text.now (skip_of skipped.entry)
@@ -132,7 +133,7 @@ pub(crate) fn fault<'a>(text: &'a str, known: &mut Known, skipped: Skipped<'a>) 
 {
     let reason = reason_in(text, known, skipped.why);
     *known = find(text, *known, skipped.from);
-    Fault {
+    SheetFault {
         pos: known.pos,
         text: between(skipped.from, skipped.after),
         reason,
@@ -141,7 +142,7 @@ pub(crate) fn fault<'a>(text: &'a str, known: &mut Known, skipped: Skipped<'a>) 
 
 /// All that reading the style sheet's text skips, in order, with its positions. Fails only if an
 /// allocation fails. The text is read once, and its positions are counted once.
-pub fn find_faults<'a>(alloc: Global, text: &'a str) -> Result<Vec<Fault<'a>>, AllocError>
+pub fn find_faults<'a>(alloc: Global, text: &'a str) -> Result<Vec<SheetFault<'a>>, AllocError>
     ensures { IfOk result (λ faults. map fault_of faults.items
         ≡ map (fault_in text.now) (skipped this_edition text.now)) }
 {

@@ -70,7 +70,7 @@ impl fmt::Display for Surprise<'_> {
 struct Found<'a> {
     /// The text.
     text: &'a str,
-    /// The place of the last hint.
+    /// The offset of the last hint.
     known: Known,
     /// The hints, in order.
     hints: Vec<Hint<'a>>,
@@ -159,7 +159,9 @@ impl<'a> Found<'a> {
         declaration: Declaration<'a>,
     ) -> Result<(), AllocError> {
         let value = declaration.value;
-        let Some(stated) = from.find(':').and_then(|colon| from_first(from.get(colon..)?, value))
+        let Some(stated) = from
+            .find(':')
+            .and_then(|colon| from_first(from.get(colon..)?, value))
         else {
             return Ok(());
         };
@@ -198,7 +200,10 @@ fn from_first<'a>(text: &'a str, part: &str) -> Option<&'a str> {
 }
 
 /// Returns the offset at which the next statement begins, if there is one.
-fn next_start(reader: &mut StatementReader<'_>, alloc: Global) -> Result<Option<usize>, AllocError> {
+fn next_start(
+    reader: &mut StatementReader<'_>,
+    alloc: Global,
+) -> Result<Option<usize>, AllocError> {
     match reader.read_next_reporting(&mut Silent, alloc)? {
         Some(statement) => Ok(Some(statement.start)),
         None => Ok(None),

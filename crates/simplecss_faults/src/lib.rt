@@ -8,7 +8,7 @@ mod hints;
 mod parentheses;
 mod telling;
 
-pub use fault::{Fault, Reason};
+pub use fault::{Reason, SheetFault};
 pub use finding::find_faults;
 pub use hints::{Hint, Surprise, find_hints, find_mistakes};
 pub use telling::FaultLines;

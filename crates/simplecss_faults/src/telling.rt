@@ -20,7 +20,7 @@ pub struct FaultLines<'n, 'a, W: Write> {
     begun: usize,
     /// The text that is read.
     text: &'a str,
-    /// The last place of it that was reported.
+    /// The last offset of it that was reported.
     known: Known,
     /// The first error of the writer.
     outcome: io::Result<()>,

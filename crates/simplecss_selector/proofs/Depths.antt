@@ -1,5 +1,5 @@
 -- Depths fall on the way up.
--- Serves `matching::{climb, goes_on}` (their loops end, and their tests are bounded).
+-- Serves `matching::{climb, continues}` (their loops end, and their tests are bounded).
 use Rattle.std.proofs.Common.{◌≡◌, ◌+◌, ◌<◌, ◌≤◌, Option, Some, None, refl, sym, ◌∙◌, arith, IsTrue}
 use Rattle.std.proofs.lemmas.Bool.{false≢true}
 use Rattle.std.specs.Prelude.{MatchOption}

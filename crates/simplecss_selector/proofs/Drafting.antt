@@ -12,11 +12,11 @@ use Rattle.simplecss_text.specs.Skipped.{Refusal, faulty, unknown_class, unless_
 use Rattle.simplecss_text.specs.ThisEdition.{this_edition}
 use Rattle.simplecss_text.specs.Selectors.{Part, Role, Outcome, role_of, outcome, with_role, after_role, cut, type_among, subselectors_among, component_of, components_of, selector_of, reads}
 use Rattle.simplecss_text.specs.Selectors.Part.{any_type, of_type, with}
-use Rattle.simplecss_text.specs.Selectors.Role.{part, joint}
+use Rattle.simplecss_text.specs.Selectors.Role.{part, joined_by}
 use Rattle.simplecss_text.specs.Selectors.Outcome.{refused, accepted}
 use Rattle.simplecss_selector.specs.declared.token.SelectorToken.{SelectorToken}
-use Rattle.simplecss_selector.specs.SeenTokens.{token_of}
-use Rattle.simplecss_selector.specs.SelectorDrafts.{Drafted, empty_draft, drafted_after, drafted_if, continued, finished, selector_after, selector_read}
+use Rattle.simplecss_selector.specs.TokenViews.{token_of}
+use Rattle.simplecss_selector.specs.internal.SelectorDrafts.{Drafted, empty_draft, drafted_after, drafted_if, continued, finished, selector_after, selector_read}
 use Rattle.simplecss_selector.specs.SelectorTokenizers.{GivesFirst}
 
 -- the component with the further conditions of the parts
@@ -34,8 +34,8 @@ continued-cut (part (with s) ∷ roles) d =
     continued-cut roles (drafted_after (part (with s)) d)
     ∙ ap (λ l. d.done ++ (record { combinator = d.last.combinator; compound = record { name = type_among d.last.compound.name (cut roles).0; subselectors = l } }) ∷ map component_of (cut roles).1)
     (append_assoc d.last.compound.subselectors (s ∷ []) (subselectors_among (cut roles).0))
-continued-cut (joint combinator ∷ roles) d =
-    continued-cut roles (drafted_after (joint combinator) d)
+continued-cut (joined_by combinator ∷ roles) d =
+    continued-cut roles (drafted_after (joined_by combinator) d)
     ∙ append_assoc d.done (d.last ∷ []) _
     ∙ ap (λ c. d.done ++ c ∷ component_of (combinator, (cut roles).0) ∷ map component_of (cut roles).1) (sym (extended-none d.last))
 
@@ -66,22 +66,22 @@ selector_after_none (Some role) d after rest h = absurd (cc)
 selector_after_none None d after rest h = refl
 
 pub token-filled : (text : List ℕ) (d : Drafted) (token : SelectorToken) (before after : TokenSequence) (left : List ℕ) → GivesFirst text before (Some (Ok token)) left after → is_some (role_of (token_of token)) ≡ true → selector_after (drafted_if (role_of (token_of token)) d) (outcome after) ≡ selector_after d (outcome before)
-token-filled text d token before after left (Ok told, e, b) h = let same : token_of token ≡ told = cc in rw (b, ← same) (selector_after_role (role_of (token_of token)) d left (outcome after) h)
+token-filled text d token before after left (Ok reported, e, b) h = let same : token_of token ≡ reported = cc in rw (b, ← same) (selector_after_role (role_of (token_of token)) d left (outcome after) h)
 token-filled text d token before after left (Err fault, e, b) h = absurd (cc)
 
 pub token-unknown : (text : List ℕ) (d : Drafted) (token : SelectorToken) (before after : TokenSequence) (left : List ℕ) → GivesFirst text before (Some (Ok token)) left after → is_some (role_of (token_of token)) ≡ false → (None, left) ≡ selector_after d (outcome before)
-token-unknown text d token before after left (Ok told, e, b) h = let same : token_of token ≡ told = cc in rw (b, ← same) (selector_after_none (role_of (token_of token)) d left (outcome after) h)
+token-unknown text d token before after left (Ok reported, e, b) h = let same : token_of token ≡ reported = cc in rw (b, ← same) (selector_after_none (role_of (token_of token)) d left (outcome after) h)
 token-unknown text d token before after left (Err fault, e, b) h = absurd (cc)
 
 pub error-refused : (text : List ℕ) (d : Drafted) (error : Error) (before after : TokenSequence) (left : List ℕ) → GivesFirst text before (Some (Err error)) left after → (None, left) ≡ selector_after d (outcome before)
-error-refused text d error before after left (Ok told, e, b) = absurd (cc)
+error-refused text d error before after left (Ok reported, e, b) = absurd (cc)
 error-refused text d error before after left (Err fault, e, b) = rw b refl
 
 pub end-finished : (text : List ℕ) (d : Drafted) (before after : TokenSequence) (left : List ℕ) → GivesFirst text before None left after → (Some (finished d), left) ≡ selector_after d (outcome before)
 end-finished text d before after left (b, e) = rw b refl
 
 pub token-fewer : (text : List ℕ) (token : SelectorToken) (before after : TokenSequence) (left : List ℕ) → GivesFirst text before (Some (Ok token)) left after → length (items after) < length (items before)
-token-fewer text token before after left (told, e, b) = rw b (omega arith)
+token-fewer text token before after left (reported, e, b) = rw b (omega arith)
 
 -- ---- why a selector is refused
 
@@ -96,15 +96,15 @@ refusal_no_role (Some role) token later h = absurd (cc)
 refusal_no_role None token later h = refl
 
 pub refusal-filled : (text : List ℕ) (token : SelectorToken) (before after : TokenSequence) (left : List ℕ) → GivesFirst text before (Some (Ok token)) left after → is_some (role_of (token_of token)) ≡ true → refusal_in text after ≡ refusal_in text before
-refusal-filled text token before after left (Ok told, e, b) h = let same : token_of token ≡ told = cc in rw (b, ← same) (refusal_role (role_of (token_of token)) (token_of token) (refusal_in text after) h)
+refusal-filled text token before after left (Ok reported, e, b) h = let same : token_of token ≡ reported = cc in rw (b, ← same) (refusal_role (role_of (token_of token)) (token_of token) (refusal_in text after) h)
 refusal-filled text token before after left (Err fault, e, b) h = absurd (cc)
 
 pub refusal-unknown : (text : List ℕ) (token : SelectorToken) (before after : TokenSequence) (left : List ℕ) → GivesFirst text before (Some (Ok token)) left after → is_some (role_of (token_of token)) ≡ false → Some (unknown_class (class_name (token_of token))) ≡ refusal_in text before
-refusal-unknown text token before after left (Ok told, e, b) h = let same : token_of token ≡ told = cc in rw (b, ← same) (refusal_no_role (role_of (token_of token)) (token_of token) (refusal_in text after) h)
+refusal-unknown text token before after left (Ok reported, e, b) h = let same : token_of token ≡ reported = cc in rw (b, ← same) (refusal_no_role (role_of (token_of token)) (token_of token) (refusal_in text after) h)
 refusal-unknown text token before after left (Err fault, e, b) h = absurd (cc)
 
 pub refusal-error : (text : List ℕ) (error : Error) (before after : TokenSequence) (left : List ℕ) → GivesFirst text before (Some (Err error)) left after → Some (faulty text error) ≡ refusal_in text before
-refusal-error text error before after left (Ok told, e, b) = absurd (cc)
+refusal-error text error before after left (Ok reported, e, b) = absurd (cc)
 refusal-error text error before after left (Err fault, e, b) = let same : error ≡ error_of text fault = cc in rw (b, same) refl
 
 pub refusal-end : (text : List ℕ) (before after : TokenSequence) (left : List ℕ) → GivesFirst text before None left after → None ≡ refusal_in text before

@@ -10,11 +10,11 @@ use Rattle.std.specs.Result.{IfOk, OnOk, OnErr}
 use Rattle.std.specs.Option.{option_map}
 use Rattle.simplecss_text.specs.Components.{Component, Combinator}
 use Rattle.simplecss_text.specs.Components.Combinator.{none}
-use Rattle.simplecss_selector.specs.SeenCombinators.{combinator_of}
-use Rattle.simplecss_selector.specs.Stretches.{kept_ends_after}
+use Rattle.simplecss_selector.specs.internal.CombinatorViews.{combinator_of}
+use Rattle.simplecss_selector.specs.internal.Stretches.{kept_ends_after}
 use Rattle.simplecss_selector.specs.Shapes.{component_at, any_component, IsSelector}
-use Rattle.simplecss_selector.specs.SeenSelectors.{subselector_of, component_of_part, components_from, Tile, last_end, drafted, IsFlat}
-use Rattle.simplecss_selector.specs.SelectorDrafts.{with_subselector, joined, finished}
+use Rattle.simplecss_selector.specs.internal.SelectorViews.{subselector_of, component_of_part, components_from, Tile, last_end, drafted, IsFlat}
+use Rattle.simplecss_selector.specs.internal.SelectorDrafts.{with_subselector, joined, finished}
 use Rattle.simplecss_selector.specs.declared.selector.Part.{Part}
 use Rattle.simplecss_selector.specs.declared.selector.SubSelector.{SubSelector}
 use Rattle.simplecss_selector.proofs.Flat.{Tile-le, components_from-length}

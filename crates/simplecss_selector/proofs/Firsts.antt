@@ -15,22 +15,22 @@ use Rattle.simplecss_text.specs.declared.next_kind.NextKind.TheVariants.{Stop, S
 use Rattle.simplecss_text.specs.Tokens.{Token, token_texts}
 use Rattle.simplecss_text.specs.Pieces.{IsSimplePiece, next_kind, solid_as}
 use Rattle.simplecss_text.specs.Neighbours.Side.{open_side, closed_side}
-use Rattle.simplecss_text.specs.TokenSequences.{TokenSequence, fault_sequence, items, told_in}
+use Rattle.simplecss_text.specs.TokenSequences.{TokenSequence, fault_sequence, items, reported_in}
 use Rattle.simplecss_text.specs.TokenSequences.TokenSequence.{item}
 use Rattle.simplecss_text.specs.declared.error.Error.{Error}
 use Rattle.simplecss_text.specs.declared.error.Error.TheVariants.{InvalidComment, SelectorMissing, UnexpectedSelector, UnexpectedCombinator}
-use Rattle.simplecss_text.proofs.reading.EndsLaws.{ends-same, stand-ends}
-use Rattle.simplecss_text.proofs.reading.PlaceLaws.{place-ends}
-use Rattle.simplecss_text.proofs.reading.SequenceStandLaws.{FirstStands, sequence_from-first}
+use Rattle.simplecss_text.proofs.reading.EndsLemmas.{ends-same, stand-ends}
+use Rattle.simplecss_text.proofs.reading.OffsetLemmas.{offset-ends}
+use Rattle.simplecss_text.proofs.reading.SequenceEndLemmas.{FirstStands, sequence_from-first}
 use Rattle.simplecss_text.proofs.reading.SequenceSteps.{solid_sequence, sequence_from-kind, sequence_from-open_gap, sequence_from-descends}
-use Rattle.simplecss_text.proofs.reading.GivesLaws.{fails_by-fault}
+use Rattle.simplecss_text.proofs.reading.GivesLemmas.{fails_by-fault}
 use Rattle.simplecss_selector.specs.declared.token.SelectorToken.{SelectorToken}
 use Rattle.simplecss_selector.specs.declared.token.SelectorToken.TheVariants.{DescendantCombinator}
 use Rattle.simplecss_selector.specs.declared.tokenizer.Stage.{Stage}
 use Rattle.simplecss_selector.specs.declared.tokenizer.Stage.TheVariants as stages
 use Rattle.simplecss_selector.specs.declared.tokenizer.SelectorTokenizer.{SelectorTokenizer}
-use Rattle.simplecss_selector.specs.NextKinds.{stage_after_fault}
-use Rattle.simplecss_selector.specs.SeenTokens.{token_of, item_seen, given_texts}
+use Rattle.simplecss_selector.specs.internal.NextKinds.{stage_after_fault}
+use Rattle.simplecss_selector.specs.TokenViews.{token_of, item_view, given_texts}
 use Rattle.simplecss_selector.specs.SelectorTokenizers.{whole_text, left_of, sequence_in, still_to_come, items_left, GivesFirst, GivesItem}
 
 pub simple_unless : (f : NextKind) → (f ≡ Stop → ⊥) → (f ≡ Slash → ⊥) → (f ≡ Child → ⊥) → (f ≡ Adjacent → ⊥) → IsSimplePiece f
@@ -49,7 +49,7 @@ first-token : (text left : List ℕ) (before after : TokenSequence) (token : Sel
 first-token text left before after token is = (Ok (token_of token), refl, is)
 
 first-fault : (text left : List ℕ) (before after : TokenSequence) (fault : Fault) (e : Error) → e ≡ error_of text fault → before ≡ item (Err fault) left after → GivesFirst text before (Some (Err e)) left after
-first-fault text left before after fault e told is = (Err fault, ap Err told, is)
+first-fault text left before after fault e reported is = (Err fault, ap Err reported, is)
 
 -- nothing follows the end
 pub ended-first : (text left : List ℕ) → GivesFirst text (sequence_in stages.Ended left) None left (sequence_in stages.Ended left)
@@ -63,8 +63,8 @@ missing-first text left = first-fault text left _ _ no_selector SelectorMissing 
 
 pub open_gap-first : (text rest left : List ℕ) (e : Error) → FailsBy text (gap rest) e left → GivesFirst text (sequence_in stages.Open rest) (Some (Err e)) left (sequence_in stages.Missing left)
 open_gap-first text rest left e h =
-    let told = fails_by-fault text (gap rest) e left h in
-    first-fault text left _ _ told.0 e told.2 (sequence_from-open_gap this_edition open_side rest left told.0 told.1)
+    let reported = fails_by-fault text (gap rest) e left h in
+    first-fault text left _ _ reported.0 e reported.2 (sequence_from-open_gap this_edition open_side rest left reported.0 reported.1)
 
 pub open_none-first : (text rest start : List ℕ) (spaced : Bool) (f : NextKind) → gap rest ≡ got spaced start → f ≡ next_kind start → (f ≡ Stop) ⊎ (f ≡ Slash) → GivesFirst text (sequence_in stages.Open rest) (Some (Err SelectorMissing)) start (sequence_in stages.Ended start)
 open_none-first text rest start spaced f g k (inl is) = first-fault text start _ _ no_selector SelectorMissing refl (sequence_from-kind this_edition open_side rest start spaced Stop _ g (sym k ∙ is) refl)
@@ -104,36 +104,36 @@ open-fault Other spaced start after fault s = refl
 
 pub open_fault-first : (text rest start after : List ℕ) (spaced : Bool) (f : NextKind) (e : Error) → gap rest ≡ got spaced start → f ≡ next_kind start → IsSimplePiece f → FailsBy text (solid_as this_edition f start) e after → GivesFirst text (sequence_in stages.Open rest) (Some (Err e)) after (sequence_in (stage_after_fault f) after)
 open_fault-first text rest start after spaced f e g k s h =
-    let told = fails_by-fault text (solid_as this_edition f start) e after h in
-    first-fault text after _ _ told.0 e told.2 (sequence_from-kind this_edition open_side rest start spaced f _ g (sym k) told.1 ∙ open-fault f spaced start after told.0 s)
+    let reported = fails_by-fault text (solid_as this_edition f start) e after h in
+    first-fault text after _ _ reported.0 e reported.2 (sequence_from-kind this_edition open_side rest start spaced f _ g (sym k) reported.1 ∙ open-fault f spaced start after reported.0 s)
 
 -- ---- after a closed left side
 
 pub closed_gap-first : (text rest left : List ℕ) (e : Error) → FailsBy text (gap rest) e left → GivesFirst text (sequence_in stages.Closed rest) (Some (Err e)) left (sequence_in stages.Ended left)
 closed_gap-first text rest left e h =
-    let told = fails_by-fault text (gap rest) e left h in
-    first-fault text left _ _ told.0 e told.2 (sequence_from-open_gap this_edition closed_side rest left told.0 told.1)
+    let reported = fails_by-fault text (gap rest) e left h in
+    first-fault text left _ _ reported.0 e reported.2 (sequence_from-open_gap this_edition closed_side rest left reported.0 reported.1)
 
 pub closed_stop-first : (text rest start : List ℕ) (spaced : Bool) (f : NextKind) → gap rest ≡ got spaced start → f ≡ next_kind start → f ≡ Stop → GivesFirst text (sequence_in stages.Closed rest) None start (sequence_in stages.Ended start)
 closed_stop-first text rest start spaced f g k is = (sequence_from-kind this_edition closed_side rest start spaced Stop _ g (sym k ∙ is) refl, refl)
 
 pub closed_slash-first : (text rest start after : List ℕ) (spaced : Bool) (f : NextKind) (e : Error) → gap rest ≡ got spaced start → spaced ≡ true → f ≡ next_kind start → f ≡ Slash → after ≡ past_one start → e ≡ InvalidComment (position_of text start) → GivesFirst text (sequence_in stages.Closed rest) (Some (Err e)) after (sequence_in stages.Ended after)
-closed_slash-first text rest start after true f e g with_space k is left told =
-    first-fault text after _ _ (no_comment start) e told (sequence_from-kind this_edition closed_side rest start true Slash _ g (sym k ∙ is) refl ∙ ap (fault_sequence (no_comment start)) (sym left))
-closed_slash-first text rest start after false f e g with_space k is left told = absurd (cc)
+closed_slash-first text rest start after true f e g with_space k is left reported =
+    first-fault text after _ _ (no_comment start) e reported (sequence_from-kind this_edition closed_side rest start true Slash _ g (sym k ∙ is) refl ∙ ap (fault_sequence (no_comment start)) (sym left))
+closed_slash-first text rest start after false f e g with_space k is left reported = absurd (cc)
 
 pub closed_end-first : (text rest start : List ℕ) (spaced : Bool) (f : NextKind) → gap rest ≡ got spaced start → spaced ≡ false → f ≡ next_kind start → f ≡ Slash → GivesFirst text (sequence_in stages.Closed rest) None start (sequence_in stages.Ended start)
 closed_end-first text rest start true f g without k is = absurd (cc)
 closed_end-first text rest start false f g without k is = (sequence_from-kind this_edition closed_side rest start false Slash _ g (sym k ∙ is) refl, refl)
 
-closed-joint : (f : NextKind) (spaced : Bool) (start after : List ℕ) (token : Token) → (f ≡ Child) ⊎ (f ≡ Adjacent) → solid_sequence this_edition closed_side spaced f start (got token after) ≡ item (Ok token) after (sequence_in stages.Open after)
-closed-joint f spaced start after token (inl is) = rw is refl
-closed-joint f spaced start after token (inr is) = rw is refl
+closed-joined_by : (f : NextKind) (spaced : Bool) (start after : List ℕ) (token : Token) → (f ≡ Child) ⊎ (f ≡ Adjacent) → solid_sequence this_edition closed_side spaced f start (got token after) ≡ item (Ok token) after (sequence_in stages.Open after)
+closed-joined_by f spaced start after token (inl is) = rw is refl
+closed-joined_by f spaced start after token (inr is) = rw is refl
 
 -- a combinator that is announced
 pub closed_joint-first : (text rest start after : List ℕ) (spaced : Bool) (f : NextKind) (token : SelectorToken) → gap rest ≡ got spaced start → f ≡ next_kind start → (f ≡ Child) ⊎ (f ≡ Adjacent) → solid_as this_edition f start ≡ got (token_of token) after → GivesFirst text (sequence_in stages.Closed rest) (Some (Ok token)) after (sequence_in stages.Open after)
 closed_joint-first text rest start after spaced f token g k is read =
-    first-token text after _ _ token (sequence_from-kind this_edition closed_side rest start spaced f _ g (sym k) read ∙ closed-joint f spaced start after (token_of token) is)
+    first-token text after _ _ token (sequence_from-kind this_edition closed_side rest start spaced f _ g (sym k) read ∙ closed-joined_by f spaced start after (token_of token) is)
 
 pub closed_spaced-first : (text rest start : List ℕ) (spaced : Bool) (f : NextKind) → gap rest ≡ got spaced start → spaced ≡ true → f ≡ next_kind start → IsSimplePiece f → GivesFirst text (sequence_in stages.Closed rest) (Some (Ok DescendantCombinator)) start (sequence_in stages.Open start)
 closed_spaced-first text rest start true f g with_space k s = first-token text start _ _ DescendantCombinator (sequence_from-descends this_edition rest start f g (sym k) s)
@@ -177,30 +177,30 @@ joined-fault Other start after fault s = refl
 
 pub joined_fault-first : (text rest start after : List ℕ) (f : NextKind) (error : Error) → gap rest ≡ got false start → next_kind start ≡ f → IsSimplePiece f → FailsBy text (solid_as this_edition f start) error after → GivesFirst text (sequence_in stages.Closed rest) (Some (Err error)) after (sequence_in stages.Ended after)
 joined_fault-first text rest start after f error g k s h =
-    let told = fails_by-fault text (solid_as this_edition f start) error after h in
-    first-fault text after _ _ told.0 error told.2 (sequence_from-kind this_edition closed_side rest start false f _ g k told.1 ∙ joined-fault f start after told.0 s)
+    let reported = fails_by-fault text (solid_as this_edition f start) error after h in
+    first-fault text after _ _ reported.0 error reported.2 (sequence_from-kind this_edition closed_side rest start false f _ g k reported.1 ∙ joined-fault f start after reported.0 s)
 
 -- ---- the whole call
 
 -- what was returned first is no longer to come
-pub gives_steps : (old new : SelectorTokenizer) (r : Option (Result SelectorToken Error)) (left : List ℕ) → whole_text new ≡ whole_text old → GivesFirst (whole_text old) (still_to_come old) r left (still_to_come new) → YieldsFirstBy item_seen items_left old r new
+pub gives_steps : (old new : SelectorTokenizer) (r : Option (Result SelectorToken Error)) (left : List ℕ) → whole_text new ≡ whole_text old → GivesFirst (whole_text old) (still_to_come old) r left (still_to_come new) → YieldsFirstBy item_view items_left old r new
 unfolding items_left
 gives_steps old new None left s h =
-    (ap (λ sequence. map (told_in (whole_text old)) (items sequence)) h.0, ap (λ sequence. map (told_in (whole_text new)) (items sequence)) h.1)
-gives_steps old new (Some x) left s (told, seen, before) =
-    ap (λ sequence. map (told_in (whole_text old)) (items sequence)) before
-    ∙ ap (λ item. item ∷ map (told_in (whole_text old)) (items (still_to_come new))) (sym seen)
-    ∙ ap (λ text. item_seen x ∷ map (told_in text) (items (still_to_come new))) (sym s)
+    (ap (λ sequence. map (reported_in (whole_text old)) (items sequence)) h.0, ap (λ sequence. map (reported_in (whole_text new)) (items sequence)) h.1)
+gives_steps old new (Some x) left s (reported, seen, before) =
+    ap (λ sequence. map (reported_in (whole_text old)) (items sequence)) before
+    ∙ ap (λ item. item ∷ map (reported_in (whole_text old)) (items (still_to_come new))) (sym seen)
+    ∙ ap (λ text. item_view x ∷ map (reported_in text) (items (still_to_come new))) (sym s)
 
 -- what is returned first is between what was left before and what is left then
 given-first : (old : SelectorTokenizer) (r : Option (Result SelectorToken Error)) (left : List ℕ) (after : TokenSequence) → FirstStands (left_of old) (still_to_come old) → GivesFirst (whole_text old) (still_to_come old) r left after → StandBetween (left_of old) left (given_texts r)
 given-first old None left after stands first = subst (FirstStands (left_of old)) first.0 stands
-given-first old (Some (Ok token)) left after stands (Ok told, seen, before) =
-    let same : told ≡ token_of token = cc in
-    let h : StandBetween (left_of old) left (token_texts told) = subst (FirstStands (left_of old)) before stands in
+given-first old (Some (Ok token)) left after stands (Ok reported, seen, before) =
+    let same : reported ≡ token_of token = cc in
+    let h : StandBetween (left_of old) left (token_texts reported) = subst (FirstStands (left_of old)) before stands in
     subst (λ (t : Token). StandBetween (left_of old) left (token_texts t)) same h
 given-first old (Some (Ok token)) left after stands (Err fault, seen, before) = absurd (cc)
-given-first old (Some (Err error)) left after stands (Ok told, seen, before) = absurd (cc)
+given-first old (Some (Err error)) left after stands (Ok reported, seen, before) = absurd (cc)
 given-first old (Some (Err error)) left after stands (Err fault, seen, before) = subst (FirstStands (left_of old)) before stands
 
 stage-stands : (text : List ℕ) → IsUtf8 text → (s : Stage) → FirstStands text (sequence_in s text)
@@ -230,7 +230,7 @@ gives-item old new s r is same h =
       text = same;
       first = first;
       slices = stands;
-      forward = place-ends old.stream new.stream same (stand-ends (left_of old) (left_of new) (given_texts r) stands);
+      forward = offset-ends old.stream new.stream same (stand-ends (left_of old) (left_of new) (given_texts r) stands);
     }
 
 -- an item that was returned is no longer to come

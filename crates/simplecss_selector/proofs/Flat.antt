@@ -1,13 +1,13 @@
 -- The components that the lists of a selector represent.
--- Serves `draft::Draft`, `==` of selectors, and `Selector::{combinator, component, last_place,
+-- Serves `draft::Draft`, `==` of selectors, and `Selector::{combinator, component, last_index,
 -- len}` (lists seen as components).
 use Rattle.std.proofs.Common.{◌≡◌, ℕ, zero, suc, ◌+◌, ◌-◌, sub-one, ◌<◌, ◌≤◌, List, [], ◌∷◌, ◌++◌, length, get_or, refl, ap, sym, ◌∙◌, subst, arith}
 use Rattle.std.specs.List.{slice_range}
 use Rattle.std.proofs.lemmas.List.{length-append}
 use Rattle.simplecss_text.specs.Components.{Component}
-use Rattle.simplecss_selector.specs.SeenCombinators.{combinator_of}
+use Rattle.simplecss_selector.specs.internal.CombinatorViews.{combinator_of}
 use Rattle.simplecss_selector.specs.Shapes.{component_at}
-use Rattle.simplecss_selector.specs.SeenSelectors.{component_of_part, components_from, Tile}
+use Rattle.simplecss_selector.specs.internal.SelectorViews.{component_of_part, components_from, Tile}
 use Rattle.simplecss_selector.specs.declared.selector.Part.{Part}
 use Rattle.simplecss_selector.specs.declared.selector.SubSelector.{SubSelector}
 

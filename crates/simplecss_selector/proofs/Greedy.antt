@@ -10,7 +10,7 @@ use Rattle.simplecss_selector.specs.Placements.{Meets, Relates, HasPlacement, is
 use Rattle.simplecss_selector.specs.PlacementSearch.{IsAtOrAbove, IsWithin, Reaches, CanPlace, IfMore, first_of, step_from}
 use Rattle.simplecss_selector.specs.Shapes.{component_at}
 use Rattle.simplecss_selector.specs.PlacementSearch.IsAtOrAbove.{here, above}
-use Rattle.simplecss_selector.specs.StretchFits.{LeavesRest}
+use Rattle.simplecss_selector.specs.internal.StretchFits.{LeavesRest}
 use Rattle.simplecss_selector.proofs.Ancestors.{same_some, no_some, no_ancestor, ancestor_from, at_or_above_from, within_above, within_step}
 use Rattle.simplecss_selector.proofs.Reaching.{first_of-suc, reaches_from, placement_from}
 

@@ -21,10 +21,10 @@ use Rattle.simplecss_selector.specs.Placements.{HasPlacement, Relates}
 use Rattle.simplecss_selector.specs.Placements.IsAncestor.{is_parent}
 use Rattle.simplecss_selector.specs.PlacementSearch.{Reaches, IsWithin, first_of}
 use Rattle.simplecss_selector.specs.Shapes.{component_at}
-use Rattle.simplecss_selector.specs.Keys.{Key, Told, compound_key, is_value_as_asked}
+use Rattle.simplecss_selector.specs.Keys.{Key, Reported, compound_key, has_satisfying_value}
 use Rattle.simplecss_selector.specs.Keys.Key.{by_id, by_class, by_name, by_attribute, by_nothing}
 use Rattle.simplecss_selector.specs.Operators.{is_word_of}
-use Rattle.simplecss_selector.specs.KeyBits.{number_from, bit_by, key_bits, Covers, covers, CoversTold, CoversAncestors, step_bits, bits_among, ancestor_bits}
+use Rattle.simplecss_selector.specs.KeyBits.{number_from, bit_by, key_bits, Covers, covers, CoversReported, CoversAncestors, step_bits, bits_among, ancestor_bits}
 use Rattle.simplecss_selector.proofs.Ancestors.{ancestor_trans, ancestor_shared, sibling_parent}
 use Rattle.simplecss_selector.proofs.KeyLemmas.{met_has_key}
 use Rattle.simplecss_selector.proofs.Reaching.{first_of-suc}
@@ -79,8 +79,8 @@ ancestors_needed tree shared cs n bits all h =
     covers_test bits (ancestor_bits cs) (among_covered tree shared (first_of cs (length cs)) n bits all ((placement_of tree cs (length cs) n refl).0 h))
 
 -- the bits, one component more
-pub bits_more : (cs : List Component) (place : ℕ) → place < length cs → bits_among (first_of cs (place + 1)) ≡ bit_or (bits_among (first_of cs place)) (step_bits (component_at cs place).combinator (first_of cs place))
-bits_more cs place within = let next : place + 1 ≡ suc place = omega arith in ap (λ k. bits_among (first_of cs k)) next ∙ ap bits_among (first_of-suc cs place within)
+pub bits_more : (cs : List Component) (index : ℕ) → index < length cs → bits_among (first_of cs (index + 1)) ≡ bit_or (bits_among (first_of cs index)) (step_bits (component_at cs index).combinator (first_of cs index))
+bits_more cs index within = let next : index + 1 ≡ suc index = omega arith in ap (λ k. bits_among (first_of cs k)) next ∙ ap bits_among (first_of-suc cs index within)
 
 -- ---- what an element reports
 
@@ -107,19 +107,19 @@ covers_words bits words value word e all h = all word (word_among words word (su
 
 -- the bits of an id, of the words of a class
 abbrev pub CoversId : ℕ → Option (List ℕ) → Type 0
-CoversId bits id = (text : List ℕ) → IsTrue (is_value_as_asked (equals text) id) → Covers bits (key_bits (by_id text))
+CoversId bits id = (text : List ℕ) → IsTrue (has_satisfying_value (equals text) id) → Covers bits (key_bits (by_id text))
 
 pub covers_id : (own : List ℕ) → CoversId (key_bits (by_id own)) (Some own)
 covers_id own text h i = let same = (bytes_eq-Decides own text).0 h in subst (λ t. bit_at (key_bits (by_id t)) i ≤ bit_at (key_bits (by_id own)) i) same (omega arith)
 
-pub covers_told : (told : Told) (name id class : ℕ) → name ≡ key_bits (by_name told.name) → CoversId id told.id → ((word : List ℕ) → IsTrue (is_value_as_asked (has_word word) told.class) → Covers class (key_bits (by_class word))) → CoversTold (bit_or (bit_or name id) class) told
-covers_told told name id class is ids classes (by_id text) h = covers_more (bit_or (bit_or name id) class) id (key_bits (by_id text)) (covers_more (bit_or (bit_or name id) class) (bit_or name id) id (covers_left (bit_or name id) class) (covers_right name id)) (ids text h)
-covers_told told name id class is ids classes (by_class word) h = covers_more (bit_or (bit_or name id) class) class (key_bits (by_class word)) (covers_right (bit_or name id) class) (classes word h)
-covers_told told name id class is ids classes (by_name other) h =
-    let same : key_bits (by_name told.name) ≡ key_bits (by_name other) = ap (λ n. key_bits (by_name n)) ((bytes_eq-Decides told.name other).0 h) in
+pub covers_reported : (reported : Reported) (name id class : ℕ) → name ≡ key_bits (by_name reported.name) → CoversId id reported.id → ((word : List ℕ) → IsTrue (has_satisfying_value (has_word word) reported.class) → Covers class (key_bits (by_class word))) → CoversReported (bit_or (bit_or name id) class) reported
+covers_reported reported name id class is ids classes (by_id text) h = covers_more (bit_or (bit_or name id) class) id (key_bits (by_id text)) (covers_more (bit_or (bit_or name id) class) (bit_or name id) id (covers_left (bit_or name id) class) (covers_right name id)) (ids text h)
+covers_reported reported name id class is ids classes (by_class word) h = covers_more (bit_or (bit_or name id) class) class (key_bits (by_class word)) (covers_right (bit_or name id) class) (classes word h)
+covers_reported reported name id class is ids classes (by_name other) h =
+    let same : key_bits (by_name reported.name) ≡ key_bits (by_name other) = ap (λ n. key_bits (by_name n)) ((bytes_eq-Decides reported.name other).0 h) in
     subst (Covers (bit_or (bit_or name id) class)) (is ∙ same) (covers_more (bit_or (bit_or name id) class) (bit_or name id) name (covers_left (bit_or name id) class) (covers_left name id))
-covers_told told name id class is ids classes (by_attribute name') h = covers_none (bit_or (bit_or name id) class)
-covers_told told name id class is ids classes by_nothing h = covers_none (bit_or (bit_or name id) class)
+covers_reported reported name id class is ids classes (by_attribute name') h = covers_none (bit_or (bit_or name id) class)
+covers_reported reported name id class is ids classes by_nothing h = covers_none (bit_or (bit_or name id) class)
 
 -- all bits cover each key
 bit_within : (number : ℕ) → bit_by number < 2 ^ 64
@@ -151,16 +151,16 @@ of_step b bs adjacent (inr e) = absurd (cc)
 of_step b bs descendant h = refl
 of_step b bs child h = refl
 
-some_step : (d : Combinator) (place : ℕ) → ((d ≡ none) ↔ (place ≡ 0)) → (d ≡ child) ⊎ (d ≡ descendant) → 0 < place
+some_step : (d : Combinator) (index : ℕ) → ((d ≡ none) ↔ (index ≡ 0)) → (d ≡ child) ⊎ (d ≡ descendant) → 0 < index
 some_step d zero first (inl e) = absurd (let n = first.1 refl in let x : none ≡ child = sym n ∙ e in cc)
 some_step d zero first (inr e) = absurd (let n = first.1 refl in let x : none ≡ descendant = sym n ∙ e in cc)
-some_step d (suc place) first h = omega arith
+some_step d (suc index) first h = omega arith
 
-pub step_is : (cs : List Component) (place : ℕ) (d : Combinator) (key : Key) → place < length cs → ((d ≡ none) ↔ (place ≡ 0)) → d ≡ (component_at cs place).combinator → (d ≡ child) ⊎ (d ≡ descendant) → key ≡ compound_key (component_at cs (place - 1)).compound
-    → key_bits key ≡ step_bits (component_at cs place).combinator (first_of cs place)
-step_is cs place d key within first value h is =
-    let some : 0 < place = some_step d place first h in
-    let before : place - 1 < length cs = omega (arith, some, within) in
-    let next : suc (place - 1) ≡ place = omega (arith, some) in
-    let front : first_of cs place ≡ component_at cs (place - 1) ∷ first_of cs (place - 1) = ap (first_of cs) (sym next) ∙ first_of-suc cs (place - 1) before in
-    ap key_bits is ∙ of_step (component_at cs (place - 1)) (first_of cs (place - 1)) d h ∙ ap (step_bits d) (sym front) ∙ ap (λ x. step_bits x (first_of cs place)) value
+pub step_is : (cs : List Component) (index : ℕ) (d : Combinator) (key : Key) → index < length cs → ((d ≡ none) ↔ (index ≡ 0)) → d ≡ (component_at cs index).combinator → (d ≡ child) ⊎ (d ≡ descendant) → key ≡ compound_key (component_at cs (index - 1)).compound
+    → key_bits key ≡ step_bits (component_at cs index).combinator (first_of cs index)
+step_is cs index d key within first value h is =
+    let some : 0 < index = some_step d index first h in
+    let before : index - 1 < length cs = omega (arith, some, within) in
+    let next : suc (index - 1) ≡ index = omega (arith, some) in
+    let front : first_of cs index ≡ component_at cs (index - 1) ∷ first_of cs (index - 1) = ap (first_of cs) (sym next) ∙ first_of-suc cs (index - 1) before in
+    ap key_bits is ∙ of_step (component_at cs (index - 1)) (first_of cs (index - 1)) d h ∙ ap (step_bits d) (sym front) ∙ ap (λ x. step_bits x (first_of cs index)) value

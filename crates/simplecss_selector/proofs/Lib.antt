@@ -9,7 +9,7 @@ pub mod SearchSteps
 pub mod Flat
 pub mod StretchEnds
 pub mod WordLemmas
-pub mod AskedValues
+pub mod OperatorMeanings
 pub mod Drafting
 pub mod Filling
 pub mod Counts

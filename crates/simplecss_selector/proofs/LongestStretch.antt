@@ -21,9 +21,9 @@ joined_length-bound (c ∷ cs) (suc n) h j =
     joined_more (is_joined c) n (joined_length cs) (j 0 (omega arith) (omega arith))
     (joined_length-bound cs n (omega arith) (λ k a b. j (suc k) (omega arith) (omega arith)))
 
-pub longest_stretch-bound : (cs : List Component) (place left : ℕ) → place < left → left ≤ length cs → AreJoined cs (place + 1) left → left ≤ place + longest_stretch cs
-longest_stretch-bound [] place left h w j = absurd (omega arith)
-longest_stretch-bound (c ∷ cs) place zero h w j = absurd (omega arith)
+pub longest_stretch-bound : (cs : List Component) (index left : ℕ) → index < left → left ≤ length cs → AreJoined cs (index + 1) left → left ≤ index + longest_stretch cs
+longest_stretch-bound [] index left h w j = absurd (omega arith)
+longest_stretch-bound (c ∷ cs) index zero h w j = absurd (omega arith)
 longest_stretch-bound (c ∷ cs) zero (suc l) h w j =
     let b : l ≤ joined_length cs = joined_length-bound cs l (omega arith) (λ k a b. j (suc k) (omega arith) (omega arith)) in
     omega arith
@@ -31,11 +31,11 @@ longest_stretch-bound (c ∷ cs) (suc p) (suc l) h w j =
     let b : l ≤ p + longest_stretch cs = longest_stretch-bound cs p l (omega arith) (omega arith) (λ k a b. j (suc k) (omega arith) (omega arith)) in
     omega arith
 
--- A stretch that was followed back from index `last` to `place`, with one test at each, made no
+-- A stretch that was followed back from index `last` to `index`, with one test at each, made no
 -- more tests than the longest has components.
-pub stretch_tests-bound : (cs : List Component) (place last before after : ℕ) → place ≤ last → last < length cs → AreJoined cs (place + 1) (last + 1) → after + place ≡ before + last → after + 1 ≤ before + longest_stretch cs
-stretch_tests-bound cs place last before after h w j counted =
-    omega (arith, counted, longest_stretch-bound cs place (last + 1) (omega (arith, h)) (omega (arith, w)) j)
+pub stretch_tests-bound : (cs : List Component) (index last before after : ℕ) → index ≤ last → last < length cs → AreJoined cs (index + 1) (last + 1) → after + index ≡ before + last → after + 1 ≤ before + longest_stretch cs
+stretch_tests-bound cs index last before after h w j counted =
+    omega (arith, counted, longest_stretch-bound cs index (last + 1) (omega (arith, h)) (omega (arith, w)) j)
 
 -- no stretch is longer than the whole
 pub joined_length-le : (cs : List Component) → joined_length cs ≤ length cs

@@ -1,7 +1,7 @@
 -- Single steps of the search for a placement.
--- Serves `matching::{climb, place_stretch, goes_on}` (a step more of a search).
+-- Serves `matching::{climb, place_stretch, continues}` (a step more of a search).
 use Rattle.simplecss_selector.specs.declared.matching.Fit.{Fit}
-use Rattle.simplecss_selector.specs.declared.matching.Fit.TheVariants.{Misfit, Alone, Whole, Rest}
+use Rattle.simplecss_selector.specs.declared.matching.Fit.TheVariants.{Mismatch, NoNodeLeft, Complete, Continues}
 use Rattle.std.proofs.Common.{◌≡◌, ◌<◌, ◌≤◌, ℕ, ◌+◌, arith, Option, Some, None, ap, sym, ◌∙◌, Bor}
 use Rattle.std.specs.Option.{option_copied, unwrap_or, option_map_or}
 use Rattle.simplecss_text.specs.Components.{Combinator as Seen}
@@ -9,7 +9,7 @@ use Rattle.std.proofs.Common.{IsTrue}
 use Rattle.std.proofs.lemmas.Bool.{false≢true}
 use Rattle.simplecss_selector.specs.Placements.{is_step}
 use Rattle.simplecss_selector.specs.Trees.{Tree}
-use Rattle.simplecss_selector.specs.StretchFits.{TestsPlaced}
+use Rattle.simplecss_selector.specs.internal.StretchFits.{TestsPlaced}
 use Rattle.simplecss_selector.specs.PlacementSearch.{step_from}
 use Rattle.simplecss_text.specs.Components.Combinator.{descendant}
 
@@ -32,10 +32,10 @@ step_not c s e = false≢true (ap is_step (sym e) ∙ s)
 
 -- the tests, with one made before
 pub tests_before : {E : Type 0} (first last before begun after : ℕ) (fit : Fit E) → begun ≡ before + 1 → TestsPlaced first last begun (after + 1) fit → TestsPlaced first last before after fit
-tests_before first last before begun after Misfit e h = tt
-tests_before first last before begun after Alone e h = tt
-tests_before first last before begun after Whole e h = omega arith
-tests_before first last before begun after (Rest node) e h = omega arith
+tests_before first last before begun after Mismatch e h = tt
+tests_before first last before begun after NoNodeLeft e h = tt
+tests_before first last before begun after Complete e h = omega arith
+tests_before first last before begun after (Continues node) e h = omega arith
 
 pub tested_more : (begun now after : ℕ) → begun ≤ now → now < after → begun ≤ after
 tested_more begun now after h t = omega arith
@@ -52,9 +52,9 @@ pub placed_same : (begun last now after end : ℕ) → begun + last ≤ now + en
 placed_same begun last now after end h t = omega arith
 
 -- one more stretch is placed, and another ends before it
-pub placed_more : (begun last now place after first end : ℕ) → begun + last ≤ now + (place + 1) → now + place < after + first → end ≡ first → begun + last ≤ after + end
-placed_more begun last now place after first end h t e = omega arith
+pub placed_more : (begun last now index after first end : ℕ) → begun + last ≤ now + (index + 1) → now + index < after + first → end ≡ first → begun + last ≤ after + end
+placed_more begun last now index after first end h t e = omega arith
 
 -- the last stretch is placed
-pub placed_last : (begun last now place after : ℕ) → begun + last ≤ now + (place + 1) → now + place < after → begun + last ≤ after
-placed_last begun last now place after h t = omega arith
+pub placed_last : (begun last now index after : ℕ) → begun + last ≤ now + (index + 1) → now + index < after → begun + last ≤ after
+placed_last begun last now index after h t = omega arith

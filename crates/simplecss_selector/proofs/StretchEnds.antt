@@ -1,5 +1,5 @@
 -- The ends of stretches, as a selector is filled and as it is searched.
--- Serves `draft::Draft` (the ends are kept) and `matching::{climb, goes_on}` (they are gone
+-- Serves `draft::Draft` (the ends are kept) and `matching::{climb, continues}` (they are gone
 -- through).
 use Rattle.std.proofs.Common.{◌≡◌, ◌≢◌, ℕ, zero, suc, ◌+◌, ◌-◌, ◌<◌, ◌≤◌, ◌↔◌, List, [], ◌∷◌, ◌++◌, ◌⊎◌, inl, inr, Option, Some, None, length, get_or, refl, add-one, sub-one, sym, ap, ◌∙◌, arith, IsTrue}
 use Rattle.std.proofs.Math.Decide.{dec_lt}
@@ -12,7 +12,7 @@ use Rattle.simplecss_text.specs.Components.{Component, Combinator}
 use Rattle.simplecss_text.specs.Components.Combinator.{none, descendant, child, adjacent}
 use Rattle.simplecss_selector.specs.Placements.{is_step}
 use Rattle.simplecss_selector.specs.Shapes.{component_at, any_component}
-use Rattle.simplecss_selector.specs.Stretches.{BeginsStretch, IsStretch, AreStretchEnds, all_stretch_ends, kept_ends_after}
+use Rattle.simplecss_selector.specs.internal.Stretches.{BeginsStretch, IsStretch, AreStretchEnds, all_stretch_ends, kept_ends_after}
 
 -- ---- lists of numbers that rise
 
@@ -48,12 +48,12 @@ last_or-push o (y ∷ xs) x = last_or-push (Some y) xs x
 
 -- the stretches depend only on the combinators
 pub AreStretchEnds-same : (cs ds : List Component) (kept : List ℕ) → length cs ≡ length ds → ((k : ℕ) → (component_at cs k).combinator ≡ (component_at ds k).combinator) → AreStretchEnds cs (all_stretch_ends cs kept) → AreStretchEnds ds (all_stretch_ends ds kept)
-AreStretchEnds-same cs ds kept same joint r =
+AreStretchEnds-same cs ds kept same joined_by r =
     rw (← same)
     (record {
       rising = r.rising;
       whole = r.whole ∙ ap Some same;
-      begins = λ k within. rw (← joint k) (r.begins k (omega arith));
+      begins = λ k within. rw (← joined_by k) (r.begins k (omega arith));
     })
 
 -- an index is among the ends, or the new end comes after it
@@ -124,7 +124,7 @@ ends_joined cs c kept some step r =
 pub AreStretchEnds-push : (cs : List Component) (c : Component) (kept : List ℕ) → 0 < length cs → c.combinator ≢ none → AreStretchEnds cs (all_stretch_ends cs kept) → AreStretchEnds (cs ++ c ∷ []) (all_stretch_ends (cs ++ c ∷ []) (kept_ends_after c.combinator (length cs) kept))
 AreStretchEnds-push cs c kept some j r = by c.combinator refl
   where
-    by : (joint : Combinator) → c.combinator ≡ joint → AreStretchEnds (cs ++ c ∷ []) (all_stretch_ends (cs ++ c ∷ []) (kept_ends_after joint (length cs) kept))
+    by : (joined_by : Combinator) → c.combinator ≡ joined_by → AreStretchEnds (cs ++ c ∷ []) (all_stretch_ends (cs ++ c ∷ []) (kept_ends_after joined_by (length cs) kept))
     by none e = absurd (j e)
     by descendant e = ends_begun cs c kept e r
     by child e = ends_joined cs c kept some (λ d. absurd (let same : child ≡ descendant = sym e ∙ d in (cc))) r
@@ -173,10 +173,10 @@ AreStretchEnds-stretch cs kept r first last ends counted begun ended =
 -- ---- as a stretch is gone up
 
 -- within a stretch each component but the first is joined to the one before by a step
-pub IsStretch-step : (cs : List Component) (first last k : ℕ) (joint : Combinator) → IsStretch cs first last → first < k → k ≤ last → joint ≡ (component_at cs k).combinator → (joint ≡ none → k ≡ 0) → IsTrue (is_step (component_at cs k).combinator)
-IsStretch-step cs first last k joint stretch above below e start = rw (← e) (by joint e start)
+pub IsStretch-step : (cs : List Component) (first last k : ℕ) (joined_by : Combinator) → IsStretch cs first last → first < k → k ≤ last → joined_by ≡ (component_at cs k).combinator → (joined_by ≡ none → k ≡ 0) → IsTrue (is_step (component_at cs k).combinator)
+IsStretch-step cs first last k joined_by stretch above below e start = rw (← e) (by joined_by e start)
   where
-    by : (joint : Combinator) → joint ≡ (component_at cs k).combinator → (joint ≡ none → k ≡ 0) → IsTrue (is_step joint)
+    by : (joined_by : Combinator) → joined_by ≡ (component_at cs k).combinator → (joined_by ≡ none → k ≡ 0) → IsTrue (is_step joined_by)
     by none e start = let z : k ≡ 0 = start refl in absurd (omega arith)
     by descendant e start = absurd (stretch.unbroken k above below (inr (sym e)))
     by child e start = refl

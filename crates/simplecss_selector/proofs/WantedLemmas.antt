@@ -1,6 +1,6 @@
 -- An element that a selector matches, or its parent or previous sibling, has the wanted key, and
 -- reports it.
--- Serves `wanted::{wanted_law, told_near_law}` and `Selector::wanted`.
+-- Serves `wanted::{wanted_law, reported_near_law}` and `Selector::wanted`.
 use Rattle.std.proofs.Common.{◌≡◌, ℕ, suc, ◌+◌, ◌-◌, ◌<◌, List, [], ◌∷◌, Option, Some, None, false, IsTrue, length, refl, sym, ◌∙◌, ap, subst, arith}
 use Rattle.std.specs.Option.{option_map_or}
 use Rattle.simplecss_text.specs.Components.{Component, Combinator}
@@ -9,9 +9,9 @@ use Rattle.simplecss_selector.specs.Trees.{Tree}
 use Rattle.simplecss_selector.specs.Placements.{HasPlacement, Relates}
 use Rattle.simplecss_selector.specs.PlacementSearch.{Reaches, first_of}
 use Rattle.simplecss_selector.specs.Shapes.{component_at}
-use Rattle.simplecss_selector.specs.Keys.{Key, Told, TellsKeys, compound_key, HasKey, tells_key}
+use Rattle.simplecss_selector.specs.Keys.{Key, Reported, ReportsKeys, compound_key, HasKey, reports_key}
 use Rattle.simplecss_selector.specs.Keys.Key.{by_id, by_class, by_name, by_attribute, by_nothing}
-use Rattle.simplecss_selector.specs.Wanted.{Near, beside, wanted_by, wanted_among, wanted_of, SomeHas, HasWanted, TellsWanted, IsToldOf, IsNear}
+use Rattle.simplecss_selector.specs.Wanted.{Near, beside, wanted_by, wanted_among, wanted_of, SomeHas, HasWanted, ReportsWanted, IsReportedFor, IsNear}
 use Rattle.simplecss_selector.specs.Wanted.Wanted.{of_element, of_parent, of_previous}
 use Rattle.simplecss_selector.proofs.KeyLemmas.{met_has_key}
 use Rattle.simplecss_selector.proofs.Reaching.{first_of-suc}
@@ -44,17 +44,17 @@ pub wanted_needed : {Node : Type 0} (tree : Tree Node) (cs : List Component) (n 
 wanted_needed tree cs n h = among_held tree (first_of cs (length cs)) n ((placement_of tree cs (length cs) n refl).0 h)
 
 -- what the nodes near the element report includes the wanted key
-module _ {Node Self : Type 0} (tree : Tree Node) (node : Self → Node) (told : Self → Told) (law : (e : Self) → TellsKeys tree (node e) (told e)) where
-  some_told : (r : Option Node) (t : Option Told) (key : Key) → IsToldOf node told r t → SomeHas tree r key → IsTrue (option_map_or (λ told. tells_key told key) t false)
-  some_told None t key is h = absurd h
-  some_told (Some m) None key is h = absurd is
-  some_told (Some m) (Some t) key (e, same, tells) h =
-      subst (λ t. IsTrue (tells_key t key)) tells (law e key (subst (λ m. HasKey tree m key) (sym same) h))
+module _ {Node Self : Type 0} (tree : Tree Node) (node : Self → Node) (reported : Self → Reported) (law : (e : Self) → ReportsKeys tree (node e) (reported e)) where
+  some_reported : (r : Option Node) (t : Option Reported) (key : Key) → IsReportedFor node reported r t → SomeHas tree r key → IsTrue (option_map_or (λ reported. reports_key reported key) t false)
+  some_reported None t key is h = absurd h
+  some_reported (Some m) None key is h = absurd is
+  some_reported (Some m) (Some t) key (e, same, reports) h =
+      subst (λ t. IsTrue (reports_key t key)) reports (law e key (subst (λ m. HasKey tree m key) (sym same) h))
 
-  pub near_tells : (element : Self) (near : Near) → IsNear tree node told element near → TellsWanted tree (node element) near
-  near_tells element near is (of_element key) h = subst (λ t. IsTrue (tells_key t key)) (sym is.own) (law element key h)
-  near_tells element near is (of_parent key) h = some_told (tree.parent (node element)) near.parent key is.parent h
-  near_tells element near is (of_previous key) h = some_told (tree.previous_sibling (node element)) near.previous key is.previous h
+  pub near_reports : (element : Self) (near : Near) → IsNear tree node reported element near → ReportsWanted tree (node element) near
+  near_reports element near is (of_element key) h = subst (λ t. IsTrue (reports_key t key)) (sym is.own) (law element key h)
+  near_reports element near is (of_parent key) h = some_reported (tree.parent (node element)) near.parent key is.parent h
+  near_reports element near is (of_previous key) h = some_reported (tree.previous_sibling (node element)) near.previous key is.previous h
 
 -- what is wanted, by the last components
 pub wanted_one : (cs : List Component) (last : ℕ) → last + 1 ≡ length cs → last ≡ 0 → wanted_of cs ≡ of_element (compound_key (component_at cs last).compound)
@@ -80,10 +80,10 @@ pub wanted_is : (cs : List Component) (last : ℕ) (key before : Key) (c : Combi
     → key ≡ compound_key (component_at cs last).compound → c ≡ (component_at cs last).combinator → before ≡ compound_key (component_at cs (last - 1)).compound
     → wanted_by key c before ≡ wanted_of cs
 wanted_is cs last key before c n some k j b =
-    let behind : last ≡ (last - 1) + 1 = omega (arith, some) in
+    let after : last ≡ (last - 1) + 1 = omega (arith, some) in
     ap (λ x. wanted_by x c before) k ∙ ap (λ x. wanted_by (compound_key (component_at cs last).compound) x before) j
     ∙ ap (wanted_by (compound_key (component_at cs last).compound) (component_at cs last).combinator) b
-    ∙ sym (wanted_two cs last (last - 1) n behind)
+    ∙ sym (wanted_two cs last (last - 1) n after)
 
 -- a key that is a condition is wanted of the element
 pub wanted_own : (key before : Key) (c : Combinator) → (key ≡ by_nothing → ⊥) → wanted_by key c before ≡ of_element key

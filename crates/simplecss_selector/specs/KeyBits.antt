@@ -5,7 +5,7 @@ use Rattle.std.specs.Int.{bit_at}
 use Rattle.std.specs.Int.Bits.{bit_or}
 use Rattle.simplecss_text.specs.Components.{Component, Combinator}
 use Rattle.simplecss_text.specs.Components.Combinator.{none, descendant, child, adjacent}
-use Rattle.simplecss_selector.specs.Keys.{Key, Told, compound_key, HasKey, tells_key}
+use Rattle.simplecss_selector.specs.Keys.{Key, Reported, compound_key, HasKey, reports_key}
 use Rattle.simplecss_selector.specs.Keys.Key.{by_id, by_class, by_name, by_attribute, by_nothing}
 use Rattle.simplecss_selector.specs.Placements.{IsAncestor}
 use Rattle.simplecss_selector.specs.PlacementSearch.{first_of}
@@ -37,8 +37,8 @@ abbrev pub covers : ℕ → ℕ → Bool
 covers bits others = bit_or bits others == bits
 
 -- the bits include those of each reported key
-abbrev pub CoversTold : ℕ → Told → Type 0
-CoversTold bits told = (key : Key) → IsTrue (tells_key told key) → Covers bits (key_bits key)
+abbrev pub CoversReported : ℕ → Reported → Type 0
+CoversReported bits reported = (key : Key) → IsTrue (reports_key reported key) → Covers bits (key_bits key)
 
 -- the bits include those of each key of each ancestor of the node
 abbrev pub CoversAncestors : {Node : Type 0} → Tree Node → Node → ℕ → Type 0

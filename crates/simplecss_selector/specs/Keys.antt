@@ -5,7 +5,7 @@ use Rattle.std.specs.Option.{option_or, option_map_or}
 use Rattle.simplecss_text.specs.Components.{Operator, Subselector, Compound, Component}
 use Rattle.simplecss_text.specs.Components.Operator.{exists, equals, has_word, begins_with}
 use Rattle.simplecss_text.specs.Components.Subselector.{attribute, pseudo_class}
-use Rattle.simplecss_selector.specs.Operators.{is_as_asked}
+use Rattle.simplecss_selector.specs.Operators.{is_satisfied}
 use Rattle.simplecss_selector.specs.Shapes.{component_at}
 use Rattle.simplecss_selector.specs.Trees.{Tree}
 
@@ -32,24 +32,24 @@ wanted_word (has_word word) = Some word
 wanted_word (begins_with start) = None
 
 -- the id that a subselector requires: the text that an attribute `id` must equal
-abbrev pub asked_id : Subselector → Option (List ℕ)
-asked_id (attribute name operator) = if bytes_eq name (codes "id") then equal_text operator else None
-asked_id (pseudo_class class) = None
+abbrev pub required_id : Subselector → Option (List ℕ)
+required_id (attribute name operator) = if bytes_eq name (codes "id") then equal_text operator else None
+required_id (pseudo_class class) = None
 
 -- the class that a subselector requires: the word that an attribute `class` must have
-abbrev pub asked_class : Subselector → Option (List ℕ)
-asked_class (attribute name operator) = if bytes_eq name (codes "class") then wanted_word operator else None
-asked_class (pseudo_class class) = None
+abbrev pub required_class : Subselector → Option (List ℕ)
+required_class (attribute name operator) = if bytes_eq name (codes "class") then wanted_word operator else None
+required_class (pseudo_class class) = None
 
 -- the name of the attribute that a subselector tests, whatever its value must be
-abbrev pub asked_attribute : Subselector → Option (List ℕ)
-asked_attribute (attribute name operator) = Some name
-asked_attribute (pseudo_class class) = None
+abbrev pub required_attribute : Subselector → Option (List ℕ)
+required_attribute (attribute name operator) = Some name
+required_attribute (pseudo_class class) = None
 
 -- the first text that one of the subselectors requires
-abbrev pub first_asked : (Subselector → Option (List ℕ)) → List Subselector → Option (List ℕ)
-first_asked asked [] = None
-first_asked asked (s ∷ ss) = option_or (asked s) (first_asked asked ss)
+abbrev pub first_required : (Subselector → Option (List ℕ)) → List Subselector → Option (List ℕ)
+first_required required [] = None
+first_required required (s ∷ ss) = option_or (required s) (first_required required ss)
 
 -- the id, or else the class, or else the type name, or else the attribute, or else no condition
 abbrev pub key_among : Option (List ℕ) → Option (List ℕ) → Option (List ℕ) → Option (List ℕ) → Key
@@ -63,7 +63,7 @@ key_among None None None None = by_nothing
 -- the first attribute, or else no condition
 abbrev pub compound_key : Compound → Key
 compound_key compound =
-    key_among (first_asked asked_id compound.subselectors) (first_asked asked_class compound.subselectors) compound.name (first_asked asked_attribute compound.subselectors)
+    key_among (first_required required_id compound.subselectors) (first_required required_class compound.subselectors) compound.name (first_required required_attribute compound.subselectors)
 
 -- the key of a selector is that of its last component
 abbrev pub key_of : List Component → Key
@@ -78,25 +78,25 @@ HasKey tree n (by_attribute name) = (operator : Operator) × IsTrue (tree.has_at
 HasKey tree n by_nothing = IsTrue true
 
 -- whether there is a value, and it satisfies the operator
-abbrev pub is_value_as_asked : Operator → Option (List ℕ) → Bool
-is_value_as_asked operator value = option_map_or (is_as_asked operator) value false
+abbrev pub has_satisfying_value : Operator → Option (List ℕ) → Bool
+has_satisfying_value operator value = option_map_or (is_satisfied operator) value false
 
 -- what an element reports of itself: its name, the values of its attributes `id` and `class`, if it
 -- has them, and which attributes it has
-pub record Told : Type 0 where
+pub record Reported : Type 0 where
   pub name : List ℕ
   pub id : Option (List ℕ)
   pub class : Option (List ℕ)
   pub has_attribute : List ℕ → Bool
 
 -- whether what is reported includes the key
-abbrev pub tells_key : Told → Key → Bool
-tells_key told (by_id text) = is_value_as_asked (equals text) told.id
-tells_key told (by_class word) = is_value_as_asked (has_word word) told.class
-tells_key told (by_name name) = bytes_eq told.name name
-tells_key told (by_attribute name) = told.has_attribute name
-tells_key told by_nothing = true
+abbrev pub reports_key : Reported → Key → Bool
+reports_key reported (by_id text) = has_satisfying_value (equals text) reported.id
+reports_key reported (by_class word) = has_satisfying_value (has_word word) reported.class
+reports_key reported (by_name name) = bytes_eq reported.name name
+reports_key reported (by_attribute name) = reported.has_attribute name
+reports_key reported by_nothing = true
 
 -- every key that the node has is reported; more may be reported
-abbrev pub TellsKeys : {Node : Type 0} → Tree Node → Node → Told → Type 0
-TellsKeys tree n told = (key : Key) → HasKey tree n key → IsTrue (tells_key told key)
+abbrev pub ReportsKeys : {Node : Type 0} → Tree Node → Node → Reported → Type 0
+ReportsKeys tree n reported = (key : Key) → HasKey tree n key → IsTrue (reports_key reported key)

@@ -28,8 +28,8 @@ abbrev pub parent_by : (ℕ → Option ℕ) → ℕ → Option ℕ
 parent_by named i = earlier i (named i)
 
 -- the parent of an index in a list
-abbrev pub parent_place : {Rows : Type 0} → ListOf Rows → Rows → ℕ → Option ℕ
-parent_place list rows i = parent_by (list.parent rows) i
+abbrev pub parent_index : {Rows : Type 0} → ListOf Rows → Rows → ℕ → Option ℕ
+parent_index list rows i = parent_by (list.parent rows) i
 
 -- an index, if its parent is this one
 abbrev pub with_parent : (ℕ → Option ℕ) → Option ℕ → Option ℕ → Option ℕ
@@ -41,8 +41,8 @@ abbrev pub sibling_by : (ℕ → Option ℕ) → (ℕ → Option ℕ) → ℕ �
 sibling_by named previous i = with_parent named (parent_by named i) (earlier i (previous i))
 
 -- the previous sibling of an index in a list
-abbrev pub sibling_place : {Rows : Type 0} → ListOf Rows → Rows → ℕ → Option ℕ
-sibling_place list rows i = sibling_by (list.parent rows) (list.previous_sibling rows) i
+abbrev pub sibling_index : {Rows : Type 0} → ListOf Rows → Rows → ℕ → Option ℕ
+sibling_index list rows i = sibling_by (list.parent rows) (list.previous_sibling rows) i
 
 -- a parent, if there is one, and its ancestors
 abbrev pub with_those_above : (ℕ → List ℕ) → Option ℕ → List ℕ
@@ -66,8 +66,8 @@ spot rows i = (rows, i)
 -- The tree of all lists of a kind: a node is a list and an index in it.
 abbrev pub list_tree : {Rows : Type 0} → ListOf Rows → Tree (Rows × ℕ)
 list_tree list = record {
-  parent = λ n. option_map (spot n.0) (parent_place list n.0 n.1);
-  previous_sibling = λ n. option_map (spot n.0) (sibling_place list n.0 n.1);
+  parent = λ n. option_map (spot n.0) (parent_index list n.0 n.1);
+  previous_sibling = λ n. option_map (spot n.0) (sibling_index list n.0 n.1);
   depth = λ n. length (ancestors (list.parent n.0) n.1);
   is_named = λ n. list.is_named n.0 n.1;
   has_attribute = λ n. list.has_attribute n.0 n.1;
@@ -118,7 +118,7 @@ module _ {Rows : Type 0} (list : ListOf Rows) where
 
   -- The depth in a tree of lists counts the ancestors.
   pub list_counts_ancestors : DepthCountsAncestors (list_tree list)
-  list_counts_ancestors n = counted n.0 n.1 (parent_place list n.0 n.1) (ancestors_step (list.parent n.0) n.1)
+  list_counts_ancestors n = counted n.0 n.1 (parent_index list n.0 n.1) (ancestors_step (list.parent n.0) n.1)
 
   same_place : (r s : Option ℕ) → option_eq nat_eq r s ≡ true → r ≡ s
   same_place None None is = refl
@@ -127,21 +127,21 @@ module _ {Rows : Type 0} (list : ListOf Rows) where
   same_place (Some p) (Some q) is = ap Some (grind (arith, nat_tests, is))
 
   kept_sharing : (rows : Rows) (parent : Option ℕ) (s : ℕ) (b : Bool)
-      → option_eq nat_eq (parent_place list rows s) parent ≡ b
+      → option_eq nat_eq (parent_index list rows s) parent ≡ b
       → IfSome (option_map (spot rows) (cond b (Some s) None))
-      (λ n. option_map (spot n.0) (parent_place list n.0 n.1) ≡ option_map (spot rows) parent)
+      (λ n. option_map (spot n.0) (parent_index list n.0 n.1) ≡ option_map (spot rows) parent)
   kept_sharing rows parent s true is =
-      ap (option_map (spot rows)) (same_place (parent_place list rows s) parent is)
+      ap (option_map (spot rows)) (same_place (parent_index list rows s) parent is)
   kept_sharing rows parent s false is = tt
 
   sharing : (rows : Rows) (parent r : Option ℕ)
       → IfSome (option_map (spot rows) (with_parent (list.parent rows) parent r))
-      (λ n. option_map (spot n.0) (parent_place list n.0 n.1) ≡ option_map (spot rows) parent)
+      (λ n. option_map (spot n.0) (parent_index list n.0 n.1) ≡ option_map (spot rows) parent)
   sharing rows parent None = tt
   sharing rows parent (Some s) =
-      kept_sharing rows parent s (option_eq nat_eq (parent_place list rows s) parent) refl
+      kept_sharing rows parent s (option_eq nat_eq (parent_index list rows s) parent) refl
 
   -- A previous sibling in a tree of lists has the same parent.
   pub list_shares_parents : SiblingsShareParent (list_tree list)
   list_shares_parents n =
-      sharing n.0 (parent_place list n.0 n.1) (earlier n.1 (list.previous_sibling n.0 n.1))
+      sharing n.0 (parent_index list n.0 n.1) (earlier n.1 (list.previous_sibling n.0 n.1))

@@ -11,11 +11,11 @@ is_word_of word value = list_any (λ part. bytes_eq part word) (slice_split (λ 
 
 -- whether the value satisfies the operator: any value; the same bytes; the word is one of its
 -- words; the same bytes, or these and then a hyphen at its start
-abbrev pub is_as_asked : Operator → List ℕ → Bool
-is_as_asked exists value = true
-is_as_asked (equals text) value = bytes_eq value text
-is_as_asked (has_word word) value = is_word_of word value
-is_as_asked (begins_with start) value =
+abbrev pub is_satisfied : Operator → List ℕ → Bool
+is_satisfied exists value = true
+is_satisfied (equals text) value = bytes_eq value text
+is_satisfied (has_word word) value = is_word_of word value
+is_satisfied (begins_with start) value =
     bytes_eq value start || starts_with nat_eq value (start ++ hyphen ∷ [])
 
 -- nothing, or a text whose last byte is a space
@@ -33,9 +33,9 @@ StandsIn word text =
 
 -- the meaning of the test: any value; the text itself; the word has no space and occurs in the
 -- value between spaces or ends; the text itself, or the text and then a hyphen
-abbrev pub IsAsAsked : Operator → List ℕ → Type 0
-IsAsAsked exists value = Unit {0}
-IsAsAsked (equals text) value = value ≡ text
-IsAsAsked (has_word word) value = All (λ b. b ≢ space) word × StandsIn word value
-IsAsAsked (begins_with start) value =
+abbrev pub IsSatisfied : Operator → List ℕ → Type 0
+IsSatisfied exists value = Unit {0}
+IsSatisfied (equals text) value = value ≡ text
+IsSatisfied (has_word word) value = All (λ b. b ≢ space) word × StandsIn word value
+IsSatisfied (begins_with start) value =
     (value ≡ start) ⊎ ((rest : List ℕ) × (value ≡ start ++ hyphen ∷ rest))

@@ -5,7 +5,7 @@ use Rattle.std.specs.Prelude.{◌≡◌, List, [], ◌∷◌, Option, Some, None
 use Rattle.std.specs.Option.{option_map_or}
 use Rattle.simplecss_text.specs.Components.{Component, Combinator}
 use Rattle.simplecss_text.specs.Components.Combinator.{none, descendant, child, adjacent}
-use Rattle.simplecss_selector.specs.Keys.{Key, Told, compound_key, HasKey, tells_key}
+use Rattle.simplecss_selector.specs.Keys.{Key, Reported, compound_key, HasKey, reports_key}
 use Rattle.simplecss_selector.specs.Keys.Key.{by_id, by_class, by_name, by_attribute, by_nothing}
 use Rattle.simplecss_selector.specs.PlacementSearch.{first_of}
 use Rattle.simplecss_selector.specs.Trees.{Tree}
@@ -54,30 +54,30 @@ HasWanted tree n (of_previous key) = SomeHas tree (tree.previous_sibling n) key
 
 -- what an element, its parent and its previous sibling report, if they exist
 pub record Near : Type 0 where
-  pub own : Told
-  pub parent : Option Told
-  pub previous : Option Told
+  pub own : Reported
+  pub parent : Option Reported
+  pub previous : Option Reported
 
 -- whether what is reported includes the wanted key
-abbrev pub tells_wanted : Near → Wanted → Bool
-tells_wanted near (of_element key) = tells_key near.own key
-tells_wanted near (of_parent key) = option_map_or (λ told. tells_key told key) near.parent false
-tells_wanted near (of_previous key) = option_map_or (λ told. tells_key told key) near.previous false
+abbrev pub reports_wanted : Near → Wanted → Bool
+reports_wanted near (of_element key) = reports_key near.own key
+reports_wanted near (of_parent key) = option_map_or (λ reported. reports_key reported key) near.parent false
+reports_wanted near (of_previous key) = option_map_or (λ reported. reports_key reported key) near.previous false
 
 -- whatever the node and its neighbours have is reported; more may be reported
-abbrev pub TellsWanted : {Node : Type 0} → Tree Node → Node → Near → Type 0
-TellsWanted tree n near = (wanted : Wanted) → HasWanted tree n wanted → IsTrue (tells_wanted near wanted)
+abbrev pub ReportsWanted : {Node : Type 0} → Tree Node → Node → Near → Type 0
+ReportsWanted tree n near = (wanted : Wanted) → HasWanted tree n wanted → IsTrue (reports_wanted near wanted)
 
 -- what an element that denotes the node, if there is one, reports
-abbrev pub IsToldOf : {Node Self : Type 0} → (Self → Node) → (Self → Told) → Option Node → Option Told → Type 0
-IsToldOf node told None None = Unit {0}
-IsToldOf node told None (Some t) = ⊥
-IsToldOf node told (Some m) None = ⊥
-IsToldOf {Self = Self} node told (Some m) (Some t) = (e : Self) × (node e ≡ m) × (told e ≡ t)
+abbrev pub IsReportedFor : {Node Self : Type 0} → (Self → Node) → (Self → Reported) → Option Node → Option Reported → Type 0
+IsReportedFor node reported None None = Unit {0}
+IsReportedFor node reported None (Some t) = ⊥
+IsReportedFor node reported (Some m) None = ⊥
+IsReportedFor {Self = Self} node reported (Some m) (Some t) = (e : Self) × (node e ≡ m) × (reported e ≡ t)
 
 -- what is reported near an element: by the element, and by elements that denote its parent and its
 -- previous sibling
-pub record IsNear {Node Self : Type 0} (tree : Tree Node) (node : Self → Node) (told : Self → Told) (element : Self) (near : Near) : Type 0 where
-  pub own : near.own ≡ told element
-  pub parent : IsToldOf node told (tree.parent (node element)) near.parent
-  pub previous : IsToldOf node told (tree.previous_sibling (node element)) near.previous
+pub record IsNear {Node Self : Type 0} (tree : Tree Node) (node : Self → Node) (reported : Self → Reported) (element : Self) (near : Near) : Type 0 where
+  pub own : near.own ≡ reported element
+  pub parent : IsReportedFor node reported (tree.parent (node element)) near.parent
+  pub previous : IsReportedFor node reported (tree.previous_sibling (node element)) near.previous

@@ -1,11 +1,12 @@
 //! A selector under construction.
 ghost use Rattle.std.specs.Prelude.{◌≢◌, ◌≡◌, ◌+◌, ◌++◌, ◌∷◌, [], IfOk, OnErr, OnOk, vec_len};
 ghost use Rattle.simplecss_text.specs.Components.Combinator.{none as no_combinator};
-ghost use Rattle.simplecss_selector.specs.SeenCombinators.{combinator_of};
-ghost use Rattle.simplecss_selector.specs.SelectorDrafts.{empty_draft, with_name, with_subselector, joined};
-ghost use Rattle.simplecss_selector.specs.SelectorDrafts.{finished};
-ghost use Rattle.simplecss_selector.specs.Stretches.{kept_ends_after};
-ghost use Rattle.simplecss_selector.specs.SeenSelectors.{subselector_of};
+ghost use Rattle.simplecss_selector.specs.internal.CombinatorViews.{combinator_of};
+ghost use Rattle.simplecss_selector.specs.internal.SelectorDrafts.{empty_draft, with_name};
+ghost use Rattle.simplecss_selector.specs.internal.SelectorDrafts.{with_subselector, joined};
+ghost use Rattle.simplecss_selector.specs.internal.SelectorDrafts.{finished};
+ghost use Rattle.simplecss_selector.specs.internal.Stretches.{kept_ends_after};
+ghost use Rattle.simplecss_selector.specs.internal.SelectorViews.{subselector_of};
 
 use crate::selector::{Combinator, Part, Selector, SubSelector};
 use std::alloc::{AllocError, Global};
@@ -28,11 +29,11 @@ pub(crate) struct Draft<'a> {
 
 impl<'a> Model for Draft<'a> {
     ghost use Rattle.std.specs.Prelude.{◌++◌, ◌∷◌, [], vec_len};
-    ghost use Rattle.simplecss_selector.specs.SelectorDrafts.{Drafted};
+    ghost use Rattle.simplecss_selector.specs.internal.SelectorDrafts.{Drafted};
 
     ghost Value = { Drafted };
 
-    ghost use Rattle.simplecss_selector.specs.SeenSelectors.{drafted, IsFlat};
+    ghost use Rattle.simplecss_selector.specs.internal.SelectorViews.{drafted, IsFlat};
 
     ghost view = { λ d. drafted d.parts.items d.subselectors.items
         (record { combinator = d.combinator; name = d.name; end = vec_len d.subselectors }) };

@@ -7,9 +7,9 @@ use crate::{AttributeOperator, PseudoClass};
 /// The crate `simplecss_tree` has a ready tree. To make elements of your own match, keep them in a
 /// list, each with the indices of its parent and of its previous sibling, and write in your
 /// `specs/` what a list says of an index. For entries with a name, an id and a class, in the crate
-/// `simplecss_uses`:
+/// `example_library`:
 ///
-/// <!-- from crates/simplecss_uses/specs/OwnTree.antt -->
+/// <!-- from crates/example_library/specs/OwnTree.antt -->
 /// ```text
 /// abbrev pub entry_list : ListOf (List Entry)
 /// entry_list = record {
@@ -17,7 +17,7 @@ use crate::{AttributeOperator, PseudoClass};
 ///   previous_sibling = named_previous;
 ///   is_named = λ entries i name. bytes_eq (name_at entries i) name;
 ///   has_attribute =
-///       λ entries i name operator. option_map_or (is_as_asked operator) (value_at entries i name) false;
+///       λ entries i name operator. option_map_or (is_satisfied operator) (value_at entries i name) false;
 ///   is_in_pseudo_class = is_in;
 /// }
 /// ```
@@ -26,7 +26,7 @@ use crate::{AttributeOperator, PseudoClass};
 /// every such list: a parent counts only if its index is less, and a previous sibling only if its
 /// index is less and it has the same parent. So `parent_of` and `previous_of` look both up:
 ///
-/// <!-- from crates/simplecss_uses/src/own_tree.rt -->
+/// <!-- from crates/example_library/src/own_tree.rt -->
 /// ```text
 /// impl<'t> Element for Spot<'t> {
 ///     ghost Node = { List Entry × ℕ };
@@ -78,7 +78,7 @@ pub trait Element: Drop {
     ghost use Rattle.std.specs.Prelude.{◌≡◌, Option, option_map};
     ghost use Rattle.simplecss_selector.specs.Trees.{Tree, DepthCountsAncestors};
     ghost use Rattle.simplecss_selector.specs.Trees.{SiblingsShareParent};
-    ghost use Rattle.simplecss_selector.specs.SeenOperators.{operator_of, pseudo_class_of};
+    ghost use Rattle.simplecss_selector.specs.OperatorViews.{operator_of, pseudo_class_of};
 
     ghost Node: { Type 0 };
 

@@ -27,8 +27,8 @@ pub fn same_meanings_law<E: Element, F: Element>()
 /// A selector has a component, and only the first has no combinator.
 pub fn components_law(selector: &Selector<'_>)
     ensures some { 0 < length selector.now }
-    ensures first_alone { (place : ℕ) → place < length selector.now
-        → ((component_at selector.now place).combinator ≡ no_combinator) ↔ (place ≡ 0) }
+    ensures first_alone { (index : ℕ) → index < length selector.now
+        → ((component_at selector.now index).combinator ≡ no_combinator) ↔ (index ≡ 0) }
 {
     let _parts = &selector.parts;
 }

@@ -23,7 +23,7 @@ impl<'a> PartialEq for Selector<'a> {
 }
 
 /// Selectors are equal exactly if their components are.
-pub fn equality_law()
+pub fn selector_equality_law()
     ensures { (a b : List Component) → IsTrue (⟦<Selector<'static> as PartialEq>⟧.eq a b)
         ↔ (a ≡ b) }
 {}

@@ -1,8 +1,9 @@
 //! The key of a selector: a condition that its last component includes.
 ghost use Rattle.std.specs.Prelude.{◌≡◌, map};
 ghost use Rattle.std.specs.Option.{option_map};
-ghost use Rattle.simplecss_selector.specs.Keys.{asked_id, asked_class, asked_attribute, first_asked};
-ghost use Rattle.simplecss_selector.specs.SeenSelectors.{subselector_of};
+ghost use Rattle.simplecss_selector.specs.Keys.{required_id, required_class, required_attribute};
+ghost use Rattle.simplecss_selector.specs.Keys.{first_required};
+ghost use Rattle.simplecss_selector.specs.internal.SelectorViews.{subselector_of};
 
 use crate::selector::SubSelector;
 
@@ -25,10 +26,10 @@ pub enum Key<'a> {
 /// Returns the first required id.
 pub(crate) fn first_id<'a>(subselectors: &[SubSelector<'a>]) -> Option<&'a str>
     ensures { option_map (λ text. text.now) result
-        ≡ first_asked asked_id (map subselector_of subselectors.now) }
+        ≡ first_required required_id (map subselector_of subselectors.now) }
 {
     for subselector in subselectors {
-        if let Some(text) = subselector.asked_id() {
+        if let Some(text) = subselector.required_id() {
             return Some(text);
         }
     }
@@ -38,10 +39,10 @@ pub(crate) fn first_id<'a>(subselectors: &[SubSelector<'a>]) -> Option<&'a str>
 /// Returns the first required class.
 pub(crate) fn first_class<'a>(subselectors: &[SubSelector<'a>]) -> Option<&'a str>
     ensures { option_map (λ word. word.now) result
-        ≡ first_asked asked_class (map subselector_of subselectors.now) }
+        ≡ first_required required_class (map subselector_of subselectors.now) }
 {
     for subselector in subselectors {
-        if let Some(word) = subselector.asked_class() {
+        if let Some(word) = subselector.required_class() {
             return Some(word);
         }
     }
@@ -51,10 +52,10 @@ pub(crate) fn first_class<'a>(subselectors: &[SubSelector<'a>]) -> Option<&'a st
 /// Returns the name of the first attribute that is tested.
 pub(crate) fn first_attribute<'a>(subselectors: &[SubSelector<'a>]) -> Option<&'a str>
     ensures { option_map (λ name. name.now) result
-        ≡ first_asked asked_attribute (map subselector_of subselectors.now) }
+        ≡ first_required required_attribute (map subselector_of subselectors.now) }
 {
     for subselector in subselectors {
-        if let Some(name) = subselector.asked_attribute() {
+        if let Some(name) = subselector.required_attribute() {
             return Some(name);
         }
     }

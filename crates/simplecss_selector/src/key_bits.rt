@@ -4,13 +4,13 @@ ghost use Rattle.std.specs.Prelude.{◌≡◌, ℕ, List, IsTrue};
 ghost use Rattle.std.specs.Option.{option_map};
 ghost use Rattle.simplecss_text.specs.Components.{Component};
 ghost use Rattle.simplecss_text.specs.Components.Operator.{equals, has_word};
-ghost use Rattle.simplecss_selector.specs.Keys.{Key as KeyValue, Told, is_value_as_asked};
+ghost use Rattle.simplecss_selector.specs.Keys.{Key as KeyValue, Reported, has_satisfying_value};
 ghost use Rattle.simplecss_selector.specs.Keys.Key.{by_id, by_class};
 ghost use Rattle.simplecss_selector.specs.KeyBits.{number_from, bit_by, key_bits, Covers, covers};
-ghost use Rattle.simplecss_selector.specs.KeyBits.{CoversTold, CoversAncestors, ancestor_bits};
+ghost use Rattle.simplecss_selector.specs.KeyBits.{CoversReported, CoversAncestors, ancestor_bits};
 ghost use Rattle.simplecss_selector.specs.Operators.{is_word_of};
 ghost use Rattle.simplecss_selector.specs.Placements.{HasPlacement};
-ghost use Rattle.simplecss_selector.specs.SeenKeys.{key_value};
+ghost use Rattle.simplecss_selector.specs.KeyViews.{key_value};
 
 use crate::{Element, Key};
 
@@ -54,7 +54,7 @@ impl Key<'_> {
 #[inline(always)]
 fn id_bits(id: Option<&str>) -> u64
     ensures { (text : List ℕ)
-        → IsTrue (is_value_as_asked (equals text) (option_map (λ value. value.now) id.entry))
+        → IsTrue (has_satisfying_value (equals text) (option_map (λ value. value.now) id.entry))
         → Covers result (key_bits (by_id text)) }
 {
     match id {
@@ -79,7 +79,8 @@ fn word_bits(value: &str) -> u64
 #[inline(always)]
 fn class_bits(class: Option<&str>) -> u64
     ensures { (word : List ℕ)
-        → IsTrue (is_value_as_asked (has_word word) (option_map (λ value. value.now) class.entry))
+        → IsTrue (has_satisfying_value (has_word word) (option_map
+        (λ value. value.now) class.entry))
         → Covers result (key_bits (by_class word)) }
 {
     match class {
@@ -91,9 +92,10 @@ fn class_bits(class: Option<&str>) -> u64
 /// Returns the bits of the keys of an element with this name, id and class. An implementation of
 /// `Keyed::ancestor_bits` combines those of the element's ancestors by `|`.
 pub fn element_bits(name: &str, id: Option<&str>, class: Option<&str>) -> u64
-    ensures { (told : Told) → told.name ≡ name.now
-        → told.id ≡ option_map (λ value. value.now) id.entry
-        → told.class ≡ option_map (λ value. value.now) class.entry → CoversTold result told }
+    ensures { (reported : Reported) → reported.name ≡ name.now
+        → reported.id ≡ option_map (λ value. value.now) id.entry
+        → reported.class ≡ option_map (λ value. value.now) class.entry
+        → CoversReported result reported }
 {
     Key::Name(name).bits() | id_bits(id) | class_bits(class)
 }

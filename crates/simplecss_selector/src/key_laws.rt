@@ -2,7 +2,7 @@
 ghost use Rattle.std.specs.Prelude.{◌≡◌, ◌↔◌, IsTrue, List};
 ghost use Rattle.simplecss_text.specs.Components.{Component};
 ghost use Rattle.simplecss_selector.specs.Keys.{key_of, HasKey};
-ghost use Rattle.simplecss_selector.specs.SeenKeys.{key_value};
+ghost use Rattle.simplecss_selector.specs.KeyViews.{key_value};
 ghost use Rattle.simplecss_selector.specs.Placements.{HasPlacement};
 
 use crate::{Element, Key};

@@ -10,17 +10,18 @@ use crate::Element;
 /// promise this, since it matches names that it does not report. It implements only `Element`, and
 /// each selector is tested against it.
 ///
-/// To implement it, write `told`, what the element of a value reports, and prove `told_law` in your
+/// To implement it, write `reported`, what the element of a value reports, and prove `reported_law`
+/// in your
 /// `specs/`: for each kind of key, every key that the node has is reported.
-/// `Rattle.simplecss.specs.Keys` has `Told`, `TellsKeys` and the keys. For entries with a name, an
-/// id and a class:
+/// `Rattle.simplecss.specs.Keys` has `Reported`, `ReportsKeys` and the keys. For entries with a
+/// name, an id and a class:
 ///
-/// <!-- from crates/simplecss_uses/src/own_tree.rt -->
+/// <!-- from crates/example_library/src/own_tree.rt -->
 /// ```text
 /// impl<'t> Keyed for Spot<'t> {
-///     ghost told = { λ spot. told_at (spot.entries.now, spot.place) };
+///     ghost reported = { λ spot. reported_at (spot.entries.now, spot.place) };
 ///
-///     ghost told_law = { λ spot. keys_told (spot.entries.now, spot.place) };
+///     ghost reported_law = { λ spot. keys_reported (spot.entries.now, spot.place) };
 ///
 ///     fn local_name(&self) -> &str {
 ///         self.entries[self.place].name
@@ -45,26 +46,26 @@ use crate::Element;
 /// ```
 pub trait Keyed: Element {
     ghost use Rattle.std.specs.Prelude.{◌≡◌, option_map};
-    ghost use Rattle.simplecss_selector.specs.Keys.{Told, TellsKeys};
+    ghost use Rattle.simplecss_selector.specs.Keys.{Reported, ReportsKeys};
     ghost use Rattle.simplecss_selector.specs.KeyBits.{CoversAncestors};
 
-    ghost told: { Self → Told };
+    ghost reported: { Self → Reported };
 
     /// Returns the name, apart from a namespace.
     fn local_name(&self) -> &str
-        ensures { result.now ≡ (told self.now).name };
+        ensures { result.now ≡ (reported self.now).name };
 
     /// Returns the value of the attribute `id`, if there is one.
     fn id_value(&self) -> Option<&str>
-        ensures { option_map (λ value. value.now) result ≡ (told self.now).id };
+        ensures { option_map (λ value. value.now) result ≡ (reported self.now).id };
 
     /// Returns the value of the attribute `class`, if there is one.
     fn class_value(&self) -> Option<&str>
-        ensures { option_map (λ value. value.now) result ≡ (told self.now).class };
+        ensures { option_map (λ value. value.now) result ≡ (reported self.now).class };
 
     /// Whether there is an attribute with this name.
     fn has_attribute(&self, name: &str) -> bool
-        ensures { result ≡ (told self.now).has_attribute name.now };
+        ensures { result ≡ (reported self.now).has_attribute name.now };
 
     /// Returns bits that cover the keys (`Key::bits`) of all ancestors. `all_key_bits` returns such
     /// bits for any element; with fewer, an index tests fewer selectors. It is called once for each
@@ -72,5 +73,6 @@ pub trait Keyed: Element {
     fn ancestor_bits(&self) -> u64
         ensures { CoversAncestors Self.tree (Self.node self.now) result };
 
-    ghost told_law: { (element : Self) → TellsKeys Self.tree (Self.node element) (told element) };
+    ghost reported_law: { (element : Self)
+        → ReportsKeys Self.tree (Self.node element) (reported element) };
 }

@@ -2,7 +2,7 @@
 ghost use Rattle.std.specs.Prelude.{◌≡◌, ◌≤◌, ◌↔◌, ℕ, List, IsTrue};
 ghost use Rattle.simplecss_text.specs.ThisEdition.{this_edition};
 ghost use Rattle.simplecss_text.specs.TokenSequences.{fault_count, sequence_of};
-ghost use Rattle.simplecss_selector.specs.SeenTokens.{token_of};
+ghost use Rattle.simplecss_selector.specs.TokenViews.{token_of};
 
 use crate::SelectorToken;
 

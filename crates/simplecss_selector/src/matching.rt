@@ -1,10 +1,10 @@
 //! Matching: a search that places each stretch of child and adjacent combinators once.
 ghost use Rattle.std.specs.Prelude.{◌≡◌, ◌+◌, ◌*◌, ◌<◌, ◌≤◌, ◌↔◌, ◌∷◌, IsTrue, length, slice_index};
 ghost use Rattle.std.specs.Option.{option_map};
-ghost use Rattle.simplecss_selector.specs.SeenCombinators.{combinator_of};
-ghost use Rattle.simplecss_selector.specs.StretchFits.{Finds, TestsPlaced};
+ghost use Rattle.simplecss_selector.specs.internal.CombinatorViews.{combinator_of};
+ghost use Rattle.simplecss_selector.specs.internal.StretchFits.{Finds, TestsPlaced};
 ghost use Rattle.simplecss_selector.specs.Placements.{Meets, HasPlacement, longest_stretch};
-ghost use Rattle.simplecss_selector.specs.Stretches.{IsStretch};
+ghost use Rattle.simplecss_selector.specs.internal.Stretches.{IsStretch};
 ghost use Rattle.simplecss_selector.specs.PlacementSearch.{step_from as node_before};
 ghost use Rattle.simplecss_selector.specs.Shapes.{component_at};
 
@@ -15,14 +15,14 @@ use crate::{Element, Tests};
 #[derive(Drop)]
 enum Fit<E> {
     /// A component does not match, or has no node.
-    Misfit,
+    Mismatch,
     /// All components match, components remain, and no node is left for them.
-    Alone,
+    NoNodeLeft,
     /// All components match, and none remains.
-    Whole,
+    Complete,
     /// All components match, and those before the stretch remain, to be placed at or above the
     /// node.
-    Rest(E),
+    Continues(E),
 }
 
 /// A stretch: components joined by child and adjacent combinators, by the indices of its first and
@@ -75,17 +75,17 @@ fn step_from<E: Element>(combinator: Combinator, node: &E) -> Option<E>
 #[inline(always)]
 pub(crate) fn is_met_at<E: Element>(
     selector: &Selector<'_>,
-    place: usize,
+    index: usize,
     element: &E,
     tests: &mut Tests,
 ) -> bool
-    requires { place < length selector.now }
+    requires { index < length selector.now }
     ensures answer { IsTrue result
-        ↔ Meets E.tree (E.node element.now) (component_at selector.now place).compound }
+        ↔ Meets E.tree (E.node element.now) (component_at selector.now index).compound }
     ensures counted { tests.new ≡ tests.old + 1 }
 {
     tests.tick();
-    let (part, subselectors) = selector.component(place);
+    let (part, subselectors) = selector.component(index);
     if let Some(name) = part.name
         && !element.has_local_name(name)
     {
@@ -114,26 +114,26 @@ fn climb<E: Element>(
     ensures tested { tests.old ≤ tests.new }
     ensures bounded { tests.new + 1 ≤ tests.old + longest_stretch selector.now }
 {
-    let mut place = stretch.last;
+    let mut index = stretch.last;
     let mut top: Option<E> = None;
-    'steps: while place > stretch.first {
+    'steps: while index > stretch.first {
         let node = top.as_ref().unwrap_or(lowest);
-        let Some(before) = step_from(selector.combinator(place), node) else {
-            return Fit::Misfit;
+        let Some(before) = step_from(selector.combinator(index), node) else {
+            return Fit::Mismatch;
         };
-        place -= 1;
-        if !is_met_at(selector, place, &before, tests) {
-            return Fit::Misfit;
+        index -= 1;
+        if !is_met_at(selector, index, &before, tests) {
+            return Fit::Mismatch;
         }
         top = Some(before);
     }
     if stretch.first == 0 {
-        return Fit::Whole;
+        return Fit::Complete;
     }
     let node = top.as_ref().unwrap_or(lowest);
     match node.parent_element() {
-        Some(above) => Fit::Rest(above),
-        None => Fit::Alone,
+        Some(above) => Fit::Continues(above),
+        None => Fit::NoNodeLeft,
     }
 }
 
@@ -152,7 +152,7 @@ fn place_stretch<E: Element>(
     ensures bounded { tests.new ≤ tests.old + longest_stretch selector.now }
 {
     if !is_met_at(selector, stretch.last, lowest, tests) {
-        return Fit::Misfit;
+        return Fit::Mismatch;
     }
     climb(selector, stretch, lowest, tests)
 }
@@ -160,7 +160,7 @@ fn place_stretch<E: Element>(
 /// Continues from the element, which matches the last component, through the stretches. Out of
 /// line, since most elements do not match the last component.
 #[inline(never)]
-pub(crate) fn goes_on<E: Element>(
+pub(crate) fn continues<E: Element>(
     selector: &Selector<'_>,
     last: usize,
     element: &E,
@@ -178,21 +178,21 @@ pub(crate) fn goes_on<E: Element>(
     let mut number = ends.len();
     let first = begin_after(ends, number);
     let mut candidate = match climb(selector, Stretch { first, last }, element, tests) {
-        Fit::Misfit | Fit::Alone => return false,
-        Fit::Whole => return true,
-        Fit::Rest(above) => above,
+        Fit::Mismatch | Fit::NoNodeLeft => return false,
+        Fit::Complete => return true,
+        Fit::Continues(above) => above,
     };
     number -= 1;
     let mut stretch = stretch_at(ends, number);
     loop {
         match place_stretch(selector, stretch, &candidate, tests) {
-            Fit::Alone => return false,
-            Fit::Whole => return true,
-            Fit::Misfit => match candidate.parent_element() {
+            Fit::NoNodeLeft => return false,
+            Fit::Complete => return true,
+            Fit::Mismatch => match candidate.parent_element() {
                 None => return false,
                 Some(parent) => candidate = parent,
             },
-            Fit::Rest(above) => {
+            Fit::Continues(above) => {
                 candidate = above;
                 number -= 1;
                 stretch = stretch_at(ends, number);

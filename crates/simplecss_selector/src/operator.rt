@@ -19,16 +19,16 @@ pub enum AttributeOperator<'a> {
 
 impl<'a> AttributeOperator<'a> {
     ghost use Rattle.std.specs.Prelude.{◌≡◌, ◌↔◌, IsTrue};
-    ghost use Rattle.simplecss_selector.specs.SeenOperators.{operator_of};
-    ghost use Rattle.simplecss_selector.specs.Operators.{is_as_asked, IsAsAsked};
+    ghost use Rattle.simplecss_selector.specs.OperatorViews.{operator_of};
+    ghost use Rattle.simplecss_selector.specs.Operators.{is_satisfied, IsSatisfied};
 
     /// Whether an attribute's value satisfies the operator.
     ///
     /// Words are separated by the space 0x20 only, and there is an empty word between two spaces,
     /// before a leading one, after a trailing one and in the empty value.
     pub fn matches(&self, value: &str) -> bool
-        ensures answer { result ≡ is_as_asked (operator_of self.now) value.now }
-        ensures means { IsTrue result ↔ IsAsAsked (operator_of self.now) value.now }
+        ensures answer { result ≡ is_satisfied (operator_of self.now) value.now }
+        ensures means { IsTrue result ↔ IsSatisfied (operator_of self.now) value.now }
     {
         match *self {
             AttributeOperator::Exists => true,

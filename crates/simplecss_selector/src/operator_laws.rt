@@ -1,6 +1,6 @@
 //! Laws of equality of operators and pseudo-classes.
 ghost use Rattle.std.specs.Prelude.{◌≡◌, ◌↔◌, IsTrue};
-ghost use Rattle.simplecss_selector.specs.SeenOperators.{operator_of, pseudo_class_of};
+ghost use Rattle.simplecss_selector.specs.OperatorViews.{operator_of, pseudo_class_of};
 
 use crate::{AttributeOperator, PseudoClass};
 

@@ -5,9 +5,10 @@ ghost use Rattle.std.specs.List.{flat_map};
 ghost use Rattle.std.specs.Option.{option_map};
 ghost use Rattle.simplecss_text.specs.Printing.{pseudo_class_text, operator_text, subselector_text};
 ghost use Rattle.simplecss_text.specs.Printing.{combinator_text, type_text, component_text};
-ghost use Rattle.simplecss_selector.specs.SeenOperators.{operator_of, pseudo_class_of};
-ghost use Rattle.simplecss_selector.specs.SeenCombinators.{combinator_of};
-ghost use Rattle.simplecss_selector.specs.SeenSelectors.{subselector_of, component_of_part};
+ghost use Rattle.simplecss_selector.specs.OperatorViews.{operator_of, pseudo_class_of};
+ghost use Rattle.simplecss_selector.specs.internal.CombinatorViews.{combinator_of};
+ghost use Rattle.simplecss_selector.specs.internal.SelectorViews.{subselector_of};
+ghost use Rattle.simplecss_selector.specs.internal.SelectorViews.{component_of_part};
 
 use crate::selector::{Combinator, Part, Selector, SubSelector};
 use crate::{AttributeOperator, PseudoClass};
@@ -16,13 +17,13 @@ use std::fmt;
 impl<'a> fmt::Display for PseudoClass<'a> {
     ghost use Rattle.std.specs.Prelude.{Some};
     ghost use Rattle.simplecss_text.specs.Printing.{pseudo_class_text};
-    ghost use Rattle.simplecss_selector.specs.SeenOperators.{pseudo_class_of};
+    ghost use Rattle.simplecss_selector.specs.OperatorViews.{pseudo_class_of};
 
     ghost output = { λ c. Some (pseudo_class_text (pseudo_class_of c)) };
 
     ghost styled_output = { λ c _. Some (pseudo_class_text (pseudo_class_of c)) };
 
-    #[tactic(auto, using(simplecss_text::proofs::printed::StyledWrites::plain_of_styled))]
+    #[tactic(auto, using(simplecss_text::proofs::round_trip::StyledWrites::plain_of_styled))]
     fn fmt<W: fmt::Write>(&self, f: &mut fmt::Formatter<W>) -> fmt::Result {
         write_class(f, *self)
     }
@@ -36,10 +37,10 @@ impl<'a> fmt::Display for Selector<'a> {
 
     ghost styled_output = { λ s _. Some (selector_text s) };
 
-    #[tactic(auto, using(simplecss_text::proofs::printed::StyledWrites::plain_of_styled))]
+    #[tactic(auto, using(simplecss_text::proofs::round_trip::StyledWrites::plain_of_styled))]
     fn fmt<W: fmt::Write>(&self, f: &mut fmt::Formatter<W>) -> fmt::Result {
-        for place in 0..self.len() {
-            let (part, subselectors) = self.component(place);
+        for index in 0..self.len() {
+            let (part, subselectors) = self.component(index);
             write_component(f, part, subselectors)?;
         }
         Ok(())

@@ -7,12 +7,13 @@ ghost use Rattle.simplecss_text.specs.Bytes.{past};
 ghost use Rattle.simplecss_text.specs.Characters.{is_space};
 ghost use Rattle.simplecss_text.specs.Skipped.{class_name, refusal_in, past_refused, refused};
 ghost use Rattle.simplecss_text.specs.Skipped.{refused_part, selector_skips, add_each};
-ghost use Rattle.simplecss_text.specs.SeenSkips.{refusal_of};
+ghost use Rattle.simplecss_text.specs.SkipViews.{refusal_of};
 ghost use Rattle.simplecss_text.specs.ThisEdition.{this_edition};
-ghost use Rattle.simplecss_selector.specs.SelectorDrafts.{drafted_if, selector_after, selector_read};
+ghost use Rattle.simplecss_selector.specs.internal.SelectorDrafts.{drafted_if, selector_after};
+ghost use Rattle.simplecss_selector.specs.internal.SelectorDrafts.{selector_read};
 ghost use Rattle.simplecss_selector.specs.SelectorTokenizers.{whole_text, left_of, still_to_come};
-ghost use Rattle.simplecss_selector.specs.SeenTokens.{token_of};
-ghost use Rattle.simplecss_selector.specs.KnownPseudoClasses.{pseudo_class_seen};
+ghost use Rattle.simplecss_selector.specs.TokenViews.{token_of};
+ghost use Rattle.simplecss_selector.specs.internal.KnownPseudoClasses.{pseudo_class_view};
 
 use crate::draft::Draft;
 use crate::selector::{Combinator, Selector, SubSelector};
@@ -25,7 +26,7 @@ use std::alloc::{AllocError, Global};
 /// Returns the pseudo-class with a name, if there is one.
 #[inline(always)]
 fn pseudo_class<'a>(name: &str) -> Option<PseudoClass<'a>>
-    ensures { pseudo_class_seen result ≡ known_pseudo_class name.now }
+    ensures { pseudo_class_view result ≡ known_pseudo_class name.now }
 {
     match name {
         "first-child" => Some(PseudoClass::FirstChild),

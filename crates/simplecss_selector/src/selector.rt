@@ -7,12 +7,13 @@ ghost use Rattle.std.specs.Option.{option_map};
 ghost use Rattle.simplecss_text.specs.Components.Combinator.{none as no_combinator};
 ghost use Rattle.simplecss_text.specs.Specificity.{is_id};
 ghost use Rattle.simplecss_selector.specs.Placements.{Holds};
-ghost use Rattle.simplecss_selector.specs.SeenCombinators.{combinator_of};
-ghost use Rattle.simplecss_selector.specs.SeenSelectors.{component_of_part, subselector_of};
-ghost use Rattle.simplecss_selector.specs.Keys.{asked_id, asked_class, asked_attribute};
+ghost use Rattle.simplecss_selector.specs.internal.CombinatorViews.{combinator_of};
+ghost use Rattle.simplecss_selector.specs.internal.SelectorViews.{component_of_part};
+ghost use Rattle.simplecss_selector.specs.internal.SelectorViews.{subselector_of};
+ghost use Rattle.simplecss_selector.specs.Keys.{required_id, required_class, required_attribute};
 
 use crate::key::{first_attribute, first_class, first_id};
-use crate::matching::{goes_on, is_met_at};
+use crate::matching::{continues, is_met_at};
 use crate::reading::read_front;
 use crate::specificity::{at_most_255, id_count, name_count};
 use crate::wanted::wanted_by;
@@ -87,7 +88,7 @@ impl<'a> Model for Selector<'a> {
     ghost Value = { List Component };
 
     ghost use Rattle.std.specs.Prelude.{◌++◌, ◌∷◌, [], vec_len};
-    ghost use Rattle.simplecss_selector.specs.SeenSelectors.{components_from, IsFlat};
+    ghost use Rattle.simplecss_selector.specs.internal.SelectorViews.{components_from, IsFlat};
 
     ghost view = { λ s. components_from 0 (s.parts.items ++ s.last ∷ []) s.subselectors.items };
 
@@ -120,8 +121,8 @@ impl<'a> SubSelector<'a> {
 
     /// Returns the id that it requires.
     #[inline(always)]
-    pub(crate) fn asked_id(&self) -> Option<&'a str>
-        ensures { option_map (λ text. text.now) result ≡ asked_id (subselector_of self.now) }
+    pub(crate) fn required_id(&self) -> Option<&'a str>
+        ensures { option_map (λ text. text.now) result ≡ required_id (subselector_of self.now) }
     {
         match *self {
             SubSelector::Attribute(name, AttributeOperator::Matches(text)) => {
@@ -133,8 +134,8 @@ impl<'a> SubSelector<'a> {
 
     /// Returns the class that it requires.
     #[inline(always)]
-    pub(crate) fn asked_class(&self) -> Option<&'a str>
-        ensures { option_map (λ word. word.now) result ≡ asked_class (subselector_of self.now) }
+    pub(crate) fn required_class(&self) -> Option<&'a str>
+        ensures { option_map (λ word. word.now) result ≡ required_class (subselector_of self.now) }
     {
         match *self {
             SubSelector::Attribute(name, AttributeOperator::Contains(word)) => {
@@ -146,9 +147,9 @@ impl<'a> SubSelector<'a> {
 
     /// Returns the name of the attribute that it tests.
     #[inline(always)]
-    pub(crate) fn asked_attribute(&self) -> Option<&'a str>
+    pub(crate) fn required_attribute(&self) -> Option<&'a str>
         ensures { option_map (λ name. name.now) result
-            ≡ asked_attribute (subselector_of self.now) }
+            ≡ required_attribute (subselector_of self.now) }
     {
         match *self {
             SubSelector::Attribute(name, _) => Some(name),
@@ -179,12 +180,12 @@ fn between<'s, 'a>(all: &'s [SubSelector<'a>], start: usize, end: usize) -> &'s 
 
 /// Returns the part at this index, where `last` follows the others.
 #[inline(always)]
-fn part_at<'a>(parts: &[Part<'a>], last: Part<'a>, place: usize) -> Part<'a>
-    requires { place ≤ length parts.now }
-    ensures { result ≡ slice_index_or (parts.now ++ last.entry ∷ []) place result }
+fn part_at<'a>(parts: &[Part<'a>], last: Part<'a>, index: usize) -> Part<'a>
+    requires { index ≤ length parts.now }
+    ensures { result ≡ slice_index_or (parts.now ++ last.entry ∷ []) index result }
 {
-    if place < parts.len() {
-        parts[place]
+    if index < parts.len() {
+        parts[index]
     } else {
         last
     }
@@ -204,7 +205,7 @@ impl<'a> Selector<'a> {
 
     /// Returns the index of the last component.
     #[inline(always)]
-    pub(crate) fn last_place(&self) -> usize
+    pub(crate) fn last_index(&self) -> usize
         ensures { result + 1 ≡ length self.now }
     {
         self.parts.len()
@@ -213,26 +214,26 @@ impl<'a> Selector<'a> {
     /// Returns the relation of the component at this index to the one before it. Only the first has
     /// none.
     #[inline(always)]
-    pub(crate) fn combinator(&self, place: usize) -> Combinator
-        requires { place < length self.now }
-        ensures value { combinator_of result ≡ (component_at self.now place).combinator }
-        ensures first { (combinator_of result ≡ no_combinator) ↔ (place ≡ 0) }
+    pub(crate) fn combinator(&self, index: usize) -> Combinator
+        requires { index < length self.now }
+        ensures value { combinator_of result ≡ (component_at self.now index).combinator }
+        ensures first { (combinator_of result ≡ no_combinator) ↔ (index ≡ 0) }
     {
-        let part = part_at(&self.parts, self.last, place);
+        let part = part_at(&self.parts, self.last, index);
         part.combinator
     }
 
     /// Returns the component at this index: its part and its subselectors.
     #[inline(always)]
-    pub(crate) fn component(&self, place: usize) -> (Part<'a>, &[SubSelector<'a>])
-        requires { place < length self.now }
-        ensures { component_of_part result.0 result.1.now ≡ component_at self.now place }
+    pub(crate) fn component(&self, index: usize) -> (Part<'a>, &[SubSelector<'a>])
+        requires { index < length self.now }
+        ensures { component_of_part result.0 result.1.now ≡ component_at self.now index }
     {
-        let part = part_at(&self.parts, self.last, place);
-        let start = if place == 0 {
+        let part = part_at(&self.parts, self.last, index);
+        let start = if index == 0 {
             0
         } else {
-            self.parts[place - 1].end
+            self.parts[index - 1].end
         };
         (part, between(&self.subselectors, start, part.end))
     }
@@ -323,14 +324,14 @@ impl<'a> Selector<'a> {
         ensures at_most_by_stretches { tests.new
             ≤ tests.old + longest_stretch self.now * (E.tree.depth (E.node element.now) + 1) }
     {
-        let last = self.last_place();
+        let last = self.last_index();
         if !is_met_at(self, last, element, tests) {
             return false;
         }
         if last == 0 {
             return true;
         }
-        goes_on(self, last, element, tests)
+        continues(self, last, element, tests)
     }
 
     /// Whether the selector matches the element.
@@ -350,8 +351,8 @@ impl<'a> Selector<'a> {
     ghost use Rattle.simplecss_selector.specs.KeyBits.{ancestor_bits, step_bits};
     ghost use Rattle.simplecss_selector.specs.PlacementSearch.{first_of};
     ghost use Rattle.simplecss_selector.specs.Wanted.{wanted_of};
-    ghost use Rattle.simplecss_selector.specs.SeenWanted.{wanted_value};
-    ghost use Rattle.simplecss_selector.specs.SeenKeys.{key_value};
+    ghost use Rattle.simplecss_selector.specs.WantedViews.{wanted_value};
+    ghost use Rattle.simplecss_selector.specs.KeyViews.{key_value};
 
     /// Returns the specificity of the selector: the number of attributes named `id` with any
     /// operator, of all other attributes and pseudo-classes, and of type names, each at most 255.
@@ -377,15 +378,15 @@ impl<'a> Selector<'a> {
     pub fn key(&self) -> Key<'a>
         ensures { key_value result ≡ key_of self.now }
     {
-        self.key_at(self.last_place())
+        self.key_at(self.last_index())
     }
 
     /// Returns a condition that the component at this index includes.
-    pub(crate) fn key_at(&self, place: usize) -> Key<'a>
-        requires { place < length self.now }
-        ensures { key_value result ≡ compound_key (component_at self.now place).compound }
+    pub(crate) fn key_at(&self, index: usize) -> Key<'a>
+        requires { index < length self.now }
+        ensures { key_value result ≡ compound_key (component_at self.now index).compound }
     {
-        let (part, subselectors) = self.component(place);
+        let (part, subselectors) = self.component(index);
         if let Some(text) = first_id(subselectors) {
             return Key::Id(text);
         }
@@ -408,7 +409,7 @@ impl<'a> Selector<'a> {
     pub fn wanted(&self) -> Wanted<'a>
         ensures { wanted_value result ≡ wanted_of self.now }
     {
-        let last = self.last_place();
+        let last = self.last_index();
         let key = self.key_at(last);
         if last == 0 {
             return Wanted::OfElement(key);
@@ -419,13 +420,13 @@ impl<'a> Selector<'a> {
 
     /// Returns the bits of the key of the component that the combinator of the one at this index
     /// leads back to, if it leads to an ancestor.
-    fn step_bits(&self, place: usize) -> u64
-        requires { place < length self.now }
+    fn step_bits(&self, index: usize) -> u64
+        requires { index < length self.now }
         ensures { result
-            ≡ step_bits (component_at self.now place).combinator (first_of self.now place) }
+            ≡ step_bits (component_at self.now index).combinator (first_of self.now index) }
     {
-        match self.combinator(place) {
-            Combinator::Child | Combinator::Descendant => self.key_at(place - 1).bits(),
+        match self.combinator(index) {
+            Combinator::Child | Combinator::Descendant => self.key_at(index - 1).bits(),
             Combinator::None | Combinator::Adjacent => 0,
         }
     }
@@ -437,8 +438,8 @@ impl<'a> Selector<'a> {
         ensures { result ≡ ancestor_bits self.now }
     {
         let mut bits = 0;
-        for place in 0..self.len() {
-            bits |= self.step_bits(place);
+        for index in 0..self.len() {
+            bits |= self.step_bits(index);
         }
         bits
     }

@@ -11,12 +11,12 @@ ghost use Rattle.simplecss_text.specs.Pieces.{attribute_operator as operator_rea
 ghost use Rattle.simplecss_text.specs.Pieces.{lang_after as language_read};
 ghost use Rattle.simplecss_text.specs.Pieces.{pseudo_class_after as pseudo_class_read};
 ghost use Rattle.simplecss_text.specs.Pieces.{next_kind, IsSimplePiece, solid_as};
-ghost use Rattle.simplecss_selector.specs.SeenOperators.{operator_of};
-ghost use Rattle.simplecss_selector.specs.SeenTokens.{token_of};
+ghost use Rattle.simplecss_selector.specs.OperatorViews.{operator_of};
+ghost use Rattle.simplecss_selector.specs.TokenViews.{token_of};
 ghost use Rattle.simplecss_selector.specs.declared.token.SelectorToken.TheVariants.{AttributeSelector};
 ghost use Rattle.simplecss_selector.specs.declared.token.SelectorToken.TheVariants.{LangPseudoClass};
 ghost use Rattle.simplecss_selector.specs.declared.token.SelectorToken.TheVariants.{PseudoClass};
-ghost use Rattle.simplecss_selector.specs.NextKinds.{IsNamed, stage_after_fault};
+ghost use Rattle.simplecss_selector.specs.internal.NextKinds.{IsNamed, stage_after_fault};
 
 use crate::{AttributeOperator, SelectorToken};
 use simplecss_text::next_kind::{NextKind, next_kind};
@@ -81,7 +81,7 @@ fn attribute_operator<'a>(stream: &mut Stream<'a>) -> Result<AttributeOperator<'
 #[tactic(auto, unfolding(simplecss_text::specs::Pieces::attribute_after))]
 fn attribute<'a>(stream: &mut Stream<'a>) -> Result<(&'a str, AttributeOperator<'a>), Error>
     ensures text { text_of stream.new ≡ text_of stream.old }
-    ensures reads { Gives (λ asked. token_of (AttributeSelector asked.0 asked.1))
+    ensures reads { Gives (λ required. token_of (AttributeSelector required.0 required.1))
         (text_of stream.old)
         (attribute_read this_edition (rest_of stream.old)) result (rest_of stream.new) }
 {
@@ -115,7 +115,7 @@ fn language<'a>(stream: &mut Stream<'a>) -> Result<&'a str, Error>
 fn pseudo_class<'a>(stream: &mut Stream<'a>) -> Result<(&'a str, bool), Error>
     ensures text { text_of stream.new ≡ text_of stream.old }
     ensures reads { Gives
-        (λ told. token_of (if told.1 then LangPseudoClass told.0 else PseudoClass told.0))
+        (λ reported. token_of (if reported.1 then LangPseudoClass reported.0 else PseudoClass reported.0))
         (text_of stream.old) (pseudo_class_read this_edition (rest_of stream.old)) result
         (rest_of stream.new) }
 {
@@ -241,14 +241,15 @@ impl<'a> SelectorTokenizer<'a> {
     ghost use Rattle.std.specs.Prelude.{drop};
     ghost use Rattle.std.specs.Str.{IsCharBoundary};
     ghost use Rattle.simplecss_text.specs.Comments.{gap};
-    ghost use Rattle.simplecss_selector.specs.SelectorTokenizers.{whole_text, place_in, left_of, sequence_in};
+    ghost use Rattle.simplecss_selector.specs.SelectorTokenizers.{whole_text, offset_in, left_of};
+    ghost use Rattle.simplecss_selector.specs.SelectorTokenizers.{sequence_in};
     ghost use Rattle.simplecss_selector.specs.SelectorTokenizers.{still_to_come, GivesFirst};
 
     /// Returns the offset up to which the text was read, in bytes from its start. It is at most the
     /// text's length and is a character boundary.
     #[inline(always)]
     pub fn pos(&self) -> usize
-        ensures place { result ≡ place_in self.now }
+        ensures index { result ≡ offset_in self.now }
         ensures rest { drop result (whole_text self.now) ≡ left_of self.now }
         ensures boundary { IsCharBoundary (whole_text self.now) result }
     {

@@ -2,10 +2,11 @@
 ghost use Rattle.std.specs.Prelude.{◌≡◌, List};
 ghost use Rattle.simplecss_text.specs.Components.{Component};
 ghost use Rattle.simplecss_selector.specs.Placements.{HasPlacement};
-ghost use Rattle.simplecss_selector.specs.SeenCombinators.{combinator_of};
-ghost use Rattle.simplecss_selector.specs.SeenKeys.{key_value};
-ghost use Rattle.simplecss_selector.specs.SeenWanted.{wanted_value};
-ghost use Rattle.simplecss_selector.specs.Wanted.{wanted_by, wanted_of, HasWanted, Near, IsNear, TellsWanted};
+ghost use Rattle.simplecss_selector.specs.internal.CombinatorViews.{combinator_of};
+ghost use Rattle.simplecss_selector.specs.KeyViews.{key_value};
+ghost use Rattle.simplecss_selector.specs.WantedViews.{wanted_value};
+ghost use Rattle.simplecss_selector.specs.Wanted.{wanted_by, wanted_of, HasWanted, Near, IsNear};
+ghost use Rattle.simplecss_selector.specs.Wanted.{ReportsWanted};
 
 use crate::selector::Combinator;
 use crate::{Element, Key, Keyed};
@@ -45,7 +46,7 @@ pub fn wanted_law<E: Element>()
 {}
 
 /// What an element and its neighbours report includes every wanted key that they have.
-pub fn told_near_law<E: Keyed>()
-    ensures { (element : E) (near : Near) → IsNear E.tree E.node E.told element near
-        → TellsWanted E.tree (E.node element) near }
+pub fn reported_near_law<E: Keyed>()
+    ensures { (element : E) (near : Near) → IsNear E.tree E.node E.reported element near
+        → ReportsWanted E.tree (E.node element) near }
 {}

@@ -1,5 +1,5 @@
 -- Bytes, characters, names, strings and blanks, for the code that reads them.
-pub mod GapLaws
+pub mod GapLemmas
 pub mod ScanLemmas
 pub mod PositionLemmas
 pub mod ByteLemmas
@@ -10,5 +10,5 @@ pub mod GapSteps
 pub mod ByteTable
 pub mod StringLemmas
 pub mod BlankLaws
-pub mod Utf8Laws
-pub mod TrimLaws
+pub mod Utf8Lemmas
+pub mod TrimLemmas

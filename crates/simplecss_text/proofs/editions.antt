@@ -1,3 +1,2 @@
 -- Texts that both editions read alike.
-pub mod EditionLaws
 pub mod SheetEditions

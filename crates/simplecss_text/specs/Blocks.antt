@@ -19,9 +19,9 @@ count_of byte text = count_by (λ b. b == byte) text
 
 -- a closing brace is at the offset, with as many opening as closing ones before it
 abbrev pub closes_block : List ℕ → ℕ → Bool
-closes_block text place =
-    slice_index text place == close_brace
-    && count_of open_brace (take place text) == count_of close_brace (take place text)
+closes_block text offset =
+    slice_index text offset == close_brace
+    && count_of open_brace (take offset text) == count_of close_brace (take offset text)
 
 -- The end of the current block: the least offset that closes it, else the end of the text. Quotes
 -- and comments are not considered.

@@ -7,8 +7,8 @@ abbrev pub text_of : Stream → List ℕ
 text_of s = s.text.now
 
 -- the offset, in bytes
-abbrev pub place_of : Stream → ℕ
-place_of s = s.pos
+abbrev pub offset_of : Stream → ℕ
+offset_of s = s.pos
 
 -- the rest: what is left to read
 abbrev pub rest_of : Stream → List ℕ

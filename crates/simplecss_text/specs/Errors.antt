@@ -1,7 +1,7 @@
 -- The errors that report faults, and their printed texts; what a call returns, as a value or an
 -- error.
 use Rattle.std.specs.Prelude.{◌≡◌, ℕ, List, [], ◌∷◌, ◌++◌, codes, decimal, encode_utf8, Option, Some, None, Result, Ok, Err}
-use Rattle.simplecss_text.specs.Reading.{Fault, ended, wrong_byte, no_name, no_comment, no_value, no_selector, unexpected_selector, unexpected_combinator, no_attribute_form, no_language, Reading, got, fails, rest_place}
+use Rattle.simplecss_text.specs.Reading.{Fault, ended, wrong_byte, no_name, no_comment, no_value, no_selector, unexpected_selector, unexpected_combinator, no_attribute_form, no_language, Reading, got, fails, rest_offset}
 use Rattle.simplecss_text.specs.Positions.{position}
 use Rattle.simplecss_text.specs.declared.text_pos.TextPos.{TextPos}
 use Rattle.simplecss_text.specs.declared.error.Error.{Error}
@@ -9,7 +9,7 @@ use Rattle.simplecss_text.specs.declared.error.Error.TheVariants.{UnexpectedEndO
 
 -- the position in the text at which this rest begins
 abbrev pub position_of : List ℕ → List ℕ → TextPos
-position_of text rest = position text (rest_place text rest)
+position_of text rest = position text (rest_offset text rest)
 
 -- the error that the expected byte is missing: another byte is there, or the text ends
 abbrev pub byte_error : List ℕ → ℕ → List ℕ → Error
@@ -30,17 +30,17 @@ error_of text no_attribute_form = InvalidAttributeSelector
 error_of text no_language = InvalidLanguagePseudoClass
 
 -- the position in the error, if it has one
-abbrev pub told_position : Error → Option TextPos
-told_position (InvalidIdent pos) = Some pos
-told_position (InvalidComment pos) = Some pos
-told_position (InvalidValue pos) = Some pos
-told_position (InvalidByte expected actual pos) = Some pos
-told_position UnexpectedEndOfStream = None
-told_position SelectorMissing = None
-told_position UnexpectedSelector = None
-told_position UnexpectedCombinator = None
-told_position InvalidAttributeSelector = None
-told_position InvalidLanguagePseudoClass = None
+abbrev pub error_position : Error → Option TextPos
+error_position (InvalidIdent pos) = Some pos
+error_position (InvalidComment pos) = Some pos
+error_position (InvalidValue pos) = Some pos
+error_position (InvalidByte expected actual pos) = Some pos
+error_position UnexpectedEndOfStream = None
+error_position SelectorMissing = None
+error_position UnexpectedSelector = None
+error_position UnexpectedCombinator = None
+error_position InvalidAttributeSelector = None
+error_position InvalidLanguagePseudoClass = None
 
 -- the reading has failed, the error reports its fault, and this is left to read
 abbrev pub FailsBy : {A : Type 0} → List ℕ → Reading A → Error → List ℕ → Type 0

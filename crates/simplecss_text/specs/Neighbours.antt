@@ -59,14 +59,14 @@ between closed_side true Colon start after = descends
 between closed_side true Other start after = descends
 
 -- the left side of the gap after a piece: open after a combinator, closed after a simple piece
-abbrev pub side_behind : NextKind → Side
-side_behind Child = open_side
-side_behind Adjacent = open_side
-side_behind Stop = closed_side
-side_behind Slash = closed_side
-side_behind Universal = closed_side
-side_behind Id = closed_side
-side_behind Class = closed_side
-side_behind Attribute = closed_side
-side_behind Colon = closed_side
-side_behind Other = closed_side
+abbrev pub side_after : NextKind → Side
+side_after Child = open_side
+side_after Adjacent = open_side
+side_after Stop = closed_side
+side_after Slash = closed_side
+side_after Universal = closed_side
+side_after Id = closed_side
+side_after Class = closed_side
+side_after Attribute = closed_side
+side_after Colon = closed_side
+side_after Other = closed_side

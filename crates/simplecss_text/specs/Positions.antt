@@ -19,7 +19,7 @@ in_whole start inner = record {
 -- The position of an offset: 1 more than the newlines before it, and 1 more than the characters
 -- since the last of them. Both stop at the greatest `u32`.
 unfoldable pub position : List ℕ → ℕ → TextPos
-position text place = record {
-  row = min greatest (1 + count_by (λ b. b == newline) (take place text));
-  col = min greatest (1 + length (chars (after_last (λ b. b == newline) (take place text))));
+position text offset = record {
+  row = min greatest (1 + count_by (λ b. b == newline) (take offset text));
+  col = min greatest (1 + length (chars (after_last (λ b. b == newline) (take offset text))));
 }

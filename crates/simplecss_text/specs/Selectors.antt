@@ -22,7 +22,7 @@ pub data Part : Type 0 where
 -- The role of a token in a selector: a part of a component, or what joins two of them.
 pub data Role : Type 0 where
   part : Part → Role
-  joint : Combinator → Role
+  joined_by : Combinator → Role
 
 -- The role of a token in a selector: none, if it is a pseudo-class whose name is not known. A class
 -- is an attribute `class` with a word, and an id is an attribute `id` that equals a text.
@@ -35,9 +35,9 @@ role_of (attribute_selector n operator) = Some (part (with (attribute n operator
 role_of (named_pseudo_class n) =
     option_map (λ class. part (with (pseudo_class class))) (known_pseudo_class n)
 role_of (lang_pseudo_class value) = Some (part (with (pseudo_class (lang value))))
-role_of descendant_combinator = Some (joint descendant)
-role_of child_combinator = Some (joint child)
-role_of adjacent_combinator = Some (joint adjacent)
+role_of descendant_combinator = Some (joined_by descendant)
+role_of child_combinator = Some (joined_by child)
+role_of adjacent_combinator = Some (joined_by adjacent)
 
 -- A sequence is refused at its first fault or unknown pseudo-class, and else has the roles of its
 -- tokens. With it comes the rest at that point.
@@ -64,7 +64,7 @@ outcome (item (Ok token) after rest) = after_role (role_of token) after (outcome
 -- the parts up to the first combinator, and each combinator with the parts up to the next one
 abbrev pub cut : List Role → List Part × List (Combinator × List Part)
 cut [] = ([], [])
-cut (joint combinator ∷ roles) = ([], (combinator, (cut roles).0) ∷ (cut roles).1)
+cut (joined_by combinator ∷ roles) = ([], (combinator, (cut roles).0) ∷ (cut roles).1)
 cut (part x ∷ roles) = (x ∷ (cut roles).0, (cut roles).1)
 
 -- the type name among the parts of a component, if there is one, else the one from before

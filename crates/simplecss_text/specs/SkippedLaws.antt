@@ -29,7 +29,7 @@ why_before more broken_declaration = broken_declaration
 why_before more extra_brace = extra_brace
 why_before more open_comment = open_comment
 
--- What is skipped of a text, where `more` follows the text: it begins and ends at the same places.
+-- What is skipped of a text, where `more` follows the text: it begins and ends at the same offsets.
 abbrev pub skip_before : (more : List ℕ) → Skip → Skip
 skip_before more s =
     record { from = s.from ++ more; after = s.after ++ more; why = why_before more s.why }
@@ -37,10 +37,10 @@ skip_before more s =
 -- What is skipped of the text is what is skipped of what precedes the offset, followed by what is
 -- skipped of what follows it.
 abbrev pub SkipsAcross : Edition → List ℕ → ℕ → Type 0
-SkipsAcross edition text place =
+SkipsAcross edition text offset =
     skipped edition text
-    ≡ map (skip_before (drop place text)) (skipped edition (take place text))
-    ++ skipped edition (drop place text)
+    ≡ map (skip_before (drop offset text)) (skipped edition (take offset text))
+    ++ skipped edition (drop offset text)
 
 -- If all selectors are clean, a new sheet that reads the printed rules has these rules, in their
 -- order, and nothing of the printed text is skipped.

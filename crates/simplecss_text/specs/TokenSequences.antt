@@ -11,7 +11,7 @@ use Rattle.simplecss_text.specs.Tokens.{Token, token_texts}
 use Rattle.simplecss_text.specs.Tokens.Token.{descendant_combinator}
 use Rattle.simplecss_text.specs.Pieces.{Piece, pieces, Ending, ending}
 use Rattle.simplecss_text.specs.Pieces.Ending.{at_stop, at_slash, without_head, within_piece, within_gap}
-use Rattle.simplecss_text.specs.Neighbours.{Side, Answer, between, side_behind}
+use Rattle.simplecss_text.specs.Neighbours.{Side, Answer, between, side_after}
 use Rattle.simplecss_text.specs.Neighbours.Side.{open_side, closed_side}
 use Rattle.simplecss_text.specs.Neighbours.Answer.{nothing, descends, refuses}
 
@@ -65,7 +65,7 @@ abbrev pub sequence : Side → List Piece → Ending → TokenSequence
 sequence side [] end = ending_sequence side end
 sequence side (p ∷ ps) end =
     answered (between side p.spaced p.kind p.start p.after) p.start
-    (token_then p.token p.after (sequence (side_behind p.kind) ps end))
+    (token_then p.token p.after (sequence (side_after p.kind) ps end))
 
 -- the sequence of the rest, after a left side
 unfoldable pub sequence_from : Edition → Side → List ℕ → TokenSequence
@@ -82,13 +82,13 @@ items (item x after rest) = x ∷ items rest
 items (sequence_end left) = []
 
 -- a token, or the error that reports a fault in a text
-abbrev pub told_in : List ℕ → Result Token Fault → Result Token Error
-told_in text (Ok token) = Ok token
-told_in text (Err fault) = Err (error_of text fault)
+abbrev pub reported_in : List ℕ → Result Token Fault → Result Token Error
+reported_in text (Ok token) = Ok token
+reported_in text (Err fault) = Err (error_of text fault)
 
 -- what a tokenizer yields on a whole text
 abbrev pub tokens_of : Edition → List ℕ → List (Result Token Error)
-tokens_of edition text = map (told_in text) (items (sequence_of edition text))
+tokens_of edition text = map (reported_in text) (items (sequence_of edition text))
 
 -- the number of faults in a sequence
 abbrev pub fault_count : TokenSequence → ℕ

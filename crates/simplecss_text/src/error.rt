@@ -36,11 +36,11 @@ pub enum Error {
 }
 
 impl Error {
-    ghost use Rattle.simplecss_text.specs.Errors.{told_position};
+    ghost use Rattle.simplecss_text.specs.Errors.{error_position};
 
     /// Returns the position in the error, if it has one.
     pub fn pos(&self) -> Option<TextPos>
-        ensures { result ≡ told_position self.now }
+        ensures { result ≡ error_position self.now }
     {
         match *self {
             Error::InvalidIdent(pos)

@@ -16,7 +16,7 @@ ghost use Rattle.simplecss_text.specs.Cutting.{StatementEndsAt};
 ghost use Rattle.simplecss_text.specs.PrintingLaws.{IsNarrow};
 ghost use Rattle.simplecss_text.specs.SkippedLaws.{PrintsWhole, SkipsAcross};
 ghost use Rattle.simplecss_text.specs.NothingLost.{LosesNothing};
-ghost use Rattle.simplecss_text.specs.Cursor.{text_of, place_of};
+ghost use Rattle.simplecss_text.specs.Cursor.{text_of, offset_of};
 
 use crate::stream::Stream;
 use crate::{Error, TextPos};
@@ -52,11 +52,11 @@ pub fn open_comment_breaks_blank()
         blank text ≡ comment (past_blank text) }
 {}
 
-/// What is skipped of a text is what is skipped of its front up to a place and then what is skipped
-/// from there on, with its reasons, wherever one of its statements ends.
+/// What is skipped of a text is what is skipped of its front up to an offset and then what is
+/// skipped from there on, with its reasons, wherever one of its statements ends.
 pub fn skips_are_cut()
-    ensures { (edition : Edition) (text : List ℕ) (place : ℕ) → IsUtf8 text →
-        StatementEndsAt edition text place → SkipsAcross edition text place }
+    ensures { (edition : Edition) (text : List ℕ) (offset : ℕ) → IsUtf8 text →
+        StatementEndsAt edition text offset → SkipsAcross edition text offset }
 {}
 
 /// Every byte of a text belongs to a blank, to a comma or a brace, to a selector or a declaration
@@ -76,9 +76,9 @@ pub fn printed_skips_nothing()
 /// Two positions are equal exactly if their rows and columns are; two errors if they are the same
 /// error with the same position and bytes; two cursors if they have the same offset in texts of the
 /// same bytes.
-pub fn equality_laws()
+pub fn text_equality_laws()
     ensures positions { (a b : TextPos) → IsTrue (⟦<TextPos as PartialEq>⟧.eq a b) ↔ (a ≡ b) }
     ensures errors { (a b : Error) → IsTrue (⟦<Error as PartialEq>⟧.eq a b) ↔ (a ≡ b) }
     ensures cursors { (a b : Stream) → IsTrue (⟦<Stream<'static> as PartialEq>⟧.eq a b)
-        ↔ ((text_of a ≡ text_of b) × (place_of a ≡ place_of b)) }
+        ↔ ((text_of a ≡ text_of b) × (offset_of a ≡ offset_of b)) }
 {}

@@ -6,7 +6,7 @@ ghost use Rattle.simplecss_text.specs.AsciiBytes.{newline};
 use crate::TextPos;
 
 /// Returns the row of the position after the text.
-fn row_behind(before: &str) -> u32
+fn row_after(before: &str) -> u32
     ensures { result ≡ min u32.MAX (1 + count_by (λ b. b == newline) before.now) }
 {
     one_more(
@@ -19,7 +19,7 @@ fn row_behind(before: &str) -> u32
 }
 
 /// Returns the column of the position after the text.
-fn column_behind(before: &str) -> u32
+fn column_after(before: &str) -> u32
     ensures { result ≡ min u32.MAX (1 + length (chars (after_last (λ b. b == newline) before.now))) }
 {
     let line = match before.rfind('\n') {
@@ -44,10 +44,10 @@ fn one_more(count: usize) -> u32
 }
 
 /// Returns the position after the text.
-pub(crate) fn position_behind(before: &str) -> TextPos
+pub(crate) fn position_after(before: &str) -> TextPos
     ensures row { result.row ≡ min u32.MAX (1 + count_by (λ b. b == newline) before.now) }
     ensures col { result.col
         ≡ min u32.MAX (1 + length (chars (after_last (λ b. b == newline) before.now))) }
 {
-    TextPos::new(row_behind(before), column_behind(before))
+    TextPos::new(row_after(before), column_after(before))
 }

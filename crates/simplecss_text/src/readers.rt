@@ -44,7 +44,7 @@ pub fn from_brace(text: &str) -> &str
 /// Advances past the byte at the cursor, which is ASCII.
 #[tactic(auto, using(crate::proofs::bytes::CutLemmas::boundary_past_ascii))]
 #[inline(always)]
-pub fn pass_ascii(s: &mut Stream<'_>)
+pub fn skip_ascii(s: &mut Stream<'_>)
     requires { starts_by is_ascii (rest_of s.old) ≡ true }
     ensures text { text_of s.new ≡ text_of s.old }
     ensures rest { rest_of s.new ≡ past_one (rest_of s.old) }
@@ -54,7 +54,7 @@ pub fn pass_ascii(s: &mut Stream<'_>)
 
 /// Advances past the byte, which is ASCII, if it is next, and returns whether it was.
 #[inline(always)]
-pub fn pass_byte(s: &mut Stream<'_>, byte: u8) -> bool
+pub fn skip_byte(s: &mut Stream<'_>, byte: u8) -> bool
     requires { byte < 128 }
     ensures text { text_of s.new ≡ text_of s.old }
     ensures stands { result ≡ starts byte (rest_of s.old) }
@@ -111,7 +111,7 @@ pub fn take_string<'a>(s: &mut Stream<'a>, quote: u8) -> Option<&'a str>
 /// whole text.
 #[tactic(auto, unfolding(crate::specs::Comments::blank))]
 #[inline(always)]
-pub fn pass_blank(s: &mut Stream<'_>) -> bool
+pub fn skip_blank(s: &mut Stream<'_>) -> bool
     ensures text { text_of s.new ≡ text_of s.old }
     ensures reads { GivesOrNone (λ u. u) (no_comment (past_blank (rest_of s.old))) (blank (rest_of s.old))
         (if result then Some tt else None) (rest_of s.new) }
@@ -127,7 +127,7 @@ pub fn pass_blank(s: &mut Stream<'_>) -> bool
 /// Skips a blank and returns whether it has a space byte, which matters in the gap before a piece
 /// of a selector. An open comment after it is `InvalidComment` with the position of its start, and
 /// then the cursor is at the end of the text.
-#[tactic(auto, using(crate::proofs::bytes::GapLaws::gap_is_closed, crate::proofs::bytes::GapLaws::gap_is_open))]
+#[tactic(auto, using(crate::proofs::bytes::GapLemmas::gap_is_closed, crate::proofs::bytes::GapLemmas::gap_is_open))]
 #[inline(always)]
 pub fn consume_gap(s: &mut Stream<'_>) -> Result<bool, Error>
     ensures text { text_of s.new ≡ text_of s.old }

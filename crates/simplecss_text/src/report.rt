@@ -55,7 +55,7 @@ pub struct Skipped<'a> {
 pub trait Report<'a> {
     ghost use Rattle.std.specs.Prelude.{◌≡◌, OnOk};
     ghost use Rattle.simplecss_text.specs.Skipped.{Skip};
-    ghost use Rattle.simplecss_text.specs.SeenSkips.{skip_of};
+    ghost use Rattle.simplecss_text.specs.SkipViews.{skip_of};
 
     ghost State: { Type 0 };
 
@@ -102,7 +102,7 @@ pub struct Kept<'a> {
 impl<'a> Report<'a> for Kept<'a> {
     ghost use Rattle.std.specs.Prelude.{List, ◌++◌, ◌∷◌, [], map};
     ghost use Rattle.simplecss_text.specs.Skipped.{Skip};
-    ghost use Rattle.simplecss_text.specs.SeenSkips.{skip_of};
+    ghost use Rattle.simplecss_text.specs.SkipViews.{skip_of};
 
     ghost State = { List Skip };
 

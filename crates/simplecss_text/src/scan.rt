@@ -80,14 +80,14 @@ pub fn find_byte(text: &str, byte: u8) -> Option<usize>
     ensures found { MatchOption result (after_byte byte text.now ≡ None)
         (λ n. after_byte byte text.now ≡ Some (drop (n + 1) text.now)) }
     ensures boundary { IfSome result (λ n. IsCharBoundary text.now n) }
-    ensures behind { IfSome result (λ n. IsCharBoundary text.now (n + 1)) }
+    ensures after { IfSome result (λ n. IsCharBoundary text.now (n + 1)) }
 {
     text.find(char::from(byte))
 }
 
 /// Returns the offset of the first such quote that does not directly follow a backslash, if there
 /// is one. The byte before the text is the opening quote.
-fn quote_place(bytes: &[u8], quote: u8) -> Option<usize>
+fn quote_offset(bytes: &[u8], quote: u8) -> Option<usize>
     ensures found { MatchOption result (from_quote quote quote bytes.now ≡ None)
         (λ n. from_quote quote quote bytes.now ≡ Some (drop n bytes.now)) }
     ensures quote { IfSome result
@@ -110,10 +110,10 @@ pub fn string_len(text: &str, quote: u8) -> Option<usize>
     ensures found { MatchOption result (from_quote quote quote text.now ≡ None)
         (λ n. from_quote quote quote text.now ≡ Some (drop n text.now)) }
     ensures boundary { IfSome result (λ n. IsCharBoundary text.now n) }
-    ensures behind { IfSome result (λ n. IsCharBoundary text.now (n + 1)) }
+    ensures after { IfSome result (λ n. IsCharBoundary text.now (n + 1)) }
     ensures within { IfSome result (λ n. n < length text.now) }
 {
-    quote_place(text.as_bytes(), quote)
+    quote_offset(text.as_bytes(), quote)
 }
 
 /// An ASCII byte that may continue a name.

@@ -5,7 +5,7 @@ ghost use Rattle.std.specs.Str.{IsUtf8, IsCharBoundary};
 ghost use Rattle.simplecss_text.specs.Characters.{is_name_start, is_name_char};
 ghost use Rattle.simplecss_text.specs.ThisEdition.{this_edition};
 
-use crate::position::position_behind;
+use crate::position::position_after;
 use crate::{Error, TextPos, readers, scan};
 
 /// The first character past ASCII that a name may have: U+00A0, which is octal 240.
@@ -42,9 +42,9 @@ pub struct Stream<'a> {
 }
 
 impl<'a> From<&'a str> for Stream<'a> {
-    ghost use Rattle.simplecss_text.specs.Cursor.{text_of, place_of};
+    ghost use Rattle.simplecss_text.specs.Cursor.{text_of, offset_of};
 
-    ghost from_gives = { λ text s. (text_of s ≡ text.now) × (place_of s ≡ 0) };
+    ghost from_gives = { λ text s. (text_of s ≡ text.now) × (offset_of s ≡ 0) };
 
     /// Returns a cursor at the start of the text.
     fn from(text: &'a str) -> Stream<'a> {
@@ -53,7 +53,7 @@ impl<'a> From<&'a str> for Stream<'a> {
 }
 
 impl<'a> Stream<'a> {
-    ghost use Rattle.simplecss_text.specs.Cursor.{text_of, place_of, rest_of};
+    ghost use Rattle.simplecss_text.specs.Cursor.{text_of, offset_of, rest_of};
     ghost use Rattle.simplecss_text.specs.Bytes.{byte as byte_read, past, past_one, past_byte};
     ghost use Rattle.simplecss_text.specs.Characters.{is_space};
     ghost use Rattle.simplecss_text.specs.Comments.{comment, blank};
@@ -67,14 +67,14 @@ impl<'a> Stream<'a> {
     #[tactic(auto, using(crate::proofs::bytes::CutLemmas::boundary_at_start))]
     pub fn new(text: &'a str) -> Stream<'a>
         ensures text { text_of result ≡ text.now }
-        ensures place { place_of result ≡ 0 }
+        ensures offset { offset_of result ≡ 0 }
     {
         Stream { text, pos: 0 }
     }
 
     /// Returns the offset, in bytes from the start of the text.
     pub fn pos(&self) -> usize
-        ensures { result ≡ place_of self.now }
+        ensures { result ≡ offset_of self.now }
     {
         let Stream { pos, .. } = *self;
         pos
@@ -150,7 +150,7 @@ impl<'a> Stream<'a> {
                 pos: self.gen_text_pos(),
             }),
             Some(_) => {
-                readers::pass_ascii(self);
+                readers::skip_ascii(self);
                 Ok(())
             }
             None => Err(Error::UnexpectedEndOfStream),
@@ -165,7 +165,7 @@ impl<'a> Stream<'a> {
         ensures rest { rest_of self.new ≡ past_byte c (rest_of self.old) }
     {
         if readers::peek(self) == Some(c) {
-            readers::pass_ascii(self);
+            readers::skip_ascii(self);
         }
     }
 
@@ -174,8 +174,8 @@ impl<'a> Stream<'a> {
     pub fn skip_bytes<F: Fn(u8) -> bool>(&mut self, f: F)
         requires { IsByteTest (F.pre f) (F.post f) (text_of self.old) }
         ensures text { text_of self.new ≡ text_of self.old }
-        ensures run { PassesUpTo (F.post f) (text_of self.old) (place_of self.old)
-            (place_of self.new) }
+        ensures run { PassesUpTo (F.post f) (text_of self.old) (offset_of self.old)
+            (offset_of self.new) }
     {
         let bytes = self.text.as_bytes();
         let mut end = self.pos;
@@ -190,10 +190,10 @@ impl<'a> Stream<'a> {
     pub fn consume_bytes<F: Fn(u8) -> bool>(&mut self, f: F) -> &'a str
         requires { IsByteTest (F.pre f) (F.post f) (text_of self.old) }
         ensures text { text_of self.new ≡ text_of self.old }
-        ensures run { PassesUpTo (F.post f) (text_of self.old) (place_of self.old)
-            (place_of self.new) }
+        ensures run { PassesUpTo (F.post f) (text_of self.old) (offset_of self.old)
+            (offset_of self.new) }
         ensures value { result.now
-            ≡ slice_range (text_of self.old) (place_of self.old) (place_of self.new) }
+            ≡ slice_range (text_of self.old) (offset_of self.old) (offset_of self.new) }
     {
         let begin = self.pos;
         self.skip_bytes(f);
@@ -212,9 +212,9 @@ impl<'a> Stream<'a> {
 
     /// Returns the text from an earlier offset to the cursor.
     pub fn slice_back(&self, pos: usize) -> &'a str
-        requires ordered { pos ≤ place_of self.now }
+        requires ordered { pos ≤ offset_of self.now }
         requires start { IsCharBoundary (text_of self.now) pos }
-        ensures { result.now ≡ slice_range (text_of self.now) pos (place_of self.now) }
+        ensures { result.now ≡ slice_range (text_of self.now) pos (offset_of self.now) }
     {
         &self.text[pos..self.pos]
     }
@@ -239,7 +239,7 @@ impl<'a> Stream<'a> {
     /// Skips a blank: the longest run of space bytes and comments (CSS 2.1 sections 4.1.1 and
     /// 4.1.9). An open comment after it is `InvalidComment` with the position of its start, and
     /// then the cursor is at the end of the text.
-    #[tactic(auto, using(crate::proofs::bytes::GapLaws::blank_where_gap_is_got, crate::proofs::bytes::GapLaws::blank_where_gap_fails))]
+    #[tactic(auto, using(crate::proofs::bytes::GapLemmas::blank_where_gap_is_got, crate::proofs::bytes::GapLemmas::blank_where_gap_fails))]
     pub fn skip_spaces_and_comments(&mut self) -> Result<(), Error>
         ensures text { text_of self.new ≡ text_of self.old }
         ensures reads { Gives (λ u. u) (text_of self.old) (blank (rest_of self.old))
@@ -280,7 +280,7 @@ impl<'a> Stream<'a> {
     {
         match readers::peek(self) {
             Some(quote @ (b'\'' | b'"')) => {
-                readers::pass_ascii(self);
+                readers::skip_ascii(self);
                 readers::take_string(self, quote).ok_or(Error::UnexpectedEndOfStream)
             }
             Some(_) => self.consume_ident(),
@@ -325,6 +325,6 @@ impl<'a> Stream<'a> {
         requires { IsCharBoundary (text_of self.now) (min pos (length (text_of self.now))) }
         ensures { result ≡ position (text_of self.now) (min pos (length (text_of self.now))) }
     {
-        position_behind(&self.text[..pos.min(self.text.len())])
+        position_after(&self.text[..pos.min(self.text.len())])
     }
 }

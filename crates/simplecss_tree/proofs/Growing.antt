@@ -51,13 +51,13 @@ module _ (entries : List Entry) (last_root : Option ℕ) (e : Entry) (knows : Kn
       ∙ last_child-append (map row_of entries) (row_of e) parent
       ∙ ap (λ n. if option_eq nat_eq e.parent parent then Some n else last_child (map row_of entries) parent) (length-map entries row_of)
 
-  module _ (all : List Entry) (count : ℕ) (are : all ≡ entries ++ e ∷ []) (place : count ≡ length entries) where
-    known : (parent asked : Option ℕ) (b : Bool) → e.parent ≡ parent → option_eq nat_eq parent asked ≡ b → last_child (map row_of all) asked ≡ (if b then Some count else last_child (map row_of entries) asked)
-    known parent asked b is test =
-        ap (λ es. last_child (map row_of es) asked) are
-        ∙ last_after asked
-        ∙ ap (λ t. if t then Some (length entries) else last_child (map row_of entries) asked) (ap (λ p. option_eq nat_eq p asked) is ∙ test)
-        ∙ ap (λ n. if b then Some n else last_child (map row_of entries) asked) (sym place)
+  module _ (all : List Entry) (count : ℕ) (are : all ≡ entries ++ e ∷ []) (index : count ≡ length entries) where
+    known : (parent required : Option ℕ) (b : Bool) → e.parent ≡ parent → option_eq nat_eq parent required ≡ b → last_child (map row_of all) required ≡ (if b then Some count else last_child (map row_of entries) required)
+    known parent required b is test =
+        ap (λ es. last_child (map row_of es) required) are
+        ∙ last_after required
+        ∙ ap (λ t. if t then Some (length entries) else last_child (map row_of entries) required) (ap (λ p. option_eq nat_eq p required) is ∙ test)
+        ∙ ap (λ n. if b then Some n else last_child (map row_of entries) required) (sym index)
 
     -- a new element without a parent is the last of these
     pub knows_root : e.parent ≡ None → KnowsLast all (Some count)
@@ -67,51 +67,51 @@ module _ (entries : List Entry) (last_root : Option ℕ) (e : Entry) (knows : Kn
     }
 
     -- to set an element's last child changes no row
-    pub rows_told : (k : ℕ) (told d : Entry) → row_of told ≡ row_of (get_or all k d) → map row_of (set all k told) ≡ map row_of entries ++ row_of e ∷ []
-    rows_told k told d same = map-set_same row_of all k told d same ∙ ap (map row_of) are ∙ rows_after
+    pub rows_reported : (k : ℕ) (reported d : Entry) → row_of reported ≡ row_of (get_or all k d) → map row_of (set all k reported) ≡ map row_of entries ++ row_of e ∷ []
+    rows_reported k reported d same = map-set_same row_of all k reported d same ∙ ap (map row_of) are ∙ rows_after
 
-    module _ (k : ℕ) (is : e.parent ≡ Some k) (within : k < length all) (told d : Entry) (same : row_of told ≡ row_of (get_or all k d)) (last : told.last_child ≡ Some count) where
-      told_each : (i : ℕ) (b : Bool) → nat_eq k i ≡ b → get_or (map (λ e. e.last_child) (set all k told)) i None ≡ last_child (map row_of all) (Some i)
-      told_each i true test =
+    module _ (k : ℕ) (is : e.parent ≡ Some k) (within : k < length all) (reported d : Entry) (same : row_of reported ≡ row_of (get_or all k d)) (last : reported.last_child ≡ Some count) where
+      reported_each : (i : ℕ) (b : Bool) → nat_eq k i ≡ b → get_or (map (λ e. e.last_child) (set all k reported)) i None ≡ last_child (map row_of all) (Some i)
+      reported_each i true test =
           let at : i ≡ k = grind (arith, nat_tests, test) in
           let in_all : k < length (map (λ e. e.last_child) all) = omega (arith, within, length-map all (λ e. e.last_child)) in
-          ap (λ xs. get_or xs i None) (map-set (λ e. e.last_child) all k told)
-          ∙ ap (λ j. get_or (set (map (λ e. e.last_child) all) k told.last_child) j None) at
-          ∙ get_or-set_same (map (λ e. e.last_child) all) k told.last_child None in_all
+          ap (λ xs. get_or xs i None) (map-set (λ e. e.last_child) all k reported)
+          ∙ ap (λ j. get_or (set (map (λ e. e.last_child) all) k reported.last_child) j None) at
+          ∙ get_or-set_same (map (λ e. e.last_child) all) k reported.last_child None in_all
           ∙ last
           ∙ sym (known (Some k) (Some i) true is test)
-      told_each i false test =
+      reported_each i false test =
           let other : i ≢ k = grind (arith, nat_tests, test) in
-          ap (λ xs. get_or xs i None) (map-set (λ e. e.last_child) all k told)
-          ∙ get_or-set_other (map (λ e. e.last_child) all) k i told.last_child None other
+          ap (λ xs. get_or xs i None) (map-set (λ e. e.last_child) all k reported)
+          ∙ get_or-set_other (map (λ e. e.last_child) all) k i reported.last_child None other
           ∙ ap (λ es. get_or (map (λ e. e.last_child) es) i None) are
           ∙ kept_each i
           ∙ sym (known (Some k) (Some i) false is test)
 
       -- a new element with a parent is the last child of that
-      pub knows_child : KnowsLast (set all k told) last_root
+      pub knows_child : KnowsLast (set all k reported) last_root
       knows_child =
-          let rows = sym (map-set_same row_of all k told d same) in
+          let rows = sym (map-set_same row_of all k reported d same) in
           record {
             root = knows.root ∙ sym (known (Some k) None false is refl) ∙ ap (λ rows. last_child rows None) rows;
-            each = λ i. told_each i (nat_eq k i) refl ∙ ap (λ rows. last_child rows (Some i)) rows;
+            each = λ i. reported_each i (nat_eq k i) refl ∙ ap (λ rows. last_child rows (Some i)) rows;
           }
 
 -- replacing an entry by one with the same parent and the same last child
-module _ (entries : List Entry) (last_root : Option ℕ) (knows : KnowsLast entries last_root) (k : ℕ) (told d : Entry) (parent : told.parent ≡ (get_or entries k d).parent) (last : told.last_child ≡ (get_or entries k d).last_child) where
-  same_children : (parent : Option ℕ) → last_child (map row_of (set entries k told)) parent ≡ last_child (map row_of entries) parent
-  same_children asked =
-      ap (λ ps. last_naming ps asked)
-      (map-map (λ row. row.parent) row_of (set entries k told) ∙ map-set_same (λ e. e.parent) entries k told d parent ∙ sym (map-map (λ row. row.parent) row_of entries))
+module _ (entries : List Entry) (last_root : Option ℕ) (knows : KnowsLast entries last_root) (k : ℕ) (reported d : Entry) (parent : reported.parent ≡ (get_or entries k d).parent) (last : reported.last_child ≡ (get_or entries k d).last_child) where
+  same_children : (parent : Option ℕ) → last_child (map row_of (set entries k reported)) parent ≡ last_child (map row_of entries) parent
+  same_children required =
+      ap (λ ps. last_naming ps required)
+      (map-map (λ row. row.parent) row_of (set entries k reported) ∙ map-set_same (λ e. e.parent) entries k reported d parent ∙ sym (map-map (λ row. row.parent) row_of entries))
 
-  pub knows_kept : KnowsLast (set entries k told) last_root
+  pub knows_kept : KnowsLast (set entries k reported) last_root
   knows_kept = record {
     root = knows.root ∙ sym (same_children None);
-    each = λ i. ap (λ xs. get_or xs i None) (map-set_same (λ e. e.last_child) entries k told d last) ∙ knows.each i ∙ sym (same_children (Some i));
+    each = λ i. ap (λ xs. get_or xs i None) (map-set_same (λ e. e.last_child) entries k reported d last) ∙ knows.each i ∙ sym (same_children (Some i));
   }
 
 -- the rows, of which one is changed
-pub rows_changed : (entries : List Entry) (k : ℕ) (told d : Entry) (change : Row → Row) → k < length entries → row_of told ≡ change (row_of (get_or entries k d)) → map row_of (set entries k told) ≡ set (map row_of entries) k (change (get_or (map row_of entries) k nobody))
-rows_changed entries k told d change within is =
-    map-set row_of entries k told
+pub rows_changed : (entries : List Entry) (k : ℕ) (reported d : Entry) (change : Row → Row) → k < length entries → row_of reported ≡ change (row_of (get_or entries k d)) → map row_of (set entries k reported) ≡ set (map row_of entries) k (change (get_or (map row_of entries) k nobody))
+rows_changed entries k reported d change within is =
+    map-set row_of entries k reported
     ∙ ap (set (map row_of entries) k) (is ∙ ap change (sym (get_or-map row_of entries k d nobody within)))

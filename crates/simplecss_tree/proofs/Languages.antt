@@ -5,7 +5,7 @@ use Rattle.std.specs.Prelude.{codes}
 use Rattle.std.specs.Option.{option_or}
 use Rattle.simplecss.specs.ListTrees.{parent_by, with_those_above, ancestors, ancestors_step}
 use Rattle.simplecss_tree.specs.Rows.{Row}
-use Rattle.simplecss_tree.specs.Nodes.{named_parent, attribute_at, first_value, language_at}
+use Rattle.simplecss_tree.specs.TreeNodes.{named_parent, attribute_at, first_value, language_at}
 
 pub language_at-parent : (rows : List Row) (i p : ℕ) → attribute_at rows i (codes "lang") ≡ None → parent_by (named_parent rows) i ≡ Some p → language_at rows i ≡ language_at rows p
 language_at-parent rows i p none up =

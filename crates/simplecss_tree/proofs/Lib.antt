@@ -1,3 +1,3 @@
 mod Growing
 mod Languages
-pub mod StyledWrites
+pub mod ErrorWrites

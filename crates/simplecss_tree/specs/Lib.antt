@@ -1,3 +1,3 @@
 pub mod Rows
-pub mod Nodes
+pub mod TreeNodes
 pub mod Messages

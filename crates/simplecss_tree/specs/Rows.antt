@@ -85,12 +85,12 @@ row_in row states = record {
 
 -- The elements, of which the one at the index is in these states.
 abbrev pub with_states : List Row → ℕ → States → List Row
-with_states rows place states = slice_set rows place (row_in (slice_index_or rows place nobody) states)
+with_states rows index states = slice_set rows index (row_in (slice_index_or rows index nobody) states)
 
 -- an index is named, and there is no such element
 abbrev pub IsMissing : Option ℕ → ℕ → Type 0
 IsMissing None count = ⊥
-IsMissing (Some place) count = count ≤ place
+IsMissing (Some index) count = count ≤ index
 
 -- Each entry has the index of its last child, and `last_root` is that of the last element without a
 -- parent. No index past the entries has a child.

@@ -1,7 +1,7 @@
 //! The elements of a tree, as selectors see them.
 ghost use Rattle.std.specs.Prelude.{◌≡◌, ◌<◌, length, Some, map, false};
 ghost use Rattle.std.specs.Option.{option_map};
-ghost use Rattle.simplecss_tree.specs.Nodes.{is_in_language, value_in};
+ghost use Rattle.simplecss_tree.specs.TreeNodes.{is_in_language, value_in};
 ghost use Rattle.simplecss_tree.specs.Rows.{attribute_of};
 
 use crate::Tree;
@@ -14,7 +14,7 @@ pub struct Node<'p, 't> {
     /// The tree of the element.
     pub(crate) tree: &'p Tree<'t>,
     /// Its index among the elements.
-    pub(crate) place: usize,
+    pub(crate) index: usize,
 }
 
 impl<'p, 't> Model for Node<'p, 't> {
@@ -24,9 +24,9 @@ impl<'p, 't> Model for Node<'p, 't> {
 
     ghost Value = { List Row × ℕ };
 
-    ghost view = { λ node. spot node.tree.now node.place };
+    ghost view = { λ node. spot node.tree.now node.index };
 
-    ghost invariant = { λ node. node.place < length node.tree.now };
+    ghost invariant = { λ node. node.index < length node.tree.now };
 }
 
 /// Whether the language is the tag, or the tag and then a hyphen.
@@ -55,13 +55,13 @@ pub(crate) fn value_in<'t>(attributes: &[(&'t str, &'t str)], name: &str) -> Opt
 }
 
 impl<'p, 't> Node<'p, 't> {
-    ghost use Rattle.simplecss_tree.specs.Nodes.{name_at, attribute_at};
+    ghost use Rattle.simplecss_tree.specs.TreeNodes.{name_at, attribute_at};
 
     /// Returns the index among the elements of the tree, in the order in which they were added.
-    pub fn place(&self) -> usize
+    pub fn index(&self) -> usize
         ensures { result ≡ self.now.1 }
     {
-        self.place
+        self.index
     }
 
     /// Returns the name.
@@ -69,7 +69,7 @@ impl<'p, 't> Node<'p, 't> {
     pub fn name(&self) -> &'t str
         ensures { result.now ≡ name_at self.now.0 self.now.1 }
     {
-        self.tree.name(self.place)
+        self.tree.name(self.index)
     }
 
     /// Returns the value of the first attribute with the name, if there is one.
@@ -77,7 +77,7 @@ impl<'p, 't> Node<'p, 't> {
         ensures { option_map (λ value. value.now) result
             ≡ attribute_at self.now.0 self.now.1 name.now }
     {
-        self.tree.attribute(self.place, name)
+        self.tree.attribute(self.index, name)
     }
 }
 
@@ -89,7 +89,7 @@ impl<'p, 't> Element for Node<'p, 't> {
     ghost use Rattle.std.specs.Prelude.{ℕ, List};
     ghost use Rattle.simplecss.specs.ListTrees.{list_counts_ancestors, list_shares_parents};
     ghost use Rattle.simplecss_tree.specs.Rows.{Row};
-    ghost use Rattle.simplecss_tree.specs.Nodes.{elements, element_tree};
+    ghost use Rattle.simplecss_tree.specs.TreeNodes.{elements, element_tree};
 
     ghost Node = { List Row × ℕ };
 
@@ -104,15 +104,15 @@ impl<'p, 't> Element for Node<'p, 't> {
     #[inline(always)]
     fn parent_element(&self) -> Option<Self> {
         let tree = self.tree;
-        let place = tree.parent(self.place)?;
-        Some(Node { tree, place })
+        let index = tree.parent(self.index)?;
+        Some(Node { tree, index })
     }
 
     #[inline(always)]
     fn prev_sibling_element(&self) -> Option<Self> {
         let tree = self.tree;
-        let place = tree.previous(self.place)?;
-        Some(Node { tree, place })
+        let index = tree.previous(self.index)?;
+        Some(Node { tree, index })
     }
 
     #[inline(always)]
@@ -121,33 +121,33 @@ impl<'p, 't> Element for Node<'p, 't> {
     }
 
     fn attribute_matches(&self, local_name: &str, operator: AttributeOperator<'_>) -> bool {
-        match self.tree.attribute(self.place, local_name) {
+        match self.tree.attribute(self.index, local_name) {
             Some(value) => operator.matches(value),
             None => false,
         }
     }
 
     fn pseudo_class_matches(&self, class: PseudoClass<'_>) -> bool {
-        let states = self.tree.states(self.place);
+        let states = self.tree.states(self.index);
         match class {
-            PseudoClass::FirstChild => self.tree.previous(self.place).is_none(),
+            PseudoClass::FirstChild => self.tree.previous(self.index).is_none(),
             PseudoClass::Link => states.link,
             PseudoClass::Visited => states.visited,
             PseudoClass::Hover => states.hover,
             PseudoClass::Active => states.active,
             PseudoClass::Focus => states.focus,
-            PseudoClass::Lang(tag) => self.tree.is_in_language(self.place, tag),
+            PseudoClass::Lang(tag) => self.tree.is_in_language(self.index, tag),
         }
     }
 }
 
 /// Reports its name and its attributes `id` and `class`.
 impl<'p, 't> Keyed for Node<'p, 't> {
-    ghost use Rattle.simplecss_tree.specs.Nodes.{told_at, keys_told};
+    ghost use Rattle.simplecss_tree.specs.TreeNodes.{reported_at, keys_reported};
 
-    ghost told = { told_at };
+    ghost reported = { reported_at };
 
-    ghost told_law = { keys_told };
+    ghost reported_law = { keys_reported };
 
     #[inline(always)]
     fn local_name(&self) -> &str {
@@ -155,15 +155,15 @@ impl<'p, 't> Keyed for Node<'p, 't> {
     }
 
     fn id_value(&self) -> Option<&str> {
-        self.tree.attribute(self.place, "id")
+        self.tree.attribute(self.index, "id")
     }
 
     fn class_value(&self) -> Option<&str> {
-        self.tree.attribute(self.place, "class")
+        self.tree.attribute(self.index, "class")
     }
 
     fn has_attribute(&self, name: &str) -> bool {
-        self.tree.attribute(self.place, name).is_some()
+        self.tree.attribute(self.index, name).is_some()
     }
 
     #[inline(always)]

@@ -46,7 +46,7 @@ impl fmt::Display for TreeError {
 
     ghost styled_output = { λ error _. Some (message_of error) };
 
-    #[tactic(auto, using(crate::proofs::StyledWrites::plain_of_styled))]
+    #[tactic(auto, using(crate::proofs::ErrorWrites::plain_of_styled))]
     fn fmt<W: fmt::Write>(&self, f: &mut fmt::Formatter<W>) -> fmt::Result {
         match self {
             TreeError::NoElement => f.write_str("no such element"),
@@ -175,13 +175,13 @@ impl<'t> Tree<'t> {
 
     /// Adds an element as the last child of the parent, or without one, and returns its index.
     pub fn push(&mut self, parent: Option<usize>, name: &'t str) -> Result<usize, TreeError>
-        ensures place { IfOk result (λ place. place ≡ length self.old) }
+        ensures index { IfOk result (λ index. index ≡ length self.old) }
         ensures added { OnOk result
             (self.new ≡ self.old ++ new_child self.old parent name.now ∷ []) }
         ensures no_parent { (result ≡ Err NoElement) ↔ IsMissing parent (length self.old) }
         ensures err { OnErr result (self.new ≡ self.old) }
     {
-        let place = self.entries.len();
+        let index = self.entries.len();
         let previous = self.last_child(parent)?;
         let alloc = *self.entries.allocator();
         self.entries.push(Entry {
@@ -193,10 +193,10 @@ impl<'t> Tree<'t> {
             last_child: None,
         })?;
         match parent {
-            None => self.last_root = Some(place),
-            Some(above) => self.entries[above].last_child = Some(place),
+            None => self.last_root = Some(index),
+            Some(above) => self.entries[above].last_child = Some(index),
         }
-        Ok(place)
+        Ok(index)
     }
 
     /// Adds an attribute to the element that was added last. Of two attributes with one name the
@@ -214,26 +214,26 @@ impl<'t> Tree<'t> {
     }
 
     /// Sets the states of the element at an index.
-    pub fn set_states(&mut self, place: usize, states: States) -> Result<(), TreeError>
-        ensures ok { OnOk result (self.new ≡ with_states self.old place states) }
-        ensures no_element { MatchResult result (λ _. place < length self.old)
-            (λ fault. (fault ≡ NoElement) × (length self.old ≤ place)) }
+    pub fn set_states(&mut self, index: usize, states: States) -> Result<(), TreeError>
+        ensures ok { OnOk result (self.new ≡ with_states self.old index states) }
+        ensures no_element { MatchResult result (λ _. index < length self.old)
+            (λ fault. (fault ≡ NoElement) × (length self.old ≤ index)) }
         ensures err { OnErr result (self.new ≡ self.old) }
     {
-        if place >= self.entries.len() {
+        if index >= self.entries.len() {
             return Err(TreeError::NoElement);
         }
-        self.entries[place].states = states;
+        self.entries[index].states = states;
         Ok(())
     }
 
     /// Returns the element at an index, if there is one.
-    pub fn node(&self, place: usize) -> Option<Node<'_, 't>>
-        ensures { MatchOption result (length self.now ≤ place)
-            (λ node. (place < length self.now) × (node ≡ spot self.now place)) }
+    pub fn node(&self, index: usize) -> Option<Node<'_, 't>>
+        ensures { MatchOption result (length self.now ≤ index)
+            (λ node. (index < length self.now) × (node ≡ spot self.now index)) }
     {
-        if place < self.len() {
-            Some(Node { tree: self, place })
+        if index < self.len() {
+            Some(Node { tree: self, index })
         } else {
             None
         }
@@ -243,31 +243,31 @@ impl<'t> Tree<'t> {
 /// Answers about its elements.
 impl<'t> Tree<'t> {
     ghost use Rattle.simplecss.specs.ListTrees.{parent_by, sibling_by};
-    ghost use Rattle.simplecss_tree.specs.Nodes.{named_parent, named_previous, name_at};
-    ghost use Rattle.simplecss_tree.specs.Nodes.{attribute_at, states_at, language_at};
-    ghost use Rattle.simplecss_tree.specs.Nodes.{is_in_language};
+    ghost use Rattle.simplecss_tree.specs.TreeNodes.{named_parent, named_previous, name_at};
+    ghost use Rattle.simplecss_tree.specs.TreeNodes.{attribute_at, states_at, language_at};
+    ghost use Rattle.simplecss_tree.specs.TreeNodes.{is_in_language};
 
     /// Returns the index of the parent.
     #[inline(always)]
-    pub(crate) fn parent(&self, place: usize) -> Option<usize>
-        requires { place < length self.now }
-        ensures value { result ≡ parent_by (named_parent self.now) place }
-        ensures before { IfSome result (λ parent. parent < place) }
+    pub(crate) fn parent(&self, index: usize) -> Option<usize>
+        requires { index < length self.now }
+        ensures value { result ≡ parent_by (named_parent self.now) index }
+        ensures before { IfSome result (λ parent. parent < index) }
     {
-        let parent = self.entries[place].parent?;
-        if parent < place { Some(parent) } else { None }
+        let parent = self.entries[index].parent?;
+        if parent < index { Some(parent) } else { None }
     }
 
     /// Returns the index of the previous sibling.
     #[inline(always)]
-    pub(crate) fn previous(&self, place: usize) -> Option<usize>
-        requires { place < length self.now }
+    pub(crate) fn previous(&self, index: usize) -> Option<usize>
+        requires { index < length self.now }
         ensures value { result
-            ≡ sibling_by (named_parent self.now) (named_previous self.now) place }
-        ensures before { IfSome result (λ previous. previous < place) }
+            ≡ sibling_by (named_parent self.now) (named_previous self.now) index }
+        ensures before { IfSome result (λ previous. previous < index) }
     {
-        let previous = self.entries[place].previous?;
-        if previous < place && self.parent(previous) == self.parent(place) {
+        let previous = self.entries[index].previous?;
+        if previous < index && self.parent(previous) == self.parent(index) {
             Some(previous)
         } else {
             None
@@ -276,37 +276,37 @@ impl<'t> Tree<'t> {
 
     /// Returns the name.
     #[inline(always)]
-    pub(crate) fn name(&self, place: usize) -> &'t str
-        requires { place < length self.now }
-        ensures { result.now ≡ name_at self.now place }
+    pub(crate) fn name(&self, index: usize) -> &'t str
+        requires { index < length self.now }
+        ensures { result.now ≡ name_at self.now index }
     {
-        self.entries[place].name
+        self.entries[index].name
     }
 
     /// Returns the value of the first attribute with the name, if there is one.
-    pub(crate) fn attribute(&self, place: usize, name: &str) -> Option<&'t str>
-        requires { place < length self.now }
-        ensures { option_map (λ value. value.now) result ≡ attribute_at self.now place name.now }
+    pub(crate) fn attribute(&self, index: usize, name: &str) -> Option<&'t str>
+        requires { index < length self.now }
+        ensures { option_map (λ value. value.now) result ≡ attribute_at self.now index name.now }
     {
-        value_in(&self.entries[place].attributes, name)
+        value_in(&self.entries[index].attributes, name)
     }
 
     /// Returns the states.
     #[inline(always)]
-    pub(crate) fn states(&self, place: usize) -> States
-        requires { place < length self.now }
-        ensures { result ≡ states_at self.now place }
+    pub(crate) fn states(&self, index: usize) -> States
+        requires { index < length self.now }
+        ensures { result ≡ states_at self.now index }
     {
-        self.entries[place].states
+        self.entries[index].states
     }
 
     /// Returns the value of the attribute `lang` of the nearest among an element and its ancestors
     /// that has one.
-    pub(crate) fn language(&self, place: usize) -> Option<&'t str>
-        requires { place < length self.now }
-        ensures { option_map (λ value. value.now) result ≡ language_at self.now place }
+    pub(crate) fn language(&self, index: usize) -> Option<&'t str>
+        requires { index < length self.now }
+        ensures { option_map (λ value. value.now) result ≡ language_at self.now index }
     {
-        let mut nearest = place;
+        let mut nearest = index;
         loop {
             if let Some(language) = self.attribute(nearest, "lang") {
                 return Some(language);
@@ -316,12 +316,12 @@ impl<'t> Tree<'t> {
     }
 
     /// Whether the element is in the language of the tag.
-    pub(crate) fn is_in_language(&self, place: usize, tag: &str) -> bool
-        requires { place < length self.now }
+    pub(crate) fn is_in_language(&self, index: usize, tag: &str) -> bool
+        requires { index < length self.now }
         ensures { result
-            ≡ option_map_or (is_in_language tag.now) (language_at self.now place) false }
+            ≡ option_map_or (is_in_language tag.now) (language_at self.now index) false }
     {
-        match self.language(place) {
+        match self.language(index) {
             Some(language) => is_in_language(tag, language),
             None => false,
         }

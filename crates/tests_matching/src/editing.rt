@@ -1,9 +1,9 @@
 //! Sheets that a user edits, and whether they read back.
 
 use crate::same::same;
+use example_library::editing::{push_rule, reads_back};
 use log::sink::Discard;
 use simplecss::{Declaration, Selector, StyleSheet};
-use simplecss_uses::editing::{push_rule, reads_back};
 use std::test::Fail;
 
 #[test]
@@ -35,7 +35,7 @@ fn edits_a_sheet(rt: HostRuntime) -> Result<(), Fail> {
 }
 
 #[test]
-fn tells_which_sheets_read_back(rt: HostRuntime) -> Result<(), Fail> {
+fn finds_which_sheets_read_back(rt: HostRuntime) -> Result<(), Fail> {
     for (text, value, wanted) in [
         ("a { b:c } #d { e:f !important }", "red", true),
         // A value that contains another rule.

@@ -157,7 +157,7 @@ const LINES: &[&[Entry<'static>]] = &[
 ];
 
 /// Returns the indices of the rules that match, each rule tested in order.
-fn asked_in_turn(
+fn tested_in_order(
     alloc: Global,
     rules: &[Rule<'_>],
     element: &Node<'_, '_>,
@@ -173,7 +173,7 @@ fn asked_in_turn(
 
 /// One vector serves all calls, and its earlier items are dropped.
 #[test]
-fn as_if_each_rule_were_asked(rt: HostRuntime) -> Result<(), Fail> {
+fn as_if_each_rule_were_tested(rt: HostRuntime) -> Result<(), Fail> {
     let sheet = StyleSheet::parse(&Discard, rt.alloc(), SHEET)?;
     same(&rt, sheet.rules.len(), 27, SHEET);
     let index = RuleIndex::new(rt.alloc(), &sheet.rules)?;
@@ -183,8 +183,8 @@ fn as_if_each_rule_were_asked(rt: HostRuntime) -> Result<(), Fail> {
         let tree = tree_of(rt.alloc(), line)?;
         let element = last(&tree).ok_or("no element")?;
         index.matching_counted(&sheet.rules, &element, &mut places, &mut Tests::new())?;
-        let asked = asked_in_turn(rt.alloc(), &sheet.rules, &element)?;
-        same(&rt, places.as_slice(), asked.as_slice(), element.name());
+        let tested = tested_in_order(rt.alloc(), &sheet.rules, &element)?;
+        same(&rt, places.as_slice(), tested.as_slice(), element.name());
     }
     Ok(())
 }

@@ -1,5 +1,5 @@
 //! Tests of the library's answers on trees: the ready tree, the index of rules, and the loops and
-//! the tree of `simplecss_uses`. The crate has no item of its own.
+//! the tree of `example_library`. The crate has no item of its own.
 #![tactic(auto)]
 
 #[cfg(test)]

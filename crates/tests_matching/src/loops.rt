@@ -1,11 +1,11 @@
 //! What the loops and chains return.
 use crate::same::same;
-use simplecss::{Declaration, Error, SelectorToken, TextPos};
-use simplecss_uses::statements::{declarations_end, position_at, statements};
-use simplecss_uses::tokens::{
+use example_library::statements::{declarations_end, position_at, statements};
+use example_library::tokens::{
     all_declarations, all_items, declaration_count, error_count, first_error, first_important,
     important_count, important_count_by_chain, item_count,
 };
+use simplecss::{Declaration, Error, SelectorToken, TextPos};
 use std::test::Fail;
 
 const STYLE: &str = "color: red; background: url(\"img.png\") !important; a:b!importantly:x";

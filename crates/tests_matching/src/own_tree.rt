@@ -1,9 +1,9 @@
 //! The answers of a user's own tree.
 
 use crate::same::same;
+use example_library::own_tree::{Entry, Spot};
 use log::sink::Discard;
 use simplecss::{Keyed, RuleIndex, Selector, StyleSheet};
-use simplecss_uses::own_tree::{Entry, Spot};
 use std::test::Fail;
 
 /// Returns an entry with this parent and this previous sibling, and its id and class.

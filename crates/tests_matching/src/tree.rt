@@ -103,7 +103,7 @@ fn matches_as_the_standard_says(rt: HostRuntime) -> Result<(), Fail> {
 }
 
 #[test]
-fn tells_each_state(rt: HostRuntime) -> Result<(), Fail> {
+fn returns_each_state(rt: HostRuntime) -> Result<(), Fail> {
     let mut tree = Tree::new(rt.alloc());
     tree.push(None, "a")?;
     let texts = [":link", ":visited", ":hover", ":active", ":focus"];
@@ -138,19 +138,19 @@ const RELATIVES: &[(usize, Option<usize>, Option<usize>)] = &[
 ];
 
 #[test]
-fn tells_relatives(rt: HostRuntime) -> Result<(), Fail> {
+fn returns_relatives(rt: HostRuntime) -> Result<(), Fail> {
     let tree = two_trees(rt.alloc())?;
     for &(place, parent, previous) in RELATIVES {
         let node = tree.node(place).ok_or("no element")?;
-        let above = node.parent_element().map(|n| n.place());
-        let before = node.prev_sibling_element().map(|n| n.place());
+        let above = node.parent_element().map(|n| n.index());
+        let before = node.prev_sibling_element().map(|n| n.index());
         same(&rt, (above, before), (parent, previous), node.name());
     }
     Ok(())
 }
 
 #[test]
-fn tells_values(rt: HostRuntime) -> Result<(), Fail> {
+fn returns_values(rt: HostRuntime) -> Result<(), Fail> {
     let tree = two_trees(rt.alloc())?;
     let b = tree.node(3).ok_or("no element")?;
     same(&rt, (b.name(), b.local_name()), ("b", "b"), "b");

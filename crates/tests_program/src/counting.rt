@@ -13,15 +13,15 @@ use std::test::Fail;
 
 /// How often elements were tested, by kind of test.
 #[derive(Drop)]
-struct Asked {
+struct CallCounts {
     names: Cell<u64>,
     attributes: Cell<u64>,
     classes: Cell<u64>,
 }
 
-impl Asked {
-    fn new() -> Asked {
-        Asked {
+impl CallCounts {
+    fn new() -> CallCounts {
+        CallCounts {
             names: Cell::new(0),
             attributes: Cell::new(0),
             classes: Cell::new(0),
@@ -37,11 +37,11 @@ fn count(cell: &Cell<u64>) {
 #[derive(Drop)]
 struct Counted<'a, 'p, 't> {
     node: Node<'p, 't>,
-    asked: &'a Asked,
+    calls: &'a CallCounts,
 }
 
 impl<'a, 'p, 't> Element for Counted<'a, 'p, 't> {
-    ghost use Rattle.cssq.specs.Nodes.{Spot, page_tree};
+    ghost use Rattle.cssq.specs.PageNodes.{Spot, page_tree};
     ghost use Rattle.cssq.specs.ElementLaws.{depths_count_ancestors, siblings_share_parents};
 
     ghost Node = { Spot };
@@ -58,7 +58,7 @@ impl<'a, 'p, 't> Element for Counted<'a, 'p, 't> {
         let node = self.node.parent_element()?;
         Some(Counted {
             node,
-            asked: self.asked,
+            calls: self.calls,
         })
     }
 
@@ -66,33 +66,33 @@ impl<'a, 'p, 't> Element for Counted<'a, 'p, 't> {
         let node = self.node.prev_sibling_element()?;
         Some(Counted {
             node,
-            asked: self.asked,
+            calls: self.calls,
         })
     }
 
     fn has_local_name(&self, name: &str) -> bool {
-        count(&self.asked.names);
+        count(&self.calls.names);
         self.node.has_local_name(name)
     }
 
     fn attribute_matches(&self, local_name: &str, operator: AttributeOperator<'_>) -> bool {
-        count(&self.asked.attributes);
+        count(&self.calls.attributes);
         self.node.attribute_matches(local_name, operator)
     }
 
     fn pseudo_class_matches(&self, class: PseudoClass<'_>) -> bool {
-        count(&self.asked.classes);
+        count(&self.calls.classes);
         self.node.pseudo_class_matches(class)
     }
 }
 
 impl<'a, 'p, 't> Keyed for Counted<'a, 'p, 't> {
-    ghost use Rattle.cssq.specs.Nodes.{told_of};
-    ghost use Rattle.cssq.specs.ElementLaws.{keys_told};
+    ghost use Rattle.cssq.specs.PageNodes.{reported_of};
+    ghost use Rattle.cssq.specs.ElementLaws.{keys_reported};
 
-    ghost told = { λ counted. told_of counted.node };
+    ghost reported = { λ counted. reported_of counted.node };
 
-    ghost told_law = { λ counted. keys_told counted.node };
+    ghost reported_law = { λ counted. keys_reported counted.node };
 
     fn local_name(&self) -> &str {
         self.node.local_name()
@@ -125,14 +125,14 @@ struct Run {
 }
 
 /// Runs a selector on the last element of a tree, by `matches_counted` or by `matches`.
-fn asked_on_last(alloc: Global, selector: &str, tree: &str, is_counted: bool) -> Result<Run, Fail> {
+fn calls_on_last(alloc: Global, selector: &str, tree: &str, is_counted: bool) -> Result<Run, Fail> {
     let page = Page::read(alloc, tree)?;
     let selector = Selector::parse(&Discard, alloc, selector)?.ok_or("refused")?;
-    let asked = Asked::new();
+    let calls = CallCounts::new();
     let last = page.len().checked_sub(1).ok_or("empty")?;
     let element = Counted {
         node: page.node(last).ok_or("no element")?,
-        asked: &asked,
+        calls: &calls,
     };
     let answer = if is_counted {
         selector.matches_counted(&element, &mut Tests::new())
@@ -141,9 +141,9 @@ fn asked_on_last(alloc: Global, selector: &str, tree: &str, is_counted: bool) ->
     };
     Ok(Run {
         answer,
-        names: asked.names.get(),
-        attributes: asked.attributes.get(),
-        classes: asked.classes.get(),
+        names: calls.names.get(),
+        attributes: calls.attributes.get(),
+        classes: calls.classes.get(),
     })
 }
 
@@ -190,9 +190,9 @@ fn counts_tests(rt: HostRuntime) -> Result<(), Fail> {
     for &(by_names, by_classes, tree, answer, tests) in COUNTS {
         let tree = tree_of(rt.alloc(), tree)?;
         for is_counted in [true, false] {
-            let named = asked_on_last(rt.alloc(), by_names, tree.as_str(), is_counted)?;
+            let named = calls_on_last(rt.alloc(), by_names, tree.as_str(), is_counted)?;
             same(&rt, named, run_with(answer, tests, 0), by_names);
-            let classed = asked_on_last(rt.alloc(), by_classes, tree.as_str(), is_counted)?;
+            let classed = calls_on_last(rt.alloc(), by_classes, tree.as_str(), is_counted)?;
             same(&rt, classed, run_with(answer, 0, tests), by_classes);
         }
     }
@@ -204,7 +204,7 @@ fn counts_pseudo_classes(rt: HostRuntime) -> Result<(), Fail> {
     let tree = tree_of(rt.alloc(), "a b c")?;
     for is_counted in [true, false] {
         let selector = ":first-child > :first-child";
-        let got = asked_on_last(rt.alloc(), selector, tree.as_str(), is_counted)?;
+        let got = calls_on_last(rt.alloc(), selector, tree.as_str(), is_counted)?;
         let wanted = Run {
             answer: true,
             names: 0,
@@ -231,7 +231,7 @@ fn counts_in_a_deep_tree(rt: HostRuntime) -> Result<(), Fail> {
     }
     for is_counted in [true, false] {
         for (text, answer) in [(selector.as_str(), true), ("x a", false)] {
-            let got = asked_on_last(rt.alloc(), text, tree.as_str(), is_counted)?;
+            let got = calls_on_last(rt.alloc(), text, tree.as_str(), is_counted)?;
             same(&rt, got, run_with(answer, 20_000, 0), "a long selector");
         }
     }
@@ -240,18 +240,18 @@ fn counts_in_a_deep_tree(rt: HostRuntime) -> Result<(), Fail> {
 
 /// Returns how often the name of the one element of a tree is tested while the winner for the name
 /// `c` is sought, and while all are.
-fn asked_for_winners(alloc: Global, sheet: &str) -> Result<(u64, u64), Fail> {
+fn calls_for_winners(alloc: Global, sheet: &str) -> Result<(u64, u64), Fail> {
     let sheet = StyleSheet::parse(&Discard, alloc, sheet)?;
     let page = Page::read(alloc, "0\ta")?;
-    let asked = Asked::new();
+    let calls = CallCounts::new();
     let element = Counted {
         node: page.node(0).ok_or("no element")?,
-        asked: &asked,
+        calls: &calls,
     };
     let _ = winning(&sheet, &element, "c");
-    let for_one = asked.names.get();
+    let for_one = calls.names.get();
     let _ = winners(alloc, &sheet, &element)?;
-    let for_both = asked.names.get();
+    let for_both = calls.names.get();
     Ok((for_one, for_both.saturating_sub(for_one)))
 }
 
@@ -270,8 +270,8 @@ const ASKED_RULES: &[(&str, (u64, u64))] = &[
 #[test]
 fn asks_few_rules_for_winners(rt: HostRuntime) -> Result<(), Fail> {
     for &(sheet, times) in ASKED_RULES {
-        let asked = asked_for_winners(rt.alloc(), sheet)?;
-        same(&rt, asked, times, sheet);
+        let calls = calls_for_winners(rt.alloc(), sheet)?;
+        same(&rt, calls, times, sheet);
     }
     Ok(())
 }
@@ -281,14 +281,14 @@ const INDEXED: &str = "0\tbody\tclass=n\n1\tb\tclass=s\n1\tp\tclass=a\tq=1\n";
 
 /// Returns how often the names and the attributes of the last element of the tree and of those near
 /// it are tested while an index finds the rules that match.
-fn asked_by_index(alloc: Global, sheet: &str, is_counted: bool) -> Result<(u64, u64), Fail> {
+fn calls_by_index(alloc: Global, sheet: &str, is_counted: bool) -> Result<(u64, u64), Fail> {
     let sheet = StyleSheet::parse(&Discard, alloc, sheet)?;
     let index = RuleIndex::new(alloc, &sheet.rules)?;
     let page = Page::read(alloc, INDEXED)?;
-    let asked = Asked::new();
+    let calls = CallCounts::new();
     let element = Counted {
         node: page.node(2).ok_or("no element")?,
-        asked: &asked,
+        calls: &calls,
     };
     let mut places = Vec::new(alloc);
     if is_counted {
@@ -296,7 +296,7 @@ fn asked_by_index(alloc: Global, sheet: &str, is_counted: bool) -> Result<(u64, 
     } else {
         index.matching(&sheet.rules, &element, &mut places)?;
     }
-    Ok((asked.names.get(), asked.attributes.get()))
+    Ok((calls.names.get(), calls.attributes.get()))
 }
 
 /// Rules, and how often an index tests names and attributes for them.
@@ -319,8 +319,8 @@ const INDEXED_RULES: &[(&str, (u64, u64))] = &[
 fn an_index_asks_few_rules(rt: HostRuntime) -> Result<(), Fail> {
     for &(sheet, times) in INDEXED_RULES {
         for is_counted in [true, false] {
-            let asked = asked_by_index(rt.alloc(), sheet, is_counted)?;
-            same(&rt, asked, times, sheet);
+            let calls = calls_by_index(rt.alloc(), sheet, is_counted)?;
+            same(&rt, calls, times, sheet);
         }
     }
     Ok(())

@@ -8,11 +8,20 @@ use std::test::Fail;
 /// The hints on each text: row and column, and what is surprising, a line each.
 const FOUND: &[(&str, &str)] = &[
     ("", ""),
-    ("a, b > c { d:e; f:g !important; h: i /* j */ ; k:l ! important }", ""),
+    (
+        "a, b > c { d:e; f:g !important; h: i /* j */ ; k:l ! important }",
+        "",
+    ),
     ("@media x { a { b:c\\9 } } d < e { f:g\\9 }", ""),
     ("a { b:c", ""),
-    ("a { width:10px\\9; b:c }", "1:11: '10px': the value is cut here\n"),
-    ("a {\n  b: x 'c }\nd { e:f }", "2:6: 'x': the value is cut here\n"),
+    (
+        "a { width:10px\\9; b:c }",
+        "1:11: '10px': the value is cut here\n",
+    ),
+    (
+        "a {\n  b: x 'c }\nd { e:f }",
+        "2:6: 'x': the value is cut here\n",
+    ),
     ("a { b:c *zoom:1 }", "1:7: 'c': the value is cut here\n"),
     (
         "a { b:calc(1px + (2px)); c:d }",
@@ -26,7 +35,10 @@ const FOUND: &[(&str, &str)] = &[
         "x { y:z }\na:foo, b { c:d }",
         "2:1: a selector is refused, and the others are kept\n",
     ),
-    ("a { c:red!; d:e }", "1:7: 'red': '!' without 'important' follows\n"),
+    (
+        "a { c:red!; d:e }",
+        "1:7: 'red': '!' without 'important' follows\n",
+    ),
     (
         "a { b:c ! IMPORTANT; d:e }",
         "1:7: 'c': '!' without 'important' follows\n",

@@ -40,7 +40,7 @@ const FAULTY: &[(&str, TreeFault)] = &[
 ];
 
 #[test]
-fn tells_the_first_faulty_line(rt: HostRuntime) {
+fn reports_the_first_faulty_line(rt: HostRuntime) {
     for &(text, fault) in FAULTY {
         same(&rt, read(rt.alloc(), text), Err(fault), text);
     }
@@ -66,7 +66,7 @@ fn reads_sound_texts(rt: HostRuntime) {
 
 /// A sound text that is cut after each of its bytes.
 #[test]
-fn a_cut_tree_tells_its_fault(rt: HostRuntime) -> Result<(), Fail> {
+fn a_cut_tree_reports_its_fault(rt: HostRuntime) -> Result<(), Fail> {
     let text = "0\ta\n1\tb\tk=v\n";
     let wanted = [
         Ok(0),
@@ -156,10 +156,10 @@ fn ties_elements(rt: HostRuntime) -> Result<(), Fail> {
     for (place, (parent, previous)) in TIES.iter().enumerate() {
         let node = page.node(place).ok_or("no node")?;
         same(&rt, place_of(&node), Some(place), text);
-        let parent_place = node.parent_element().map(|n| place_of(&n));
-        let previous_place = node.prev_sibling_element().map(|n| place_of(&n));
+        let parent_index = node.parent_element().map(|n| place_of(&n));
+        let previous_index = node.prev_sibling_element().map(|n| place_of(&n));
         let wanted = (place, parent.map(Some), previous.map(Some));
-        same(&rt, (place, parent_place, previous_place), wanted, text);
+        same(&rt, (place, parent_index, previous_index), wanted, text);
     }
     same(&rt, page.node(9).is_none(), true, text);
     Ok(())

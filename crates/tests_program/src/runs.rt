@@ -29,7 +29,7 @@ const TOLD: &[(RunFault, u8, &str)] = &[
 ];
 
 #[test]
-fn tells_statuses_and_lines(rt: HostRuntime) -> Result<(), Fail> {
+fn reports_statuses_and_lines(rt: HostRuntime) -> Result<(), Fail> {
     for &(fault, status, line) in TOLD {
         same(&rt, fault.status(), status, line);
         let text = format!(in rt.alloc(); "{fault}")?;
@@ -169,7 +169,7 @@ const FAULTY: &[(&str, TreeFault)] = &[
 ];
 
 #[test]
-fn tells_a_faulty_tree_of_styles(rt: HostRuntime) {
+fn reports_a_faulty_tree_of_styles(rt: HostRuntime) {
     for &(tree, fault) in FAULTY {
         let mut out = Vec::new(rt.alloc());
         let outcome = run_style(&Discard, rt.alloc(), STYLED, tree, "c", &mut out);

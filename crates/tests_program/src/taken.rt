@@ -117,7 +117,7 @@ const TAKEN: &[(&str, &str, &str)] = &[
 ];
 
 #[test]
-fn takes_elements_of_small_trees(rt: HostRuntime) -> Result<(), Fail> {
+fn matches_elements_of_small_trees(rt: HostRuntime) -> Result<(), Fail> {
     for (tree, selector, elements) in TAKEN {
         let numbers = taken(rt.alloc(), selector, tree)?;
         same(&rt, (*tree, numbers.as_str()), (*tree, *elements), selector);

@@ -72,7 +72,7 @@ const PLACES: &[(&str, &[usize])] = &[
 ];
 
 #[test]
-fn tells_the_place_behind_each_declaration(rt: HostRuntime) {
+fn returns_the_offset_after_each_declaration(rt: HostRuntime) {
     for (text, places) in PLACES {
         let mut declarations = DeclarationTokenizer::from(*text);
         assert_eq!(rt; declarations.pos(), 0, "at {text}");

@@ -27,8 +27,8 @@ const PLACED: &[(Error, Option<TextPos>)] = &[
 ];
 
 #[test]
-fn tells_the_position_of_an_error(rt: HostRuntime) {
-    for &(error, told) in PLACED {
-        assert_eq!(rt; error.pos(), told, "of {error}");
+fn returns_the_position_of_an_error(rt: HostRuntime) {
+    for &(error, reported) in PLACED {
+        assert_eq!(rt; error.pos(), reported, "of {error}");
     }
 }

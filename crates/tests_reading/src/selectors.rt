@@ -126,16 +126,16 @@ const TOLD: &[(&str, &[&str])] = &[
 ];
 
 /// Returns the lines that the logger gets, and whether the selector is refused.
-fn told(alloc: Global, text: &str) -> Result<(Lines, bool), AllocError> {
+fn reported(alloc: Global, text: &str) -> Result<(Lines, bool), AllocError> {
     let sink = Memory::new(alloc);
     let selector = Selector::parse(&sink, alloc, text)?;
     Ok((sink.into_lines(), selector.is_none()))
 }
 
 #[test]
-fn tells_the_logger_why_it_refuses(rt: HostRuntime) -> Result<(), AllocError> {
+fn warns_why_it_refuses(rt: HostRuntime) -> Result<(), AllocError> {
     for &(text, want) in TOLD {
-        let (lines, is_refused) = told(rt.alloc(), text)?;
+        let (lines, is_refused) = reported(rt.alloc(), text)?;
         same(
             &rt,
             (lines.len(), is_refused),

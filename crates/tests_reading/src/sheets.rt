@@ -58,7 +58,7 @@ const MAY_STAND: &[(&str, &str)] = &[
 ];
 
 #[test]
-fn reads_what_may_stand(rt: HostRuntime) -> Result<(), Fail> {
+fn reads_what_is_allowed(rt: HostRuntime) -> Result<(), Fail> {
     for &(text, want) in MAY_STAND {
         same(&rt, prints(&rt, &read(&rt, text)?, want)?, true, text);
     }
@@ -84,22 +84,22 @@ const PASSED_OVER: &[(&str, &str)] = &[
 ];
 
 #[test]
-fn tells_the_logger_what_is_passed_over(rt: HostRuntime) -> Result<(), Fail> {
+fn warns_of_what_is_skipped(rt: HostRuntime) -> Result<(), Fail> {
     for &(text, message) in PASSED_OVER {
         let sink = Memory::new(rt.alloc());
         let sheet = StyleSheet::parse(&sink, rt.alloc(), text)?;
         let lines = sink.into_lines();
         same(&rt, (sheet.rules.len(), lines.len()), (0, 1), text);
         for line in lines.as_slice() {
-            let is_told = line.as_str().ends_with(message);
-            same(&rt, is_told, true, line.as_str());
+            let is_reported = line.as_str().ends_with(message);
+            same(&rt, is_reported, true, line.as_str());
         }
     }
     Ok(())
 }
 
 #[test]
-fn reads_texts_in_turn(rt: HostRuntime) -> Result<(), Fail> {
+fn reads_texts_in_order(rt: HostRuntime) -> Result<(), Fail> {
     let mut sheet = StyleSheet::new(rt.alloc());
     same(&rt, prints(&rt, &sheet, "")?, true, "no text");
     sheet.parse_more(&Discard, rt.alloc(), "#x { a:b }")?;
@@ -189,7 +189,7 @@ fn reads_all_texts_at_once(rt: HostRuntime) -> Result<(), Fail> {
 }
 
 #[test]
-fn tells_the_logger_of_all_texts_in_turn(rt: HostRuntime) -> Result<(), Fail> {
+fn warns_of_all_texts_in_order(rt: HostRuntime) -> Result<(), Fail> {
     let texts = ["> {}", "a { b:c }", "@import 'subs.css';", ":le {}"];
     let messages = [
         "Selector parsing failed cause unexpected combinator.",
@@ -201,8 +201,8 @@ fn tells_the_logger_of_all_texts_in_turn(rt: HostRuntime) -> Result<(), Fail> {
     let lines = sink.into_lines();
     same(&rt, lines.len(), messages.len(), "the lines");
     for (line, message) in lines.as_slice().iter().zip(messages) {
-        let is_told = line.as_str().ends_with(message);
-        same(&rt, is_told, true, line.as_str());
+        let is_reported = line.as_str().ends_with(message);
+        same(&rt, is_reported, true, line.as_str());
     }
     Ok(())
 }

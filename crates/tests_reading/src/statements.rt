@@ -7,22 +7,22 @@ use std::fmt::Write as _;
 use std::test::Fail;
 
 #[test]
-fn reads_statements_with_their_places(rt: HostRuntime) -> Result<(), Fail> {
+fn reads_statements_with_their_offsets(rt: HostRuntime) -> Result<(), Fail> {
     let text = "/* x */ a { b:c } @x; d, e { f:g } /* h";
     let mut reader = StatementReader::new(text);
-    let mut told = String::new(rt.alloc());
+    let mut reported = String::new(rt.alloc());
     for _ in 0..5 {
         let Some(statement) = reader.read_next(&Discard, rt.alloc())? else {
-            told.push_str("none\n")?;
+            reported.push_str("none\n")?;
             continue;
         };
-        write!(told, "{} {}", statement.start, statement.end)?;
+        write!(reported, "{} {}", statement.start, statement.end)?;
         for rule in &statement.rules {
-            write!(told, " {rule}")?;
+            write!(reported, " {rule}")?;
         }
-        told.push('\n')?;
+        reported.push('\n')?;
     }
     let wanted = "8 17 a { b:c; }\n18 21\n22 34 d { f:g; } e { f:g; }\nnone\nnone\n";
-    same(&rt, told.as_str(), wanted, text);
+    same(&rt, reported.as_str(), wanted, text);
     Ok(())
 }

@@ -87,7 +87,7 @@ fn gives_each_kind_of_token(rt: HostRuntime) -> Result<(), AllocError> {
 }
 
 #[test]
-fn tells_errors(rt: HostRuntime) -> Result<(), AllocError> {
+fn reports_errors(rt: HostRuntime) -> Result<(), AllocError> {
     assert_given(
         &rt,
         rt.alloc(),
@@ -183,7 +183,7 @@ fn keeps_the_table_of_neighbours(rt: HostRuntime) -> Result<(), AllocError> {
 
 /// The offset where reading ends after each fault inside a piece.
 #[test]
-fn ends_behind_faults(rt: HostRuntime) -> Result<(), AllocError> {
+fn ends_after_faults(rt: HostRuntime) -> Result<(), AllocError> {
     assert_ends(
         &rt,
         rt.alloc(),
@@ -200,7 +200,7 @@ fn ends_behind_faults(rt: HostRuntime) -> Result<(), AllocError> {
 
 /// Each text, and the offset after each call of `next`, including those that return `None`.
 #[test]
-fn tells_the_place_behind_each_item(rt: HostRuntime) {
+fn returns_the_offset_after_each_item(rt: HostRuntime) {
     let rows: &[(&str, &[usize])] = &[
         ("a b", &[1, 2, 3, 3]),
         ("a > .b", &[1, 3, 6, 6]),

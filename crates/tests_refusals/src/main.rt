@@ -251,7 +251,7 @@ fn winner_count(
 }
 
 /// Makes the calls on a sheet and a page.
-fn show_asked(
+fn show_found(
     rt: &HostRuntime,
     made: &Made<'_>,
     call: &str,
@@ -317,7 +317,7 @@ fn show<R: Log>(rt: &HostRuntime, made: &Made<'_>, log: &R, words: &[&str]) -> i
             end(rt, made);
             show_number(rt, faults)
         }
-        [call @ ("index" | "winners"), text, tree] => show_asked(rt, made, call, text, tree),
+        [call @ ("index" | "winners"), text, tree] => show_found(rt, made, call, text, tree),
         ["tree", names @ ..] => {
             begin(rt);
             let len = chain_len(rt.alloc(), names);

@@ -1,15 +1,15 @@
 //! Laws of what an index finds, each the contract of a function that does nothing.
 ghost use Rattle.std.specs.Prelude.{◌≡◌, ℕ, List, Bool};
 ghost use Rattle.simplecss_text.specs.Components.{Component};
-ghost use Rattle.simplecss.specs.Matching.{AreMatches, AreAnswers, places_with_yes};
+ghost use Rattle.simplecss.specs.Matching.{AreMatches, AreAnswers, indices_with_yes};
 
 use simplecss_selector::Element;
 
-/// The places that an index finds are those of the selectors that match, where each is tested in
+/// The indices that an index finds are those of the selectors that match, where each is tested in
 /// order. So an index can replace a loop that tests each.
 pub fn answers_law<E: Element>()
-    ensures { (selectors : List (List Component)) (element : E.Node) (places : List ℕ)
-        → AreMatches E.tree element selectors places
+    ensures { (selectors : List (List Component)) (element : E.Node) (indices : List ℕ)
+        → AreMatches E.tree element selectors indices
         → (answers : List Bool) × AreAnswers E.tree element selectors answers
-        × (places ≡ places_with_yes answers) }
+        × (indices ≡ indices_with_yes answers) }
 {}

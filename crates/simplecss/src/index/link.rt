@@ -8,7 +8,7 @@ use std::snapshot::Snapshot;
 /// What an index keeps of a rule.
 #[derive(Drop)]
 pub(crate) struct Link<'a> {
-    /// The place of the last earlier rule with the same key.
+    /// The index of the last earlier rule with the same key.
     pub(crate) earlier: Option<usize>,
     /// The bits of the keys that an element's ancestors must have.
     pub(crate) ancestors: u64,

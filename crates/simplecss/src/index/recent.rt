@@ -26,7 +26,7 @@ pub(crate) struct Slot {
     /// The value of the attribute `class`, if there is one.
     pub(crate) class: Option<String>,
     /// The rules that the search found.
-    pub(crate) places: Vec<usize>,
+    pub(crate) indices: Vec<usize>,
 }
 
 impl Slot {
@@ -35,12 +35,12 @@ impl Slot {
         alloc: Global,
         name: &str,
         class: Option<&str>,
-        places: &[usize],
+        indices: &[usize],
     ) -> Result<Slot, AllocError>
         ensures name { IfOk result (λ slot. string_bytes slot.name ≡ name.now) }
         ensures class { IfOk result (λ slot. option_map string_bytes slot.class
             ≡ option_map (λ value. value.now) class.entry) }
-        ensures places { IfOk result (λ slot. slot.places.items ≡ places.now) }
+        ensures indices { IfOk result (λ slot. slot.indices.items ≡ indices.now) }
     {
         let class = match class {
             Some(value) => Some(String::from_str(alloc, value)?),
@@ -49,7 +49,7 @@ impl Slot {
         Ok(Slot {
             name: String::from_str(alloc, name)?,
             class,
-            places: Vec::from_slice(alloc, places)?,
+            indices: Vec::from_slice(alloc, indices)?,
         })
     }
 
@@ -138,11 +138,11 @@ impl<'a> Recent<'a> {
     /// Returns the result for this name and this class value, if it is kept.
     #[inline(always)]
     pub(crate) fn get(&self, name: &str, class: Option<&str>) -> Option<&[usize]>
-        ensures { IfSome result (λ places. IsFound self.now name.now
-            (option_map (λ value. value.now) class.entry) places.now) }
+        ensures { IfSome result (λ indices. IsFound self.now name.now
+            (option_map (λ value. value.now) class.entry) indices.now) }
     {
         match self.slots.get(slot_number(name, class)) {
-            Some(Some(slot)) if slot.is_for(name, class) => Some(slot.places.as_slice()),
+            Some(Some(slot)) if slot.is_for(name, class) => Some(slot.indices.as_slice()),
             _ => None,
         }
     }
@@ -152,16 +152,16 @@ impl<'a> Recent<'a> {
         &mut self,
         name: &str,
         class: Option<&str>,
-        places: &[usize],
+        indices: &[usize],
     ) -> Result<(), AllocError>
-        requires { IsFound self.old name.now (option_map (λ value. value.now) class) places.now }
+        requires { IsFound self.old name.now (option_map (λ value. value.now) class) indices.now }
         ensures { self.new ≡ self.old }
     {
         let number = slot_number(name, class);
-        if number >= self.slots.len() || places.len() > MOST || are_long(name, class) {
+        if number >= self.slots.len() || indices.len() > MOST || are_long(name, class) {
             return Ok(());
         }
-        let slot = Slot::new(self.alloc, name, class, places)?;
+        let slot = Slot::new(self.alloc, name, class, indices)?;
         self.slots[number] = Some(slot);
         Ok(())
     }

@@ -4,25 +4,25 @@ ghost use Rattle.std.specs.Prelude.{OnErr, length, map};
 ghost use Rattle.std.specs.List.{sum_by};
 ghost use Rattle.simplecss_selector.specs.KeyBits.{CoversAncestors};
 ghost use Rattle.simplecss_selector.specs.Wanted.{Near, IsNear};
-ghost use Rattle.simplecss.specs.Chains.{selectors_of, IsLastBefore, AreChained};
-ghost use Rattle.simplecss.specs.SelectorPlaces.{key_at, selector_at};
+ghost use Rattle.simplecss.specs.internal.Chains.{selectors_of, IsLastBefore, AreChained};
+ghost use Rattle.simplecss.specs.SelectorIndices.{key_at, selector_at};
 ghost use Rattle.simplecss.specs.Matching.{AreMatches, most_tests, is_covered, tested_for};
 
 use super::find::candidates;
 use super::keep::keep_matching;
+use super::last_by_wanted::LastByWanted;
 use super::link::Link;
 use super::recent::Recent;
-use super::wanted_lasts::WantedLasts;
 use crate::sheet::Rule;
 use simplecss_selector::{Keyed, Tests};
 use std::alloc::{AllocError, Global};
 use std::marker::Model;
 
-/// Appends the links of the rules, in order: each place is stored under the key of its selector,
-/// with a link to the last earlier place with that key.
+/// Appends the links of the rules, in order: each index is stored under the key of its selector,
+/// with a link to the last earlier index with that key.
 #[inline(always)]
 fn push_links<'a>(
-    lasts: &mut WantedLasts<'a>,
+    lasts: &mut LastByWanted<'a>,
     links: &mut Vec<Link<'a>>,
     rules: &[Rule<'a>],
 ) -> Result<(), AllocError>
@@ -41,25 +41,25 @@ fn push_links<'a>(
 /// An index of rules by the keys of their selectors: it finds the rules that match an element, and
 /// tests only those whose key is reported.
 ///
-/// It keeps the places of the rules and does not borrow them, so one struct may hold it and its
+/// It keeps the indices of the rules and does not borrow them, so one struct may hold it and its
 /// sheet. It is of the rules as they were when it was made: after an edit of their selectors, or of
 /// their number or order, make another.
 ///
 /// ```rust
 /// let index = RuleIndex::new(alloc, &sheet.rules)?;
-/// let mut places = Vec::new(alloc);
-/// index.matching(&sheet.rules, &element, &mut places)?;
-/// for place in &places {
-///     // sheet.rules[*place]
+/// let mut indices = Vec::new(alloc);
+/// index.matching(&sheet.rules, &element, &mut indices)?;
+/// for i in &indices {
+///     // sheet.rules[*i]
 /// }
 /// ```
 ///
-/// The element is of a type that implements `Keyed`. The places are those that testing each rule
+/// The element is of a type that implements `Keyed`. The indices are those that testing each rule
 /// finds (`laws::answers_law`).
 #[derive(Drop)]
 pub struct RuleIndex<'a> {
-    /// The last place of each key.
-    pub(crate) lasts: WantedLasts<'a>,
+    /// The last index of each key.
+    pub(crate) lasts: LastByWanted<'a>,
     /// For each rule, in order, how it is chained to the earlier ones.
     links: Vec<Link<'a>>,
 }
@@ -70,7 +70,7 @@ impl<'a> Model for RuleIndex<'a> {
 
     ghost Value = { List (List Component) };
 
-    ghost use Rattle.simplecss.specs.Chains.{selectors_of, AreChained};
+    ghost use Rattle.simplecss.specs.internal.Chains.{selectors_of, AreChained};
 
     ghost view = { λ index. selectors_of index.links.items };
 
@@ -83,51 +83,51 @@ impl<'a> RuleIndex<'a> {
         ensures { IfOk result (λ index. index ≡ map (λ rule. rule.selector) rules.now) }
     {
         let mut links = Vec::with_capacity(alloc, rules.len())?;
-        let mut lasts = WantedLasts::new(alloc);
+        let mut lasts = LastByWanted::new(alloc);
         push_links(&mut lasts, &mut links, rules)?;
         Ok(RuleIndex { lasts, links })
     }
 
-    /// The last earlier place with the key of this one, if there is one.
+    /// The last earlier index with the key of this one, if there is one.
     #[inline(always)]
-    pub(crate) fn earlier(&self, place: usize) -> Option<usize>
-        requires { place < length self.now }
-        ensures { IsLastBefore self.now place (key_at self.now place) result }
+    pub(crate) fn earlier(&self, index: usize) -> Option<usize>
+        requires { index < length self.now }
+        ensures { IsLastBefore self.now index (key_at self.now index) result }
     {
-        self.links[place].earlier
+        self.links[index].earlier
     }
 
-    /// Whether the bits cover those of the keys that the rule at this place wants of an element's
+    /// Whether the bits cover those of the keys that the rule at this index wants of an element's
     /// ancestors.
     #[inline(always)]
-    pub(crate) fn is_covered(&self, place: usize, above: u64) -> bool
-        ensures { result ≡ is_covered above (selector_at self.now place) }
+    pub(crate) fn is_covered(&self, index: usize, above: u64) -> bool
+        ensures { result ≡ is_covered above (selector_at self.now index) }
     {
-        match self.links.get(place) {
+        match self.links.get(index) {
             Some(link) => above | link.ancestors == above,
             None => true,
         }
     }
 
-    /// Finds the places of the rules that match the element, in order: those that testing each rule
-    /// would find. The rules are those that the index was made of.
+    /// Finds the indices of the rules that match the element, in order: those that testing each
+    /// rule would find. The rules are those that the index was made of.
     ///
-    /// The previous items of `places` are dropped. Only its growth allocates: it never holds more
-    /// places than the greater of the number of rules and a few more than the number of words in
+    /// The previous items of `indices` are dropped. Only its growth allocates: it never holds more
+    /// indices than the greater of the number of rules and a few more than the number of words in
     /// the classes of the element, its parent and its previous sibling and of attributes that are
     /// keys. Once it has grown, further calls allocate nothing. Fails only if an allocation fails.
     pub fn matching<E: Keyed>(
         &self,
         rules: &[Rule<'a>],
         element: &E,
-        places: &mut Vec<usize>,
+        indices: &mut Vec<usize>,
     ) -> Result<(), AllocError>
         requires { self.now ≡ map (λ rule. rule.selector) rules.now }
         ensures matches { OnOk result
-            (AreMatches E.tree (E.node element.now) self.now places.new.items) }
-        ensures err { OnErr result (places.new.items ≡ []) }
+            (AreMatches E.tree (E.node element.now) self.now indices.new.items) }
+        ensures err { OnErr result (indices.new.items ≡ []) }
     {
-        self.matching_counted(rules, element, places, &mut Tests::new())
+        self.matching_counted(rules, element, indices, &mut Tests::new())
     }
 
     /// Does what [`RuleIndex::matching`] does, and keeps in `recent`, which was made of this index,
@@ -137,17 +137,17 @@ impl<'a> RuleIndex<'a> {
         &self,
         rules: &[Rule<'a>],
         element: &E,
-        places: &mut Vec<usize>,
+        indices: &mut Vec<usize>,
         recent: &mut Recent<'a>,
     ) -> Result<(), AllocError>
         requires index { self.now ≡ map (λ rule. rule.selector) rules.now }
         requires recent { recent.old ≡ self.now }
         ensures matches { OnOk result
-            (AreMatches E.tree (E.node element.now) self.now places.new.items) }
-        ensures err { OnErr result (places.new.items ≡ []) }
+            (AreMatches E.tree (E.node element.now) self.now indices.new.items) }
+        ensures err { OnErr result (indices.new.items ≡ []) }
         ensures recent { recent.new ≡ recent.old }
     {
-        self.matching_all(rules, element, places, recent, &mut Tests::new())
+        self.matching_all(rules, element, indices, recent, &mut Tests::new())
     }
 
     /// `matching`, with a count of the tests that were made. A rule is tested only if its key is
@@ -157,23 +157,23 @@ impl<'a> RuleIndex<'a> {
         &self,
         rules: &[Rule<'a>],
         element: &E,
-        places: &mut Vec<usize>,
+        indices: &mut Vec<usize>,
         tests: &mut Tests,
     ) -> Result<(), AllocError>
         requires { self.now ≡ map (λ rule. rule.selector) rules.now }
         ensures matches { OnOk result
-            (AreMatches E.tree (E.node element.now) self.now places.new.items) }
+            (AreMatches E.tree (E.node element.now) self.now indices.new.items) }
         ensures tests { OnOk result ((near : Near)
-            × IsNear E.tree E.node E.told element.now near
+            × IsNear E.tree E.node E.reported element.now near
             × (above : ℕ) × CoversAncestors E.tree (E.node element.now) above
             × (tests.old + length (tested_for near above self.now) ≤ tests.new)
             × (tests.new ≤ tests.old + sum_by (most_tests E.tree (E.node element.now))
             (tested_for near above self.now))) }
-        ensures err { OnErr result (places.new.items ≡ []) }
+        ensures err { OnErr result (indices.new.items ≡ []) }
         ensures untested { OnErr result (tests.new ≡ tests.old) }
     {
-        let mut recent = Recent::none(*places.allocator(), self);
-        self.matching_all(rules, element, places, &mut recent, tests)
+        let mut recent = Recent::none(*indices.allocator(), self);
+        self.matching_all(rules, element, indices, &mut recent, tests)
     }
 
     /// `matching_counted` and `matching_recent` at once.
@@ -182,30 +182,30 @@ impl<'a> RuleIndex<'a> {
         &self,
         rules: &[Rule<'a>],
         element: &E,
-        places: &mut Vec<usize>,
+        indices: &mut Vec<usize>,
         recent: &mut Recent<'a>,
         tests: &mut Tests,
     ) -> Result<(), AllocError>
         requires index { self.now ≡ map (λ rule. rule.selector) rules.now }
         requires recent { recent.old ≡ self.now }
         ensures matches { OnOk result
-            (AreMatches E.tree (E.node element.now) self.now places.new.items) }
+            (AreMatches E.tree (E.node element.now) self.now indices.new.items) }
         ensures tests { OnOk result ((near : Near)
-            × IsNear E.tree E.node E.told element.now near
+            × IsNear E.tree E.node E.reported element.now near
             × (above : ℕ) × CoversAncestors E.tree (E.node element.now) above
             × (tests.old + length (tested_for near above self.now) ≤ tests.new)
             × (tests.new ≤ tests.old + sum_by (most_tests E.tree (E.node element.now))
             (tested_for near above self.now))) }
-        ensures err { OnErr result (places.new.items ≡ []) }
+        ensures err { OnErr result (indices.new.items ≡ []) }
         ensures untested { OnErr result (tests.new ≡ tests.old) }
         ensures recent { recent.new ≡ recent.old }
     {
-        if let Err(error) = candidates(self, element, places, recent) {
-            places.clear();
+        if let Err(error) = candidates(self, element, indices, recent) {
+            indices.clear();
             return Err(error);
         }
-        let kept = keep_matching(rules, element, places, tests);
-        places.truncate(kept);
+        let kept = keep_matching(rules, element, indices, tests);
+        indices.truncate(kept);
         Ok(())
     }
 }

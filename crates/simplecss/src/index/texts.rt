@@ -3,7 +3,7 @@ ghost use Rattle.std.specs.Prelude.{◌≡◌, ◌<◌, ℕ, List, length, IfOk,
 ghost use Rattle.std.specs.BTreeMap.{UpdatesBy};
 ghost use Rattle.std.specs.Cmp.Lexicographic.{slice_cmp};
 ghost use Rattle.std.specs.Ordering.{nat_cmp};
-ghost use Rattle.simplecss.specs.TextPlaces.{place_for, word_of, may_have};
+ghost use Rattle.simplecss.specs.internal.TextIndices.{index_for_text, word_of, may_have};
 
 use simplecss_selector::Key;
 use std::alloc::{AllocError, Global};
@@ -14,11 +14,11 @@ use std::collections::BTreeMap;
 #[derive(Drop)]
 pub(crate) struct Texts<'a> {
     /// The index of each text.
-    pub(crate) places: BTreeMap<&'a str, usize>,
+    pub(crate) indices: BTreeMap<&'a str, usize>,
     /// A bit for each of these texts, which others may share.
     filter: [u64; 64],
     ghost sized: { length filter ≡ 64 },
-    ghost filtered: { (text : List ℕ) (place : ℕ) → place_for places text ≡ Some place
+    ghost filtered: { (text : List ℕ) (index : ℕ) → index_for_text indices text ≡ Some index
         → IsTrue (may_have filter text) },
 }
 
@@ -37,10 +37,10 @@ pub(crate) fn word_of(text: &str) -> usize
 impl<'a> Texts<'a> {
     /// Returns a map in which no text has an index.
     pub(crate) fn new(alloc: Global) -> Texts<'a>
-        ensures { (text : List ℕ) → place_for result.places text ≡ None }
+        ensures { (text : List ℕ) → index_for_text result.indices text ≡ None }
     {
         Texts {
-            places: BTreeMap::new(alloc),
+            indices: BTreeMap::new(alloc),
             filter: [0; 64],
         }
     }
@@ -48,7 +48,7 @@ impl<'a> Texts<'a> {
     /// Returns the index of the text, if it has one.
     #[inline(always)]
     pub(crate) fn get(&self, text: &str) -> Option<usize>
-        ensures { result ≡ place_for self.now.places text.now }
+        ensures { result ≡ index_for_text self.now.indices text.now }
     {
         let word = self.filter[word_of(text)];
         if word == 0 {
@@ -57,21 +57,21 @@ impl<'a> Texts<'a> {
         if word | Key::Class(text).bits() != word {
             return None;
         }
-        self.places.get(text).copied()
+        self.indices.get(text).copied()
     }
 
     /// Replaces the index of the text, and returns the one that it had.
     pub(crate) fn insert(
         &mut self,
         text: &'a str,
-        place: usize,
+        index: usize,
     ) -> Result<Option<usize>, AllocError>
-        ensures known { IfOk result (λ known. known ≡ place_for self.old.places text.now) }
+        ensures known { IfOk result (λ known. known ≡ index_for_text self.old.indices text.now) }
         ensures updates { OnOk result (UpdatesBy (λ x y. slice_cmp nat_cmp x.now y.now)
-            (λ key. slice_cmp nat_cmp text.now key.now) self.old.places self.new.places
-            (Some place)) }
+            (λ key. slice_cmp nat_cmp text.now key.now) self.old.indices self.new.indices
+            (Some index)) }
     {
-        let known = self.places.insert(text, place)?;
+        let known = self.indices.insert(text, index)?;
         self.filter[word_of(text)] |= Key::Class(text).bits();
         Ok(known)
     }

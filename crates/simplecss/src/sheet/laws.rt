@@ -10,9 +10,9 @@ ghost use Rattle.simplecss_text.specs.Cutting.{StatementEndsAt, KeepsAcross};
 ghost use Rattle.simplecss_text.specs.Editions.{IsCommon, KeepsInBoth};
 ghost use Rattle.simplecss_text.specs.PrintingLaws.{SelectorsReadBack};
 ghost use Rattle.simplecss_text.specs.ThisEdition.{this_edition};
-ghost use Rattle.simplecss_declaration.specs.SeenDeclarations.{declaration_of};
-ghost use Rattle.simplecss.specs.RulePlaces.{ComesBefore};
-ghost use Rattle.simplecss.specs.SeenRules.{rule_of, rules_in};
+ghost use Rattle.simplecss_declaration.specs.DeclarationViews.{declaration_of};
+ghost use Rattle.simplecss.specs.RuleIndices.{ComesBefore};
+ghost use Rattle.simplecss.specs.RuleViews.{rule_of, rules_in};
 
 use crate::sheet::{Rule, StyleSheet};
 use simplecss_declaration::Declaration;
@@ -35,10 +35,10 @@ pub fn order_laws()
     ensures twice { (rules : List StyleRule) → ordered (ordered rules) ≡ ordered rules }
 {}
 
-/// What the place of a rule in a style sheet means. Of two rules of a sheet that was read, the one
-/// at the lesser place has a smaller specificity, or an equal one and is earlier in the source: the
+/// What the index of a rule in a style sheet means. Of two rules of a sheet that was read, the one
+/// at the lesser index has a smaller specificity, or an equal one and is earlier in the source: the
 /// rules of all texts, one text after another.
-pub fn place_law()
+pub fn index_in_sheet_law()
     ensures { (texts : List (List ℕ)) (i j : ℕ) (a b : StyleRule) → i < j
         → slice_get (sheet this_edition texts) i ≡ Some a
         → slice_get (sheet this_edition texts) j ≡ Some b
@@ -53,12 +53,12 @@ pub fn sheet_law()
         → SelectorsReadBack this_edition (sheet this_edition texts) }
 {}
 
-/// A text has the rules of its front up to a place and then those of what follows, wherever one of
-/// its statements ends. At other places that can be false: a block may be open
+/// A text has the rules of its front up to an offset and then those of what follows, wherever one
+/// of its statements ends. At other offsets that can be false: a block may be open
 /// there.
 pub fn cutting_law()
-    ensures { (text : List ℕ) (place : ℕ) → IsUtf8 text → StatementEndsAt this_edition text place
-        → KeepsAcross this_edition text place }
+    ensures { (text : List ℕ) (offset : ℕ) → IsUtf8 text → StatementEndsAt this_edition text offset
+        → KeepsAcross this_edition text offset }
 {}
 
 /// A text of ASCII bytes without a slash has the same rules in both editions of the grammar.

@@ -3,8 +3,8 @@ ghost use Rattle.std.specs.Prelude.{◌≡◌, ◌++◌, OnErr, OnOk, IfOk, filt
 ghost use Rattle.std.specs.List.{range_with_len};
 ghost use Rattle.simplecss_text.specs.Statements.{has_declaration};
 ghost use Rattle.simplecss_text.specs.Sheets.{ordered};
-ghost use Rattle.simplecss.specs.SeenRules.{rule_of, rules_of};
-ghost use Rattle.simplecss.specs.RuleOrders.{weight_at, IsOrder, OrdersRules, IsMovedBy};
+ghost use Rattle.simplecss.specs.RuleViews.{rule_of, rules_of};
+ghost use Rattle.simplecss.specs.internal.RuleOrders.{weight_at, IsOrder, OrdersRules, IsMovedBy};
 
 use crate::sheet::Rule;
 use std::alloc::{AllocError, Global};
@@ -20,32 +20,32 @@ fn numbers(alloc: Global, len: usize) -> Result<Vec<usize>, AllocError>
     Ok(list)
 }
 
-/// The specificity of the rule at the place. Past the end it is that of no rule.
-fn weight_at(rules: &[Rule], place: usize) -> [u8; 3]
-    ensures { result ≡ weight_at (rules_of rules.now) place }
+/// The specificity of the rule at the index. Past the end it is that of no rule.
+fn weight_at(rules: &[Rule], index: usize) -> [u8; 3]
+    ensures { result ≡ weight_at (rules_of rules.now) index }
 {
-    match rules.get(place) {
+    match rules.get(index) {
         Some(rule) => rule.selector.specificity(),
         None => [0; 3],
     }
 }
 
-/// The places of the rules in the order of specificity, and of those of equal specificity in the
+/// The indices of the rules in the order of specificity, and of those of equal specificity in the
 /// order of the list.
-fn places_in_order(alloc: Global, rules: &[Rule]) -> Result<Vec<usize>, AllocError>
-    ensures { IfOk result (λ places. OrdersRules (rules_of rules.now) places.items) }
+fn indices_in_order(alloc: Global, rules: &[Rule]) -> Result<Vec<usize>, AllocError>
+    ensures { IfOk result (λ indices. OrdersRules (rules_of rules.now) indices.items) }
 {
-    let mut places = numbers(alloc, rules.len())?;
-    places.sort_by_cached_key(
-        |place: &usize| -> [u8; 3]
-            ensures { result ≡ weight_at (rules_of rules.entry.now) place.now }
-        { weight_at(rules, *place) },
+    let mut indices = numbers(alloc, rules.len())?;
+    indices.sort_by_cached_key(
+        |index: &usize| -> [u8; 3]
+            ensures { result ≡ weight_at (rules_of rules.entry.now) index.now }
+        { weight_at(rules, *index) },
     )?;
-    Ok(places)
+    Ok(indices)
 }
 
-/// Moves the rules to the places that the order gives them, by exchanges only. `who` says which of
-/// the rules is at each place, and `at` where each of them is.
+/// Moves the rules to the indices that the order gives them, by exchanges only. `who` says which of
+/// the rules is at each index, and `at` where each of them is.
 fn arrange(rules: &mut Vec<Rule>, order: &[usize], mut who: Vec<usize>, mut at: Vec<usize>)
     requires order { IsOrder (length rules.old.items) order.now }
     requires who { who.items ≡ range_with_len 0 (length rules.old.items) }
@@ -53,11 +53,11 @@ fn arrange(rules: &mut Vec<Rule>, order: &[usize], mut who: Vec<usize>, mut at: 
     ensures len { length rules.new.items ≡ length rules.old.items }
     ensures moved { IsMovedBy order.now rules.old.items rules.new.items }
 {
-    for (place, first) in order.iter().enumerate() {
+    for (index, first) in order.iter().enumerate() {
         let from = at[*first];
-        let other = who[place];
-        rules.swap(place, from);
-        who.swap(place, from);
+        let other = who[index];
+        rules.swap(index, from);
+        who.swap(index, from);
         at.swap(*first, other);
     }
 }
@@ -70,7 +70,7 @@ fn sort_rules(rules: &mut Vec<Rule>) -> Result<(), AllocError>
     ensures err { OnErr result (rules.new.items ≡ rules.old.items) }
 {
     let alloc = *rules.allocator();
-    let order = places_in_order(alloc, rules)?;
+    let order = indices_in_order(alloc, rules)?;
     let who = numbers(alloc, rules.len())?;
     let at = numbers(alloc, rules.len())?;
     arrange(rules, order.as_slice(), who, at);

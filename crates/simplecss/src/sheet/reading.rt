@@ -9,7 +9,7 @@ ghost use Rattle.simplecss_text.specs.Statements.{statements, is_open_comment};
 ghost use Rattle.simplecss_text.specs.Skipped.{add_each, end_skips, skipped};
 ghost use Rattle.simplecss_text.specs.ThisEdition.{this_edition};
 ghost use Rattle.simplecss_text.specs.Cursor.{text_of, rest_of};
-ghost use Rattle.simplecss.specs.SeenRules.{rule_of, rules_of};
+ghost use Rattle.simplecss.specs.RuleViews.{rule_of, rules_of};
 ghost use Rattle.simplecss.specs.DeclarationCounts.{kept_declarations};
 ghost use Rattle.simplecss.specs.declared.sheet.sheet_error.SheetError.TheVariants.{TooManyDeclarations};
 
@@ -31,7 +31,7 @@ pub(crate) fn at_statement(s: &mut Stream<'_>) -> bool
         (next_statement this_edition (rest_of s.old) ≡ None) }
     ensures rest { IsTrue result → rest_of s.new ≡ past_blank (rest_of s.old) }
 {
-    readers::pass_blank(s) && !s.at_end()
+    readers::skip_blank(s) && !s.at_end()
 }
 
 /// Reports an open comment after a blank, if there is one.
@@ -71,7 +71,7 @@ pub(crate) fn read_rules_within<'a, P: Report<'a>>(
 {
     report.begin(text);
     let mut s = Stream::new(text);
-    if !readers::pass_blank(&mut s) {
+    if !readers::skip_blank(&mut s) {
         report_end(report, text)?;
         return Ok(None);
     }

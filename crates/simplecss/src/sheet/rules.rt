@@ -1,6 +1,6 @@
 //! Rules of style sheets.
 ghost use Rattle.std.specs.Prelude.{◌≡◌, IfOk};
-ghost use Rattle.simplecss.specs.SeenRules.{rule_of};
+ghost use Rattle.simplecss.specs.RuleViews.{rule_of};
 
 use simplecss_declaration::Declaration;
 use simplecss_selector::Selector;

@@ -25,7 +25,7 @@ impl fmt::Display for SheetError {
 
     ghost styled_output = { λ error _. Some (message_of error) };
 
-    #[tactic(auto, using(simplecss_text::proofs::printed::StyledWrites::plain_of_styled))]
+    #[tactic(auto, using(simplecss_text::proofs::round_trip::StyledWrites::plain_of_styled))]
     fn fmt<W: fmt::Write>(&self, f: &mut fmt::Formatter<W>) -> fmt::Result {
         match self {
             SheetError::TooManyDeclarations => f.write_str("too many declarations"),

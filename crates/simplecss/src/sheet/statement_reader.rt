@@ -3,7 +3,7 @@ ghost use Rattle.std.specs.Prelude.{◌≡◌, IfOk, MatchOption, None, OnErr, O
 ghost use Rattle.simplecss_text.specs.Statements.{next_statement};
 ghost use Rattle.simplecss_text.specs.Skipped.{add_each, next_skips};
 ghost use Rattle.simplecss_text.specs.ThisEdition.{this_edition};
-ghost use Rattle.simplecss.specs.SheetPlaces.{StandsNext};
+ghost use Rattle.simplecss.specs.StatementOffsets.{StandsNext};
 
 use super::reading::{at_statement, report_end};
 use super::rules::Rule;
@@ -34,7 +34,7 @@ pub struct Statement<'a> {
 ///
 /// A `loop` would need a measure; a `for` over the bytes ends by itself:
 ///
-/// <!-- from crates/simplecss_uses/src/statements.rt -->
+/// <!-- from crates/example_library/src/statements.rt -->
 /// ```rust
 /// let mut reader = StatementReader::new(text);
 /// // Each statement has at least one byte.
@@ -55,11 +55,11 @@ pub struct StatementReader<'a> {
 
 impl<'a> Model for StatementReader<'a> {
     ghost use Rattle.std.specs.Prelude.{ℕ, List};
-    ghost use Rattle.simplecss_text.specs.Cursor.{text_of, place_of};
+    ghost use Rattle.simplecss_text.specs.Cursor.{text_of, offset_of};
 
     ghost Value = { List ℕ × ℕ };
 
-    ghost view = { λ r. (text_of r.stream, place_of r.stream) };
+    ghost view = { λ r. (text_of r.stream, offset_of r.stream) };
 }
 
 impl<'a> StatementReader<'a> {

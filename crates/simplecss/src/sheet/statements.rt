@@ -10,15 +10,15 @@ ghost use Rattle.simplecss_text.specs.Skipped.{part_skips, parts_skips, name_of,
 ghost use Rattle.simplecss_text.specs.Skipped.{statement_skips};
 ghost use Rattle.simplecss_text.specs.ThisEdition.{this_edition};
 ghost use Rattle.simplecss_text.specs.Cursor.{text_of, rest_of};
-ghost use Rattle.simplecss_declaration.specs.SeenDeclarations.{declaration_of};
-ghost use Rattle.simplecss.specs.SeenRules.{rule_of};
-ghost use Rattle.simplecss.specs.SharedBlocks.{rules_with, rules_read};
+ghost use Rattle.simplecss_declaration.specs.DeclarationViews.{declaration_of};
+ghost use Rattle.simplecss.specs.RuleViews.{rule_of};
+ghost use Rattle.simplecss.specs.internal.SharedBlocks.{rules_with, rules_read};
 ghost use Rattle.simplecss.specs.DeclarationCounts.{declaration_count};
 ghost use Rattle.simplecss.specs.declared.sheet.sheet_error.SheetError.TheVariants.{TooManyDeclarations};
 
 use super::rules::Rule;
 use super::sheet_error::SheetError;
-use simplecss_declaration::{Declaration, consume_next_block, pass_semicolon_or_block};
+use simplecss_declaration::{Declaration, consume_next_block, skip_semicolon_or_block};
 use simplecss_selector::Selector;
 use simplecss_text::readers;
 use simplecss_text::report::{Report, Skipped, Why};
@@ -64,7 +64,7 @@ fn skip_comma<'a, P: Report<'a>>(report: &mut P, s: &mut Stream<'a>) -> Result<(
         ≡ add_each P.add (P.state report.old) (comma_skips (rest_of s.old))) }
 {
     let from = s.slice_tail();
-    if !readers::pass_byte(s, b',') {
+    if !readers::skip_byte(s, b',') {
         return Ok(());
     }
     report.report(Skipped {
@@ -124,7 +124,7 @@ fn consume_parts<'a, P: Report<'a>>(
     selectors.clear();
     'parts: loop {
         consume_part(report, alloc, s, selectors)?;
-        if !readers::pass_byte(s, b',') {
+        if !readers::skip_byte(s, b',') {
             return Ok(());
         }
     }
@@ -153,14 +153,14 @@ fn push_rules<'a>(
 
 /// Consumes an at-rule after its sign, and returns its name, if it has one. A faulty name ends it.
 #[tactic(auto, unfolding(simplecss_text::specs::Statements::at_rule_rest))]
-fn pass_at_rule<'a>(s: &mut Stream<'a>) -> Option<&'a str>
+fn take_at_rule<'a>(s: &mut Stream<'a>) -> Option<&'a str>
     ensures text { text_of s.new ≡ text_of s.old }
     ensures rest { rest_of s.new ≡ at_rule_rest this_edition (rest_of s.old) }
     ensures name { option_map (λ name. name.now) result
         ≡ name_of (name_read this_edition (rest_of s.old)) }
 {
     let name = readers::take_name(s)?;
-    pass_semicolon_or_block(s);
+    skip_semicolon_or_block(s);
     Some(name)
 }
 
@@ -243,9 +243,9 @@ impl<'a> RuleReader<'a> {
             ≡ add_each P.add (P.state report.old) (statement_skips this_edition (rest_of s.old))) }
     {
         let text = s.slice_tail();
-        if readers::pass_byte(s, b'@') {
+        if readers::skip_byte(s, b'@') {
             self.selectors.clear();
-            let name = pass_at_rule(s);
+            let name = take_at_rule(s);
             return report.report(Skipped {
                 from: text,
                 after: s.slice_tail(),

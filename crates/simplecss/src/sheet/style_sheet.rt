@@ -6,13 +6,13 @@ ghost use Rattle.simplecss_text.specs.Characters.{first_edition};
 ghost use Rattle.simplecss_text.specs.Editions.{IsCommon};
 ghost use Rattle.simplecss_text.specs.Statements.{has_declaration, kept, is_open_comment};
 ghost use Rattle.simplecss_text.specs.Sheets.{ordered, sheet};
-ghost use Rattle.simplecss_text.specs.Cutting.{GoesOn};
+ghost use Rattle.simplecss_text.specs.Cutting.{ContinuesReading};
 ghost use Rattle.simplecss_text.specs.Skipped.{add_each, skipped};
-ghost use Rattle.simplecss_text.specs.SeenSkips.{skip_of};
+ghost use Rattle.simplecss_text.specs.SkipViews.{skip_of};
 ghost use Rattle.simplecss_text.specs.ThisEdition.{this_edition};
 ghost use Rattle.simplecss_text.specs.PrintingLaws.{SelectorsReadBack, has_wide_space, PrintsBack};
 ghost use Rattle.simplecss_text.specs.PrintingLaws.{PrintsBackAfter};
-ghost use Rattle.simplecss.specs.SeenRules.{rules_in};
+ghost use Rattle.simplecss.specs.RuleViews.{rules_in};
 ghost use Rattle.simplecss.specs.DeclarationCounts.{kept_declarations};
 
 use crate::sheet::{Rule, SheetError, order, reading};
@@ -149,7 +149,7 @@ impl<'a> StyleSheet<'a> {
             → AllPass has_declaration (rules_in self.new) }
         // A text may be read in pieces that are cut where a statement ends.
         ensures pieces { OnOk result
-            (GoesOn this_edition (rules_in self.old) text.now (rules_in self.new)) }
+            (ContinuesReading this_edition (rules_in self.old) text.now (rules_in self.new)) }
         // Printed selectors and printed sheets read as what was printed.
         ensures selectors { SelectorsReadBack this_edition (rules_in self.old)
             → SelectorsReadBack this_edition (rules_in self.new) }
@@ -181,7 +181,7 @@ impl<'a> StyleSheet<'a> {
             → AllPass has_declaration (rules_in self.new) }
         // A text may be read in pieces that are cut where a statement ends.
         ensures pieces { OnOk result
-            (GoesOn this_edition (rules_in self.old) text.now (rules_in self.new)) }
+            (ContinuesReading this_edition (rules_in self.old) text.now (rules_in self.new)) }
         // Printed selectors and printed sheets read as what was printed.
         ensures selectors { SelectorsReadBack this_edition (rules_in self.old)
             → SelectorsReadBack this_edition (rules_in self.new) }
@@ -229,7 +229,7 @@ impl<'a> StyleSheet<'a> {
             → AllPass has_declaration (rules_in self.new) }
         // A text may be read in pieces that are cut where a statement ends.
         ensures pieces { OnOk result
-            (GoesOn this_edition (rules_in self.old) text.now (rules_in self.new)) }
+            (ContinuesReading this_edition (rules_in self.old) text.now (rules_in self.new)) }
         // Printed selectors and printed sheets read as what was printed.
         ensures selectors { SelectorsReadBack this_edition (rules_in self.old)
             → SelectorsReadBack this_edition (rules_in self.new) }
@@ -267,7 +267,7 @@ impl<'a> StyleSheet<'a> {
             → AllPass has_declaration (rules_in self.new) }
         // A text may be read in pieces that are cut where a statement ends.
         ensures pieces { OnOk result
-            (GoesOn this_edition (rules_in self.old) text.now (rules_in self.new)) }
+            (ContinuesReading this_edition (rules_in self.old) text.now (rules_in self.new)) }
         // Printed selectors and printed sheets read as what was printed.
         ensures selectors { SelectorsReadBack this_edition (rules_in self.old)
             → SelectorsReadBack this_edition (rules_in self.new) }

@@ -12,18 +12,18 @@ use Rattle.simplecss_text.specs.Comments.{opens_comment, after_close, after_comm
 use Rattle.simplecss_text.specs.Blanks.{IsComment, IsBlank, IsComments}
 use Rattle.simplecss_text.specs.Blanks.IsBlank.{empty, space_then, comment_then}
 use Rattle.simplecss_text.specs.Blanks.IsComments.{none, comment_before}
-use Rattle.simplecss_text.proofs.reading.EachLaws.{each-some, each-stops}
-use Rattle.simplecss_text.proofs.reading.TakesLaws.{blank_part-takes, length-past_blank}
-use Rattle.simplecss_text.proofs.reading.EndsLaws.{before-append, ends-append}
-use Rattle.simplecss_text.proofs.reading.StandLaws.{ends-past_blank}
-use Rattle.simplecss_text.proofs.bytes.GapLaws.{no_space_behind}
+use Rattle.simplecss_text.proofs.reading.EachLemmas.{each-some, each-stops}
+use Rattle.simplecss_text.proofs.reading.TakesLemmas.{blank_part-takes, length-past_blank}
+use Rattle.simplecss_text.proofs.reading.EndsLemmas.{before-append, ends-append}
+use Rattle.simplecss_text.proofs.reading.StandLemmas.{ends-past_blank}
+use Rattle.simplecss_text.proofs.bytes.GapLemmas.{no_space_after}
 
 -- the two bytes that a text begins with
-starts_two-tells : (one two : ℕ) (text : List ℕ) → starts_two one two text ≡ true
+starts_two-reports : (one two : ℕ) (text : List ℕ) → starts_two one two text ≡ true
     → text ≡ one ∷ two ∷ drop 2 text
-starts_two-tells one two [] e = absurd (cc)
-starts_two-tells one two (b ∷ []) e = let both = and_parts (b == one) false e in absurd (cc)
-starts_two-tells one two (b ∷ c ∷ text) e =
+starts_two-reports one two [] e = absurd (cc)
+starts_two-reports one two (b ∷ []) e = let both = and_parts (b == one) false e in absurd (cc)
+starts_two-reports one two (b ∷ c ∷ text) e =
     let both = and_parts (b == one) (c == two) e in
     let first : b ≡ one = eqb-true b one both.0 in
     let second : c ≡ two = eqb-true c two both.1 in
@@ -71,16 +71,16 @@ closed-cons b text rest here c = record {
       ∙ ap (λ t. starts_two 42 47 (b ∷ t)) (sym c.is) ∙ here) c.first;
 }
 
-after_close-tells : (text rest : List ℕ) → after_close text ≡ Some rest → IsClosed text rest
-after_close-tells [] rest e = absurd (cc)
-after_close-tells (b ∷ text) rest e = by (starts_two 42 47 (b ∷ text)) refl e
-    (after_close-tells text rest)
+after_close-reports : (text rest : List ℕ) → after_close text ≡ Some rest → IsClosed text rest
+after_close-reports [] rest e = absurd (cc)
+after_close-reports (b ∷ text) rest e = by (starts_two 42 47 (b ∷ text)) refl e
+    (after_close-reports text rest)
   where
     by : (t : Bool) → starts_two 42 47 (b ∷ text) ≡ t
         → (if t then Some (past_one text) else after_close text) ≡ Some rest
         → (after_close text ≡ Some rest → IsClosed text rest) → IsClosed (b ∷ text) rest
     by true here f more =
-        let cut : b ∷ text ≡ 42 ∷ 47 ∷ drop 1 text = starts_two-tells 42 47 (b ∷ text) here in
+        let cut : b ∷ text ≡ 42 ∷ 47 ∷ drop 1 text = starts_two-reports 42 47 (b ∷ text) here in
         let tail : text ≡ 47 ∷ drop 1 text = cc in
         let left : past_one text ≡ rest = cc in
         record {
@@ -119,17 +119,17 @@ comment-front c rest h = rw (comment-append c rest h, after_close-inside h.insid
 after_comment-front : (text rest : List ℕ) → opens_comment text ≡ true
     → after_comment text ≡ Some rest → Front IsComment text rest
 after_comment-front text rest o e =
-    let c = after_close-tells (drop 2 text) rest e in
+    let c = after_close-reports (drop 2 text) rest e in
     record {
       front = 47 ∷ 42 ∷ (c.inside ++ (42 ∷ 47 ∷ []));
       cut = ap (λ t. 47 ∷ 42 ∷ t) (append_assoc c.inside (42 ∷ 47 ∷ []) rest ∙ sym c.is)
-          ∙ sym (starts_two-tells 47 42 text o);
+          ∙ sym (starts_two-reports 47 42 text o);
       is = record { inside = c.inside; is = refl; first = c.first };
     }
 
-comment-tells : (text rest : List ℕ) → comment text ≡ got (tt {0}) rest → Front IsComment text rest
+comment-reports : (text rest : List ℕ) → comment text ≡ got (tt {0}) rest → Front IsComment text rest
 unfolding comment
-comment-tells text rest e = by (opens_comment text) (after_comment text) refl refl e
+comment-reports text rest e = by (opens_comment text) (after_comment text) refl refl e
   where
     by : (t : Bool) (o : Option (List ℕ)) → opens_comment text ≡ t → after_comment text ≡ o
         → (if t then closed_or (no_comment text) o else fails (no_comment text) (past_byte 47 text))
@@ -143,7 +143,7 @@ comment-tells text rest e = by (opens_comment text) (after_comment text) refl re
 pub comment-got : (text rest : List ℕ) → (comment text ≡ got (tt {0}) rest) ↔
     (Ends text rest × IsComment (before text rest))
 comment-got text rest = (
-  λ e. front-before IsComment text rest (comment-tells text rest e),
+  λ e. front-before IsComment text rest (comment-reports text rest e),
   λ (ends, c). subst (λ (t : List ℕ). comment t ≡ got (tt {0}) rest) ends
       (comment-front (before text rest) rest c),
 )
@@ -219,14 +219,14 @@ past_blank-part text rest spaced e = ap (λ r. r.1)
     (each-some blank_part blank_part-takes text rest spaced e)
 
 -- reading continues after any blank at the front as at its start
-past_blank-behind : {front : List ℕ} → IsBlank front → (rest : List ℕ)
+past_blank-after : {front : List ℕ} → IsBlank front → (rest : List ℕ)
     → past_blank (front ++ rest) ≡ past_blank rest
-past_blank-behind empty rest = refl
-past_blank-behind (space_then b more e h) rest = past_blank-part (b ∷ (more ++ rest)) (more ++ rest)
-    true (blank_part-space b (more ++ rest) e) ∙ past_blank-behind h rest
-past_blank-behind (comment_then c more i h) rest =
+past_blank-after empty rest = refl
+past_blank-after (space_then b more e h) rest = past_blank-part (b ∷ (more ++ rest)) (more ++ rest)
+    true (blank_part-space b (more ++ rest) e) ∙ past_blank-after h rest
+past_blank-after (comment_then c more i h) rest =
     ap past_blank (append_assoc c more rest) ∙ past_blank-part (c ++ (more ++ rest)) (more ++ rest)
-    false (blank_part-comment c (more ++ rest) i) ∙ past_blank-behind h rest
+    false (blank_part-comment c (more ++ rest) i) ∙ past_blank-after h rest
 
 length-before : (text rest : List ℕ) → length (before text rest) ≡ length text - length rest
 length-before text rest = omega (arith, length-take (length text - length rest) text)
@@ -235,7 +235,7 @@ length-before text rest = omega (arith, length-take (length text - length rest) 
 pub past_blank-longest : (text front rest : List ℕ) → text ≡ front ++ rest → IsBlank front
     → length front ≤ length (before text (past_blank text))
 past_blank-longest text front rest e h =
-    let same : past_blank text ≡ past_blank rest = ap past_blank e ∙ past_blank-behind h rest in
+    let same : past_blank text ≡ past_blank rest = ap past_blank e ∙ past_blank-after h rest in
     omega (
       arith,
       length-before text (past_blank text),
@@ -291,7 +291,7 @@ pub has_space-comments : (text : List ℕ) → (has_space text ≡ false) ↔ Is
 has_space-comments text = (
   λ e. (front-before IsComments text (past_blank text) (has_space-none text e)).1,
   λ h. ap has_space (sym (ends-past_blank text)) ∙ has_space-after h (past_blank text)
-      ∙ no_space_behind text,
+      ∙ no_space_after text,
 )
 
 -- ---- an open comment after a blank
@@ -301,7 +301,7 @@ pub blank-open : (text : List ℕ) → opens_comment (past_blank text) ≡ true
     → blank text ≡ comment (past_blank text)
 unfolding blank comment
 blank-open text o = rw o (by (past_blank text) (after_comment (past_blank text))
-    (starts_two-tells 47 42 (past_blank text) o) refl (each-stops blank_part blank_part-takes text))
+    (starts_two-reports 47 42 (past_blank text) o) refl (each-stops blank_part blank_part-takes text))
   where
     by : (rest : List ℕ) (c : Option (List ℕ)) → rest ≡ 47 ∷ 42 ∷ drop 2 rest
         → after_comment rest ≡ c → blank_part rest ≡ None

@@ -1,7 +1,7 @@
 -- Bytes at the front of a text, and runs of them.
--- Serves `readers::from_brace`, and of simplecss_declaration `terms::{pass_digits, pass_hex_digits,
--- pass_number}` (numbers), `reader::{pass_semicolons, take_importance}`, and
--- `blocks::pass_semicolon_or_block` (what an at-rule has after its name).
+-- Serves `readers::from_brace`, and of simplecss_declaration `terms::{skip_digits, skip_hex_digits,
+-- skip_number}` (numbers), `reader::{skip_semicolons, take_importance}`, and
+-- `blocks::skip_semicolon_or_block` (what an at-rule has after its name).
 use Rattle.std.proofs.Common.{◌≡◌, ◌+◌, ◌-◌, ℕ, Bool, List, [], ◌∷◌, drop, slice_index, true, false, refl, sym, ap, ◌∙◌, arith, length-drop}
 use Rattle.std.specs.List.{prefix_len}
 use Rattle.std.proofs.lemmas.List.{get_or-drop, drop-drop}

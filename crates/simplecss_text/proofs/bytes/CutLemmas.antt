@@ -12,9 +12,9 @@ use Rattle.simplecss_text.specs.Characters.{is_space}
 use Rattle.simplecss_text.specs.ByteTests.{IsByteTest, PassesUpTo}
 
 -- after an ASCII byte
-IsCharBoundary-behind : (text : List ℕ) (n : ℕ) → IsUtf8 text → 0 < n → n ≤ length text
+IsCharBoundary-after : (text : List ℕ) (n : ℕ) → IsUtf8 text → 0 < n → n ≤ length text
     → slice_index text (n - 1) < 128 → IsCharBoundary text n
-IsCharBoundary-behind text n u pos h e =
+IsCharBoundary-after text n u pos h e =
     let back : n - 1 + 1 ≡ n = omega arith in
     subst (λ (i : ℕ). IsCharBoundary text i) back
     (IsCharBoundary-after_ascii text (n - 1) u (omega arith) e)
@@ -30,7 +30,7 @@ IsCharBoundary-prefix_len p ascii text u = by (prefix_len p text) refl
         let le : prefix_len p text ≤ length text = prefix_len-le-length p text in
         let last : slice_index text (prefix_len p text - 1) < 128 =
         ascii _ (prefix_len_passes p text (prefix_len p text - 1) 0 (omega arith)) in
-        IsCharBoundary-behind text (prefix_len p text) u (omega arith) le last
+        IsCharBoundary-after text (prefix_len p text) u (omega arith) le last
 
 pub is_space-ascii : (b : ℕ) → is_space b ≡ true → b < 128
 is_space-ascii b e = grind (arith, nat_tests)
@@ -60,17 +60,17 @@ IsCharBoundary-run pre post text p q t run utf8 start = (
 )
 
 -- after a space byte at the front
-pub IsCharBoundary-behind_space : (text : List ℕ) → IsUtf8 text → true ≡ starts_by is_space text
+pub IsCharBoundary-after_space : (text : List ℕ) → IsUtf8 text → true ≡ starts_by is_space text
     → IsCharBoundary text 1
-IsCharBoundary-behind_space [] u e = absurd (cc)
-IsCharBoundary-behind_space (b ∷ text) u e =
+IsCharBoundary-after_space [] u e = absurd (cc)
+IsCharBoundary-after_space (b ∷ text) u e =
     IsCharBoundary-after_ascii (b ∷ text) 0 u (omega arith) (is_space-ascii b (sym e))
 
--- after an ASCII byte that is at a place of a text
-pub boundary_past_ascii : (text : List ℕ) (place : ℕ) → ∥ IsUtf8 text ∥₁ → IsCharBoundary text place
-    → starts_by is_ascii (drop place text) ≡ true → IsCharBoundary (drop place text) 1
-boundary_past_ascii text place u at e =
-    front (drop place text) (IsUtf8-drop text place (IsUtf8-had text u) at) e
+-- after an ASCII byte that is at an offset of a text
+pub boundary_past_ascii : (text : List ℕ) (offset : ℕ) → ∥ IsUtf8 text ∥₁ → IsCharBoundary text offset
+    → starts_by is_ascii (drop offset text) ≡ true → IsCharBoundary (drop offset text) 1
+boundary_past_ascii text offset u at e =
+    front (drop offset text) (IsUtf8-drop text offset (IsUtf8-had text u) at) e
   where
     front : (rest : List ℕ) → IsUtf8 rest → starts_by is_ascii rest ≡ true → IsCharBoundary rest 1
     front [] v e = absurd (cc)
@@ -78,24 +78,24 @@ boundary_past_ascii text place u at e =
         IsCharBoundary-after_ascii (b ∷ rest) 0 v (omega arith) (ltb-true b 128 e)
 
 -- after an ASCII byte that a search may have found
-pub IsCharBoundary-behind_found : (text : List ℕ) (byte : ℕ) (r : Option ℕ) → IsUtf8 text
+pub IsCharBoundary-after_found : (text : List ℕ) (byte : ℕ) (r : Option ℕ) → IsUtf8 text
     → byte < 128 → IfSome r (λ n. (n < length text) × (slice_index text n ≡ byte))
     → IfSome r (λ n. IsCharBoundary text (n + 1))
-IsCharBoundary-behind_found text byte None u l h = tt
-IsCharBoundary-behind_found text byte (Some n) u l h =
+IsCharBoundary-after_found text byte None u l h = tt
+IsCharBoundary-after_found text byte (Some n) u l h =
     let small : slice_index text n < 128 = omega (arith, h.1) in
     IsCharBoundary-after_ascii text n u h.0 small
 
 -- after two ASCII bytes at the front
-pub IsCharBoundary-behind_comment : (text : List ℕ) → IsUtf8 text → starts_two 47 42 text ≡ true
+pub IsCharBoundary-after_comment : (text : List ℕ) → IsUtf8 text → starts_two 47 42 text ≡ true
     → IsCharBoundary text 2
-IsCharBoundary-behind_comment [] u e = absurd (cc)
-IsCharBoundary-behind_comment (a ∷ []) u e = absurd (false_and (a == 47) e)
+IsCharBoundary-after_comment [] u e = absurd (cc)
+IsCharBoundary-after_comment (a ∷ []) u e = absurd (false_and (a == 47) e)
   where
     false_and : (x : Bool) → (x && false) ≡ true → ⊥
     false_and true h = cc
     false_and false h = cc
-IsCharBoundary-behind_comment (a ∷ b ∷ text) u e =
+IsCharBoundary-after_comment (a ∷ b ∷ text) u e =
     let star : b ≡ 42 = eqb-true b 42 (second (a == 47) (b == 42) e) in
     IsCharBoundary-after_ascii (a ∷ b ∷ text) 1 u (omega arith) (omega (arith, star))
   where

@@ -10,11 +10,11 @@ use Rattle.std.proofs.lemmas.Str.{IsCharBoundary-start, IsCharBoundary-from_rest
 use Rattle.simplecss_text.specs.Reading.{each, followed_by}
 use Rattle.simplecss_text.specs.Comments.{blank_part, past_blank, has_space, opens_comment}
 use Rattle.simplecss_text.proofs.bytes.CutLemmas.{IsCharBoundary-prefix_len, is_space-ascii}
-use Rattle.simplecss_text.proofs.reading.EachLaws.{each-none, each-some}
-use Rattle.simplecss_text.proofs.reading.TakesLaws.{blank_part-takes}
+use Rattle.simplecss_text.proofs.reading.EachLemmas.{each-none, each-some}
+use Rattle.simplecss_text.proofs.reading.TakesLemmas.{blank_part-takes}
 use Rattle.simplecss_text.specs.Characters.{is_space}
 use Rattle.simplecss_text.specs.Bytes.{starts_by, past}
-use Rattle.simplecss_text.proofs.bytes.Utf8Laws.{starts_by-past, past-yes, past-no}
+use Rattle.simplecss_text.proofs.bytes.Utf8Lemmas.{starts_by-past, past-yes, past-no}
 
 -- The first bytes of the text are parts of its gap, and this reports whether a space byte is among
 -- them.
@@ -124,8 +124,8 @@ passed-spaces text len u e = subst (λ (n : ℕ). Passed text n (nat_lt 0 n)) (s
 })
 
 -- where no comment opens after the space bytes at the front, no part of the gap is there
-pub no_part-behind_spaces : (text : List ℕ) (len : ℕ) → len ≡ prefix_len is_space text
+pub no_part-after_spaces : (text : List ℕ) (len : ℕ) → len ≡ prefix_len is_space text
     → opens_comment (drop len text) ≡ false → blank_part (drop len text) ≡ None
-no_part-behind_spaces text len e closed =
+no_part-after_spaces text len e closed =
     let solid : starts_by is_space (drop len text) ≡ false = rw e (starts_by-past is_space text) in
     blank_part-none (drop len text) (rw (solid, closed) refl)

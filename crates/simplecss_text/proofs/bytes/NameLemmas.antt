@@ -44,7 +44,7 @@ pub chars-two : (text rest more : List ℕ) (c d : ℕ) → IsUtf8 text → text
 chars-two text rest more c d u e f = chars_past_char text rest c u e
     ∙ ap (λ cs. c ∷ cs) (chars_past_char rest more d (IsUtf8-past_char text rest c u e) f)
 
--- A step over one character at the place i, which takes w bytes.
+-- A step over one character at the offset i, which takes w bytes.
 pub record Step (text rest : List ℕ) (i w : ℕ) : Type 0 where
   pub within : i + w ≤ length text
   pub rest_is : drop (i + w) text ≡ rest

@@ -1,5 +1,5 @@
--- The position of a place, from that of an earlier one.
--- Serves `find_faults` of simplecss_faults (positions that are counted along).
+-- The position of an offset, from that of an earlier one.
+-- Serves `find_faults` of simplecss_faults (positions that are counted diverge).
 use Rattle.std.proofs.Common.{◌≡◌, ℕ, ◌+◌, ◌-◌, ◌<◌, List, [], ◌∷◌, ◌++◌, Bool, true, false, cond, not, ◌==◌, length, take, drop, reverse, min, refl, sym, ap, ◌∙◌, subst, arith, take-add, inl, inr, ◌⊎◌, IsUtf8, eqb, eqb-true, eq-eqb}
 use Rattle.std.specs.Prelude.{chars, count_by}
 use Rattle.std.specs.List.{after_last, prefix_len, suffix_len}
@@ -12,8 +12,8 @@ use Rattle.std.proofs.lemmas.Str.{chars-append}
 use Rattle.simplecss_text.specs.declared.text_pos.TextPos.{TextPos}
 use Rattle.simplecss_text.specs.Reading.{Ends}
 use Rattle.simplecss_text.specs.Positions.{greatest, in_whole, position}
-use Rattle.simplecss_text.proofs.reading.EndsLaws.{ends-same, ends-cons}
-use Rattle.simplecss_text.proofs.bytes.Utf8Laws.{utf8-behind}
+use Rattle.simplecss_text.proofs.reading.EndsLemmas.{ends-same, ends-cons}
+use Rattle.simplecss_text.proofs.bytes.Utf8Lemmas.{utf8-after}
 
 abbrev newlines : List ℕ → ℕ
 newlines xs = count_by (λ b. b == 10) xs
@@ -143,7 +143,7 @@ line-utf8 xs i = by (split xs)
   where
     by : Split xs → IsUtf8 (line xs)
     by (inl s) = subst IsUtf8 (sym (line-none xs s.1)) i
-    by (inr s) = utf8-behind xs (line xs) 10 (omega arith) i (line-some xs s.1)
+    by (inr s) = utf8-after xs (line xs) 10 (omega arith) i (line-some xs s.1)
 
 -- ---- positions
 
@@ -207,7 +207,7 @@ position-append xs ys i = by (split ys)
         (whole_some (newlines xs) (length (chars (line xs))) (newlines ys)
         (length (chars (line ys))) s.1)
 
--- the same in a text: of what is left at an earlier place
+-- the same in a text: of what is left at an earlier offset
 pub position-add : (text : List ℕ) (p n : ℕ) → IsUtf8 (take p text)
     → in_whole (position text p) (position (drop p text) n) ≡ position text (p + n)
 unfolding position

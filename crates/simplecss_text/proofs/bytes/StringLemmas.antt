@@ -1,5 +1,5 @@
 -- Strings.
--- Serves `readers::take_string` and `scan::quote_place` (a string up to its closing quote), and
+-- Serves `readers::take_string` and `scan::quote_offset` (a string up to its closing quote), and
 -- `readers::take_name` (a name).
 use Rattle.std.proofs.Common.{◌≡◌, ℕ, ◌+◌, ◌-◌, ◌<◌, ◌≤◌, List, [], length, take, drop, slice_range, Some, None, arith, refl, ap, sym, ◌∙◌, get_or, ◌⊎◌, length-drop, add-one, drop-cons}
 use Rattle.std.proofs.lemmas.Bool.Decides.{nat_tests}

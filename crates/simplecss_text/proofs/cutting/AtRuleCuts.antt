@@ -1,4 +1,4 @@
--- An at-rule ends at the same place where the text is cut there.
+-- An at-rule ends at the same offset where the text is cut there.
 -- Serves `StyleSheet::parse_more` and `laws::cutting_law` (a text read in pieces).
 use Rattle.std.proofs.Common.{◌⊎◌, Bool, List, [], ap, arith, false, if◌then◌else◌, inl, inr, length, refl, subst, true, ℕ, ◌&&◌, ◌++◌, ◌<◌, ◌==◌, ◌∙◌, ◌∷◌, ◌≡◌, IsUtf8, encode_utf8_all, eqb-true, sym, length-append, ◌≤◌}
 use Rattle.std.proofs.lemmas.List.{append_cancel_right}
@@ -11,33 +11,33 @@ use Rattle.simplecss_text.specs.Characters.{Edition, first_edition, is_name_star
 use Rattle.simplecss_text.specs.Names.{begins_name, name, past_name_chars}
 use Rattle.simplecss_text.specs.Blocks.{from_block_end}
 use Rattle.simplecss_text.specs.Statements.{past_semicolon_or_block, at_rule_rest_by_name, at_rule_rest}
-use Rattle.simplecss_text.proofs.reading.TakesLaws.{length-past, length-past_byte}
-use Rattle.simplecss_text.proofs.reading.DeclarationLaws.{length-from_block_end}
-use Rattle.simplecss_text.proofs.printed.ReadNames.{name-fails}
-use Rattle.simplecss_text.proofs.printed.PrintedNames.{both_false}
-use Rattle.simplecss_text.proofs.reading.LocalLaws.{Along, Equal, Guard, To, at, longer-along, on, past-along, past-both}
-use Rattle.simplecss_text.proofs.reading.LocalLaws.{quiet-brace, quiet-semicolon}
+use Rattle.simplecss_text.proofs.reading.TakesLemmas.{length-past, length-past_byte}
+use Rattle.simplecss_text.proofs.reading.DeclarationLemmas.{length-from_block_end}
+use Rattle.simplecss_text.proofs.reading.ReadNames.{name-fails}
+use Rattle.simplecss_text.proofs.reading.PrintedNames.{both_false}
+use Rattle.simplecss_text.proofs.reading.LocalLemmas.{Diverge, Equal, Guard, To, at, longer-diverge, on, past-diverge, past-both}
+use Rattle.simplecss_text.proofs.reading.LocalLemmas.{quiet-brace, quiet-semicolon}
 use Rattle.simplecss_text.proofs.reading.NameLocal.{name-same}
 use Rattle.simplecss_text.proofs.cutting.BlockEndGuards.{from_block_end-to}
 
 -- where the first text has come to the byte g, so has the second
-pub along-at : (g : ℕ) (t u r s : List ℕ) → Along (g ∷ t) (g ∷ u) r s → r ≡ g ∷ t → s ≡ g ∷ u
-along-at g t u r s at e = refl
-along-at g t u r s (on b r1 s1 h) e =
-    absurd (omega (arith, longer-along (g ∷ t) (g ∷ u) r1 s1 h, ap length e))
+pub diverge-at : (g : ℕ) (t u r s : List ℕ) → Diverge (g ∷ t) (g ∷ u) r s → r ≡ g ∷ t → s ≡ g ∷ u
+diverge-at g t u r s at e = refl
+diverge-at g t u r s (on b r1 s1 h) e =
+    absurd (omega (arith, longer-diverge (g ∷ t) (g ∷ u) r1 s1 h, ap length e))
 
 -- where a byte is before it in the first text, that byte is in the second
-along-next : (g : ℕ) (t u : List ℕ) (c : ℕ) (x r s : List ℕ) → Along (g ∷ t) (g ∷ u) r s → r ≡ c ∷ x
-    → length t < length x → (y : List ℕ) × ((s ≡ c ∷ y) × Along (g ∷ t) (g ∷ u) x y)
-along-next g t u c x r s at e l = absurd (omega (arith, ap length e, l))
-along-next g t u c x r s (on b r1 s1 h) e l =
+diverge-next : (g : ℕ) (t u : List ℕ) (c : ℕ) (x r s : List ℕ) → Diverge (g ∷ t) (g ∷ u) r s → r ≡ c ∷ x
+    → length t < length x → (y : List ℕ) × ((s ≡ c ∷ y) × Diverge (g ∷ t) (g ∷ u) x y)
+diverge-next g t u c x r s at e l = absurd (omega (arith, ap length e, l))
+diverge-next g t u c x r s (on b r1 s1 h) e l =
     let first : b ≡ c = cc in
     let rest : r1 ≡ x = cc in
-    (s1, (ap (λ (d : ℕ). d ∷ s1) first, subst (λ (z : List ℕ). Along (g ∷ t) (g ∷ u) z s1) rest h))
+    (s1, (ap (λ (d : ℕ). d ∷ s1) first, subst (λ (z : List ℕ). Diverge (g ∷ t) (g ∷ u) z s1) rest h))
 
 -- an at-rule that ends after a semicolon
 pub at_rule-semicolon : (edition : Edition) (t u r s n rest : List ℕ) → IsUtf8 r
-    → Along (59 ∷ t) (59 ∷ u) r s → name edition r ≡ got n rest
+    → Diverge (59 ∷ t) (59 ∷ u) r s → name edition r ≡ got n rest
     → past (is_neither 59 123) rest ≡ 59 ∷ t → at_rule_rest edition s ≡ u
 unfolding at_rule_rest
 at_rule-semicolon edition t u r s n rest w h e f =
@@ -55,11 +55,11 @@ at_rule-semicolon edition t u r s n rest w h e f =
         let same : x ≡ rest = cc in
         let there : past (is_neither 59 123) x ≡ 59 ∷ t = ap (past (is_neither 59 123)) same ∙ f in
         ap past_semicolon_or_block
-        (along-at 59 t u (past (is_neither 59 123) x) (past (is_neither 59 123) y)
-        (past-along 59 t u (is_neither 59 123) refl x y k.1) there)
+        (diverge-at 59 t u (past (is_neither 59 123) x) (past (is_neither 59 123) y)
+        (past-diverge 59 t u (is_neither 59 123) refl x y k.1) there)
 
 -- a block that ends after the brace
-block_end-at : (u v inner y : List ℕ) → Along (125 ∷ (u ++ v)) (125 ∷ u) inner y
+block_end-at : (u v inner y : List ℕ) → Diverge (125 ∷ (u ++ v)) (125 ∷ u) inner y
     → from_block_end inner ≡ 125 ∷ (u ++ v) → past_byte 125 (from_block_end y) ≡ u
 block_end-at u v inner y h e = by (from_block_end-to u v inner y h)
   where
@@ -67,11 +67,11 @@ block_end-at u v inner y h e = by (from_block_end-to u v inner y h)
         → past_byte 125 (from_block_end y) ≡ u
     by (inl l) = absurd (omega (arith, l, ap length e))
     by (inr k) =
-        ap (past_byte 125) (along-at 125 (u ++ v) u (from_block_end inner) (from_block_end y) k e)
+        ap (past_byte 125) (diverge-at 125 (u ++ v) u (from_block_end inner) (from_block_end y) k e)
 
 -- an at-rule that ends after a block
 pub at_rule-block : (edition : Edition) (u v r s n rest inner : List ℕ) → IsUtf8 r
-    → Along (125 ∷ (u ++ v)) (125 ∷ u) r s → name edition r ≡ got n rest
+    → Diverge (125 ∷ (u ++ v)) (125 ∷ u) r s → name edition r ≡ got n rest
     → past (is_neither 59 123) rest ≡ 123 ∷ inner → from_block_end inner ≡ 125 ∷ (u ++ v)
     → at_rule_rest edition s ≡ u
 unfolding at_rule_rest
@@ -85,23 +85,23 @@ at_rule-block edition u v r s n rest inner w h e f g =
     opened : (x y : List ℕ) → x ≡ 123 ∷ inner → To true (125 ∷ (u ++ v)) (125 ∷ u) x y
         → past_semicolon_or_block y ≡ u
     opened x y k (inl l) = absurd (omega (arith, l, ap length k, long))
-    opened x y k (inr along) =
-        let found = along-next 125 (u ++ v) u 123 inner x y along k long in
+    opened x y k (inr diverge) =
+        let found = diverge-next 125 (u ++ v) u 123 inner x y diverge k long in
         ap past_semicolon_or_block found.1.0 ∙ block_end-at u v inner found.0 found.1.1 g
 
     by : (a b : Reading (List ℕ)) → a ≡ got n rest → Guard Equal true (125 ∷ (u ++ v)) (125 ∷ u) a b
         → at_rule_rest_by_name b ≡ u
-    by (fails q x) b k along = absurd (cc)
+    by (fails q x) b k diverge = absurd (cc)
     by (got m x) b k (inl l) =
         let same : x ≡ rest = cc in
         absurd (omega
         (arith, l, ap length same, ap length f, length-past (is_neither 59 123) rest, long))
-    by (got m x) (fails q y) k (inr along) = absurd along
-    by (got m x) (got o y) k (inr along) =
+    by (got m x) (fails q y) k (inr diverge) = absurd diverge
+    by (got m x) (got o y) k (inr diverge) =
         let same : x ≡ rest = cc in
         opened (past (is_neither 59 123) x) (past (is_neither 59 123) y)
         (ap (past (is_neither 59 123)) same ∙ f)
-        (past-both 125 (u ++ v) u (is_neither 59 123) x y along.1)
+        (past-both 125 (u ++ v) u (is_neither 59 123) x y diverge.1)
 
 -- ---- a faulty name
 

@@ -7,17 +7,17 @@ use Rattle.simplecss_text.specs.Characters.{Edition}
 use Rattle.simplecss_text.specs.Declarations.{StyleDeclaration, declaration, next_declaration}
 use Rattle.simplecss_text.specs.Blocks.{closes_block, block_end, from_block_end, ends_list, declaration_in_block, past_broken, past_list, block}
 use Rattle.std.proofs.lemmas.Bool.{cases_lt}
-use Rattle.simplecss_text.proofs.printed.PrintedNames.{both_true}
-use Rattle.simplecss_text.proofs.reading.EachLaws.{each-stops}
-use Rattle.simplecss_text.proofs.reading.TakesLaws.{Cuts, length-past_byte}
-use Rattle.simplecss_text.proofs.reading.DeclarationLaws.{declaration_in_block-takes, length-from_block_end}
-use Rattle.simplecss_text.proofs.reading.EachLaws.{not_empty}
-use Rattle.simplecss_text.proofs.reading.LocalLaws.{Along, To, Guard, Equal, Repeats, pairs-equal}
-use Rattle.simplecss_text.proofs.reading.LeastLaws.{least-passes}
+use Rattle.simplecss_text.proofs.reading.PrintedNames.{both_true}
+use Rattle.simplecss_text.proofs.reading.EachLemmas.{each-stops}
+use Rattle.simplecss_text.proofs.reading.TakesLemmas.{Cuts, length-past_byte}
+use Rattle.simplecss_text.proofs.reading.DeclarationLemmas.{declaration_in_block-takes, length-from_block_end}
+use Rattle.simplecss_text.proofs.reading.EachLemmas.{not_empty}
+use Rattle.simplecss_text.proofs.reading.LocalLemmas.{Diverge, To, Guard, Equal, Repeats, pairs-equal}
+use Rattle.simplecss_text.proofs.reading.LeastLemmas.{least-passes}
 use Rattle.simplecss_text.proofs.reading.DeclarationsLawful.{declaration-cuts, declaration-lawful, declaration_in_block-well}
 use Rattle.simplecss_text.proofs.reading.Lawful.{lawful-guarded}
-use Rattle.simplecss_text.proofs.reading.WellLaws.{each-well}
-use Rattle.simplecss_text.proofs.cutting.BlockGuards.{DeclarationPasses, passes, listed-repeats, ends_list-along}
+use Rattle.simplecss_text.proofs.reading.WellLemmas.{each-well}
+use Rattle.simplecss_text.proofs.cutting.BlockGuards.{DeclarationPasses, passes, listed-repeats, ends_list-diverge}
 use Rattle.simplecss_text.proofs.cutting.BlockEndGuards.{from_block_end-to, Exact, past_brace-exact, past_further-exact, less_of_brace}
 
 -- less is left than t, or nothing
@@ -130,7 +130,7 @@ broken-same u v (fails f r) (fails g s) n (inr h) = by (from_block_end-to u v r 
         (past_brace-exact (u ++ v) u (from_block_end r) (from_block_end s) k))
 
 pub block-same : (edition : Edition) (u v r s : List ℕ) → IsUtf8 r
-    → Along (125 ∷ (u ++ v)) (125 ∷ u) r s
+    → Diverge (125 ∷ (u ++ v)) (125 ∷ u) r s
     → BlockSame (u ++ v) u (block edition r) (block edition s)
 unfolding block
 block-same edition u v r s w h =
@@ -149,7 +149,7 @@ block-same edition u v r s w h =
         (brace-lost (u ++ v) (past_broken (declaration edition a.1))
         (stuck-lost (u ++ v) (declaration edition a.1) (none_broken edition a.1 e n) l)))
     by a b n z (inr (inr k)) =
-        ends (ends_list a.1) (ends_list b.1) refl (ends_list-along (u ++ v) u a.1 b.1 k.1)
+        ends (ends_list a.1) (ends_list b.1) refl (ends_list-diverge (u ++ v) u a.1 b.1 k.1)
       where
         same : Lost (u ++ v) (past_byte 125 (past_broken (declaration edition a.1))) ⊎ Exact 125
             (u ++ v) u (past_byte 125 (past_broken (declaration edition a.1)))

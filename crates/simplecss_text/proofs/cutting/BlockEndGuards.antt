@@ -7,8 +7,8 @@ use Rattle.std.proofs.Math.ListN.{get_or-append}
 use Rattle.std.proofs.lemmas.List.{take-append-le}
 use Rattle.simplecss_text.specs.Bytes.{past_byte, starts}
 use Rattle.simplecss_text.specs.Blocks.{block_end, from_block_end, closes_block}
-use Rattle.simplecss_text.proofs.reading.LocalLaws.{Along, along-append, drop-to, at, on, To, longer-along, length-along}
-use Rattle.simplecss_text.proofs.reading.LeastLaws.{least-before, least-is, least-passes}
+use Rattle.simplecss_text.proofs.reading.LocalLemmas.{Diverge, diverge-append, drop-to, at, on, To, longer-diverge, length-diverge}
+use Rattle.simplecss_text.proofs.reading.LeastLemmas.{least-before, least-is, least-passes}
 
 -- a block's end within the front of a text is that of the front
 closes_block_local : (u v : List ℕ) (n : ℕ) → n < length u
@@ -30,12 +30,12 @@ block_end_local u v h =
     ∙ least-before (closes_block (u ++ v)) (length (u ++ v)) j l)
 
 -- from the end of a block on
-pub from_block_end-to : (u v r s : List ℕ) → Along (125 ∷ (u ++ v)) (125 ∷ u) r s
+pub from_block_end-to : (u v r s : List ℕ) → Diverge (125 ∷ (u ++ v)) (125 ∷ u) r s
     → To true (125 ∷ (u ++ v)) (125 ∷ u) (from_block_end r) (from_block_end s)
 from_block_end-to u v r s h = by (cases_lt (block_end (s ++ v)) (length s))
   where
     whole : r ≡ s ++ v
-    whole = along-append 125 u v r s h
+    whole = diverge-append 125 u v r s h
 
     by : (block_end (s ++ v) < length s) ⊎ (length s ≤ block_end (s ++ v))
         → To true (125 ∷ (u ++ v)) (125 ∷ u) (from_block_end r) (from_block_end s)
@@ -45,9 +45,9 @@ from_block_end-to u v r s h = by (cases_lt (block_end (s ++ v)) (length s))
           arith,
           e,
           length-drop (block_end r) r,
-          length-along (125 ∷ (u ++ v)) (125 ∷ u) r s h,
+          length-diverge (125 ∷ (u ++ v)) (125 ∷ u) r s h,
           length-append u v,
-          longer-along (125 ∷ (u ++ v)) (125 ∷ u) r s h,
+          longer-diverge (125 ∷ (u ++ v)) (125 ∷ u) r s h,
         ))
     by (inl l) =
         let e : block_end s ≡ block_end r = block_end_local s v l ∙ ap block_end (sym whole) in
@@ -55,13 +55,13 @@ from_block_end-to u v r s h = by (cases_lt (block_end (s ++ v)) (length s))
 
 -- Both readings end where the brace is or before it, with the same after it.
 pub data Exact (g : ℕ) (t u : List ℕ) : List ℕ → List ℕ → Type 0 where
-  behind_it : Exact g t u t u
-  before_it : (r s : List ℕ) → Along (g ∷ t) (g ∷ u) r s → Exact g t u r s
+  after_it : Exact g t u t u
+  before_it : (r s : List ℕ) → Diverge (g ∷ t) (g ∷ u) r s → Exact g t u r s
 
 -- a brace is consumed
-pub past_brace-exact : (t u r s : List ℕ) → Along (125 ∷ t) (125 ∷ u) r s
+pub past_brace-exact : (t u r s : List ℕ) → Diverge (125 ∷ t) (125 ∷ u) r s
     → Exact 125 t u (past_byte 125 r) (past_byte 125 s)
-past_brace-exact t u r s at = behind_it
+past_brace-exact t u r s at = after_it
 past_brace-exact t u r s (on b r1 s1 h) = by (b == 125)
   where
     by : (k : Bool) → Exact 125 t u (if k then r1 else b ∷ r1) (if k then s1 else b ∷ s1)
@@ -85,7 +85,7 @@ pub past_further-exact : (u v r s : List ℕ) → Exact 125 (u ++ v) u r s
     → (length (past_byte 125 r) < length (u ++ v)) ⊎ Exact 125 (u ++ v) u (past_byte 125 r)
     (past_byte 125 s)
 past_further-exact u v r s (before_it r1 s1 h) = inr (past_brace-exact (u ++ v) u r s h)
-past_further-exact u v r s behind_it = by (starts 125 (u ++ v)) refl
+past_further-exact u v r s after_it = by (starts 125 (u ++ v)) refl
   where
     by : (k : Bool) → starts 125 (u ++ v) ≡ k
         → (length (past_byte 125 (u ++ v)) < length (u ++ v)) ⊎ Exact 125 (u ++ v) u
@@ -94,4 +94,4 @@ past_further-exact u v r s behind_it = by (starts 125 (u ++ v)) refl
     by false e =
         let whole : past_byte 125 (u ++ v) ≡ u ++ v = no_brace (u ++ v) e in
         let front : past_byte 125 u ≡ u = no_brace_front u v e in
-        inr (rw (whole, front) behind_it)
+        inr (rw (whole, front) after_it)

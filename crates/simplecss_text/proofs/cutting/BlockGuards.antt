@@ -5,10 +5,10 @@ use Rattle.simplecss_text.specs.Reading.{Reading, got, fails, each, found, left_
 use Rattle.simplecss_text.specs.Characters.{Edition}
 use Rattle.simplecss_text.specs.Declarations.{StyleDeclaration, declaration, next_declaration}
 use Rattle.simplecss_text.specs.Blocks.{ends_list, declaration_in_block}
-use Rattle.simplecss_text.proofs.reading.DeclarationLaws.{declaration_in_block-takes}
-use Rattle.simplecss_text.proofs.reading.EachLaws.{not_empty}
-use Rattle.simplecss_text.proofs.reading.LocalLaws.{Along, at, on, Guard, Equal, Step, Repeats, each-repeats}
-use Rattle.simplecss_text.proofs.reading.WellLaws.{found-text}
+use Rattle.simplecss_text.proofs.reading.DeclarationLemmas.{declaration_in_block-takes}
+use Rattle.simplecss_text.proofs.reading.EachLemmas.{not_empty}
+use Rattle.simplecss_text.proofs.reading.LocalLemmas.{Diverge, at, on, Guard, Equal, Step, Repeats, each-repeats}
+use Rattle.simplecss_text.proofs.reading.WellLemmas.{found-text}
 use Rattle.simplecss_text.proofs.reading.Lawful.{lawful-guarded}
 use Rattle.simplecss_text.proofs.reading.DeclarationsLawful.{declaration-lawful, declaration_in_block-well}
 
@@ -17,9 +17,9 @@ pub data DeclarationPasses (edition : Edition) (t a : List ℕ) : Type 0 where
   passes : ends_list a ≡ false → length (left_after (declaration edition a)) ≤ length t
       → DeclarationPasses edition t a
 
-pub ends_list-along : (t u r s : List ℕ) → Along (125 ∷ t) (125 ∷ u) r s → ends_list r ≡ ends_list s
-ends_list-along t u r s at = rw (not_empty 125 t, not_empty 125 u) refl
-ends_list-along t u r s (on b r1 s1 h) = rw (not_empty b r1, not_empty b s1) refl
+pub ends_list-diverge : (t u r s : List ℕ) → Diverge (125 ∷ t) (125 ∷ u) r s → ends_list r ≡ ends_list s
+ends_list-diverge t u r s at = rw (not_empty 125 t, not_empty 125 u) refl
+ends_list-diverge t u r s (on b r1 s1 h) = rw (not_empty b r1, not_empty b s1) refl
 
 found-step : (edition : Edition) (t u r : List ℕ) (a b : Reading StyleDeclaration)
     → Guard Equal true (125 ∷ t) (125 ∷ u) a b
@@ -35,11 +35,11 @@ found-step edition t u r (fails f p) (got y q) (inr h) stuck = absurd h
 found-step edition t u r (fails f p) (fails e q) (inr h) stuck = tt
 
 listed-step : (edition : Edition) (u v r s : List ℕ) → IsUtf8 r
-    → Along (125 ∷ (u ++ v)) (125 ∷ u) r s
+    → Diverge (125 ∷ (u ++ v)) (125 ∷ u) r s
     → Step Equal (DeclarationPasses edition (u ++ v)) 125 (u ++ v) u r
     (declaration_in_block edition r) (declaration_in_block edition s)
 listed-step edition u v r s w h =
-    by (ends_list r) (ends_list s) refl (ends_list-along (u ++ v) u r s h)
+    by (ends_list r) (ends_list s) refl (ends_list-diverge (u ++ v) u r s h)
   where
     by : (j k : Bool) → ends_list r ≡ j → j ≡ k
         → Step Equal (DeclarationPasses edition (u ++ v)) 125 (u ++ v) u r
@@ -54,7 +54,7 @@ listed-step edition u v r s w h =
         (λ l. passes e l)
 
 pub listed-repeats : (edition : Edition) (u v r s : List ℕ) → IsUtf8 r
-    → Along (125 ∷ (u ++ v)) (125 ∷ u) r s
+    → Diverge (125 ∷ (u ++ v)) (125 ∷ u) r s
     → Repeats Equal (DeclarationPasses edition (u ++ v)) 125 (u ++ v) u
     (each (declaration_in_block edition) r) (each (declaration_in_block edition) s)
 listed-repeats edition u v r s w h =

@@ -7,17 +7,17 @@ use Rattle.std.specs.List.{flat_map}
 use Rattle.std.specs.Option.{option_map}
 use Rattle.std.specs.Prelude.{Result, Ok, Err}
 use Rattle.std.specs.Result.{OnOk}
-use Rattle.simplecss_text.specs.Reading.{before, each, Ends, found, rest_place}
+use Rattle.simplecss_text.specs.Reading.{before, each, Ends, found, rest_offset}
 use Rattle.simplecss_text.specs.Characters.{Edition}
 use Rattle.simplecss_text.specs.Statements.{StyleRule, has_declaration, kept, next_statement, statements}
 use Rattle.simplecss_text.specs.Sheets.{ordered, sheet}
-use Rattle.simplecss_text.specs.Cutting.{behind_statement, rests_behind, GoesOn, KeepsAcross, StatementEndsAt}
-use Rattle.simplecss_text.proofs.reading.EachLaws.{Shrinks, Takes, each-none, each-some, option_cases}
-use Rattle.simplecss_text.proofs.reading.EndsLaws.{ends-same}
-use Rattle.simplecss_text.proofs.reading.StatementLaws.{next_statement-takes}
+use Rattle.simplecss_text.specs.Cutting.{after_statement, rests_after, ContinuesReading, KeepsAcross, StatementEndsAt}
+use Rattle.simplecss_text.proofs.reading.EachLemmas.{Shrinks, Takes, each-none, each-some, option_cases}
+use Rattle.simplecss_text.proofs.reading.EndsLemmas.{ends-same}
+use Rattle.simplecss_text.proofs.reading.StatementTextLemmas.{next_statement-takes}
 use Rattle.simplecss_text.proofs.cutting.AtRuleCuts.{nothing_in_front}
 use Rattle.simplecss_text.proofs.cutting.StatementCuts.{next_statement-cut, next_statement-well}
-use Rattle.simplecss_text.proofs.reading.WellLaws.{EndsWell, well-then}
+use Rattle.simplecss_text.proofs.reading.WellLemmas.{EndsWell, well-then}
 
 -- a piece of the text ends where rest is left, or the text begins there
 pub data Reaches {X : Type 0} (read : List ℕ → Option (X × List ℕ)) (rest : List ℕ) : List ℕ
@@ -92,11 +92,11 @@ kept-append (x ∷ a) b =
     ∙ ap (λ (l : List StyleRule). l ++ filter has_declaration (flat_map (λ rules. rules) b))
     (sym (filter-append x (flat_map (λ rules. rules) a)))
 
--- a rest and the place where it begins
-pub drop_place : (text rest : List ℕ) → Ends text rest → drop (rest_place text rest) text ≡ rest
+-- a rest and the offset where it begins
+pub drop_place : (text rest : List ℕ) → Ends text rest → drop (rest_offset text rest) text ≡ rest
 drop_place text rest e =
-    append_cancel_left (before text rest) (drop (rest_place text rest) text) rest
-    (take-append-drop (rest_place text rest) text ∙ sym e)
+    append_cancel_left (before text rest) (drop (rest_offset text rest) text) rest
+    (take-append-drop (rest_offset text rest) text ∙ sym e)
 
 module _ (edition : Edition) where
   -- the kept rules of a text that is cut where a statement ends
@@ -111,10 +111,10 @@ module _ (edition : Edition) where
       (next_statement-cut edition) refl v text r i u e in
       rw parts (kept-append (each (next_statement edition) u).0 (each (next_statement edition) v).0)
 
-  -- ---- the places at which statements end
+  -- ---- the offsets at which statements end
 
-  behind_statement-takes : Takes (behind_statement edition)
-  behind_statement-takes text =
+  after_statement-takes : Takes (after_statement edition)
+  after_statement-takes text =
       by (next_statement edition text) (next_statement-takes edition text)
     where
       by : (o : Option (List StyleRule × List ℕ)) → Shrinks text o
@@ -122,28 +122,28 @@ module _ (edition : Edition) where
       by None h = tt
       by (Some x) h = h
 
-  rests-none : (text : List ℕ) → next_statement edition text ≡ None → rests_behind edition text ≡ []
-  unfolding rests_behind
+  rests-none : (text : List ℕ) → next_statement edition text ≡ None → rests_after edition text ≡ []
+  unfolding rests_after
   rests-none text e =
-      ap (λ r. r.0) (each-none (behind_statement edition) text
+      ap (λ r. r.0) (each-none (after_statement edition) text
       (ap (option_map (λ (s : List StyleRule × List ℕ). (s.1, s.1))) e))
 
   rests-some : (text rest : List ℕ) (rules : List StyleRule)
       → next_statement edition text ≡ Some (rules, rest)
-      → rests_behind edition text ≡ rest ∷ rests_behind edition rest
-  unfolding rests_behind
+      → rests_after edition text ≡ rest ∷ rests_after edition rest
+  unfolding rests_after
   rests-some text rest rules e =
-      ap (λ r. r.0) (each-some (behind_statement edition) behind_statement-takes text rest rest
+      ap (λ r. r.0) (each-some (after_statement edition) after_statement-takes text rest rest
       (ap (option_map (λ (s : List StyleRule × List ℕ). (s.1, s.1))) e))
 
   -- each of these rests is reached by statements
-  pub rests-reached : (k : ℕ) (text d : List ℕ) → k < length (rests_behind edition text)
-      → Reaches (next_statement edition) (get_or (rests_behind edition text) k d) text
+  pub rests-reached : (k : ℕ) (text d : List ℕ) → k < length (rests_after edition text)
+      → Reaches (next_statement edition) (get_or (rests_after edition text) k d) text
   rests-reached zero text d l =
       elim (option_cases (next_statement edition text)) [
         | inl e ↦ absurd (omega (arith, l, ap length (rests-none text e)))
         | inr found ↦
-            let rests : rests_behind edition text ≡ found.0.1 ∷ rests_behind edition found.0.1 =
+            let rests : rests_after edition text ≡ found.0.1 ∷ rests_after edition found.0.1 =
             rests-some text found.0.1 found.0.0 found.1 in
             rw rests (following text found.0.1 found.0.0 found.1 at_rest)
       ]
@@ -151,28 +151,28 @@ module _ (edition : Edition) where
       elim (option_cases (next_statement edition text)) [
         | inl e ↦ absurd (omega (arith, l, ap length (rests-none text e)))
         | inr found ↦
-            let rests : rests_behind edition text ≡ found.0.1 ∷ rests_behind edition found.0.1 =
+            let rests : rests_after edition text ≡ found.0.1 ∷ rests_after edition found.0.1 =
             rests-some text found.0.1 found.0.0 found.1 in
-            let less : k < length (rests_behind edition found.0.1) =
+            let less : k < length (rests_after edition found.0.1) =
             omega (arith, l, ap length rests) in
             rw rests (following text found.0.1 found.0.0 found.1 (rests-reached k found.0.1 d less))
       ]
 
   -- The rules of a text that is cut where one of its statements ends are those of the front and
   -- then those of the rest.
-  pub keeps_across : (text : List ℕ) (place : ℕ) → IsUtf8 text → StatementEndsAt edition text place
-      → KeepsAcross edition text place
-  keeps_across text place i (k, l, is) =
-      let within : k < length (rests_behind edition text) =
-      omega (arith, l, length-map (rests_behind edition text) (rest_place text)) in
-      let rest : List ℕ = get_or (rests_behind edition text) k [] in
+  pub keeps_across : (text : List ℕ) (offset : ℕ) → IsUtf8 text → StatementEndsAt edition text offset
+      → KeepsAcross edition text offset
+  keeps_across text offset i (k, l, is) =
+      let within : k < length (rests_after edition text) =
+      omega (arith, l, length-map (rests_after edition text) (rest_offset text)) in
+      let rest : List ℕ = get_or (rests_after edition text) k [] in
       let reached : Reaches (next_statement edition) rest text =
       rests-reached k text [] within in
       let ends : Ends text rest =
       (reaches-well (next_statement edition) (next_statement-well edition) rest text reached).0 in
-      let here : rest_place text rest ≡ place =
-      sym (get_or-map (rest_place text) (rests_behind edition text) k [] place within) ∙ is in
-      let there : KeepsAcross edition text (rest_place text rest) =
+      let here : rest_offset text rest ≡ offset =
+      sym (get_or-map (rest_offset text) (rests_after edition text) k [] offset within) ∙ is in
+      let there : KeepsAcross edition text (rest_offset text rest) =
       kept-cut rest text reached i (before text rest) (sym ends)
       ∙ ap (λ (t : List ℕ). kept edition (before text rest) ++ kept edition t)
       (sym (drop_place text rest ends)) in
@@ -191,12 +191,12 @@ module _ (edition : Edition) where
 
   -- a text read in two pieces yields the sheet that it yields as a whole, where its rules are those
   -- of the pieces
-  sheet-across : (texts : List (List ℕ)) (text : List ℕ) (place : ℕ)
-      → KeepsAcross edition text place → sheet edition
-      ((texts ++ take place text ∷ []) ++ drop place text ∷ []) ≡ sheet edition (texts ++ text ∷ [])
-  sheet-across texts text place e =
-      let front : List ℕ = take place text in
-      let rest : List ℕ = drop place text in
+  sheet-across : (texts : List (List ℕ)) (text : List ℕ) (offset : ℕ)
+      → KeepsAcross edition text offset → sheet edition
+      ((texts ++ take offset text ∷ []) ++ drop offset text ∷ []) ≡ sheet edition (texts ++ text ∷ [])
+  sheet-across texts text offset e =
+      let front : List ℕ = take offset text in
+      let rest : List ℕ = drop offset text in
       ap ordered (kept-more (texts ++ front ∷ []) rest
       ∙ ap (λ (rules : List StyleRule). rules ++ kept edition rest) (kept-more texts front)
       ∙ append_assoc (flat_map (kept edition) texts) (kept edition front) (kept edition rest)
@@ -207,17 +207,17 @@ module _ (edition : Edition) where
   -- statement of a text has ended.
   pub goes_on : (old : List StyleRule) (text : List ℕ) (new : List StyleRule)
       → ((texts : List (List ℕ)) → old ≡ sheet edition texts
-      → new ≡ sheet edition (texts ++ text ∷ [])) → GoesOn edition old text new
-  goes_on old text new adds texts whole place i ends is before =
-      adds (texts ++ take place whole ∷ []) before
-      ∙ ap (λ (t : List ℕ). sheet edition ((texts ++ take place whole ∷ []) ++ t ∷ [])) is
-      ∙ sheet-across texts whole place (keeps_across whole place i ends)
+      → new ≡ sheet edition (texts ++ text ∷ [])) → ContinuesReading edition old text new
+  goes_on old text new adds texts whole offset i ends is before =
+      adds (texts ++ take offset whole ∷ []) before
+      ∙ ap (λ (t : List ℕ). sheet edition ((texts ++ take offset whole ∷ []) ++ t ∷ [])) is
+      ∙ sheet-across texts whole offset (keeps_across whole offset i ends)
 
 -- the same of a call that may find no memory
 pub goes_on-ok : {T E : Type 0} (result : Result T E) (edition : Edition) (old : List StyleRule)
     (text : List ℕ) (new : List StyleRule)
     → ((texts : List (List ℕ)) → old ≡ sheet edition texts
     → OnOk result (new ≡ sheet edition (texts ++ text ∷ [])))
-    → OnOk result (GoesOn edition old text new)
+    → OnOk result (ContinuesReading edition old text new)
 goes_on-ok (Ok x) edition old text new adds = goes_on edition old text new adds
 goes_on-ok (Err e) edition old text new adds = tt

@@ -15,13 +15,13 @@ use Rattle.simplecss_text.specs.TokenSequences.{TokenSequence, answered, ending_
 use Rattle.simplecss_text.specs.TokenSequences.TokenSequence.{item, sequence_end}
 use Rattle.simplecss_text.specs.Selectors.{Outcome, Role, after_role, outcome, with_role, role_of}
 use Rattle.simplecss_text.specs.Selectors.Outcome.{accepted, refused}
-use Rattle.simplecss_text.specs.Selectors.Role.{joint}
-use Rattle.simplecss_text.proofs.reading.EndsLaws.{length-ends, no_texts}
-use Rattle.simplecss_text.proofs.reading.StandLaws.{sees_nothing}
-use Rattle.simplecss_text.proofs.reading.SequenceStandLaws.{SequenceStands, sequence_from-stands}
-use Rattle.simplecss_text.proofs.reading.LocalLaws.{Along, To}
-use Rattle.simplecss_text.proofs.reading.TakesLaws.{length-past_one}
-use Rattle.simplecss_text.proofs.reading.KindLaws.{NamesStart, between-both, between-case, fault_ending-case}
+use Rattle.simplecss_text.specs.Selectors.Role.{joined_by}
+use Rattle.simplecss_text.proofs.reading.EndsLemmas.{length-ends, no_texts}
+use Rattle.simplecss_text.proofs.reading.StandLemmas.{sees_nothing}
+use Rattle.simplecss_text.proofs.reading.SequenceEndLemmas.{SequenceStands, sequence_from-stands}
+use Rattle.simplecss_text.proofs.reading.LocalLemmas.{Diverge, To}
+use Rattle.simplecss_text.proofs.reading.TakesLemmas.{length-past_one}
+use Rattle.simplecss_text.proofs.reading.KindLemmas.{NamesStart, between-both, between-case, fault_ending-case}
 
 -- what an outcome leaves to read
 abbrev pub left_of : Outcome → List ℕ
@@ -30,9 +30,9 @@ left_of (accepted roles left) = left
 
 -- the same has come out, and the byte g was not passed
 pub data OutcomesAlike (g : ℕ) (t u : List ℕ) : Outcome → Outcome → Type 0 where
-  both_refused : (a b : List ℕ) → Along (g ∷ t) (g ∷ u) a b
+  both_refused : (a b : List ℕ) → Diverge (g ∷ t) (g ∷ u) a b
       → OutcomesAlike g t u (refused a) (refused b)
-  both_accepted : (roles : List Role) (a b : List ℕ) → Along (g ∷ t) (g ∷ u) a b
+  both_accepted : (roles : List Role) (a b : List ℕ) → Diverge (g ∷ t) (g ∷ u) a b
       → OutcomesAlike g t u (accepted roles a) (accepted roles b)
 
 -- of two outcomes, the first has passed the byte g, or both are alike
@@ -56,14 +56,14 @@ with_role-guard g t u role a b (inr (both_accepted roles x y k)) =
     inr (both_accepted (role ∷ roles) x y k)
 
 pub after_role-guard : (g : ℕ) (t u : List ℕ) (role : Option Role) (x y : List ℕ) (a b : Outcome)
-    → Along (g ∷ t) (g ∷ u) x y → OutcomeGuard g t u a b
+    → Diverge (g ∷ t) (g ∷ u) x y → OutcomeGuard g t u a b
     → OutcomeGuard g t u (after_role role x a) (after_role role y b)
 after_role-guard g t u (Some role) x y a b k h = with_role-guard g t u role a b h
 after_role-guard g t u None x y a b k h = inr (both_refused x y k)
 
 -- a gap's combinator, and then what comes
 pub answered-guard : (g : ℕ) (t u : List ℕ) (side : Side) (spaced : Bool) (kind : NextKind)
-    (a x b y : List ℕ) (p q : TokenSequence) → Along (g ∷ t) (g ∷ u) a b
+    (a x b y : List ℕ) (p q : TokenSequence) → Diverge (g ∷ t) (g ∷ u) a b
     → To true (g ∷ t) (g ∷ u) x y → OutcomeGuard g t u (outcome p) (outcome q)
     → OutcomeGuard g t u (outcome (answered (between side spaced kind a x) a p))
     (outcome (answered (between side spaced kind b y) b q))
@@ -71,14 +71,14 @@ answered-guard g t u side spaced kind a x b y p q h k c =
     between-both
     (λ one other. OutcomeGuard g t u (outcome (answered one a p))
     (outcome (answered other b q))) side spaced kind a x b y
-    c (λ e. with_role-guard g t u (joint descendant) (outcome p) (outcome q) c)
+    c (λ e. with_role-guard g t u (joined_by descendant) (outcome p) (outcome q) c)
     (λ f e n. inr (both_refused a b h)) (λ f e. refused-guard g t u x y k)
 
 with_role-passed : (n : ℕ) (role : Role) (o : Outcome) → length (left_of o) ≤ n
     → length (left_of (with_role role o)) ≤ n
 with_role-passed n role o l = rw (left_of-with_role role o) l
 
--- where the places that the table names leave no more than n bytes
+-- where the offsets that the table names leave no more than n bytes
 pub answered-passed : (n : ℕ) (side : Side) (spaced : Bool) (kind : NextKind) (start after : List ℕ)
     (next : TokenSequence) → (NamesStart kind → length start ≤ n) → length after ≤ n
     → length (left_of (outcome next)) ≤ n
@@ -86,7 +86,7 @@ pub answered-passed : (n : ℕ) (side : Side) (spaced : Bool) (kind : NextKind) 
 answered-passed n side spaced kind start after next s a l =
     between-case (λ answer. length (left_of (outcome (answered answer start next))) ≤ n) side spaced
     kind start after
-    l (λ e. with_role-passed n (joint descendant) (outcome next) l) (λ f k. s k) (λ f. a)
+    l (λ e. with_role-passed n (joined_by descendant) (outcome next) l) (λ f k. s k) (λ f. a)
 
 pub after_role-passed : (n : ℕ) (role : Option Role) (after : List ℕ) (o : Outcome)
     → length after ≤ n → length (left_of o) ≤ n → length (left_of (after_role role after o)) ≤ n

@@ -10,14 +10,14 @@ use Rattle.simplecss_text.specs.Selectors.{reads}
 use Rattle.simplecss_text.specs.Declarations.{StyleDeclaration}
 use Rattle.simplecss_text.specs.Blocks.{block}
 use Rattle.simplecss_text.specs.Statements.{StyleRule, part, part_and_comma, parts, next_block, rule_set}
-use Rattle.simplecss_text.proofs.reading.TakesLaws.{length-past}
-use Rattle.simplecss_text.proofs.reading.DeclarationLaws.{length-block}
-use Rattle.simplecss_text.proofs.reading.StatementLaws.{length-part, length-parts, part_and_comma-takes}
-use Rattle.simplecss_text.proofs.reading.LocalLaws.{Along, at, on, To, Equal, Step, Repeats, each-repeats, past-along, past-both, past_byte-to, pairs-equal, Same}
-use Rattle.simplecss_text.proofs.reading.EndsLaws.{ends-ends, ends-past}
-use Rattle.simplecss_text.proofs.bytes.Utf8Laws.{utf8-behind}
-use Rattle.simplecss_text.proofs.reading.WellLaws.{each-well, found-text}
-use Rattle.simplecss_text.proofs.bytes.Utf8Laws.{utf8-past_byte_if}
+use Rattle.simplecss_text.proofs.reading.TakesLemmas.{length-past}
+use Rattle.simplecss_text.proofs.reading.DeclarationLemmas.{length-block}
+use Rattle.simplecss_text.proofs.reading.StatementTextLemmas.{length-part, length-parts, part_and_comma-takes}
+use Rattle.simplecss_text.proofs.reading.LocalLemmas.{Diverge, at, on, To, Equal, Step, Repeats, each-repeats, past-diverge, past-both, past_byte-to, pairs-equal, Same}
+use Rattle.simplecss_text.proofs.reading.EndsLemmas.{ends-ends, ends-past}
+use Rattle.simplecss_text.proofs.bytes.Utf8Lemmas.{utf8-after}
+use Rattle.simplecss_text.proofs.reading.WellLemmas.{each-well, found-text}
+use Rattle.simplecss_text.proofs.bytes.Utf8Lemmas.{utf8-past_byte_if}
 use Rattle.simplecss_text.proofs.cutting.StatementEnds.{part_and_comma-well, parts-ends}
 use Rattle.simplecss_text.proofs.cutting.BlockEndGuards.{Exact}
 use Rattle.simplecss_text.proofs.cutting.BlockCuts.{Lost, BlockSame, block-same}
@@ -48,7 +48,7 @@ module _ (edition : Edition) where
       (omega (arith, length-past (λ b. not (b == 123)) x))
 
   opened-same : (u v whole x y : List ℕ) → IsUtf8 whole → Ends whole x
-      → Along (125 ∷ (u ++ v)) (125 ∷ u) x y
+      → Diverge (125 ∷ (u ++ v)) (125 ∷ u) x y
       → BlockSame (u ++ v) u (if starts 123 x then block edition (past_one x) else ([], []))
       (if starts 123 y then block edition (past_one y) else ([], []))
   opened-same u v whole x y w e at = inl (inr refl)
@@ -58,13 +58,13 @@ module _ (edition : Edition) where
           → BlockSame (u ++ v) u (if k then block edition x1 else ([], []))
           (if k then block edition y1 else ([], []))
       by true f =
-          block-same edition u v x1 y1 (utf8-behind whole x1 b (omega
+          block-same edition u v x1 y1 (utf8-after whole x1 b (omega
           (arith, eqb-true b 123 f)) w e)
           h
       by false f = inl (inr refl)
 
   next_block-same : (u v whole r s : List ℕ) → IsUtf8 whole → Ends whole r
-      → Along (125 ∷ (u ++ v)) (125 ∷ u) r s
+      → Diverge (125 ∷ (u ++ v)) (125 ∷ u) r s
       → BlockSame (u ++ v) u (next_block edition r) (next_block edition s)
   unfolding next_block
   next_block-same u v whole r s w e h =
@@ -78,7 +78,7 @@ module _ (edition : Edition) where
       by x y f (inl l) = inl (opened-lost (u ++ v) x l)
       by x y f (inr k) = opened-same u v whole x y w f k
 
-  pub part-same : (u v r s : List ℕ) → IsUtf8 r → Along (125 ∷ (u ++ v)) (125 ∷ u) r s
+  pub part-same : (u v r s : List ℕ) → IsUtf8 r → Diverge (125 ∷ (u ++ v)) (125 ∷ u) r s
       → Same (u ++ v) u (part edition r) (part edition s)
   unfolding part
   part-same u v r s w h =
@@ -87,7 +87,7 @@ module _ (edition : Edition) where
       by : (a b : Option (List Component) × List ℕ) → Same (u ++ v) u a b
           → Same (u ++ v) u (a.0, past is_space a.1) (b.0, past is_space b.1)
       by a b (inl l) = inl (omega (arith, length-past is_space a.1))
-      by a b (inr k) = inr (k.0, past-along 125 (u ++ v) u is_space refl a.1 b.1 k.1)
+      by a b (inr k) = inr (k.0, past-diverge 125 (u ++ v) u is_space refl a.1 b.1 k.1)
 
   comma-step : (t u r s : List ℕ) (a b : Option (List Component) × List ℕ) → Same t u a b
       → (length a.1 ≤ length t → PartPasses edition t r)
@@ -109,7 +109,7 @@ module _ (edition : Edition) where
       by false false = tt
   comma-step t u r s (a, x) (b, y) (inr (e, k)) stuck = one x y k
     where
-      one : (c d : List ℕ) → Along (125 ∷ t) (125 ∷ u) c d
+      one : (c d : List ℕ) → Diverge (125 ∷ t) (125 ∷ u) c d
           → Step Equal (PartPasses edition t) 125 t u r
           (if starts 44 c then Some (a, past_one c) else None)
           (if starts 44 d then Some (b, past_one d) else None)
@@ -122,7 +122,7 @@ module _ (edition : Edition) where
           by true = inr (e, h)
           by false = tt
 
-  pub parts-same : (u v r s : List ℕ) → IsUtf8 r → Along (125 ∷ (u ++ v)) (125 ∷ u) r s
+  pub parts-same : (u v r s : List ℕ) → IsUtf8 r → Diverge (125 ∷ (u ++ v)) (125 ∷ u) r s
       → Same (u ++ v) u (parts edition r) (parts edition s)
   unfolding parts
   parts-same u v r s w h =
@@ -159,7 +159,7 @@ module _ (edition : Edition) where
           last a.0 b.0 (part edition a.1) (part edition b.1) (pairs-equal a.0 b.0 k.0)
           (part-same u v a.1 b.1 z k.1)
 
-  pub rule_set-same : (u v r s : List ℕ) → IsUtf8 r → Along (125 ∷ (u ++ v)) (125 ∷ u) r s
+  pub rule_set-same : (u v r s : List ℕ) → IsUtf8 r → Diverge (125 ∷ (u ++ v)) (125 ∷ u) r s
       → RulesSame (u ++ v) u (rule_set edition r) (rule_set edition s)
   unfolding rule_set
   rule_set-same u v r s w h =
@@ -189,7 +189,7 @@ module _ (edition : Edition) where
           (next_block-same u v x a.1 b.1 z f k)
 
       comma : (x y : List ℕ) → IsUtf8 x
-          → (length x < length (125 ∷ (u ++ v))) ⊎ Along (125 ∷ (u ++ v)) (125 ∷ u) x y
+          → (length x < length (125 ∷ (u ++ v))) ⊎ Diverge (125 ∷ (u ++ v)) (125 ∷ u) x y
           → RulesSame (u ++ v) u (
             map (λ selector. record {
               components = selector;

@@ -9,22 +9,22 @@ use Rattle.simplecss_text.specs.declared.next_kind.NextKind.{NextKind}
 use Rattle.simplecss_text.specs.declared.next_kind.NextKind.TheVariants.{Stop, Slash, Child, Adjacent, Universal, Id, Class, Attribute, Colon, Other}
 use Rattle.simplecss_text.specs.Tokens.{Token}
 use Rattle.simplecss_text.specs.Pieces.{next_kind, solid_as, solid}
-use Rattle.simplecss_text.specs.Neighbours.{Side, side_behind}
+use Rattle.simplecss_text.specs.Neighbours.{Side, side_after}
 use Rattle.simplecss_text.specs.Neighbours.Side.{open_side}
 use Rattle.simplecss_text.specs.TokenSequences.{sequence_from, token_then}
 use Rattle.simplecss_text.specs.Selectors.{outcome, role_of, Outcome, reads, selector_of}
 use Rattle.simplecss_text.specs.Selectors.Outcome.{refused, accepted}
-use Rattle.simplecss_text.proofs.reading.TakesLaws.{Cuts}
-use Rattle.simplecss_text.proofs.reading.EndsLaws.{length-ends}
-use Rattle.simplecss_text.proofs.reading.KindLaws.{NamesStart, solid-kind_known}
-use Rattle.simplecss_text.proofs.reading.PiecesLawful.{next_kind-along, solid-cuts, solid-lawful, gap-guarded}
+use Rattle.simplecss_text.proofs.reading.TakesLemmas.{Cuts}
+use Rattle.simplecss_text.proofs.reading.EndsLemmas.{length-ends}
+use Rattle.simplecss_text.proofs.reading.KindLemmas.{NamesStart, solid-kind_known}
+use Rattle.simplecss_text.proofs.reading.PiecesLawful.{next_kind-diverge, solid-cuts, solid-lawful, gap-guarded}
 use Rattle.simplecss_text.proofs.reading.Lawful.{lawful-guarded, lawful-text}
-use Rattle.simplecss_text.proofs.reading.WellLaws.{well-gap}
+use Rattle.simplecss_text.proofs.reading.WellLemmas.{well-gap}
 use Rattle.simplecss_text.proofs.reading.SequenceSteps.{solid_sequence, gap_sequence, sequence_from-by}
-use Rattle.simplecss_text.proofs.reading.LocalLaws.{Along, Equal, Guard, at, longer-along, on, past_one-along, Same}
+use Rattle.simplecss_text.proofs.reading.LocalLemmas.{Diverge, Equal, Guard, at, longer-diverge, on, past_one-diverge, Same}
 use Rattle.simplecss_text.proofs.cutting.OutcomeGuards.{OutcomeGuard, IsSolid, both_accepted, both_refused, after_role-guard, after_role-passed, answered-guard, answered-passed, fault_ending-outcome, fault_ending-within, left_of, left_of-sequence, open_gap-outcome}
 
--- where a solid piece leaves no more than n bytes, so does the place where it begins, if the table
+-- where a solid piece leaves no more than n bytes, so does the offset where it begins, if the table
 -- of neighbours may name that
 abbrev pub Passed : ℕ → NextKind → List ℕ → Reading Token → Type 0
 Passed n kind start (got token after) = NamesStart kind → length after ≤ n → length start ≤ n
@@ -36,17 +36,17 @@ passed-unnamed n kind start (got token after) unnamed = λ k l. absurd (unnamed 
 passed-unnamed n kind start (fails fault after) unnamed = tt
 
 -- a piece of one byte does not begin with the brace
-one_byte : (t u r s : List ℕ) → Along (125 ∷ t) (125 ∷ u) r s → (next_kind r ≡ Other → ⊥)
+one_byte : (t u r s : List ℕ) → Diverge (125 ∷ t) (125 ∷ u) r s → (next_kind r ≡ Other → ⊥)
     → length (past_one r) ≤ length t → length r ≤ length t
 unfolding next_kind
 one_byte t u r s at other l = absurd (other refl)
 one_byte t u r s (on b r1 s1 h) other l =
-    absurd (omega (arith, l, longer-along (125 ∷ t) (125 ∷ u) r1 s1 h))
+    absurd (omega (arith, l, longer-diverge (125 ∷ t) (125 ∷ u) r1 s1 h))
 
 -- the sequence after every shorter text is guarded
 abbrev SequencesGuarded : Edition → ℕ → List ℕ → List ℕ → Type 0
 SequencesGuarded edition n t u =
-    (side : Side) (r s : List ℕ) → length r ≤ n → IsUtf8 r → Along (125 ∷ t) (125 ∷ u) r s
+    (side : Side) (r s : List ℕ) → length r ≤ n → IsUtf8 r → Diverge (125 ∷ t) (125 ∷ u) r s
     → OutcomeGuard 125 t u (outcome (sequence_from edition side r))
     (outcome (sequence_from edition side s))
 
@@ -58,7 +58,7 @@ selector_of-same t u (refused x) b (inl l) = inl l
 selector_of-same t u (accepted roles x) b (inl l) = inl l
 
 module _ (edition : Edition) where
-  pub solid_as-passed : (t u r s : List ℕ) → Along (125 ∷ t) (125 ∷ u) r s → (kind : NextKind)
+  pub solid_as-passed : (t u r s : List ℕ) → Diverge (125 ∷ t) (125 ∷ u) r s → (kind : NextKind)
       → next_kind r ≡ kind → Passed (length t) kind r (solid_as edition kind r)
   solid_as-passed t u r s h Stop k = tt
   solid_as-passed t u r s h Slash k = tt
@@ -74,7 +74,7 @@ module _ (edition : Edition) where
   -- where a solid piece is read, or its fault
   piece-guard : (n : ℕ) (t u : List ℕ) → SequencesGuarded edition n t u
       → (side : Side) (spaced : Bool) (kind : NextKind) (r s : List ℕ) (x y : Reading Token)
-      → IsSolid kind → length r ≤ suc n → Along (125 ∷ t) (125 ∷ u) r s → Cuts r x
+      → IsSolid kind → length r ≤ suc n → Diverge (125 ∷ t) (125 ∷ u) r s → Cuts r x
       → IsUtf8 (left_after x) → Passed (length t) kind r x
       → Guard Equal true (125 ∷ t) (125 ∷ u) x y
       → OutcomeGuard 125 t u (outcome (solid_sequence edition side spaced kind r x))
@@ -82,38 +82,38 @@ module _ (edition : Edition) where
   piece-guard n t u runs side spaced kind r s (fails f p) y w l h c z k (inl less) =
       inl (rw (fault_ending-outcome side kind spaced r f p w) less)
   piece-guard n t u runs side spaced kind r s (fails f p) (fails e q) w l h c z k
-      (inr along) =
+      (inr diverge) =
       rw (
         fault_ending-outcome side kind spaced r f p w,
         fault_ending-outcome side kind spaced s e q
             w,
-      ) (inr (both_refused p q along))
-  piece-guard n t u runs side spaced kind r s (fails f p) (got y q) w l h c z k (inr along) =
-      absurd along
-  piece-guard n t u runs side spaced kind r s (got x p) (fails e q) w l h c z k (inr along) =
-      absurd along
+      ) (inr (both_refused p q diverge))
+  piece-guard n t u runs side spaced kind r s (fails f p) (got y q) w l h c z k (inr diverge) =
+      absurd diverge
+  piece-guard n t u runs side spaced kind r s (got x p) (fails e q) w l h c z k (inr diverge) =
+      absurd diverge
   piece-guard n t u runs side spaced kind r s (got x p) y w l h c z k (inl less) =
       inl (answered-passed (length t) side spaced kind r p
-      (token_then x p (sequence_from edition (side_behind kind) p)) (λ m. k m less) less
+      (token_then x p (sequence_from edition (side_after kind) p)) (λ m. k m less) less
       (after_role-passed (length t) (role_of x) p
-      (outcome (sequence_from edition (side_behind kind) p)) less
-      (left_of-sequence edition (side_behind kind) (length t) p less)))
+      (outcome (sequence_from edition (side_after kind) p)) less
+      (left_of-sequence edition (side_after kind) (length t) p less)))
   piece-guard n t u runs side spaced kind r s (got x p) (got y q) w l h c z k
-      (inr (e, along)) =
+      (inr (e, diverge)) =
       subst (λ (z : Token). OutcomeGuard 125 t u
       (outcome (solid_sequence edition side spaced kind r (got x p)))
       (outcome (solid_sequence edition side spaced kind s (got z q)))) e
       (answered-guard 125 t u side spaced kind r p s q
-      (token_then x p (sequence_from edition (side_behind kind) p))
-      (token_then x q (sequence_from edition (side_behind kind) q)) h (inr along)
+      (token_then x p (sequence_from edition (side_after kind) p))
+      (token_then x q (sequence_from edition (side_after kind) q)) h (inr diverge)
       (after_role-guard 125 t u (role_of x) p q (outcome (sequence_from edition
-      (side_behind kind) p))
-      (outcome (sequence_from edition (side_behind kind) q)) along
-      (runs (side_behind kind) p q (omega arith) z along)))
+      (side_after kind) p))
+      (outcome (sequence_from edition (side_after kind) q)) diverge
+      (runs (side_after kind) p q (omega arith) z diverge)))
 
   solid_sequence-guard : (n : ℕ) (u v : List ℕ) → SequencesGuarded edition n (u ++ v) u
       → (side : Side) (spaced : Bool) (r s : List ℕ) → length r ≤ suc n → IsUtf8 r
-      → Along (125 ∷ (u ++ v)) (125 ∷ u) r s
+      → Diverge (125 ∷ (u ++ v)) (125 ∷ u) r s
       → OutcomeGuard 125 (u ++ v) u (outcome
       (solid_sequence edition side spaced (next_kind r) r (solid edition r)))
       (outcome (solid_sequence edition side spaced (next_kind s) s (solid edition s)))
@@ -121,7 +121,7 @@ module _ (edition : Edition) where
       rw (sym same) (by (next_kind r) refl)
     where
       same : next_kind r ≡ next_kind s
-      same = next_kind-along 125 (u ++ v) u r s h
+      same = next_kind-diverge 125 (u ++ v) u r s h
 
       ended : OutcomeGuard 125 (u ++ v) u (accepted [] r) (accepted [] s)
       ended = inr (both_accepted [] r s h)
@@ -157,7 +157,7 @@ module _ (edition : Edition) where
       by Slash k =
           as_read Slash k
           (answered-guard 125 (u ++ v) u side spaced Slash r (past_one r) s (past_one s) _ _ h
-          (past_one-along 125 (u ++ v) u r s h) ended)
+          (past_one-diverge 125 (u ++ v) u r s h) ended)
       by Child k = piece Child tt k
       by Adjacent k = piece Adjacent tt k
       by Universal k = piece Universal tt k
@@ -173,9 +173,9 @@ module _ (edition : Edition) where
   solid_sequence-within n side spaced kind start (got x p) l c =
       let less : length p ≤ n = omega (arith, c, l) in
       answered-passed n side spaced kind start p
-      (token_then x p (sequence_from edition (side_behind kind) p)) (λ k. l) less
-      (after_role-passed n (role_of x) p (outcome (sequence_from edition (side_behind kind) p)) less
-      (left_of-sequence edition (side_behind kind) n p less))
+      (token_then x p (sequence_from edition (side_after kind) p)) (λ k. l) less
+      (after_role-passed n (role_of x) p (outcome (sequence_from edition (side_after kind) p)) less
+      (left_of-sequence edition (side_after kind) n p less))
   solid_sequence-within n side spaced kind start (fails f p) l c =
       fault_ending-within n side kind spaced start f p l (omega (arith, c, l))
 
@@ -193,26 +193,26 @@ module _ (edition : Edition) where
       (outcome (gap_sequence edition side y))
   gap_sequence-guard n u v runs side x y l z (inl less) =
       inl (gap_sequence-within (length (u ++ v)) side x less)
-  gap_sequence-guard n u v runs side (fails f p) (fails e q) l z (inr along) =
-      rw (open_gap-outcome side f p, open_gap-outcome side e q) (inr (both_refused p q along))
-  gap_sequence-guard n u v runs side (fails f p) (got y q) l z (inr along) = absurd along
-  gap_sequence-guard n u v runs side (got x p) (fails f q) l z (inr along) = absurd along
-  gap_sequence-guard n u v runs side (got x p) (got y q) l z (inr (e, along)) =
+  gap_sequence-guard n u v runs side (fails f p) (fails e q) l z (inr diverge) =
+      rw (open_gap-outcome side f p, open_gap-outcome side e q) (inr (both_refused p q diverge))
+  gap_sequence-guard n u v runs side (fails f p) (got y q) l z (inr diverge) = absurd diverge
+  gap_sequence-guard n u v runs side (got x p) (fails f q) l z (inr diverge) = absurd diverge
+  gap_sequence-guard n u v runs side (got x p) (got y q) l z (inr (e, diverge)) =
       subst (λ (z : Bool). OutcomeGuard 125 (u ++ v) u
       (outcome (solid_sequence edition side x (next_kind p) p (solid edition p)))
       (outcome (solid_sequence edition side z (next_kind q) q (solid edition q)))) e
-      (solid_sequence-guard n u v runs side x p q l z along)
+      (solid_sequence-guard n u v runs side x p q l z diverge)
 
   sequence_from-guard : (u v : List ℕ) (n : ℕ) → SequencesGuarded edition n (u ++ v) u
   sequence_from-guard u v zero left r s l z h =
-      absurd (omega (arith, l, longer-along (125 ∷ (u ++ v)) (125 ∷ u) r s h))
+      absurd (omega (arith, l, longer-diverge (125 ∷ (u ++ v)) (125 ∷ u) r s h))
   sequence_from-guard u v (suc n) left r s l z h =
       rw (sequence_from-by edition left r, sequence_from-by edition left s)
       (gap_sequence-guard n u v (sequence_from-guard u v n) left (gap r) (gap s)
       (omega (arith, l, length-ends r (left_after (gap r)) (well-gap r).0)) ((well-gap r).1 z)
       (gap-guarded u v r s h))
 
-  pub selectors-guarded : (u v r s : List ℕ) → IsUtf8 r → Along (125 ∷ (u ++ v)) (125 ∷ u) r s
+  pub selectors-guarded : (u v r s : List ℕ) → IsUtf8 r → Diverge (125 ∷ (u ++ v)) (125 ∷ u) r s
       → Same (u ++ v) u (reads edition r) (reads edition s)
   unfolding reads
   selectors-guarded u v r s z h =

@@ -10,19 +10,19 @@ use Rattle.simplecss_text.specs.Comments.{past_blank}
 use Rattle.simplecss_text.specs.Names.{name}
 use Rattle.simplecss_text.specs.Blocks.{from_block_end}
 use Rattle.simplecss_text.specs.Statements.{StyleRule, ends_statements, next_statement, at_rule_rest, rule_set, statement}
-use Rattle.simplecss_text.proofs.reading.EndsLaws.{ends-ends, ends-got, ends-past, ends-same, ends-tail, length-ends}
-use Rattle.simplecss_text.proofs.reading.StandLaws.{name-stands, ends-past_blank}
-use Rattle.simplecss_text.proofs.bytes.Utf8Laws.{utf8-behind}
-use Rattle.simplecss_text.proofs.reading.WellLaws.{EndsWell, well-behind, well-name, well-nil, well-past_blank, well-then}
-use Rattle.simplecss_text.proofs.reading.EachLaws.{not_empty}
-use Rattle.simplecss_text.proofs.reading.LocalLaws.{Along, To, along-front, at, longer-along, on, starts-along}
-use Rattle.simplecss_text.proofs.reading.SearchLaws.{Plain, brace_plain, opens_comment-along, past_blank-to}
+use Rattle.simplecss_text.proofs.reading.EndsLemmas.{ends-ends, ends-got, ends-past, ends-same, ends-tail, length-ends}
+use Rattle.simplecss_text.proofs.reading.StandLemmas.{name-stands, ends-past_blank}
+use Rattle.simplecss_text.proofs.bytes.Utf8Lemmas.{utf8-after}
+use Rattle.simplecss_text.proofs.reading.WellLemmas.{EndsWell, well-after, well-name, well-nil, well-past_blank, well-then}
+use Rattle.simplecss_text.proofs.reading.EachLemmas.{not_empty}
+use Rattle.simplecss_text.proofs.reading.LocalLemmas.{Diverge, To, diverge-front, at, longer-diverge, on, starts-diverge}
+use Rattle.simplecss_text.proofs.reading.SearchLemmas.{Plain, brace_plain, opens_comment-diverge, past_blank-to}
 use Rattle.simplecss_text.proofs.reading.DeclarationsLawful.{ends-from_block_end}
-use Rattle.simplecss_text.proofs.cutting.BlockEndGuards.{Exact, before_it, behind_it}
+use Rattle.simplecss_text.proofs.cutting.BlockEndGuards.{Exact, before_it, after_it}
 use Rattle.simplecss_text.proofs.cutting.RuleSetCuts.{RulesSame, rule_set-same}
-use Rattle.simplecss_text.proofs.cutting.AtRuleCuts.{at_rule-block, at_rule-fault, at_rule-semicolon, along-at}
-use Rattle.simplecss_text.proofs.cutting.StatementEnds.{AtRuleEnds, BehindBrace, at_block, at_fault, at_rule-ends, at_semicolon, rule_set-behind, uses_up}
-use Rattle.simplecss_text.proofs.bytes.Utf8Laws.{utf8-first}
+use Rattle.simplecss_text.proofs.cutting.AtRuleCuts.{at_rule-block, at_rule-fault, at_rule-semicolon, diverge-at}
+use Rattle.simplecss_text.proofs.cutting.StatementEnds.{AtRuleEnds, AfterBrace, at_block, at_fault, at_rule-ends, at_semicolon, rule_set-after, uses_up}
+use Rattle.simplecss_text.proofs.bytes.Utf8Lemmas.{utf8-first}
 
 -- ---- how a blank and a statement end
 
@@ -39,30 +39,30 @@ pub data NextEnds (edition : Edition) (text : List ℕ) (rules : List StyleRule)
 -- ---- the texts before and after a cut
 
 -- a text and its front, from after an ASCII byte on
-pub along-of : (g : ℕ) (u v w : List ℕ) → Ends (u ++ v) (g ∷ (w ++ v))
-    → Along (g ∷ (w ++ v)) (g ∷ w) (u ++ v) u
-along-of g u v w e =
+pub diverge-of : (g : ℕ) (u v w : List ℕ) → Ends (u ++ v) (g ∷ (w ++ v))
+    → Diverge (g ∷ (w ++ v)) (g ∷ w) (u ++ v) u
+diverge-of g u v w e =
     let front : List ℕ = before (u ++ v) (g ∷ (w ++ v)) in
     let parts : front ++ g ∷ (w ++ v) ≡ u ++ v = e in
     let same : front ++ g ∷ w ≡ u =
     append_cancel_right (front ++ g ∷ w) u v (append_assoc front (g ∷ w) v ∙ parts) in
-    let along : Along (g ∷ (w ++ v)) (g ∷ w) (front ++ g ∷ (w ++ v)) (front ++ g ∷ w) =
-    along-front (g ∷ (w ++ v)) (g ∷ w) front in
-    subst (λ (s : List ℕ). Along (g ∷ (w ++ v)) (g ∷ w) (u ++ v) s) same
-    (subst (λ (r : List ℕ). Along (g ∷ (w ++ v)) (g ∷ w) r (front ++ g ∷ w)) parts along)
+    let diverge : Diverge (g ∷ (w ++ v)) (g ∷ w) (front ++ g ∷ (w ++ v)) (front ++ g ∷ w) =
+    diverge-front (g ∷ (w ++ v)) (g ∷ w) front in
+    subst (λ (s : List ℕ). Diverge (g ∷ (w ++ v)) (g ∷ w) (u ++ v) s) same
+    (subst (λ (r : List ℕ). Diverge (g ∷ (w ++ v)) (g ∷ w) r (front ++ g ∷ w)) parts diverge)
 
 -- after the blanks at their fronts
-pub past_blank-along : (g : ℕ) (u v w : List ℕ) → Plain g → Ends (past_blank (u ++ v)) (g ∷ (w ++ v))
-    → Along (g ∷ (w ++ v)) (g ∷ w) (past_blank (u ++ v)) (past_blank u)
-past_blank-along g u v w plain e =
+pub past_blank-diverge : (g : ℕ) (u v w : List ℕ) → Plain g → Ends (past_blank (u ++ v)) (g ∷ (w ++ v))
+    → Diverge (g ∷ (w ++ v)) (g ∷ w) (past_blank (u ++ v)) (past_blank u)
+past_blank-diverge g u v w plain e =
     by (past_blank-to g w v plain (u ++ v) u
-    (along-of g u v w
+    (diverge-of g u v w
     (ends-ends (u ++ v) (past_blank (u ++ v)) (g ∷ (w ++ v)) (ends-past_blank (u ++ v)) e)))
   where
     by : To true (g ∷ (w ++ v)) (g ∷ w) (past_blank (u ++ v)) (past_blank u)
-        → Along (g ∷ (w ++ v)) (g ∷ w) (past_blank (u ++ v)) (past_blank u)
+        → Diverge (g ∷ (w ++ v)) (g ∷ w) (past_blank (u ++ v)) (past_blank u)
     by (inl less) = absurd (omega (arith, less, length-ends (past_blank (u ++ v)) (g ∷ (w ++ v)) e))
-    by (inr along) = along
+    by (inr diverge) = diverge
 
 -- ---- statements
 
@@ -70,31 +70,31 @@ pub sign_plain : Plain 64
 sign_plain = record { space = refl; slash = refl; star = refl }
 
 exact-second : (g : ℕ) (t u r s : List ℕ) → Exact g t u r s → r ≡ t → s ≡ u
-exact-second g t u r s behind_it e = refl
+exact-second g t u r s after_it e = refl
 exact-second g t u r s (before_it a b h) e =
-    absurd (omega (arith, longer-along (g ∷ t) (g ∷ u) r s h, ap length e))
+    absurd (omega (arith, longer-diverge (g ∷ t) (g ∷ u) r s h, ap length e))
 
-ends_statements-along : (t u r s : List ℕ) → Along (125 ∷ t) (125 ∷ u) r s
+ends_statements-diverge : (t u r s : List ℕ) → Diverge (125 ∷ t) (125 ∷ u) r s
     → ends_statements r ≡ ends_statements s
-ends_statements-along t u r s at = rw (not_empty 125 t, not_empty 125 u) refl
-ends_statements-along t u r s (on b r1 s1 h) =
+ends_statements-diverge t u r s at = rw (not_empty 125 t, not_empty 125 u) refl
+ends_statements-diverge t u r s (on b r1 s1 h) =
     rw (not_empty b r1, not_empty b s1)
-    (opens_comment-along 125 t u brace_plain (b ∷ r1) (b ∷ s1) (on b r1 s1 h))
+    (opens_comment-diverge 125 t u brace_plain (b ∷ r1) (b ∷ s1) (on b r1 s1 h))
 
 module _ (edition : Edition) where
   statement-ends : (text : List ℕ) (rules : List StyleRule) (rest : List ℕ)
       → statement edition text ≡ (rules, rest) → NextEnds edition text rules rest
   unfolding statement
-  statement-ends [] rules rest e = of_rules (rule_set-behind edition [])
+  statement-ends [] rules rest e = of_rules (rule_set-after edition [])
     where
-      of_rules : BehindBrace [] (rule_set edition []).1 → NextEnds edition [] rules rest
+      of_rules : AfterBrace [] (rule_set edition []).1 → NextEnds edition [] rules rest
       of_rules (inl h) = text_ends (sym (ap (λ r. r.1) e) ∙ h)
       of_rules (inr h) =
           rules_end refl e (subst (λ (x : List ℕ). Ends [] (125 ∷ x)) (ap (λ r. r.1) e) h)
   statement-ends (b ∷ text) rules rest e = by (b == 64) refl e
     where
       of_rules : (b == 64) ≡ false → rule_set edition (b ∷ text) ≡ (rules, rest)
-          → BehindBrace (b ∷ text) (rule_set edition (b ∷ text)).1
+          → AfterBrace (b ∷ text) (rule_set edition (b ∷ text)).1
           → NextEnds edition (b ∷ text) rules rest
       of_rules f g (inl h) = text_ends (sym (ap (λ r. r.1) g) ∙ h)
       of_rules f g (inr h) =
@@ -106,7 +106,7 @@ module _ (edition : Edition) where
       by true f g =
           at_rule_ends text (ap (λ (c : ℕ). c ∷ text) (eqb-true b 64 f)) (sym (ap (λ r. r.0) g))
           (subst (AtRuleEnds edition text) (ap (λ r. r.1) g) (at_rule-ends edition text))
-      by false f g = of_rules f g (rule_set-behind edition (b ∷ text))
+      by false f g = of_rules f g (rule_set-after edition (b ∷ text))
 
   -- where the statements continue, and how the next one ends
   pub next_statement-ends : (text : List ℕ) (rules : List StyleRule) (rest : List ℕ)
@@ -150,9 +150,9 @@ module _ (edition : Edition) where
   at_rule-well text rest (at_fault fault left e) =
       subst (λ r. EndsWell text (left_after r)) e (well-name edition text)
   at_rule-well text rest (at_semicolon n x left e f) =
-      well-behind 59 text rest (omega arith) (semicolon-front text n x rest e f)
+      well-after 59 text rest (omega arith) (semicolon-front text n x rest e f)
   at_rule-well text rest (at_block n x inner left e f g) =
-      well-behind 125 text rest (omega arith) (block-front text n x inner rest e f g)
+      well-after 125 text rest (omega arith) (block-front text n x inner rest e f g)
 
   -- what is left after a blank and a statement
   next-well : (text start : List ℕ) (rules : List StyleRule) (rest : List ℕ) → Ends text start
@@ -160,9 +160,9 @@ module _ (edition : Edition) where
   next-well text start rules rest b (text_ends e) =
       subst (EndsWell text) (sym e) (well-nil text)
   next-well text start rules rest b (rules_end e f h) =
-      well-behind 125 text rest (omega arith) (ends-ends text start (125 ∷ rest) b h)
+      well-after 125 text rest (omega arith) (ends-ends text start (125 ∷ rest) b h)
   next-well text start rules rest b (at_rule_ends after e f h) =
-      well-then text after rest (well-behind 64 text after (omega arith) (subst (Ends text) e b))
+      well-then text after rest (well-after 64 text after (omega arith) (subst (Ends text) e b))
       (at_rule-well after rest h)
 
   pub next_statement-well : (text rest : List ℕ) (rules : List StyleRule)
@@ -173,7 +173,7 @@ module _ (edition : Edition) where
 
   -- a rule set that ends after a brace
   rule_set-cut : (w v r s : List ℕ) (rules : List StyleRule) → IsUtf8 r
-      → Along (125 ∷ (w ++ v)) (125 ∷ w) r s → rule_set edition r ≡ (rules, w ++ v)
+      → Diverge (125 ∷ (w ++ v)) (125 ∷ w) r s → rule_set edition r ≡ (rules, w ++ v)
       → (w ++ v ≡ []) ⊎ (rule_set edition s ≡ (rules, w))
   rule_set-cut w v r s rules z h e =
       by (rule_set edition r) (rule_set edition s) e (rule_set-same edition w v r s z h)
@@ -199,11 +199,11 @@ module _ (edition : Edition) where
       let following : past (is_neither 59 123) x ≡ 59 ∷ (w ++ v) = g
       ∙ ap (λ (t : List ℕ). 59 ∷ t) e in
       inr (at_rule-semicolon edition (w ++ v) w (s ++ v) s n x whole
-      (along-of 59 s v w (semicolon-front (s ++ v) n x (w ++ v) f following)) f following)
+      (diverge-of 59 s v w (semicolon-front (s ++ v) n x (w ++ v) f following)) f following)
   at_rule-cut s v w rest whole cut e (at_block n x inner left f g h) =
       let following : from_block_end inner ≡ 125 ∷ (w ++ v) = h ∙ ap (λ (t : List ℕ). 125 ∷ t) e in
       inr (at_rule-block edition w v (s ++ v) s n x inner whole
-      (along-of 125 s v w (block-front (s ++ v) n x inner (w ++ v) f g following)) f g following)
+      (diverge-of 125 s v w (block-front (s ++ v) n x inner (w ++ v) f g following)) f g following)
 
   -- ---- the next statement
 
@@ -233,17 +233,17 @@ module _ (edition : Edition) where
       nil : w ++ v ≡ [] → next_statement edition u ≡ Some (rules, w)
       nil n = next-nil u v w rules n e
 
-      ruled : Along (125 ∷ (w ++ v)) (125 ∷ w) (past_blank (u ++ v)) (past_blank u)
+      ruled : Diverge (125 ∷ (w ++ v)) (125 ∷ w) (past_blank (u ++ v)) (past_blank u)
           → ends_statements (past_blank (u ++ v)) ≡ false → starts 64 (past_blank (u ++ v)) ≡ false
           → (w ++ v ≡ []) ⊎ (rule_set edition (past_blank u) ≡ (rules, w))
           → next_statement edition u ≡ Some (rules, w)
-      ruled along more other (inl n) = nil n
-      ruled along more other (inr r) =
+      ruled diverge more other (inl n) = nil n
+      ruled diverge more other (inr r) =
           let sign : starts 64 (past_blank u) ≡ false =
-          sym (starts-along 125 (w ++ v) w 64 (past_blank (u ++ v)) (past_blank u) along)
+          sym (starts-diverge 125 (w ++ v) w 64 (past_blank (u ++ v)) (past_blank u) diverge)
           ∙ other in
           let goes : ends_statements (past_blank u) ≡ false =
-          sym (ends_statements-along (w ++ v) w (past_blank (u ++ v)) (past_blank u) along)
+          sym (ends_statements-diverge (w ++ v) w (past_blank (u ++ v)) (past_blank u) diverge)
           ∙ more in
           next_statement-reads u w rules goes (rw sign r)
 
@@ -263,10 +263,10 @@ module _ (edition : Edition) where
           → next_statement edition u ≡ Some (rules, w)
       by more (text_ends n) = nil n
       by more (rules_end other r h) =
-          let along : Along (125 ∷ (w ++ v)) (125 ∷ w) (past_blank (u ++ v)) (past_blank u) =
-          past_blank-along 125 u v w brace_plain h in
-          ruled along more other (rule_set-cut w v (past_blank (u ++ v)) (past_blank u) rules
-          ((well-past_blank (u ++ v)).1 whole) along r)
+          let diverge : Diverge (125 ∷ (w ++ v)) (125 ∷ w) (past_blank (u ++ v)) (past_blank u) =
+          past_blank-diverge 125 u v w brace_plain h in
+          ruled diverge more other (rule_set-cut w v (past_blank (u ++ v)) (past_blank u) rules
+          ((well-past_blank (u ++ v)).1 whole) diverge r)
       by more (at_rule_ends after is none h) =
           let s : List ℕ = before after (w ++ v) ++ w in
           let parts : after ≡ s ++ v =
@@ -276,12 +276,12 @@ module _ (edition : Edition) where
           (t : List ℕ). 64 ∷ t) parts in
           let following : Ends (past_blank (u ++ v)) (64 ∷ (s ++ v)) =
           subst (Ends (past_blank (u ++ v))) start (ends-same (past_blank (u ++ v))) in
-          let along : Along (64 ∷ (s ++ v)) (64 ∷ s) (past_blank (u ++ v)) (past_blank u) =
-          past_blank-along 64 u v s sign_plain following in
+          let diverge : Diverge (64 ∷ (s ++ v)) (64 ∷ s) (past_blank (u ++ v)) (past_blank u) =
+          past_blank-diverge 64 u v s sign_plain following in
           let whole_after : IsUtf8 (s ++ v) =
-          utf8-behind (u ++ v) (s ++ v) 64 (omega arith) whole
+          utf8-after (u ++ v) (s ++ v) 64 (omega arith) whole
           (ends-ends (u ++ v) (past_blank (u ++ v)) (64 ∷ (s ++ v)) (ends-past_blank (u ++ v))
           following) in
-          at_sign s (along-at 64 (s ++ v) s (past_blank (u ++ v)) (past_blank u) along start) none
+          at_sign s (diverge-at 64 (s ++ v) s (past_blank (u ++ v)) (past_blank u) diverge start) none
           (at_rule-cut s v w (w ++ v) whole_after cut refl
           (subst (λ (t : List ℕ). AtRuleEnds edition t (w ++ v)) parts h))

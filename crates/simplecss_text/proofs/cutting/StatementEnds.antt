@@ -11,13 +11,13 @@ use Rattle.simplecss_text.specs.Selectors.{reads}
 use Rattle.simplecss_text.specs.Declarations.{StyleDeclaration, declaration}
 use Rattle.simplecss_text.specs.Blocks.{block, declaration_in_block, ends_list, from_block_end, past_broken}
 use Rattle.simplecss_text.specs.Statements.{next_block, part, part_and_comma, parts, past_semicolon_or_block, at_rule_rest_by_name, at_rule_rest, rule_set}
-use Rattle.simplecss_text.proofs.reading.EachLaws.{each-stops}
-use Rattle.simplecss_text.proofs.reading.DeclarationLaws.{declaration_in_block-takes}
-use Rattle.simplecss_text.proofs.reading.EndsLaws.{EndsFound, Stands, each-ends, ends-ends, ends-past, ends-past_byte, ends-past_one, ends-tail, no_texts}
-use Rattle.simplecss_text.proofs.reading.WellLaws.{WellFound, found-ends, well-behind}
-use Rattle.simplecss_text.proofs.printed.GotLaws.{starts-cons}
-use Rattle.simplecss_text.proofs.reading.SequenceStandLaws.{reads-ends}
-use Rattle.simplecss_text.proofs.reading.EachLaws.{not_empty}
+use Rattle.simplecss_text.proofs.reading.EachLemmas.{each-stops}
+use Rattle.simplecss_text.proofs.reading.DeclarationLemmas.{declaration_in_block-takes}
+use Rattle.simplecss_text.proofs.reading.EndsLemmas.{EndsFound, Stands, each-ends, ends-ends, ends-past, ends-past_byte, ends-past_one, ends-tail, no_texts}
+use Rattle.simplecss_text.proofs.reading.WellLemmas.{WellFound, found-ends, well-after}
+use Rattle.simplecss_text.proofs.reading.GotLemmas.{starts-cons}
+use Rattle.simplecss_text.proofs.reading.SequenceEndLemmas.{reads-ends}
+use Rattle.simplecss_text.proofs.reading.EachLemmas.{not_empty}
 use Rattle.simplecss_text.proofs.reading.DeclarationsLawful.{declaration-stands, declaration_in_block-ends, ends-from_block_end}
 use Rattle.simplecss_text.proofs.cutting.BlockEndGuards.{no_brace}
 use Rattle.simplecss_text.proofs.cutting.BlockCuts.{at_brace, none_broken}
@@ -39,25 +39,25 @@ starts-is c [] e = absurd (cc)
 starts-is c (b ∷ text) e = rw e (ap (λ (x : ℕ). x ∷ text) (eqb-true b c e))
 
 -- nothing is left, or what is left directly follows a closing brace
-abbrev pub BehindBrace : List ℕ → List ℕ → Type 0
-BehindBrace text rest = (rest ≡ []) ⊎ Ends text (125 ∷ rest)
+abbrev pub AfterBrace : List ℕ → List ℕ → Type 0
+AfterBrace text rest = (rest ≡ []) ⊎ Ends text (125 ∷ rest)
 
-after-from : (text middle rest : List ℕ) → Ends text middle → BehindBrace middle rest
-    → BehindBrace text rest
+after-from : (text middle rest : List ℕ) → Ends text middle → AfterBrace middle rest
+    → AfterBrace text rest
 after-from text middle rest h (inl e) = inl e
 after-from text middle rest h (inr k) = inr (ends-ends text middle (125 ∷ rest) h k)
 
 after-brace : (text rest : List ℕ) → Ends text rest → (rest ≡ []) ⊎ (starts 125 rest ≡ true)
-    → BehindBrace text (past_byte 125 rest)
+    → AfterBrace text (past_byte 125 rest)
 after-brace text rest h (inl e) = inl (ap (past_byte 125) e)
 after-brace text rest h (inr e) = inr (subst (Ends text) (starts-is 125 rest e) h)
 
-after-further : (text rest : List ℕ) → BehindBrace text rest
-    → BehindBrace text (past_byte 125 rest)
+after-further : (text rest : List ℕ) → AfterBrace text rest
+    → AfterBrace text (past_byte 125 rest)
 after-further text rest (inl e) = inl (ap (past_byte 125) e)
 after-further text rest (inr h) = by (starts 125 rest) refl
   where
-    by : (k : Bool) → starts 125 rest ≡ k → BehindBrace text (past_byte 125 rest)
+    by : (k : Bool) → starts 125 rest ≡ k → AfterBrace text (past_byte 125 rest)
     by true e =
         inr (subst (Ends text) (starts-is 125 rest e)
         (ends-ends text (125 ∷ rest) rest h (ends-tail 125 rest)))
@@ -92,12 +92,12 @@ neither_one b e f = by (b == 59) (rw f at e)
 
 module _ (edition : Edition) where
   broken-after : (text : List ℕ) → found (declaration edition text) ≡ None
-      → BehindBrace text (past_byte 125 (past_broken (declaration edition text)))
+      → AfterBrace text (past_byte 125 (past_broken (declaration edition text)))
   broken-after text none =
       by (declaration edition text) (declaration-stands edition text) none
     where
       by : (r : Reading StyleDeclaration) → Stands text no_texts r → found r ≡ None
-          → BehindBrace text (past_byte 125 (past_broken r))
+          → AfterBrace text (past_byte 125 (past_broken r))
       by (got declared rest) h e = absurd (cc)
       by (fails fault rest) h e =
           after-further text (past_byte 125 (from_block_end rest))
@@ -105,7 +105,7 @@ module _ (edition : Edition) where
           (ends-ends text rest (from_block_end rest) h.at (ends-from_block_end rest))
           (at_brace rest))
 
-  block-after : (text : List ℕ) → BehindBrace text (block edition text).1
+  block-after : (text : List ℕ) → AfterBrace text (block edition text).1
   unfolding block
   block-after text = by (ends_list a) refl
     where
@@ -116,7 +116,7 @@ module _ (edition : Edition) where
       left = each-ends (declaration_in_block edition) (declaration_in_block-ends edition) text
 
       by : (k : Bool) → ends_list a ≡ k
-          → BehindBrace text (past_byte 125 (if k then a else past_broken (declaration edition a)))
+          → AfterBrace text (past_byte 125 (if k then a else past_broken (declaration edition a)))
       by true e = after-brace text a left (list_end a e)
       by false e =
           after-from text a _ left (broken-after a (none_broken edition a e
@@ -124,9 +124,9 @@ module _ (edition : Edition) where
 
   -- ---- rule sets
 
-  next_block-behind : (text : List ℕ) → BehindBrace text (next_block edition text).1
+  next_block-after : (text : List ℕ) → AfterBrace text (next_block edition text).1
   unfolding next_block
-  next_block-behind text = by (starts 123 opened)
+  next_block-after text = by (starts 123 opened)
     where
       opened : List ℕ
       opened = past (λ b. not (b == 123)) text
@@ -136,7 +136,7 @@ module _ (edition : Edition) where
           ends-ends text opened (past_one opened) (ends-past (λ b. not (b == 123)) text)
           (ends-past_one opened)
 
-      by : (k : Bool) → BehindBrace text (if k then block edition (past_one opened) else ([], [])).1
+      by : (k : Bool) → AfterBrace text (if k then block edition (past_one opened) else ([], [])).1
       by true = after-from text (past_one opened) _ inside (block-after (past_one opened))
       by false = inl refl
 
@@ -155,7 +155,7 @@ module _ (edition : Edition) where
       by : (k : Bool) → starts 44 rest ≡ k
           → WellFound text (if k then Some ((part edition text).0, past_one rest) else None)
       by true e =
-          well-behind 44 text (past_one rest) (omega arith)
+          well-after 44 text (past_one rest) (omega arith)
           (subst (Ends text) (starts-cons 44 rest e) (part-ends text))
       by false e = tt
 
@@ -171,12 +171,12 @@ module _ (edition : Edition) where
       (each-ends (part_and_comma edition) part_and_comma-ends text) (part-ends rest)
 
   -- a rule set uses up the text, or ends directly after a closing brace
-  pub rule_set-behind : (text : List ℕ) → BehindBrace text (rule_set edition text).1
+  pub rule_set-after : (text : List ℕ) → AfterBrace text (rule_set edition text).1
   unfolding rule_set
-  rule_set-behind text =
+  rule_set-after text =
       let head = (parts edition (past_byte 44 text)).1 in
       after-from text head _ (ends-ends text (past_byte 44 text) head (ends-past_byte 44 text)
-      (parts-ends (past_byte 44 text))) (next_block-behind head)
+      (parts-ends (past_byte 44 text))) (next_block-after head)
 
   at_block-ends : (text n rest inner : List ℕ) → name edition text ≡ got n rest
       → past (is_neither 59 123) rest ≡ 123 ∷ inner

@@ -13,18 +13,18 @@ use Rattle.simplecss_text.specs.Blocks.{block, declaration_in_block, ends_list, 
 use Rattle.simplecss_text.specs.Statements.{StyleRule, ends_statements, has_declaration, next_block, next_statement, part, part_and_comma, parts, at_rule_rest_by_name, at_rule_rest, rule_set, statement, statements}
 use Rattle.simplecss_text.specs.Sheets.{ordered, sheet}
 use Rattle.simplecss_text.specs.Editions.{IsCommon, KeepsInBoth}
-use Rattle.simplecss_text.proofs.reading.EndsLaws.{EndsFound, Stands, each-ends, ends-ends, ends-past, ends-past_byte, ends-past_one, ends-same, no_texts}
-use Rattle.simplecss_text.proofs.reading.StandLaws.{ends-past_blank, gap-stands, sees_nothing}
+use Rattle.simplecss_text.proofs.reading.EndsLemmas.{EndsFound, Stands, each-ends, ends-ends, ends-past, ends-past_byte, ends-past_one, ends-same, no_texts}
+use Rattle.simplecss_text.proofs.reading.StandLemmas.{ends-past_blank, gap-stands, sees_nothing}
 use Rattle.simplecss_text.proofs.reading.DeclarationsLawful.{declaration-lawful, declaration_in_block-ends}
 use Rattle.simplecss_text.proofs.cutting.StatementEnds.{part_and_comma-ends, parts-ends}
 use Rattle.simplecss_text.proofs.cutting.StatementCuts.{next_statement-well}
-use Rattle.simplecss_text.proofs.editions.EditionLaws.{Shared, each-editions, if-editions, name-editions, shared-ends, shared-from}
+use Rattle.simplecss_text.proofs.reading.EditionLaws.{Shared, each-editions, if-editions, name-editions, shared-ends, shared-from}
 use Rattle.simplecss_text.specs.Pieces.{Piece, ending, solid_ending, gap_ending, next_kind, next_piece, piece, pieces, solid}
 use Rattle.simplecss_text.specs.Neighbours.{Side}
 use Rattle.simplecss_text.specs.Neighbours.Side.{open_side}
 use Rattle.simplecss_text.specs.TokenSequences.{TokenSequence, sequence, sequence_from}
 use Rattle.simplecss_text.specs.Selectors.{outcome, reads, selector_of}
-use Rattle.simplecss_text.proofs.reading.SequenceStandLaws.{PieceStands, piece-stands}
+use Rattle.simplecss_text.proofs.reading.SequenceEndLemmas.{PieceStands, piece-stands}
 use Rattle.simplecss_text.proofs.reading.PiecesLawful.{solid-lawful}
 
 -- ---- selectors

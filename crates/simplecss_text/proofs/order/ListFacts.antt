@@ -1,5 +1,6 @@
 -- Facts on lists: filters, what a search finds, what holds of each element.
--- Serves `RankLemmas`, and by it `order::{sort_rules, merge}` and `laws::{order_laws, place_law}`.
+-- Serves `RankLemmas`, and by it `order::{sort_rules, merge}` and `laws::{order_laws,
+-- index_in_sheet_law}`.
 use Rattle.std.proofs.Common.{◌≡◌, ℕ, ◌+◌, ◌<◌, suc, zero, Bool, true, false, cond, ◌&&◌, List, [], ◌∷◌, length, get_or, take, map, filter, Option, Some, ap, ◌∙◌, sym, subst, refl, arith}
 use Rattle.std.proofs.lemmas.List.{length-map}
 use Rattle.std.specs.Option.{option_map}

@@ -1,6 +1,6 @@
 -- The order of rules.
--- Serves `StyleSheet::parse_more` and `laws::{order_laws, place_law, sheet_law}` (the order of
--- rules).
+-- Serves `StyleSheet::parse_more` and `laws::{order_laws, index_in_sheet_law, sheet_law}` (the
+-- order of rules).
 use Rattle.std.proofs.Common.{ℕ, List}
 use Rattle.std.specs.Cmp.{IsStrictWeakOrder}
 use Rattle.std.proofs.lemmas.Cmp.{nat_list_cmp_total}

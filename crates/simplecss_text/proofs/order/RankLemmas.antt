@@ -1,6 +1,6 @@
 -- Each element at its rank is what a stable sort yields.
--- Serves `order::{sort_rules, merge}` and `laws::{order_laws, place_law, sheet_law}` (the order of
--- rules).
+-- Serves `order::{sort_rules, merge}` and `laws::{order_laws, index_in_sheet_law, sheet_law}` (the
+-- order of rules).
 use Rattle.std.proofs.Common.{◌≡◌, ℕ, ◌+◌, ◌<◌, suc, zero, Bool, true, false, cond, not, ◌&&◌, List, [], ◌∷◌, ◌++◌, length, length-append, get_or, take, map, filter, count_by, Some, eqb, eq-eqb, ap, ◌∙◌, sym, subst, refl, arith}
 use Rattle.std.proofs.lemmas.List.{length-map}
 use Rattle.std.specs.List.{enumerate_from, filter_map, range_with_len, AllByRecursion}
@@ -42,11 +42,11 @@ pub record Arranges {X : Type 0} (lt : X → X → Bool) (xs ys : List X) : Type
   pub long : length ys ≡ length xs
 
 -- the rank, by the parts
-abbrev place : {X : Type 0} → (X → X → Bool) → List X → ℕ → X → ℕ
-place lt xs i x = passing (λ y. lt y x) xs + passing (ties lt x) (take i xs)
+abbrev index : {X : Type 0} → (X → X → Bool) → List X → ℕ → X → ℕ
+index lt xs i x = passing (λ y. lt y x) xs + passing (ties lt x) (take i xs)
 
 rank_is_place : {X : Type 0} (lt : X → X → Bool) (xs : List X) (i : ℕ) (x : X)
-    → rank_by lt xs i x ≡ place lt xs i x
+    → rank_by lt xs i x ≡ index lt xs i x
 rank_is_place lt xs i x =
     ap (λ n. n + count_by (ties lt x) (take i xs)) (sym (length-filter (λ y. lt y x) xs))
     ∙ ap (λ n. passing (λ y. lt y x) xs + n) (sym (length-filter (ties lt x) (take i xs)))
@@ -58,12 +58,12 @@ module _ {X : Type 0} (lt : X → X → Bool) (o : IsStrictWeakOrder lt) where
   ties_itself : (x : X) → ties lt x x ≡ true
   ties_itself x = neither (lt x x) (lt x x) (itself x) (itself x)
 
-  -- the elements that tie with the one at i have the same place in both lists
+  -- the elements that tie with the one at i have the same index in both lists
   record Carried (xs ys : List X) (i : ℕ) (d : X) : Type 0 where
     at : ℕ
     within : at < length ys
     same : get_or ys at d ≡ get_or xs i d
-    placed : place lt ys at (get_or ys at d) ≡ place lt xs i (get_or xs i d)
+    placed : index lt ys at (get_or ys at d) ≡ index lt xs i (get_or xs i d)
 
   carried : (xs ys : List X) → ((x : X) → filter (ties lt x) ys ≡ filter (ties lt x) xs)
       → ((x : X) → passing (λ y. lt y x) ys ≡ passing (λ y. lt y x) xs) → (i : ℕ) (d : X)
@@ -83,13 +83,13 @@ module _ {X : Type 0} (lt : X → X → Bool) (o : IsStrictWeakOrder lt) where
         within = t.within;
         same = same;
         placed =
-            ap (place lt ys t.at) same ∙ ap (λ n. n + passing (ties lt x) (take t.at ys)) (less x)
+            ap (index lt ys t.at) same ∙ ap (λ n. n + passing (ties lt x) (take t.at ys)) (less x)
             ∙ ap (λ n. passing (λ y. lt y x) xs + n) t.before;
       }
 
   -- in a list that rises each element is at its rank
   self_at : (z : X) (zs : List X) (k : ℕ) (y : X) (b : Bool) → lt z y ≡ b → lt y z ≡ false
-      → place lt zs k y ≡ k → place lt (z ∷ zs) (suc k) y ≡ suc k
+      → index lt zs k y ≡ k → index lt (z ∷ zs) (suc k) y ≡ suc k
   self_at z zs k y true e f h =
       let less : passing (λ w. lt w y) (z ∷ zs) ≡ suc (passing (λ w. lt w y) zs) =
       ap length (head_passes (λ w. lt w y) z zs e) in
@@ -104,7 +104,7 @@ module _ {X : Type 0} (lt : X → X → Bool) (o : IsStrictWeakOrder lt) where
       omega arith
 
   self : (ys : List X) (k : ℕ) (d : X) → Rises lt ys → k < length ys
-      → place lt ys k (get_or ys k d) ≡ k
+      → index lt ys k (get_or ys k d) ≡ k
   self [] k d r h = absurd (omega arith)
   self (z ∷ zs) zero d r h =
       rw (head_fails (λ w. lt w z) z zs (itself z), none_pass (λ w. lt w z) zs r.0)
@@ -319,7 +319,7 @@ module _ {X : Type 0} (lt : X → X → Bool) (o : IsStrictWeakOrder lt) where
       let a = ordered_arranges xs in
       let c = carried lt o xs (ordered_by lt xs) a.stable (λ y. a.counts (λ z. lt z y)) i x h in
       let at : rank_by lt xs i x ≡ c.at =
-      rank_is_place lt xs i x ∙ ap (place lt xs i) (sym e) ∙ sym c.placed
+      rank_is_place lt xs i x ∙ ap (index lt xs i) (sym e) ∙ sym c.placed
       ∙ self lt o (ordered_by lt xs) c.at x a.rises c.within in
       ap (λ k. get_or (ordered_by lt xs) k x) at ∙ c.same ∙ e
 

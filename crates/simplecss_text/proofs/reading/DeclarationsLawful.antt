@@ -1,5 +1,5 @@
 -- Terms, values and declarations owe what every reader owes, and consume bytes.
--- Serves `DeclarationTokenizer`, `take_value`, `StyleSheet::{parse, parse_more}` and
+-- Serves `DeclarationTokenizer`, `read_value`, `StyleSheet::{parse, parse_more}` and
 -- `laws::{cutting_law, edition_law}`.
 use Rattle.std.proofs.Common.{◌≡◌, ◌⊎◌, ◌≤◌, Bool, List, None, Option, Some, [], ap, arith, codes, drop, IsUtf8, ◌<◌, subst, sym, take, eqb, false, if◌then◌else◌, inl, inr, length, length-append, not, refl, true, ℕ, ◌&&◌, ◌++◌, ◌==◌, ◌||◌, ◌∙◌, ◌∷◌, eqb-true}
 use Rattle.std.specs.List.{starts_with}
@@ -17,20 +17,20 @@ use Rattle.simplecss_text.specs.Terms.{arguments, begins_number, is_hex_digit, i
 use Rattle.simplecss_text.specs.Declarations.{StyleDeclaration, after_term, declaration, importance, important_word, last_or, semicolon, semicolons, term_in_value, terms, trailing, unless_empty, value, value_reader}
 use Rattle.simplecss_text.specs.Blocks.{block_end, declaration_in_block, ends_list, from_block_end}
 use Rattle.simplecss_text.specs.Names.{begins_name, name}
-use Rattle.simplecss_text.proofs.reading.EndsLaws.{EndsFound, Stands, ends-drop, length-ends, no_texts}
-use Rattle.simplecss_text.proofs.reading.WellLaws.{EndsWell, WellFound, each-well, found-ends, found-text, well-blank, well-closed, well-name, well-past, well-past_blank, well-tail, well-then}
-use Rattle.simplecss_text.proofs.bytes.Utf8Laws.{utf8-second}
-use Rattle.simplecss_text.proofs.printed.GotLaws.{IfBehind, after_byte-behind, starts-cons}
-use Rattle.simplecss_text.proofs.printed.ReadValues.{quote_low}
-use Rattle.simplecss_text.proofs.reading.TakesLaws.{Cuts, cuts-follow, cuts-if, cuts-so, follow-cuts, length-past_blank, length-past_byte, name-cuts}
-use Rattle.simplecss_text.proofs.reading.EachLaws.{Shrinks, Takes}
-use Rattle.simplecss_text.proofs.reading.LocalLaws.{Along, Equal, Guard, Never, Pairs, Passed, Repeats, Seam, Step, To, at, at-brace, before-along, drop-to, each-repeats, guard-got, left-to, on, starts-seam}
-use Rattle.simplecss_text.proofs.reading.LocalLaws.Seam.{at_brace, at_quiet}
+use Rattle.simplecss_text.proofs.reading.EndsLemmas.{EndsFound, Stands, ends-drop, length-ends, no_texts}
+use Rattle.simplecss_text.proofs.reading.WellLemmas.{EndsWell, WellFound, each-well, found-ends, found-text, well-blank, well-closed, well-name, well-past, well-past_blank, well-tail, well-then}
+use Rattle.simplecss_text.proofs.bytes.Utf8Lemmas.{utf8-second}
+use Rattle.simplecss_text.proofs.reading.GotLemmas.{IfAfter, after_byte-after, starts-cons}
+use Rattle.simplecss_text.proofs.reading.ReadValues.{quote_low}
+use Rattle.simplecss_text.proofs.reading.TakesLemmas.{Cuts, cuts-follow, cuts-if, cuts-so, follow-cuts, length-past_blank, length-past_byte, name-cuts}
+use Rattle.simplecss_text.proofs.reading.EachLemmas.{Shrinks, Takes}
+use Rattle.simplecss_text.proofs.reading.LocalLemmas.{Diverge, Equal, Guard, Never, Pairs, Passed, Repeats, Seam, Step, To, at, at-brace, before-diverge, drop-to, each-repeats, guard-got, left-to, on, starts-seam}
+use Rattle.simplecss_text.proofs.reading.LocalLemmas.Seam.{at_brace, at_quiet}
 use Rattle.simplecss_text.proofs.reading.NameLocal.{past_hash-seam}
-use Rattle.simplecss_text.proofs.reading.SearchLaws.{brace_plain, closed-along, past_blank-to}
-use Rattle.simplecss_text.proofs.printed.PrintedNames.{chars-byte}
-use Rattle.simplecss_text.proofs.printed.ReadNames.{name-none_begins}
-use Rattle.simplecss_text.proofs.editions.EditionLaws.{Shared, each-editions, name-editions, shared-ends}
+use Rattle.simplecss_text.proofs.reading.SearchLemmas.{brace_plain, closed-diverge, past_blank-to}
+use Rattle.simplecss_text.proofs.reading.PrintedNames.{chars-byte}
+use Rattle.simplecss_text.proofs.reading.ReadNames.{name-none_begins}
+use Rattle.simplecss_text.proofs.reading.EditionLaws.{Shared, each-editions, name-editions, shared-ends}
 use Rattle.simplecss_text.proofs.reading.Lawful.{Lawful, Owes, blank-lawful, byte-lawful, lawful-cases, lawful-guarded, lawful-keeps, lawful-stands, name-lawful, name-owes, optional-lawful, owes-choice, owes-cuts, owes-fails, owes-follow, owes-give, owes-if, owes-past, owes-sign, owes-so, owes-starts, passes-sign, past-lawful, past_name-lawful, string_after-lawful, takes-passed}
 
 -- ---- terms
@@ -62,17 +62,17 @@ single-low second_edition b text e = by (b == 44) (b == 47) refl refl e
 arguments-lawful : (c : Bool) → Lawful c (λ edition. arguments) (λ edition. arguments)
 arguments-lawful c r s =
     owes-starts 40 (λ edition q e w. w.no_opening)
-    (λ e edition. shorter (after_byte 41 r) (after_byte-behind 41 r) (starts-cons 40 r e))
+    (λ e edition. shorter (after_byte 41 r) (after_byte-after 41 r) (starts-cons 40 r e))
     (λ e. record {
       left =
           λ edition. well-closed 41 r ended (after_byte 41 r) (omega arith)
-          (after_byte-behind 41 r);
+          (after_byte-after 41 r);
       same = λ h. refl;
-      guard = λ edition t u m v h. closed-along c t u 41 ended ended r s h;
+      guard = λ edition t u m v h. closed-diverge c t u 41 ended ended r s h;
     })
     (owes-give tt r s)
   where
-    shorter : (o : Option (List ℕ)) → IfBehind 41 r o → r ≡ 40 ∷ past_one r
+    shorter : (o : Option (List ℕ)) → IfAfter 41 r o → r ≡ 40 ∷ past_one r
         → length (left_after (closed_or ended o)) < length r
     shorter None h e = omega (arith, ap length e)
     shorter (Some rest) h e = omega (arith, ap length h.1, length-append h.0 (41 ∷ rest))
@@ -206,7 +206,7 @@ single-after second_edition false t b r s (inr h) = rw h.2 (by (b == 44) (b == 4
     by false true f = inr (slash_passed t r b f)
 
 single-seam : (edition : Edition) (c : Bool) (t u : List ℕ) → Seam edition c t u
-    → (b d : ℕ) (r s : List ℕ) → Along t u (b ∷ r) (d ∷ s)
+    → (b d : ℕ) (r s : List ℕ) → Diverge t u (b ∷ r) (d ∷ s)
     → (is_single edition b r ≡ is_single edition d s) ⊎ Passed c t (single edition b r)
 single-seam edition c t u m b d r s (on _ _ _ h) =
     single-after edition c t b r s (starts-seam c t u 42 (λ q e w. w.no_star) m r s h)
@@ -270,7 +270,7 @@ TermPasses edition t a = length (left_after (term edition a)) ≤ length t
 after_term-step : (u v r : List ℕ) (Stuck : List ℕ → Type 0) (a b : Reading (Unit {0}))
     → Guard Equal true (125 ∷ (u ++ v)) (125 ∷ u) a b
     → (length (left_after a) ≤ length (u ++ v) → Stuck r)
-    → Step (Along (125 ∷ (u ++ v)) (125 ∷ u)) Stuck 125 (u ++ v) u r (after_term a) (after_term b)
+    → Step (Diverge (125 ∷ (u ++ v)) (125 ∷ u)) Stuck 125 (u ++ v) u r (after_term a) (after_term b)
 after_term-step u v r Stuck (got x p) (got y q) (inl h) stuck =
     inl (omega (arith, length-past_blank p))
 after_term-step u v r Stuck (got x p) (fails f q) (inl h) stuck = omega (arith, length-past_blank p)
@@ -281,7 +281,7 @@ after_term-step u v r Stuck (got x p) (got y q) (inr h) stuck =
   where
     by : (c d : List ℕ) → To true (125 ∷ (u ++ v)) (125 ∷ u) c d
         → (length c ≤ length (u ++ v))
-        ⊎ (Along (125 ∷ (u ++ v)) (125 ∷ u) p q × Along (125 ∷ (u ++ v)) (125 ∷ u) c d)
+        ⊎ (Diverge (125 ∷ (u ++ v)) (125 ∷ u) p q × Diverge (125 ∷ (u ++ v)) (125 ∷ u) c d)
     by c d (inl k) = inl k
     by c d (inr k) = inr (h.1, k)
 after_term-step u v r Stuck (got x p) (fails f q) (inr h) stuck = absurd h
@@ -289,24 +289,24 @@ after_term-step u v r Stuck (fails f p) (got y q) (inr h) stuck = absurd h
 after_term-step u v r Stuck (fails f p) (fails e q) (inr h) stuck = tt
 
 terms-repeats : (edition : Edition) (u v r s : List ℕ) → IsUtf8 r
-    → Along (125 ∷ (u ++ v)) (125 ∷ u) r s
-    → Repeats (Along (125 ∷ (u ++ v)) (125 ∷ u)) (TermPasses edition (u ++ v)) 125 (u ++ v) u
+    → Diverge (125 ∷ (u ++ v)) (125 ∷ u) r s
+    → Repeats (Diverge (125 ∷ (u ++ v)) (125 ∷ u)) (TermPasses edition (u ++ v)) 125 (u ++ v) u
     (terms edition r) (terms edition s)
 terms-repeats edition u v r s w h =
-    each-repeats IsUtf8 (Along (125 ∷ (u ++ v)) (125 ∷ u)) (TermPasses edition (u ++ v)) 125
+    each-repeats IsUtf8 (Diverge (125 ∷ (u ++ v)) (125 ∷ u)) (TermPasses edition (u ++ v)) 125
     (u ++ v) u (term_in_value edition) (term_in_value-takes edition)
     (found-text (term_in_value edition) (term_in_value-well edition))
     (λ a b x k. after_term-step u v a (TermPasses edition (u ++ v)) (term edition a)
     (term edition b) (lawful-guarded term term (term-lawful true) edition u v a b x k) (λ l. l))
     (length r) r s (omega arith) w h
 
-last_or-along : (t u r s : List ℕ) (xs ys : List (List ℕ)) → Along (125 ∷ t) (125 ∷ u) r s
-    → Pairs (Along (125 ∷ t) (125 ∷ u)) xs ys
-    → Along (125 ∷ t) (125 ∷ u) (last_or r xs) (last_or s ys)
-last_or-along t u r s [] [] h p = h
-last_or-along t u r s [] (y ∷ ys) h p = absurd p
-last_or-along t u r s (x ∷ xs) [] h p = absurd p
-last_or-along t u r s (x ∷ xs) (y ∷ ys) h p = last_or-along t u x y xs ys p.0 p.1
+last_or-diverge : (t u r s : List ℕ) (xs ys : List (List ℕ)) → Diverge (125 ∷ t) (125 ∷ u) r s
+    → Pairs (Diverge (125 ∷ t) (125 ∷ u)) xs ys
+    → Diverge (125 ∷ t) (125 ∷ u) (last_or r xs) (last_or s ys)
+last_or-diverge t u r s [] [] h p = h
+last_or-diverge t u r s [] (y ∷ ys) h p = absurd p
+last_or-diverge t u r s (x ∷ xs) [] h p = absurd p
+last_or-diverge t u r s (x ∷ xs) (y ∷ ys) h p = last_or-diverge t u x y xs ys p.0 p.1
 
 -- a value, by its terms
 abbrev value_by : Edition → List ℕ → List (List ℕ) × List ℕ → Reading (List ℕ)
@@ -321,7 +321,7 @@ value-lawful r s = record {
       ((term-lawful true (terms edition r).1 []).left edition);
   same = λ h. both h;
   guard =
-      λ edition t u m w h. at-brace (λ t u. Along t u r s
+      λ edition t u m w h. at-brace (λ t u. Diverge t u r s
       → Guard Equal true t u (value_reader edition r) (value_reader edition s))
       (λ u v h. by edition u v w h (terms edition r) (terms edition s) ((terms-well edition r).1 w)
       (terms-repeats edition u v r s w h)) t u m h;
@@ -336,9 +336,9 @@ value-lawful r s = record {
         (left_after o)) ((term-lawful true rest rest).same shared)
         ∙ ap (value_by second_edition r) (terms-editions r h)
 
-    by : (edition : Edition) (u v : List ℕ) → IsUtf8 r → Along (125 ∷ (u ++ v)) (125 ∷ u) r s
+    by : (edition : Edition) (u v : List ℕ) → IsUtf8 r → Diverge (125 ∷ (u ++ v)) (125 ∷ u) r s
         → (a b : List (List ℕ) × List ℕ) → IsUtf8 a.1
-        → Repeats (Along (125 ∷ (u ++ v)) (125 ∷ u)) (TermPasses edition (u ++ v)) 125 (u ++ v) u a
+        → Repeats (Diverge (125 ∷ (u ++ v)) (125 ∷ u)) (TermPasses edition (u ++ v)) 125 (u ++ v) u a
         b → Guard Equal true (125 ∷ (u ++ v)) (125 ∷ u) (value_by edition r a)
         (value_by edition s b)
     by edition u v w h a b z (inl k) =
@@ -350,8 +350,8 @@ value-lawful r s = record {
     by edition u v w h a b z (inr (inl k)) = inl k
     by edition u v w h a b z (inr (inr k)) =
         let same : before r (last_or r a.0) ≡ before s (last_or s b.0) =
-        before-along (125 ∷ (u ++ v)) (125 ∷ u) r s _ _ h
-        (last_or-along (u ++ v) u r s a.0 b.0 h k.0) in
+        before-diverge (125 ∷ (u ++ v)) (125 ∷ u) r s _ _ h
+        (last_or-diverge (u ++ v) u r s a.0 b.0 h k.0) in
         guard-got Equal true (125 ∷ (u ++ v)) (125 ∷ u) _ _ _ _ (ap trim same)
         (left-to Equal (125 ∷ (u ++ v)) (125 ∷ u) (term edition a.1) (term edition b.1)
         (lawful-guarded term term (term-lawful true) edition u v a.1 b.1 z k.1))
@@ -377,7 +377,7 @@ semicolon-takes (b ∷ text) = by (b == 59)
     by true = omega (arith, length-past_blank text)
     by false = tt
 
-semicolon-step : (u v r s : List ℕ) → Along (125 ∷ (u ++ v)) (125 ∷ u) r s
+semicolon-step : (u v r s : List ℕ) → Diverge (125 ∷ (u ++ v)) (125 ∷ u) r s
     → Step Equal Never 125 (u ++ v) u r (semicolon r) (semicolon s)
 semicolon-step u v r s at = tt
 semicolon-step u v r s (on b r1 s1 h) = by (b == 59)
@@ -394,7 +394,7 @@ semicolon-step u v r s (on b r1 s1 h) = by (b == 59)
     by true = inner (past_blank r1) (past_blank s1) (past_blank-to 125 u v brace_plain r1 s1 h)
     by false = tt
 
-semicolons-guarded : (u v r s : List ℕ) → IsUtf8 r → Along (125 ∷ (u ++ v)) (125 ∷ u) r s
+semicolons-guarded : (u v r s : List ℕ) → IsUtf8 r → Diverge (125 ∷ (u ++ v)) (125 ∷ u) r s
     → Guard Equal true (125 ∷ (u ++ v)) (125 ∷ u) (semicolons r) (semicolons s)
 semicolons-guarded u v r s w h =
     by (each semicolon r) (each semicolon s)
@@ -413,7 +413,7 @@ semicolons-lawful r s = record {
   left = λ edition. each-well semicolon semicolon-well r;
   same = λ h. refl;
   guard =
-      λ edition t u m w h. at-brace (λ t u. Along t u r s
+      λ edition t u m w h. at-brace (λ t u. Diverge t u r s
       → Guard Equal true t u (semicolons r) (semicolons s)) (λ u v. semicolons-guarded u v r s w) t
       u m h;
 }
@@ -424,12 +424,12 @@ NoBrace [] = Unit {0}
 NoBrace (c ∷ word) = (eqb c 125 ≡ false) × NoBrace word
 
 -- a word without a brace is at both or at neither
-begins-along : (t u word : List ℕ) → NoBrace word → (r s : List ℕ) → Along (125 ∷ t) (125 ∷ u) r s
+begins-diverge : (t u word : List ℕ) → NoBrace word → (r s : List ℕ) → Diverge (125 ∷ t) (125 ∷ u) r s
     → starts_with eqb r word ≡ starts_with eqb s word
-begins-along t u [] n r s h = refl
-begins-along t u (c ∷ word) n r s at = let e : eqb c 125 ≡ false = n.0 in rw e refl
-begins-along t u (c ∷ word) n r s (on b r1 s1 h) =
-    ap (λ (k : Bool). eqb c b && k) (begins-along t u word n.1 r1 s1 h)
+begins-diverge t u [] n r s h = refl
+begins-diverge t u (c ∷ word) n r s at = let e : eqb c 125 ≡ false = n.0 in rw e refl
+begins-diverge t u (c ∷ word) n r s (on b r1 s1 h) =
+    ap (λ (k : Bool). eqb c b && k) (begins-diverge t u word n.1 r1 s1 h)
 
 important_word-well : (text : List ℕ) → starts_with eqb text (codes "important") ≡ true
     → EndsWell text (drop 9 text)
@@ -448,16 +448,16 @@ important_word-lawful r s =
     owes-choice r s (λ edition. starts_with eqb r (codes "important"))
     (λ edition. starts_with eqb s (codes "important")) _ _ _ _ (λ h. refl)
     (λ edition t u m h. inl
-    (at-brace (λ t u. Along t u r s
+    (at-brace (λ t u. Diverge t u r s
     → starts_with eqb r (codes "important") ≡ starts_with eqb s (codes "important"))
-    (λ u v. begins-along (u ++ v) u (codes "important")
+    (λ u v. begins-diverge (u ++ v) u (codes "important")
     (refl, (refl, (refl, (refl, (refl, (refl, (refl, (refl, (refl, tt))))))))) r s) t u m h))
     (λ edition e. record {
       left = λ edition. important_word-well r e;
       same = λ h. refl;
       guard =
           λ edition t u m v h. guard-got Equal true t u true true (drop 9 r) (drop 9 s) refl
-          (at-brace (λ t u. Along t u r s → To true t u (drop 9 r) (drop 9 s))
+          (at-brace (λ t u. Diverge t u r s → To true t u (drop 9 r) (drop 9 s))
           (λ u v. drop-to 125 (u ++ v) u 9 r s) t u m h);
     })
     (owes-give false r s)

@@ -1,6 +1,6 @@
 -- What every reader owes, as one record, and what keeps it: choosing, consuming a byte, reading one
 -- thing after another.
--- Serves the tokenizers, `take_value`, `StyleSheet::{parse, parse_all, parse_more}` and
+-- Serves the tokenizers, `read_value`, `StyleSheet::{parse, parse_all, parse_more}` and
 -- `laws::{cutting_law, edition_law}`.
 use Rattle.std.proofs.Common.{◌≡◌, ℕ, ◌<◌, ◌⊎◌, List, [], ◌∷◌, ◌++◌, Bool, true, false, if◌then◌else◌, ◌==◌, length, arith, refl, ap, subst, sym, ◌∙◌, inl, inr, IsUtf8}
 use Rattle.simplecss_text.specs.Reading.{Ends, Fault, Reader, Reading, fails, follow, got, left_after}
@@ -9,30 +9,30 @@ use Rattle.simplecss_text.specs.Characters.{Edition, first_edition, second_editi
 use Rattle.simplecss_text.specs.Comments.{blank}
 use Rattle.simplecss_text.specs.Names.{name}
 use Rattle.simplecss_text.specs.Strings.{is_quote, string_after}
-use Rattle.simplecss_text.proofs.reading.EndsLaws.{Stands, length-ends, no_texts, stands-none}
-use Rattle.simplecss_text.proofs.reading.TakesLaws.{Cuts, Keeps, keeps-cuts}
-use Rattle.simplecss_text.proofs.reading.WellLaws.{EndsWell, well-blank, well-byte, well-name, well-past, well-past_byte, well-same, well-sign, well-string, well-tail, well-then}
-use Rattle.simplecss_text.proofs.reading.LocalLaws.{Along, Equal, Guard, Passed, Quiet, Seam, To, at, at-brace, beyond-less, beyond-within, byte-guarded, guard-follow, guard-got, on, passed-beyond, past-seam, past_byte-to, past_one-to, starts-seam}
-use Rattle.simplecss_text.proofs.reading.LocalLaws.Seam.{at_brace, at_quiet}
+use Rattle.simplecss_text.proofs.reading.EndsLemmas.{Stands, length-ends, no_texts, stands-none}
+use Rattle.simplecss_text.proofs.reading.TakesLemmas.{Cuts, Keeps, keeps-cuts}
+use Rattle.simplecss_text.proofs.reading.WellLemmas.{EndsWell, well-blank, well-byte, well-name, well-past, well-past_byte, well-same, well-sign, well-string, well-tail, well-then}
+use Rattle.simplecss_text.proofs.reading.LocalLemmas.{Diverge, Equal, Guard, Passed, ContinuesNothing, Seam, To, at, at-brace, beyond-less, beyond-within, byte-guarded, guard-follow, guard-got, on, passed-beyond, past-seam, past_byte-to, past_one-to, starts-seam}
+use Rattle.simplecss_text.proofs.reading.LocalLemmas.Seam.{at_brace, at_quiet}
 use Rattle.simplecss_text.proofs.reading.NameLocal.{name-seam, past_name-seam}
-use Rattle.simplecss_text.proofs.reading.SearchLaws.{blank-guarded, string-along}
-use Rattle.simplecss_text.proofs.printed.ReadValues.{quote_low}
-use Rattle.simplecss_text.proofs.editions.EditionLaws.{Shared, name-editions, shared-ends}
+use Rattle.simplecss_text.proofs.reading.SearchLemmas.{blank-guarded, string-diverge}
+use Rattle.simplecss_text.proofs.reading.ReadValues.{quote_low}
+use Rattle.simplecss_text.proofs.reading.EditionLaws.{Shared, name-editions, shared-ends}
 
 -- What a reading of the text r owes, in either edition. `left`: what it leaves is an end of r, and
 -- UTF-8 if r is. `same`: where r has only ASCII bytes and no slash, both editions come to the
 -- same. `guard`, the law of locality: where another text s is alike up to where both part, and b
--- reads s, the first reading passed that place or both come to the same. With `true` this is owed
+-- reads s, the first reading passed that offset or both come to the same. With `true` this is owed
 -- where the second text is cut after a closing brace; with `false` where the first continues with
 -- any text and the second with a byte that continues nothing, and then not of faults.
 pub record Owes {A : Type 0} (c : Bool) (r s : List ℕ) (a b : Edition → Reading A) : Type 0 where
   pub left : (edition : Edition) → EndsWell r (left_after (a edition))
   pub same : Shared r → a first_edition ≡ a second_edition
-  pub guard : (edition : Edition) (t u : List ℕ) → Seam edition c t u → IsUtf8 r → Along t u r s
+  pub guard : (edition : Edition) (t u : List ℕ) → Seam edition c t u → IsUtf8 r → Diverge t u r s
       → Guard Equal c t u (a edition) (b edition)
 
--- A reader owes it in every text. In the other text n reads, which is m, unless m knows a place of
--- its text: then n knows a place of the other.
+-- A reader owes it in every text. In the other text n reads, which is m, unless m knows an offset
+-- of its text: then n knows an offset of the other.
 abbrev pub Lawful : {A : Type 0} → Bool → (Edition → Reader A) → (Edition → Reader A) → Type 0
 Lawful c m n = (r s : List ℕ) → Owes c r s (λ edition. m edition r) (λ edition. n edition s)
 
@@ -54,10 +54,10 @@ owes-fails f e r s =
     record { left = λ edition. well-same r; same = λ h. refl; guard = λ edition t u m v h. inr h }
 
 -- A choice by a test, and what is known where it holds. In the other text the test comes out the
--- same, or the first reading passed the place.
+-- same, or the first reading passed the offset.
 pub owes-choice : {A : Type 0} {k : Bool} (r s : List ℕ) (c d : Edition → Bool) (a b x y : Edition
     → Reading A) → (Shared r → c first_edition ≡ c second_edition)
-    → ((edition : Edition) (t u : List ℕ) → Seam edition k t u → Along t u r s
+    → ((edition : Edition) (t u : List ℕ) → Seam edition k t u → Diverge t u r s
     → (c edition ≡ d edition) ⊎ Passed k t (if c edition then a edition else x edition))
     → ((edition : Edition) → c edition ≡ true → Owes k r s a b) → Owes k r s x y
     → Owes k r s (λ edition. if c edition then a edition else x edition)
@@ -83,7 +83,7 @@ owes-choice {k = k} r s c d a b x y both alike p q = record {
     one h true false e f = absurd (cc)
     one h false true e f = absurd (cc)
 
-    go : (edition : Edition) (t u : List ℕ) → Seam edition k t u → IsUtf8 r → Along t u r s
+    go : (edition : Edition) (t u : List ℕ) → Seam edition k t u → IsUtf8 r → Diverge t u r s
         → (j : Bool) → c edition ≡ j → (i : Bool)
         → (j ≡ i) ⊎ Passed k t (if j then a edition else x edition)
         → Guard Equal k t u (if j then a edition else x edition)
@@ -122,7 +122,7 @@ owes-same {c = c} {r = r} {b = b} {d = d} one two p = record {
 
 -- where the other text is read in another way, which comes to the same
 pub owes-alike : {A : Type 0} {c : Bool} {r s : List ℕ} {a b d : Edition → Reading A}
-    → ((edition : Edition) (t u : List ℕ) → Seam edition c t u → Along t u r s
+    → ((edition : Edition) (t u : List ℕ) → Seam edition c t u → Diverge t u r s
     → b edition ≡ d edition) → Owes c r s a b → Owes c r s a d
 owes-alike {c = c} {a = a} alike p = record {
   left = p.left;
@@ -135,7 +135,7 @@ owes-alike {c = c} {a = a} alike p = record {
 -- A choice by the byte that is next, and what is known where it is that byte: then a byte is
 -- taken. None of the bytes that continue nothing is that byte.
 pub owes-starts : {A : Type 0} {k : Bool} {r s : List ℕ} {a b x y : Edition → Reading A} (n : ℕ)
-    → ((edition : Edition) (q : ℕ) → k ≡ false → Quiet edition q → (q == n) ≡ false)
+    → ((edition : Edition) (q : ℕ) → k ≡ false → ContinuesNothing edition q → (q == n) ≡ false)
     → (starts n r ≡ true → (edition : Edition) → length (left_after (a edition)) < length r)
     → (starts n r ≡ true → Owes k r s a b) → Owes k r s x y
     → Owes k r s (λ edition. if starts n r then a edition else x edition)
@@ -178,7 +178,7 @@ owes-past {r = r} {s = s} k low p =
 
 -- a choice by the ASCII byte that is next, which is consumed
 pub owes-sign : {A : Type 0} {k : Bool} {r s : List ℕ} {a b x y : Edition → Reading A} (n : ℕ)
-    → n < 128 → ((edition : Edition) (q : ℕ) → k ≡ false → Quiet edition q → (q == n) ≡ false)
+    → n < 128 → ((edition : Edition) (q : ℕ) → k ≡ false → ContinuesNothing edition q → (q == n) ≡ false)
     → Owes k (past_one r) (past_one s) a b → Owes k r s x y
     → Owes k r s (λ edition. if starts n r then a edition else x edition)
     (λ edition. if starts n s then b edition else y edition)
@@ -230,7 +230,7 @@ cases-guard : {A : Type 0} (c : Bool) (m n : Edition → Reader A)
     → ((b : ℕ) (r s : List ℕ)
     → Owes c (b ∷ r) (b ∷ s) (λ edition. m edition (b ∷ r)) (λ edition. n edition (b ∷ s)))
     → (edition : Edition) (t u : List ℕ) → Seam edition c t u → (r s : List ℕ) → IsUtf8 r
-    → Along t u r s → Guard Equal c t u (m edition r) (n edition s)
+    → Diverge t u r s → Guard Equal c t u (m edition r) (n edition s)
 cases-guard c m n takes some edition t u seam r s v (on b r1 s1 h) =
     (some b r1 s1).guard edition t u seam v (on b r1 s1 h)
 cases-guard c m n takes some edition t u (at_brace x y) r s v at =
@@ -289,14 +289,14 @@ lawful-text m n p edition text = ((p text text).left edition).1
 
 -- in texts that part at a closing brace
 pub lawful-guarded : {A : Type 0} (m n : Edition → Reader A) → Lawful true m n
-    → (edition : Edition) (u v r s : List ℕ) → IsUtf8 r → Along (125 ∷ (u ++ v)) (125 ∷ u) r s
+    → (edition : Edition) (u v r s : List ℕ) → IsUtf8 r → Diverge (125 ∷ (u ++ v)) (125 ∷ u) r s
     → Guard Equal true (125 ∷ (u ++ v)) (125 ∷ u) (m edition r) (n edition s)
 lawful-guarded m n p edition u v r s w h =
     (p r s).guard edition (125 ∷ (u ++ v)) (125 ∷ u) (at_brace u v) w h
 
 -- what is left, by the ASCII byte that is next, which is consumed
 pub passes-sign : {k : Bool} {r s : List ℕ} (n : ℕ) → n < 128
-    → ((edition : Edition) (q : ℕ) → k ≡ false → Quiet edition q → (q == n) ≡ false)
+    → ((edition : Edition) (q : ℕ) → k ≡ false → ContinuesNothing edition q → (q == n) ≡ false)
     → (a b x y : Edition → List ℕ)
     → Owes k (past_one r) (past_one s) (λ edition. got (tt {0}) (a edition))
     (λ edition. got tt (b edition))
@@ -316,7 +316,7 @@ passes-sign {r = r} {s = s} n low other a b x y p q =
 
 -- a run of ASCII bytes, of which none continues nothing
 pub past-lawful : (c : Bool) (test : ℕ → Bool) → ((b : ℕ) → test b ≡ true → b < 128)
-    → ((edition : Edition) (q : ℕ) → Quiet edition q → test q ≡ false)
+    → ((edition : Edition) (q : ℕ) → ContinuesNothing edition q → test q ≡ false)
     → Lawful c (λ edition text. got (tt {0}) (past test text))
     (λ edition text. got tt (past test text))
 past-lawful c test low ends r s =
@@ -328,11 +328,11 @@ past-lawful c test low ends r s =
     }
 
 optional-guarded : (u v : List ℕ) (c : ℕ) → (125 == c) ≡ false → (r s : List ℕ)
-    → Along (125 ∷ (u ++ v)) (125 ∷ u) r s
+    → Diverge (125 ∷ (u ++ v)) (125 ∷ u) r s
     → Guard Equal true (125 ∷ (u ++ v)) (125 ∷ u) (optional c r) (optional c s)
 optional-guarded u v c e r s h = by (past_byte-to (125 ∷ (u ++ v)) (125 ∷ u) c (rw e refl) r s h)
   where
-    by : (length (past_byte c r) < length (125 ∷ (u ++ v))) ⊎ Along (125 ∷ (u ++ v)) (125 ∷ u)
+    by : (length (past_byte c r) < length (125 ∷ (u ++ v))) ⊎ Diverge (125 ∷ (u ++ v)) (125 ∷ u)
         (past_byte c r) (past_byte c s)
         → Guard Equal true (125 ∷ (u ++ v)) (125 ∷ u) (optional c r) (optional c s)
     by (inl l) = inl (omega arith)
@@ -345,7 +345,7 @@ optional-lawful c low e r s =
       left = λ edition. well-past_byte c r low;
       same = λ h. refl;
       guard = λ edition t u m v
-          h. at-brace (λ t u. Along t u r s → Guard Equal true t u (optional c r) (optional c s))
+          h. at-brace (λ t u. Diverge t u r s → Guard Equal true t u (optional c r) (optional c s))
           (λ u v. optional-guarded u v c e r s) t u m h;
     }
 
@@ -355,7 +355,7 @@ byte-lawful c low r s =
       left = λ edition. well-byte c r low;
       same = λ h. refl;
       guard = λ edition t u m v
-          h. at-brace (λ t u. Along t u r s → Guard Equal true t u (byte c r) (byte c s))
+          h. at-brace (λ t u. Diverge t u r s → Guard Equal true t u (byte c r) (byte c s))
           (λ u v. byte-guarded 125 (u ++ v) u c r s) t u m h;
     }
 
@@ -367,7 +367,7 @@ blank-lawful r s =
       left = λ edition. well-blank r;
       same = λ h. refl;
       guard = λ edition t u m v h. at-brace
-          (λ t u. Along t u r s → Guard Equal true t u (blank r) (blank s))
+          (λ t u. Diverge t u r s → Guard Equal true t u (blank r) (blank s))
           (λ u v. blank-guarded u v r s)
           t u m h;
     }
@@ -408,5 +408,5 @@ string_after-lawful c quote e r s =
     record {
       left = λ edition. well-string quote r (quote_low quote e);
       same = λ h. refl;
-      guard = λ edition t u m v h. string-along c t u r s h quote quote r s h;
+      guard = λ edition t u m v h. string-diverge c t u r s h quote quote r s h;
     }

@@ -11,12 +11,12 @@ use Rattle.simplecss_text.specs.Bytes.{past, past_byte, starts_by}
 use Rattle.simplecss_text.specs.Characters.{Edition, first_edition, second_edition, is_name_start, is_name_char}
 use Rattle.simplecss_text.specs.Names.{begins_name, name}
 use Rattle.simplecss_text.specs.Terms.{is_hex_digit, past_hash}
-use Rattle.simplecss_text.proofs.printed.PrintedNames.{IsName, both_false, name-reads, ends_names, chars-byte}
-use Rattle.simplecss_text.proofs.printed.ReadNames.{name-is, name-fails, name-none_begins}
-use Rattle.simplecss_text.proofs.bytes.Utf8Laws.{utf8-before_byte, utf8-first, utf8-second}
-use Rattle.simplecss_text.proofs.reading.TakesLaws.{length-past}
-use Rattle.simplecss_text.proofs.reading.LocalLaws.{Along, Equal, Guard, Quiet, Seam, To, along-front, along-split, beyond-less, passed-beyond, past-seam, past_byte-to, quiet-brace}
-use Rattle.simplecss_text.proofs.reading.LocalLaws.Seam.{at_brace, at_quiet}
+use Rattle.simplecss_text.proofs.reading.PrintedNames.{IsName, both_false, name-reads, ends_names, chars-byte}
+use Rattle.simplecss_text.proofs.reading.ReadNames.{name-is, name-fails, name-none_begins}
+use Rattle.simplecss_text.proofs.bytes.Utf8Lemmas.{utf8-before_byte, utf8-first, utf8-second}
+use Rattle.simplecss_text.proofs.reading.TakesLemmas.{length-past}
+use Rattle.simplecss_text.proofs.reading.LocalLemmas.{Diverge, Equal, Guard, ContinuesNothing, Seam, To, diverge-front, diverge-split, beyond-less, passed-beyond, past-seam, past_byte-to, quiet-brace}
+use Rattle.simplecss_text.proofs.reading.LocalLemmas.Seam.{at_brace, at_quiet}
 
 -- a front, where more than the tail is left
 pub split-after : (front r n rest : List ℕ) → front ++ r ≡ n ++ rest → length r ≤ length rest
@@ -32,18 +32,18 @@ split-after (c ∷ front) r (b ∷ n) rest e h =
 -- the name that begins both texts, or a hyphen that ends the first, or none
 pub data NamesAlike (edition : Edition) (t u text other : List ℕ) : Type 0 where
   same : (n rest left : List ℕ) → name edition text ≡ got n rest → name edition other ≡ got n left
-      → Along t u rest left → NamesAlike edition t u text other
+      → Diverge t u rest left → NamesAlike edition t u text other
   lone : (n : List ℕ) (fault : Fault) → name edition text ≡ got n []
       → name edition other ≡ fails fault u → t ≡ [] → text ≡ 45 ∷ []
       → NamesAlike edition t u text other
   none : (fault other_fault : Fault) (rest left : List ℕ) → name edition text ≡ fails fault rest
-      → name edition other ≡ fails other_fault left → Along t u rest left
+      → name edition other ≡ fails other_fault left → Diverge t u rest left
       → NamesAlike edition t u text other
 
 name_utf8 : (edition : Edition) (n : List ℕ) → IsName edition n → IsUtf8 n
 name_utf8 edition n w = (w.letters, (w.scalars, w.spell))
 
-module _ (edition : Edition) (q : ℕ) (more : List ℕ) (quiet : Quiet edition q) where
+module _ (edition : Edition) (q : ℕ) (more : List ℕ) (quiet : ContinuesNothing edition q) where
   ends-alike : (r front : List ℕ) → IsUtf8 front → ends_names edition (front ++ r) ≡ false
       → ends_names edition (front ++ (q ∷ more)) ≡ false
   ends-alike r front u e =
@@ -111,8 +111,8 @@ module _ (edition : Edition) (q : ℕ) (more : List ℕ) (quiet : Quiet edition 
       let again : name edition (front ++ (q ∷ more)) ≡ got n (left ++ (q ∷ more)) =
       ap (name edition) text ∙ name-reads edition n (left ++ (q ∷ more)) w stops in
       same n rest (left ++ (q ∷ more)) e again
-      (subst (λ (x : List ℕ). Along r (q ∷ more) x (left ++ (q ∷ more))) (sym split.2)
-      (along-front r (q ∷ more) left))
+      (subst (λ (x : List ℕ). Diverge r (q ∷ more) x (left ++ (q ∷ more))) (sym split.2)
+      (diverge-front r (q ∷ more) left))
 
   begins_hyphen : begins_name edition (chars (45 ∷ q ∷ more)) ≡ false
   begins_hyphen =
@@ -151,20 +151,20 @@ module _ (edition : Edition) (q : ℕ) (more : List ℕ) (quiet : Quiet edition 
       let begins = begins-alike r front u failed.0 in
       by (subst (λ (x : List ℕ). length r ≤ length x) failed.1 h) failed.1 begins
       (past_byte-to r (q ∷ more) 45 (let p = quiet.no_hyphen in rw p refl) (front ++ r)
-      (front ++ (q ∷ more)) (along-front r (q ∷ more) front))
+      (front ++ (q ∷ more)) (diverge-front r (q ∷ more) front))
     where
       by : length r ≤ length (past_byte 45 (front ++ r)) → rest ≡ past_byte 45 (front ++ r)
           → begins_name edition (chars (front ++ (q ∷ more))) ≡ false
-          → (length (past_byte 45 (front ++ r)) < length r) ⊎ Along r (q ∷ more)
+          → (length (past_byte 45 (front ++ r)) < length r) ⊎ Diverge r (q ∷ more)
           (past_byte 45 (front ++ r)) (past_byte 45 (front ++ (q ∷ more)))
           → NamesAlike edition r (q ∷ more) (front ++ r) (front ++ (q ∷ more))
       by l is begins (inl k) = absurd (omega arith)
-      by l is begins (inr along) =
+      by l is begins (inr diverge) =
           none fault (no_name (front ++ (q ∷ more))) rest (past_byte 45 (front ++ (q ∷ more))) e
           (name-none_begins edition (front ++ (q ∷ more)) begins)
-          (subst (λ (x : List ℕ). Along r (q ∷ more) x (past_byte 45 (front ++ (q ∷ more))))
+          (subst (λ (x : List ℕ). Diverge r (q ∷ more) x (past_byte 45 (front ++ (q ∷ more))))
           (sym is)
-          along)
+          diverge)
 
   -- a name is read alike where no more than the tail is left
   name-front : (r front : List ℕ) → IsUtf8 r → IsUtf8 front
@@ -183,10 +183,10 @@ module _ (edition : Edition) (q : ℕ) (more : List ℕ) (quiet : Quiet edition 
           ]
       by (fails fault rest) e h = no_name_there r front rest fault u e h
 
-  pub name-alike : (t : List ℕ) → IsUtf8 t → (r s : List ℕ) → IsUtf8 r → Along t (q ∷ more) r s
+  pub name-alike : (t : List ℕ) → IsUtf8 t → (r s : List ℕ) → IsUtf8 r → Diverge t (q ∷ more) r s
       → (length (left_after (name edition r)) < length t) ⊎ NamesAlike edition t (q ∷ more) r s
   name-alike t v r s u h =
-      by (along-split t (q ∷ more) r s h) (cases_lt (length (left_after (name edition r)))
+      by (diverge-split t (q ∷ more) r s h) (cases_lt (length (left_after (name edition r)))
       (length t))
     where
       by : (front : List ℕ) × (r ≡ front ++ t) × (s ≡ front ++ (q ∷ more))
@@ -204,15 +204,15 @@ module _ (edition : Edition) (q : ℕ) (more : List ℕ) (quiet : Quiet edition 
           (sym is) alike))
 
 -- the text after a front that an ASCII byte ends
-utf8-from : (t u : List ℕ) (g : ℕ) (r s : List ℕ) → g < 128 → IsUtf8 r → Along (g ∷ t) u r s
+utf8-from : (t u : List ℕ) (g : ℕ) (r s : List ℕ) → g < 128 → IsUtf8 r → Diverge (g ∷ t) u r s
     → IsUtf8 (g ∷ t)
 utf8-from t u g r s low v h =
-    let parts = along-split (g ∷ t) u r s h in
+    let parts = diverge-split (g ∷ t) u r s h in
     let whole : IsUtf8 (parts.0 ++ (g ∷ t)) = subst IsUtf8 parts.1 v in
     utf8-second parts.0 (g ∷ t) whole (utf8-before_byte parts.0 g t low whole)
 
 names-seam : {edition : Edition} (c : Bool) (t u : List ℕ) → Seam edition c t u → (r s : List ℕ)
-    → IsUtf8 r → Along t u r s
+    → IsUtf8 r → Diverge t u r s
     → (length (left_after (name edition r)) < length t) ⊎ NamesAlike edition t u r s
 names-seam {edition = edition} c t u (at_brace x y) r s v h =
     name-alike edition 125 x (quiet-brace edition) (125 ∷ (x ++ y))
@@ -231,14 +231,14 @@ name-by edition c t u r s some (inr (lone n fault e f k m)) = absurd (some k m)
 name-by edition c t u r s some (inr (none fault other rest left e f k)) = rw (e, f) (inr k)
 
 pub name-seam : {edition : Edition} (c : Bool) (t u : List ℕ) → Seam edition c t u → (r s : List ℕ)
-    → (t ≡ [] → r ≡ 45 ∷ [] → ⊥) → IsUtf8 r → Along t u r s
+    → (t ≡ [] → r ≡ 45 ∷ [] → ⊥) → IsUtf8 r → Diverge t u r s
     → Guard Equal c t u (name edition r) (name edition s)
 name-seam {edition = edition} c t u seam r s some v h =
     name-by edition c t u r s some (names-seam c t u seam r s v h)
 
 -- at the same byte
-pub name-same : (edition : Edition) (g : ℕ) (t u : List ℕ) → Quiet edition g → (r s : List ℕ)
-    → IsUtf8 r → Along (g ∷ t) (g ∷ u) r s
+pub name-same : (edition : Edition) (g : ℕ) (t u : List ℕ) → ContinuesNothing edition g → (r s : List ℕ)
+    → IsUtf8 r → Diverge (g ∷ t) (g ∷ u) r s
     → Guard Equal true (g ∷ t) (g ∷ u) (name edition r) (name edition s)
 name-same edition g t u w r s v h =
     name-by edition true (g ∷ t) (g ∷ u) r s (λ none_there. absurd (cc))
@@ -246,7 +246,7 @@ name-same edition g t u w r s v h =
 
 -- what is left after a name, or after the hyphen that a missing one consumes
 pub past_name-seam : {edition : Edition} (c : Bool) (t u : List ℕ) → Seam edition c t u
-    → (r s : List ℕ) → IsUtf8 r → Along t u r s
+    → (r s : List ℕ) → IsUtf8 r → Diverge t u r s
     → To c t u (left_after (name edition r)) (left_after (name edition s))
 past_name-seam {edition = edition} c t u seam r s v h = by (names-seam c t u seam r s v h)
   where
@@ -255,12 +255,12 @@ past_name-seam {edition = edition} c t u seam r s v h = by (names-seam c t u sea
     by (inl l) = inl (beyond-less c t (left_after (name edition r)) l)
     by (inr (same n rest left e f k)) = rw (e, f) (inr k)
     by (inr (lone n fault e f k m)) =
-        rw (e, f) (inr (subst (λ (x : List ℕ). Along x u [] u) (sym k) (along-front [] u [])))
+        rw (e, f) (inr (subst (λ (x : List ℕ). Diverge x u [] u) (sym k) (diverge-front [] u [])))
     by (inr (none fault other rest left e f k)) = rw (e, f) (inr k)
 
 -- what is left after a hash, after its number sign
 pub past_hash-seam : {edition : Edition} (c : Bool) (t u : List ℕ) → Seam edition c t u
-    → (r s : List ℕ) → IsUtf8 r → Along t u r s
+    → (r s : List ℕ) → IsUtf8 r → Diverge t u r s
     → To c t u (past_hash (name edition r)) (past_hash (name edition s))
 past_hash-seam {edition = edition} c t u seam r s v h = by (names-seam c t u seam r s v h)
   where
@@ -268,7 +268,7 @@ past_hash-seam {edition = edition} c t u seam r s v h = by (names-seam c t u sea
     shorter (got n rest) = omega arith
     shorter (fails fault rest) = length-past is_hex_digit rest
 
-    digits : (a b : List ℕ) → Along t u a b → To c t u (past is_hex_digit a) (past is_hex_digit b)
+    digits : (a b : List ℕ) → Diverge t u a b → To c t u (past is_hex_digit a) (past is_hex_digit b)
     digits a b k = past-seam c t u is_hex_digit (λ q w. w.no_hex) seam a b k
 
     by : (length (left_after (name edition r)) < length t) ⊎ NamesAlike edition t u r s
@@ -278,5 +278,5 @@ past_hash-seam {edition = edition} c t u seam r s v h = by (names-seam c t u sea
     by (inr (same n rest left e f k)) = rw (e, f) (inr k)
     by (inr (lone n fault e f k m)) =
         rw (e, f)
-        (digits [] u (subst (λ (x : List ℕ). Along x u [] u) (sym k) (along-front [] u [])))
+        (digits [] u (subst (λ (x : List ℕ). Diverge x u [] u) (sym k) (diverge-front [] u [])))
     by (inr (none fault other rest left e f k)) = rw (e, f) (digits rest left k)

@@ -17,15 +17,15 @@ use Rattle.simplecss_text.specs.Components.Operator.{begins_with, equals, exists
 use Rattle.simplecss_text.specs.Tokens.{Token}
 use Rattle.simplecss_text.specs.Tokens.Token.{adjacent_combinator, attribute_selector, child_combinator, class_selector, id_selector, lang_pseudo_class, named_pseudo_class, type_selector, universal_selector}
 use Rattle.simplecss_text.specs.Pieces.{attribute_after, attribute_operator, next_kind, solid_as, equated, lang_after, lang_of, named_token, next_piece, piece, pseudo_class_after, pseudo_class_named, solid}
-use Rattle.simplecss_text.proofs.reading.EachLaws.{Takes}
-use Rattle.simplecss_text.proofs.reading.TakesLaws.{Cuts, cuts-follow, follow-cuts, found-shrinks, name-cuts}
-use Rattle.simplecss_text.proofs.reading.EndsLaws.{ends-same, length-ends}
-use Rattle.simplecss_text.proofs.reading.KindLaws.{HasSign, sign-begins}
-use Rattle.simplecss_text.proofs.reading.WellLaws.{well-behind, well-gap, well-until}
-use Rattle.simplecss_text.proofs.printed.ReadValues.{quote_low}
+use Rattle.simplecss_text.proofs.reading.EachLemmas.{Takes}
+use Rattle.simplecss_text.proofs.reading.TakesLemmas.{Cuts, cuts-follow, follow-cuts, found-shrinks, name-cuts}
+use Rattle.simplecss_text.proofs.reading.EndsLemmas.{ends-same, length-ends}
+use Rattle.simplecss_text.proofs.reading.KindLemmas.{HasSign, sign-begins}
+use Rattle.simplecss_text.proofs.reading.WellLemmas.{well-after, well-gap, well-until}
+use Rattle.simplecss_text.proofs.reading.ReadValues.{quote_low}
 use Rattle.simplecss_text.proofs.reading.Lawful.{Lawful, Owes, byte-lawful, lawful-cases, name-lawful, owes-alike, owes-cuts, owes-fails, owes-follow, owes-give, owes-if, owes-past, owes-past_one, owes-so, string_after-lawful}
-use Rattle.simplecss_text.proofs.reading.LocalLaws.{Along, Equal, Guard, Never, Repeats, To, at, at-brace, before-along, on, pairs-equal, past-both}
-use Rattle.simplecss_text.proofs.reading.SearchLaws.{blank-repeats, brace_plain, opens_comment-along}
+use Rattle.simplecss_text.proofs.reading.LocalLemmas.{Diverge, Equal, Guard, Never, Repeats, To, at, at-brace, before-diverge, on, pairs-equal, past-both}
+use Rattle.simplecss_text.proofs.reading.SearchLemmas.{blank-repeats, brace_plain, opens_comment-diverge}
 
 pub string_or_name-lawful : Lawful true string_or_name string_or_name
 unfolding string_or_name
@@ -77,17 +77,17 @@ all_before-lawful c low r s = record {
   left = λ edition. well-until c low r;
   same = λ h. refl;
   guard =
-      λ edition t u m w h. at-brace (λ t u. Along t u r s
+      λ edition t u m w h. at-brace (λ t u. Diverge t u r s
       → Guard Equal true t u (all_before c r) (all_before c s))
       (λ u v h. by u v h (past (λ b. not (b == c)) r) (past (λ b. not (b == c)) s)
       (past-both 125 (u ++ v) u (λ b. not (b == c)) r s h)) t u m h;
 }
   where
-    by : (u v : List ℕ) → Along (125 ∷ (u ++ v)) (125 ∷ u) r s → (x y : List ℕ)
+    by : (u v : List ℕ) → Diverge (125 ∷ (u ++ v)) (125 ∷ u) r s → (x y : List ℕ)
         → To true (125 ∷ (u ++ v)) (125 ∷ u) x y
         → Guard Equal true (125 ∷ (u ++ v)) (125 ∷ u) (got (before r x) x) (got (before s y) y)
     by u v h x y (inl l) = inl l
-    by u v h x y (inr k) = inr (before-along (125 ∷ (u ++ v)) (125 ∷ u) r s x y h k, k)
+    by u v h x y (inr k) = inr (before-diverge (125 ∷ (u ++ v)) (125 ∷ u) r s x y h k, k)
 
 lang_of-lawful : (value : List ℕ)
     → Lawful true (λ edition. lang_of value) (λ edition. lang_of value)
@@ -119,7 +119,7 @@ owes-sign_of : {A : Type 0} {a b : Edition → Reading A} (kind : NextKind) (r s
 owes-sign_of kind r s h k p =
     let sign = sign-begins kind r h k in
     owes-past_one r s (omega (arith, ap length sign.is))
-    (well-behind sign.byte r (past_one r) sign.ascii (subst (Ends r) sign.is (ends-same r))) p
+    (well-after sign.byte r (past_one r) sign.ascii (subst (Ends r) sign.is (ends-same r))) p
 
 solid_as-lawful : (r s : List ℕ) (kind : NextKind) → next_kind r ≡ kind
     → Owes true r s (λ edition. solid_as edition kind r) (λ edition. solid_as edition kind s)
@@ -141,19 +141,19 @@ solid_as-lawful r s Colon k =
     owes-sign_of Colon r s tt k (pseudo_class_after-lawful (past_one r) (past_one s))
 solid_as-lawful r s Other k = named_token-lawful type_selector r s
 
-pub next_kind-along : (g : ℕ) (t u r s : List ℕ) → Along (g ∷ t) (g ∷ u) r s
+pub next_kind-diverge : (g : ℕ) (t u r s : List ℕ) → Diverge (g ∷ t) (g ∷ u) r s
     → next_kind r ≡ next_kind s
 unfolding next_kind
-next_kind-along g t u r s at = refl
-next_kind-along g t u r s (on b r1 s1 h) = refl
+next_kind-diverge g t u r s at = refl
+next_kind-diverge g t u r s (on b r1 s1 h) = refl
 
 pub solid-lawful : Lawful true solid solid
 unfolding solid
 solid-lawful r s =
     owes-alike
     (λ edition t u m h. ap (λ k. solid_as edition k s)
-    (at-brace (λ t u. Along t u r s → next_kind r ≡ next_kind s)
-    (λ u v. next_kind-along 125 (u ++ v) u r s) t u m h))
+    (at-brace (λ t u. Diverge t u r s → next_kind r ≡ next_kind s)
+    (λ u v. next_kind-diverge 125 (u ++ v) u r s) t u m h))
     (solid_as-lawful r s (next_kind r) refl)
 
 -- ---- gaps
@@ -175,7 +175,7 @@ gap_of-to t u a b (inl l) = inl (by (opens_comment a.1))
     by false = l
 gap_of-to t u a b (inr (inl k)) = absurd k
 gap_of-to t u a b (inr (inr k)) =
-    by (opens_comment a.1) (opens_comment b.1) (opens_comment-along 125 t u brace_plain a.1 b.1 k.1)
+    by (opens_comment a.1) (opens_comment b.1) (opens_comment-diverge 125 t u brace_plain a.1 b.1 k.1)
   where
     spaces : list_any (λ is_space_byte. is_space_byte) a.0 ≡ list_any
         (λ is_space_byte. is_space_byte) b.0
@@ -194,7 +194,7 @@ gap_of-to t u a b (inr (inr k)) =
     by false true e = absurd (cc)
     by false false e = inr (spaces, k.1)
 
-pub gap-guarded : (u v r s : List ℕ) → Along (125 ∷ (u ++ v)) (125 ∷ u) r s
+pub gap-guarded : (u v r s : List ℕ) → Diverge (125 ∷ (u ++ v)) (125 ∷ u) r s
     → Guard Equal true (125 ∷ (u ++ v)) (125 ∷ u) (gap r) (gap s)
 unfolding gap blank
 gap-guarded u v r s h =

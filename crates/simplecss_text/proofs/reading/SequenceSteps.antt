@@ -11,19 +11,19 @@ use Rattle.simplecss_text.specs.Tokens.{Token}
 use Rattle.simplecss_text.specs.Tokens.Token.{descendant_combinator}
 use Rattle.simplecss_text.specs.Pieces.{IsSimplePiece, next_kind, solid_as, solid, piece, ending, fault_ending}
 use Rattle.simplecss_text.specs.Pieces.Ending.{within_gap}
-use Rattle.simplecss_text.specs.Neighbours.{Side, between, side_behind}
+use Rattle.simplecss_text.specs.Neighbours.{Side, between, side_after}
 use Rattle.simplecss_text.specs.Neighbours.Side.{open_side, closed_side}
 use Rattle.simplecss_text.specs.TokenSequences.{TokenSequence, answered, ending_sequence, sequence_from, token_then}
-use Rattle.simplecss_text.proofs.reading.SequenceLaws.{sequence_from-ending, sequence_from-piece}
-use Rattle.simplecss_text.proofs.reading.KindLaws.{solid-kind_known}
-use Rattle.simplecss_text.proofs.bytes.GapLaws.{gap-again}
+use Rattle.simplecss_text.proofs.reading.SequenceLemmas.{sequence_from-ending, sequence_from-piece}
+use Rattle.simplecss_text.proofs.reading.KindLemmas.{solid-kind_known}
+use Rattle.simplecss_text.proofs.bytes.GapLemmas.{gap-again}
 
 -- the sequence after a gap, by the kind of what is there and what is read as a solid piece
 abbrev pub solid_sequence : Edition → Side → Bool → NextKind → List ℕ → Reading Token
     → TokenSequence
 solid_sequence edition side spaced kind start (got token after) = answered
     (between side spaced kind start after) start
-    (token_then token after (sequence_from edition (side_behind kind) after))
+    (token_then token after (sequence_from edition (side_after kind) after))
 solid_sequence edition side spaced kind start (fails fault after) = ending_sequence side
     (fault_ending kind spaced start fault after)
 

@@ -9,10 +9,10 @@ use Rattle.simplecss_text.specs.Declarations.{StyleDeclaration}
 use Rattle.simplecss_text.specs.Statements.{StyleRule, at_rule_rest, ends_statements, next_block, next_statement, parts, rule_set, statement, statements}
 use Rattle.simplecss_text.specs.Skipped.{open_comment, at_rule_skip, end_skips, skipped, statement_skips}
 use Rattle.simplecss_text.specs.NothingLost.{IsCutUp, IsExplained, LosesNothing, cut_ends, rules_from, statement_then, statements_end}
-use Rattle.simplecss_text.proofs.reading.EachLaws.{each-none, each-some, not_empty, took}
-use Rattle.simplecss_text.proofs.reading.EndsLaws.{ends-ends, ends-nil, ends-past_one}
-use Rattle.simplecss_text.proofs.reading.SkipLaws.{skipped-none}
-use Rattle.simplecss_text.proofs.reading.StatementLaws.{next_statement-takes}
+use Rattle.simplecss_text.proofs.reading.EachLemmas.{each-none, each-some, not_empty, took}
+use Rattle.simplecss_text.proofs.reading.EndsLemmas.{ends-ends, ends-nil, ends-past_one}
+use Rattle.simplecss_text.proofs.reading.SkipLemmas.{skipped-none}
+use Rattle.simplecss_text.proofs.reading.StatementTextLemmas.{next_statement-takes}
 use Rattle.simplecss_text.proofs.cutting.SkipEnds.{ends-at_rule_rest}
 use Rattle.simplecss_text.proofs.skipped.CutUps.{past_blank_to, skip_to}
 use Rattle.simplecss_text.proofs.skipped.CutUpRuleSets.{rule_set-cut, rule_set-explained}

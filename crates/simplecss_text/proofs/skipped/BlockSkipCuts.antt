@@ -10,17 +10,17 @@ use Rattle.simplecss_text.specs.Declarations.{StyleDeclaration, declaration}
 use Rattle.simplecss_text.specs.Blocks.{from_block_end, ends_list, declaration_in_block, past_broken, past_list, block}
 use Rattle.simplecss_text.specs.Skipped.{open_comment, broken_declaration, extra_brace, brace_skips, list_end_skips, if_broken, list_skips, block_skips}
 use Rattle.simplecss_text.specs.SkippedLaws.{skip_before}
-use Rattle.simplecss_text.proofs.bytes.GapLaws.{past_blank-again}
-use Rattle.simplecss_text.proofs.reading.EachLaws.{each-stops}
-use Rattle.simplecss_text.proofs.reading.TakesLaws.{cuts-keeps}
-use Rattle.simplecss_text.proofs.reading.DeclarationLaws.{declaration_in_block-takes, length-from_block_end}
+use Rattle.simplecss_text.proofs.bytes.GapLemmas.{past_blank-again}
+use Rattle.simplecss_text.proofs.reading.EachLemmas.{each-stops}
+use Rattle.simplecss_text.proofs.reading.TakesLemmas.{cuts-keeps}
+use Rattle.simplecss_text.proofs.reading.DeclarationLemmas.{declaration_in_block-takes, length-from_block_end}
 use Rattle.simplecss_text.proofs.reading.DeclarationsLawful.{declaration-cuts, declaration-lawful, declaration_in_block-well}
 use Rattle.simplecss_text.proofs.reading.Lawful.{lawful-guarded}
-use Rattle.simplecss_text.proofs.reading.LocalLaws.{Along, at, on, To, Guard, Equal, Repeats, along-append, longer-along}
-use Rattle.simplecss_text.proofs.reading.SearchLaws.{brace_plain, opens_comment-along, past_blank-to}
-use Rattle.simplecss_text.proofs.reading.WellLaws.{each-well}
-use Rattle.simplecss_text.proofs.cutting.BlockGuards.{DeclarationPasses, passes, listed-repeats, ends_list-along}
-use Rattle.simplecss_text.proofs.cutting.BlockEndGuards.{Exact, before_it, behind_it, from_block_end-to, past_brace-exact, less_of_brace}
+use Rattle.simplecss_text.proofs.reading.LocalLemmas.{Diverge, at, on, To, Guard, Equal, Repeats, diverge-append, longer-diverge}
+use Rattle.simplecss_text.proofs.reading.SearchLemmas.{brace_plain, opens_comment-diverge, past_blank-to}
+use Rattle.simplecss_text.proofs.reading.WellLemmas.{each-well}
+use Rattle.simplecss_text.proofs.cutting.BlockGuards.{DeclarationPasses, passes, listed-repeats, ends_list-diverge}
+use Rattle.simplecss_text.proofs.cutting.BlockEndGuards.{Exact, before_it, after_it, from_block_end-to, past_brace-exact, less_of_brace}
 use Rattle.simplecss_text.proofs.cutting.BlockCuts.{Lost, at_brace, brace-lost, list-lost, none_broken, stuck-lost, taken-lost}
 
 -- a declaration begins with a blank
@@ -47,7 +47,7 @@ brace_skips-same : (u v r s : List ℕ) → Exact 125 (u ++ v) u r s
     ⊎ (brace_skips r ≡ map (skip_before v) (brace_skips s))
 brace_skips-same u v r s (before_it a b at) = inr refl
 brace_skips-same u v r s (before_it a b (on c x y h)) =
-    inr (by (c == 125) (along-append 125 u v x y h))
+    inr (by (c == 125) (diverge-append 125 u v x y h))
   where
     by : (k : Bool) → x ≡ y ++ v
         → (if k then record { from = c ∷ x; after = x; why = extra_brace } ∷ [] else [])
@@ -55,7 +55,7 @@ brace_skips-same u v r s (before_it a b (on c x y h)) =
         (if k then record { from = c ∷ y; after = y; why = extra_brace } ∷ [] else [])
     by true e = rw e refl
     by false e = refl
-brace_skips-same u v r s behind_it = by (starts 125 (u ++ v)) refl
+brace_skips-same u v r s after_it = by (starts 125 (u ++ v)) refl
   where
     none : (u : List ℕ) → starts 125 (u ++ v) ≡ false → brace_skips u ≡ []
     none [] e = refl
@@ -68,8 +68,8 @@ brace_skips-same u v r s behind_it = by (starts 125 (u ++ v)) refl
     by false e = inr (rw (e, none u e) refl)
 
 -- what is in place of a declaration
-list_end_skips-same : (u v p q x y : List ℕ) → Along (125 ∷ (u ++ v)) (125 ∷ u) p q
-    → Along (125 ∷ (u ++ v)) (125 ∷ u) x y
+list_end_skips-same : (u v p q x y : List ℕ) → Diverge (125 ∷ (u ++ v)) (125 ∷ u) p q
+    → Diverge (125 ∷ (u ++ v)) (125 ∷ u) x y
     → (if ends_list p then [] else record {
       from = p;
       after = x;
@@ -81,8 +81,8 @@ list_end_skips-same : (u v p q x y : List ℕ) → Along (125 ∷ (u ++ v)) (125
     } ∷ [])
 list_end_skips-same u v p q x y h k =
     by (ends_list p) (ends_list q) (opens_comment p) (opens_comment q)
-    (ends_list-along (u ++ v) u p q h) (opens_comment-along 125 (u ++ v) u brace_plain p q h)
-    (along-append 125 u v p q h) (along-append 125 u v x y k)
+    (ends_list-diverge (u ++ v) u p q h) (opens_comment-diverge 125 (u ++ v) u brace_plain p q h)
+    (diverge-append 125 u v p q h) (diverge-append 125 u v x y k)
   where
     by : (i j c d : Bool) → i ≡ j → c ≡ d → p ≡ q ++ v → x ≡ y ++ v
         → (if i then [] else record {
@@ -106,7 +106,7 @@ list_end_skips-same u v p q x y h k =
 broken-same : (u v a b : List ℕ) (d e : Reading StyleDeclaration) → found d ≡ None
     → Guard Equal true (125 ∷ (u ++ v)) (125 ∷ u) d e
     → length (left_after d) ≤ length (past_blank a)
-    → Along (125 ∷ (u ++ v)) (125 ∷ u) a b
+    → Diverge (125 ∷ (u ++ v)) (125 ∷ u) a b
     → Lost (u ++ v) (past_byte 125 (past_broken d))
     ⊎ (if_broken a d ≡ map (skip_before v) (if_broken b e))
 broken-same u v a b d e n (inl l) less h =
@@ -136,11 +136,11 @@ broken-same u v a b (fails f r) (fails g s) n (inr k) less h = by (from_block_en
         inr (rw (one, two)
         (sym (map-append (skip_before v) (list_end_skips b y) (brace_skips (past_byte 125 y)))))
 
-    ended : Along (125 ∷ (u ++ v)) (125 ∷ u) x y
+    ended : Diverge (125 ∷ (u ++ v)) (125 ∷ u) x y
         → To true (125 ∷ (u ++ v)) (125 ∷ u) (past_blank a) (past_blank b)
         → list_end_skips a x ≡ map (skip_before v) (list_end_skips b y)
     ended i (inl l) =
-        absurd (omega (arith, l, less, length-from_block_end r, longer-along _ _ x y i))
+        absurd (omega (arith, l, less, length-from_block_end r, longer-diverge _ _ x y i))
     ended i (inr j) = list_end_skips-same u v (past_blank a) (past_blank b) x y j i
 
     by : To true (125 ∷ (u ++ v)) (125 ∷ u) x y → Same
@@ -152,7 +152,7 @@ broken-same u v a b (fails f r) (fails g s) n (inr k) less h = by (from_block_en
         (past_brace-exact (u ++ v) u x y i))
 
 pub block_skips-same : (edition : Edition) (u v r s : List ℕ) → IsUtf8 r
-    → Along (125 ∷ (u ++ v)) (125 ∷ u) r s
+    → Diverge (125 ∷ (u ++ v)) (125 ∷ u) r s
     → Lost (u ++ v) (block edition r).1
     ⊎ (block_skips edition r ≡ map (skip_before v) (block_skips edition s))
 unfolding block block_skips
@@ -168,7 +168,7 @@ block_skips-same edition u v r s w h =
         ⊎ (list_skips edition a ≡ map (skip_before v) (list_skips edition b))
 
     ends : (a b : List ℕ) → declaration_in_block edition a ≡ None → IsUtf8 a
-        → Along (125 ∷ (u ++ v)) (125 ∷ u) a b → (i j : Bool) → ends_list a ≡ i → i ≡ j
+        → Diverge (125 ∷ (u ++ v)) (125 ∷ u) a b → (i j : Bool) → ends_list a ≡ i → i ≡ j
         → Lost (u ++ v)
         (past_byte 125 (if i then a else past_broken (declaration edition a)))
         ⊎ ((if i then [] else if_broken a (declaration edition a))
@@ -192,4 +192,4 @@ block_skips-same edition u v r s w h =
         (stuck-lost (u ++ v) (declaration edition a.1) (none_broken edition a.1 e n) l)))
     by a b n z (inr (inr k)) =
         ends a.1 b.1 n z k.1 (ends_list a.1) (ends_list b.1) refl
-        (ends_list-along (u ++ v) u a.1 b.1 k.1)
+        (ends_list-diverge (u ++ v) u a.1 b.1 k.1)

@@ -15,18 +15,18 @@ use Rattle.simplecss_text.specs.Blocks.{block, block_end, closes_block, declarat
 use Rattle.simplecss_text.specs.Statements.{next_block, part, part_and_comma, parts, rule_set}
 use Rattle.simplecss_text.specs.Skipped.{Skip, broken_declaration, leading_comma, open_comment, block_skips, brace_skips, comma_skips, from_brace, if_broken, list_end_skips, list_skips, next_block_skips, part_skips, parts_skips, rule_set_skips, Refusal, refusal, refused_part, selector_skips, skips_after_read}
 use Rattle.simplecss_text.specs.NothingLost.{IsCutUp, IsExplained, cut_ends, mark_then, skip_then}
-use Rattle.simplecss_text.proofs.printed.GotLaws.{starts-cons}
-use Rattle.simplecss_text.proofs.printed.ReadNames.{name-none_begins}
-use Rattle.simplecss_text.proofs.reading.DeclarationLaws.{declaration_in_block-takes}
+use Rattle.simplecss_text.proofs.reading.GotLemmas.{starts-cons}
+use Rattle.simplecss_text.proofs.reading.ReadNames.{name-none_begins}
+use Rattle.simplecss_text.proofs.reading.DeclarationLemmas.{declaration_in_block-takes}
 use Rattle.simplecss_text.proofs.reading.DeclarationsLawful.{declaration-stands, ends-from_block_end}
-use Rattle.simplecss_text.proofs.reading.EachLaws.{each-none, each-some, each-stops, not_empty, option_cases, took}
-use Rattle.simplecss_text.proofs.reading.EndsLaws.{ends-ends, no_texts, stands-ends}
-use Rattle.simplecss_text.proofs.reading.LeastLaws.{least-is}
-use Rattle.simplecss_text.proofs.reading.LocalLaws.{quiet-brace}
+use Rattle.simplecss_text.proofs.reading.EachLemmas.{each-none, each-some, each-stops, not_empty, option_cases, took}
+use Rattle.simplecss_text.proofs.reading.EndsLemmas.{ends-ends, no_texts, stands-ends}
+use Rattle.simplecss_text.proofs.reading.LeastLemmas.{least-is}
+use Rattle.simplecss_text.proofs.reading.LocalLemmas.{quiet-brace}
 use Rattle.simplecss_text.proofs.reading.NameLocal.{name-quiet}
-use Rattle.simplecss_text.proofs.reading.SkipLaws.{parts_skips-last, parts_skips-some}
-use Rattle.simplecss_text.proofs.reading.StandLaws.{ends-past_blank}
-use Rattle.simplecss_text.proofs.reading.StatementLaws.{part_and_comma-takes}
+use Rattle.simplecss_text.proofs.reading.SkipLemmas.{parts_skips-last, parts_skips-some}
+use Rattle.simplecss_text.proofs.reading.StandLemmas.{ends-past_blank}
+use Rattle.simplecss_text.proofs.reading.StatementTextLemmas.{part_and_comma-takes}
 use Rattle.simplecss_text.proofs.cutting.BlockCuts.{none_broken}
 use Rattle.simplecss_text.proofs.cutting.StatementEnds.{past-stops}
 use Rattle.simplecss_text.proofs.skipped.RuleSetSkipCuts.{parts-last, parts-some}

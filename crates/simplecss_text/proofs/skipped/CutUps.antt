@@ -18,10 +18,10 @@ use Rattle.simplecss_text.specs.Statements.{part}
 use Rattle.simplecss_text.specs.Skipped.{Refusal, Skip, Why, extra_brace, refused_selector, brace_skips, from_brace, part_skips, past_refused, refusal, refusal_in, refused_part, selector_skips, skips_after, skips_after_read, unless_unknown, why_after}
 use Rattle.simplecss_text.specs.NothingLost.{IsCutUp, cut_ends, blank_then, mark_then, selector_then, declaration_then, skip_then, is_mark}
 use Rattle.simplecss_text.proofs.bytes.BlankLaws.{past_blank-cut}
-use Rattle.simplecss_text.proofs.reading.EndsLaws.{ends-by, ends-ends, ends-past, ends-same}
+use Rattle.simplecss_text.proofs.reading.EndsLemmas.{ends-by, ends-ends, ends-past, ends-same}
 use Rattle.simplecss_text.proofs.reading.NameLocal.{split-after}
-use Rattle.simplecss_text.proofs.reading.SequenceStandLaws.{reads-ends}
-use Rattle.simplecss_text.proofs.reading.StandLaws.{ends-past_blank}
+use Rattle.simplecss_text.proofs.reading.SequenceEndLemmas.{reads-ends}
+use Rattle.simplecss_text.proofs.reading.StandLemmas.{ends-past_blank}
 use Rattle.simplecss_text.proofs.skipped.RuleSetSkipCuts.{reads-after_blank}
 
 -- ---- pieces

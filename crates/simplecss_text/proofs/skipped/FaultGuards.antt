@@ -16,52 +16,52 @@ use Rattle.simplecss_text.specs.Tokens.Token.{type_selector, id_selector, class_
 use Rattle.simplecss_text.specs.declared.next_kind.NextKind.{NextKind}
 use Rattle.simplecss_text.specs.declared.next_kind.NextKind.TheVariants.{Stop, Slash, Child, Adjacent, Universal, Id, Class, Attribute, Colon, Other}
 use Rattle.simplecss_text.specs.Pieces.{equated, attribute_operator, attribute_after, lang_of, lang_after, pseudo_class_named, pseudo_class_after, named_token, next_kind, solid_as}
-use Rattle.simplecss_text.proofs.bytes.Utf8Laws.{utf8-behind}
-use Rattle.simplecss_text.proofs.reading.EndsLaws.{ends-same}
-use Rattle.simplecss_text.proofs.reading.KindLaws.{HasSign, sign-begins}
-use Rattle.simplecss_text.proofs.reading.WellLaws.{well-behind}
-use Rattle.simplecss_text.proofs.reading.LocalLaws.{Along, at, on, Guard, Equal, past_one-along}
+use Rattle.simplecss_text.proofs.bytes.Utf8Lemmas.{utf8-after}
+use Rattle.simplecss_text.proofs.reading.EndsLemmas.{ends-same}
+use Rattle.simplecss_text.proofs.reading.KindLemmas.{HasSign, sign-begins}
+use Rattle.simplecss_text.proofs.reading.WellLemmas.{well-after}
+use Rattle.simplecss_text.proofs.reading.LocalLemmas.{Diverge, at, on, Guard, Equal, past_one-diverge}
 use Rattle.simplecss_text.proofs.reading.Lawful.{Lawful, byte-lawful, name-lawful, owes-give, owes-fails, owes-follow, owes-if, lawful-guarded, lawful-keeps, lawful-text}
 use Rattle.simplecss_text.proofs.reading.PiecesLawful.{string_or_name-lawful, attribute_operator-lawful, all_before-lawful}
 
--- the same fault, at the same place
+-- the same fault, at the same offset
 pub data FaultsAlike (t u : List ℕ) : Fault → Fault → Type 0 where
   no_place : (f : Fault) → ((text other : List ℕ) → error_of text f ≡ error_of other f)
       → FaultsAlike t u f f
-  byte_place : (expected : ℕ) (r s : List ℕ) → Along (125 ∷ t) (125 ∷ u) r s
+  byte_place : (expected : ℕ) (r s : List ℕ) → Diverge (125 ∷ t) (125 ∷ u) r s
       → FaultsAlike t u (wrong_byte expected r) (wrong_byte expected s)
-  name_place : (r s : List ℕ) → Along (125 ∷ t) (125 ∷ u) r s
+  name_place : (r s : List ℕ) → Diverge (125 ∷ t) (125 ∷ u) r s
       → FaultsAlike t u (no_name r) (no_name s)
-  comment_place : (r s : List ℕ) → Along (125 ∷ t) (125 ∷ u) r s
+  comment_place : (r s : List ℕ) → Diverge (125 ∷ t) (125 ∷ u) r s
       → FaultsAlike t u (no_comment r) (no_comment s)
 
 -- where both fail, the faults are alike
-abbrev pub Tells : {A : Type 0} → List ℕ → List ℕ → Reading A → Reading A → Type 0
-Tells t u (fails f r) (fails e s) = FaultsAlike t u f e
-Tells t u (fails f r) (got y s) = Unit {0}
-Tells t u (got x r) b = Unit {0}
+abbrev pub Reports : {A : Type 0} → List ℕ → List ℕ → Reading A → Reading A → Type 0
+Reports t u (fails f r) (fails e s) = FaultsAlike t u f e
+Reports t u (fails f r) (got y s) = Unit {0}
+Reports t u (got x r) b = Unit {0}
 
 -- of two readings, the first has passed the brace, or their faults are alike
 abbrev pub FaultGuard : {A : Type 0} → List ℕ → List ℕ → Reading A → Reading A → Type 0
-FaultGuard t u a b = (length (left_after a) ≤ length t) ⊎ Tells t u a b
+FaultGuard t u a b = (length (left_after a) ≤ length t) ⊎ Reports t u a b
 
 -- a reader that owes what every reader owes, and the same faults
 pub record Heard {A : Type 0} (m : Edition → Reader A) : Type 0 where
   pub lawful : Lawful true m m
-  pub tells : (edition : Edition) (u v r s : List ℕ) → IsUtf8 r
-      → Along (125 ∷ (u ++ v)) (125 ∷ u) r s
+  pub reports : (edition : Edition) (u v r s : List ℕ) → IsUtf8 r
+      → Diverge (125 ∷ (u ++ v)) (125 ∷ u) r s
       → FaultGuard (u ++ v) u (m edition r) (m edition s)
 
 heard-give : {A : Type 0} (x : A) → Heard (λ edition. give x)
-heard-give x = record { lawful = owes-give x; tells = λ edition u v r s w h. inr tt }
+heard-give x = record { lawful = owes-give x; reports = λ edition u v r s w h. inr tt }
 
 heard-follow : {A B : Type 0} (m : Edition → Reader A) (n : A → Edition → Reader B) → Heard m
     → ((x : A) → Heard (n x)) → Heard (λ edition text. follow (m edition text) (λ x. n x edition))
 heard-follow {A = A} {B = B} m n p q = record {
   lawful = λ r s. owes-follow n n (p.lawful r s) (λ x. (q x).lawful);
-  tells = λ edition u v r s w h. by edition u v (m edition r) (m edition s)
+  reports = λ edition u v r s w h. by edition u v (m edition r) (m edition s)
       (lawful-text m m p.lawful edition r w)
-      (lawful-guarded m m p.lawful edition u v r s w h) (p.tells edition u v r s w h);
+      (lawful-guarded m m p.lawful edition u v r s w h) (p.reports edition u v r s w h);
 }
   where
     by : (edition : Edition) (u v : List ℕ) (a b : Reading A) → IsUtf8 (left_after a)
@@ -72,7 +72,7 @@ heard-follow {A = A} {B = B} m n p q = record {
     by edition u v (fails f i) b z (inl l) k = inl l
     by edition u v (got x i) (got y j) z (inr g) k =
         subst (λ (d : A). FaultGuard (u ++ v) u (n x edition i) (n d edition j)) g.0
-        ((q x).tells edition u v i j z g.1)
+        ((q x).reports edition u v i j z g.1)
     by edition u v (got x i) (fails f j) z (inr g) k = absurd g
     by edition u v (fails f i) (got y j) z (inr g) k = absurd g
     by edition u v (fails f i) (fails e j) z (inr g) (inl l) = inl l
@@ -82,20 +82,20 @@ heard-if : {A : Type 0} (k : Bool) (m n : Edition → Reader A) → Heard m → 
     → Heard (λ edition text. if k then m edition text else n edition text)
 heard-if true m n p q = record {
   lawful = λ r s. owes-if true (p.lawful r s) (q.lawful r s);
-  tells = λ edition u v r s w h. p.tells edition u v r s w h;
+  reports = λ edition u v r s w h. p.reports edition u v r s w h;
 }
 heard-if false m n p q = record {
   lawful = λ r s. owes-if false (p.lawful r s) (q.lawful r s);
-  tells = λ edition u v r s w h. q.tells edition u v r s w h;
+  reports = λ edition u v r s w h. q.reports edition u v r s w h;
 }
 
 -- ---- bytes, names, strings
 
 heard-byte : (c : ℕ) → c < 128 → Heard (λ edition. byte c)
 heard-byte c low =
-    record { lawful = byte-lawful c low; tells = λ edition u v r s w h. by (u ++ v) u r s h }
+    record { lawful = byte-lawful c low; reports = λ edition u v r s w h. by (u ++ v) u r s h }
   where
-    one : (t u : List ℕ) (b : ℕ) (r s : List ℕ) → Along (125 ∷ t) (125 ∷ u) (b ∷ r) (b ∷ s)
+    one : (t u : List ℕ) (b : ℕ) (r s : List ℕ) → Diverge (125 ∷ t) (125 ∷ u) (b ∷ r) (b ∷ s)
         → (k : Bool)
         → FaultGuard t u
         (if k then got (tt {0}) r else fails (wrong_byte c (b ∷ r)) (b ∷ r))
@@ -103,7 +103,7 @@ heard-byte c low =
     one t u b r s h true = inr tt
     one t u b r s h false = inr (byte_place c (b ∷ r) (b ∷ s) h)
 
-    by : (t u r s : List ℕ) → Along (125 ∷ t) (125 ∷ u) r s → FaultGuard t u (byte c r) (byte c s)
+    by : (t u r s : List ℕ) → Diverge (125 ∷ t) (125 ∷ u) r s → FaultGuard t u (byte c r) (byte c s)
     by t u r s at = one t u 125 t u at (125 == c)
     by t u r s (on b r1 s1 h) = one t u b r1 s1 (on b r1 s1 h) (b == c)
 
@@ -121,10 +121,10 @@ name-fault edition text left f e = by _ _ _ (begins_name edition (chars text)) e
 heard-name : Heard name
 heard-name = record {
   lawful = name-lawful;
-  tells = λ edition u v r s w h. by edition u v r s h (name edition r) (name edition s) refl refl;
+  reports = λ edition u v r s w h. by edition u v r s h (name edition r) (name edition s) refl refl;
 }
   where
-    by : (edition : Edition) (u v r s : List ℕ) → Along (125 ∷ (u ++ v)) (125 ∷ u) r s
+    by : (edition : Edition) (u v r s : List ℕ) → Diverge (125 ∷ (u ++ v)) (125 ∷ u) r s
         → (a b : Reading (List ℕ)) → name edition r ≡ a → name edition s ≡ b
         → FaultGuard (u ++ v) u a b
     by edition u v r s h (got x i) b e k = inr tt
@@ -132,16 +132,16 @@ heard-name = record {
     by edition u v r s h (fails f i) (fails g j) e k =
         rw (name-fault edition r i f e, name-fault edition s j g k) (inr (name_place r s h))
 
-string-told : (t u r s : List ℕ) (o p : Option (List ℕ))
+string-reported : (t u r s : List ℕ) (o p : Option (List ℕ))
     → FaultGuard t u (string_up_to r o) (string_up_to s p)
-string-told t u r s None p = inl (omega arith)
-string-told t u r s (Some x) p = inr tt
+string-reported t u r s None p = inl (omega arith)
+string-reported t u r s (Some x) p = inr tt
 
 heard-string_or_name : Heard string_or_name
 unfolding string_or_name
 heard-string_or_name = record {
   lawful = string_or_name-lawful;
-  tells = λ edition u v r s w h. by edition u v r s w h;
+  reports = λ edition u v r s w h. by edition u v r s w h;
 }
   where
     quoted : (edition : Edition) (u v : List ℕ) (b : ℕ) (r s : List ℕ) (k : Bool)
@@ -149,16 +149,16 @@ heard-string_or_name = record {
         → FaultGuard (u ++ v) u (if k then string_after b r else name edition (b ∷ r))
         (if k then string_after b s else name edition (b ∷ s))
     quoted edition u v b r s true h =
-        string-told (u ++ v) u r s (from_quote b b r) (from_quote b b s)
+        string-reported (u ++ v) u r s (from_quote b b r) (from_quote b b s)
     quoted edition u v b r s false h = h
 
     by : (edition : Edition) (u v r s : List ℕ) → IsUtf8 r
-        → Along (125 ∷ (u ++ v)) (125 ∷ u) r s
+        → Diverge (125 ∷ (u ++ v)) (125 ∷ u) r s
         → FaultGuard (u ++ v) u (string_or_name edition r) (string_or_name edition s)
-    by edition u v r s w at = heard-name.tells edition u v (125 ∷ (u ++ v)) (125 ∷ u) w at
+    by edition u v r s w at = heard-name.reports edition u v (125 ∷ (u ++ v)) (125 ∷ u) w at
     by edition u v r s w (on b r1 s1 h) =
         quoted edition u v b r1 s1 (is_quote b)
-        (heard-name.tells edition u v (b ∷ r1) (b ∷ s1) w (on b r1 s1 h))
+        (heard-name.reports edition u v (b ∷ r1) (b ∷ s1) w (on b r1 s1 h))
 
 -- ---- attributes and pseudo-classes
 
@@ -178,7 +178,7 @@ heard-attribute_operator : Heard attribute_operator
 unfolding attribute_operator
 heard-attribute_operator = record {
   lawful = attribute_operator-lawful;
-  tells = λ edition u v r s w h. by edition u v r s w h;
+  reports = λ edition u v r s w h. by edition u v r s w h;
 }
   where
     choose : {A : Type 0} (t u : List ℕ) (k : Bool) (a b x y : Reading A)
@@ -187,23 +187,23 @@ heard-attribute_operator = record {
     choose t u true a b x y p q = p refl
     choose t u false a b x y p q = q refl
 
-    behind : (b : ℕ) (r : List ℕ) → b < 128 → IsUtf8 (b ∷ r) → IsUtf8 r
-    behind b r low w = utf8-behind (b ∷ r) r b low w (ends-same (b ∷ r))
+    following : (b : ℕ) (r : List ℕ) → b < 128 → IsUtf8 (b ∷ r) → IsUtf8 r
+    following b r low w = utf8-after (b ∷ r) r b low w (ends-same (b ∷ r))
 
     by : (edition : Edition) (u v r s : List ℕ) → IsUtf8 r
-        → Along (125 ∷ (u ++ v)) (125 ∷ u) r s
+        → Diverge (125 ∷ (u ++ v)) (125 ∷ u) r s
         → FaultGuard (u ++ v) u (attribute_operator edition r) (attribute_operator edition s)
     by edition u v r s w at = inr (no_place no_attribute_form (λ text other. refl))
     by edition u v r s w (on b r1 s1 h) =
         choose (u ++ v) u (b == 93) _ _ _ _ (λ e. inr tt) (λ e1.
         choose (u ++ v) u (b == 61) _ _ _ _
-        (λ e. (heard-equated equals).tells edition u v (b ∷ r1) (b ∷ s1) w (on b r1 s1 h)) (λ e2.
+        (λ e. (heard-equated equals).reports edition u v (b ∷ r1) (b ∷ s1) w (on b r1 s1 h)) (λ e2.
         choose (u ++ v) u (b == 126) _ _ _ _
-        (λ e. (heard-equated has_word).tells edition u v r1 s1
-        (behind b r1 (omega (arith, eqb-true b 126 e)) w) h) (λ e3.
+        (λ e. (heard-equated has_word).reports edition u v r1 s1
+        (following b r1 (omega (arith, eqb-true b 126 e)) w) h) (λ e3.
         choose (u ++ v) u (b == 124) _ _ _ _
-        (λ e. (heard-equated begins_with).tells edition u v r1 s1
-        (behind b r1 (omega (arith, eqb-true b 124 e)) w) h)
+        (λ e. (heard-equated begins_with).reports edition u v r1 s1
+        (following b r1 (omega (arith, eqb-true b 124 e)) w) h)
         (λ e4. inr (no_place no_attribute_form (λ text other. refl))))))
 
 heard-attribute_after : Heard attribute_after
@@ -222,12 +222,12 @@ heard-attribute_after =
 
 heard-all_before : (c : ℕ) → c < 128 → Heard (λ edition. all_before c)
 heard-all_before c low =
-    record { lawful = all_before-lawful c low; tells = λ edition u v r s w h. inr tt }
+    record { lawful = all_before-lawful c low; reports = λ edition u v r s w h. inr tt }
 
 heard-no_language : Heard {A = Token} (λ edition text. fails no_language text)
 heard-no_language = record {
   lawful = owes-fails no_language no_language;
-  tells = λ edition u v r s w h. inr (no_place no_language (λ text other. refl));
+  reports = λ edition u v r s w h. inr (no_place no_language (λ text other. refl));
 }
 
 heard-lang_of : (value : List ℕ) → Heard (λ edition. lang_of value)
@@ -259,39 +259,39 @@ heard-pseudo_class_after =
 -- ---- solid pieces and gaps
 
 -- what follows the sign that a kind begins with
-behind-sign : {A : Type 0} (m : Edition → Reader A) → Heard m → (edition : Edition)
-    (kind : NextKind) (u v r s : List ℕ) → IsUtf8 r → Along (125 ∷ (u ++ v)) (125 ∷ u) r s
+after-sign : {A : Type 0} (m : Edition → Reader A) → Heard m → (edition : Edition)
+    (kind : NextKind) (u v r s : List ℕ) → IsUtf8 r → Diverge (125 ∷ (u ++ v)) (125 ∷ u) r s
     → HasSign kind → next_kind r ≡ kind
     → FaultGuard (u ++ v) u (m edition (past_one r)) (m edition (past_one s))
-behind-sign m p edition kind u v r s w h sign k = by (past_one-along 125 (u ++ v) u r s h)
+after-sign m p edition kind u v r s w h sign k = by (past_one-diverge 125 (u ++ v) u r s h)
   where
     text : IsUtf8 (past_one r)
     text =
         let begins = sign-begins kind r sign k in
-        (well-behind begins.byte r (past_one r) begins.ascii
+        (well-after begins.byte r (past_one r) begins.ascii
         (subst (λ (x : List ℕ). Ends r x) begins.is (ends-same r))).1 w
 
-    by : (length (past_one r) ≤ length (u ++ v)) ⊎ Along (125 ∷ (u ++ v)) (125 ∷ u) (past_one r)
+    by : (length (past_one r) ≤ length (u ++ v)) ⊎ Diverge (125 ∷ (u ++ v)) (125 ∷ u) (past_one r)
         (past_one s) → FaultGuard (u ++ v) u (m edition (past_one r)) (m edition (past_one s))
     by (inl l) = inl (omega (arith, l, lawful-keeps m m p.lawful edition (past_one r)))
-    by (inr along) = p.tells edition u v (past_one r) (past_one s) text along
+    by (inr diverge) = p.reports edition u v (past_one r) (past_one s) text diverge
 
-pub solid_as-told : (edition : Edition) (u v r s : List ℕ) → IsUtf8 r
-    → Along (125 ∷ (u ++ v)) (125 ∷ u) r s → (kind : NextKind) → next_kind r ≡ kind
+pub solid_as-reported : (edition : Edition) (u v r s : List ℕ) → IsUtf8 r
+    → Diverge (125 ∷ (u ++ v)) (125 ∷ u) r s → (kind : NextKind) → next_kind r ≡ kind
     → FaultGuard (u ++ v) u (solid_as edition kind r) (solid_as edition kind s)
-solid_as-told edition u v r s w h Stop k = inr (no_place no_selector (λ text other. refl))
-solid_as-told edition u v r s w h Slash k = inr (no_place no_selector (λ text other. refl))
-solid_as-told edition u v r s w h Child k = inr tt
-solid_as-told edition u v r s w h Adjacent k = inr tt
-solid_as-told edition u v r s w h Universal k = inr tt
-solid_as-told edition u v r s w h Id k =
-    behind-sign (λ edition. named_token edition id_selector) (named id_selector) edition Id u v r s
+solid_as-reported edition u v r s w h Stop k = inr (no_place no_selector (λ text other. refl))
+solid_as-reported edition u v r s w h Slash k = inr (no_place no_selector (λ text other. refl))
+solid_as-reported edition u v r s w h Child k = inr tt
+solid_as-reported edition u v r s w h Adjacent k = inr tt
+solid_as-reported edition u v r s w h Universal k = inr tt
+solid_as-reported edition u v r s w h Id k =
+    after-sign (λ edition. named_token edition id_selector) (named id_selector) edition Id u v r s
     w h tt k
-solid_as-told edition u v r s w h Class k =
-    behind-sign (λ edition. named_token edition class_selector) (named class_selector) edition Class
+solid_as-reported edition u v r s w h Class k =
+    after-sign (λ edition. named_token edition class_selector) (named class_selector) edition Class
     u v r s w h tt k
-solid_as-told edition u v r s w h Attribute k =
-    behind-sign attribute_after heard-attribute_after edition Attribute u v r s w h tt k
-solid_as-told edition u v r s w h Colon k =
-    behind-sign pseudo_class_after heard-pseudo_class_after edition Colon u v r s w h tt k
-solid_as-told edition u v r s w h Other k = (named type_selector).tells edition u v r s w h
+solid_as-reported edition u v r s w h Attribute k =
+    after-sign attribute_after heard-attribute_after edition Attribute u v r s w h tt k
+solid_as-reported edition u v r s w h Colon k =
+    after-sign pseudo_class_after heard-pseudo_class_after edition Colon u v r s w h tt k
+solid_as-reported edition u v r s w h Other k = (named type_selector).reports edition u v r s w h

@@ -17,15 +17,15 @@ use Rattle.simplecss_text.specs.Printing.{declaration_text, is_clean, rule_text,
 use Rattle.simplecss_text.specs.PrintingLaws.{IsNarrow}
 use Rattle.simplecss_text.specs.Skipped.{Refusal, Skip, block_skips, comma_skips, list_skips, next_block_skips, part_skips, parts_skips, refusal, rule_set_skips, selector_skips, skipped, skips_after_read, statement_skips}
 use Rattle.simplecss_text.specs.SkippedLaws.{PrintsWhole}
-use Rattle.simplecss_text.proofs.printed.PrintedSelectors.{IsSelector}
-use Rattle.simplecss_text.proofs.printed.ReadSelectors.{selector-reads_back_before}
-use Rattle.simplecss_text.proofs.reading.EachLaws.{not_empty}
-use Rattle.simplecss_text.proofs.reading.SkipLaws.{parts_skips-last, skipped-blank, skipped-none}
-use Rattle.simplecss_text.proofs.again.BlankTails.{past_blank-space}
-use Rattle.simplecss_text.proofs.again.DeclarationsAgain.{IsDeclaration}
-use Rattle.simplecss_text.proofs.again.KeptRules.{sheet-are}
-use Rattle.simplecss_text.proofs.again.RulesAgain.{begins-append, calm-blank, declaration-begins, declarations-again, first-found, list_goes_on, part-again, part_byte, part_calm, part_starts, parts-again, rule-assoc, rule-begins, selector-begins, spaced-list}
-use Rattle.simplecss_text.proofs.again.SheetsAgain.{Printable, all-printable, narrow-known, nothing_left, rule-there, sheet-prints_back}
+use Rattle.simplecss_text.proofs.round_trip.PrintedSelectors.{IsSelector}
+use Rattle.simplecss_text.proofs.round_trip.ReadSelectors.{selector-reads_back_before}
+use Rattle.simplecss_text.proofs.reading.EachLemmas.{not_empty}
+use Rattle.simplecss_text.proofs.reading.SkipLemmas.{parts_skips-last, skipped-blank, skipped-none}
+use Rattle.simplecss_text.proofs.round_trip.BlankTails.{past_blank-space}
+use Rattle.simplecss_text.proofs.round_trip.DeclarationsAgain.{IsDeclaration}
+use Rattle.simplecss_text.proofs.round_trip.KeptRules.{sheet-are}
+use Rattle.simplecss_text.proofs.round_trip.RulesAgain.{begins-append, calm-blank, declaration-begins, declarations-again, first-found, list_goes_on, part-again, part_byte, part_calm, part_starts, parts-again, rule-assoc, rule-begins, selector-begins, spaced-list}
+use Rattle.simplecss_text.proofs.round_trip.SheetsAgain.{Printable, all-printable, narrow-known, nothing_left, rule-there, sheet-prints_back}
 use Rattle.simplecss_text.proofs.skipped.CutUps.{IsDecided, selector-decided}
 use Rattle.simplecss_text.proofs.skipped.SkipsAcross.{skipped-next}
 

@@ -17,7 +17,7 @@ use Rattle.simplecss_text.specs.Tokens.{Token}
 use Rattle.simplecss_text.specs.Tokens.Token.{descendant_combinator}
 use Rattle.simplecss_text.specs.Pieces.{next_kind, solid_as, solid, fault_ending}
 use Rattle.simplecss_text.specs.Pieces.Ending.{without_head, within_piece}
-use Rattle.simplecss_text.specs.Neighbours.{Side, Answer, between, side_behind}
+use Rattle.simplecss_text.specs.Neighbours.{Side, Answer, between, side_after}
 use Rattle.simplecss_text.specs.Neighbours.Side.{open_side, closed_side}
 use Rattle.simplecss_text.specs.Neighbours.Answer.{nothing, descends, refuses}
 use Rattle.simplecss_text.specs.TokenSequences.{TokenSequence, answered, ending_sequence, sequence_from, sequence_of, token_then}
@@ -26,47 +26,47 @@ use Rattle.simplecss_text.specs.Selectors.{Outcome, Role, after_role, outcome, w
 use Rattle.simplecss_text.specs.Selectors.Outcome.{accepted, refused}
 use Rattle.simplecss_text.specs.Skipped.{faulty, unless_unknown, refusal_in, refusal}
 use Rattle.simplecss_text.specs.SkippedLaws.{refusal_before}
-use Rattle.simplecss_text.proofs.reading.TakesLaws.{Cuts}
-use Rattle.simplecss_text.proofs.reading.EndsLaws.{length-ends}
-use Rattle.simplecss_text.proofs.reading.KindLaws.{fault_ending-case, solid-kind_known}
-use Rattle.simplecss_text.proofs.reading.LocalLaws.{Along, at, on, Guard, Equal, longer-along, along-append}
-use Rattle.simplecss_text.proofs.reading.PiecesLawful.{next_kind-along, solid-cuts, solid-lawful, gap-guarded}
+use Rattle.simplecss_text.proofs.reading.TakesLemmas.{Cuts}
+use Rattle.simplecss_text.proofs.reading.EndsLemmas.{length-ends}
+use Rattle.simplecss_text.proofs.reading.KindLemmas.{fault_ending-case, solid-kind_known}
+use Rattle.simplecss_text.proofs.reading.LocalLemmas.{Diverge, at, on, Guard, Equal, longer-diverge, diverge-append}
+use Rattle.simplecss_text.proofs.reading.PiecesLawful.{next_kind-diverge, solid-cuts, solid-lawful, gap-guarded}
 use Rattle.simplecss_text.proofs.reading.Lawful.{lawful-guarded, lawful-text}
-use Rattle.simplecss_text.proofs.reading.WellLaws.{well-gap}
+use Rattle.simplecss_text.proofs.reading.WellLemmas.{well-gap}
 use Rattle.simplecss_text.proofs.reading.SequenceSteps.{solid_sequence, gap_sequence, sequence_from-by}
 use Rattle.simplecss_text.proofs.cutting.OutcomeGuards.{IsSolid, after_role-passed, answered-passed, fault_ending-outcome, left_of, left_of-sequence}
 use Rattle.simplecss_text.proofs.cutting.SelectorGuards.{Passed, solid_as-passed, gap_sequence-within}
-use Rattle.simplecss_text.proofs.skipped.FaultGuards.{FaultsAlike, no_place, byte_place, name_place, comment_place, FaultGuard, solid_as-told}
+use Rattle.simplecss_text.proofs.skipped.FaultGuards.{FaultsAlike, no_place, byte_place, name_place, comment_place, FaultGuard, solid_as-reported}
 
 -- ---- errors
 
--- a place of a text, where more follows the text
-place-alike : (text v b : List ℕ) → position_of (text ++ v) (b ++ v) ≡ position_of text b
+-- an offset of a text, where more follows the text
+offset-alike : (text v b : List ℕ) → position_of (text ++ v) (b ++ v) ≡ position_of text b
 unfolding position
-place-alike text v b =
-    let place : length (text ++ v) - length (b ++ v) ≡ length text - length b =
+offset-alike text v b =
+    let offset : length (text ++ v) - length (b ++ v) ≡ length text - length b =
     omega (arith, length-append text v, length-append b v) in
     let within : length text - length b ≤ length text = omega arith in
     let front : take (length text - length b) (text ++ v) ≡ take (length text - length b) text =
     take-append-le (length text - length b) text v within in
-    rw (place, front) refl
+    rw (offset, front) refl
 
 -- the error that reports a fault, where more follows the text
 error-alike : (u v text : List ℕ) (f e : Fault) → FaultsAlike (u ++ v) u f e
     → error_of (text ++ v) f ≡ error_of text e
 error-alike u v text f e (no_place _ h) = h (text ++ v) text
 error-alike u v text f e (name_place r s h) =
-    ap (λ (x : List ℕ). InvalidIdent (position_of (text ++ v) x)) (along-append 125 u v r s h)
-    ∙ ap InvalidIdent (place-alike text v s)
+    ap (λ (x : List ℕ). InvalidIdent (position_of (text ++ v) x)) (diverge-append 125 u v r s h)
+    ∙ ap InvalidIdent (offset-alike text v s)
 error-alike u v text f e (comment_place r s h) =
-    ap (λ (x : List ℕ). InvalidComment (position_of (text ++ v) x)) (along-append 125 u v r s h)
-    ∙ ap InvalidComment (place-alike text v s)
+    ap (λ (x : List ℕ). InvalidComment (position_of (text ++ v) x)) (diverge-append 125 u v r s h)
+    ∙ ap InvalidComment (offset-alike text v s)
 error-alike u v text f e (byte_place c r s at) =
-    ap (InvalidByte c 125) (place-alike text v (125 ∷ u))
+    ap (InvalidByte c 125) (offset-alike text v (125 ∷ u))
 error-alike u v text f e (byte_place c r s (on b r1 s1 h)) =
     ap (λ (x : List ℕ). InvalidByte c b (position_of (text ++ v) (b ∷ x)))
-    (along-append 125 u v r1 s1 h)
-    ∙ ap (InvalidByte c b) (place-alike text v (b ∷ s1))
+    (diverge-append 125 u v r1 s1 h)
+    ∙ ap (InvalidByte c b) (offset-alike text v (b ∷ s1))
 
 -- ---- sequences
 
@@ -140,7 +140,7 @@ between-alike P closed_side true Colon a x b y n d s c = d
 between-alike P closed_side true Other a x b y n d s c = d
 
 answered-refused : (text u v : List ℕ) (side : Side) (spaced : Bool) (kind : NextKind)
-    (a x b y : List ℕ) (p q : TokenSequence) → Along (125 ∷ (u ++ v)) (125 ∷ u) a b
+    (a x b y : List ℕ) (p q : TokenSequence) → Diverge (125 ∷ (u ++ v)) (125 ∷ u) a b
     → RefusalGuard text u v p q
     → RefusalGuard text u v (answered (between side spaced kind a x) a p)
     (answered (between side spaced kind b y) b q)
@@ -183,14 +183,14 @@ fault_ending-refused whole side kind spaced start fault after w =
 -- the sequence after every shorter text is refused alike
 abbrev SequencesRefused : Edition → (text : List ℕ) → ℕ → (u v : List ℕ) → Type 0
 SequencesRefused edition text n u v =
-    (side : Side) (r s : List ℕ) → length r ≤ n → IsUtf8 r → Along (125 ∷ (u ++ v)) (125 ∷ u) r s
+    (side : Side) (r s : List ℕ) → length r ≤ n → IsUtf8 r → Diverge (125 ∷ (u ++ v)) (125 ∷ u) r s
     → RefusalGuard text u v (sequence_from edition side r) (sequence_from edition side s)
 
 -- where a solid piece is read, or its fault
 piece-refused : (edition : Edition) (text : List ℕ) (n : ℕ) (u v : List ℕ)
     → SequencesRefused edition text n u v → (side : Side) (spaced : Bool) (kind : NextKind)
     (r s : List ℕ) (x y : Reading Token)
-    → IsSolid kind → length r ≤ suc n → Along (125 ∷ (u ++ v)) (125 ∷ u) r s → Cuts r x
+    → IsSolid kind → length r ≤ suc n → Diverge (125 ∷ (u ++ v)) (125 ∷ u) r s → Cuts r x
     → IsUtf8 (left_after x) → Passed (length (u ++ v)) kind r x
     → Guard Equal true (125 ∷ (u ++ v)) (125 ∷ u) x y → FaultGuard (u ++ v) u x y
     → RefusalGuard text u v (solid_sequence edition side spaced kind r x)
@@ -198,48 +198,48 @@ piece-refused : (edition : Edition) (text : List ℕ) (n : ℕ) (u v : List ℕ)
 piece-refused edition text n u v runs side spaced kind r s (fails f p) y w l h c z k g (inl less) =
     inl (rw (fault_ending-outcome side kind spaced r f p w) less)
 piece-refused edition text n u v runs side spaced kind r s (fails f p) (got y q) w l h c z k
-    (inl less) (inr told) =
+    (inl less) (inr reported) =
     inl (rw (fault_ending-outcome side kind spaced r f p w) less)
 piece-refused edition text n u v runs side spaced kind r s (fails f p) (got y q) w l h c z k
-    (inr along) (inr told) =
-    absurd along
+    (inr diverge) (inr reported) =
+    absurd diverge
 piece-refused edition text n u v runs side spaced kind r s (fails f p) (fails e q) w l h c z k g
-    (inr told) =
+    (inr reported) =
     inr (fault_ending-refused (text ++ v) side kind spaced r f p w
-    ∙ fault-refused text u v f e p q (sequence_end p) (sequence_end q) told
+    ∙ fault-refused text u v f e p q (sequence_end p) (sequence_end q) reported
     ∙ ap (option_map (refusal_before v))
     (sym (fault_ending-refused text side kind spaced s e q w)))
-piece-refused edition text n u v runs side spaced kind r s (got x p) y w l h c z k (inl less) told =
+piece-refused edition text n u v runs side spaced kind r s (got x p) y w l h c z k (inl less) reported =
     inl (answered-passed (length (u ++ v)) side spaced kind r p
-    (token_then x p (sequence_from edition (side_behind kind) p)) (λ m. k m less) less
+    (token_then x p (sequence_from edition (side_after kind) p)) (λ m. k m less) less
     (after_role-passed (length (u ++ v)) (role_of x) p
-    (outcome (sequence_from edition (side_behind kind) p)) less
-    (left_of-sequence edition (side_behind kind) (length (u ++ v)) p less)))
+    (outcome (sequence_from edition (side_after kind) p)) less
+    (left_of-sequence edition (side_after kind) (length (u ++ v)) p less)))
 piece-refused edition text n u v runs side spaced kind r s (got x p) (fails e q) w l h c z k
-    (inr along) told =
-    absurd along
+    (inr diverge) reported =
+    absurd diverge
 piece-refused edition text n u v runs side spaced kind r s (got x p) (got y q) w l h c z k
-    (inr g) told =
+    (inr g) reported =
     subst (λ (z : Token). RefusalGuard text u v
     (solid_sequence edition side spaced kind r (got x p))
     (solid_sequence edition side spaced kind s (got z q))) g.0
     (answered-refused text u v side spaced kind r p s q
-    (token_then x p (sequence_from edition (side_behind kind) p))
-    (token_then x q (sequence_from edition (side_behind kind) q)) h
-    (token-refused text u v x p q (sequence_from edition (side_behind kind) p)
-    (sequence_from edition (side_behind kind) q)
-    (runs (side_behind kind) p q (omega arith) z g.1)))
+    (token_then x p (sequence_from edition (side_after kind) p))
+    (token_then x q (sequence_from edition (side_after kind) q)) h
+    (token-refused text u v x p q (sequence_from edition (side_after kind) p)
+    (sequence_from edition (side_after kind) q)
+    (runs (side_after kind) p q (omega arith) z g.1)))
 
 solid_sequence-refused : (edition : Edition) (text : List ℕ) (n : ℕ) (u v : List ℕ)
     → SequencesRefused edition text n u v → (side : Side) (spaced : Bool) (r s : List ℕ)
-    → length r ≤ suc n → IsUtf8 r → Along (125 ∷ (u ++ v)) (125 ∷ u) r s
+    → length r ≤ suc n → IsUtf8 r → Diverge (125 ∷ (u ++ v)) (125 ∷ u) r s
     → RefusalGuard text u v (solid_sequence edition side spaced (next_kind r) r (solid edition r))
     (solid_sequence edition side spaced (next_kind s) s (solid edition s))
 solid_sequence-refused edition text n u v runs side spaced r s l z h =
     rw (sym same) (by (next_kind r) refl)
   where
     same : next_kind r ≡ next_kind s
-    same = next_kind-along 125 (u ++ v) u r s h
+    same = next_kind-diverge 125 (u ++ v) u r s h
 
     -- both texts, where this kind is next
     Both : NextKind → Type 0
@@ -264,7 +264,7 @@ solid_sequence-refused edition text n u v runs side spaced r s l z h =
         (solid_as-passed edition (u ++ v) u r s h kind k))
         (lawful-guarded solid solid solid-lawful edition u v r s z h)
         (rw (solid-kind_known edition kind r k, solid-kind_known edition kind s (sym same ∙ k))
-        (solid_as-told edition u v r s z h kind k))
+        (solid_as-reported edition u v r s z h kind k))
 
     by : (kind : NextKind) → next_kind r ≡ kind → Both kind
     by Stop k =
@@ -304,11 +304,11 @@ gap_sequence-refused : (edition : Edition) (text : List ℕ) (n : ℕ) (u v : Li
     → RefusalGuard text u v (gap_sequence edition side x) (gap_sequence edition side y)
 gap_sequence-refused edition text n u v runs side x y l z none (inl less) =
     inl (gap_sequence-within edition (length (u ++ v)) side x less)
-gap_sequence-refused edition text n u v runs side (fails f p) y l z none (inr along) =
+gap_sequence-refused edition text n u v runs side (fails f p) y l z none (inr diverge) =
     inl (gap_sequence-within edition (length (u ++ v)) side (fails f p)
     (omega (arith, ap length (none f p refl))))
-gap_sequence-refused edition text n u v runs side (got x p) (fails f q) l z none (inr along) =
-    absurd along
+gap_sequence-refused edition text n u v runs side (got x p) (fails f q) l z none (inr diverge) =
+    absurd diverge
 gap_sequence-refused edition text n u v runs side (got x p) (got y q) l z none (inr g) =
     subst (λ (z : Bool). RefusalGuard text u v
     (solid_sequence edition side x (next_kind p) p (solid edition p))
@@ -318,7 +318,7 @@ gap_sequence-refused edition text n u v runs side (got x p) (got y q) l z none (
 sequence_from-refused : (edition : Edition) (text u v : List ℕ) (n : ℕ)
     → SequencesRefused edition text n u v
 sequence_from-refused edition text u v zero left r s l z h =
-    absurd (omega (arith, l, longer-along (125 ∷ (u ++ v)) (125 ∷ u) r s h))
+    absurd (omega (arith, l, longer-diverge (125 ∷ (u ++ v)) (125 ∷ u) r s h))
 sequence_from-refused edition text u v (suc n) left r s l z h =
     rw (sequence_from-by edition left r, sequence_from-by edition left s)
     (gap_sequence-refused edition text n u v (sequence_from-refused edition text u v n) left (gap r)
@@ -328,7 +328,7 @@ sequence_from-refused edition text u v (suc n) left r s l z h =
 
 -- a selector passes the brace, or is refused for the same reason
 pub refusal-alike : (edition : Edition) (u v r s : List ℕ) → IsUtf8 r
-    → Along (125 ∷ (u ++ v)) (125 ∷ u) r s
+    → Diverge (125 ∷ (u ++ v)) (125 ∷ u) r s
     → (length (reads edition r).1 ≤ length (u ++ v))
     ⊎ (refusal edition r ≡ option_map (refusal_before v) (refusal edition s))
 unfolding reads refusal
@@ -346,5 +346,5 @@ refusal-alike edition u v r s z h =
     by (inl l) = inl (rw (left (outcome (sequence_of edition r))) l)
     by (inr e) =
         inr (ap (λ (whole : List ℕ). refusal_in whole (sequence_of edition r))
-        (along-append 125 u v r s h)
+        (diverge-append 125 u v r s h)
         ∙ e)

@@ -15,16 +15,16 @@ use Rattle.simplecss_text.specs.Blocks.{block}
 use Rattle.simplecss_text.specs.Statements.{part, part_and_comma, parts, next_block, rule_set}
 use Rattle.simplecss_text.specs.Skipped.{Refusal, Skip, leading_comma, refusal, from_brace, past_refused, refused_part, selector_skips, why_after, skips_after_read, part_skips, parts_skips, block_skips, next_block_skips, comma_skips, rule_set_skips}
 use Rattle.simplecss_text.specs.SkippedLaws.{refusal_before, skip_before}
-use Rattle.simplecss_text.proofs.bytes.Utf8Laws.{utf8-behind, utf8-past_byte_if}
-use Rattle.simplecss_text.proofs.reading.EachLaws.{each-none, each-some, not_empty, took}
-use Rattle.simplecss_text.proofs.reading.EndsLaws.{ends-ends, ends-past}
-use Rattle.simplecss_text.proofs.reading.TakesLaws.{length-past, length-past_one}
-use Rattle.simplecss_text.proofs.reading.StatementLaws.{length-parts, part_and_comma-takes}
-use Rattle.simplecss_text.proofs.reading.SkipLaws.{parts_skips-last, parts_skips-some}
-use Rattle.simplecss_text.proofs.reading.LocalLaws.{Along, at, on, To, Same, along-append, longer-along, past-both, past_byte-to, past_one-along, starts-along}
-use Rattle.simplecss_text.proofs.reading.SearchLaws.{brace_plain, past_blank-to}
+use Rattle.simplecss_text.proofs.bytes.Utf8Lemmas.{utf8-after, utf8-past_byte_if}
+use Rattle.simplecss_text.proofs.reading.EachLemmas.{each-none, each-some, not_empty, took}
+use Rattle.simplecss_text.proofs.reading.EndsLemmas.{ends-ends, ends-past}
+use Rattle.simplecss_text.proofs.reading.TakesLemmas.{length-past, length-past_one}
+use Rattle.simplecss_text.proofs.reading.StatementTextLemmas.{length-parts, part_and_comma-takes}
+use Rattle.simplecss_text.proofs.reading.SkipLemmas.{parts_skips-last, parts_skips-some}
+use Rattle.simplecss_text.proofs.reading.LocalLemmas.{Diverge, at, on, To, Same, diverge-append, longer-diverge, past-both, past_byte-to, past_one-diverge, starts-diverge}
+use Rattle.simplecss_text.proofs.reading.SearchLemmas.{brace_plain, past_blank-to}
 use Rattle.simplecss_text.proofs.reading.SequenceSteps.{gap_sequence, sequence_from-by}
-use Rattle.simplecss_text.proofs.reading.WellLaws.{found-text}
+use Rattle.simplecss_text.proofs.reading.WellLemmas.{found-text}
 use Rattle.simplecss_text.proofs.cutting.OutcomeGuards.{left_of}
 use Rattle.simplecss_text.proofs.cutting.SelectorGuards.{gap_sequence-within}
 use Rattle.simplecss_text.proofs.cutting.BlockCuts.{Lost}
@@ -69,29 +69,29 @@ refused_part-same v p q x y r s (Some refusal) e f = rw (e, f) refl
 
 -- what an accepted selector leaves
 after_read-same : (u v x y : List ℕ) (o : Option (List Component))
-    → Along (125 ∷ (u ++ v)) (125 ∷ u) x y
-    → (starts 44 x ≡ true) ⊎ Along (125 ∷ (u ++ v)) (125 ∷ u) (from_brace x) (from_brace y)
+    → Diverge (125 ∷ (u ++ v)) (125 ∷ u) x y
+    → (starts 44 x ≡ true) ⊎ Diverge (125 ∷ (u ++ v)) (125 ∷ u) (from_brace x) (from_brace y)
     → skips_after_read o x ≡ map (skip_before v) (skips_after_read o y)
 after_read-same u v x y None h c = refl
 after_read-same u v x y (Some selector) h c =
     by (starts 44 x) (starts 44 y) (starts 123 x) (starts 123 y) refl
-    (starts-along 125 (u ++ v) u 44 x y h) (starts-along 125 (u ++ v) u 123 x y h) c
+    (starts-diverge 125 (u ++ v) u 44 x y h) (starts-diverge 125 (u ++ v) u 123 x y h) c
   where
-    later : (a b : List ℕ) → Along (125 ∷ (u ++ v)) (125 ∷ u) a b
+    later : (a b : List ℕ) → Diverge (125 ∷ (u ++ v)) (125 ∷ u) a b
         → record { from = x; after = a; why = why_after a } ∷ []
         ≡ map (skip_before v) (record { from = y; after = b; why = why_after b } ∷ [])
     later a b at =
-        rw (not_empty 125 (u ++ v), not_empty 125 u, along-append 125 u v x y h) refl
+        rw (not_empty 125 (u ++ v), not_empty 125 u, diverge-append 125 u v x y h) refl
     later a b (on c a1 b1 k) =
         rw (
           not_empty c a1,
           not_empty c b1,
-          along-append 125 u v x y h,
-          along-append 125 u v a1 b1 k,
+          diverge-append 125 u v x y h,
+          diverge-append 125 u v a1 b1 k,
         ) refl
 
     by : (i j k l : Bool) → starts 44 x ≡ i → i ≡ j → k ≡ l
-        → (starts 44 x ≡ true) ⊎ Along (125 ∷ (u ++ v)) (125 ∷ u) (from_brace x) (from_brace y)
+        → (starts 44 x ≡ true) ⊎ Diverge (125 ∷ (u ++ v)) (125 ∷ u) (from_brace x) (from_brace y)
         → (if i || k then []
         else record { from = x; after = from_brace x; why = why_after (from_brace x) } ∷ [])
         ≡ map (skip_before v) (if j || l then []
@@ -115,7 +115,7 @@ PartSkipsSame edition u v r s =
     ⊎ (part_skips edition r ≡ map (skip_before v) (part_skips edition s)))
 
 part_skips-same : (edition : Edition) (u v r s : List ℕ) → IsUtf8 r
-    → Along (125 ∷ (u ++ v)) (125 ∷ u) r s → PartSkipsSame edition u v r s
+    → Diverge (125 ∷ (u ++ v)) (125 ∷ u) r s → PartSkipsSame edition u v r s
 unfolding part_skips selector_skips part
 part_skips-same edition u v r s w h =
     by (part-same edition u v r s w h) (refusal-alike edition u v r s w h)
@@ -127,11 +127,11 @@ part_skips-same edition u v r s w h =
     y : List ℕ
     y = past is_space (reads edition s).1
 
-    both : Along (125 ∷ (u ++ v)) (125 ∷ u) x y → (reads edition r).0 ≡ (reads edition s).0
+    both : Diverge (125 ∷ (u ++ v)) (125 ∷ u) x y → (reads edition r).0 ≡ (reads edition s).0
         → refusal edition r ≡ option_map (refusal_before v) (refusal edition s)
         → past_blank r ≡ past_blank s ++ v
         → past_refused x ≡ past_refused y ++ v
-        → (starts 44 x ≡ true) ⊎ Along (125 ∷ (u ++ v)) (125 ∷ u) (from_brace x) (from_brace y)
+        → (starts 44 x ≡ true) ⊎ Diverge (125 ∷ (u ++ v)) (125 ∷ u) (from_brace x) (from_brace y)
         → refused_part r x (refusal edition r) ++ skips_after_read (reads edition r).0 x
         ≡ map (skip_before v)
         (refused_part s y (refusal edition s) ++ skips_after_read (reads edition s).0 y)
@@ -159,14 +159,14 @@ part_skips-same edition u v r s w h =
     comma true false e f g = absurd (cc)
     comma false j e f g = absurd (cc)
 
-    go : Along (125 ∷ (u ++ v)) (125 ∷ u) x y → (reads edition r).0 ≡ (reads edition s).0
+    go : Diverge (125 ∷ (u ++ v)) (125 ∷ u) x y → (reads edition r).0 ≡ (reads edition s).0
         → refusal edition r ≡ option_map (refusal_before v) (refusal edition s)
         → past_blank r ≡ past_blank s ++ v → (i : Bool) → starts 44 x ≡ i
         → PartSkipsSame edition u v r s
     go k e q b true c =
         inr (inr (both k e q b
-        (comma (starts 44 x) (starts 44 y) c (starts-along 125 (u ++ v) u 44 x y k)
-        (along-append 125 u v x y k)) (inl c)))
+        (comma (starts 44 x) (starts 44 y) c (starts-diverge 125 (u ++ v) u 44 x y k)
+        (diverge-append 125 u v x y k)) (inl c)))
     go k e q b false c = brace (past-both 125 (u ++ v) u (λ b. not (b == 123)) x y k)
       where
         brace : To true (125 ∷ (u ++ v)) (125 ∷ u) (from_brace x) (from_brace y)
@@ -174,9 +174,9 @@ part_skips-same edition u v r s w h =
         brace (inl l) = inr (inl (c, l))
         brace (inr d) =
             inr (inr (both k e q b
-            (refused_at (starts 44 x) (starts 44 y) (starts-along 125 (u ++ v) u 44 x y k)
-            (along-append 125 u v x y k)
-            (along-append 125 u v (from_brace x) (from_brace y) d)) (inr d)))
+            (refused_at (starts 44 x) (starts 44 y) (starts-diverge 125 (u ++ v) u 44 x y k)
+            (diverge-append 125 u v x y k)
+            (diverge-append 125 u v (from_brace x) (from_brace y) d)) (inr d)))
 
     by : Same (u ++ v) u ((reads edition r).0, x) ((reads edition s).0, y)
         → (length (reads edition r).1 ≤ length (u ++ v))
@@ -189,7 +189,7 @@ part_skips-same edition u v r s w h =
         inl (omega
         (arith, l, length-past is_space (reads edition r).1, reads-after_blank edition r))
     by (inr k) (inr q) (inr b) =
-        go k.1 k.0 q (along-append 125 u v (past_blank r) (past_blank s) b) (starts 44 x) refl
+        go k.1 k.0 q (diverge-append 125 u v (past_blank r) (past_blank s) b) (starts 44 x) refl
 
 -- ---- parts
 
@@ -223,9 +223,9 @@ passed-brace : (t x y : List ℕ) → length x ≤ length y → length y ≤ len
 passed-brace t x y l m = omega (arith, l, m, length-past (λ b. not (b == 123)) x)
 
 parts_skips-step : (edition : Edition) (n : ℕ) (u v : List ℕ)
-    → ((r s : List ℕ) → length r ≤ n → IsUtf8 r → Along (125 ∷ (u ++ v)) (125 ∷ u) r s
+    → ((r s : List ℕ) → length r ≤ n → IsUtf8 r → Diverge (125 ∷ (u ++ v)) (125 ∷ u) r s
     → PartsSkipsSame edition u v r s)
-    → (r s : List ℕ) → length r ≤ suc n → IsUtf8 r → Along (125 ∷ (u ++ v)) (125 ∷ u) r s
+    → (r s : List ℕ) → length r ≤ suc n → IsUtf8 r → Diverge (125 ∷ (u ++ v)) (125 ∷ u) r s
     → PartsSkipsSame edition u v r s
 parts_skips-step edition n u v more r s l w h = by (starts 44 x) refl
   where
@@ -256,7 +256,7 @@ parts_skips-step edition n u v more r s l w h = by (starts 44 x) refl
         )) passed)
     commas e (inr k) (inr (inl none)) = absurd (cc (e, none.0))
     commas e (inr k) (inr (inr same)) =
-        go (past_one-along 125 (u ++ v) u x y k.1)
+        go (past_one-diverge 125 (u ++ v) u x y k.1)
       where
         text : IsUtf8 (past_one x)
         text =
@@ -269,7 +269,7 @@ parts_skips-step edition n u v more r s l w h = by (starts 44 x) refl
             (part edition r).0 (rw e refl)
 
         after : starts 44 y ≡ true
-        after = sym (starts-along 125 (u ++ v) u 44 x y k.1) ∙ e
+        after = sym (starts-diverge 125 (u ++ v) u 44 x y k.1) ∙ e
 
         joined : PartsSkipsSame edition u v (past_one x) (past_one y)
             → PartsSkipsSame edition u v r s
@@ -290,7 +290,7 @@ parts_skips-step edition n u v more r s l w h = by (starts 44 x) refl
             inl (passed-brace (u ++ v) (parts edition r).1 (past_one x)
             (omega (arith, ap length (parts-some edition r e), length-parts edition (past_one x)))
             passed)
-        go (inr along) = joined (more (past_one x) (past_one y) (omega (arith, less)) text along)
+        go (inr diverge) = joined (more (past_one x) (past_one y) (omega (arith, less)) text diverge)
 
     -- no comma follows it
     last : starts 44 x ≡ false → Same (u ++ v) u (part edition r) (part edition s)
@@ -306,7 +306,7 @@ parts_skips-step edition n u v more r s l w h = by (starts 44 x) refl
         (sym (parts-last edition r e)) none.1)
     last e (inr k) (inr (inr same)) =
         let after : starts 44 y ≡ false =
-        sym (starts-along 125 (u ++ v) u 44 x y k.1) ∙ e in
+        sym (starts-diverge 125 (u ++ v) u 44 x y k.1) ∙ e in
         inr (parts_skips-last edition r x refl e ∙ same
         ∙ ap (map (skip_before v)) (sym (parts_skips-last edition s y refl after)))
 
@@ -317,16 +317,16 @@ parts_skips-step edition n u v more r s l w h = by (starts 44 x) refl
     by false e = last e (part-same edition u v r s w h) (part_skips-same edition u v r s w h)
 
 parts_skips-same : (edition : Edition) (u v : List ℕ) (n : ℕ) (r s : List ℕ) → length r ≤ n
-    → IsUtf8 r → Along (125 ∷ (u ++ v)) (125 ∷ u) r s → PartsSkipsSame edition u v r s
+    → IsUtf8 r → Diverge (125 ∷ (u ++ v)) (125 ∷ u) r s → PartsSkipsSame edition u v r s
 parts_skips-same edition u v zero r s l w h =
-    absurd (omega (arith, l, longer-along (125 ∷ (u ++ v)) (125 ∷ u) r s h))
+    absurd (omega (arith, l, longer-diverge (125 ∷ (u ++ v)) (125 ∷ u) r s h))
 parts_skips-same edition u v (suc n) r s l w h =
     parts_skips-step edition n u v (parts_skips-same edition u v n) r s l w h
 
 -- ---- rule sets
 
 next_block_skips-same : (edition : Edition) (u v whole r s : List ℕ) → IsUtf8 whole → Ends whole r
-    → Along (125 ∷ (u ++ v)) (125 ∷ u) r s
+    → Diverge (125 ∷ (u ++ v)) (125 ∷ u) r s
     → Lost (u ++ v) (next_block edition r).1
     ⊎ (next_block_skips edition r ≡ map (skip_before v) (next_block_skips edition s))
 unfolding next_block next_block_skips
@@ -341,7 +341,7 @@ next_block_skips-same edition u v whole r s w e h =
         ⊎ ((if starts 123 x then block_skips edition (past_one x) else [])
         ≡ map (skip_before v) (if starts 123 y then block_skips edition (past_one y) else []))
 
-    opened : (x y : List ℕ) → Ends whole x → Along (125 ∷ (u ++ v)) (125 ∷ u) x y → Both x y
+    opened : (x y : List ℕ) → Ends whole x → Diverge (125 ∷ (u ++ v)) (125 ∷ u) x y → Both x y
     opened x y f at = inl (inr refl)
     opened x y f (on b x1 y1 k) = one (b == 123) refl
       where
@@ -351,7 +351,7 @@ next_block_skips-same edition u v whole r s w e h =
             ≡ map (skip_before v) (if i then block_skips edition y1 else []))
         one true g =
             block_skips-same edition u v x1 y1
-            (utf8-behind whole x1 b (omega (arith, eqb-true b 123 g)) w f) k
+            (utf8-after whole x1 b (omega (arith, eqb-true b 123 g)) w f) k
         one false g = inl (inr refl)
 
     by : (x y : List ℕ) → Ends whole x → To true (125 ∷ (u ++ v)) (125 ∷ u) x y → Both x y
@@ -364,10 +364,10 @@ next_block-opened : (edition : Edition) (t x : List ℕ) → length (from_brace 
 unfolding next_block
 next_block-opened edition t x l = opened-lost edition t (from_brace x) l
 
-comma_skips-same : (u v r s : List ℕ) → Along (125 ∷ (u ++ v)) (125 ∷ u) r s
+comma_skips-same : (u v r s : List ℕ) → Diverge (125 ∷ (u ++ v)) (125 ∷ u) r s
     → comma_skips r ≡ map (skip_before v) (comma_skips s)
 comma_skips-same u v r s at = refl
-comma_skips-same u v r s (on b r1 s1 h) = by (b == 44) (along-append 125 u v r1 s1 h)
+comma_skips-same u v r s (on b r1 s1 h) = by (b == 44) (diverge-append 125 u v r1 s1 h)
   where
     by : (k : Bool) → r1 ≡ s1 ++ v
         → (if k then record { from = b ∷ r1; after = r1; why = leading_comma } ∷ [] else [])
@@ -378,7 +378,7 @@ comma_skips-same u v r s (on b r1 s1 h) = by (b == 44) (along-append 125 u v r1 
 
 -- a rule set, up to its block's end
 pub rule_set_skips-same : (edition : Edition) (u v r s : List ℕ) → IsUtf8 r
-    → Along (125 ∷ (u ++ v)) (125 ∷ u) r s
+    → Diverge (125 ∷ (u ++ v)) (125 ∷ u) r s
     → Lost (u ++ v) (rule_set edition r).1
     ⊎ (rule_set_skips edition r ≡ map (skip_before v) (rule_set_skips edition s))
 unfolding rule_set rule_set_skips
@@ -435,7 +435,7 @@ rule_set_skips-same edition u v r s w h =
         body (next_block_skips-same edition u v x a b z (parts-ends edition x) k.1) e
 
     comma : IsUtf8 x
-        → (length x < length (125 ∷ (u ++ v))) ⊎ Along (125 ∷ (u ++ v)) (125 ∷ u) x y → Both
+        → (length x < length (125 ∷ (u ++ v))) ⊎ Diverge (125 ∷ (u ++ v)) (125 ∷ u) x y → Both
     comma z (inl l) =
         inl (next_block-lost edition (u ++ v) a (omega (arith, length-parts edition x)))
     comma z (inr k) =

@@ -2,15 +2,15 @@
 -- Serves `laws::skips_are_cut` (what is skipped of a text in pieces).
 use Rattle.std.proofs.Common.{◌≡◌, ◌<◌, ℕ, List, [], ◌++◌, ap, append_assoc, arith, get_or, length, map, refl, subst, sym, ◌∙◌, IsUtf8, Some}
 use Rattle.std.proofs.lemmas.List.{get_or-map, length-map, map-append}
-use Rattle.simplecss_text.specs.Reading.{Ends, before, each, rest_place}
+use Rattle.simplecss_text.specs.Reading.{Ends, before, each, rest_offset}
 use Rattle.simplecss_text.specs.Characters.{Edition}
 use Rattle.simplecss_text.specs.Comments.{past_blank}
 use Rattle.simplecss_text.specs.Statements.{StyleRule, next_statement}
-use Rattle.simplecss_text.specs.Cutting.{rests_behind, StatementEndsAt}
+use Rattle.simplecss_text.specs.Cutting.{rests_after, StatementEndsAt}
 use Rattle.simplecss_text.specs.Skipped.{Skip, end_skips, skipped, statement_skips}
 use Rattle.simplecss_text.specs.SkippedLaws.{skip_before, SkipsAcross}
-use Rattle.simplecss_text.proofs.reading.SkipLaws.{skipped-none, skips_along-some}
-use Rattle.simplecss_text.proofs.reading.StatementLaws.{next_statement-takes}
+use Rattle.simplecss_text.proofs.reading.SkipLemmas.{skipped-none, skips_diverge-some}
+use Rattle.simplecss_text.proofs.reading.StatementTextLemmas.{next_statement-takes}
 use Rattle.simplecss_text.proofs.cutting.AtRuleCuts.{nothing_in_front}
 use Rattle.simplecss_text.proofs.cutting.StatementCuts.{next_statement-cut, next_statement-well}
 use Rattle.simplecss_text.proofs.cutting.CuttingLaws.{Reaches, at_rest, following, drop_place, reaches-well, rests-reached}
@@ -23,7 +23,7 @@ pub skipped-next : (edition : Edition) (text rest : List ℕ) (rules : List Styl
     ≡ statement_skips edition (past_blank text) ++ skipped edition rest
 unfolding skipped
 skipped-next edition text rest rules e =
-    skips_along-some (λ t. statement_skips edition (past_blank t)) end_skips
+    skips_diverge-some (λ t. statement_skips edition (past_blank t)) end_skips
     (next_statement edition) (next_statement-takes edition) text rest rules e
 
 skipped-nil : (edition : Edition) → skipped edition [] ≡ []
@@ -69,19 +69,19 @@ skipped-cut edition v text (following _ next rules f r) i u e =
     (sym (map-append (skip_before v) (statement_skips edition (past_blank u)) (skipped edition w)))
     ∙ ap (λ (xs : List Skip). map (skip_before v) xs ++ skipped edition v) (sym front)
 
-pub skips_across : (edition : Edition) (text : List ℕ) (place : ℕ) → IsUtf8 text
-    → StatementEndsAt edition text place → SkipsAcross edition text place
-skips_across edition text place i (k, l, is) =
-    let within : k < length (rests_behind edition text) =
-    omega (arith, l, length-map (rests_behind edition text) (rest_place text)) in
-    let rest : List ℕ = get_or (rests_behind edition text) k [] in
+pub skips_across : (edition : Edition) (text : List ℕ) (offset : ℕ) → IsUtf8 text
+    → StatementEndsAt edition text offset → SkipsAcross edition text offset
+skips_across edition text offset i (k, l, is) =
+    let within : k < length (rests_after edition text) =
+    omega (arith, l, length-map (rests_after edition text) (rest_offset text)) in
+    let rest : List ℕ = get_or (rests_after edition text) k [] in
     let reached : Reaches (next_statement edition) rest text =
     rests-reached edition k text [] within in
     let ends : Ends text rest =
     (reaches-well (next_statement edition) (next_statement-well edition) rest text reached).0 in
-    let here : rest_place text rest ≡ place =
-    sym (get_or-map (rest_place text) (rests_behind edition text) k [] place within) ∙ is in
-    let there : SkipsAcross edition text (rest_place text rest) =
+    let here : rest_offset text rest ≡ offset =
+    sym (get_or-map (rest_offset text) (rests_after edition text) k [] offset within) ∙ is in
+    let there : SkipsAcross edition text (rest_offset text rest) =
     skipped-cut edition rest text reached i (before text rest) (sym ends)
     ∙ ap (λ (t : List ℕ). map (skip_before t) (skipped edition (before text rest))
     ++ skipped edition t) (sym (drop_place text rest ends)) in

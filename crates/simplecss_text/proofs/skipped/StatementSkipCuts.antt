@@ -14,22 +14,22 @@ use Rattle.simplecss_text.specs.Statements.{StyleRule, at_rule_rest, ends_statem
 use Rattle.simplecss_text.specs.PrintingLaws.{is_hyphen_name}
 use Rattle.simplecss_text.specs.Skipped.{Refusal, faulty, unknown_class, Why, leading_comma, refused_selector, after_selector, missing_block, broken_declaration, extra_brace, open_comment, at_rule, Skip, name_of, rule_set_skips, statement_skips}
 use Rattle.simplecss_text.specs.SkippedLaws.{refusal_before, name_before, why_before, skip_before}
-use Rattle.simplecss_text.proofs.bytes.Utf8Laws.{utf8-behind, utf8-first}
-use Rattle.simplecss_text.proofs.printed.PrintedNames.{IsName}
-use Rattle.simplecss_text.proofs.printed.ReadNames.{name-fails, name-is, name-none_begins}
-use Rattle.simplecss_text.proofs.printed.ReadSelectors.{hyphen_no_name}
-use Rattle.simplecss_text.proofs.reading.EndsLaws.{ends-ends, ends-same}
+use Rattle.simplecss_text.proofs.bytes.Utf8Lemmas.{utf8-after, utf8-first}
+use Rattle.simplecss_text.proofs.reading.PrintedNames.{IsName}
+use Rattle.simplecss_text.proofs.reading.ReadNames.{name-fails, name-is, name-none_begins}
+use Rattle.simplecss_text.proofs.round_trip.ReadSelectors.{hyphen_no_name}
+use Rattle.simplecss_text.proofs.reading.EndsLemmas.{ends-ends, ends-same}
 use Rattle.simplecss_text.proofs.reading.NameLocal.{name-same}
-use Rattle.simplecss_text.proofs.reading.StandLaws.{ends-past_blank}
-use Rattle.simplecss_text.proofs.reading.TakesLaws.{length-past}
-use Rattle.simplecss_text.proofs.reading.DeclarationLaws.{length-from_block_end}
-use Rattle.simplecss_text.proofs.reading.WellLaws.{well-past_blank}
-use Rattle.simplecss_text.proofs.reading.LocalLaws.{Along, Guard, Equal, quiet-brace, quiet-semicolon, Quiet, starts-along}
-use Rattle.simplecss_text.proofs.reading.SearchLaws.{brace_plain}
+use Rattle.simplecss_text.proofs.reading.StandLemmas.{ends-past_blank}
+use Rattle.simplecss_text.proofs.reading.TakesLemmas.{length-past}
+use Rattle.simplecss_text.proofs.reading.DeclarationLemmas.{length-from_block_end}
+use Rattle.simplecss_text.proofs.reading.WellLemmas.{well-past_blank}
+use Rattle.simplecss_text.proofs.reading.LocalLemmas.{Diverge, Guard, Equal, quiet-brace, quiet-semicolon, ContinuesNothing, starts-diverge}
+use Rattle.simplecss_text.proofs.reading.SearchLemmas.{brace_plain}
 use Rattle.simplecss_text.proofs.cutting.BlockCuts.{Lost}
-use Rattle.simplecss_text.proofs.cutting.AtRuleCuts.{along-at, no_name-front}
+use Rattle.simplecss_text.proofs.cutting.AtRuleCuts.{diverge-at, no_name-front}
 use Rattle.simplecss_text.proofs.cutting.StatementEnds.{AtRuleEnds, at_block, at_fault, at_semicolon, uses_up}
-use Rattle.simplecss_text.proofs.cutting.StatementCuts.{NextEnds, along-of, at_rule-cut, at_rule-well, block-front, next_statement-ends, past_blank-along, semicolon-front, sign_plain}
+use Rattle.simplecss_text.proofs.cutting.StatementCuts.{NextEnds, diverge-of, at_rule-cut, at_rule-well, block-front, next_statement-ends, past_blank-diverge, semicolon-front, sign_plain}
 use Rattle.simplecss_text.proofs.cutting.StatementCuts.NextEnds.{text_ends, rules_end, at_rule_ends}
 use Rattle.simplecss_text.proofs.skipped.RuleSetSkipCuts.{rule_set_skips-same}
 
@@ -81,8 +81,8 @@ kept-name [] n e = refl
 kept-name (b ∷ v) n e = rw e refl
 
 -- a name that is read alike
-name-alike : (edition : Edition) (g : ℕ) (s v w n x : List ℕ) → Quiet edition g → IsUtf8 (s ++ v)
-    → Along (g ∷ (w ++ v)) (g ∷ w) (s ++ v) s → name edition (s ++ v) ≡ got n x
+name-alike : (edition : Edition) (g : ℕ) (s v w n x : List ℕ) → ContinuesNothing edition g → IsUtf8 (s ++ v)
+    → Diverge (g ∷ (w ++ v)) (g ∷ w) (s ++ v) s → name edition (s ++ v) ≡ got n x
     → length (w ++ v) < length x
     → name_of (name edition (s ++ v)) ≡ name_before v (name_of (name edition s))
 name-alike edition g s v w n x quiet u h e less =
@@ -138,21 +138,21 @@ name-cut edition s (b ∷ v) w whole cut ends = by (w ++ (b ∷ v)) refl ends
     by rest e (at_fault f left g) =
         inr (name-missing edition s v left b f (utf8-first s (b ∷ v) whole cut) g)
     by rest e (at_semicolon n x left f g) =
-        let behind : past (is_neither 59 123) x ≡ 59 ∷ (w ++ (b ∷ v)) =
+        let following : past (is_neither 59 123) x ≡ 59 ∷ (w ++ (b ∷ v)) =
         g ∙ ap (λ (t : List ℕ). 59 ∷ t) e in
         inr (name-alike edition 59 s (b ∷ v) w n x (quiet-semicolon edition) whole
-        (along-of 59 s (b ∷ v) w
-        (semicolon-front edition (s ++ (b ∷ v)) n x (w ++ (b ∷ v)) f behind)) f
-        (omega (arith, ap length behind, length-past (is_neither 59 123) x)))
+        (diverge-of 59 s (b ∷ v) w
+        (semicolon-front edition (s ++ (b ∷ v)) n x (w ++ (b ∷ v)) f following)) f
+        (omega (arith, ap length following, length-past (is_neither 59 123) x)))
     by rest e (at_block n x inner left f g h) =
-        let behind : from_block_end inner ≡ 125 ∷ (w ++ (b ∷ v)) =
+        let following : from_block_end inner ≡ 125 ∷ (w ++ (b ∷ v)) =
         h ∙ ap (λ (t : List ℕ). 125 ∷ t) e in
         inr (name-alike edition 125 s (b ∷ v) w n x (quiet-brace edition) whole
-        (along-of 125 s (b ∷ v) w
-        (block-front edition (s ++ (b ∷ v)) n x inner (w ++ (b ∷ v)) f g behind)) f
+        (diverge-of 125 s (b ∷ v) w
+        (block-front edition (s ++ (b ∷ v)) n x inner (w ++ (b ∷ v)) f g following)) f
         (omega (
           arith,
-          ap length behind,
+          ap length following,
           length-from_block_end inner,
           ap length g,
           length-past (is_neither 59 123) x,
@@ -207,19 +207,19 @@ statement_skips-cut edition u v w rules whole cut e =
     none : w ++ v ≡ [] → Cut
     none n = nil v (none-after w v n)
 
-    ruled : Along (125 ∷ (w ++ v)) (125 ∷ w) (past_blank (u ++ v)) (past_blank u)
+    ruled : Diverge (125 ∷ (w ++ v)) (125 ∷ w) (past_blank (u ++ v)) (past_blank u)
         → starts 64 (past_blank (u ++ v)) ≡ false
         → rule_set edition (past_blank (u ++ v)) ≡ (rules, w ++ v)
         → Lost (w ++ v) (rule_set edition (past_blank (u ++ v))).1
         ⊎ (rule_set_skips edition (past_blank (u ++ v))
         ≡ map (skip_before v) (rule_set_skips edition (past_blank u))) → Cut
-    ruled along other r (inl (inl l)) =
+    ruled diverge other r (inl (inl l)) =
         absurd (omega (arith, l, ap (λ (c : List StyleRule × List ℕ). length c.1) r))
-    ruled along other r (inl (inr k)) =
+    ruled diverge other r (inl (inr k)) =
         none (sym (ap (λ (c : List StyleRule × List ℕ). c.1) r) ∙ k)
-    ruled along other r (inr same) =
+    ruled diverge other r (inr same) =
         let sign : starts 64 (past_blank u) ≡ false =
-        sym (starts-along 125 (w ++ v) w 64 (past_blank (u ++ v)) (past_blank u) along)
+        sym (starts-diverge 125 (w ++ v) w 64 (past_blank (u ++ v)) (past_blank u) diverge)
         ∙ other in
         rw (other, sign) same
 
@@ -245,29 +245,29 @@ statement_skips-cut edition u v w rules whole cut e =
     by : NextEnds edition (past_blank (u ++ v)) rules (w ++ v) → Cut
     by (text_ends n) = none n
     by (rules_end other r h) =
-        let along : Along (125 ∷ (w ++ v)) (125 ∷ w) (past_blank (u ++ v)) (past_blank u) =
-        past_blank-along 125 u v w brace_plain h in
-        ruled along other r
+        let diverge : Diverge (125 ∷ (w ++ v)) (125 ∷ w) (past_blank (u ++ v)) (past_blank u) =
+        past_blank-diverge 125 u v w brace_plain h in
+        ruled diverge other r
         (rule_set_skips-same edition w v (past_blank (u ++ v)) (past_blank u)
-        ((well-past_blank (u ++ v)).1 whole) along)
+        ((well-past_blank (u ++ v)).1 whole) diverge)
     by (at_rule_ends after is none h) =
         let s : List ℕ = before after (w ++ v) ++ w in
         let parts : after ≡ s ++ v =
         sym (append_assoc (before after (w ++ v)) w v
         ∙ (at_rule-well edition after (w ++ v) h).0) in
         let start : past_blank (u ++ v) ≡ 64 ∷ (s ++ v) = is ∙ ap (λ (t : List ℕ). 64 ∷ t) parts in
-        let behind : Ends (past_blank (u ++ v)) (64 ∷ (s ++ v)) =
+        let following : Ends (past_blank (u ++ v)) (64 ∷ (s ++ v)) =
         subst (Ends (past_blank (u ++ v))) start (ends-same (past_blank (u ++ v))) in
-        let along : Along (64 ∷ (s ++ v)) (64 ∷ s) (past_blank (u ++ v)) (past_blank u) =
-        past_blank-along 64 u v s sign_plain behind in
+        let diverge : Diverge (64 ∷ (s ++ v)) (64 ∷ s) (past_blank (u ++ v)) (past_blank u) =
+        past_blank-diverge 64 u v s sign_plain following in
         let whole_after : IsUtf8 (s ++ v) =
-        utf8-behind (u ++ v) (s ++ v) 64 (omega arith) whole
+        utf8-after (u ++ v) (s ++ v) 64 (omega arith) whole
         (ends-ends (u ++ v) (past_blank (u ++ v)) (64 ∷ (s ++ v)) (ends-past_blank (u ++ v))
-        behind) in
+        following) in
         let ends : AtRuleEnds edition (s ++ v) (w ++ v) =
         subst (λ (t : List ℕ). AtRuleEnds edition t (w ++ v)) parts h in
         at_sign s start
-        (along-at 64 (s ++ v) s (past_blank (u ++ v)) (past_blank u) along start)
+        (diverge-at 64 (s ++ v) s (past_blank (u ++ v)) (past_blank u) diverge start)
         (name-cut edition s v w whole_after cut ends)
         (at_rule-left edition (u ++ v) (s ++ v) (w ++ v) rules e start)
         (at_rule-cut edition s v w (w ++ v) whole_after cut refl ends)

@@ -19,19 +19,19 @@ use Rattle.simplecss_text.specs.Declarations.{value, importance, trailing, decla
 use Rattle.simplecss_text.specs.Blocks.{block, block_end}
 use Rattle.simplecss_text.specs.Statements.{part, parts, next_block, rule_set, at_rule_rest, statement, statements, StyleRule, kept}
 use Rattle.simplecss_text.specs.Sheets.{sheet}
-use Rattle.simplecss_text.specs.Cutting.{rests_behind, statement_ends, KeepsAcross, StatementEndsAt}
+use Rattle.simplecss_text.specs.Cutting.{rests_after, statement_ends, KeepsAcross, StatementEndsAt}
 use Rattle.simplecss_text.specs.Printing.{sheet_text}
 
 -- a block of only a blank consumes a further brace, so its statement ends after the second one
 abbrev pub further_brace : List ℕ
 further_brace = codes "a { }} b { c:d }"
 
--- the places at which statements end
+-- the offsets at which statements end
 pub ends_of_statements : (edition : Edition) →
     (statement_ends edition further_brace ≡ 6 ∷ 16 ∷ [])
     × (statement_ends edition (codes "@m x; a{b:c} /**/ @--x{y:z} /* w") ≡ 5 ∷ 12 ∷ 20 ∷ 27 ∷ [])
     × (statement_ends edition (codes " /**/ ") ≡ [])
-unfolding rests_behind each comment blank gap past_name_chars name string_or_name attribute_operator attribute_after lang_after pseudo_class_after named_token next_kind solid piece ending sequence_from chars encode trim_start trim_end reads part parts next_block rule_set at_rule_rest statement statements block block_end word past_number term value importance trailing declaration declarations
+unfolding rests_after each comment blank gap past_name_chars name string_or_name attribute_operator attribute_after lang_after pseudo_class_after named_token next_kind solid piece ending sequence_from chars encode trim_start trim_end reads part parts next_block rule_set at_rule_rest statement statements block block_end word past_number term value importance trailing declaration declarations
 ends_of_statements first_edition = (refl, refl, refl)
 ends_of_statements second_edition = (refl, refl, refl)
 
@@ -48,7 +48,7 @@ pub cut_at_statement : (edition : Edition) →
     × (take 6 further_brace ≡ codes "a { }}")
     × (kept edition (take 6 further_brace) ≡ [])
     × (kept edition (drop 6 further_brace) ≡ rule_b ∷ [])
-unfolding rests_behind each comment blank gap past_name_chars name string_or_name attribute_operator attribute_after lang_after pseudo_class_after named_token next_kind solid piece ending sequence_from chars encode trim_start trim_end reads part parts next_block rule_set at_rule_rest statement statements block block_end word past_number term value importance trailing declaration declarations
+unfolding rests_after each comment blank gap past_name_chars name string_or_name attribute_operator attribute_after lang_after pseudo_class_after named_token next_kind solid piece ending sequence_from chars encode trim_start trim_end reads part parts next_block rule_set at_rule_rest statement statements block block_end word past_number term value importance trailing declaration declarations
 cut_at_statement first_edition = (refl, refl, refl, refl)
 cut_at_statement second_edition = (refl, refl, refl, refl)
 
@@ -66,7 +66,7 @@ pub cut_elsewhere : (edition : Edition) →
     × (kept edition (drop 5 further_brace) ≡ [])
     × (sheet edition (take 5 further_brace ∷ drop 5 further_brace ∷ []) ≡ [])
     × (sheet_text (sheet edition (further_brace ∷ [])) ≡ codes "b { c:d; }")
-unfolding rests_behind each comment blank gap past_name_chars name string_or_name attribute_operator attribute_after lang_after pseudo_class_after named_token next_kind solid piece ending sequence_from chars encode trim_start trim_end reads part parts next_block rule_set at_rule_rest statement statements block block_end word past_number term value importance trailing declaration declarations
+unfolding rests_after each comment blank gap past_name_chars name string_or_name attribute_operator attribute_after lang_after pseudo_class_after named_token next_kind solid piece ending sequence_from chars encode trim_start trim_end reads part parts next_block rule_set at_rule_rest statement statements block block_end word past_number term value importance trailing declaration declarations
 cut_elsewhere first_edition = (refl, refl, refl, refl, refl)
 cut_elsewhere second_edition = (refl, refl, refl, refl, refl)
 

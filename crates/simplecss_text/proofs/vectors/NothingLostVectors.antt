@@ -120,6 +120,6 @@ pub less_is_accounted_for : (edition : Edition) {text : List ℕ} {rules : List 
     {xs : List Skip} → IsAccountedFor edition text rules xs → text ≡ codes "<" → xs ≡ [] → ⊥
 less_is_accounted_for edition (statements_end text xs h) e f =
     let left : [] ≡ codes "<" = less_stays edition [] h e f in cc
-less_is_accounted_for edition (statement_then text rest ss ds xs later rules h told k) e f =
+less_is_accounted_for edition (statement_then text rest ss ds xs later rules h reported k) e f =
     let both = none_of xs later f in
     less_is_accounted_for edition k (less_stays edition rest h e both.0) both.1

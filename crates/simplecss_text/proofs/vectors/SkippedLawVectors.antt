@@ -16,8 +16,8 @@ use Rattle.simplecss_text.specs.Terms.{word, past_number, term}
 use Rattle.simplecss_text.specs.Declarations.{value, importance, trailing, declaration, declarations}
 use Rattle.simplecss_text.specs.Blocks.{block, block_end}
 use Rattle.simplecss_text.specs.Statements.{part, parts, next_block, rule_set, at_rule_rest, statement, statements}
-use Rattle.simplecss_text.specs.Cutting.{rests_behind, statement_ends}
-use Rattle.simplecss_text.specs.Skipped.{broken_declaration, at_rule, refusal, selector_skips, part_skips, skips_along, parts_skips, block_skips, next_block_skips, rule_set_skips, statement_skips, skipped}
+use Rattle.simplecss_text.specs.Cutting.{rests_after, statement_ends}
+use Rattle.simplecss_text.specs.Skipped.{broken_declaration, at_rule, refusal, selector_skips, part_skips, skips_diverge, parts_skips, block_skips, next_block_skips, rule_set_skips, statement_skips, skipped}
 use Rattle.simplecss_text.specs.SkippedLaws.{skip_before}
 
 -- a declaration that is skipped in the first piece, and nothing in the second
@@ -28,11 +28,11 @@ pub skipped_in_front : (edition : Edition) →
     × (map (skip_before (codes "e{f:g}")) (skipped edition (codes "a{b:c;d}")) ≡ record
     { from = codes "d}e{f:g}"; after = codes "}e{f:g}"; why = broken_declaration } ∷ [])
     × (skipped edition (codes "e{f:g}") ≡ [])
-unfolding rests_behind each position comment blank gap past_name_chars name string_or_name
+unfolding rests_after each position comment blank gap past_name_chars name string_or_name
     attribute_operator attribute_after lang_after pseudo_class_after named_token next_kind solid
     piece ending sequence_from chars encode trim_start trim_end reads part parts next_block rule_set
     at_rule_rest statement statements block block_end word past_number term value importance
-    trailing declaration declarations refusal selector_skips part_skips skips_along parts_skips
+    trailing declaration declarations refusal selector_skips part_skips skips_diverge parts_skips
     block_skips next_block_skips rule_set_skips statement_skips skipped
 skipped_in_front first_edition = (refl, refl, refl, refl)
 skipped_in_front second_edition = (refl, refl, refl, refl)
@@ -45,11 +45,11 @@ pub hyphen_is_cut : (edition : Edition) →
     × (map (skip_before (codes "1{}")) (skipped edition (codes "@-")) ≡ record
     { from = codes "@-1{}"; after = codes "1{}"; why = at_rule None } ∷ [])
     × (map (λ s. s.why) (skipped edition (codes "@-/**/")) ≡ at_rule None ∷ [])
-unfolding rests_behind each position comment blank gap past_name_chars name string_or_name
+unfolding rests_after each position comment blank gap past_name_chars name string_or_name
     attribute_operator attribute_after lang_after pseudo_class_after named_token next_kind solid
     piece ending sequence_from chars encode trim_start trim_end reads part parts next_block rule_set
     at_rule_rest statement statements block block_end word past_number term value importance
-    trailing declaration declarations refusal selector_skips part_skips skips_along parts_skips
+    trailing declaration declarations refusal selector_skips part_skips skips_diverge parts_skips
     block_skips next_block_skips rule_set_skips statement_skips skipped
 hyphen_is_cut first_edition = (refl, refl, refl, refl)
 hyphen_is_cut second_edition = (refl, refl, refl, refl)
@@ -60,11 +60,11 @@ pub open_string_is_taken : (edition : Edition) →
     (skipped edition (codes "a{b:c 'x}d{e:f}") ≡ [])
     × (declaration edition (codes "b:c 'x}d{e:f}") ≡ got (record
     { name = codes "b"; value = codes "c"; important = false }) [])
-unfolding rests_behind each position comment blank gap past_name_chars name string_or_name
+unfolding rests_after each position comment blank gap past_name_chars name string_or_name
     attribute_operator attribute_after lang_after pseudo_class_after named_token next_kind solid
     piece ending sequence_from chars encode trim_start trim_end reads part parts next_block rule_set
     at_rule_rest statement statements block block_end word past_number term value importance
-    trailing declaration declarations refusal selector_skips part_skips skips_along parts_skips
+    trailing declaration declarations refusal selector_skips part_skips skips_diverge parts_skips
     block_skips next_block_skips rule_set_skips statement_skips skipped
 open_string_is_taken first_edition = (refl, refl)
 open_string_is_taken second_edition = (refl, refl)

@@ -1,9 +1,9 @@
 use Rattle.std.proofs.Common.{◌≡◌, ◌+◌, ◌≤◌, ◌<◌, Some, IfSome, length, get_or, take, ap, ◌∙◌, sym, subst}
 use Rattle.std.proofs.lemmas.List.{take_all, length-map}
 use Rattle.std.proofs.lemmas.Map.Text.{btree_map_updates_str}
-use Rattle.simplecss.specs.SeenDeclarations.{declaration_of, declarations_of}
-use Rattle.cssq.specs.Candidates.{IsBestPlace, TellsWhether, place_for, HasBestPlaces}
-use Rattle.cssq.proofs.BestPlaces.{nothing, stands_at, best_within, places_taken, places_kept}
+use Rattle.simplecss.specs.DeclarationViews.{declaration_of, declarations_of}
+use Rattle.cssq.specs.RuleWinners.{IsBestIndex, DecidesWhether, index_for_name, HasBestIndices}
+use Rattle.cssq.proofs.BestIndices.{nothing, stands_at, best_within, places_taken, places_kept}
 use Rattle.cssq.proofs.cascade.best_places.Goals as goal
 use Rattle.cssq.proofs.cascade.best_places.Goals.{Joined-takes_over, then-takes_over+in_ok-insert, else-takes_over}
 
@@ -11,9 +11,9 @@ pub takes_over-requires : goal.takes_over-requires
 takes_over-requires c =
     let ds = c.args.declarations.now in
     let d = get_or ds c.loop-place.place nothing in
-    let known : c.copied-known.result ≡ place_for c.loop-place.places d.name.now = c.copied-known.ensures ∙ c.get.ensures.value in
-    let within = best_within c.loop-place.place (declarations_of ds) d.name.now (place_for c.loop-place.places d.name.now) (c.loop-place.invariant d.name.now) in
-    subst (λ r. IfSome r (λ k. k < length ds)) (sym known) (subst (λ n. IfSome (place_for c.loop-place.places d.name.now) (λ k. k < n)) (length-map ds declaration_of) within)
+    let known : c.copied-known.result ≡ index_for_name c.loop-place.places d.name.now = c.copied-known.ensures ∙ c.get.ensures.value in
+    let within = best_within c.loop-place.place (declarations_of ds) d.name.now (index_for_name c.loop-place.places d.name.now) (c.loop-place.invariant d.name.now) in
+    subst (λ r. IfSome r (λ k. k < length ds)) (sym known) (subst (λ n. IfSome (index_for_name c.loop-place.places d.name.now) (λ k. k < n)) (length-map ds declaration_of) within)
 
 pub loop-place-preserved : goal.loop-place-preserved
 loop-place-preserved c =
@@ -22,22 +22,22 @@ loop-place-preserved c =
     let d = get_or ds k nothing in
     let at = stands_at ds k c.loop-place-test.true in
     let old = c.loop-place.places in
-    let known : c.copied-known.result ≡ place_for old d.name.now = c.copied-known.ensures ∙ c.get.ensures.value in
-    let tells : TellsWhether c.takes_over.result (declarations_of ds) (place_for old d.name.now) (declaration_of d) =
-    subst (λ r. TellsWhether c.takes_over.result (declarations_of ds) r (declaration_of d)) known c.takes_over.ensures in
+    let known : c.copied-known.result ≡ index_for_name old d.name.now = c.copied-known.ensures ∙ c.get.ensures.value in
+    let reports : DecidesWhether c.takes_over.result (declarations_of ds) (index_for_name old d.name.now) (declaration_of d) =
+    subst (λ r. DecidesWhether c.takes_over.result (declarations_of ds) r (declaration_of d)) known c.takes_over.ensures in
     elim c.if-takes_over.branch [
       | then-takes_over+in_ok-insert w ↦ λ name.
-          subst (IsBestPlace (take (k + 1) (declarations_of ds)) name)
-          (sym (btree_map_updates_str d.name.now old w.insert.new.self (Some k) w.in_ok-insert.ensures.updates name) ∙ ap (λ m. place_for m name) (sym w.places-is))
-          (places_taken (declarations_of ds) k (declaration_of d) at (place_for old) c.loop-place.invariant
-          (subst (λ b. TellsWhether b (declarations_of ds) (place_for old d.name.now) (declaration_of d)) w.if-takes_over.true tells) name)
+          subst (IsBestIndex (take (k + 1) (declarations_of ds)) name)
+          (sym (btree_map_updates_str d.name.now old w.insert.new.self (Some k) w.in_ok-insert.ensures.updates name) ∙ ap (λ m. index_for_name m name) (sym w.places-is))
+          (places_taken (declarations_of ds) k (declaration_of d) at (index_for_name old) c.loop-place.invariant
+          (subst (λ b. DecidesWhether b (declarations_of ds) (index_for_name old d.name.now) (declaration_of d)) w.if-takes_over.true reports) name)
       | else-takes_over w ↦ λ name.
-          subst (λ m. IsBestPlace (take (k + 1) (declarations_of ds)) name (place_for m name)) (sym w.places-is)
-          (places_kept (declarations_of ds) k (declaration_of d) at (place_for old) c.loop-place.invariant
-          (subst (λ b. TellsWhether b (declarations_of ds) (place_for old d.name.now) (declaration_of d)) w.if-takes_over.false tells) name)
+          subst (λ m. IsBestIndex (take (k + 1) (declarations_of ds)) name (index_for_name m name)) (sym w.places-is)
+          (places_kept (declarations_of ds) k (declaration_of d) at (index_for_name old) c.loop-place.invariant
+          (subst (λ b. DecidesWhether b (declarations_of ds) (index_for_name old d.name.now) (declaration_of d)) w.if-takes_over.false reports) name)
     ]
 
 pub returns : goal.returns
 returns c =
     let ds = c.args.declarations.now in
-    subst (HasBestPlaces c.loop-place.places) (take_all c.loop-place.place (declarations_of ds) (subst (λ n. n ≤ c.loop-place.place) (sym (length-map ds declaration_of)) c.loop-place-test.false)) c.loop-place.invariant
+    subst (HasBestIndices c.loop-place.places) (take_all c.loop-place.place (declarations_of ds) (subst (λ n. n ≤ c.loop-place.place) (sym (length-map ds declaration_of)) c.loop-place-test.false)) c.loop-place.invariant

@@ -1,11 +1,11 @@
 use Rattle.std.proofs.Common.{◌≡◌, ◌+◌, ◌++◌, length, ap, ◌∙◌, sym, subst, arith}
 use Rattle.std.proofs.lemmas.List.{map-append}
-use Rattle.simplecss.specs.SeenDeclarations.{declaration_of, declarations_of}
-use Rattle.simplecss.specs.SeenRules.{rules_of}
+use Rattle.simplecss.specs.DeclarationViews.{declaration_of, declarations_of}
+use Rattle.simplecss.specs.RuleViews.{rules_of}
 use Rattle.cssq.specs.Winners.{IsStated, ListsInOrder}
-use Rattle.cssq.proofs.Indexed.{behind}
+use Rattle.cssq.proofs.Indexed.{after}
 use Rattle.cssq.proofs.Listing.{Before, lists_before}
-use Rattle.cssq.proofs.ListedPlaces.{listed_next, listed_all}
+use Rattle.cssq.proofs.ListedIndices.{listed_next, listed_all}
 use Rattle.cssq.proofs.cascade.stated_at.Goals as goal
 
 pub loop-place-init : goal.loop-place-init
@@ -28,7 +28,7 @@ loop-place-preserved g c =
     let items : declarations_of c.extend_from_slice.new.self.items ≡ declarations_of old ++ declarations_of rule.declarations.items = ap declarations_of grown ∙ map-append declaration_of old rule.declarations.items in (
       omega arith,
       λ element are.
-          subst (ListsInOrder (Before (IsStated g.E.Element.tree element (rules_of rules)) (behind places (j + 1)))) (sym items)
+          subst (ListsInOrder (Before (IsStated g.E.Element.tree element (rules_of rules)) (after places (j + 1)))) (sym items)
           (listed_next g.E.Element.tree element rules places are j c.loop-place-test.true rule c.index-rules-place.is (c.loop-place.invariant.1 element are)),
     )
 

@@ -1,9 +1,9 @@
 use Rattle.std.proofs.Common.{◌≤◌, length, map}
-use Rattle.simplecss.specs.SeenDeclarations.{declarations_of}
-use Rattle.simplecss.specs.SeenRules.{rules_of}
+use Rattle.simplecss.specs.DeclarationViews.{declarations_of}
+use Rattle.simplecss.specs.RuleViews.{rules_of}
 use Rattle.simplecss.specs.Matching.{AreMatches}
 use Rattle.cssq.specs.Winners.{IsStated, ListsInOrder}
-use Rattle.cssq.proofs.Indexed.{behind}
+use Rattle.cssq.proofs.Indexed.{after}
 use Rattle.cssq.proofs.Listing.{Before}
 use Rattle.cssq.proofs.cascade.stated_at.Given as goal
 
@@ -12,4 +12,4 @@ abbrev pub invariant-loop-place : goal.invariant-loop-place
 invariant-loop-place g l =
     (l.place-index ≤ length l.places)
     × ((element : g.E.Element.Node) → AreMatches g.E.Element.tree element (map (λ rule. rule.selector) l.rules) l.places
-    → ListsInOrder (Before (IsStated g.E.Element.tree element (rules_of l.rules)) (behind l.places l.place-index)) (declarations_of l.all.items))
+    → ListsInOrder (Before (IsStated g.E.Element.tree element (rules_of l.rules)) (after l.places l.place-index)) (declarations_of l.all.items))

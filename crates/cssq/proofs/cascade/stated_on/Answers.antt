@@ -1,8 +1,8 @@
 use Rattle.std.proofs.Common.{◌≡◌, ◌+◌, ◌++◌, ◌≤◌, ap, ◌∙◌, sym, subst}
 use Rattle.std.proofs.lemmas.Bool.{both_ways}
 use Rattle.std.proofs.lemmas.List.{map-append, length-map}
-use Rattle.simplecss.specs.SeenDeclarations.{declaration_of, declarations_of}
-use Rattle.simplecss.specs.SeenRules.{rule_of, rules_of}
+use Rattle.simplecss.specs.DeclarationViews.{declaration_of, declarations_of}
+use Rattle.simplecss.specs.RuleViews.{rule_of, rules_of}
 use Rattle.cssq.specs.Winners.{IsStated, ListsInOrder}
 use Rattle.cssq.proofs.FromLast.{rule_read}
 use Rattle.cssq.proofs.Listing.{Before, lists_before, lists_rule, lists_skip, lists_all}

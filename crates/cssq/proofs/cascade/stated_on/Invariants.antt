@@ -1,5 +1,5 @@
-use Rattle.simplecss.specs.SeenDeclarations.{declarations_of}
-use Rattle.simplecss.specs.SeenRules.{rules_of}
+use Rattle.simplecss.specs.DeclarationViews.{declarations_of}
+use Rattle.simplecss.specs.RuleViews.{rules_of}
 use Rattle.cssq.specs.Winners.{IsStated, ListsInOrder}
 use Rattle.cssq.proofs.Listing.{Before}
 use Rattle.cssq.proofs.cascade.stated_on.Given as goal

@@ -1,9 +1,9 @@
 use Rattle.std.proofs.Common.{IfOk, sym, subst}
 use Rattle.std.proofs.lemmas.Result.{IfOk-weaker}
-use Rattle.simplecss.specs.SeenDeclarations.{declarations_of}
-use Rattle.simplecss.specs.SeenRules.{rules_of, rules_in}
+use Rattle.simplecss.specs.DeclarationViews.{declarations_of}
+use Rattle.simplecss.specs.RuleViews.{rules_of, rules_in}
 use Rattle.cssq.specs.Winners.{IsStated, ListsInOrder, WinsForItsName}
-use Rattle.cssq.proofs.BestPlaces.{has_winners, own_names}
+use Rattle.cssq.proofs.BestIndices.{has_winners, own_names}
 use Rattle.cssq.proofs.cascade.winners.Given.{Over}
 use Rattle.cssq.proofs.cascade.winners.Goals.{After-drop-stated}
 use Rattle.cssq.proofs.cascade.winners.Goals as goal

@@ -1,10 +1,10 @@
 use Rattle.std.proofs.Common.{◌≡◌, ◌+◌, ◌++◌, ◌∷◌, ◌≤◌, [], Some, get_or, nat_eq, ap, ◌∙◌, sym, subst}
 use Rattle.std.specs.Option.{option_eq}
 use Rattle.std.proofs.lemmas.List.{map-append, length-map}
-use Rattle.simplecss.specs.SeenDeclarations.{declaration_of, declarations_of}
+use Rattle.simplecss.specs.DeclarationViews.{declaration_of, declarations_of}
 use Rattle.cssq.specs.Winners.{IsStated, ListsInOrder}
-use Rattle.cssq.specs.Candidates.{place_for}
-use Rattle.cssq.proofs.BestPlaces.{Kept, nothing, stands_at, placed_of, winners_none, winners_more, winners_skip, winners_all, same_place, other_place}
+use Rattle.cssq.specs.RuleWinners.{index_for_name}
+use Rattle.cssq.proofs.BestIndices.{Kept, nothing, stands_at, placed_of, winners_none, winners_more, winners_skip, winners_all, same_place, other_place}
 use Rattle.cssq.proofs.cascade.winners_of.Goals as goal
 use Rattle.cssq.proofs.cascade.winners_of.Goals.{then-eq+in_ok-push, else-eq}
 
@@ -24,22 +24,22 @@ loop-place-preserved g c =
     let d = get_or ds k nothing in
     let best = c.loop-place.invariant.0 in
     let places = c.in_ok-places.places in
-    let known : c.copied.result ≡ place_for places d.name.now = c.copied.ensures ∙ c.get.ensures.value in
+    let known : c.copied.result ≡ index_for_name places d.name.now = c.copied.ensures ∙ c.get.ensures.value in
     let test : c.eq.result ≡ option_eq nat_eq c.copied.result (Some k) = c.eq.ensures in (
       best,
       λ element rules lists.
           let stands = IsStated g.E.Element.tree element rules in
           let so_far = c.loop-place.invariant.1 element rules lists in
           let b = placed_of stands (declarations_of ds) lists k (declaration_of d) (stands_at ds k c.loop-place-test.true) in
-          let same_name : place_for places d.name.now ≡ place_for places b.0.declaration.name = ap (λ p. place_for places p.name) (sym b.2) in
+          let same_name : index_for_name places d.name.now ≡ index_for_name places b.0.declaration.name = ap (λ p. index_for_name places p.name) (sym b.2) in
           elim c.if-eq.branch [
             | then-eq+in_ok-push w ↦
                 let items = ap (λ v. declarations_of v.items) w.all-is ∙ ap declarations_of w.in_ok-push.ensures.items ∙ map-append declaration_of c.loop-place.all.items (d ∷ []) in
                 subst (ListsInOrder (Kept stands (declarations_of ds) lists (k + 1))) (ap (λ p. declarations_of c.loop-place.all.items ++ p ∷ []) b.2 ∙ sym items)
-                (winners_more stands (declarations_of ds) lists k b.0 b.1 (place_for places) best so_far (sym same_name ∙ sym known ∙ same_place c.copied.result k (sym test ∙ w.if-eq.true)))
+                (winners_more stands (declarations_of ds) lists k b.0 b.1 (index_for_name places) best so_far (sym same_name ∙ sym known ∙ same_place c.copied.result k (sym test ∙ w.if-eq.true)))
             | else-eq w ↦
                 subst (ListsInOrder (Kept stands (declarations_of ds) lists (k + 1))) (ap (λ v. declarations_of v.items) (sym w.all-is))
-                (winners_skip stands (declarations_of ds) lists k b.0 b.1 (place_for places) best so_far (λ is. other_place c.copied.result k (sym test ∙ w.if-eq.false) (known ∙ same_name ∙ is)))
+                (winners_skip stands (declarations_of ds) lists k b.0 b.1 (index_for_name places) best so_far (λ is. other_place c.copied.result k (sym test ∙ w.if-eq.false) (known ∙ same_name ∙ is)))
           ],
     )
 

@@ -1,14 +1,14 @@
 use Rattle.std.proofs.Common.{List}
-use Rattle.simplecss.specs.SeenDeclarations.{declarations_of}
+use Rattle.simplecss.specs.DeclarationViews.{declarations_of}
 use Rattle.simplecss.specs.Statements.{StyleRule}
 use Rattle.cssq.specs.Winners.{IsStated, ListsInOrder}
-use Rattle.cssq.specs.Candidates.{HasBestPlaces}
-use Rattle.cssq.proofs.BestPlaces.{Kept}
+use Rattle.cssq.specs.RuleWinners.{HasBestIndices}
+use Rattle.cssq.proofs.BestIndices.{Kept}
 use Rattle.cssq.proofs.cascade.winners_of.Given as goal
 
 -- what wins of the declarations so far
 abbrev pub invariant-loop-place : goal.invariant-loop-place
 invariant-loop-place g l =
-    HasBestPlaces l.places (declarations_of l.stated)
+    HasBestIndices l.places (declarations_of l.stated)
     × ((element : g.E.Element.Node) (rules : List StyleRule) (lists : ListsInOrder (IsStated g.E.Element.tree element rules) (declarations_of l.stated))
     → ListsInOrder (Kept (IsStated g.E.Element.tree element rules) (declarations_of l.stated) lists l.place) (declarations_of l.all.items))

@@ -1,7 +1,7 @@
 use Rattle.std.proofs.Common.{◌≡◌, ◌+◌, ◌-◌, Some, refl, subst, arith}
 use Rattle.std.specs.Option.{option_map}
-use Rattle.simplecss.specs.SeenDeclarations.{declaration_of}
-use Rattle.simplecss.specs.SeenRules.{rule_of, rules_of}
+use Rattle.simplecss.specs.DeclarationViews.{declaration_of}
+use Rattle.simplecss.specs.RuleViews.{rule_of, rules_of}
 use Rattle.cssq.specs.Winners.{IsStated, Wins}
 use Rattle.cssq.proofs.FromLast.{From, KnownFrom, known_all, known_passed, known_here, known_on, important_wins, winner_found, winner_none, winner_only, rule_read}
 use Rattle.cssq.proofs.cascade.winning.Given.{Over}

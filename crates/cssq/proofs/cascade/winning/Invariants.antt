@@ -1,6 +1,6 @@
 use Rattle.std.specs.Option.{option_map}
-use Rattle.simplecss.specs.SeenDeclarations.{declaration_of}
-use Rattle.simplecss.specs.SeenRules.{rules_of}
+use Rattle.simplecss.specs.DeclarationViews.{declaration_of}
+use Rattle.simplecss.specs.RuleViews.{rules_of}
 use Rattle.cssq.specs.Winners.{IsStated}
 use Rattle.cssq.proofs.FromLast.{KnownFrom}
 use Rattle.cssq.proofs.cascade.winning.Given as goal

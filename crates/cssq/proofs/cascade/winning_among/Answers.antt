@@ -1,8 +1,8 @@
 use Rattle.std.proofs.Common.{◌-◌, Some, length, get_or, map, refl, arith}
-use Rattle.simplecss.specs.SeenDeclarations.{declaration_of}
-use Rattle.simplecss.specs.SeenRules.{rules_of}
+use Rattle.simplecss.specs.DeclarationViews.{declaration_of}
+use Rattle.simplecss.specs.RuleViews.{rules_of}
 use Rattle.simplecss.specs.Matching.{AreMatches}
-use Rattle.cssq_tree.specs.Nodes.{Spot, page_tree}
+use Rattle.cssq_page.specs.PageNodes.{Spot, page_tree}
 use Rattle.cssq.specs.Winners.{IsStated, Wins}
 use Rattle.cssq.proofs.FromLast.{From, known_on, important_wins}
 use Rattle.cssq.proofs.Among.{among_none, among_all, among_passed, among_here}

@@ -1,9 +1,9 @@
 use Rattle.std.proofs.Common.{length, get_or, map}
 use Rattle.std.specs.Option.{option_map}
-use Rattle.simplecss.specs.SeenDeclarations.{declaration_of}
-use Rattle.simplecss.specs.SeenRules.{rules_of}
+use Rattle.simplecss.specs.DeclarationViews.{declaration_of}
+use Rattle.simplecss.specs.RuleViews.{rules_of}
 use Rattle.simplecss.specs.Matching.{AreMatches}
-use Rattle.cssq_tree.specs.Nodes.{Spot, page_tree}
+use Rattle.cssq_page.specs.PageNodes.{Spot, page_tree}
 use Rattle.cssq.specs.Winners.{IsStated}
 use Rattle.cssq.proofs.FromLast.{KnownFrom}
 use Rattle.cssq.proofs.cascade.winning_among.Given as goal

@@ -1,10 +1,10 @@
 use Rattle.std.proofs.Common.{◌≡◌, string_bytes}
-use Rattle.simplecss.specs.SeenRules.{rules_of}
-use Rattle.cssq.specs.PageRuns.{IsToldLine}
+use Rattle.simplecss.specs.RuleViews.{rules_of}
+use Rattle.cssq.specs.PageRuns.{IsElementLine}
 use Rattle.cssq.proofs.MatchLines.{LinesSoFar}
 use Rattle.cssq.proofs.runs.page_lines.Given as goal
 
 -- the lines of the elements so far, and results of searches by the index
 abbrev pub invariant-loop-place : goal.invariant-loop-place
 invariant-loop-place l =
-    LinesSoFar (IsToldLine l.asked (rules_of l.rules) l.page) l.place (string_bytes l.text) × (l.recent ≡ l.index)
+    LinesSoFar (IsElementLine l.content (rules_of l.rules) l.page) l.place (string_bytes l.text) × (l.recent ≡ l.index)

@@ -1,5 +1,5 @@
 use Rattle.std.proofs.Common.{ap, ◌∙◌}
-use Rattle.simplecss.specs.SeenRules.{rules_of}
+use Rattle.simplecss.specs.RuleViews.{rules_of}
 use Rattle.cssq.proofs.runs.page_output.Goals as goal
 
 pub returns-clause-ok : goal.returns-clause-ok

@@ -2,15 +2,15 @@ use Rattle.std.proofs.Common.{◌≡◌, ◌+◌, ◌^◌, ◌<◌, ◌≤◌, M
 use Rattle.std.specs.Option.{option_map}
 use Rattle.std.proofs.lemmas.List.{get_or_default}
 use Rattle.std.proofs.lemmas.Result.{on_ok_weaker}
-use Rattle.simplecss.specs.SeenDeclarations.{declaration_of}
-use Rattle.simplecss.specs.SeenRules.{rule_of, rules_of}
+use Rattle.simplecss.specs.DeclarationViews.{declaration_of}
+use Rattle.simplecss.specs.RuleViews.{rule_of, rules_of}
 use Rattle.simplecss.specs.Matching.{AreMatches}
-use Rattle.cssq_tree.specs.Nodes.{spot, page_tree}
+use Rattle.cssq_page.specs.PageNodes.{spot, page_tree}
 use Rattle.cssq.specs.MatchRuns.{numbers_line}
 use Rattle.cssq.specs.StyleRuns.{style_line}
-use Rattle.cssq.specs.PageRuns.{IsLineTold}
+use Rattle.cssq.specs.PageRuns.{AppendsElementLine}
 use Rattle.cssq.proofs.Among.{place_within}
-use Rattle.cssq.proofs.Indexed.{numbers_told, same_selectors}
+use Rattle.cssq.proofs.Indexed.{numbers_reported, same_selectors}
 use Rattle.cssq.proofs.runs.push_element.Goals.{After-as_slice-places}
 use Rattle.cssq.proofs.runs.push_element.Goals as goal
 
@@ -35,15 +35,15 @@ winning_among-requires c = λ k d within.
     let same = get_or_default c.as_slice-places.result.now k d 0 within in
     omega (arith, at, same)
 
-pub returns-in-Rules-clause-told : goal.returns-in-Rules-clause-told
-returns-in-Rules-clause-told c =
-    let are = subst (λ selectors. AreMatches page_tree (spot c.args.page.now c.args.place) selectors c.as_slice-places.result.now) (same_selectors rule_of c.args.rules.now) (found (goal.at.returns-in-Rules-clause-told c).After-as_slice-places) in
-    subst (λ asked. OnOk c.push_line.result (IsLineTold asked (rules_of c.args.rules.now) c.args.page.now c.args.place (string_bytes c.args.out.now) (string_bytes c.push_line.new.out))) (sym c.in-Rules.is)
-    (on_ok_weaker c.push_line.result (λ wrote. (numbers_line (c.args.place + 1) (map (λ place. place + 1) c.as_slice-places.result.now), numbers_told (rules_of c.args.rules.now) (spot c.args.page.now c.args.place) c.as_slice-places.result.now are c.args.page.now c.args.place refl, wrote)) c.push_line.ensures)
+pub returns-in-Rules-clause-reported : goal.returns-in-Rules-clause-reported
+returns-in-Rules-clause-reported c =
+    let are = subst (λ selectors. AreMatches page_tree (spot c.args.page.now c.args.place) selectors c.as_slice-places.result.now) (same_selectors rule_of c.args.rules.now) (found (goal.at.returns-in-Rules-clause-reported c).After-as_slice-places) in
+    subst (λ content. OnOk c.push_line.result (AppendsElementLine content (rules_of c.args.rules.now) c.args.page.now c.args.place (string_bytes c.args.out.now) (string_bytes c.push_line.new.out))) (sym c.in-Rules.is)
+    (on_ok_weaker c.push_line.result (λ wrote. (numbers_line (c.args.place + 1) (map (λ place. place + 1) c.as_slice-places.result.now), numbers_reported (rules_of c.args.rules.now) (spot c.args.page.now c.args.place) c.as_slice-places.result.now are c.args.page.now c.args.place refl, wrote)) c.push_line.ensures)
 
-pub returns-in-Winner-clause-told : goal.returns-in-Winner-clause-told
-returns-in-Winner-clause-told c =
+pub returns-in-Winner-clause-reported : goal.returns-in-Winner-clause-reported
+returns-in-Winner-clause-reported c =
     let winner = option_map declaration_of c.winning_among.result in
-    let wins = c.winning_among.ensures (spot c.args.page.now c.args.place) (found (goal.at.returns-in-Winner-clause-told c).After-as_slice-places) in
-    subst (λ asked. OnOk c.push_winner.result (IsLineTold asked (rules_of c.args.rules.now) c.args.page.now c.args.place (string_bytes c.args.out.now) (string_bytes c.push_winner.new.out))) (sym c.in-Winner.is)
+    let wins = c.winning_among.ensures (spot c.args.page.now c.args.place) (found (goal.at.returns-in-Winner-clause-reported c).After-as_slice-places) in
+    subst (λ content. OnOk c.push_winner.result (AppendsElementLine content (rules_of c.args.rules.now) c.args.page.now c.args.place (string_bytes c.args.out.now) (string_bytes c.push_winner.new.out))) (sym c.in-Winner.is)
     (on_ok_weaker c.push_winner.result (λ wrote. (style_line (c.args.place + 1) winner, (winner, wins, refl), wrote)) c.push_winner.ensures)

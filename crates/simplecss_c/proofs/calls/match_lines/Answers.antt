@@ -1,10 +1,10 @@
 use Rattle.std.proofs.Common.{map, string_bytes, ap, ◌∙◌, ◌≡◌, subst}
 use Rattle.std.specs.Prelude.{MatchResult}
-use Rattle.simplecss.specs.SeenRules.{rule_of}
+use Rattle.simplecss.specs.RuleViews.{rule_of}
 use Rattle.cssq.proofs.Indexed.{same_selectors}
 use Rattle.simplecss_c.specs.declared.answer.Failure.TheVariants.{Memory}
-use Rattle.simplecss_c.specs.declared.pages.Asked.TheVariants.{Numbers}
-use Rattle.simplecss_c.specs.Lines.{AreLinesOf}
+use Rattle.simplecss_c.specs.declared.pages.LineContent.TheVariants.{Numbers}
+use Rattle.simplecss_c.specs.AnswerLines.{AreLinesOf}
 use Rattle.simplecss_c.proofs.calls.match_lines.Goals as goal
 
 pub returns : goal.returns

@@ -1,9 +1,9 @@
 use Rattle.std.proofs.Common.{map, ap, ◌∙◌}
-use Rattle.simplecss.specs.SeenRules.{rules_in}
+use Rattle.simplecss.specs.RuleViews.{rules_in}
 use Rattle.simplecss.specs.Sheets.{sheet}
 use Rattle.simplecss.specs.ThisEdition.{this_edition}
 use Rattle.simplecss_c.specs.Calls.{passed_of}
-use Rattle.simplecss_c.specs.Lines.{AreWinnerLines}
+use Rattle.simplecss_c.specs.AnswerLines.{AreWinnerLines}
 use Rattle.simplecss_c.proofs.PageCalls.{page_due}
 use Rattle.simplecss_c.proofs.calls.style_text.Goals as goal
 

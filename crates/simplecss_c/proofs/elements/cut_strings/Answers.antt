@@ -1,7 +1,7 @@
 use Rattle.std.proofs.Common.{map, ap, sym}
 use Rattle.std.proofs.lemmas.Str.{IsCharBoundary-start}
 use Rattle.simplecss_c.specs.Elements.{strings_in}
-use Rattle.simplecss_c.proofs.Strings.{with_strings}
+use Rattle.simplecss_c.proofs.StringCuts.{with_strings}
 use Rattle.simplecss_c.proofs.elements.cut_strings.Goals as goal
 
 pub loop-end-init : goal.loop-end-init

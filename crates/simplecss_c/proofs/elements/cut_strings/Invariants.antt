@@ -1,5 +1,5 @@
 use Rattle.std.proofs.Common.{map, drop}
-use Rattle.simplecss_c.proofs.Strings.{StringsSoFar}
+use Rattle.simplecss_c.proofs.StringCuts.{StringsSoFar}
 use Rattle.simplecss_c.proofs.elements.cut_strings.Given as goal
 
 -- the strings that were cut so far

@@ -23,7 +23,7 @@ returns-in_err-next c =
     let element = get_or c.args.elements.now i no_element in
     let all : Strings = record { strings = map (λ string. string.now) c.args.strings.now; are_all = c.args.are_all } in
     handed_on (λ tree. tree_from [] [] all c.args.elements.now ≡ Ok tree) c.from_residual.result c.in_err-next.field-0.0
-    (λ told. fault_in (length c.loop-element.tree + 1) (limit_after so_far.depths) element (map (λ string. string.now) (take (length c.args.strings.now - c.loop-element.next) (drop c.loop-element.next c.args.strings.now))) ≡ Some told)
+    (λ reported. fault_in (length c.loop-element.tree + 1) (limit_after so_far.depths) element (map (λ string. string.now) (take (length c.args.strings.now - c.loop-element.next) (drop c.loop-element.next c.args.strings.now))) ≡ Some reported)
     (λ fault. tree_from [] [] all c.args.elements.now ≡ Err fault)
     c.from_residual.ensures.1 (c.in_err-next.ensures so_far.depths so_far.path_is so_far.same)
     (λ fault due. linked_fault so_far element (drop (i + 1) c.args.elements.now) (drop_more c.args.elements.now i no_element c.loop-element-test.true) fault

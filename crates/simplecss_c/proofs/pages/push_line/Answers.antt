@@ -3,10 +3,10 @@ use Rattle.std.proofs.lemmas.List.{get_or_default}
 use Rattle.std.proofs.lemmas.Result.{on_ok_weaker}
 use Rattle.simplecss.specs.ListTrees.{spot}
 use Rattle.simplecss.specs.Matching.{AreMatches}
-use Rattle.simplecss_tree.specs.Nodes.{element_tree}
+use Rattle.simplecss_tree.specs.TreeNodes.{element_tree}
 use Rattle.cssq.proofs.Among.{place_within}
-use Rattle.simplecss_c.specs.declared.pages.Asked.TheVariants.{Numbers, Selected}
-use Rattle.simplecss_c.specs.Lines.{places_line, IsLineOf}
+use Rattle.simplecss_c.specs.declared.pages.LineContent.TheVariants.{Numbers, Selected}
+use Rattle.simplecss_c.specs.AnswerLines.{places_line, IsLineOf}
 use Rattle.simplecss_c.proofs.pages.push_line.Goals.{After-as_slice-places}
 use Rattle.simplecss_c.proofs.pages.push_line.Goals as goal
 
@@ -28,11 +28,11 @@ push_numbers-requires c = λ k d within.
 pub returns-in-Numbers : goal.returns-in-Numbers
 returns-in-Numbers c =
     let are = found (goal.at.returns-in-Numbers c).After-as_slice-places in
-    subst (λ asked. OnOk c.push_numbers.result ((line : List ℕ) × IsLineOf asked (map (λ rule. rule.selector) c.args.rules.now) c.args.tree.now c.args.place line × (string_bytes c.push_numbers.new.out ≡ string_bytes c.args.out.now ++ line))) (sym c.in-Numbers.is)
+    subst (λ content. OnOk c.push_numbers.result ((line : List ℕ) × IsLineOf content (map (λ rule. rule.selector) c.args.rules.now) c.args.tree.now c.args.place line × (string_bytes c.push_numbers.new.out ≡ string_bytes c.args.out.now ++ line))) (sym c.in-Numbers.is)
     (on_ok_weaker c.push_numbers.result (λ wrote. (places_line Numbers (c.args.place + 1) c.as_slice-places.result.now, (c.as_slice-places.result.now, are, refl), wrote)) c.push_numbers.ensures)
 
 pub returns-in-Selected : goal.returns-in-Selected
 returns-in-Selected c =
     let are = found (goal.at.returns-in-Selected c).After-as_slice-places in
-    subst (λ asked. OnOk c.push_selected.result ((line : List ℕ) × IsLineOf asked (map (λ rule. rule.selector) c.args.rules.now) c.args.tree.now c.args.place line × (string_bytes c.push_selected.new.out ≡ string_bytes c.args.out.now ++ line))) (sym c.in-Selected.is)
+    subst (λ content. OnOk c.push_selected.result ((line : List ℕ) × IsLineOf content (map (λ rule. rule.selector) c.args.rules.now) c.args.tree.now c.args.place line × (string_bytes c.push_selected.new.out ≡ string_bytes c.args.out.now ++ line))) (sym c.in-Selected.is)
     (on_ok_weaker c.push_selected.result (λ wrote. (places_line Selected (c.args.place + 1) c.as_slice-places.result.now, (c.as_slice-places.result.now, are, refl), wrote)) c.push_selected.ensures)

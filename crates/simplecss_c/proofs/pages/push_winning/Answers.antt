@@ -2,9 +2,9 @@ use Rattle.std.proofs.Common.{◌≡◌, ◌+◌, ◌<◌, ◌≤◌, MatchOptio
 use Rattle.std.specs.Option.{option_map}
 use Rattle.std.proofs.lemmas.Result.{on_ok_weaker}
 use Rattle.simplecss.specs.ListTrees.{spot}
-use Rattle.simplecss.specs.SeenDeclarations.{declaration_of}
-use Rattle.simplecss.specs.SeenRules.{rules_in}
-use Rattle.simplecss_tree.specs.Nodes.{element_tree}
+use Rattle.simplecss.specs.DeclarationViews.{declaration_of}
+use Rattle.simplecss.specs.RuleViews.{rules_in}
+use Rattle.simplecss_tree.specs.TreeNodes.{element_tree}
 use Rattle.cssq.specs.StyleRuns.{style_line}
 use Rattle.cssq.specs.Winners.{IsStated, Wins}
 use Rattle.simplecss_c.proofs.PageCalls.{wins_or_none}

@@ -1,7 +1,7 @@
 use Rattle.std.proofs.Common.{string_bytes}
-use Rattle.simplecss.specs.SeenRules.{rules_in}
+use Rattle.simplecss.specs.RuleViews.{rules_in}
 use Rattle.cssq.proofs.MatchLines.{LinesSoFar}
-use Rattle.simplecss_c.specs.Lines.{IsWinnerLine}
+use Rattle.simplecss_c.specs.AnswerLines.{IsWinnerLine}
 use Rattle.simplecss_c.proofs.pages.winner_lines.Given as goal
 
 -- the lines of the elements so far

@@ -2,7 +2,7 @@ use Rattle.std.proofs.Common.{arith, ◌+◌, map, drop, slice_index_or}
 use Rattle.std.proofs.lemmas.List.{drop_more}
 use Rattle.std.proofs.lemmas.Grind.{common_steps}
 use Rattle.simplecss_c.specs.Calls.{HasTexts, HasBadEnds, IsBrokenUtf8}
-use Rattle.simplecss_c.proofs.Cuts.{cut_more, cut_broken, broken_due}
+use Rattle.simplecss_c.proofs.TextCuts.{cut_more, cut_broken, broken_due}
 use Rattle.simplecss_c.proofs.texts.texts_of.Goals as goal
 
 pub returns-in_err-text_of : goal.returns-in_err-text_of

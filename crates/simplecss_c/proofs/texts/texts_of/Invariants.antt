@@ -1,5 +1,5 @@
 use Rattle.std.proofs.Common.{map, drop}
-use Rattle.simplecss_c.proofs.Cuts.{CutSoFar}
+use Rattle.simplecss_c.proofs.TextCuts.{CutSoFar}
 use Rattle.simplecss_c.proofs.texts.texts_of.Given as goal
 
 -- the texts that were cut so far

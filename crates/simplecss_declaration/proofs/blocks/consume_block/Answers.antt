@@ -5,7 +5,7 @@ use Rattle.simplecss_text.specs.Blocks.{from_block_end}
 use Rattle.simplecss_text.specs.Skipped.{broken_part, add_each}
 use Rattle.simplecss_text.specs.ThisEdition.{this_edition}
 use Rattle.simplecss_text.specs.Cursor.{rest_of}
-use Rattle.simplecss_declaration.specs.SeenDeclarations.{declaration_of}
+use Rattle.simplecss_declaration.specs.DeclarationViews.{declaration_of}
 use Rattle.simplecss_declaration.proofs.BlockLemmas.{block-ended, block-broken, block_skips-ended, block_skips-broken}
 use Rattle.simplecss_declaration.proofs.blocks.consume_block.Goals as goal
 

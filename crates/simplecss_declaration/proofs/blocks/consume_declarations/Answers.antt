@@ -3,9 +3,9 @@ use Rattle.std.proofs.lemmas.List.{map-append}
 use Rattle.simplecss_text.specs.Blocks.{declaration_in_block}
 use Rattle.simplecss_text.specs.ThisEdition.{this_edition}
 use Rattle.simplecss_text.specs.Cursor.{rest_of}
-use Rattle.simplecss_text.proofs.reading.EachLaws.{done_start, done_step, done_end}
-use Rattle.simplecss_declaration.specs.ListEnds.{EndsAt}
-use Rattle.simplecss_declaration.specs.SeenDeclarations.{declaration_of}
+use Rattle.simplecss_text.proofs.reading.EachLemmas.{done_start, done_step, done_end}
+use Rattle.simplecss_declaration.specs.internal.ListEnds.{EndsAt}
+use Rattle.simplecss_declaration.specs.DeclarationViews.{declaration_of}
 use Rattle.simplecss_declaration.proofs.BlockLemmas.{list-some, list-less, list-none, list-broken}
 use Rattle.simplecss_declaration.proofs.blocks.consume_declarations.Goals as goal
 
@@ -17,7 +17,7 @@ list-init c = record { same = refl; read = rw c.clear.ensures.items (done_start 
 
 pub list-preserved : goal.list-preserved
 list-preserved c =
-    let step = list-some this_edition (rest_of c.list.s) (rest_of c.consume_declaration.new.s) (declaration_of c.in-Some.declaration) (sym c.at_list_end.ensures ∙ c.list-test.true) c.in-Some.ensures.reads in
+    let step = list-some this_edition (rest_of c.list.s) (rest_of c.take_declaration.new.s) (declaration_of c.in-Some.declaration) (sym c.at_list_end.ensures ∙ c.list-test.true) c.in-Some.ensures.reads in
     record {
       same = c.in-Some.ensures.text ∙ c.list.invariant.same;
       read = rw (c.in_ok-push-in-Some.ensures.items, map-append declaration_of c.list.declarations.items (c.in-Some.declaration ∷ [])) (done_step (declaration_in_block this_edition) _ _ _ _ _ step c.list.invariant.read);
@@ -25,15 +25,15 @@ list-preserved c =
 
 pub returns-in-None-clause-values : goal.returns-in-None-clause-values
 returns-in-None-clause-values c =
-    let broken = list-broken this_edition (rest_of c.list.s) (rest_of c.consume_declaration.new.s) c.in-None.ensures.reads in
+    let broken = list-broken this_edition (rest_of c.list.s) (rest_of c.take_declaration.new.s) c.in-None.ensures.reads in
     sym (ap (λ r. r.0) (done_end (declaration_in_block this_edition) _ _ _ broken c.list.invariant.read))
 
 pub returns-in-None-clause-list : goal.returns-in-None-clause-list
 returns-in-None-clause-list c =
     let here = rest_of c.list.s in
-    let broken = list-broken this_edition here (rest_of c.consume_declaration.new.s) c.in-None.ensures.reads in
+    let broken = list-broken this_edition here (rest_of c.take_declaration.new.s) c.in-None.ensures.reads in
     let all = done_end (declaration_in_block this_edition) _ _ _ broken c.list.invariant.read in
-    subst (λ (t : List ℕ). EndsAt this_edition t (Some c.slice_tail-text.result.now) (rest_of c.consume_declaration.new.s)) (sym (ap (λ r. r.1) all)) (sym c.at_list_end.ensures ∙ c.list-test.true, c.slice_tail-text.ensures, c.in-None.ensures.reads)
+    subst (λ (t : List ℕ). EndsAt this_edition t (Some c.slice_tail-text.result.now) (rest_of c.take_declaration.new.s)) (sym (ap (λ r. r.1) all)) (sym c.at_list_end.ensures ∙ c.list-test.true, c.slice_tail-text.ensures, c.in-None.ensures.reads)
 
 pub returns-clause-values : goal.returns-clause-values
 returns-clause-values c =

@@ -2,8 +2,8 @@ use Rattle.std.proofs.Common.{◌≡◌, map, length}
 use Rattle.simplecss_text.specs.Blocks.{declaration_in_block}
 use Rattle.simplecss_text.specs.ThisEdition.{this_edition}
 use Rattle.simplecss_text.specs.Cursor.{text_of, rest_of}
-use Rattle.simplecss_text.proofs.reading.EachLaws.{Done}
-use Rattle.simplecss_declaration.specs.SeenDeclarations.{declaration_of}
+use Rattle.simplecss_text.proofs.reading.EachLemmas.{Done}
+use Rattle.simplecss_declaration.specs.DeclarationViews.{declaration_of}
 use Rattle.simplecss_declaration.proofs.blocks.consume_declarations.Given as goal
 
 abbrev pub invariant-list : goal.invariant-list

@@ -7,8 +7,8 @@ use Rattle.simplecss_declaration.proofs.blocks.consume_next_block.Goals as goal
 
 pub returns-in-Some-clause-reads : goal.returns-in-Some-clause-reads
 returns-in-Some-clause-reads g c =
-    let behind : after_byte 123 (rest_of c.args.s.now) ≡ Some (rest_of c.advance.new.self) = ap (after_byte 123) (sym c.slice_tail.ensures) ∙ c.in-Some.ensures.found ∙ ap (λ t. Some (drop (c.in-Some.at + 1) t)) c.slice_tail.ensures ∙ ap Some (sym c.advance.ensures.rest) in
-    rw (next_block-some this_edition (rest_of c.args.s.now) (rest_of c.advance.new.self) behind) c.consume_block.ensures.reads
+    let after : after_byte 123 (rest_of c.args.s.now) ≡ Some (rest_of c.advance.new.self) = ap (after_byte 123) (sym c.slice_tail.ensures) ∙ c.in-Some.ensures.found ∙ ap (λ t. Some (drop (c.in-Some.at + 1) t)) c.slice_tail.ensures ∙ ap Some (sym c.advance.ensures.rest) in
+    rw (next_block-some this_edition (rest_of c.args.s.now) (rest_of c.advance.new.self) after) c.consume_block.ensures.reads
 
 pub returns-in-None-clause-reads : goal.returns-in-None-clause-reads
 returns-in-None-clause-reads g c =
@@ -17,8 +17,8 @@ returns-in-None-clause-reads g c =
 
 pub returns-in-Some-clause-reported : goal.returns-in-Some-clause-reported
 returns-in-Some-clause-reported g c =
-    let behind : after_byte 123 (rest_of c.args.s.now) ≡ Some (rest_of c.advance.new.self) = ap (after_byte 123) (sym c.slice_tail.ensures) ∙ c.in-Some.ensures.found ∙ ap (λ t. Some (drop (c.in-Some.at + 1) t)) c.slice_tail.ensures ∙ ap Some (sym c.advance.ensures.rest) in
-    rw (next_block_skips-some this_edition (rest_of c.args.s.now) (rest_of c.advance.new.self) behind) c.consume_block.ensures.reported
+    let after : after_byte 123 (rest_of c.args.s.now) ≡ Some (rest_of c.advance.new.self) = ap (after_byte 123) (sym c.slice_tail.ensures) ∙ c.in-Some.ensures.found ∙ ap (λ t. Some (drop (c.in-Some.at + 1) t)) c.slice_tail.ensures ∙ ap Some (sym c.advance.ensures.rest) in
+    rw (next_block_skips-some this_edition (rest_of c.args.s.now) (rest_of c.advance.new.self) after) c.consume_block.ensures.reported
 
 pub returns-in-None-clause-reported : goal.returns-in-None-clause-reported
 returns-in-None-clause-reported g c =

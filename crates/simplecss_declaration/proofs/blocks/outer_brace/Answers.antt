@@ -2,5 +2,5 @@ use Rattle.std.proofs.Common.{arith}
 use Rattle.std.proofs.lemmas.Grind.{common_steps}
 use Rattle.simplecss_declaration.proofs.blocks.outer_brace.Goals as goal
 
-pub loop-place-preserved : goal.loop-place-preserved
-loop-place-preserved c = grind (arith, common_steps)
+pub loop-offset-preserved : goal.loop-offset-preserved
+loop-offset-preserved c = grind (arith, common_steps)

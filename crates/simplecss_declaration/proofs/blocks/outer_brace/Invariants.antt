@@ -1,10 +1,10 @@
 use Rattle.std.proofs.Common.{◌≡◌, ℕ, ◌+◌, ◌<◌, false, take}
 use Rattle.simplecss_text.specs.Blocks.{count_of}
-use Rattle.simplecss_declaration.specs.BlockDepths.{closes_at}
+use Rattle.simplecss_declaration.specs.internal.BlockDepths.{closes_at}
 use Rattle.simplecss_declaration.proofs.blocks.outer_brace.Given as goal
 
-abbrev pub invariant-loop-place : goal.invariant-loop-place
-invariant-loop-place l = record {
-  counts : l.open + count_of 125 (take l.place l.bytes) ≡ l.depth + count_of 123 (take l.place l.bytes);
-  none : (k : ℕ) → k < l.place → closes_at l.depth l.bytes k ≡ false;
+abbrev pub invariant-loop-offset : goal.invariant-loop-offset
+invariant-loop-offset l = record {
+  counts : l.open + count_of 125 (take l.offset l.bytes) ≡ l.depth + count_of 123 (take l.offset l.bytes);
+  none : (k : ℕ) → k < l.offset → closes_at l.depth l.bytes k ≡ false;
 }

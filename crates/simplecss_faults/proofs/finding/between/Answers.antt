@@ -1,6 +1,6 @@
 use Rattle.std.proofs.Common.{ℕ, List, sym, subst, arith}
 use Rattle.std.specs.Str.{IsCharBoundary}
-use Rattle.simplecss_faults.proofs.Places.{boundary_at_start, boundary-between}
+use Rattle.simplecss_faults.proofs.OffsetPositions.{boundary_at_start, boundary-between}
 use Rattle.simplecss_faults.proofs.finding.between.Goals as goal
 
 pub returns-in-None : goal.returns-in-None

@@ -1,8 +1,8 @@
 use Rattle.std.proofs.Common.{◌∷◌, [], List, ℕ, map, ap, ◌∙◌, refl, arith}
 use Rattle.std.proofs.lemmas.List.{map-append}
-use Rattle.simplecss_text.specs.SeenSkips.{skip_of}
-use Rattle.simplecss_faults.specs.SeenFaults.{fault_of}
-use Rattle.simplecss_faults.proofs.Places.{position-start, boundary_at_start, item_within, one_more}
+use Rattle.simplecss_text.specs.SkipViews.{skip_of}
+use Rattle.simplecss_faults.specs.FaultViews.{fault_of}
+use Rattle.simplecss_faults.proofs.OffsetPositions.{position-start, boundary_at_start, item_within, one_more}
 use Rattle.simplecss_faults.proofs.finding.find_faults.Goals as goal
 
 pub loop-skip-init : goal.loop-skip-init

@@ -1,6 +1,6 @@
 use Rattle.std.proofs.Common.{◌≡◌, map, take}
-use Rattle.simplecss_text.specs.SeenSkips.{skip_of}
-use Rattle.simplecss_faults.specs.SeenFaults.{fault_of, fault_in, IsKnown}
+use Rattle.simplecss_text.specs.SkipViews.{skip_of}
+use Rattle.simplecss_faults.specs.FaultViews.{fault_of, fault_in, IsKnown}
 use Rattle.simplecss_faults.proofs.finding.find_faults.Given as goal
 
 -- The faults so far are those of the skips so far.

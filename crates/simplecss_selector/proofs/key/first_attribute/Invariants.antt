@@ -1,9 +1,9 @@
 use Rattle.std.proofs.Common.{◌≡◌, map, drop}
-use Rattle.simplecss_selector.specs.Keys.{asked_attribute, first_asked}
-use Rattle.simplecss_selector.specs.SeenSelectors.{subselector_of}
+use Rattle.simplecss_selector.specs.Keys.{required_attribute, first_required}
+use Rattle.simplecss_selector.specs.internal.SelectorViews.{subselector_of}
 use Rattle.simplecss_selector.proofs.key.first_attribute.Given as goal
 
 -- the answer is that of what is left
 abbrev pub invariant-loop-subselector : goal.invariant-loop-subselector
 invariant-loop-subselector l =
-    first_asked asked_attribute (map subselector_of l.subselectors) ≡ first_asked asked_attribute (map subselector_of (drop l.subselector-index l.subselectors))
+    first_required required_attribute (map subselector_of l.subselectors) ≡ first_required required_attribute (map subselector_of (drop l.subselector-index l.subselectors))

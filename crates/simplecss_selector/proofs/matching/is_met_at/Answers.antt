@@ -2,7 +2,7 @@ use Rattle.std.proofs.Common.{length, refl}
 use Rattle.std.proofs.lemmas.Bool.{false≢true}
 use Rattle.simplecss_selector.specs.Placements.{Holds}
 use Rattle.simplecss_selector.specs.Shapes.{component_at}
-use Rattle.simplecss_selector.specs.SeenSelectors.{subselector_of}
+use Rattle.simplecss_selector.specs.internal.SelectorViews.{subselector_of}
 use Rattle.simplecss_selector.proofs.Meeting.{whole_step, whole_fails, whole_holds, fewer_left, not_named}
 use Rattle.simplecss_selector.proofs.matching.is_met_at.Goals as goal
 
@@ -21,7 +21,7 @@ component-requires g c = c.requires
 
 pub returns-clause-answer : goal.returns-clause-answer
 returns-clause-answer g c =
-    not_named g.E.Element.tree (g.E.Element.node c.args.element.now) c.component.result.0 c.component.result.1.now (component_at c.args.selector.now c.args.place) c.in-Some.name c.has_local_name.result c.component.ensures c.in-Some.is c.has_local_name.ensures c.if-not-has_local_name.true
+    not_named g.E.Element.tree (g.E.Element.node c.args.element.now) c.component.result.0 c.component.result.1.now (component_at c.args.selector.now c.args.index) c.in-Some.name c.has_local_name.result c.component.ensures c.in-Some.is c.has_local_name.ensures c.if-not-has_local_name.true
 
 pub loop-subselector-smaller : goal.loop-subselector-smaller
 loop-subselector-smaller g c = fewer_left (length c.component.result.1.now) c.loop-subselector.subselector-index c.loop-subselector-test.true

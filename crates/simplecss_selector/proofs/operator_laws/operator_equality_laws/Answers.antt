@@ -1,5 +1,5 @@
 use Rattle.std.proofs.Common.{sym, ◌∙◌}
-use Rattle.simplecss_selector.specs.SeenOperators.{operator_of, pseudo_class_of}
+use Rattle.simplecss_selector.specs.OperatorViews.{operator_of, pseudo_class_of}
 use Rattle.simplecss_selector.specs.EqualityLaws.{operator_decides, pseudo_class_decides}
 use Rattle.simplecss_selector.proofs.FlatEquality.{by_operator, by_class}
 use Rattle.simplecss_selector.proofs.operator_laws.operator_equality_laws.Goals as goal

@@ -4,8 +4,8 @@ use Rattle.std.proofs.lemmas.List.{take_all}
 use Rattle.std.proofs.Output.{has_written_styled_of_eq}
 use Rattle.std.proofs.lemmas.List.Folds.{flat_map-map}
 use Rattle.simplecss_text.specs.Printing.{subselector_text}
-use Rattle.simplecss_selector.specs.SeenSelectors.{subselector_of}
-use Rattle.simplecss_text.proofs.printed.StyledWrites.{styled_step_at}
+use Rattle.simplecss_selector.specs.internal.SelectorViews.{subselector_of}
+use Rattle.simplecss_text.proofs.round_trip.StyledWrites.{styled_step_at}
 use Rattle.simplecss_selector.proofs.printing.write_subselectors.Goals as goal
 
 pub loop-subselector-preserved : goal.loop-subselector-preserved

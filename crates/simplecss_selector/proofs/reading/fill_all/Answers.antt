@@ -2,7 +2,7 @@ use Rattle.std.proofs.Common.{◌≡◌, ◌∷◌, [], List, ℕ, Option, Some,
 use Rattle.simplecss_text.specs.Bytes.{past}
 use Rattle.simplecss_text.specs.Characters.{is_space}
 use Rattle.simplecss_text.specs.Skipped.{Refusal, faulty, unknown_class, class_name, refusal_in, refused, refused_part, add_each}
-use Rattle.simplecss_selector.specs.SeenTokens.{token_of}
+use Rattle.simplecss_selector.specs.TokenViews.{token_of}
 use Rattle.simplecss_selector.specs.SelectorTokenizers.{whole_text, left_of, still_to_come}
 use Rattle.simplecss_selector.proofs.Drafting.{token-filled, token-unknown, token-fewer, error-refused, end-finished, refusal-filled, refusal-unknown, refusal-error, refusal-end, refused-reported}
 use Rattle.simplecss_selector.proofs.reading.fill_all.Goals as goal

@@ -2,7 +2,7 @@ use Rattle.std.proofs.Common.{◌≡◌, ℕ, List, take, drop, sym, ap, ◌∙�
 use Rattle.simplecss_text.specs.Reading.{got}
 use Rattle.simplecss_text.specs.Bytes.{all_before}
 use Rattle.simplecss_text.specs.Cursor.{rest_of}
-use Rattle.simplecss_text.proofs.reading.BeforeLaws.{all_before-found, all_before-none}
+use Rattle.simplecss_text.proofs.reading.BeforeLemmas.{all_before-found, all_before-none}
 use Rattle.simplecss_selector.proofs.tokenizer.text_before.Goals as goal
 use Rattle.simplecss_selector.proofs.tokenizer.text_before.Goals.{in-Some, in-None}
 
@@ -12,7 +12,7 @@ returns-clause-reads c =
     let text = c.slice_tail-text.result.now in
     let read : all_before c.args.byte text ≡ got (take n text) (drop n text) =
     elim c.match-find_byte.branch [
-      | in-Some w ↦ rw w.len-is (all_before-found c.args.byte text w.in-Some.len w.in-Some.ensures.found w.in-Some.ensures.behind.0)
+      | in-Some w ↦ rw w.len-is (all_before-found c.args.byte text w.in-Some.len w.in-Some.ensures.found w.in-Some.ensures.after.0)
       | in-None w ↦ rw w.len-is (all_before-none c.args.byte text w.in-None.ensures.found)
     ] in
     let all : n - 0 ≡ n = omega arith in

@@ -1,5 +1,5 @@
 use Rattle.std.proofs.Common.{append_assoc}
-use Rattle.simplecss_text.proofs.printed.StyledWrites.{appends_on_ok}
+use Rattle.simplecss_text.proofs.round_trip.StyledWrites.{appends_on_ok}
 use Rattle.simplecss_text.proofs.printing.append_at.Goals as goal
 
 -- the words and the position are written in one call

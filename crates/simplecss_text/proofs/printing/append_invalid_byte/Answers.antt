@@ -2,7 +2,7 @@ use Rattle.std.proofs.Common.{List, ℕ, ◌≡◌, ◌++◌, ap, ◌∙◌, app
 use lib.Chars.{codes}
 use Rattle.simplecss_text.specs.declared.error.Error.TheVariants.{InvalidByte}
 use Rattle.simplecss_text.specs.Errors.{error_text}
-use Rattle.simplecss_text.proofs.printed.StyledWrites.{appends_on_ok}
+use Rattle.simplecss_text.proofs.round_trip.StyledWrites.{appends_on_ok}
 use Rattle.simplecss_text.proofs.printing.append_invalid_byte.Goals as goal
 
 -- the pieces of the call, grouped as the error's text groups them

@@ -1,6 +1,6 @@
 use Rattle.std.proofs.Common.{◌≡◌, ◌∙◌, nat_lt, sym, ap, drop, false}
 use Rattle.simplecss_text.specs.Comments.{opens_comment}
-use Rattle.simplecss_text.proofs.bytes.GapSteps.{passed-spaces, passed-rest, passed-space, no_part-behind_spaces}
+use Rattle.simplecss_text.proofs.bytes.GapSteps.{passed-spaces, passed-rest, passed-space, no_part-after_spaces}
 use Rattle.simplecss_text.proofs.scan.long_gap.Goals as goal
 
 pub returns-then-may_open_comment-clause-unclosed : goal.returns-then-may_open_comment-clause-unclosed
@@ -12,7 +12,7 @@ returns-else-may_open_comment-clause-rest c =
     let len = c.spaces_len-len.result in
     let count = c.spaces_len-len.ensures.len in
     let closed : opens_comment (drop len text) ≡ false = rw c.range_from.ensures.value at (c.may_open_comment.ensures c.if-may_open_comment.false) in
-    passed-rest text len (nat_lt 0 len) (passed-spaces text len c.utf8.text count) (no_part-behind_spaces text len count closed)
+    passed-rest text len (nat_lt 0 len) (passed-spaces text len c.utf8.text count) (no_part-after_spaces text len count closed)
 
 pub returns-else-may_open_comment-clause-spaced : goal.returns-else-may_open_comment-clause-spaced
 returns-else-may_open_comment-clause-spaced c =
@@ -20,7 +20,7 @@ returns-else-may_open_comment-clause-spaced c =
     let len = c.spaces_len-len.result in
     let count = c.spaces_len-len.ensures.len in
     let closed : opens_comment (drop len text) ≡ false = rw c.range_from.ensures.value at (c.may_open_comment.ensures c.if-may_open_comment.false) in
-    passed-space text len (nat_lt 0 len) (passed-spaces text len c.utf8.text count) (no_part-behind_spaces text len count closed)
+    passed-space text len (nat_lt 0 len) (passed-spaces text len c.utf8.text count) (no_part-after_spaces text len count closed)
 
 pub returns-else-may_open_comment-clause-unclosed : goal.returns-else-may_open_comment-clause-unclosed
 returns-else-may_open_comment-clause-unclosed c =
@@ -28,5 +28,5 @@ returns-else-may_open_comment-clause-unclosed c =
     let len = c.spaces_len-len.result in
     let count = c.spaces_len-len.ensures.len in
     let closed : opens_comment (drop len text) ≡ false = rw c.range_from.ensures.value at (c.may_open_comment.ensures c.if-may_open_comment.false) in
-    let rest = passed-rest text len (nat_lt 0 len) (passed-spaces text len c.utf8.text count) (no_part-behind_spaces text len count closed) in
+    let rest = passed-rest text len (nat_lt 0 len) (passed-spaces text len c.utf8.text count) (no_part-after_spaces text len count closed) in
     sym (ap opens_comment rest ∙ closed)

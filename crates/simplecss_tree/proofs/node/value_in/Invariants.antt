@@ -1,5 +1,5 @@
 use Rattle.std.proofs.Common.{◌≡◌, map, drop}
-use Rattle.simplecss_tree.specs.Nodes.{value_in}
+use Rattle.simplecss_tree.specs.TreeNodes.{value_in}
 use Rattle.simplecss_tree.specs.Rows.{attribute_of}
 use Rattle.simplecss_tree.proofs.node.value_in.Given as goal
 

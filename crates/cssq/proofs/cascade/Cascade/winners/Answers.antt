@@ -1,8 +1,8 @@
 use Rattle.std.proofs.Common.{IfOk, sym, subst}
 use Rattle.std.proofs.lemmas.Result.{IfOk-weaker}
-use Rattle.simplecss.specs.SeenDeclarations.{declarations_of}
+use Rattle.simplecss.specs.DeclarationViews.{declarations_of}
 use Rattle.cssq.specs.Winners.{IsStated, ListsInOrder, WinsForItsName}
-use Rattle.cssq.proofs.BestPlaces.{has_winners, own_names}
+use Rattle.cssq.proofs.BestIndices.{has_winners, own_names}
 use Rattle.cssq.proofs.cascade.Cascade.winners.Given.{Over}
 use Rattle.cssq.proofs.cascade.Cascade.winners.Goals.{After-drop-stated}
 use Rattle.cssq.proofs.cascade.Cascade.winners.Goals as goal

@@ -7,8 +7,8 @@ use Rattle.simplecss.proofs.index.find.find_again.Goals as goal
 
 pub returns-in-Some-clause-found : goal.returns-in-Some-clause-found
 returns-in-Some-clause-found c = λ near name_is class_is starts.
-    let empty : length c.args.places.now.items ≡ 0 = search rules in
-    let none = no_items c.args.places.now.items empty in
+    let empty : length c.args.indices.now.items ≡ 0 = search rules in
+    let none = no_items c.args.indices.now.items empty in
     let selectors = c.args.rule_index.now in
     let known = c.in-Some.known.now in
     let found = subst (λ ss. IsFound ss c.args.name.now (option_map (λ value. value.now) c.args.class) known) c.requires.recent c.in-Some.ensures in
@@ -17,10 +17,10 @@ returns-in-Some-clause-found c = λ near name_is class_is starts.
 
 pub keep-requires : goal.keep-requires
 keep-requires c = λ near name_is class_is starts.
-    let empty : length c.args.places.now.items ≡ 0 = search rules in
-    let none = no_items c.args.places.now.items empty in
+    let empty : length c.args.indices.now.items ≡ 0 = search rules in
+    let none = no_items c.args.indices.now.items empty in
     let selectors = c.args.rule_index.now in
     let from_none = subst (λ ss. AreStarts (adds_wanted near) ss []) c.requires.recent starts in
     let keyed = c.in_ok-find_named.ensures near name_is class_is (subst (AreStarts (adds_wanted near) selectors) (sym none) from_none) in
     subst (AreKeyed near c.args.recent.now) (sym c.deref.ensures.value)
-    (subst (λ ss. AreKeyed near ss c.find_named-2.new.places.items) (sym c.requires.recent) keyed)
+    (subst (λ ss. AreKeyed near ss c.find_named-2.new.indices.items) (sym c.requires.recent) keyed)

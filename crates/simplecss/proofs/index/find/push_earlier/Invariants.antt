@@ -3,7 +3,7 @@ use Rattle.simplecss.proofs.index.find.push_earlier.Given as goal
 
 -- what the chain visited was added
 abbrev pub invariant-back : goal.invariant-back
-invariant-back l = Follows l.rule_index l.place l.initial.places.items l.places.items l.known
+invariant-back l = Follows l.rule_index l.index l.initial.indices.items l.indices.items l.known
 
 abbrev pub decreases-back : goal.decreases-back
 decreases-back l = end_of l.known

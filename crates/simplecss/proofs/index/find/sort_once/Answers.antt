@@ -11,4 +11,4 @@ returns-clause-ascending c =
 
 pub returns-clause-same : goal.returns-clause-same
 returns-clause-same c =
-    sorted_same c.args.places.now.items c.sort_unstable.new.self.items c.dedup.new.self.items c.sort_unstable.ensures.permutation (dedup_is eqb _ _ c.dedup.ensures.filtered)
+    sorted_same c.args.indices.now.items c.sort_unstable.new.self.items c.dedup.new.self.items c.sort_unstable.ensures.permutation (dedup_is eqb _ _ c.dedup.ensures.filtered)

@@ -2,14 +2,14 @@ use Rattle.std.proofs.Common.{◌+◌, ◌≤◌, map, take}
 use Rattle.std.specs.List.{sum_by}
 use Rattle.simplecss_selector.specs.Placements.{HasPlacement}
 use Rattle.simplecss.specs.Matching.{most_tests}
-use Rattle.simplecss.specs.SelectorPlaces.{selector_at}
+use Rattle.simplecss.specs.SelectorIndices.{selector_at}
 use Rattle.simplecss.proofs.Keeping.{Keeps}
 use Rattle.simplecss.proofs.index.keep.keep_matching.Given as goal
 
--- of the first places those that match are kept, and each was tested
-abbrev pub invariant-places : goal.invariant-places
-invariant-places g l = record {
-  keeps : Keeps (λ place. HasPlacement g.E.Element.tree (selector_at (map (λ rule. rule.selector) l.rules) place) (g.E.Element.node l.element)) l.initial.places l.places l.kept l.i;
+-- of the first indices those that match are kept, and each was tested
+abbrev pub invariant-indices : goal.invariant-indices
+invariant-indices g l = record {
+  keeps : Keeps (λ index. HasPlacement g.E.Element.tree (selector_at (map (λ rule. rule.selector) l.rules) index) (g.E.Element.node l.element)) l.initial.indices l.indices l.kept l.i;
   least : l.initial.tests + l.i ≤ l.tests;
-  tested : l.tests ≤ l.initial.tests + sum_by (λ place. most_tests g.E.Element.tree (g.E.Element.node l.element) (selector_at (map (λ rule. rule.selector) l.rules) place)) (take l.i l.initial.places);
+  tested : l.tests ≤ l.initial.tests + sum_by (λ index. most_tests g.E.Element.tree (g.E.Element.node l.element) (selector_at (map (λ rule. rule.selector) l.rules) index)) (take l.i l.initial.indices);
 }

@@ -1,4 +1,4 @@
-use Rattle.simplecss.proofs.AskedInTurn.{answers_of}
+use Rattle.simplecss.proofs.TestedInOrder.{answers_of}
 use Rattle.simplecss.proofs.index.laws.answers_law.Goals as goal
 
 pub returns : goal.returns

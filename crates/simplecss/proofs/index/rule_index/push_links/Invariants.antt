@@ -1,5 +1,5 @@
 use Rattle.std.proofs.Common.{◌≡◌, ◌++◌, map, take}
-use Rattle.simplecss.specs.Chains.{selectors_of, AreChained}
+use Rattle.simplecss.specs.internal.Chains.{selectors_of, AreChained}
 use Rattle.simplecss.proofs.index.rule_index.push_links.Given as goal
 
 -- the links of the first rules are there

@@ -1,5 +1,5 @@
-use Rattle.simplecss.proofs.RuleOrders.{IsMoving}
+use Rattle.simplecss.proofs.RuleMoves.{IsMoving}
 use Rattle.simplecss.proofs.sheet.order.arrange.Given as goal
 
-abbrev pub invariant-loop-place : goal.invariant-loop-place
-invariant-loop-place l = IsMoving l.initial.rules.items l.order l.place l.rules.items l.who.items l.at.items
+abbrev pub invariant-loop-index : goal.invariant-loop-index
+invariant-loop-index l = IsMoving l.initial.rules.items l.order l.index l.rules.items l.who.items l.at.items

@@ -4,7 +4,7 @@ use Rattle.std.proofs.lemmas.List.{map-append}
 use Rattle.std.proofs.lemmas.List.Elements.{filter_from_retain}
 use Rattle.simplecss_text.specs.Statements.{has_declaration}
 use Rattle.simplecss_text.specs.Sheets.{is_smaller, ordered}
-use Rattle.simplecss.specs.SeenRules.{rule_of}
+use Rattle.simplecss.specs.RuleViews.{rule_of}
 use Rattle.simplecss_text.proofs.order.OrderLemmas.{smaller_order}
 use Rattle.simplecss_text.proofs.order.ListFacts.{filter-map}
 use Rattle.simplecss_text.proofs.order.RankLemmas.{ordered_filter}

@@ -1,5 +1,5 @@
 use Rattle.std.proofs.Common.{◌++◌, ◌∷◌, [], sym, ap, ◌∙◌}
-use Rattle.simplecss.proofs.RuleOrders.{numbers_more}
+use Rattle.simplecss.proofs.RuleMoves.{numbers_more}
 use Rattle.simplecss.proofs.sheet.order.numbers.Goals as goal
 
 pub loop-number-preserved : goal.loop-number-preserved

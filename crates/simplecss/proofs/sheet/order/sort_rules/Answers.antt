@@ -1,8 +1,8 @@
 use Rattle.std.proofs.Common.{◌≡◌, length, ◌∙◌}
 use Rattle.std.proofs.lemmas.List.{length-map}
-use Rattle.simplecss.specs.SeenRules.{rule_of, rules_of}
-use Rattle.simplecss.specs.RuleOrders.{no_rule, IsOrder, OrdersRules}
-use Rattle.simplecss.proofs.RuleOrders.{moved_map}
+use Rattle.simplecss.specs.RuleViews.{rule_of, rules_of}
+use Rattle.simplecss.specs.internal.RuleOrders.{no_rule, IsOrder, OrdersRules}
+use Rattle.simplecss.proofs.RuleMoves.{moved_map}
 use Rattle.simplecss.proofs.sheet.order.sort_rules.Goals as goal
 
 pub arrange-requires-clause-order : goal.arrange-requires-clause-order

@@ -7,7 +7,7 @@ use Rattle.simplecss_text.specs.Skipped.{add_each, skipped}
 use Rattle.simplecss.proofs.Reports.{add-more}
 use Rattle.simplecss_text.specs.ThisEdition.{this_edition}
 use Rattle.simplecss.specs.declared.sheet.rules.Rule.{Rule}
-use Rattle.simplecss.specs.SeenRules.{rule_of, rules_of}
+use Rattle.simplecss.specs.RuleViews.{rule_of, rules_of}
 use Rattle.simplecss.proofs.SheetLemmas.{texts_more, texts_open}
 use Rattle.simplecss.proofs.sheet.reading.read_all.Goals as goal
 use Rattle.simplecss.proofs.sheet.reading.read_all.Goals.{in-Some+in_ok-join, in_default}

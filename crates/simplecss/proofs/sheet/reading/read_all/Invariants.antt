@@ -3,7 +3,7 @@ use Rattle.std.specs.List.{filter, All}
 use Rattle.simplecss_text.specs.Skipped.{add_each, skipped}
 use Rattle.simplecss_text.specs.ThisEdition.{this_edition}
 use Rattle.simplecss_text.specs.Statements.{has_declaration, kept}
-use Rattle.simplecss.specs.SeenRules.{rules_of}
+use Rattle.simplecss.specs.RuleViews.{rules_of}
 use Rattle.simplecss.proofs.sheet.reading.read_all.Given as goal
 
 -- the rules so far are those of the first texts

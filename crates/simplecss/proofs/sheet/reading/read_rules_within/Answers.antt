@@ -6,29 +6,29 @@ use Rattle.simplecss_text.specs.Reading.{no_comment}
 use Rattle.simplecss_text.specs.Comments.{opens_comment, past_blank}
 use Rattle.simplecss_text.specs.Statements.{statement}
 use Rattle.simplecss_text.specs.Skipped.{add_each, end_skips, statement_skips, skipped}
-use Rattle.simplecss_text.proofs.reading.SkipLaws.{add_each-append, skipped-some, skipped-none, skipped-blank}
+use Rattle.simplecss_text.proofs.reading.SkipLemmas.{add_each-append, skipped-some, skipped-none, skipped-blank}
 use Rattle.simplecss_text.specs.ThisEdition.{this_edition}
 use Rattle.simplecss_text.specs.Cursor.{rest_of}
-use Rattle.simplecss.specs.SeenRules.{rule_of}
-use Rattle.simplecss.specs.SharedBlocks.{rules_read}
+use Rattle.simplecss.specs.RuleViews.{rule_of}
+use Rattle.simplecss.specs.internal.SharedBlocks.{rules_read}
 use Rattle.simplecss.specs.DeclarationCounts.{declaration_count, kept_declarations}
 use Rattle.simplecss.proofs.DeclarationSums.{left-more, too_many, kept_declarations-of, kept_declarations-none}
 use Rattle.simplecss.proofs.StatementLemmas.{rules_from, rules_from-some, rules_from-none, rules_from-blank, statement-less, blank-got, blank-open, next_statement-open}
 use Rattle.simplecss.proofs.sheet.reading.read_rules_within.Goals as goal
 
-pub returns-then-not-pass_blank-clause-rules : goal.returns-then-not-pass_blank-clause-rules
-returns-then-not-pass_blank-clause-rules g c =
-    let start : rest_of c.new-s.result ≡ c.args.text.now = ap (λ n. drop n c.new-s.result.text.now) c.new-s.ensures.place ∙ c.new-s.ensures.text in
-    subst (λ (t : List ℕ). opens_comment (past_blank t) ≡ true) start (blank-open (rest_of c.new-s.result) (rest_of c.pass_blank.new.s) (no_comment (past_blank (rest_of c.new-s.result))) c.if-not-pass_blank.ensures.reads)
+pub returns-then-not-skip_blank-clause-rules : goal.returns-then-not-skip_blank-clause-rules
+returns-then-not-skip_blank-clause-rules g c =
+    let start : rest_of c.new-s.result ≡ c.args.text.now = ap (λ n. drop n c.new-s.result.text.now) c.new-s.ensures.index ∙ c.new-s.ensures.text in
+    subst (λ (t : List ℕ). opens_comment (past_blank t) ≡ true) start (blank-open (rest_of c.new-s.result) (rest_of c.skip_blank.new.s) (no_comment (past_blank (rest_of c.new-s.result))) c.if-not-skip_blank.ensures.reads)
 
 pub statements-init : goal.statements-init
 statements-init g c =
-    let start : rest_of c.new-s.result ≡ c.args.text.now = ap (λ n. drop n c.new-s.result.text.now) c.new-s.ensures.place ∙ c.new-s.ensures.text in
-    let behind = blank-got (rest_of c.new-s.result) (rest_of c.pass_blank.new.s) c.if-not-pass_blank.ensures.reads in
+    let start : rest_of c.new-s.result ≡ c.args.text.now = ap (λ n. drop n c.new-s.result.text.now) c.new-s.ensures.index ∙ c.new-s.ensures.text in
+    let after = blank-got (rest_of c.new-s.result) (rest_of c.skip_blank.new.s) c.if-not-skip_blank.ensures.reads in
     record {
-      rules = rw c.new-reader.ensures (ap (rules_from this_edition) (sym behind.1) ∙ rules_from-blank this_edition (rest_of c.new-s.result) ∙ ap (rules_from this_edition) start);
+      rules = rw c.new-reader.ensures (ap (rules_from this_edition) (sym after.1) ∙ rules_from-blank this_edition (rest_of c.new-s.result) ∙ ap (rules_from this_edition) start);
       left = rw c.new-reader.ensures (omega arith);
-      reported = ap (add_each g.P.Report.add (g.P.Report.state c.begin.new.self)) (ap (skipped this_edition) (sym behind.1) ∙ skipped-blank this_edition (rest_of c.new-s.result) ∙ ap (skipped this_edition) start);
+      reported = ap (add_each g.P.Report.add (g.P.Report.state c.begin.new.self)) (ap (skipped this_edition) (sym after.1) ∙ skipped-blank this_edition (rest_of c.new-s.result) ∙ ap (skipped this_edition) start);
     }
 
 pub statements-smaller : goal.statements-smaller
@@ -46,9 +46,9 @@ statements-preserved g c =
     let next = rest_of c.consume_statement.new.s in
     let old = map rule_of c.statements.reader.rules.items in
     let more : map rule_of c.keep_rules.new.self.rules.items ≡ old ++ read.0 =
-        c.in_ok-left.ensures.rules
-        ∙ ap (λ l. map rule_of l ++ rules_read c.consume_statement.new.self) c.consume_statement.ensures.kept
-        ∙ ap (λ l. old ++ l) c.in_ok-consume_statement.ensures.rules in
+    c.in_ok-left.ensures.rules
+    ∙ ap (λ l. map rule_of l ++ rules_read c.consume_statement.new.self) c.consume_statement.ensures.kept
+    ∙ ap (λ l. old ++ l) c.in_ok-consume_statement.ensures.rules in
     record {
       reported = ap (λ t. add_each add t (skipped this_edition next)) c.in_ok-consume_statement.ensures.reported
           ∙ sym (add_each-append add before (statement_skips this_edition start) (skipped this_edition next))
@@ -67,10 +67,10 @@ statements-preserved g c =
 
 pub returns-then-not-at_statement-clause-rules : goal.returns-then-not-at_statement-clause-rules
 returns-then-not-at_statement-clause-rules g c =
-    let start : rest_of c.new-s.result ≡ c.args.text.now = ap (λ n. drop n c.new-s.result.text.now) c.new-s.ensures.place ∙ c.new-s.ensures.text in
-    let behind = blank-got (rest_of c.new-s.result) (rest_of c.pass_blank.new.s) c.if-not-pass_blank.ensures.reads in
+    let start : rest_of c.new-s.result ≡ c.args.text.now = ap (λ n. drop n c.new-s.result.text.now) c.new-s.ensures.index ∙ c.new-s.ensures.text in
+    let after = blank-got (rest_of c.new-s.result) (rest_of c.skip_blank.new.s) c.if-not-skip_blank.ensures.reads in
     let end = rules_from-none this_edition (rest_of c.statements.s) c.if-not-at_statement.ensures.reads in (
-      subst (λ (t : List ℕ). opens_comment (past_blank t) ≡ false) start behind.0,
+      subst (λ (t : List ℕ). opens_comment (past_blank t) ≡ false) start after.0,
       ap (map rule_of) c.into_rules.ensures ∙ sym (append-nil (map rule_of c.statements.reader.rules.items)) ∙ ap (λ l. map rule_of c.statements.reader.rules.items ++ l) (sym end) ∙ c.statements.invariant.rules,
     )
 
@@ -84,18 +84,18 @@ returns-then-not-at_statement-clause-reported g c =
     ∙ c.statements.invariant.reported
     ∙ ap (λ (s : g.P.Report.State). add_each add s (skipped this_edition c.args.text.now)) c.begin.ensures
 
-pub returns-then-not-pass_blank-clause-reported : goal.returns-then-not-pass_blank-clause-reported
-returns-then-not-pass_blank-clause-reported g c =
-    let start : rest_of c.new-s.result ≡ c.args.text.now = ap (λ n. drop n c.new-s.result.text.now) c.new-s.ensures.place ∙ c.new-s.ensures.text in
-    let none = next_statement-open this_edition (rest_of c.new-s.result) (rest_of c.pass_blank.new.s) (no_comment (past_blank (rest_of c.new-s.result))) c.if-not-pass_blank.ensures.reads in
+pub returns-then-not-skip_blank-clause-reported : goal.returns-then-not-skip_blank-clause-reported
+returns-then-not-skip_blank-clause-reported g c =
+    let start : rest_of c.new-s.result ≡ c.args.text.now = ap (λ n. drop n c.new-s.result.text.now) c.new-s.ensures.index ∙ c.new-s.ensures.text in
+    let none = next_statement-open this_edition (rest_of c.new-s.result) (rest_of c.skip_blank.new.s) (no_comment (past_blank (rest_of c.new-s.result))) c.if-not-skip_blank.ensures.reads in
     c.in_ok-report_end.ensures
     ∙ ap (λ (s : g.P.Report.State). add_each g.P.Report.add s (end_skips c.args.text.now)) c.begin.ensures
     ∙ ap (add_each g.P.Report.add (g.P.Report.state c.args.report.now)) (ap end_skips (sym start) ∙ sym (skipped-none this_edition (rest_of c.new-s.result) none) ∙ ap (skipped this_edition) start)
 
-pub returns-then-not-pass_blank-clause-within : goal.returns-then-not-pass_blank-clause-within
-returns-then-not-pass_blank-clause-within g c =
-    let start : rest_of c.new-s.result ≡ c.args.text.now = ap (λ n. drop n c.new-s.result.text.now) c.new-s.ensures.place ∙ c.new-s.ensures.text in
-    let none = next_statement-open this_edition (rest_of c.new-s.result) (rest_of c.pass_blank.new.s) (no_comment (past_blank (rest_of c.new-s.result))) c.if-not-pass_blank.ensures.reads in
+pub returns-then-not-skip_blank-clause-within : goal.returns-then-not-skip_blank-clause-within
+returns-then-not-skip_blank-clause-within g c =
+    let start : rest_of c.new-s.result ≡ c.args.text.now = ap (λ n. drop n c.new-s.result.text.now) c.new-s.ensures.index ∙ c.new-s.ensures.text in
+    let none = next_statement-open this_edition (rest_of c.new-s.result) (rest_of c.skip_blank.new.s) (no_comment (past_blank (rest_of c.new-s.result))) c.if-not-skip_blank.ensures.reads in
     let zero_kept = ap (kept_declarations this_edition) (sym start) ∙ kept_declarations-none this_edition (rest_of c.new-s.result) none in
     omega (arith, zero_kept)
 

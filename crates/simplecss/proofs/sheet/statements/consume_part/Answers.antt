@@ -6,7 +6,7 @@ use Rattle.simplecss_text.specs.Statements.{part}
 use Rattle.simplecss_text.specs.Skipped.{selector_skips, skips_after, add_each}
 use Rattle.simplecss_text.specs.ThisEdition.{this_edition}
 use Rattle.simplecss_text.specs.Cursor.{rest_of}
-use Rattle.simplecss_text.proofs.reading.SkipLaws.{add-part}
+use Rattle.simplecss_text.proofs.reading.SkipLemmas.{add-part}
 use Rattle.simplecss.proofs.sheet.statements.consume_part.Goals as goal
 
 pub returns-in_ok-report_left-in-Some-clause-reported : goal.returns-in_ok-report_left-in-Some-clause-reported

@@ -1,9 +1,9 @@
 use Rattle.std.proofs.Common.{◌++◌, ◌∷◌, [], map, sym, ap, ◌∙◌, append_assoc}
 use Rattle.std.proofs.lemmas.List.{map-append}
-use Rattle.simplecss_declaration.specs.SeenDeclarations.{declaration_of}
+use Rattle.simplecss_declaration.specs.DeclarationViews.{declaration_of}
 use Rattle.simplecss.specs.declared.sheet.rules.Rule.{Rule}
-use Rattle.simplecss.specs.SeenRules.{rule_of}
-use Rattle.simplecss.specs.SharedBlocks.{rule_with}
+use Rattle.simplecss.specs.RuleViews.{rule_of}
+use Rattle.simplecss.specs.internal.SharedBlocks.{rule_with}
 use Rattle.simplecss.proofs.sheet.statements.push_rules.Goals as goal
 
 pub selectors-preserved : goal.selectors-preserved

@@ -1,7 +1,7 @@
 use Rattle.std.proofs.Common.{◌≡◌, ◌++◌, map}
-use Rattle.simplecss_declaration.specs.SeenDeclarations.{declaration_of}
-use Rattle.simplecss.specs.SeenRules.{rule_of}
-use Rattle.simplecss.specs.SharedBlocks.{rules_with}
+use Rattle.simplecss_declaration.specs.DeclarationViews.{declaration_of}
+use Rattle.simplecss.specs.RuleViews.{rule_of}
+use Rattle.simplecss.specs.internal.SharedBlocks.{rules_with}
 use Rattle.simplecss.proofs.sheet.statements.push_rules.Given as goal
 
 abbrev pub invariant-selectors : goal.invariant-selectors

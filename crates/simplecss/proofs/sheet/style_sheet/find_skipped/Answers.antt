@@ -1,8 +1,8 @@
 use Rattle.std.proofs.Common.{◌∙◌, ◌++◌, map, ap}
 use Rattle.simplecss_text.specs.Skipped.{skipped}
-use Rattle.simplecss_text.specs.SeenSkips.{skip_of}
+use Rattle.simplecss_text.specs.SkipViews.{skip_of}
 use Rattle.simplecss_text.specs.ThisEdition.{this_edition}
-use Rattle.simplecss_text.proofs.reading.SkipLaws.{add_each-kept}
+use Rattle.simplecss_text.proofs.reading.SkipLemmas.{add_each-kept}
 use Rattle.simplecss.proofs.sheet.style_sheet.find_skipped.Goals as goal
 
 pub returns : goal.returns

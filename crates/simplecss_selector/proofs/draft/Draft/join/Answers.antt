@@ -1,5 +1,5 @@
 use Rattle.std.proofs.Common.{◌≡◌, length, refl, vec_len, arith}
-use Rattle.simplecss_selector.specs.SeenSelectors.{IsFlat}
+use Rattle.simplecss_selector.specs.internal.SelectorViews.{IsFlat}
 use Rattle.simplecss_selector.proofs.Filling.{flat_joined, drafted-joined, without_last}
 use Rattle.simplecss_selector.proofs.draft.Draft.join.Goals as goal
 use Rattle.simplecss_selector.proofs.draft.Draft.join.Goals.{After-pop}

@@ -1,7 +1,7 @@
 use Rattle.std.proofs.Common.{◌≡◌, Bool, true, false, ◌&&◌, ◌++◌, ◌∷◌, [], length, sym, ◌∙◌}
 use Rattle.std.proofs.lemmas.Bool.{false≢true}
 use Rattle.std.specs.Cmp.Lexicographic.{pointwise}
-use Rattle.simplecss_selector.specs.SeenSelectors.{Tile}
+use Rattle.simplecss_selector.specs.internal.SelectorViews.{Tile}
 use Rattle.simplecss_selector.specs.contracts.selector.PartPartialEq.TheImpl.{eq-value as part_test}
 use Rattle.simplecss_selector.proofs.FlatEquality.{flat_last_eq}
 use Rattle.simplecss_selector.proofs.equality.SelectorPartialEq.eq.Goals as goal

@@ -6,15 +6,15 @@ use Rattle.simplecss_selector.proofs.selector.Selector.combinator.Goals as goal
 pub part_at-part-requires : goal.part_at-part-requires
 part_at-part-requires c =
     let s = c.self.inside in
-    rw c.deref.ensures.value (place_within s.parts.items s.last s.subselectors.items c.args.self.now c.args.place c.self.view_is c.requires)
+    rw c.deref.ensures.value (place_within s.parts.items s.last s.subselectors.items c.args.self.now c.args.index c.self.view_is c.requires)
 
 pub returns-clause-value : goal.returns-clause-value
 returns-clause-value c =
     let s = c.self.inside in
-    combinator_is (s.parts.items ++ s.last ∷ []) s.subselectors.items c.args.self.now c.args.place c.part_at-part.result c.self.view_is c.requires
+    combinator_is (s.parts.items ++ s.last ∷ []) s.subselectors.items c.args.self.now c.args.index c.part_at-part.result c.self.view_is c.requires
     (rw c.deref.ensures.value at c.part_at-part.ensures)
 
 pub returns-clause-first : goal.returns-clause-first
 returns-clause-first c =
     let selector : IsSelector c.args.self.now = rw c.self.view_is at c.self.invariant.selector in
-    rw (returns-clause-value c) (selector.1 c.args.place c.requires)
+    rw (returns-clause-value c) (selector.1 c.args.index c.requires)

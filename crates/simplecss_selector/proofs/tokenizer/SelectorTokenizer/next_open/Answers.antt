@@ -30,10 +30,10 @@ returns-in-Err-simple_piece c =
     let f = c.in_default-follows in
     let start = rest_of c.consume_gap.new.s in
     let after = rest_of c.simple_piece.new.stream in
-    let told : FailsBy (whole_text c.args.self.now) (solid_as this_edition c.next_kind-follows.result start) c.in-Err-simple_piece.error after =
+    let reported : FailsBy (whole_text c.args.self.now) (solid_as this_edition c.next_kind-follows.result start) c.in-Err-simple_piece.error after =
     subst (λ (text : List ℕ). FailsBy text (solid_as this_edition c.next_kind-follows.result start) c.in-Err-simple_piece.error after) c.consume_gap.ensures.text c.in-Err-simple_piece.ensures.reads in
     record {
       whole_text = c.simple_piece.ensures.text ∙ c.consume_gap.ensures.text;
       first = rw c.after_fault-self.ensures (open_fault-first (whole_text c.args.self.now) (left_of c.args.self.now) start after _ c.next_kind-follows.result c.in-Err-simple_piece.error c.in_default.ensures.reads c.next_kind-follows.ensures
-          (simple_unless c.next_kind-follows.result f.not-Stop f.not-Slash f.not-Child f.not-Adjacent) told);
+          (simple_unless c.next_kind-follows.result f.not-Stop f.not-Slash f.not-Child f.not-Adjacent) reported);
     }

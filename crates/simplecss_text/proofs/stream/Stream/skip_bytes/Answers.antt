@@ -1,11 +1,11 @@
 use Rattle.std.proofs.Common.{arith, ℕ, List, ◌<◌, ◌≤◌, ap, subst, length, slice_index, true, false}
 use borrow.Author.Count.{below_more}
-use Rattle.simplecss_text.specs.Cursor.{text_of, place_of}
+use Rattle.simplecss_text.specs.Cursor.{text_of, offset_of}
 use Rattle.simplecss_text.proofs.bytes.CutLemmas.{IsCharBoundary-run}
 use Rattle.simplecss_text.proofs.stream.Stream.skip_bytes.Goals as goal
 use Rattle.simplecss_text.proofs.stream.Stream.skip_bytes.Goals.{then-loop-end-test+else-f, else-loop-end-test}
 
--- the byte at the place passes too
+-- the byte at the offset passes too
 pub loop-end-preserved : goal.loop-end-preserved
 loop-end-preserved g c =
     let here : goal.F-post g c.args.f (slice_index (text_of c.args.self.now) c.loop-end.end) true
@@ -15,7 +15,7 @@ loop-end-preserved g c =
     record {
       from = omega arith;
       within = omega (arith, lengths, c.loop-end-test.true);
-      passed = λ k from under. below_more (λ j. place_of c.args.self.now ≤ j
+      passed = λ k from under. below_more (λ j. offset_of c.args.self.now ≤ j
           → goal.F-post g c.args.f (slice_index (text_of c.args.self.now) j) true) c.loop-end.end
           (λ j less at. c.loop-end.invariant.passed j at less) (λ at. here) k under from;
     }
@@ -30,7 +30,7 @@ invariant_of-self-clause-boundary g c =
           (slice_index bytes c.loop-end.end) false) c.as_bytes-bytes.ensures.value w.if-f.ensures
       | else-loop-end-test w ↦ absurd (omega arith)
     ] in
-    IsCharBoundary-run _ _ (text_of c.args.self.now) (place_of c.args.self.now) c.loop-end.end
+    IsCharBoundary-run _ _ (text_of c.args.self.now) (offset_of c.args.self.now) c.loop-end.end
     c.requires
     (record {
       from = c.loop-end.invariant.from;

@@ -1,12 +1,12 @@
 use Rattle.std.proofs.Common.{ℕ, ◌<◌, ◌≤◌, ◌-◌, length, slice_index, true}
-use Rattle.simplecss_text.specs.Cursor.{text_of, place_of}
+use Rattle.simplecss_text.specs.Cursor.{text_of, offset_of}
 use Rattle.simplecss_text.proofs.stream.Stream.skip_bytes.Given as goal
 
 abbrev pub invariant-loop-end : goal.invariant-loop-end
 invariant-loop-end g l = record {
-  from : place_of l.fn.self ≤ l.end;
+  from : offset_of l.fn.self ≤ l.end;
   within : l.end ≤ length (text_of l.fn.self);
-  passed : (k : ℕ) → place_of l.fn.self ≤ k → k < l.end → goal.F-post g l.f (slice_index (text_of l.fn.self) k) true;
+  passed : (k : ℕ) → offset_of l.fn.self ≤ k → k < l.end → goal.F-post g l.f (slice_index (text_of l.fn.self) k) true;
 }
 
 abbrev pub decreases-loop-end : goal.decreases-loop-end

@@ -1,6 +1,6 @@
 use Rattle.std.proofs.Common.{sym, ◌∙◌}
-use Rattle.simplecss.specs.SeenOperators.{pseudo_class_of}
-use Rattle.simplecss_tree.specs.Nodes.{is_in}
+use Rattle.simplecss.specs.OperatorViews.{pseudo_class_of}
+use Rattle.simplecss_tree.specs.TreeNodes.{is_in}
 use Rattle.simplecss_tree.proofs.node.NodeElement.pseudo_class_matches.Goals as goal
 
 pub returns-in-Lang : goal.returns-in-Lang

@@ -3,9 +3,9 @@ use Rattle.std.specs.Fmt.{HasWrittenStyled, IsFlush}
 use Rattle.std.specs.List.{flat_map}
 use Rattle.std.specs.Result.{IsOk}
 use Rattle.simplecss_text.specs.Printing.{declaration_text, rule_text, selector_text}
-use Rattle.simplecss_text.proofs.printed.StyledWrites.{plain_of_styled, styled_four}
-use Rattle.simplecss_declaration.specs.SeenDeclarations.{declarations_of}
-use Rattle.simplecss.specs.SeenRules.{rule_of}
+use Rattle.simplecss_text.proofs.round_trip.StyledWrites.{plain_of_styled, styled_four}
+use Rattle.simplecss_declaration.specs.DeclarationViews.{declarations_of}
+use Rattle.simplecss.specs.RuleViews.{rule_of}
 use Rattle.simplecss.proofs.sheet.printing.RuleDisplay.fmt.Goals as goal
 
 -- the selector, and the declarations between braces

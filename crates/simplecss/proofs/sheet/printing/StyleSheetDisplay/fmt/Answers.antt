@@ -5,8 +5,8 @@ use Rattle.std.proofs.Output.{has_written_styled_of_eq, has_written_styled_appen
 use Rattle.std.proofs.lemmas.List.{take_all}
 use Rattle.std.proofs.lemmas.List.Folds.{flat_map-map}
 use Rattle.simplecss_text.specs.Printing.{rule_text, sheet_text}
-use Rattle.simplecss_text.proofs.printed.StyledWrites.{plain_of_styled, styled_step, styled_two}
-use Rattle.simplecss.specs.SeenRules.{rule_of, rules_in}
+use Rattle.simplecss_text.proofs.round_trip.StyledWrites.{plain_of_styled, styled_step, styled_two}
+use Rattle.simplecss.specs.RuleViews.{rule_of, rules_in}
 use Rattle.simplecss.proofs.Joins.{join_first}
 use Rattle.simplecss.proofs.sheet.printing.StyleSheetDisplay.fmt.Goals as goal
 

@@ -2,7 +2,7 @@ use Rattle.std.proofs.Common.{◌∷◌, take}
 use Rattle.std.specs.List.{flat_map}
 use Rattle.std.specs.Fmt.{HasWrittenStyled, IsFlush}
 use Rattle.simplecss_text.specs.Printing.{rule_text}
-use Rattle.simplecss.specs.SeenRules.{rule_of}
+use Rattle.simplecss.specs.RuleViews.{rule_of}
 use Rattle.simplecss.proofs.sheet.printing.StyleSheetDisplay.fmt.Given as goal
 
 -- after the first rule, the lines of those that follow are written

@@ -3,10 +3,10 @@ use Rattle.std.specs.Str.{IsCharBoundary}
 use Rattle.simplecss_text.specs.Cursor.{text_of, rest_of}
 use Rattle.simplecss_text.specs.Statements.{statement}
 use Rattle.simplecss_text.specs.ThisEdition.{this_edition}
-use Rattle.simplecss.specs.SheetPlaces.{StandsNext}
-use Rattle.simplecss.specs.SeenRules.{rule_of}
-use Rattle.simplecss.specs.SharedBlocks.{rules_read}
-use Rattle.simplecss.proofs.StatementPlaces.{stands_next}
+use Rattle.simplecss.specs.StatementOffsets.{StandsNext}
+use Rattle.simplecss.specs.RuleViews.{rule_of}
+use Rattle.simplecss.specs.internal.SharedBlocks.{rules_read}
+use Rattle.simplecss.proofs.StatementRests.{stands_next}
 use Rattle.simplecss.proofs.sheet.statement_reader.StatementReader.read_next_reporting.Goals as goal
 
 pub returns-clause-ok : goal.returns-clause-ok

@@ -1,5 +1,5 @@
 use Rattle.std.proofs.Common.{◌≡◌, ◌<◌, ◌++◌, ◌∷◌, [], length, arith, ap, ◌∙◌, rules}
-use Rattle.simplecss.specs.SeenRules.{rule_of, rules_of}
+use Rattle.simplecss.specs.RuleViews.{rule_of, rules_of}
 use Rattle.simplecss.proofs.ListLemmas.{copied_more}
 use Rattle.simplecss.proofs.sheet.style_sheet.StyleSheet.clone.Goals as goal
 

@@ -1,5 +1,5 @@
 use Rattle.std.proofs.Common.{◌≡◌, take}
-use Rattle.simplecss.specs.SeenRules.{rules_of}
+use Rattle.simplecss.specs.RuleViews.{rules_of}
 use Rattle.simplecss.proofs.sheet.style_sheet.StyleSheet.clone.Given as goal
 
 -- the rules so far are copies of the first ones

@@ -5,9 +5,9 @@ use Rattle.simplecss_text.specs.Statements.{has_declaration}
 use Rattle.simplecss_text.specs.Sheets.{sheet}
 use Rattle.simplecss_text.specs.ThisEdition.{this_edition}
 use Rattle.simplecss_text.specs.PrintingLaws.{IsNarrow, SelectorsReadBack, PrintsBack}
-use Rattle.simplecss_text.proofs.again.KeptSelectors.{sheet-reads_back}
-use Rattle.simplecss_text.proofs.again.SheetsAgain.{sheet-prints_back}
-use Rattle.simplecss.specs.SeenRules.{rules_of}
+use Rattle.simplecss_text.proofs.round_trip.KeptSelectors.{sheet-reads_back}
+use Rattle.simplecss_text.proofs.round_trip.SheetsAgain.{sheet-prints_back}
+use Rattle.simplecss.specs.RuleViews.{rules_of}
 use Rattle.simplecss.proofs.SheetLemmas.{AllPass-sheet}
 use Rattle.simplecss.proofs.sheet.style_sheet.StyleSheet.parse_all_reporting.Goals as goal
 

@@ -7,7 +7,7 @@ use Rattle.simplecss_text.specs.PrintingLaws.{has_wide_space}
 use Rattle.simplecss_text.specs.Sheets.{sheet}
 use Rattle.simplecss_text.specs.ThisEdition.{this_edition}
 use Rattle.simplecss_text.proofs.editions.SheetEditions.{sheet-editions}
-use Rattle.simplecss.specs.SeenRules.{rules_in}
+use Rattle.simplecss.specs.RuleViews.{rules_in}
 use Rattle.simplecss.proofs.sheet.style_sheet.StyleSheet.parse_reporting.Goals as goal
 
 pub returns-clause-prints_back : goal.returns-clause-prints_back

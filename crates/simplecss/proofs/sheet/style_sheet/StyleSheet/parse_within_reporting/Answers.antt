@@ -7,9 +7,9 @@ use Rattle.simplecss_text.specs.PrintingLaws.{SelectorsReadBack, PrintsBackAfter
 use Rattle.simplecss_text.specs.Sheets.{ordered, sheet}
 use Rattle.simplecss_text.specs.ThisEdition.{this_edition}
 use Rattle.simplecss_text.proofs.cutting.CuttingLaws.{goes_on, goes_on-ok}
-use Rattle.simplecss_text.proofs.again.KeptSelectors.{more-reads_back}
-use Rattle.simplecss_text.proofs.again.SheetsAgain.{prints_back-after, prints_back-same}
-use Rattle.simplecss.specs.SeenRules.{rule_of, rules_of}
+use Rattle.simplecss_text.proofs.round_trip.KeptSelectors.{more-reads_back}
+use Rattle.simplecss_text.proofs.round_trip.SheetsAgain.{prints_back-after, prints_back-same}
+use Rattle.simplecss.specs.RuleViews.{rule_of, rules_of}
 use Rattle.simplecss.proofs.SheetLemmas.{AllPass-sheet, sheet_more, sheet_open}
 use Rattle.simplecss.proofs.sheet.style_sheet.StyleSheet.parse_within_reporting.Goals as goal
 

@@ -1,0 +1,11 @@
+pub mod LineCuts
+pub mod DepthDigits
+pub mod Fields
+pub mod FirstValues
+pub mod ValueSpans
+pub mod KeySets
+pub mod Linked
+pub mod LineJoins
+pub mod Attributes
+pub mod PageLines
+pub mod AboveLines

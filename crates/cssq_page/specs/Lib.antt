@@ -1,0 +1,5 @@
+pub mod TreeText
+pub mod ParentsAndSiblings
+pub mod PageNodes
+pub mod ElementLaws
+pub mod internal

@@ -1,6 +1,0 @@
-use Rattle.std.proofs.Common.{refl, lit<}
-use Rattle.cssq_tree.proofs.Cuts.{place_after}
-use Rattle.cssq_tree.proofs.tree.entry.Entry.new.Goals as goal
-
-pub invariant_of-result-clause-cut_after : goal.invariant_of-result-clause-cut_after
-invariant_of-result-clause-cut_after c = place_after c.args.fields.now 9 _ refl c.utf8.fields (lit< tt)

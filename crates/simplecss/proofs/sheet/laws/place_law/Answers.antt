@@ -1,8 +1,0 @@
-use Rattle.std.specs.List.{flat_map}
-use Rattle.simplecss_text.specs.Statements.{kept}
-use Rattle.simplecss_text.specs.ThisEdition.{this_edition}
-use Rattle.simplecss.proofs.RulePlaces.{comes_before}
-use Rattle.simplecss.proofs.sheet.laws.place_law.Goals as goal
-
-pub returns : goal.returns
-returns c texts = comes_before (flat_map (kept this_edition) texts)

@@ -1,0 +1,7 @@
+-- What contracts of private functions and proofs name, and no contract of a public call.
+pub mod Chains
+pub mod LastByKey
+pub mod RuleOrders
+pub mod SharedBlocks
+pub mod TextIndices
+pub mod LastByWanted

@@ -1,0 +1,54 @@
+-- What is written of the elements of a tree, a line for each.
+use Rattle.std.specs.Prelude.{◌≡◌, ℕ, ◌+◌, List, [], ◌∷◌, ◌++◌, length, map, decimal, Option}
+use Rattle.simplecss.specs.AsciiBytes.{newline}
+use Rattle.simplecss.specs.Components.{Component}
+use Rattle.simplecss.specs.Declarations.{StyleDeclaration}
+use Rattle.simplecss.specs.ListTrees.{spot}
+use Rattle.simplecss.specs.Matching.{AreMatches}
+use Rattle.simplecss.specs.Statements.{StyleRule}
+use Rattle.simplecss_tree.specs.TreeNodes.{element_tree}
+use Rattle.simplecss_tree.specs.Rows.{Row}
+use Rattle.cssq.specs.MatchRuns.{AreLines, numbers_line}
+use Rattle.cssq.specs.StyleRuns.{style_line}
+use Rattle.cssq.specs.Winners.{IsStated, Wins}
+use Rattle.simplecss_c.specs.declared.pages.LineContent.{LineContent}
+use Rattle.simplecss_c.specs.declared.pages.LineContent.TheVariants.{Numbers, Selected}
+
+-- the selectors of rules
+abbrev pub selectors_of : List StyleRule → List (List Component)
+selectors_of rules = map (λ rule. rule.components) rules
+
+-- an element's number, where a selector matches it
+abbrev pub selected_line : ℕ → List ℕ → List ℕ
+selected_line number [] = []
+selected_line number (place ∷ places) = decimal number ++ newline ∷ []
+
+-- the line of an element of this number, which the selectors at these places match
+abbrev pub places_line : LineContent → ℕ → List ℕ → List ℕ
+places_line Numbers number places = numbers_line number (map (λ place. place + 1) places)
+places_line Selected number places = selected_line number places
+
+-- the line of the element at a place, by the places of the selectors that match it, in order
+abbrev pub IsLineOf : LineContent → List (List Component) → List Row → ℕ → List ℕ → Type 0
+IsLineOf content selectors rows place line =
+    (places : List ℕ) × AreMatches element_tree (spot rows place) selectors places
+    × (line ≡ places_line content (place + 1) places)
+
+-- the lines of all elements, in order
+abbrev pub AreLinesOf : LineContent → List (List Component) → List Row → List ℕ → Type 0
+AreLinesOf content selectors rows = AreLines (IsLineOf content selectors rows) (length rows)
+
+-- the lines of the numbers of the rules that match each element
+abbrev pub AreMatchLines : List StyleRule → List Row → List ℕ → Type 0
+AreMatchLines rules = AreLinesOf Numbers (selectors_of rules)
+
+-- the line of what wins for a name on the element at a place
+abbrev pub IsWinnerLine : List ℕ → List StyleRule → List Row → ℕ → List ℕ → Type 0
+IsWinnerLine name rules rows place line =
+    (winner : Option StyleDeclaration)
+    × Wins (IsStated element_tree (spot rows place) rules) name winner
+    × (line ≡ style_line (place + 1) winner)
+
+-- the lines of all elements, in order
+abbrev pub AreWinnerLines : List ℕ → List StyleRule → List Row → List ℕ → Type 0
+AreWinnerLines name rules rows = AreLines (IsWinnerLine name rules rows) (length rows)

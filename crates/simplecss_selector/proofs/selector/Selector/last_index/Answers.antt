@@ -1,0 +1,8 @@
+use Rattle.std.proofs.Common.{arith}
+use Rattle.simplecss_selector.proofs.Flat.{length_is}
+use Rattle.simplecss_selector.proofs.selector.Selector.last_index.Goals as goal
+
+pub returns : goal.returns
+returns c =
+    let s = c.self.inside in
+    omega (arith, c.len.ensures, s.parts.ok.0, length_is s.parts.items _ s.subselectors.items c.args.self.now c.self.view_is)

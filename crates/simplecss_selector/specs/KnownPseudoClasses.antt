@@ -1,9 +1,0 @@
--- What contracts see of the pseudo-class with a name.
-use Rattle.std.specs.Prelude.{Option, None, Some}
-use Rattle.simplecss_text.specs.Components.{KnownPseudoClass}
-use Rattle.simplecss_selector.specs.declared.pseudo_class.PseudoClass.{PseudoClass}
-use Rattle.simplecss_selector.specs.SeenOperators.{pseudo_class_of}
-
-abbrev pub pseudo_class_seen : Option PseudoClass → Option KnownPseudoClass
-pseudo_class_seen None = None
-pseudo_class_seen (Some class) = Some (pseudo_class_of class)
