@@ -109,9 +109,6 @@ covers_words bits words value word e all h = all word (word_among words word (su
 abbrev pub CoversId : ℕ → Option (List ℕ) → Type 0
 CoversId bits id = (text : List ℕ) → IsTrue (has_satisfying_value (equals text) id) → Covers bits (key_bits (by_id text))
 
-pub covers_id : (own : List ℕ) → CoversId (key_bits (by_id own)) (Some own)
-covers_id own text h i = let same = (bytes_eq-Decides own text).0 h in subst (λ t. bit_at (key_bits (by_id t)) i ≤ bit_at (key_bits (by_id own)) i) same (omega arith)
-
 pub covers_reported : (reported : Reported) (name id class : ℕ) → name ≡ key_bits (by_name reported.name) → CoversId id reported.id → ((word : List ℕ) → IsTrue (has_satisfying_value (has_word word) reported.class) → Covers class (key_bits (by_class word))) → CoversReported (bit_or (bit_or name id) class) reported
 covers_reported reported name id class is ids classes (by_id text) h = covers_more (bit_or (bit_or name id) class) id (key_bits (by_id text)) (covers_more (bit_or (bit_or name id) class) (bit_or name id) id (covers_left (bit_or name id) class) (covers_right name id)) (ids text h)
 covers_reported reported name id class is ids classes (by_class word) h = covers_more (bit_or (bit_or name id) class) class (key_bits (by_class word)) (covers_right (bit_or name id) class) (classes word h)

@@ -84,11 +84,3 @@ wanted_is cs last key before c n some k j b =
     ap (λ x. wanted_by x c before) k ∙ ap (λ x. wanted_by (compound_key (component_at cs last).compound) x before) j
     ∙ ap (wanted_by (compound_key (component_at cs last).compound) (component_at cs last).combinator) b
     ∙ sym (wanted_two cs last (last - 1) n after)
-
--- a key that is a condition is wanted of the element
-pub wanted_own : (key before : Key) (c : Combinator) → (key ≡ by_nothing → ⊥) → wanted_by key c before ≡ of_element key
-wanted_own (by_id text) before c some = refl
-wanted_own (by_class word) before c some = refl
-wanted_own (by_name name) before c some = refl
-wanted_own (by_attribute name) before c some = refl
-wanted_own by_nothing before c some = absurd (some refl)
