@@ -1,6 +1,5 @@
 -- Where in a text something is skipped.
 use Rattle.std.specs.Prelude.{ℕ, List}
-use Rattle.simplecss_text.specs.declared.error.Error.{Error}
 use Rattle.simplecss_text.specs.Reading.{Ends}
 use Rattle.simplecss_text.specs.Skipped.{Refusal, faulty, unknown_class, Why, leading_comma, refused_selector, after_selector, missing_block, broken_declaration, extra_brace, open_comment, at_rule, Skip}
 

@@ -1,5 +1,4 @@
 -- What contracts see of reports: the bytes of their texts, wherever these are stored.
-use Rattle.std.specs.Prelude.{ℕ, List, [], ◌∷◌, Option, Some, None}
 use Rattle.std.specs.Option.{option_map}
 use Rattle.simplecss_text.specs.declared.report.Refusal.{Refusal as ReportedRefusal}
 use Rattle.simplecss_text.specs.declared.report.Refusal.TheVariants.{Faulty, UnknownClass}

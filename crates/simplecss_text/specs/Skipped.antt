@@ -1,5 +1,5 @@
 -- What reading a style sheet skips, in order: where it begins, the rest after it, and why.
-use Rattle.std.specs.Prelude.{ℕ, Bool, if◌then◌else◌, List, [], ◌∷◌, ◌++◌, length, not, ◌==◌, ◌||◌, Option, Some, None, Ok, Err}
+use Rattle.std.specs.Prelude.{ℕ, if◌then◌else◌, List, [], ◌∷◌, ◌++◌, length, not, ◌==◌, ◌||◌, Option, Some, None, Ok, Err}
 use Rattle.std.specs.List.{flat_map}
 use Rattle.std.specs.Option.{option_map}
 use Rattle.simplecss_text.specs.declared.error.Error.{Error}

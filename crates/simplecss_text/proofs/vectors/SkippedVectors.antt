@@ -1,10 +1,10 @@
 -- Worked texts and what reading them skips, computed.
 -- Computes `part_skips`, `parts_skips`, `block_skips`, `statement_skips` and `skipped` of
 -- `specs/Skipped`.
-use Rattle.std.specs.Prelude.{ℕ, ◌≡◌, refl, [], ◌∷◌, codes, true, false, map, Some, None}
+use Rattle.std.specs.Prelude.{◌≡◌, refl, [], ◌∷◌, codes, map, Some}
 use Rattle.std.specs.Str.{trim_start, trim_end, chars}
 use lib.Utf8.{encode}
-use Rattle.simplecss_text.specs.declared.error.Error.TheVariants.{InvalidIdent, SelectorMissing}
+use Rattle.simplecss_text.specs.declared.error.Error.TheVariants.{SelectorMissing}
 use Rattle.simplecss_text.specs.Reading.{each}
 use Rattle.simplecss_text.specs.Positions.{position}
 use Rattle.simplecss_text.specs.Comments.{comment, blank, gap}
@@ -17,8 +17,8 @@ use Rattle.simplecss_text.specs.Selectors.{reads}
 use Rattle.simplecss_text.specs.Terms.{word, past_number, term}
 use Rattle.simplecss_text.specs.Declarations.{value, importance, trailing, declaration, declarations}
 use Rattle.simplecss_text.specs.Blocks.{block, block_end}
-use Rattle.simplecss_text.specs.Statements.{part, parts, next_block, rule_set, at_rule_rest, statement, statements, is_open_comment}
-use Rattle.simplecss_text.specs.Skipped.{Skip, faulty, unknown_class, refused_selector, broken_declaration, open_comment, at_rule, leading_comma, after_selector, missing_block, extra_brace, refusal, selector_skips, part_skips, skips_diverge, parts_skips, block_skips, next_block_skips, rule_set_skips, statement_skips, skipped}
+use Rattle.simplecss_text.specs.Statements.{part, parts, next_block, rule_set, at_rule_rest, statement, statements}
+use Rattle.simplecss_text.specs.Skipped.{faulty, unknown_class, refused_selector, broken_declaration, open_comment, at_rule, leading_comma, after_selector, missing_block, extra_brace, refusal, selector_skips, part_skips, skips_diverge, parts_skips, block_skips, next_block_skips, rule_set_skips, statement_skips, skipped}
 
 -- what is skipped of a text
 pub skips_of_texts : (edition : Edition) →
