@@ -136,14 +136,14 @@ abbrev pub skips_with : {A B : Type 0} → (List ℕ → B) → (List ℕ → Op
 skips_with skips read text = option_map (λ x. (skips text, x.1)) (read text)
 
 -- What is skipped wherever `read` finds something, one after another, and then in the rest.
-unfoldable pub skips_diverge : {A : Type 0} → (skips last : List ℕ → List Skip) → (List ℕ → Option (A × List ℕ)) → List ℕ → List Skip
-skips_diverge skips last read text =
+unfoldable pub skips_of_each : {A : Type 0} → (skips last : List ℕ → List Skip) → (List ℕ → Option (A × List ℕ)) → List ℕ → List Skip
+skips_of_each skips last read text =
     let found = each (skips_with skips read) text in
     flat_map (λ skips. skips) found.0 ++ last found.1
 
 -- what the parts of a rule set skip
 unfoldable pub parts_skips : Edition → List ℕ → List Skip
-parts_skips edition text = skips_diverge (part_skips edition) (part_skips edition) (part_and_comma edition) text
+parts_skips edition text = skips_of_each (part_skips edition) (part_skips edition) (part_and_comma edition) text
 
 -- ---- blocks
 
@@ -232,7 +232,7 @@ end_skips text =
 -- What reading a style sheet skips, in order.
 unfoldable pub skipped : Edition → List ℕ → List Skip
 skipped edition text =
-    skips_diverge (λ t. statement_skips edition (past_blank t)) end_skips (next_statement edition) text
+    skips_of_each (λ t. statement_skips edition (past_blank t)) end_skips (next_statement edition) text
 
 -- ---- one statement
 

@@ -16,7 +16,7 @@ use Rattle.simplecss_text.specs.Selectors.{Role, role_of, reads}
 use Rattle.simplecss_text.specs.Declarations.{StyleDeclaration, declaration}
 use Rattle.simplecss_text.specs.Blocks.{from_block_end, ends_list, declaration_in_block}
 use Rattle.simplecss_text.specs.Statements.{StyleRule, part, part_and_comma, parts, past_semicolon_or_block, at_rule_rest_by_name, at_rule_rest, next_statement}
-use Rattle.simplecss_text.specs.Skipped.{Refusal, faulty, unknown_class, Why, Skip, unless_unknown, class_name, refusal_in, refusal, from_brace, past_refused, refused_part, selector_skips, why_after, skips_after, skips_after_read, part_skips, skips_with, skips_diverge, parts_skips, brace_skips, list_end_skips, if_broken, list_skips, block_skips, next_block_skips, comma_skips, rule_set_skips, at_rule_skip, statement_skips, end_skips, skipped}
+use Rattle.simplecss_text.specs.Skipped.{Refusal, faulty, unknown_class, Why, Skip, unless_unknown, class_name, refusal_in, refusal, from_brace, past_refused, refused_part, selector_skips, why_after, skips_after, skips_after_read, part_skips, skips_with, skips_of_each, parts_skips, brace_skips, list_end_skips, if_broken, list_skips, block_skips, next_block_skips, comma_skips, rule_set_skips, at_rule_skip, statement_skips, end_skips, skipped}
 use Rattle.simplecss_text.specs.SkipOffsets.{IsRefusalWithin, IsWhyWithin, IsWithin}
 use Rattle.simplecss_text.proofs.reading.EndsLemmas.{ends-same, ends-nil, ends-ends, ends-past_one, ends-past_byte, ends-past, EndsFound, each-ends, stands-ends, no_texts, itself}
 use Rattle.simplecss_text.proofs.reading.StandLemmas.{ends-past_blank, name-stands}
@@ -102,12 +102,12 @@ up_to-within {A = A} skips last read ends each last_in (suc n) text =
         (within-ends text x.1
         (flat_map (λ (xs : List Skip). xs) (more x.1).0 ++ last (more x.1).1) h (rest x.1)))
 
-skips_diverge-within : {A : Type 0} (skips last : List ℕ → List Skip)
+skips_of_each-within : {A : Type 0} (skips last : List ℕ → List Skip)
     (read : List ℕ → Option (A × List ℕ)) → ((t : List ℕ) → EndsFound t (read t))
     → ((t : List ℕ) → AllWithin t (skips t)) → ((t : List ℕ) → AllWithin t (last t))
-    → (text : List ℕ) → AllWithin text (skips_diverge skips last read text)
-unfolding skips_diverge each
-skips_diverge-within skips last read ends each_in last_in text =
+    → (text : List ℕ) → AllWithin text (skips_of_each skips last read text)
+unfolding skips_of_each each
+skips_of_each-within skips last read ends each_in last_in text =
     up_to-within skips last read ends each_in last_in (length text) text
 
 -- ---- selectors
@@ -186,7 +186,7 @@ part_skips-within edition text =
 parts_skips-within : (edition : Edition) (text : List ℕ) → AllWithin text (parts_skips edition text)
 unfolding parts_skips
 parts_skips-within edition text =
-    skips_diverge-within (part_skips edition) (part_skips edition) (part_and_comma edition)
+    skips_of_each-within (part_skips edition) (part_skips edition) (part_and_comma edition)
     (part_and_comma-ends edition) (part_skips-within edition) (part_skips-within edition) text
 
 -- ---- blocks
@@ -331,7 +331,7 @@ next_statement-found edition text = by (next_statement edition text) refl
 pub skipped-within : (edition : Edition) (text : List ℕ) → AllWithin text (skipped edition text)
 unfolding skipped
 skipped-within edition text =
-    skips_diverge-within (λ t. statement_skips edition (past_blank t)) end_skips
+    skips_of_each-within (λ t. statement_skips edition (past_blank t)) end_skips
     (next_statement edition) (next_statement-found edition)
     (λ t. within-ends t (past_blank t) (statement_skips edition (past_blank t)) (ends-past_blank t)
     (statement_skips-within edition (past_blank t))) end_skips-within text

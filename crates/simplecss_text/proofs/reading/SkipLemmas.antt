@@ -13,7 +13,7 @@ use Rattle.simplecss_text.specs.Characters.{Edition}
 use Rattle.simplecss_text.specs.Components.{Component}
 use Rattle.simplecss_text.specs.Comments.{past_blank, opens_comment}
 use Rattle.simplecss_text.specs.Statements.{StyleRule, part, part_and_comma, parts, at_rule_rest, statement, ends_statements, next_statement}
-use Rattle.simplecss_text.specs.Skipped.{Skip, open_comment, at_rule, name_of, selector_skips, skips_after_read, comma_skips, next_block_skips, rule_set_skips, skips_with, skips_diverge, part_skips, parts_skips, statement_skips, end_skips, skipped, add_each}
+use Rattle.simplecss_text.specs.Skipped.{Skip, open_comment, at_rule, name_of, selector_skips, skips_after_read, comma_skips, next_block_skips, rule_set_skips, skips_with, skips_of_each, part_skips, parts_skips, statement_skips, end_skips, skipped, add_each}
 use Rattle.simplecss_text.proofs.bytes.GapLemmas.{past_blank-again}
 use Rattle.simplecss_text.proofs.reading.EachLemmas.{Shrinks, Takes, each-none, each-some, option_cases}
 use Rattle.simplecss_text.proofs.reading.StatementTextLemmas.{part_and_comma-takes, next_statement-takes}
@@ -56,12 +56,12 @@ skips_with-takes {A = A} {B = B} tell read takes text = by (read text) (takes te
     by None h = tt
     by (Some x) h = h
 
-pub skips_diverge-some : {A : Type 0} (tell last : List ℕ → List Skip)
+pub skips_of_each-some : {A : Type 0} (tell last : List ℕ → List Skip)
     (read : List ℕ → Option (A × List ℕ)) → Takes read → (text rest : List ℕ) (x : A)
     → read text ≡ Some (x, rest)
-    → skips_diverge tell last read text ≡ tell text ++ skips_diverge tell last read rest
-unfolding skips_diverge
-skips_diverge-some {A = A} tell last read takes text rest x e =
+    → skips_of_each tell last read text ≡ tell text ++ skips_of_each tell last read rest
+unfolding skips_of_each
+skips_of_each-some {A = A} tell last read takes text rest x e =
     let found : skips_with tell read text ≡ Some (tell text, rest) =
     ap (option_map (λ (y : A × List ℕ). (tell text, y.1))) e in
     let more = each (skips_with tell read) rest in
@@ -70,11 +70,11 @@ skips_diverge-some {A = A} tell last read takes text rest x e =
     found)
     ∙ append_assoc (tell text) (flat_map (λ skips. skips) more.0) (last more.1)
 
-pub skips_diverge-none : {A : Type 0} (tell last : List ℕ → List Skip)
+pub skips_of_each-none : {A : Type 0} (tell last : List ℕ → List Skip)
     (read : List ℕ → Option (A × List ℕ)) (text : List ℕ) → read text ≡ None
-    → skips_diverge tell last read text ≡ last text
-unfolding skips_diverge
-skips_diverge-none {A = A} tell last read text e =
+    → skips_of_each tell last read text ≡ last text
+unfolding skips_of_each
+skips_of_each-none {A = A} tell last read text e =
     let found : skips_with tell read text ≡ None =
     ap (option_map (λ (y : A × List ℕ). (tell text, y.1))) e in
     ap (λ (found : List (List Skip) × List ℕ). flat_map (λ skips. skips) found.0 ++ last found.1)
@@ -93,7 +93,7 @@ unfolding parts_skips
 parts_skips-some edition here rest p e =
     let read : part_and_comma edition here ≡ Some ((part edition here).0, past_one rest) =
     rw (p, e) refl in
-    skips_diverge-some (part_skips edition) (part_skips edition) (part_and_comma edition)
+    skips_of_each-some (part_skips edition) (part_skips edition) (part_and_comma edition)
     (part_and_comma-takes edition) here (past_one rest) (part edition here).0 read
 
 -- the last part
@@ -102,7 +102,7 @@ pub parts_skips-last : (edition : Edition) (here rest : List ℕ) → (part edit
 unfolding parts_skips
 parts_skips-last edition here rest p e =
     let read : part_and_comma edition here ≡ None = rw (p, e) refl in
-    skips_diverge-none (part_skips edition) (part_skips edition) (part_and_comma edition) here read
+    skips_of_each-none (part_skips edition) (part_skips edition) (part_and_comma edition) here read
 
 -- ---- statements
 
@@ -112,10 +112,10 @@ pub skipped-some : (edition : Edition) (text start : List ℕ)
     (statement edition start).1
 unfolding skipped
 skipped-some edition text start e s =
-    skips_diverge-some (λ t. statement_skips edition (past_blank t)) end_skips
+    skips_of_each-some (λ t. statement_skips edition (past_blank t)) end_skips
     (next_statement edition) (next_statement-takes edition) text (statement edition start).1
     (statement edition start).0 e
-    ∙ ap (λ (t : List ℕ). statement_skips edition t ++ skips_diverge
+    ∙ ap (λ (t : List ℕ). statement_skips edition t ++ skips_of_each
     (λ t. statement_skips edition (past_blank t)) end_skips (next_statement edition)
     (statement edition start).1) (sym s)
 
@@ -123,7 +123,7 @@ pub skipped-none : (edition : Edition) (text : List ℕ) → next_statement edit
     → skipped edition text ≡ end_skips text
 unfolding skipped
 skipped-none edition text e =
-    skips_diverge-none (λ t. statement_skips edition (past_blank t)) end_skips
+    skips_of_each-none (λ t. statement_skips edition (past_blank t)) end_skips
     (next_statement edition) text e
 
 -- a blank before statements makes no difference
@@ -133,12 +133,12 @@ skipped-blank_some : (edition : Edition) (text rest : List ℕ) (rules : List St
     → skipped edition (past_blank text) ≡ skipped edition text
 unfolding skipped
 skipped-blank_some edition text rest rules e f =
-    skips_diverge-some (λ t. statement_skips edition (past_blank t)) end_skips
+    skips_of_each-some (λ t. statement_skips edition (past_blank t)) end_skips
     (next_statement edition) (next_statement-takes edition) (past_blank text) rest rules f
-    ∙ ap (λ (t : List ℕ). statement_skips edition t ++ skips_diverge
+    ∙ ap (λ (t : List ℕ). statement_skips edition t ++ skips_of_each
     (λ t. statement_skips edition (past_blank t)) end_skips (next_statement edition) rest)
     (past_blank-again text)
-    ∙ sym (skips_diverge-some (λ t. statement_skips edition (past_blank t)) end_skips
+    ∙ sym (skips_of_each-some (λ t. statement_skips edition (past_blank t)) end_skips
     (next_statement edition) (next_statement-takes edition) text rest rules e)
 
 pub skipped-blank : (edition : Edition) (text : List ℕ)

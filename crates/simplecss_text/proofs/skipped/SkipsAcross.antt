@@ -9,7 +9,7 @@ use Rattle.simplecss_text.specs.Statements.{StyleRule, next_statement}
 use Rattle.simplecss_text.specs.Cutting.{rests_after, StatementEndsAt}
 use Rattle.simplecss_text.specs.Skipped.{Skip, end_skips, skipped, statement_skips}
 use Rattle.simplecss_text.specs.SkippedLaws.{skip_before, SkipsAcross}
-use Rattle.simplecss_text.proofs.reading.SkipLemmas.{skipped-none, skips_diverge-some}
+use Rattle.simplecss_text.proofs.reading.SkipLemmas.{skipped-none, skips_of_each-some}
 use Rattle.simplecss_text.proofs.reading.StatementTextLemmas.{next_statement-takes}
 use Rattle.simplecss_text.proofs.cutting.AtRuleCuts.{nothing_in_front}
 use Rattle.simplecss_text.proofs.cutting.StatementCuts.{next_statement-cut, next_statement-well}
@@ -23,7 +23,7 @@ pub skipped-next : (edition : Edition) (text rest : List ℕ) (rules : List Styl
     ≡ statement_skips edition (past_blank text) ++ skipped edition rest
 unfolding skipped
 skipped-next edition text rest rules e =
-    skips_diverge-some (λ t. statement_skips edition (past_blank t)) end_skips
+    skips_of_each-some (λ t. statement_skips edition (past_blank t)) end_skips
     (next_statement edition) (next_statement-takes edition) text rest rules e
 
 skipped-nil : (edition : Edition) → skipped edition [] ≡ []

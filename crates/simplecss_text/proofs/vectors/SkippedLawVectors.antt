@@ -17,7 +17,7 @@ use Rattle.simplecss_text.specs.Declarations.{value, importance, trailing, decla
 use Rattle.simplecss_text.specs.Blocks.{block, block_end}
 use Rattle.simplecss_text.specs.Statements.{part, parts, next_block, rule_set, at_rule_rest, statement, statements}
 use Rattle.simplecss_text.specs.Cutting.{rests_after, statement_ends}
-use Rattle.simplecss_text.specs.Skipped.{broken_declaration, at_rule, refusal, selector_skips, part_skips, skips_diverge, parts_skips, block_skips, next_block_skips, rule_set_skips, statement_skips, skipped}
+use Rattle.simplecss_text.specs.Skipped.{broken_declaration, at_rule, refusal, selector_skips, part_skips, skips_of_each, parts_skips, block_skips, next_block_skips, rule_set_skips, statement_skips, skipped}
 use Rattle.simplecss_text.specs.SkippedLaws.{skip_before}
 
 -- a declaration that is skipped in the first piece, and nothing in the second
@@ -32,7 +32,7 @@ unfolding rests_after each position comment blank gap past_name_chars name strin
     attribute_operator attribute_after lang_after pseudo_class_after named_token next_kind solid
     piece ending sequence_from chars encode trim_start trim_end reads part parts next_block rule_set
     at_rule_rest statement statements block block_end word past_number term value importance
-    trailing declaration declarations refusal selector_skips part_skips skips_diverge parts_skips
+    trailing declaration declarations refusal selector_skips part_skips skips_of_each parts_skips
     block_skips next_block_skips rule_set_skips statement_skips skipped
 skipped_in_front first_edition = (refl, refl, refl, refl)
 skipped_in_front second_edition = (refl, refl, refl, refl)
@@ -49,7 +49,7 @@ unfolding rests_after each position comment blank gap past_name_chars name strin
     attribute_operator attribute_after lang_after pseudo_class_after named_token next_kind solid
     piece ending sequence_from chars encode trim_start trim_end reads part parts next_block rule_set
     at_rule_rest statement statements block block_end word past_number term value importance
-    trailing declaration declarations refusal selector_skips part_skips skips_diverge parts_skips
+    trailing declaration declarations refusal selector_skips part_skips skips_of_each parts_skips
     block_skips next_block_skips rule_set_skips statement_skips skipped
 hyphen_is_cut first_edition = (refl, refl, refl, refl)
 hyphen_is_cut second_edition = (refl, refl, refl, refl)
@@ -64,7 +64,7 @@ unfolding rests_after each position comment blank gap past_name_chars name strin
     attribute_operator attribute_after lang_after pseudo_class_after named_token next_kind solid
     piece ending sequence_from chars encode trim_start trim_end reads part parts next_block rule_set
     at_rule_rest statement statements block block_end word past_number term value importance
-    trailing declaration declarations refusal selector_skips part_skips skips_diverge parts_skips
+    trailing declaration declarations refusal selector_skips part_skips skips_of_each parts_skips
     block_skips next_block_skips rule_set_skips statement_skips skipped
 open_string_is_taken first_edition = (refl, refl)
 open_string_is_taken second_edition = (refl, refl)

@@ -18,7 +18,7 @@ use Rattle.simplecss_text.specs.Terms.{word, past_number, term}
 use Rattle.simplecss_text.specs.Declarations.{value, importance, trailing, declaration, declarations}
 use Rattle.simplecss_text.specs.Blocks.{block, block_end}
 use Rattle.simplecss_text.specs.Statements.{part, parts, next_block, rule_set, at_rule_rest, statement, statements}
-use Rattle.simplecss_text.specs.Skipped.{faulty, unknown_class, refused_selector, broken_declaration, open_comment, at_rule, leading_comma, after_selector, missing_block, extra_brace, refusal, selector_skips, part_skips, skips_diverge, parts_skips, block_skips, next_block_skips, rule_set_skips, statement_skips, skipped}
+use Rattle.simplecss_text.specs.Skipped.{faulty, unknown_class, refused_selector, broken_declaration, open_comment, at_rule, leading_comma, after_selector, missing_block, extra_brace, refusal, selector_skips, part_skips, skips_of_each, parts_skips, block_skips, next_block_skips, rule_set_skips, statement_skips, skipped}
 
 -- what is skipped of a text
 pub skips_of_texts : (edition : Edition) →
@@ -63,7 +63,7 @@ unfolding each position comment blank gap past_name_chars name string_or_name at
     attribute_after lang_after pseudo_class_after named_token next_kind solid piece ending
     sequence_from chars encode trim_start trim_end reads part parts next_block rule_set at_rule_rest
     statement statements block block_end word past_number term value importance trailing declaration
-    declarations refusal selector_skips part_skips skips_diverge parts_skips block_skips
+    declarations refusal selector_skips part_skips skips_of_each parts_skips block_skips
     next_block_skips rule_set_skips statement_skips skipped
 skips_of_texts first_edition =
     (refl, refl, refl, refl, refl, refl, refl, refl, refl, refl, refl, refl)
