@@ -81,7 +81,7 @@ const RULES: &[&[usize]] = &[&[1, 2], &[0, 3], &[1, 2], &[0, 2], &[], &[]];
 fn is_found_by_an_index(rt: HostRuntime) -> Result<(), Fail> {
     let entries = entries();
     let sheet = StyleSheet::parse(&Discard, rt.alloc(), SHEET)?;
-    let index = RuleIndex::new(rt.alloc(), &sheet.rules)?;
+    let rule_index = RuleIndex::new(rt.alloc(), &sheet.rules)?;
     let mut places = Vec::new(rt.alloc());
     for (index, wanted) in RULES.iter().enumerate() {
         if index < entries.len() {
@@ -89,7 +89,7 @@ fn is_found_by_an_index(rt: HostRuntime) -> Result<(), Fail> {
                 entries: &entries,
                 index,
             };
-            index.matching(&sheet.rules, &spot, &mut places)?;
+            rule_index.matching(&sheet.rules, &spot, &mut places)?;
             same(&rt, places.as_slice(), *wanted, spot.local_name());
         }
     }
