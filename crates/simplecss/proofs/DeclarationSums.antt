@@ -1,6 +1,6 @@
 -- The number of declarations: of rules that share a block, of one statement more, and of a text.
 -- Serves `StyleSheet::parse_within` (when a text is refused).
-use Rattle.std.proofs.Common.{◌≡◌, ◌+◌, ◌*◌, ◌<◌, ◌∷◌, [], ◌++◌, ℕ, List, Bool, true, false, not, ◌==◌, length, arith, refl, ap, sym, ◌∙◌, map}
+use Rattle.std.proofs.Common.{◌≡◌, ◌+◌, ◌*◌, ◌<◌, ◌∷◌, [], ◌++◌, ℕ, List, Bool, true, false, length, arith, refl, ap, sym, ◌∙◌, map}
 use Rattle.std.specs.Prelude.{None, Result, Ok, Err, ◌↔◌, ◌≤◌, ◌≢◌}
 use Rattle.std.specs.Result.{OnOk, IfErr}
 use Rattle.std.specs.List.{filter}

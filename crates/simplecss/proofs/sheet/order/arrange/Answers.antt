@@ -1,6 +1,6 @@
 use Rattle.std.proofs.Common.{◌≡◌, ◌<◌, length, get_or, refl, ◌∙◌, arith, rules}
 use Rattle.std.proofs.lemmas.Grind.{get_or_default_zero}
-use Rattle.simplecss.proofs.RuleMoves.{moving_none, moving_more, moving_all}
+use Rattle.simplecss.proofs.RuleMoves.{moving_none, moving_more}
 use Rattle.simplecss.proofs.sheet.order.arrange.Goals as goal
 
 pub loop-index-init : goal.loop-index-init

@@ -1,4 +1,4 @@
-use Rattle.std.proofs.Common.{◌≡◌, length, ◌∙◌}
+use Rattle.std.proofs.Common.{length, ◌∙◌}
 use Rattle.std.proofs.lemmas.List.{length-map}
 use Rattle.simplecss.specs.RuleViews.{rule_of, rules_of}
 use Rattle.simplecss.specs.internal.RuleOrders.{no_rule, IsOrder, OrdersRules}

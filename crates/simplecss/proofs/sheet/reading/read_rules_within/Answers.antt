@@ -1,4 +1,4 @@
-use Rattle.std.proofs.Common.{◌≡◌, ◌+◌, ◌++◌, ◌<◌, List, ℕ, length, map, drop, sym, ◌∙◌, ap, subst, true, false, append_assoc, append-nil, refl, arith, ◌≤◌}
+use Rattle.std.proofs.Common.{◌≡◌, ◌+◌, ◌++◌, ◌<◌, List, ℕ, length, map, drop, sym, ◌∙◌, ap, subst, true, false, append_assoc, append-nil, refl, arith}
 use Rattle.std.specs.Prelude.{Result, Ok, Err, IfErr}
 use Rattle.std.specs.Result.{IsErrAnd}
 use Rattle.simplecss.specs.declared.sheet.sheet_error.SheetError.TheVariants.{TooManyDeclarations}
@@ -18,12 +18,12 @@ use Rattle.simplecss.proofs.sheet.reading.read_rules_within.Goals as goal
 
 pub returns-then-not-skip_blank-clause-rules : goal.returns-then-not-skip_blank-clause-rules
 returns-then-not-skip_blank-clause-rules g c =
-    let start : rest_of c.new-s.result ≡ c.args.text.now = ap (λ n. drop n c.new-s.result.text.now) c.new-s.ensures.index ∙ c.new-s.ensures.text in
+    let start : rest_of c.new-s.result ≡ c.args.text.now = ap (λ n. drop n c.new-s.result.text.now) c.new-s.ensures.offset ∙ c.new-s.ensures.text in
     subst (λ (t : List ℕ). opens_comment (past_blank t) ≡ true) start (blank-open (rest_of c.new-s.result) (rest_of c.skip_blank.new.s) (no_comment (past_blank (rest_of c.new-s.result))) c.if-not-skip_blank.ensures.reads)
 
 pub statements-init : goal.statements-init
 statements-init g c =
-    let start : rest_of c.new-s.result ≡ c.args.text.now = ap (λ n. drop n c.new-s.result.text.now) c.new-s.ensures.index ∙ c.new-s.ensures.text in
+    let start : rest_of c.new-s.result ≡ c.args.text.now = ap (λ n. drop n c.new-s.result.text.now) c.new-s.ensures.offset ∙ c.new-s.ensures.text in
     let after = blank-got (rest_of c.new-s.result) (rest_of c.skip_blank.new.s) c.if-not-skip_blank.ensures.reads in
     record {
       rules = rw c.new-reader.ensures (ap (rules_from this_edition) (sym after.1) ∙ rules_from-blank this_edition (rest_of c.new-s.result) ∙ ap (rules_from this_edition) start);
@@ -67,7 +67,7 @@ statements-preserved g c =
 
 pub returns-then-not-at_statement-clause-rules : goal.returns-then-not-at_statement-clause-rules
 returns-then-not-at_statement-clause-rules g c =
-    let start : rest_of c.new-s.result ≡ c.args.text.now = ap (λ n. drop n c.new-s.result.text.now) c.new-s.ensures.index ∙ c.new-s.ensures.text in
+    let start : rest_of c.new-s.result ≡ c.args.text.now = ap (λ n. drop n c.new-s.result.text.now) c.new-s.ensures.offset ∙ c.new-s.ensures.text in
     let after = blank-got (rest_of c.new-s.result) (rest_of c.skip_blank.new.s) c.if-not-skip_blank.ensures.reads in
     let end = rules_from-none this_edition (rest_of c.statements.s) c.if-not-at_statement.ensures.reads in (
       subst (λ (t : List ℕ). opens_comment (past_blank t) ≡ false) start after.0,
@@ -86,7 +86,7 @@ returns-then-not-at_statement-clause-reported g c =
 
 pub returns-then-not-skip_blank-clause-reported : goal.returns-then-not-skip_blank-clause-reported
 returns-then-not-skip_blank-clause-reported g c =
-    let start : rest_of c.new-s.result ≡ c.args.text.now = ap (λ n. drop n c.new-s.result.text.now) c.new-s.ensures.index ∙ c.new-s.ensures.text in
+    let start : rest_of c.new-s.result ≡ c.args.text.now = ap (λ n. drop n c.new-s.result.text.now) c.new-s.ensures.offset ∙ c.new-s.ensures.text in
     let none = next_statement-open this_edition (rest_of c.new-s.result) (rest_of c.skip_blank.new.s) (no_comment (past_blank (rest_of c.new-s.result))) c.if-not-skip_blank.ensures.reads in
     c.in_ok-report_end.ensures
     ∙ ap (λ (s : g.P.Report.State). add_each g.P.Report.add s (end_skips c.args.text.now)) c.begin.ensures
@@ -94,7 +94,7 @@ returns-then-not-skip_blank-clause-reported g c =
 
 pub returns-then-not-skip_blank-clause-within : goal.returns-then-not-skip_blank-clause-within
 returns-then-not-skip_blank-clause-within g c =
-    let start : rest_of c.new-s.result ≡ c.args.text.now = ap (λ n. drop n c.new-s.result.text.now) c.new-s.ensures.index ∙ c.new-s.ensures.text in
+    let start : rest_of c.new-s.result ≡ c.args.text.now = ap (λ n. drop n c.new-s.result.text.now) c.new-s.ensures.offset ∙ c.new-s.ensures.text in
     let none = next_statement-open this_edition (rest_of c.new-s.result) (rest_of c.skip_blank.new.s) (no_comment (past_blank (rest_of c.new-s.result))) c.if-not-skip_blank.ensures.reads in
     let zero_kept = ap (kept_declarations this_edition) (sym start) ∙ kept_declarations-none this_edition (rest_of c.new-s.result) none in
     omega (arith, zero_kept)

@@ -1,4 +1,4 @@
-use Rattle.std.proofs.Common.{◌≡◌, ◌++◌, [], List, ℕ, Some, None, Option, drop, sym, ap, ◌∙◌, refl}
+use Rattle.std.proofs.Common.{List, ℕ, Some, None, drop, sym, ap, ◌∙◌, refl}
 use Rattle.simplecss_text.specs.Bytes.{past}
 use Rattle.simplecss_text.specs.Characters.{is_space}
 use Rattle.simplecss_text.specs.Selectors.{reads}

@@ -2,7 +2,7 @@ use Rattle.std.proofs.Common.{◌≡◌, ◌++◌, ◌<◌, List, ℕ, Option, l
 use Rattle.simplecss_text.specs.Bytes.{past_one}
 use Rattle.simplecss_text.specs.Components.{Component}
 use Rattle.simplecss_text.specs.Statements.{part, parts}
-use Rattle.simplecss_text.specs.Skipped.{Skip, add_each, part_skips, parts_skips}
+use Rattle.simplecss_text.specs.Skipped.{add_each, part_skips, parts_skips}
 use Rattle.simplecss_text.proofs.reading.SkipLemmas.{add_each-append, parts_skips-some, parts_skips-last}
 use Rattle.simplecss_text.specs.ThisEdition.{this_edition}
 use Rattle.simplecss_text.specs.Cursor.{rest_of}

@@ -1,7 +1,7 @@
-use Rattle.std.proofs.Common.{◌≡◌, ◌∙◌, ◌∷◌, [], List, ℕ, Option, option_map, sym, ap, true, false}
+use Rattle.std.proofs.Common.{◌≡◌, ◌∙◌, ◌∷◌, [], List, ℕ, option_map, sym, ap, true, false}
 use Rattle.std.proofs.lemmas.Result.{on_ok_weaker}
 use Rattle.simplecss_text.specs.Bytes.{starts, past_one}
-use Rattle.simplecss_text.specs.Skipped.{Skip, add_each, rule_set_skips, statement_skips, at_rule}
+use Rattle.simplecss_text.specs.Skipped.{add_each, rule_set_skips, at_rule}
 use Rattle.simplecss_text.specs.ThisEdition.{this_edition}
 use Rattle.simplecss_text.specs.Cursor.{rest_of}
 use Rattle.simplecss_text.proofs.reading.SkipLemmas.{skips-at_rule, skips-rule_set}

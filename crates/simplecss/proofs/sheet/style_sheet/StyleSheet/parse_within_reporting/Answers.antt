@@ -1,12 +1,11 @@
-use Rattle.std.proofs.Common.{◌≡◌, ◌++◌, ◌∷◌, [], ◌∙◌, ℕ, List, Result, Ok, Err, OnOk, OnErr, ap, sym, subst, map, rules, flat_map}
+use Rattle.std.proofs.Common.{◌≡◌, ◌++◌, ◌∷◌, [], ◌∙◌, ℕ, List, ap, sym, subst, map, rules, flat_map}
 use Rattle.std.specs.List.{filter, AllPass}
-use Rattle.std.proofs.lemmas.Result.{on_ok_weaker, on_err_weaker}
 use Rattle.std.proofs.lemmas.List.Elements.{filter-append}
-use Rattle.simplecss_text.specs.Statements.{StyleRule, has_declaration, kept, statements}
-use Rattle.simplecss_text.specs.PrintingLaws.{SelectorsReadBack, PrintsBackAfter}
+use Rattle.simplecss_text.specs.Statements.{has_declaration, kept, statements}
+use Rattle.simplecss_text.specs.PrintingLaws.{SelectorsReadBack}
 use Rattle.simplecss_text.specs.Sheets.{ordered, sheet}
 use Rattle.simplecss_text.specs.ThisEdition.{this_edition}
-use Rattle.simplecss_text.proofs.cutting.CuttingLaws.{goes_on, goes_on-ok}
+use Rattle.simplecss_text.proofs.cutting.CuttingLaws.{goes_on}
 use Rattle.simplecss_text.proofs.round_trip.KeptSelectors.{more-reads_back}
 use Rattle.simplecss_text.proofs.round_trip.SheetsAgain.{prints_back-after, prints_back-same}
 use Rattle.simplecss.specs.RuleViews.{rule_of, rules_of}
