@@ -7,7 +7,7 @@ use Rattle.simplecss.specs.declared.Error.TheVariants.{UnexpectedEndOfStream, In
 use Rattle.simplecss.specs.Reading.{before}
 use Rattle.simplecss.specs.Positions.{in_whole, position}
 use Rattle.simplecss.specs.Errors.{position_of}
-use Rattle.simplecss.specs.Skipped.{Why, leading_comma, refused_selector, after_selector, missing_block, broken_declaration, extra_brace, open_comment, at_rule, Refusal, faulty, unknown_class, Skip}
+use Rattle.simplecss.specs.Skipped.{Why, leading_comma, refused_selector, after_selector, missing_block, broken_declaration, extra_brace, open_comment, at_rule, faulty, unknown_class, Skip}
 use Rattle.simplecss_faults.specs.declared.fault.SheetFault.{SheetFault}
 use Rattle.simplecss_faults.specs.declared.fault.Reason.{Reason}
 use Rattle.simplecss_faults.specs.declared.fault.Reason.TheVariants.{LeadingComma, Selector, PseudoClass, AfterSelector, MissingBlock, Declaration, ExtraBrace, Comment, AtRule}

@@ -140,14 +140,14 @@ impl<'a> Found<'a> {
     /// Adds the hints on the values of a block, from after its opening brace.
     fn read_block(&mut self, block: &'a str) -> Result<(), AllocError> {
         let mut declarations = DeclarationTokenizer::from(block);
-        let mut from = block;
+        let mut start = 0;
         // A declaration has a byte at least.
         for _ in 0..block.len() {
             let Some(declaration) = declarations.next() else {
                 break;
             };
-            self.read_value(from, declaration)?;
-            from = block.get(declarations.pos()..).unwrap_or("");
+            self.read_value(block.get(start..).unwrap_or(""), declaration)?;
+            start = declarations.pos();
         }
         Ok(())
     }

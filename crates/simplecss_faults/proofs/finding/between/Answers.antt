@@ -1,4 +1,4 @@
-use Rattle.std.proofs.Common.{ℕ, List, sym, subst, arith}
+use Rattle.std.proofs.Common.{sym, subst, arith}
 use Rattle.std.specs.Str.{IsCharBoundary}
 use Rattle.simplecss_faults.proofs.OffsetPositions.{boundary_at_start, boundary-between}
 use Rattle.simplecss_faults.proofs.finding.between.Goals as goal

@@ -1,6 +1,5 @@
-use Rattle.std.proofs.Common.{◌≡◌, ◌<◌, ◌≤◌, ℕ, List, length, sym, subst, arith}
+use Rattle.std.proofs.Common.{◌≡◌, ◌≤◌, ℕ, List, sym, subst, arith}
 use Rattle.std.specs.Str.{IsCharBoundary}
-use Rattle.simplecss_text.specs.Reading.{rest_offset}
 use Rattle.simplecss_text.specs.Positions.{position}
 use Rattle.simplecss_faults.specs.FaultViews.{IsKnown}
 use Rattle.simplecss_faults.specs.declared.finding.Known.{Known}
