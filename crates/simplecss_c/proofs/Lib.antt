@@ -4,3 +4,5 @@ pub mod RepeatedKeys
 pub mod Building
 pub mod PageCalls
 pub mod ReadLists
+pub mod JsonTexts
+pub mod JsonVectors

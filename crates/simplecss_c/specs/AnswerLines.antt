@@ -10,7 +10,8 @@ use Rattle.simplecss_tree.specs.TreeNodes.{element_tree}
 use Rattle.simplecss_tree.specs.Rows.{Row}
 use Rattle.cssq.specs.MatchRuns.{AreLines, numbers_line}
 use Rattle.cssq.specs.StyleRuns.{style_line}
-use Rattle.cssq.specs.Winners.{IsStated, Wins}
+use Rattle.cssq.specs.Winners.{IsStated, Wins, WinsForItsName, ListsInOrder}
+use Rattle.simplecss_c.specs.JsonLines.{line, declaration_array}
 use Rattle.simplecss_c.specs.declared.pages.LineContent.{LineContent}
 use Rattle.simplecss_c.specs.declared.pages.LineContent.TheVariants.{Numbers, Selected}
 
@@ -52,3 +53,15 @@ IsWinnerLine name rules rows place line =
 -- the lines of all elements, in order
 abbrev pub AreWinnerLines : List ℕ → List StyleRule → List Row → List ℕ → Type 0
 AreWinnerLines name rules rows = AreLines (IsWinnerLine name rules rows) (length rows)
+
+-- the line of all that wins on the element at a place: for each name what wins for it, in the order of
+-- rules and of declarations in them
+abbrev pub IsWinnersLine : List StyleRule → List Row → ℕ → List ℕ → Type 0
+IsWinnersLine rules rows place text =
+    (winners : List StyleDeclaration)
+    × ListsInOrder (WinsForItsName element_tree (spot rows place) rules) winners
+    × (text ≡ line (declaration_array winners))
+
+-- the lines of all elements, in order
+abbrev pub AreWinnersLines : List StyleRule → List Row → List ℕ → Type 0
+AreWinnersLines rules rows = AreLines (IsWinnersLine rules rows) (length rows)

@@ -1,11 +1,13 @@
 -- What each call must write, and when it fails.
-use Rattle.std.specs.Prelude.{◌≡◌, ◌⊎◌, ℕ, List, None, Some, Result, Ok, Err}
+use Rattle.std.specs.Prelude.{◌≡◌, ◌⊎◌, ℕ, List, map, None, Some, Result, Ok, Err}
 use Rattle.std.specs.List.{All}
 use Rattle.std.specs.Str.{IsUtf8}
 use Rattle.simplecss.specs.Components.{Component}
 use Rattle.simplecss.specs.ThisEdition.{this_edition}
 use Rattle.simplecss.specs.Statements.{StyleRule}
 use Rattle.simplecss.specs.Sheets.{sheet}
+use Rattle.simplecss.specs.Skipped.{skipped}
+use Rattle.simplecss_faults.specs.FaultViews.{fault_in}
 use Rattle.simplecss_tree.specs.Rows.{Row}
 use Rattle.cssq.specs.SelectorRuns.{selector_in, selector_line}
 use Rattle.cssq.specs.SheetRuns.{sheet_output}
@@ -17,7 +19,8 @@ use Rattle.simplecss_c.specs.declared.answer.Failure.TheVariants.{Refused, Tree,
 use Rattle.simplecss_c.specs.declared.pages.LineContent.TheVariants.{Selected}
 use Rattle.simplecss_c.specs.Texts.{texts_in}
 use Rattle.simplecss_c.specs.Elements.{tree_of}
-use Rattle.simplecss_c.specs.AnswerLines.{AreLinesOf, AreMatchLines, AreWinnerLines}
+use Rattle.simplecss_c.specs.JsonLines.{rule_lines, fault_lines, selector_lines}
+use Rattle.simplecss_c.specs.AnswerLines.{AreLinesOf, AreMatchLines, AreWinnerLines, AreWinnersLines}
 use Rattle.simplecss_c.specs.SelectorLists.{selectors_in}
 
 -- A failure has its own reason. Any call may be out of memory.
@@ -59,6 +62,24 @@ IsSheetCall IsText buffer ends (Err failure) =
 abbrev pub IsPrinted : List StyleRule → List ℕ → Type 0
 IsPrinted rules bytes = bytes ≡ sheet_output rules
 
+-- a line in JSON for each rule
+abbrev pub IsRuleLines : List StyleRule → List ℕ → Type 0
+IsRuleLines rules bytes = bytes ≡ rule_lines rules
+
+-- a line in JSON for each part of the text that is skipped
+abbrev pub IsSkippedCall : List ℕ → Result (List ℕ) Failure → Type 0
+IsSkippedCall text (Ok bytes) =
+    IsUtf8 text × (bytes ≡ fault_lines (map (fault_in text) (skipped this_edition text)))
+IsSkippedCall text (Err failure) = FailsFor ⊥ (λ fault. ⊥) (¬ (IsUtf8 text)) failure
+
+-- a line in JSON for each selector of the list, or why there is none
+abbrev pub IsListCall : List ℕ → Result (List ℕ) Failure → Type 0
+IsListCall text (Ok bytes) =
+    IsUtf8 text × (selectors : List (List Component)) × (selectors_in text ≡ Some selectors)
+    × (bytes ≡ selector_lines selectors)
+IsListCall text (Err failure) =
+    FailsFor (selectors_in text ≡ None) (λ fault. ⊥) (¬ (IsUtf8 text)) failure
+
 -- A tree as a caller passes it: its elements, a buffer of their strings, and where each ends.
 pub record Passed : Type 0 where
   pub elements : List TreeElement
@@ -86,6 +107,10 @@ IsPageCall IsText buffer ends passed (Err failure) =
 -- which rules match each element
 abbrev pub IsMatchCall : List ℕ → List ℕ → Passed → Result (List ℕ) Failure → Type 0
 IsMatchCall = IsPageCall AreMatchLines
+
+-- all that wins on each element
+abbrev pub IsStylesCall : List ℕ → List ℕ → Passed → Result (List ℕ) Failure → Type 0
+IsStylesCall = IsPageCall AreWinnersLines
 
 -- what wins for a name on each element; the name is UTF-8
 abbrev pub IsStyleCall : List ℕ → List ℕ → Passed → List ℕ → Result (List ℕ) Failure → Type 0

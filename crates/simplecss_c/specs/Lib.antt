@@ -2,6 +2,8 @@ pub mod Outcomes
 pub mod Texts
 pub mod Elements
 pub mod Answers
+pub mod Json
+pub mod JsonLines
 pub mod AnswerLines
 pub mod SelectorLists
 pub mod Calls

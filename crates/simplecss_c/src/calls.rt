@@ -6,20 +6,20 @@ ghost use Rattle.simplecss_c.specs.Outcomes.{outcome_of};
 ghost use Rattle.simplecss_c.specs.AnswerLines.{AreMatchLines, AreWinnerLines};
 ghost use Rattle.simplecss_c.specs.Calls.{IsSelectorCall, IsSheetCall, IsPrinted, IsMatchCall};
 ghost use Rattle.simplecss_c.specs.Calls.{IsPageCall, IsSelectCall, IsStyleCall, passed_of};
+ghost use Rattle.simplecss_c.specs.Calls.{IsRuleLines, IsSkippedCall, IsListCall, IsStylesCall};
 
 use crate::answer::Failure;
 use crate::elements::{TreeElement, read_tree};
 use crate::lists::selectors_of;
-use crate::pages::{LineContent, lines, winner_lines};
+use crate::pages::{LineContent, lines, winner_lines, winners_lines};
 use crate::texts::{text_of, texts_of};
 use crate::{json, lists};
-use cssq::cascade::best_places;
 use cssq::runs::{selector_line, sheet_text};
 use log::sink::Discard;
-use simplecss::{Declaration, Rule, RuleIndex, Selector, StyleSheet};
+use simplecss::{Selector, StyleSheet};
 use simplecss_faults::find_faults;
 use simplecss_tree::Tree;
-use std::alloc::{AllocError, Global};
+use std::alloc::Global;
 
 /// The line of a selector.
 pub fn selector(alloc: Global, text: &[u8]) -> Result<String, Failure>
@@ -44,22 +44,28 @@ pub fn sheet(alloc: Global, buffer: &[u8], ends: &[usize]) -> Result<String, Fai
 }
 
 /// The lines of the rules of a sheet, in JSON.
-pub fn rules(alloc: Global, buffer: &[u8], ends: &[usize]) -> Result<String, Failure> {
+pub fn rules(alloc: Global, buffer: &[u8], ends: &[usize]) -> Result<String, Failure>
+    ensures { IsSheetCall IsRuleLines buffer.now ends.now (outcome_of result) }
+{
     let texts = texts_of(alloc, buffer, ends)?;
     let sheet = StyleSheet::parse_all(&Discard, alloc, &texts)?;
-    json::rule_lines(alloc, &sheet.rules)
+    Ok(json::rule_lines(alloc, &sheet.rules)?)
 }
 
 /// The lines of what of a style sheet's text is skipped, in JSON.
-pub fn skipped(alloc: Global, text: &[u8]) -> Result<String, Failure> {
+pub fn skipped(alloc: Global, text: &[u8]) -> Result<String, Failure>
+    ensures { IsSkippedCall text.now (outcome_of result) }
+{
     let faults = find_faults(alloc, text_of(text)?)?;
-    json::fault_lines(alloc, &faults)
+    Ok(json::fault_lines(alloc, &faults)?)
 }
 
 /// The lines of a list of selectors, in JSON.
-pub fn list(alloc: Global, text: &[u8]) -> Result<String, Failure> {
+pub fn list(alloc: Global, text: &[u8]) -> Result<String, Failure>
+    ensures { IsListCall text.now (outcome_of result) }
+{
     let selectors = selectors_of(alloc, text_of(text)?)?;
-    json::selector_lines(alloc, &selectors)
+    Ok(json::selector_lines(alloc, &selectors)?)
 }
 
 /// The line of the first error of a list of selectors, in JSON.
@@ -88,65 +94,19 @@ pub fn select(alloc: Global, text: &[u8], tree: Passed<'_>) -> Result<String, Fa
     lines(alloc, LineContent::Selected, &selectors, &tree)
 }
 
-/// The declarations of the rules at the places, in order.
-fn declarations_at<'a>(
-    alloc: Global,
-    rules: &[Rule<'a>],
-    places: &[usize],
-) -> Result<Vec<Declaration<'a>>, AllocError> {
-    let mut all = Vec::new(alloc);
-    for place in places {
-        if let Some(rule) = rules.get(*place) {
-            all.extend_from_slice(&rule.declarations)?;
-        }
-    }
-    Ok(all)
-}
-
-/// The declaration that wins for each name, in order.
-fn winners_of<'a>(
-    alloc: Global,
-    stated: &[Declaration<'a>],
-) -> Result<Vec<Declaration<'a>>, AllocError> {
-    let places = best_places(alloc, stated)?;
-    let mut all = Vec::new(alloc);
-    for (place, declaration) in stated.iter().enumerate() {
-        if places.get(declaration.name).copied() == Some(place) {
-            all.push(*declaration)?;
-        }
-    }
-    Ok(all)
-}
-
-/// The lines of the winners on each element of a page, in JSON.
-fn json_lines(alloc: Global, rules: &[Rule<'_>], tree: &Tree<'_>) -> Result<String, Failure> {
-    let index = RuleIndex::new(alloc, rules)?;
-    let mut places = Vec::new(alloc);
-    let mut out = String::new(alloc);
-    for place in 0..tree.len() {
-        let Some(element) = tree.node(place) else {
-            break;
-        };
-        index.matching(rules, &element, &mut places)?;
-        let stated = declarations_at(alloc, rules, &places)?;
-        let winners = winners_of(alloc, &stated)?;
-        json::push_declarations(&mut out, &winners)?;
-        out.push('\n')?;
-    }
-    Ok(out)
-}
-
-/// The lines of the winners on each element of a tree, in JSON.
+/// The lines of all that wins on each element of a tree, in JSON.
 pub fn styles(
     alloc: Global,
     buffer: &[u8],
     ends: &[usize],
     tree: Passed<'_>,
-) -> Result<String, Failure> {
+) -> Result<String, Failure>
+    ensures { IsStylesCall buffer.now ends.now (passed_of tree.entry) (outcome_of result) }
+{
     let texts = texts_of(alloc, buffer, ends)?;
     let tree = read_tree(alloc, tree.elements, tree.strings, tree.ends)?;
     let sheet = StyleSheet::parse_all(&Discard, alloc, &texts)?;
-    json_lines(alloc, &sheet.rules, &tree)
+    winners_lines(alloc, &sheet.rules, &tree)
 }
 
 /// The numbers of the rules of a sheet that match each element of a tree.

@@ -9,7 +9,8 @@ ghost use Rattle.std.specs.Prelude.{◌≡◌, List, ℕ, Result};
 ghost use Rattle.simplecss_c.specs.declared.answer.Failure.{Failure as FailureView};
 ghost use Rattle.simplecss_c.specs.Answers.{Answers, IsHandedOver, IsPlaced};
 ghost use Rattle.simplecss_c.specs.Calls.{IsSelectorCall, IsSheetCall, IsPrinted, IsMatchCall};
-ghost use Rattle.simplecss_c.specs.Calls.{IsSelectCall, IsStyleCall};
+ghost use Rattle.simplecss_c.specs.Calls.{IsListCall, IsRuleLines, IsSkippedCall, IsSelectCall, IsStyleCall};
+ghost use Rattle.simplecss_c.specs.Calls.{IsStylesCall};
 
 use crate::answer::{TreePlace, copy_whole, hand_over, set_place};
 use crate::calls;
@@ -47,7 +48,7 @@ pub extern "C" fn simplecss_selector(
 /// `specificity`.
 #[unsafe(no_mangle)]
 pub extern "C" fn simplecss_list(alloc: Global, text: &[u8], out: &mut [u8], len: &mut usize) -> u32
-    ensures { (outcome : Result (List ℕ) FailureView)
+    ensures { (outcome : Result (List ℕ) FailureView) × IsListCall text.now outcome
         × Answers outcome result out.old out.new len.new }
 {
     hand_over(calls::list(alloc, text), out, len)
@@ -95,6 +96,7 @@ pub extern "C" fn simplecss_rules(
     len: &mut usize,
 ) -> u32
     ensures { (outcome : Result (List ℕ) FailureView)
+        × IsSheetCall IsRuleLines texts.now ends.now outcome
         × Answers outcome result out.old out.new len.new }
 {
     hand_over(calls::rules(alloc, texts, ends), out, len)
@@ -109,7 +111,7 @@ pub extern "C" fn simplecss_skipped(
     out: &mut [u8],
     len: &mut usize,
 ) -> u32
-    ensures { (outcome : Result (List ℕ) FailureView)
+    ensures { (outcome : Result (List ℕ) FailureView) × IsSkippedCall text.now outcome
         × Answers outcome result out.old out.new len.new }
 {
     hand_over(calls::skipped(alloc, text), out, len)
@@ -216,7 +218,8 @@ pub extern "C" fn simplecss_styles(
     len: &mut usize,
     place: &mut TreePlace,
 ) -> u32
-    ensures { (outcome : Result (List ℕ) FailureView)
+    ensures { (outcome : Result (List ℕ) FailureView) × IsStylesCall texts.now ends.now
+        (record { elements = elements.now; strings = strings.now; ends = string_ends.now }) outcome
         × Answers outcome result out.old out.new len.new
         × IsPlaced outcome place.old place.new }
 {

@@ -1,32 +1,77 @@
 //! Answers in JSON (RFC 8259), a value a line.
 
-use crate::answer::Failure;
-use simplecss::{Declaration, Rule, Selector};
+ghost use Rattle.std.specs.Prelude.{◌≡◌, ◌<◌, ◌++◌, OnOk, IfOk, string_bytes, map};
+ghost use Rattle.std.specs.Char.{digit_char};
+ghost use Rattle.simplecss.specs.DeclarationViews.{declaration_of, declarations_of};
+ghost use Rattle.simplecss.specs.RuleViews.{rule_of, rules_of};
+ghost use Rattle.simplecss_faults.specs.FaultViews.{fault_of};
+ghost use Rattle.simplecss_c.specs.Json.{is_escaped, escape, string, members};
+ghost use Rattle.simplecss_c.specs.JsonLines.{declaration_object, declaration_array};
+ghost use Rattle.simplecss_c.specs.JsonLines.{selector_members, rule_line, rule_lines};
+ghost use Rattle.simplecss_c.specs.JsonLines.{selector_line, selector_lines, place_members};
+ghost use Rattle.simplecss_c.specs.JsonLines.{place_line, fault_line, fault_lines};
+
+use simplecss::{Declaration, Rule, Selector, TextPos};
 use simplecss_faults::SheetFault;
 use std::alloc::{AllocError, Global};
 use std::fmt::Write as _;
 
-/// Appends a string: the text between quotes, with quotes, backslashes and control characters
-/// escaped.
-fn push_string(out: &mut String, text: &str) -> Result<(), AllocError> {
+/// Whether a byte of a string is escaped.
+fn is_escaped(byte: u8) -> bool
+    ensures { result ≡ is_escaped byte }
+{
+    byte < 32 || byte == b'"' || byte == b'\\'
+}
+
+/// The hexadecimal digit of a number below 16.
+fn hex_digit(number: u8) -> char
+    requires { number < 16 }
+    ensures { result ≡ digit_char number }
+{
+    if number < 10 {
+        char::from(b'0' + number)
+    } else {
+        char::from(b'a' - 10 + number)
+    }
+}
+
+/// Appends the escape of a byte.
+fn push_escape(out: &mut String, byte: u8) -> Result<(), AllocError>
+    ensures { OnOk result (string_bytes out.new ≡ string_bytes out.old ++ escape byte) }
+{
+    if byte == b'"' {
+        return out.push_str("\\\"");
+    }
+    if byte == b'\\' {
+        return out.push_str("\\\\");
+    }
+    out.push_str("\\u00")?;
+    out.push(hex_digit(byte / 16))?;
+    out.push(hex_digit(byte % 16))
+}
+
+/// Appends a string: the text between quotation marks, with quotation marks, backslashes and control
+/// characters escaped.
+fn push_string(out: &mut String, text: &str) -> Result<(), AllocError>
+    ensures { OnOk result (string_bytes out.new ≡ string_bytes out.old ++ string text.now) }
+{
     out.push('"')?;
-    for c in text.chars() {
-        match c {
-            '"' => out.push_str("\\\"")?,
-            '\\' => out.push_str("\\\\")?,
-            '\u{0}'..='\u{1f}' => write!(out, "\\u{:04x}", u32::from(c))?,
-            _ => out.push(c)?,
+    let mut start: usize = 0;
+    for (place, byte) in text.as_bytes().iter().enumerate() {
+        if is_escaped(*byte) {
+            out.push_str(&text[start..place])?;
+            push_escape(out, *byte)?;
+            start = place + 1;
         }
     }
+    out.push_str(&text[start..])?;
     out.push('"')
 }
 
 /// Appends the members of a selector: its printed text and its specificity.
-fn push_selector(
-    out: &mut String,
-    alloc: Global,
-    selector: &Selector<'_>,
-) -> Result<(), AllocError> {
+fn push_selector(out: &mut String, alloc: Global, selector: &Selector<'_>) -> Result<(), AllocError>
+    ensures { OnOk result (string_bytes out.new ≡ string_bytes out.old ++ members (selector_members selector.now)) }
+{
     let text = format!(in alloc; "{selector}")?;
     let specificity = selector.specificity();
     let (ids, others, types) = (specificity[0], specificity[1], specificity[2]);
@@ -36,7 +81,10 @@ fn push_selector(
 }
 
 /// Appends a declaration as an object.
-fn push_declaration(out: &mut String, declaration: &Declaration<'_>) -> Result<(), AllocError> {
+fn push_declaration(out: &mut String, declaration: &Declaration<'_>) -> Result<(), AllocError>
+    ensures { OnOk result (string_bytes out.new
+        ≡ string_bytes out.old ++ declaration_object (declaration_of declaration.now)) }
+{
     out.push_str("{\"name\":")?;
     push_string(out, declaration.name)?;
     out.push_str(",\"value\":")?;
@@ -52,7 +100,10 @@ fn push_declaration(out: &mut String, declaration: &Declaration<'_>) -> Result<(
 pub fn push_declarations(
     out: &mut String,
     declarations: &[Declaration<'_>],
-) -> Result<(), AllocError> {
+) -> Result<(), AllocError>
+    ensures { OnOk result (string_bytes out.new
+        ≡ string_bytes out.old ++ declaration_array (declarations_of declarations.now)) }
+{
     out.push('[')?;
     for (place, declaration) in declarations.iter().enumerate() {
         if place > 0 {
@@ -63,50 +114,91 @@ pub fn push_declarations(
     out.push(']')
 }
 
-/// The lines of selectors.
-pub fn selector_lines(alloc: Global, selectors: &[Rule<'_>]) -> Result<String, Failure> {
-    let mut out = String::new(alloc);
-    for rule in selectors {
-        out.push('{')?;
-        push_selector(&mut out, alloc, &rule.selector)?;
-        out.push_str("}\n")?;
-    }
-    Ok(out)
+/// Appends the line of a rule.
+fn push_rule(out: &mut String, alloc: Global, rule: &Rule<'_>) -> Result<(), AllocError>
+    ensures { OnOk result
+        (string_bytes out.new ≡ string_bytes out.old ++ rule_line (rule_of rule.now)) }
+{
+    out.push('{')?;
+    push_selector(out, alloc, &rule.selector)?;
+    out.push_str(",\"declarations\":")?;
+    push_declarations(out, &rule.declarations)?;
+    out.push_str("}\n")
 }
 
 /// The lines of rules.
-pub fn rule_lines(alloc: Global, rules: &[Rule<'_>]) -> Result<String, Failure> {
+pub fn rule_lines(alloc: Global, rules: &[Rule<'_>]) -> Result<String, AllocError>
+    ensures { IfOk result (λ text. string_bytes text ≡ rule_lines (rules_of rules.now)) }
+{
     let mut out = String::new(alloc);
     for rule in rules {
-        out.push('{')?;
-        push_selector(&mut out, alloc, &rule.selector)?;
-        out.push_str(",\"declarations\":")?;
-        push_declarations(&mut out, &rule.declarations)?;
-        out.push_str("}\n")?;
+        push_rule(&mut out, alloc, rule)?;
     }
     Ok(out)
 }
 
+/// Appends the line of a rule's selector.
+fn push_listed(out: &mut String, alloc: Global, rule: &Rule<'_>) -> Result<(), AllocError>
+    ensures { OnOk result
+        (string_bytes out.new ≡ string_bytes out.old ++ selector_line rule.now.selector) }
+{
+    out.push('{')?;
+    push_selector(out, alloc, &rule.selector)?;
+    out.push_str("}\n")
+}
+
+/// The lines of the selectors of rules.
+pub fn selector_lines(alloc: Global, rules: &[Rule<'_>]) -> Result<String, AllocError>
+    ensures { IfOk result
+        (λ text. string_bytes text ≡ selector_lines (map (λ rule. rule.selector) rules.now)) }
+{
+    let mut out = String::new(alloc);
+    for rule in rules {
+        push_listed(&mut out, alloc, rule)?;
+    }
+    Ok(out)
+}
+
+/// Appends the members of a place: its row, its column, and what is wrong there.
+fn push_place(out: &mut String, pos: TextPos, reason: &str) -> Result<(), AllocError>
+    ensures { OnOk result
+        (string_bytes out.new ≡ string_bytes out.old ++ members (place_members pos reason.now)) }
+{
+    let (row, column) = (pos.row, pos.col);
+    write!(out, "\"row\":{row},\"column\":{column},\"reason\":")?;
+    push_string(out, reason)
+}
+
+/// Appends the line of skipped text.
+fn push_fault(out: &mut String, fault: &SheetFault<'_>) -> Result<(), AllocError>
+    ensures { OnOk result
+        (string_bytes out.new ≡ string_bytes out.old ++ fault_line (fault_of fault.now)) }
+{
+    out.push('{')?;
+    push_place(out, fault.pos, fault.reason.words())?;
+    out.push_str(",\"text\":")?;
+    push_string(out, fault.quote())?;
+    out.push_str("}\n")
+}
+
 /// The lines of what was skipped.
-pub fn fault_lines(alloc: Global, faults: &[SheetFault<'_>]) -> Result<String, Failure> {
+pub fn fault_lines(alloc: Global, faults: &[SheetFault<'_>]) -> Result<String, AllocError>
+    ensures { IfOk result (λ text. string_bytes text ≡ fault_lines (map fault_of faults.now)) }
+{
     let mut out = String::new(alloc);
     for fault in faults {
-        let reason = format!(in alloc; "{}", fault.reason)?;
-        let (row, column) = (fault.pos.row, fault.pos.col);
-        write!(out, "{{\"row\":{row},\"column\":{column},\"reason\":")?;
-        push_string(&mut out, reason.as_str())?;
-        out.push_str(",\"text\":")?;
-        push_string(&mut out, fault.quote())?;
-        out.push_str("}\n")?;
+        push_fault(&mut out, fault)?;
     }
     Ok(out)
 }
 
 /// The line of a place and what is wrong there.
-pub fn place_line(alloc: Global, row: u32, column: u32, reason: &str) -> Result<String, Failure> {
+pub fn place_line(alloc: Global, pos: TextPos, reason: &str) -> Result<String, AllocError>
+    ensures { IfOk result (λ text. string_bytes text ≡ place_line pos reason.now) }
+{
     let mut out = String::new(alloc);
-    write!(out, "{{\"row\":{row},\"column\":{column},\"reason\":")?;
-    push_string(&mut out, reason)?;
+    out.push('{')?;
+    push_place(&mut out, pos, reason)?;
     out.push_str("}\n")?;
     Ok(out)
 }

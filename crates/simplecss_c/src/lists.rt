@@ -95,10 +95,10 @@ fn error_line(alloc: Global, text: &str, start: usize, end: usize) -> Result<Str
             None => position(text, end),
         };
         let reason = format!(in alloc; "{}", Reason::Selector(error))?;
-        return json::place_line(alloc, at.row, at.col, reason.as_str());
+        return Ok(json::place_line(alloc, at, reason.as_str())?);
     }
     let at = position(text, end);
-    json::place_line(alloc, at.row, at.col, "unknown pseudo-class")
+    Ok(json::place_line(alloc, at, "unknown pseudo-class")?)
 }
 
 /// The line of the first error in a list of selectors, or nothing where there is none.
@@ -108,7 +108,7 @@ pub fn refusal(alloc: Global, text: &str) -> Result<String, Failure> {
         Listed::Refused(start, end) => error_line(alloc, text, start, end),
         Listed::NoComma(end) => {
             let at = position(text, end);
-            json::place_line(alloc, at.row, at.col, "a comma or the end was expected")
+            Ok(json::place_line(alloc, at, "a comma or the end was expected")?)
         }
     }
 }

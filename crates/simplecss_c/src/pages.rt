@@ -4,14 +4,16 @@ ghost use Rattle.std.specs.Prelude.{◌≡◌, ◌+◌, ◌^◌, ◌<◌, ◌++�
 ghost use Rattle.std.specs.Prelude.{length, map, string_bytes};
 ghost use Rattle.std.specs.Option.{option_map};
 ghost use Rattle.simplecss.specs.DeclarationViews.{declaration_of};
-ghost use Rattle.simplecss.specs.RuleViews.{rules_in};
+ghost use Rattle.simplecss.specs.RuleViews.{rules_of, rules_in};
 ghost use Rattle.cssq.specs.MatchRuns.{numbers_line};
 ghost use Rattle.cssq.specs.StyleRuns.{style_line};
 ghost use Rattle.simplecss_c.specs.AnswerLines.{selected_line, places_line, IsLineOf, AreLinesOf};
 ghost use Rattle.simplecss_c.specs.AnswerLines.{IsWinnerLine, AreWinnerLines};
+ghost use Rattle.simplecss_c.specs.AnswerLines.{IsWinnersLine, AreWinnersLines};
 
 use crate::answer::Failure;
-use cssq::cascade::winning;
+use crate::json::push_declarations;
+use cssq::cascade::{Cascade, winning};
 use simplecss::{Declaration, Rule, RuleIndex, StyleSheet};
 use simplecss_tree::Tree;
 use std::alloc::{AllocError, Global};
@@ -152,6 +154,39 @@ pub fn winner_lines(
     let mut text = String::new(alloc);
     for place in 0..tree.len() {
         push_winning(&mut text, sheet, tree, place, name)?;
+    }
+    Ok(text)
+}
+
+/// Appends the line of all that wins on the element at a place, in JSON.
+fn push_winners(
+    out: &mut String,
+    cascade: &mut Cascade<'_, '_>,
+    tree: &Tree<'_>,
+    place: usize,
+) -> Result<(), AllocError>
+    requires { place < length tree.now }
+    ensures same { cascade.new ≡ cascade.old }
+    ensures written { OnOk result
+        ((line : List ℕ) × IsWinnersLine cascade.old tree.now place line
+        × (string_bytes out.new ≡ string_bytes out.old ++ line)) }
+{
+    let node = tree.node(place).unwrap();
+    let winners = cascade.winners(&node)?;
+    push_declarations(out, &winners)?;
+    out.push('\n')
+}
+
+/// The lines of all that wins on each element of a tree, in JSON.
+pub fn winners_lines(alloc: Global, rules: &[Rule<'_>], tree: &Tree<'_>) -> Result<String, Failure>
+    ensures { MatchResult result
+        (λ text. AreWinnersLines (rules_of rules.now) tree.now (string_bytes text))
+        (λ failure. failure ≡ Failure.Memory) }
+{
+    let mut cascade = Cascade::new(alloc, rules)?;
+    let mut text = String::new(alloc);
+    for place in 0..tree.len() {
+        push_winners(&mut text, &mut cascade, tree, place)?;
     }
     Ok(text)
 }

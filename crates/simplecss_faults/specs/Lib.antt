@@ -1,1 +1,2 @@
 pub mod FaultViews
+pub mod Quotes

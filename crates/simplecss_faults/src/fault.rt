@@ -1,4 +1,9 @@
 //! A part of a style sheet that is skipped.
+ghost use Rattle.std.specs.Prelude.{◌≡◌, ◌<◌};
+ghost use Rattle.simplecss_faults.specs.FaultViews.{fault_of};
+ghost use Rattle.simplecss_faults.specs.Quotes.{before_byte, first_line, quote};
+ghost use Rattle.simplecss_faults.specs.Quotes.{reason_words, error_words};
+
 use simplecss::{Error, TextPos};
 use std::fmt;
 
@@ -36,29 +41,55 @@ pub enum Reason {
     AtRule,
 }
 
-/// The text before the first of the two characters, or all.
-fn before(text: &str, one: char, two: char) -> &str {
-    match text.split_once([one, two]) {
+/// The text before the first such character, or all.
+fn before(text: &str, character: char) -> &str
+    requires { character < 128 }
+    ensures { result.now ≡ before_byte character text.now }
+{
+    match text.split_once(character) {
         Some((front, _)) => front,
         None => text,
     }
 }
 
 /// The first line of a text, without white space around it.
-pub(crate) fn first_line(text: &str) -> &str {
-    before(text.trim(), '\n', '\r').trim_end()
+pub(crate) fn first_line(text: &str) -> &str
+    ensures { result.now ≡ first_line text.now }
+{
+    before(before(text.trim(), '\n'), '\r').trim_end()
 }
 
 impl<'a> SheetFault<'a> {
     /// The part of the text that a message quotes: an at-rule up to its block or semicolon, a
-    /// declaration up to its semicolon, and anything else as it is; of these the first line,
-    /// without white space around it.
-    pub fn quote(&self) -> &'a str {
+    /// declaration up to its semicolon or the end of its block, and anything else as it is; of these
+    /// the first line, without white space around it.
+    pub fn quote(&self) -> &'a str
+        ensures { result.now ≡ quote (fault_of self.now) }
+    {
         first_line(match self.reason {
-            Reason::AtRule => before(self.text, '{', ';'),
-            Reason::Declaration => before(self.text, ';', '}'),
+            Reason::AtRule => before(before(self.text, '{'), ';'),
+            Reason::Declaration => before(before(self.text, ';'), '}'),
             _ => self.text,
         })
+    }
+}
+
+impl Reason {
+    /// The reason in a few words, without a position.
+    pub fn words(&self) -> &'static str
+        ensures { result.now ≡ reason_words self.now }
+    {
+        match *self {
+            Reason::LeadingComma => "comma before a selector",
+            Reason::Selector(error) => words_of(error),
+            Reason::PseudoClass => "unknown pseudo-class",
+            Reason::AfterSelector => "unexpected text after a selector",
+            Reason::MissingBlock => "block missing",
+            Reason::Declaration => "broken declaration",
+            Reason::ExtraBrace => "unexpected closing brace",
+            Reason::Comment => "comment not closed",
+            Reason::AtRule => "at-rule not supported",
+        }
     }
 }
 
@@ -73,22 +104,14 @@ impl fmt::Display for SheetFault<'_> {
 /// Prints the reason in a few words, without a position.
 impl fmt::Display for Reason {
     fn fmt<W: fmt::Write>(&self, f: &mut fmt::Formatter<W>) -> fmt::Result {
-        f.write_str(match *self {
-            Reason::LeadingComma => "comma before a selector",
-            Reason::Selector(error) => words_of(error),
-            Reason::PseudoClass => "unknown pseudo-class",
-            Reason::AfterSelector => "unexpected text after a selector",
-            Reason::MissingBlock => "block missing",
-            Reason::Declaration => "broken declaration",
-            Reason::ExtraBrace => "unexpected closing brace",
-            Reason::Comment => "comment not closed",
-            Reason::AtRule => "at-rule not supported",
-        })
+        f.write_str(self.words())
     }
 }
 
 /// The error in a few words, without its position.
-fn words_of(error: Error) -> &'static str {
+fn words_of(error: Error) -> &'static str
+    ensures { result.now ≡ error_words error }
+{
     match error {
         Error::UnexpectedEndOfStream => "unexpected end of stream",
         Error::InvalidIdent(_) => "invalid ident",

@@ -1,0 +1,186 @@
+-- JSON texts that are written piece by piece.
+-- Serves `json::{push_string, push_declarations, push_selector, push_rule, rule_lines, selector_lines,
+-- push_fault}` and `pages::push_winners`.
+use Rattle.std.proofs.Common.{◌≡◌, ℕ, ◌+◌, ◌<◌, ◌≤◌, true, false, List, [], ◌∷◌, ◌++◌, length, take, drop, get_or, map, refl, sym, ap, ◌∙◌, append_assoc, append-nil, arith}
+use Rattle.std.specs.Prelude.{if◌then◌else◌, codes, decimal, Result, Ok, Err, OnOk}
+use Rattle.std.specs.Result.{is_ok}
+use Rattle.std.specs.List.{flat_map, join_with_byte, between}
+use Rattle.std.specs.Str.{IsCharBoundary, IsUtf8}
+use Rattle.std.proofs.lemmas.List.{take_more, take_all, flat_map_more, map-append, length-map, length-take}
+use Rattle.std.proofs.lemmas.List.Edits.{between_more, between_none}
+use Rattle.std.proofs.lemmas.Slice.{between_to_end}
+use Rattle.std.proofs.lemmas.Bool.Decides.{nat_tests}
+use Rattle.std.proofs.lemmas.Str.{IsCharBoundary-start, IsCharBoundary-after_ascii}
+use Rattle.simplecss.specs.AsciiBytes.{comma}
+use Rattle.simplecss.specs.Components.{Component}
+use Rattle.simplecss.specs.Printing.{selector_text}
+use Rattle.simplecss.specs.Specificity.{specificity}
+use Rattle.simplecss_c.specs.Json.{is_escaped, escape, within_string, string, array, member, members, object}
+use Rattle.simplecss.specs.Statements.{StyleRule}
+use Rattle.simplecss_faults.specs.FaultViews.{FaultView}
+use Rattle.simplecss_faults.specs.Quotes.{quote, reason_words}
+use Rattle.simplecss_c.specs.JsonLines.{line, selector_members, declaration_array, rule_line, place_members, fault_line}
+
+-- ---- strings
+
+-- What was written of the first bytes of a text, and its bytes between the two places, which are
+-- still to be written as they are.
+pub record EscapedSoFar (text : List ℕ) (start place : ℕ) (before out : List ℕ) : Type 0 where
+  pub written : out ++ between start place text ≡ before ++ flat_map within_string (take place text)
+  pub within : start ≤ place
+  pub boundary : IsCharBoundary text start
+
+pub escaped_none : (text : List ℕ) → IsUtf8 text → (out : List ℕ) → EscapedSoFar text 0 0 out out
+escaped_none text utf8 out = record {
+  written = refl;
+  within = omega arith;
+  boundary = IsCharBoundary-start text utf8;
+}
+
+-- a byte that is escaped is ASCII
+escaped_ascii : (b : ℕ) → is_escaped b ≡ true → b < 128
+escaped_ascii b is = grind (arith, nat_tests, is)
+
+module _ {text : List ℕ} {start place : ℕ} {before out : List ℕ} (so_far : EscapedSoFar text start place before out) (less : place < length text) where
+  one_more : before ++ flat_map within_string (take (place + 1) text) ≡ (out ++ between start place text) ++ within_string (get_or text place 0)
+  one_more =
+      ap (λ bs. before ++ flat_map within_string bs) (take_more text place 0 less)
+      ∙ sym (flat_map_more within_string before (take place text) (get_or text place 0))
+      ∙ ap (λ t. t ++ within_string (get_or text place 0)) (sym so_far.written)
+
+  -- one more byte that is not escaped
+  pub escaped_plain : is_escaped (get_or text place 0) ≡ false → EscapedSoFar text start (place + 1) before out
+  escaped_plain same =
+      let within = so_far.within in
+      let b = get_or text place 0 in
+      record {
+        written = ap (λ bs. out ++ bs) (between_more text start place 0 within less) ∙ sym (append_assoc out (between start place text) (b ∷ []))
+            ∙ ap (λ bs. (out ++ between start place text) ++ bs) (sym (ap (λ t. if t then escape b else b ∷ []) same))
+            ∙ sym one_more;
+        within = omega (arith, within);
+        boundary = so_far.boundary;
+      }
+
+  -- one more byte that is escaped, after those before it
+  pub escaped_byte : IsUtf8 text → is_escaped (get_or text place 0) ≡ true → (all : List ℕ)
+      → all ≡ (out ++ between start place text) ++ escape (get_or text place 0) → EscapedSoFar text (place + 1) (place + 1) before all
+  escaped_byte utf8 is all are =
+      let b = get_or text place 0 in
+      record {
+        written = ap (λ bs. all ++ bs) (between_none text (place + 1)) ∙ append-nil all ∙ are
+            ∙ ap (λ bs. (out ++ between start place text) ++ bs) (sym (ap (λ t. if t then escape b else b ∷ []) is))
+            ∙ sym one_more;
+        within = omega arith;
+        boundary = IsCharBoundary-after_ascii text place utf8 less (escaped_ascii b is);
+      }
+
+-- all bytes
+pub escaped_all : {text : List ℕ} {start place : ℕ} {before out : List ℕ} → EscapedSoFar text start place before out → length text ≤ place
+    → out ++ drop start text ≡ before ++ flat_map within_string text
+escaped_all {text} {start} {place} {before} {out} so_far all =
+    ap (λ bs. out ++ bs) (sym (between_to_end text start place all)) ∙ so_far.written
+    ∙ ap (λ bs. before ++ flat_map within_string bs) (take_all place text all)
+
+-- ---- arrays
+
+-- a value, after a comma unless it is the first
+abbrev pub joined_after : ℕ → List (List ℕ) → List ℕ → List ℕ
+joined_after c [] value = value
+joined_after c (v ∷ values) value = c ∷ value
+
+-- one value more
+pub join_push : (c : ℕ) (values : List (List ℕ)) (value : List ℕ)
+    → join_with_byte c (values ++ value ∷ []) ≡ join_with_byte c values ++ joined_after c values value
+join_push c [] value = refl
+join_push c (v ∷ []) value = refl
+join_push c (v ∷ w ∷ values) value =
+    ap (λ t. v ++ (c ∷ t)) (join_push c (w ∷ values) value) ∙ sym (append_assoc v (c ∷ join_with_byte c (w ∷ values)) (c ∷ value))
+
+-- what was written before a value is a comma, unless it is the first
+mid_is : (c place : ℕ) (values : List (List ℕ)) (value out mid : List ℕ) → length values ≡ place
+    → (place ≡ 0 → mid ≡ out) → (0 < place → mid ≡ out ++ c ∷ []) → mid ++ value ≡ out ++ joined_after c values value
+mid_is c place [] value out mid len none some = ap (λ t. t ++ value) (none (sym len))
+mid_is c place (v ∷ values) value out mid len none some =
+    let later : 0 < place = omega (arith, len) in ap (λ t. t ++ value) (some later) ∙ append_assoc out (c ∷ []) value
+
+-- one value more of an array
+pub array_more : {D E : Type 0} (f : E → List ℕ) (g : D → E) (ds : List D) (place : ℕ) (d : D) (before out mid all : List ℕ) → place < length ds
+    → out ≡ before ++ join_with_byte comma (map f (map g (take place ds)))
+    → (place ≡ 0 → mid ≡ out) → (0 < place → mid ≡ out ++ comma ∷ []) → all ≡ mid ++ f (g (get_or ds place d))
+    → all ≡ before ++ join_with_byte comma (map f (map g (take (place + 1) ds)))
+array_more f g ds place d before out mid all less so_far none some wrote =
+    let values = map f (map g (take place ds)) in
+    let value = f (g (get_or ds place d)) in
+    let len : length values ≡ place = omega (arith, less, length-map (map g (take place ds)) f, length-map (take place ds) g, length-take place ds) in
+    wrote ∙ mid_is comma place values value out mid len none some
+    ∙ ap (λ t. t ++ joined_after comma values value) so_far
+    ∙ append_assoc before (join_with_byte comma values) (joined_after comma values value)
+    ∙ ap (λ t. before ++ t) (sym (join_push comma values value))
+    ∙ ap (λ vs. before ++ join_with_byte comma vs) (sym (ap (λ xs. map f (map g xs)) (take_more ds place d less) ∙ ap (map f) (map-append g (take place ds) (get_or ds place d ∷ [])) ∙ map-append f (map g (take place ds)) (g (get_or ds place d) ∷ [])))
+
+-- ---- the last piece
+
+-- what was written where the last call did not fail
+pub wrote_last : {V F : Type 0} (r : Result V F) (old more new : List ℕ) → new ≡ (if is_ok r then old ++ more else old) → OnOk r (new ≡ old ++ more)
+wrote_last (Ok v) old more new is = is
+wrote_last (Err e) old more new is = tt
+
+-- ---- lines
+
+-- one line more
+pub line_more : {D E : Type 0} (f : E → List ℕ) (g : D → E) (ds : List D) (place : ℕ) (d : D) (out all : List ℕ) → place < length ds
+    → out ≡ flat_map f (map g (take place ds)) → all ≡ out ++ f (g (get_or ds place d))
+    → all ≡ flat_map f (map g (take (place + 1) ds))
+line_more f g ds place d out all less so_far wrote =
+    let value = g (get_or ds place d) in
+    wrote ∙ ap (λ t. t ++ f value) so_far ∙ flat_map_more f [] (map g (take place ds)) value
+    ∙ ap (flat_map f) (sym (ap (map g) (take_more ds place d less) ∙ map-append g (take place ds) (get_or ds place d ∷ [])))
+
+-- ---- a selector
+
+numbers_joined : (out text a b d : List ℕ)
+    → ((out ++ codes "\"selector\":") ++ text) ++ (codes ",\"specificity\":[" ++ (a ++ (44 ∷ (b ++ (44 ∷ (d ++ 93 ∷ []))))))
+    ≡ out ++ members (member (codes "selector") text ∷ member (codes "specificity") (array (a ∷ b ∷ d ∷ [])) ∷ [])
+numbers_joined out text a b d = simp append_assoc
+
+-- the members of a selector, of which the printed text was written before the numbers
+pub selector_written : (selector : List Component) (out key text numbers : List ℕ) → numbers ≡ specificity selector
+    → key ≡ out ++ codes "\"selector\":" → text ≡ key ++ string (selector_text selector)
+    → text ++ (codes ",\"specificity\":[" ++ (decimal (get_or numbers 0 0) ++ (44 ∷ (decimal (get_or numbers 1 0) ++ (44 ∷ (decimal (get_or numbers 2 0) ++ 93 ∷ []))))))
+    ≡ out ++ members (selector_members selector)
+selector_written selector out key text numbers are before after =
+    ap (λ v. text ++ (codes ",\"specificity\":[" ++ (decimal (get_or v 0 0) ++ (44 ∷ (decimal (get_or v 1 0) ++ (44 ∷ (decimal (get_or v 2 0) ++ 93 ∷ []))))))) are
+    ∙ ap (λ t. t ++ (codes ",\"specificity\":[" ++ (decimal (get_or (specificity selector) 0 0) ++ (44 ∷ (decimal (get_or (specificity selector) 1 0) ++ (44 ∷ (decimal (get_or (specificity selector) 2 0) ++ 93 ∷ []))))))) (after ∙ ap (λ t. t ++ string (selector_text selector)) before)
+    ∙ numbers_joined out (string (selector_text selector)) (decimal (get_or (specificity selector) 0 0)) (decimal (get_or (specificity selector) 1 0)) (decimal (get_or (specificity selector) 2 0))
+
+-- ---- a rule
+
+rule_joined : (out a b d : List ℕ)
+    → ((((out ++ codes "{") ++ members (a ∷ b ∷ [])) ++ codes ",\"declarations\":") ++ d) ++ codes "}\n"
+    ≡ out ++ line (object (a ∷ b ∷ member (codes "declarations") d ∷ []))
+rule_joined out a b d = simp append_assoc
+
+-- the line of a rule, a piece after another
+pub rule_written : (rule : StyleRule) (out brace selector key all : List ℕ) → brace ≡ out ++ codes "{"
+    → selector ≡ brace ++ members (selector_members rule.components) → key ≡ selector ++ codes ",\"declarations\":"
+    → all ≡ key ++ declaration_array rule.declarations → all ++ codes "}\n" ≡ out ++ rule_line rule
+rule_written rule out brace selector key all first second third fourth =
+    ap (λ t. t ++ codes "}\n") (fourth ∙ ap (λ t. t ++ declaration_array rule.declarations) (third
+    ∙ ap (λ t. t ++ codes ",\"declarations\":") (second ∙ ap (λ t. t ++ members (selector_members rule.components)) first)))
+    ∙ rule_joined out (member (codes "selector") (string (selector_text rule.components))) (member (codes "specificity") (array (map decimal (specificity rule.components)))) (declaration_array rule.declarations)
+
+-- ---- skipped text
+
+fault_joined : (out a b d e : List ℕ)
+    → ((((out ++ codes "{") ++ members (a ∷ b ∷ d ∷ [])) ++ codes ",\"text\":") ++ e) ++ codes "}\n"
+    ≡ out ++ line (object (a ∷ b ∷ d ∷ member (codes "text") e ∷ []))
+fault_joined out a b d e = simp append_assoc
+
+-- the line of skipped text, a piece after another
+pub fault_written : (fault : FaultView) (out brace place key all : List ℕ) → brace ≡ out ++ codes "{"
+    → place ≡ brace ++ members (place_members fault.pos (reason_words fault.reason)) → key ≡ place ++ codes ",\"text\":"
+    → all ≡ key ++ string (quote fault) → all ++ codes "}\n" ≡ out ++ fault_line fault
+fault_written fault out brace place key all first second third fourth =
+    ap (λ t. t ++ codes "}\n") (fourth ∙ ap (λ t. t ++ string (quote fault)) (third
+    ∙ ap (λ t. t ++ codes ",\"text\":") (second ∙ ap (λ t. t ++ members (place_members fault.pos (reason_words fault.reason))) first)))
+    ∙ fault_joined out (member (codes "row") (decimal fault.pos.row)) (member (codes "column") (decimal fault.pos.col)) (member (codes "reason") (string (reason_words fault.reason))) (string (quote fault))

@@ -1,0 +1,7 @@
+use Rattle.std.proofs.Common.{string_bytes}
+use Rattle.simplecss_c.proofs.JsonTexts.{EscapedSoFar}
+use Rattle.simplecss_c.proofs.json.push_string.Given as goal
+
+-- what was written of the bytes so far
+abbrev pub invariant-loop-place : goal.invariant-loop-place
+invariant-loop-place l = EscapedSoFar l.text l.start l.place (string_bytes l.initial.out) (string_bytes l.out)

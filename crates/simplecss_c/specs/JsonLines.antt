@@ -1,0 +1,76 @@
+-- What is written in JSON, a value a line.
+use Rattle.std.specs.Prelude.{ℕ, List, [], ◌∷◌, ◌++◌, codes, map, decimal}
+use Rattle.std.specs.List.{flat_map}
+use Rattle.simplecss.specs.AsciiBytes.{newline}
+use Rattle.simplecss.specs.Components.{Component}
+use Rattle.simplecss.specs.Declarations.{StyleDeclaration}
+use Rattle.simplecss.specs.Printing.{selector_text}
+use Rattle.simplecss.specs.Specificity.{specificity}
+use Rattle.simplecss.specs.Statements.{StyleRule}
+use Rattle.simplecss.specs.declared.TextPos.{TextPos}
+use Rattle.simplecss_faults.specs.FaultViews.{FaultView}
+use Rattle.simplecss_faults.specs.Quotes.{quote, reason_words}
+use Rattle.simplecss_c.specs.Json.{string, boolean, array, member, object}
+
+-- a value, and a newline
+abbrev pub line : List ℕ → List ℕ
+line value = value ++ newline ∷ []
+
+-- a declaration: its name, its value, and whether it is important
+abbrev pub declaration_object : StyleDeclaration → List ℕ
+declaration_object p =
+    object (member (codes "name") (string p.name)
+    ∷ member (codes "value") (string p.value)
+    ∷ member (codes "important") (boolean p.important)
+    ∷ [])
+
+-- declarations, in order
+abbrev pub declaration_array : List StyleDeclaration → List ℕ
+declaration_array declarations = array (map declaration_object declarations)
+
+-- of a selector: its printed text, and its specificity as three numbers
+abbrev pub selector_members : List Component → List (List ℕ)
+selector_members selector =
+    member (codes "selector") (string (selector_text selector))
+    ∷ member (codes "specificity") (array (map decimal (specificity selector)))
+    ∷ []
+
+-- the line of a rule: its selector and its declarations
+abbrev pub rule_line : StyleRule → List ℕ
+rule_line rule =
+    line (object (selector_members rule.components
+    ++ member (codes "declarations") (declaration_array rule.declarations) ∷ []))
+
+-- the lines of rules, in order
+abbrev pub rule_lines : List StyleRule → List ℕ
+rule_lines rules = flat_map rule_line rules
+
+-- the line of a selector of a list
+abbrev pub selector_line : List Component → List ℕ
+selector_line selector = line (object (selector_members selector))
+
+-- the lines of selectors, in order
+abbrev pub selector_lines : List (List Component) → List ℕ
+selector_lines selectors = flat_map selector_line selectors
+
+-- of a place: its row, its column, and what is wrong there
+abbrev pub place_members : TextPos → List ℕ → List (List ℕ)
+place_members pos reason =
+    member (codes "row") (decimal pos.row)
+    ∷ member (codes "column") (decimal pos.col)
+    ∷ member (codes "reason") (string reason)
+    ∷ []
+
+-- the line of a place and what is wrong there
+abbrev pub place_line : TextPos → List ℕ → List ℕ
+place_line pos reason = line (object (place_members pos reason))
+
+-- the line of skipped text: where it begins, why it is skipped, and what is quoted of it
+abbrev pub fault_line : FaultView → List ℕ
+fault_line fault =
+    line (object (place_members fault.pos (reason_words fault.reason)
+    ++ member (codes "text") (string (quote fault)) ∷ []))
+
+-- the lines of all that is skipped, in order
+abbrev pub fault_lines : List FaultView → List ℕ
+fault_lines faults = flat_map fault_line faults
