@@ -1,6 +1,6 @@
 -- The declarations of the rules at the places that an index finds, in the order of the places.
 -- Serves `Cascade::stated` and `Cascade::winners`.
-use Rattle.std.proofs.Common.{◌≡◌, ℕ, suc, ◌+◌, ◌<◌, ◌≤◌, ◌⊎◌, inl, inr, List, [], ◌++◌, length, map, get_or, Some, sym, ap, ◌∙◌, subst, arith}
+use Rattle.std.proofs.Common.{◌≡◌, ℕ, suc, ◌+◌, ◌<◌, ◌≤◌, inl, inr, List, ◌++◌, length, map, get_or, Some, sym, ◌∙◌, subst, arith}
 use Rattle.std.specs.List.{slice_get}
 use Rattle.std.proofs.lemmas.List.{get_or_default, get_or_past, length-map}
 use Rattle.simplecss.specs.Declarations.{StyleDeclaration}
@@ -14,7 +14,7 @@ use Rattle.cssq.specs.Winners.{IsStated, ListsInOrder}
 use Rattle.cssq.proofs.Among.{selector_there, place_within}
 use Rattle.cssq.proofs.FromLast.{before_or_from, rule_read}
 use Rattle.cssq.proofs.Indexed.{after, wanted_at, after_within, none_between}
-use Rattle.cssq.proofs.Listing.{Before, lists_same, lists_before, lists_rule, lists_all}
+use Rattle.cssq.proofs.Listing.{Before, lists_same, lists_rule, lists_all}
 
 -- rules that do not match add nothing
 lists_past : {Node : Type 0} (tree : Tree Node) (n : Node) (rules : List StyleRule) (from to : ℕ) {ps : List StyleDeclaration} → from ≤ to
