@@ -4,8 +4,7 @@ ghost use Rattle.std.specs.Prelude.{◌<◌, ◌≡◌, ℕ, List, IfSome, lengt
 ghost use Rattle.std.specs.Option.{option_map};
 ghost use Rattle.simplecss.specs.ListTrees.{list_tree, list_counts_ancestors, list_shares_parents};
 ghost use Rattle.simplecss.specs.ListTrees.{parent_index, sibling_index};
-ghost use Rattle.example_library.specs.OwnTree.{entry_list, value_of, value_at, reported_at};
-ghost use Rattle.example_library.specs.OwnTree.{keys_reported};
+ghost use Rattle.example_library.specs.OwnTree.{entry_list, value_of, value_at, reported_at, keys_reported};
 ghost use Rattle.example_library.specs.declared.own_tree.Entry.{Entry};
 
 use simplecss::{AttributeOperator, Element, Keyed, PseudoClass, all_key_bits};
@@ -45,28 +44,28 @@ pub struct Spot<'t> {
     /// All entries.
     pub entries: &'t [Entry<'t>],
     /// The index of this one.
-    pub index: usize,
-    pub ghost within: { index < length entries.now },
+    pub place: usize,
+    pub ghost within: { place < length entries.now },
 }
 
 /// Returns the index of the parent, if that is less.
-fn parent_of(entries: &[Entry<'_>], index: usize) -> Option<usize>
-    requires { index < length entries.now }
-    ensures value { result ≡ parent_index entry_list entries.now index }
-    ensures before { IfSome result (λ parent. parent < index) }
+fn parent_of(entries: &[Entry<'_>], place: usize) -> Option<usize>
+    requires { place < length entries.now }
+    ensures value { result ≡ parent_index entry_list entries.now place }
+    ensures before { IfSome result (λ parent. parent < place) }
 {
-    let parent = entries[index].parent?;
-    if parent < index { Some(parent) } else { None }
+    let parent = entries[place].parent?;
+    if parent < place { Some(parent) } else { None }
 }
 
 /// Returns the index of the previous sibling, if that is less and has the same parent.
-fn previous_of(entries: &[Entry<'_>], index: usize) -> Option<usize>
-    requires { index < length entries.now }
-    ensures value { result ≡ sibling_index entry_list entries.now index }
-    ensures before { IfSome result (λ previous. previous < index) }
+fn previous_of(entries: &[Entry<'_>], place: usize) -> Option<usize>
+    requires { place < length entries.now }
+    ensures value { result ≡ sibling_index entry_list entries.now place }
+    ensures before { IfSome result (λ previous. previous < place) }
 {
-    let previous = entries[index].previous?;
-    if previous < index && parent_of(entries, previous) == parent_of(entries, index) {
+    let previous = entries[place].previous?;
+    if previous < place && parent_of(entries, previous) == parent_of(entries, place) {
         Some(previous)
     } else {
         None
@@ -77,9 +76,9 @@ impl<'t> Spot<'t> {
     /// Returns the value of an attribute.
     fn value(&self, name: &str) -> Option<&'t str>
         ensures { option_map (λ value. value.now) result
-            ≡ value_at self.now.entries.now self.now.index name.now }
+            ≡ value_at self.now.entries.now self.now.place name.now }
     {
-        self.entries[self.index].value(name)
+        self.entries[self.place].value(name)
     }
 }
 
@@ -90,7 +89,7 @@ impl<'t> Element for Spot<'t> {
 
     ghost tree = { list_tree entry_list };
 
-    ghost node = { λ spot. (spot.entries.now, spot.index) };
+    ghost node = { λ spot. (spot.entries.now, spot.place) };
 
     ghost depth_law = { list_counts_ancestors entry_list };
 
@@ -98,18 +97,18 @@ impl<'t> Element for Spot<'t> {
 
     fn parent_element(&self) -> Option<Self> {
         let entries = self.entries;
-        let index = parent_of(entries, self.index)?;
-        Some(Spot { entries, index })
+        let place = parent_of(entries, self.place)?;
+        Some(Spot { entries, place })
     }
 
     fn prev_sibling_element(&self) -> Option<Self> {
         let entries = self.entries;
-        let index = previous_of(entries, self.index)?;
-        Some(Spot { entries, index })
+        let place = previous_of(entries, self.place)?;
+        Some(Spot { entries, place })
     }
 
     fn has_local_name(&self, name: &str) -> bool {
-        self.entries[self.index].name == name
+        self.entries[self.place].name == name
     }
 
     fn attribute_matches(&self, local_name: &str, operator: AttributeOperator<'_>) -> bool {
@@ -121,7 +120,7 @@ impl<'t> Element for Spot<'t> {
 
     fn pseudo_class_matches(&self, class: PseudoClass<'_>) -> bool {
         match class {
-            PseudoClass::FirstChild => previous_of(self.entries, self.index).is_none(),
+            PseudoClass::FirstChild => previous_of(self.entries, self.place).is_none(),
             _ => false,
         }
     }
@@ -129,12 +128,12 @@ impl<'t> Element for Spot<'t> {
 
 /// Reports its name, and the values of `id` and `class`.
 impl<'t> Keyed for Spot<'t> {
-    ghost reported = { λ spot. reported_at (spot.entries.now, spot.index) };
+    ghost reported = { λ spot. reported_at (spot.entries.now, spot.place) };
 
-    ghost reported_law = { λ spot. keys_reported (spot.entries.now, spot.index) };
+    ghost reported_law = { λ spot. keys_reported (spot.entries.now, spot.place) };
 
     fn local_name(&self) -> &str {
-        self.entries[self.index].name
+        self.entries[self.place].name
     }
 
     fn id_value(&self) -> Option<&str> {

@@ -60,13 +60,13 @@ fn matches_in_an_own_tree(rt: HostRuntime) -> Result<(), Fail> {
     let entries = entries();
     for &(text, wanted) in MATCHED {
         let selector = Selector::parse(&Discard, rt.alloc(), text)?.ok_or("refused")?;
-        for index in 0..entries.len() {
+        for place in 0..entries.len() {
             let spot = Spot {
                 entries: &entries,
-                index,
+                place,
             };
-            let found = (index, selector.matches(&spot));
-            same(&rt, found, (index, wanted.contains(&index)), text);
+            let found = (place, selector.matches(&spot));
+            same(&rt, found, (place, wanted.contains(&place)), text);
         }
     }
     Ok(())
@@ -81,15 +81,15 @@ const RULES: &[&[usize]] = &[&[1, 2], &[0, 3], &[1, 2], &[0, 2], &[], &[]];
 fn is_found_by_an_index(rt: HostRuntime) -> Result<(), Fail> {
     let entries = entries();
     let sheet = StyleSheet::parse(&Discard, rt.alloc(), SHEET)?;
-    let rule_index = RuleIndex::new(rt.alloc(), &sheet.rules)?;
+    let index = RuleIndex::new(rt.alloc(), &sheet.rules)?;
     let mut places = Vec::new(rt.alloc());
-    for (index, wanted) in RULES.iter().enumerate() {
-        if index < entries.len() {
+    for (place, wanted) in RULES.iter().enumerate() {
+        if place < entries.len() {
             let spot = Spot {
                 entries: &entries,
-                index,
+                place,
             };
-            rule_index.matching(&sheet.rules, &spot, &mut places)?;
+            index.matching(&sheet.rules, &spot, &mut places)?;
             same(&rt, places.as_slice(), *wanted, spot.local_name());
         }
     }
