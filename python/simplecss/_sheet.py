@@ -183,8 +183,8 @@ class StyleSheet:
         output = self._call("simplecss_match", arrays, room=room, with_place=True)
         lines = output.split(b"\n")
         lines.pop()
-        table = _Numbers()
-        return [[table[word] for word in line.split()[1:]] for line in lines]
+        indexes = _Indexes()
+        return [indexes[line.partition(b":")[2]].copy() for line in lines]
 
     def styles(self, tree: Tree) -> List[List[Declaration]]:
         """Returns for each element the winning declaration of each name (CSS 2.1 section 6.4.1).
@@ -208,10 +208,10 @@ class StyleSheet:
         ]
 
 
-class _Numbers(Dict[bytes, int]):
-    """The index that each number from 1 stands for."""
+class _Indexes(Dict[bytes, List[int]]):
+    """The indexes that each text of numbers from 1 stands for: most elements share few texts."""
 
-    def __missing__(self, word: bytes) -> int:
-        index = int(word) - 1
-        self[word] = index
-        return index
+    def __missing__(self, numbers: bytes) -> List[int]:
+        indexes = [int(number) - 1 for number in numbers.split()]
+        self[numbers] = indexes
+        return indexes
