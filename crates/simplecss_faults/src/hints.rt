@@ -152,6 +152,32 @@ impl<'a> Found<'a> {
         Ok(())
     }
 
+    /// Adds the hints on the values of a rule set that leave a parenthesis open, from its start on.
+    fn read_open_values(
+        &mut self,
+        start: usize,
+        declarations: &[Declaration<'a>],
+    ) -> Result<(), AllocError> {
+        let mut start = start;
+        for declaration in declarations {
+            let value = declaration.value;
+            if !is_left_open(value) {
+                continue;
+            }
+            let Some(stated) = self
+                .text
+                .get(start..)
+                .and_then(|rest| from_first(rest, value))
+            else {
+                break;
+            };
+            self.push(stated, Surprise::OpenParenthesis(value))?;
+            let offset = self.text.len().saturating_sub(stated.len());
+            start = offset.saturating_add(value.len());
+        }
+        Ok(())
+    }
+
     /// Adds the hint on the value of the declaration that begins here, if there is one.
     fn read_value(
         &mut self,
@@ -236,16 +262,19 @@ pub fn find_hints<'a>(alloc: Global, text: &'a str) -> Result<Vec<Hint<'a>>, All
 /// parenthesis open. The text is read a second time only if a quick search finds a parenthesis that
 /// may be left open.
 pub fn find_mistakes<'a>(alloc: Global, text: &'a str) -> Result<Vec<Hint<'a>>, AllocError> {
+    let mut found = Found::at_start(alloc, text)?;
     if !may_leave_open(text) {
-        let found = Found::at_start(alloc, text)?;
         return Ok(found.hints);
     }
-    let mut hints = find_hints(alloc, text)?;
-    hints.retain(|hint| {
-        matches!(
-            hint.surprise,
-            Surprise::ByteOrderMark | Surprise::OpenParenthesis(_)
-        )
-    });
-    Ok(hints)
+    let mut reader = StatementReader::new(text);
+    // A statement has a byte at least.
+    for _ in 0..text.len() {
+        let Some(statement) = reader.read_next_reporting(&mut Silent, alloc)? else {
+            break;
+        };
+        if let Some(rule) = statement.rules.first() {
+            found.read_open_values(statement.start, &rule.declarations)?;
+        }
+    }
+    Ok(found.hints)
 }
