@@ -23,6 +23,7 @@ pub mod LeastLemmas
 pub mod SequenceSteps
 pub mod KindLemmas
 pub mod SkipLemmas
+pub mod OpenValues
 pub mod PrintedNames
 pub mod PrintedPieces
 pub mod GotLemmas

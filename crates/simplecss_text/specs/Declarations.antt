@@ -89,15 +89,22 @@ unless_empty start declared text =
 abbrev pub value_reader : Edition → Reader (List ℕ)
 value_reader edition text = always (value edition text)
 
--- A declaration, or its first fault. An asterisk before the name is dropped.
-unfoldable pub declaration : Edition → Reader StyleDeclaration
-declaration edition = do
+-- What precedes the value of a declaration: its name and a colon, with blanks. An asterisk before
+-- the name is dropped.
+unfoldable pub stated_name : Edition → Reader (List ℕ)
+stated_name edition = do
   blank
   optional asterisk
   property ← name edition
   blank
   byte colon
   blank
+  give property
+
+-- A declaration, or its first fault.
+unfoldable pub declaration : Edition → Reader StyleDeclaration
+declaration edition = do
+  property ← stated_name edition
   start ← here
   stated ← value_reader edition
   important ← trailing

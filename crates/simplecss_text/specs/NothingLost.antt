@@ -9,7 +9,7 @@ use Rattle.simplecss_text.specs.Components.{Component}
 use Rattle.simplecss_text.specs.Selectors.{reads}
 use Rattle.simplecss_text.specs.Declarations.{StyleDeclaration, declaration}
 use Rattle.simplecss_text.specs.Statements.{StyleRule, statements}
-use Rattle.simplecss_text.specs.Skipped.{Why, Skip, skipped}
+use Rattle.simplecss_text.specs.Skipped.{Why, open_value, Skip, skipped}
 
 -- a comma or a brace
 abbrev pub is_mark : ℕ → Bool
@@ -44,6 +44,14 @@ pub data IsCutUp (edition : Edition) (end : List ℕ) :
       → declaration edition (front ++ text) ≡ got one text
       → IsCutUp edition end text selectors declared skips
       → IsCutUp edition end (front ++ text) selectors (one ∷ declared) skips
+  -- a declaration that is read, up to a string or a function of its value that is not closed, which
+  -- is skipped with all that follows it
+  open_declaration_then : (front text : List ℕ) (one : StyleDeclaration)
+      (selectors : List (List Component)) (declared : List StyleDeclaration) (skips : List Skip)
+      → declaration edition (front ++ text) ≡ got one []
+      → IsCutUp edition end [] selectors declared skips
+      → IsCutUp edition end (front ++ text) selectors (one ∷ declared)
+      (record { from = text; after = []; why = open_value } ∷ skips)
   -- something that is skipped, and then more
   skip_then : (front text : List ℕ) (why : Why) (selectors : List (List Component))
       (declared : List StyleDeclaration) (skips : List Skip)
@@ -81,8 +89,8 @@ pub data IsAccountedFor (edition : Edition) :
 -- something skipped, and one that is read is in each rule of its rule set, or all its selectors are
 -- refused and skipped. So of a text that skips nothing all is read and is among the rules. (A sheet
 -- keeps the rules that have a declaration: that of `a{}` it does not. What a declaration is read
--- from may have more than its name and its value: after the value an exclamation mark without
--- `important`, or a string or a function that is not closed, which takes the rest of the text.)
+-- from may have more than its name and its value: an asterisk before the name, and after the value
+-- an exclamation mark without `important`.)
 abbrev pub LosesNothing : Edition → List ℕ → Type 0
 LosesNothing edition text =
     IsAccountedFor edition text (statements edition text) (skipped edition text)

@@ -1,7 +1,7 @@
 -- Where in a text something is skipped.
 use Rattle.std.specs.Prelude.{ℕ, List}
 use Rattle.simplecss_text.specs.Reading.{Ends}
-use Rattle.simplecss_text.specs.Skipped.{Refusal, faulty, unknown_class, Why, leading_comma, refused_selector, after_selector, missing_block, broken_declaration, extra_brace, open_comment, at_rule, Skip}
+use Rattle.simplecss_text.specs.Skipped.{Refusal, faulty, unknown_class, Why, leading_comma, refused_selector, after_selector, missing_block, broken_declaration, open_value, extra_brace, open_comment, at_rule, Skip}
 
 -- the text in which an error is reported is a suffix of the text
 abbrev pub IsRefusalWithin : List ℕ → Refusal → Type 0
@@ -15,6 +15,7 @@ IsWhyWithin text leading_comma = Unit {0}
 IsWhyWithin text after_selector = Unit {0}
 IsWhyWithin text missing_block = Unit {0}
 IsWhyWithin text broken_declaration = Unit {0}
+IsWhyWithin text open_value = Unit {0}
 IsWhyWithin text extra_brace = Unit {0}
 IsWhyWithin text open_comment = Unit {0}
 IsWhyWithin text (at_rule name) = Unit {0}

@@ -1,5 +1,5 @@
 -- What reading a style sheet skips, in order: where it begins, the rest after it, and why.
-use Rattle.std.specs.Prelude.{ℕ, if◌then◌else◌, List, [], ◌∷◌, ◌++◌, length, not, ◌==◌, ◌||◌, Option, Some, None, Ok, Err}
+use Rattle.std.specs.Prelude.{ℕ, Bool, false, if◌then◌else◌, List, [], ◌∷◌, ◌++◌, length, not, ◌==◌, ◌||◌, Option, Some, None, Ok, Err}
 use Rattle.std.specs.List.{flat_map}
 use Rattle.std.specs.Option.{option_map}
 use Rattle.simplecss_text.specs.declared.error.Error.{Error}
@@ -16,7 +16,8 @@ use Rattle.simplecss_text.specs.Tokens.Token.{universal_selector, type_selector,
 use Rattle.simplecss_text.specs.TokenSequences.{TokenSequence, sequence_of}
 use Rattle.simplecss_text.specs.TokenSequences.TokenSequence.{item, sequence_end}
 use Rattle.simplecss_text.specs.Selectors.{Role, role_of, reads}
-use Rattle.simplecss_text.specs.Declarations.{StyleDeclaration, declaration}
+use Rattle.simplecss_text.specs.Terms.{term}
+use Rattle.simplecss_text.specs.Declarations.{StyleDeclaration, terms, stated_name, declaration}
 use Rattle.simplecss_text.specs.Blocks.{ends_list, from_block_end, declaration_in_block}
 use Rattle.simplecss_text.specs.Statements.{StyleRule, part, part_and_comma, parts, at_rule_rest, next_statement}
 
@@ -38,6 +39,8 @@ pub data Why : Type 0 where
   missing_block : Why
   -- a declaration is broken; what follows it in its block is skipped with it
   broken_declaration : Why
+  -- a string or a function of a value is not closed; all that follows is skipped with it
+  open_value : Why
   -- a closing brace after a block that is already closed
   extra_brace : Why
   -- a comment is not closed; all that follows is skipped with it
@@ -145,6 +148,34 @@ skips_of_each skips last read text =
 unfoldable pub parts_skips : Edition → List ℕ → List Skip
 parts_skips edition text = skips_of_each (part_skips edition) (part_skips edition) (part_and_comma edition) text
 
+-- ---- values
+
+-- A term that fails and leaves nothing: a string or a function that is not closed.
+abbrev pub is_open_term : Reading (Unit {0}) → Bool
+is_open_term (got u rest) = false
+is_open_term (fails fault rest) = length rest == 0
+
+-- What is skipped in place of a term: nothing, if nothing is left or no term begins there; or a
+-- string or a function that is not closed, with all that follows it.
+abbrev pub open_skips : (text : List ℕ) → Reading (Unit {0}) → List Skip
+open_skips text read =
+    if length text == 0 || not (is_open_term read) then []
+    else record { from = text; after = []; why = open_value } ∷ []
+
+-- what a value skips: what is in place of a term after its last one
+abbrev pub value_skips : Edition → List ℕ → List Skip
+value_skips edition text =
+    open_skips (terms edition text).1 (term edition (terms edition text).1)
+
+-- what the value skips, if a name and a colon precede it
+abbrev pub skips_after_name : Edition → Reading (List ℕ) → List Skip
+skips_after_name edition (got property rest) = value_skips edition rest
+skips_after_name edition (fails fault rest) = []
+
+-- what a declaration that is read skips
+unfoldable pub declaration_skips : Edition → List ℕ → List Skip
+declaration_skips edition text = skips_after_name edition (stated_name edition text)
+
 -- ---- blocks
 
 -- a closing brace that follows a block
@@ -177,10 +208,11 @@ if_broken text (fails fault rest) = broken_part text (from_block_end rest)
 abbrev pub list_skips : Edition → List ℕ → List Skip
 list_skips edition text = if ends_list text then [] else if_broken text (declaration edition text)
 
--- What a block skips, after its opening brace: at most one declaration with what follows it, and a
--- closing brace after its own.
+-- What a block skips, after its opening brace: a string or a function of a value that is not closed;
+-- or at most one declaration with what follows it, and a closing brace after the block's own.
 unfoldable pub block_skips : Edition → List ℕ → List Skip
-block_skips edition text = list_skips edition (each (declaration_in_block edition) text).1
+block_skips edition text =
+    skips_of_each (declaration_skips edition) (list_skips edition) (declaration_in_block edition) text
 
 -- the same of the block that the next opening brace begins
 unfoldable pub next_block_skips : Edition → List ℕ → List Skip

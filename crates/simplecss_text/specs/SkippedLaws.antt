@@ -5,7 +5,7 @@ use Rattle.simplecss_text.specs.Statements.{StyleRule}
 use Rattle.simplecss_text.specs.Sheets.{sheet}
 use Rattle.simplecss_text.specs.Printing.{sheet_text}
 use Rattle.simplecss_text.specs.PrintingLaws.{are_clean, is_hyphen_name}
-use Rattle.simplecss_text.specs.Skipped.{Refusal, faulty, unknown_class, Why, leading_comma, refused_selector, after_selector, missing_block, broken_declaration, extra_brace, open_comment, at_rule, Skip, skipped}
+use Rattle.simplecss_text.specs.Skipped.{Refusal, faulty, unknown_class, Why, leading_comma, refused_selector, after_selector, missing_block, broken_declaration, open_value, extra_brace, open_comment, at_rule, Skip, skipped}
 
 -- the refusal, where `more` follows the text
 abbrev pub refusal_before : (more : List ℕ) → Refusal → Refusal
@@ -26,6 +26,7 @@ why_before more leading_comma = leading_comma
 why_before more after_selector = after_selector
 why_before more missing_block = missing_block
 why_before more broken_declaration = broken_declaration
+why_before more open_value = open_value
 why_before more extra_brace = extra_brace
 why_before more open_comment = open_comment
 

@@ -29,6 +29,8 @@ pub enum Why<'a> {
     MissingBlock,
     /// A declaration is broken. The rest of its block is skipped with it.
     Declaration,
+    /// A string or a function of a value is not closed. The rest of the text is skipped with it.
+    OpenValue,
     /// A closing brace follows a block that is already closed.
     ExtraBrace,
     /// A comment is not closed. The rest of the text is skipped with it.
@@ -67,6 +69,11 @@ pub trait Report<'a> {
     fn begin(&mut self, text: &'a str)
         ensures { state self.new ≡ state self.old };
 
+    /// Called for each declaration that is read, with the text from its start on and its value.
+    /// What is skipped of the value is reported after it.
+    fn declared(&mut self, from: &'a str, value: &'a str)
+        ensures { state self.new ≡ state self.old };
+
     /// Receives one report. Fails only if an allocation fails.
     fn report(&mut self, skipped: Skipped<'a>) -> Result<(), AllocError>
         ensures { OnOk result (state self.new ≡ add (state self.old) (skip_of skipped.entry)) };
@@ -85,6 +92,9 @@ impl<'a> Report<'a> for Silent {
 
     #[inline(always)]
     fn begin(&mut self, _text: &'a str) {}
+
+    #[inline(always)]
+    fn declared(&mut self, _from: &'a str, _value: &'a str) {}
 
     #[inline(always)]
     fn report(&mut self, _skipped: Skipped<'a>) -> Result<(), AllocError> {
@@ -111,6 +121,9 @@ impl<'a> Report<'a> for Kept<'a> {
     ghost add = { λ skips skip. skips ++ skip ∷ [] };
 
     fn begin(&mut self, _text: &'a str) {}
+
+    #[inline(always)]
+    fn declared(&mut self, _from: &'a str, _value: &'a str) {}
 
     fn report(&mut self, skipped: Skipped<'a>) -> Result<(), AllocError> {
         self.skips.push(skipped)?;

@@ -1,6 +1,6 @@
 -- What is skipped begins and ends in the text.
 -- Serves `find_faults` of simplecss_faults (the positions of faults).
-use Rattle.std.proofs.Common.{◌≡◌, ℕ, zero, suc, List, [], ◌∷◌, ◌++◌, Bool, true, false, if◌then◌else◌, ◌==◌, ◌||◌, ◌<◌, not, length, get_or, Option, Some, None, Ok, Err, refl, sym, subst, append_assoc, arith}
+use Rattle.std.proofs.Common.{◌≡◌, ℕ, zero, suc, List, [], ◌∷◌, ◌++◌, Bool, true, false, if◌then◌else◌, ◌==◌, ◌||◌, ◌<◌, not, length, get_or, Option, Some, None, Ok, Err, refl, sym, subst, append_assoc, arith, inl, inr}
 use Rattle.std.specs.List.{flat_map}
 use Rattle.std.specs.Option.{option_map}
 use Rattle.simplecss_text.specs.Reading.{Reading, got, fails, left_after, each, up_to, and_then, Ends}
@@ -16,11 +16,12 @@ use Rattle.simplecss_text.specs.Selectors.{Role, role_of, reads}
 use Rattle.simplecss_text.specs.Declarations.{StyleDeclaration, declaration}
 use Rattle.simplecss_text.specs.Blocks.{from_block_end, ends_list, declaration_in_block}
 use Rattle.simplecss_text.specs.Statements.{StyleRule, part, part_and_comma, parts, past_semicolon_or_block, at_rule_rest_by_name, at_rule_rest, next_statement}
-use Rattle.simplecss_text.specs.Skipped.{Refusal, faulty, unknown_class, Why, Skip, unless_unknown, class_name, refusal_in, refusal, from_brace, past_refused, refused_part, selector_skips, why_after, skips_after, skips_after_read, part_skips, skips_with, skips_of_each, parts_skips, brace_skips, list_end_skips, if_broken, list_skips, block_skips, next_block_skips, comma_skips, rule_set_skips, at_rule_skip, statement_skips, end_skips, skipped}
+use Rattle.simplecss_text.specs.Skipped.{Refusal, faulty, unknown_class, Why, Skip, unless_unknown, class_name, refusal_in, refusal, from_brace, past_refused, refused_part, selector_skips, why_after, skips_after, skips_after_read, part_skips, skips_with, skips_of_each, parts_skips, brace_skips, list_end_skips, if_broken, list_skips, declaration_skips, block_skips, next_block_skips, comma_skips, rule_set_skips, at_rule_skip, statement_skips, end_skips, skipped}
 use Rattle.simplecss_text.specs.SkipOffsets.{IsRefusalWithin, IsWhyWithin, IsWithin}
 use Rattle.simplecss_text.proofs.reading.EndsLemmas.{ends-same, ends-nil, ends-ends, ends-past_one, ends-past_byte, ends-past, EndsFound, each-ends, stands-ends, no_texts, itself}
 use Rattle.simplecss_text.proofs.reading.StandLemmas.{ends-past_blank, name-stands}
 use Rattle.simplecss_text.proofs.reading.DeclarationsLawful.{declaration-stands, declaration_in_block-ends, ends-from_block_end}
+use Rattle.simplecss_text.proofs.reading.OpenValues.{declaration_skips-at}
 use Rattle.simplecss_text.proofs.cutting.StatementEnds.{part-ends, part_and_comma-ends, parts-ends}
 use Rattle.simplecss_text.proofs.cutting.StatementCuts.{next_statement-well}
 
@@ -48,6 +49,7 @@ why_within text middle e Why.leading_comma h = tt
 why_within text middle e Why.after_selector h = tt
 why_within text middle e Why.missing_block h = tt
 why_within text middle e Why.broken_declaration h = tt
+why_within text middle e Why.open_value h = tt
 why_within text middle e Why.extra_brace h = tt
 why_within text middle e Why.open_comment h = tt
 why_within text middle e (Why.at_rule name) h = tt
@@ -231,13 +233,20 @@ list_skips-within edition text =
         (ends-ends text end (past_byte 125 end) ends (ends-past_byte 125 end))
         (brace_skips-within (past_byte 125 end)))
 
+declaration_skips-within : (edition : Edition) (text : List ℕ)
+    → AllWithin text (declaration_skips edition text)
+declaration_skips-within edition text =
+    elim (declaration_skips-at edition text) [
+      | inl none ↦ subst (AllWithin text) (sym none) tt
+      | inr one ↦ subst (AllWithin text) (sym one.2) ((one.1, ends-nil text, tt), tt)
+    ]
+
 block_skips-within : (edition : Edition) (text : List ℕ) → AllWithin text (block_skips edition text)
 unfolding block_skips
 block_skips-within edition text =
-    let here = (each (declaration_in_block edition) text).1 in
-    within-ends text here (list_skips edition here)
-    (each-ends (declaration_in_block edition) (declaration_in_block-ends edition) text)
-    (list_skips-within edition here)
+    skips_of_each-within (declaration_skips edition) (list_skips edition)
+    (declaration_in_block edition) (declaration_in_block-ends edition)
+    (declaration_skips-within edition) (list_skips-within edition) text
 
 next_block_skips-within : (edition : Edition) (text : List ℕ)
     → AllWithin text (next_block_skips edition text)

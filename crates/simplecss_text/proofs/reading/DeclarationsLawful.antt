@@ -8,13 +8,13 @@ use lib.Utf8.{encode}
 use Rattle.std.proofs.lemmas.Bool.Decides.{nat_tests}
 use Rattle.std.proofs.lemmas.List.{take-append-drop}
 use Rattle.std.proofs.lemmas.Slice.Eq.{bytes_eq-Decides}
-use Rattle.simplecss_text.specs.Reading.{Reader, Ends, Reading, before, each, ended, fails, found, no_name, got, here, left_after, ◌>>=◌, ◌>>◌}
-use Rattle.simplecss_text.specs.Bytes.{after_byte, byte, closed_or, is_digit, optional, past, past_one, starts}
+use Rattle.simplecss_text.specs.Reading.{Reader, Ends, Reading, before, each, ended, fails, follow, found, give, no_name, got, here, left_after, ◌>>=◌, ◌>>◌}
+use Rattle.simplecss_text.specs.Bytes.{after_byte, byte, closed_or, is_digit, optional, past, past_byte, past_one, starts}
 use Rattle.simplecss_text.specs.Characters.{Edition, first_edition, second_edition}
 use Rattle.simplecss_text.specs.Comments.{blank, past_blank}
 use Rattle.simplecss_text.specs.Strings.{is_quote}
 use Rattle.simplecss_text.specs.Terms.{arguments, begins_number, is_hex_digit, is_slash_term, past_decimals, past_hash, past_number, past_unit, quoted, term, word}
-use Rattle.simplecss_text.specs.Declarations.{StyleDeclaration, after_term, declaration, importance, important_word, last_or, semicolon, semicolons, term_in_value, terms, trailing, unless_empty, value, value_reader}
+use Rattle.simplecss_text.specs.Declarations.{StyleDeclaration, after_term, declaration, importance, important_word, last_or, semicolon, semicolons, stated_name, term_in_value, terms, trailing, unless_empty, value, value_reader}
 use Rattle.simplecss_text.specs.Blocks.{block_end, declaration_in_block, ends_list, from_block_end}
 use Rattle.simplecss_text.specs.Names.{begins_name, name}
 use Rattle.simplecss_text.proofs.reading.EndsLemmas.{EndsFound, Stands, ends-drop, length-ends, no_texts}
@@ -253,7 +253,7 @@ term_in_value-takes edition text =
     after_term-shrinks text (term edition text) (term-cuts edition text)
 
 -- what is left after the terms of a value
-terms-well : (edition : Edition) (text : List ℕ) → EndsWell text (terms edition text).1
+pub terms-well : (edition : Edition) (text : List ℕ) → EndsWell text (terms edition text).1
 terms-well edition text = each-well (term_in_value edition) (term_in_value-well edition) text
 
 terms-editions : (text : List ℕ) → Shared text
@@ -489,44 +489,94 @@ unless_empty-lawful : (start other : List ℕ) (declared : StyleDeclaration)
 unless_empty-lawful start other declared r s =
     owes-if (length declared.value == 0) (owes-fails _ _ r s) (owes-give declared r s)
 
--- a declaration after its name
-abbrev after_name : List ℕ → Edition → Reader StyleDeclaration
-after_name property edition = do
+-- what follows the name, up to the value
+abbrev name_end : List ℕ → Edition → Reader (List ℕ)
+name_end property edition = do
   blank
   byte 58
   blank
+  give property
+
+name_end-lawful : (property : List ℕ) → Lawful true (name_end property) (name_end property)
+name_end-lawful property r s =
+    owes-follow _ _ (blank-lawful r s) (λ u r s.
+    owes-follow _ _ (byte-lawful 58 (omega arith) r s) (λ u r s.
+    owes-follow _ _ (blank-lawful r s) (λ u. owes-give property)))
+
+stated_name-lawful : Lawful true stated_name stated_name
+unfolding stated_name
+stated_name-lawful r s =
+    owes-follow _ _ (blank-lawful r s) (λ u r s.
+    owes-follow _ _ (optional-lawful 42 (omega arith) refl r s) (λ u r s.
+    owes-follow _ _ (name-lawful r s) name_end-lawful))
+
+stated_name-cuts : (edition : Edition) (text : List ℕ) → Cuts text (stated_name edition text)
+unfolding stated_name
+stated_name-cuts edition text =
+    follow-cuts text (blank text) _ (length-ends text (left_after (blank text)) (well-blank text).0)
+    (λ u a.
+    follow-cuts a (optional 42 a) _ (length-past_byte 42 a) (λ u b.
+    cuts-follow b (name edition b) (λ property. name_end property edition) (name-cuts edition b)
+    (λ property. lawful-keeps (name_end property) (name_end property)
+    (name_end-lawful property) edition)))
+
+pub stated_name-stands : (edition : Edition) (text : List ℕ)
+    → Stands text no_texts (stated_name edition text)
+stated_name-stands edition text =
+    lawful-stands stated_name stated_name stated_name-lawful edition text
+
+-- a declaration after its name and its colon
+abbrev pub stated_value : List ℕ → Edition → Reader StyleDeclaration
+stated_value property edition = do
   start ← here
   stated ← value_reader edition
   important ← trailing
   unless_empty start (record { name = property; value = stated; important = important })
 
-after_name-lawful : (property : List ℕ) → Lawful true (after_name property) (after_name property)
-after_name-lawful property r s =
-    owes-follow _ _ (blank-lawful r s) (λ u r s.
-    owes-follow _ _ (byte-lawful 58 (omega arith) r s) (λ u r s.
-    owes-follow _ _ (blank-lawful r s) (λ u start other.
+stated_value-lawful : (property : List ℕ)
+    → Lawful true (stated_value property) (stated_value property)
+stated_value-lawful property start other =
     owes-follow _ _ (value-lawful start other) (λ stated r s.
     owes-follow _ _ (trailing-lawful r s) (λ important.
     unless_empty-lawful start other
-    (record { name = property; value = stated; important = important }))))))
+    (record { name = property; value = stated; important = important })))
 
 pub declaration-lawful : Lawful true declaration declaration
 unfolding declaration
-declaration-lawful r s =
-    owes-follow _ _ (blank-lawful r s) (λ u r s.
-    owes-follow _ _ (optional-lawful 42 (omega arith) refl r s) (λ u r s.
-    owes-follow _ _ (name-lawful r s) after_name-lawful))
+declaration-lawful r s = owes-follow _ _ (stated_name-lawful r s) stated_value-lawful
 
 -- it consumes a byte or more
 pub declaration-cuts : (edition : Edition) (text : List ℕ) → Cuts text (declaration edition text)
 unfolding declaration
 declaration-cuts edition text =
-    follow-cuts text (blank text) _ (length-ends text (left_after (blank text)) (well-blank text).0)
-    (λ u a.
-    follow-cuts a (optional 42 a) _ (length-past_byte 42 a) (λ u b.
-    cuts-follow b (name edition b) (λ property. after_name property edition) (name-cuts edition b)
-    (λ property. lawful-keeps (after_name property) (after_name property)
-    (after_name-lawful property) edition)))
+    cuts-follow text (stated_name edition text) (λ property. stated_value property edition)
+    (stated_name-cuts edition text)
+    (λ property. lawful-keeps (stated_value property) (stated_value property)
+    (stated_value-lawful property) edition)
+
+-- after two readers, of which the second is itself followed by one, all three follow one another
+follow-follow : {A B C : Type 0} (r : Reading A) (next : A → Reader B) (more : B → Reader C)
+    (both : A → Reader C) → ((x : A) (t : List ℕ) → follow (next x t) more ≡ both x t)
+    → follow (follow r next) more ≡ follow r both
+follow-follow (got x rest) next more both h = h x rest
+follow-follow (fails fault rest) next more both h = refl
+
+-- a declaration, one reader after another
+pub declaration-steps : (edition : Edition) (text : List ℕ)
+    → declaration edition text
+    ≡ follow (blank text)
+    (λ u a. follow (name edition (past_byte 42 a))
+    (λ property c. follow (blank c)
+    (λ u d. follow (byte 58 d)
+    (λ u e. follow (blank e) (λ u start. stated_value property edition start)))))
+unfolding declaration stated_name
+declaration-steps edition text =
+    let more : List ℕ → Reader StyleDeclaration = λ property. stated_value property edition in
+    follow-follow (blank text) _ more _ (λ u a.
+    follow-follow (name edition (past_byte 42 a)) _ more _ (λ property c.
+    follow-follow (blank c) _ more _ (λ u d.
+    follow-follow (byte 58 d) _ more _ (λ u e.
+    follow-follow (blank e) (λ u. give property) more _ (λ u start. refl)))))
 
 pub declaration-stands : (edition : Edition) (text : List ℕ)
     → Stands text no_texts (declaration edition text)

@@ -14,7 +14,7 @@ use Rattle.simplecss_text.specs.Terms.{arguments, word, term}
 use Rattle.simplecss_text.specs.Declarations.{StyleDeclaration, last_or, terms, value, important_word, importance, semicolon, semicolons, trailing, unless_empty, declaration}
 use Rattle.simplecss_text.specs.Printing.{important_text, declaration_text}
 use Rattle.simplecss_text.specs.PrintingLaws.{IsNarrow, DeclarationReadsBack}
-use Rattle.simplecss_text.proofs.reading.DeclarationsLawful.{semicolon-takes}
+use Rattle.simplecss_text.proofs.reading.DeclarationsLawful.{declaration-steps, semicolon-takes}
 use Rattle.simplecss_text.proofs.reading.EndsLemmas.{before-append, ends-past_byte}
 use Rattle.simplecss_text.proofs.reading.PrintedNames.{IsName, name-reads, ends_names, ends_names-byte}
 use Rattle.simplecss_text.proofs.reading.EachLemmas.{each-none, each-some}
@@ -125,16 +125,16 @@ ended-is edition name c e =
 -- what was read as a declaration from such a text
 pub declaration-is : (edition : Edition) (text : List ℕ) → IsNarrow text
     → IfGot (λ p rest. IsDeclaration edition p) (declaration edition text)
-unfolding declaration
 declaration-is edition text n =
     let P : StyleDeclaration → List ℕ → Type 0 = λ p rest. IsDeclaration edition p in
-    if_got-follow (λ x rest. IsNarrow rest) P _ _
+    subst (IfGot P) (sym (declaration-steps edition text))
+    (if_got-follow (λ x rest. IsNarrow rest) P _ _
     (narrow-got text (blank text) n (well-blank text)) (λ x a na.
     let b = past_byte 42 a in
     let nb = narrow-end a b na (ends-past_byte 42 a) (utf8-past_byte_if 42 a (omega arith) na.0) in
     if_got-follow (λ m rest. ReadName edition b m rest × IsNarrow rest) P _ _
     (name-narrow edition b nb) (λ m c w.
-    elim (w.0.is) [ inl i ↦ named-is edition m c i w.1 | inr h ↦ ended-is edition m c h.1 ]))
+    elim (w.0.is) [ inl i ↦ named-is edition m c i w.1 | inr h ↦ ended-is edition m c h.1 ])))
 
 -- printed and read again
 
@@ -318,7 +318,6 @@ no_star edition b text w = let e = other_byte edition 42 b (omega arith) refl re
 -- A declaration that was read from a text without white space past ASCII reads back.
 pub printed_declaration-reads_back : (edition : Edition) (p : StyleDeclaration)
     → IsDeclaration edition p → DeclarationReadsBack edition p
-unfolding declaration
 printed_declaration-reads_back edition p w text o e =
     let following = 58 ∷ (p.value ++ (important_text p.important ++ (59 ∷ text))) in
     let f = name-first edition p.name w.name_is in
@@ -331,7 +330,7 @@ printed_declaration-reads_back edition p w text o e =
     ∙ sym begins in
     let from_name : List ℕ → Reading StyleDeclaration =
     λ b. follow (name edition b) (λ m. after_name edition m) in
-    ap (declaration edition) (declaration_text-assoc p text)
+    ap (declaration edition) (declaration_text-assoc p text) ∙ declaration-steps edition whole
     ∙ follow-got (blank whole) tt whole (λ x a. from_name (past_byte 42 a)) (blank-none whole calm)
     ∙ ap from_name star
     ∙ follow-got (name edition whole) p.name following (λ m. after_name edition m)

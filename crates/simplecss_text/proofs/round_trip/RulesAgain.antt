@@ -9,7 +9,7 @@ use Rattle.simplecss_text.specs.Characters.{Edition, first_edition, second_editi
 use Rattle.simplecss_text.specs.Comments.{opens_comment, past_blank, blank}
 use Rattle.simplecss_text.specs.Components.{Combinator, Component}
 use Rattle.simplecss_text.specs.Selectors.{reads}
-use Rattle.simplecss_text.specs.Declarations.{StyleDeclaration, declaration}
+use Rattle.simplecss_text.specs.Declarations.{StyleDeclaration, declaration, stated_name}
 use Rattle.simplecss_text.specs.Blocks.{ends_list, declaration_in_block, past_list, block}
 use Rattle.simplecss_text.specs.Statements.{StyleRule, part, part_and_comma, parts, next_block, rule_set, statement}
 use Rattle.simplecss_text.specs.Printing.{declaration_text, type_text, subselector_text, component_text, selector_text, rule_text, is_clean}
@@ -196,7 +196,7 @@ module _ (edition : Edition) where
       ∙ ap (followed_by p) (declarations-again q ps text ws.0 ws.1)
 
   declaration-space : (text : List ℕ) → declaration edition (32 ∷ text) ≡ declaration edition text
-  unfolding declaration
+  unfolding declaration stated_name
   declaration-space text = let same = blank-space text in rw same refl
 
   pub spaced-list : (text rest : List ℕ) (p : StyleDeclaration)

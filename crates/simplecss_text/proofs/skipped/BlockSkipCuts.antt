@@ -1,18 +1,19 @@
 -- A block skips the same where the text is cut after it or later.
 -- Serves `laws::skips_are_cut` (what is skipped of a text in pieces).
-use Rattle.std.proofs.Common.{◌≡◌, ◌≤◌, ◌<◌, ◌⊎◌, ℕ, Bool, true, false, if◌then◌else◌, ◌==◌, List, [], ◌∷◌, ◌++◌, arith, inl, inr, length, map, refl, sym, IsUtf8, None}
+use Rattle.std.proofs.Common.{◌≡◌, ◌≤◌, ◌<◌, ◌⊎◌, ℕ, Bool, true, false, if◌then◌else◌, ◌==◌, List, [], ◌∷◌, ◌++◌, ap, ◌∙◌, arith, inl, inr, length, map, refl, sym, IsUtf8, None}
 use Rattle.std.proofs.lemmas.List.{map-append}
 use Rattle.simplecss_text.specs.Reading.{Reading, got, fails, each, found, left_after}
 use Rattle.simplecss_text.specs.Bytes.{past_byte, starts}
 use Rattle.simplecss_text.specs.Characters.{Edition}
 use Rattle.simplecss_text.specs.Comments.{blank, opens_comment, past_blank}
-use Rattle.simplecss_text.specs.Declarations.{StyleDeclaration, declaration}
+use Rattle.simplecss_text.specs.Declarations.{StyleDeclaration, declaration, stated_name}
 use Rattle.simplecss_text.specs.Blocks.{from_block_end, ends_list, declaration_in_block, past_broken, past_list, block}
 use Rattle.simplecss_text.specs.Skipped.{open_comment, broken_declaration, extra_brace, brace_skips, list_end_skips, if_broken, list_skips, block_skips}
 use Rattle.simplecss_text.specs.SkippedLaws.{skip_before}
 use Rattle.simplecss_text.proofs.bytes.GapLemmas.{past_blank-again}
 use Rattle.simplecss_text.proofs.reading.EachLemmas.{each-stops}
 use Rattle.simplecss_text.proofs.reading.TakesLemmas.{cuts-keeps}
+use Rattle.simplecss_text.proofs.reading.OpenValues.{block_skips-left}
 use Rattle.simplecss_text.proofs.reading.DeclarationLemmas.{declaration_in_block-takes, length-from_block_end}
 use Rattle.simplecss_text.proofs.reading.DeclarationsLawful.{declaration-cuts, declaration-lawful, declaration_in_block-well}
 use Rattle.simplecss_text.proofs.reading.Lawful.{lawful-guarded}
@@ -26,7 +27,7 @@ use Rattle.simplecss_text.proofs.cutting.BlockCuts.{Lost, at_brace, brace-lost, 
 -- a declaration begins with a blank
 pub declaration-after_blank : (edition : Edition) (text : List ℕ)
     → length (left_after (declaration edition text)) ≤ length (past_blank text)
-unfolding declaration blank
+unfolding declaration stated_name blank
 declaration-after_blank edition text = by (opens_comment (past_blank text)) refl
   where
     by : (k : Bool) → opens_comment (past_blank text) ≡ k
@@ -151,21 +152,28 @@ broken-same u v a b (fails f r) (fails g s) n (inr k) less h = by (from_block_en
         (brace_skips-same u v (past_byte 125 x) (past_byte 125 y)
         (past_brace-exact (u ++ v) u x y i))
 
+-- some text is left on both sides
+diverge-some : (t u r s : List ℕ) → Diverge (125 ∷ t) (125 ∷ u) r s
+    → (0 < length r) × (0 < length s)
+diverge-some t u r s at = (omega arith, omega arith)
+diverge-some t u r s (on b r1 s1 h) = (omega arith, omega arith)
+
 pub block_skips-same : (edition : Edition) (u v r s : List ℕ) → IsUtf8 r
     → Diverge (125 ∷ (u ++ v)) (125 ∷ u) r s
     → Lost (u ++ v) (block edition r).1
     ⊎ (block_skips edition r ≡ map (skip_before v) (block_skips edition s))
-unfolding block block_skips
+unfolding block
 block_skips-same edition u v r s w h =
     by (each (declaration_in_block edition) r) (each (declaration_in_block edition) s)
     (each-stops (declaration_in_block edition) (declaration_in_block-takes edition) r)
     ((each-well (declaration_in_block edition) (declaration_in_block-well edition) r).1 w)
+    (block_skips-left edition r) (block_skips-left edition s)
     (listed-repeats edition u v r s w h)
   where
-    Same : List ℕ → List ℕ → Type 0
-    Same a b =
+    Same : List ℕ → Type 0
+    Same a =
         Lost (u ++ v) (past_byte 125 (past_list edition a))
-        ⊎ (list_skips edition a ≡ map (skip_before v) (list_skips edition b))
+        ⊎ (block_skips edition r ≡ map (skip_before v) (block_skips edition s))
 
     ends : (a b : List ℕ) → declaration_in_block edition a ≡ None → IsUtf8 a
         → Diverge (125 ∷ (u ++ v)) (125 ∷ u) a b → (i j : Bool) → ends_list a ≡ i → i ≡ j
@@ -182,14 +190,24 @@ block_skips-same edition u v r s w h =
         (lawful-guarded declaration declaration declaration-lawful edition u v a b z k)
         (declaration-after_blank edition a) k
 
+    both : (a b : List ℕ) → block_skips edition r ≡ list_skips edition a
+        → block_skips edition s ≡ list_skips edition b
+        → Lost (u ++ v) (past_byte 125 (past_list edition a))
+        ⊎ (list_skips edition a ≡ map (skip_before v) (list_skips edition b)) → Same a
+    both a b x y (inl lost) = inl lost
+    both a b x y (inr same) = inr (x ∙ same ∙ ap (map (skip_before v)) (sym y))
+
     by : (a b : List StyleDeclaration × List ℕ) → declaration_in_block edition a.1 ≡ None
-        → IsUtf8 a.1 → Repeats Equal (DeclarationPasses edition (u ++ v)) 125 (u ++ v) u a b
-        → Same a.1 b.1
-    by a b n z (inl l) = inl (list-lost edition (u ++ v) a.1 l)
-    by a b n z (inr (inl (passes e l))) =
+        → IsUtf8 a.1 → (0 < length a.1 → block_skips edition r ≡ list_skips edition a.1)
+        → (0 < length b.1 → block_skips edition s ≡ list_skips edition b.1)
+        → Repeats Equal (DeclarationPasses edition (u ++ v)) 125 (u ++ v) u a b → Same a.1
+    by a b n z x y (inl l) = inl (list-lost edition (u ++ v) a.1 l)
+    by a b n z x y (inr (inl (passes e l))) =
         inl (rw e
         (brace-lost (u ++ v) (past_broken (declaration edition a.1))
         (stuck-lost (u ++ v) (declaration edition a.1) (none_broken edition a.1 e n) l)))
-    by a b n z (inr (inr k)) =
-        ends a.1 b.1 n z k.1 (ends_list a.1) (ends_list b.1) refl
-        (ends_list-diverge (u ++ v) u a.1 b.1 k.1)
+    by a b n z x y (inr (inr k)) =
+        let some = diverge-some (u ++ v) u a.1 b.1 k.1 in
+        both a.1 b.1 (x some.0) (y some.1)
+        (ends a.1 b.1 n z k.1 (ends_list a.1) (ends_list b.1) refl
+        (ends_list-diverge (u ++ v) u a.1 b.1 k.1))

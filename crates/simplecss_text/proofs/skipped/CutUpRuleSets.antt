@@ -1,20 +1,20 @@
 -- The pieces of parts, of blocks and of rule sets.
 -- Serves `laws::nothing_is_lost`.
-use Rattle.std.proofs.Common.{◌≡◌, ◌≤◌, ◌<◌, ℕ, zero, suc, Bool, true, false, not, if◌then◌else◌, ◌==◌, List, [], ◌∷◌, ◌++◌, ap, append-nil, arith, drop, eqb-true, inl, inr, length, refl, subst, sym, ◌∙◌, Option, Some, None}
+use Rattle.std.proofs.Common.{◌≡◌, ◌⊎◌, ◌≤◌, ◌<◌, ℕ, zero, suc, Bool, true, false, not, if◌then◌else◌, ◌==◌, List, [], ◌∷◌, ◌++◌, ap, append-nil, arith, drop, eqb-true, inl, inr, length, refl, subst, sym, ◌∙◌, Option, Some, None}
 use Rattle.std.specs.List.{filter_map}
 use Rattle.std.specs.Str.{chars}
-use Rattle.simplecss_text.specs.Reading.{Ends, Fault, Reading, got, fails, each, found, left_after, no_name}
+use Rattle.simplecss_text.specs.Reading.{Ends, Fault, Reading, before, got, fails, each, found, left_after, no_name}
 use Rattle.simplecss_text.specs.Bytes.{past, past_byte, past_one, starts}
 use Rattle.simplecss_text.specs.Characters.{Edition, is_space}
 use Rattle.simplecss_text.specs.Comments.{blank, opens_comment, past_blank}
 use Rattle.simplecss_text.specs.Names.{name}
 use Rattle.simplecss_text.specs.Components.{Component}
 use Rattle.simplecss_text.specs.Selectors.{reads}
-use Rattle.simplecss_text.specs.Declarations.{StyleDeclaration, declaration}
+use Rattle.simplecss_text.specs.Declarations.{StyleDeclaration, declaration, stated_name}
 use Rattle.simplecss_text.specs.Blocks.{block, block_end, closes_block, declaration_in_block, ends_list, from_block_end, past_broken, past_list}
 use Rattle.simplecss_text.specs.Statements.{next_block, part, part_and_comma, parts, rule_set}
-use Rattle.simplecss_text.specs.Skipped.{Skip, broken_declaration, leading_comma, open_comment, block_skips, brace_skips, comma_skips, from_brace, if_broken, list_end_skips, list_skips, next_block_skips, part_skips, parts_skips, rule_set_skips, Refusal, refusal, refused_part, selector_skips, skips_after_read}
-use Rattle.simplecss_text.specs.NothingLost.{IsCutUp, IsExplained, cut_ends, mark_then, skip_then}
+use Rattle.simplecss_text.specs.Skipped.{Skip, broken_declaration, open_value, leading_comma, open_comment, declaration_skips, block_skips, brace_skips, comma_skips, from_brace, if_broken, list_end_skips, list_skips, next_block_skips, part_skips, parts_skips, rule_set_skips, Refusal, refusal, refused_part, selector_skips, skips_after_read}
+use Rattle.simplecss_text.specs.NothingLost.{IsCutUp, IsExplained, cut_ends, mark_then, open_declaration_then, skip_then}
 use Rattle.simplecss_text.proofs.reading.GotLemmas.{starts-cons}
 use Rattle.simplecss_text.proofs.reading.ReadNames.{name-none_begins}
 use Rattle.simplecss_text.proofs.reading.DeclarationLemmas.{declaration_in_block-takes}
@@ -25,6 +25,7 @@ use Rattle.simplecss_text.proofs.reading.LeastLemmas.{least-is}
 use Rattle.simplecss_text.proofs.reading.LocalLemmas.{quiet-brace}
 use Rattle.simplecss_text.proofs.reading.NameLocal.{name-quiet}
 use Rattle.simplecss_text.proofs.reading.SkipLemmas.{parts_skips-last, parts_skips-some}
+use Rattle.simplecss_text.proofs.reading.OpenValues.{block_skips-none, block_skips-some, declaration_in_block-got, declaration_skips-at, declaration_skips-ended}
 use Rattle.simplecss_text.proofs.reading.StandLemmas.{ends-past_blank}
 use Rattle.simplecss_text.proofs.reading.StatementTextLemmas.{part_and_comma-takes}
 use Rattle.simplecss_text.proofs.cutting.BlockCuts.{none_broken}
@@ -150,7 +151,7 @@ at_end (b ∷ t) e = by b (rw (not_empty b t) at e)
 -- where the list of declarations ends after a blank, none is read
 declaration-ended : (edition : Edition) (text start : List ℕ) → past_blank text ≡ start
     → ends_list start ≡ true → left_after (declaration edition text) ≡ start
-unfolding declaration blank chars
+unfolding declaration stated_name blank chars
 declaration-ended edition text [] e ends =
     let none : name edition [] ≡ fails (no_name []) [] = name-none_begins edition [] refl in
     rw (e, none) refl
@@ -164,55 +165,6 @@ declaration-ended edition text (b ∷ t) e ends = by b (rw (not_empty b t) at en
         let none : name edition (125 ∷ t) ≡ fails (no_name (125 ∷ t)) (125 ∷ t) =
         name-quiet edition 125 t (quiet-brace edition) in
         rw (start, none) (ap (λ (c : ℕ). c ∷ t) (sym is))
-
-declaration-of : (edition : Edition) (text rest : List ℕ) (p : StyleDeclaration)
-    → declaration_in_block edition text ≡ Some (p, rest) → declaration edition text ≡ got p rest
-declaration-of edition text rest p e = by (ends_list text) (declaration edition text) e
-  where
-    by : (k : Bool) (r : Reading StyleDeclaration) → (if k then None else found r) ≡ Some (p, rest)
-        → r ≡ got p rest
-    by true r h = absurd (cc)
-    by false (got q left) h =
-        let same : (q, left) ≡ (p, rest) = cc in
-        ap (λ (x : StyleDeclaration × List ℕ). got x.0 x.1) same
-    by false (fails f left) h = absurd (cc)
-
--- the pieces of the declarations of a text
-abbrev DeclaredCut : Edition → List ℕ → Type 0
-DeclaredCut edition text =
-    IsCutUp edition (each (declaration_in_block edition) text).1 text []
-    (each (declaration_in_block edition) text).0 []
-
-declared-step : (edition : Edition) (text : List ℕ)
-    → ((rest : List ℕ) → length rest < length text → DeclaredCut edition rest)
-    → DeclaredCut edition text
-declared-step edition text more =
-    elim (option_cases (declaration_in_block edition text)) [
-      | inl e ↦ rw (each-none (declaration_in_block edition) text e) cut_ends
-      | inr one ↦ next one.0.1 one.0.0 one.1
-    ]
-  where
-    next : (rest : List ℕ) (p : StyleDeclaration)
-        → declaration_in_block edition text ≡ Some (p, rest) → DeclaredCut edition text
-    next rest p e =
-        let less = took (declaration_in_block edition) (declaration_in_block-takes edition) text
-        rest p e in
-        let read : declaration edition text ≡ got p rest = declaration-of edition text rest p e in
-        let ends : Ends text rest =
-        subst (λ (r : Reading StyleDeclaration). Ends text (left_after r)) read
-        (stands-ends text no_texts (declaration edition text) (declaration-stands edition text)) in
-        rw (each-some (declaration_in_block edition) (declaration_in_block-takes edition) text rest
-        p e)
-        (declaration_to edition (each (declaration_in_block edition) rest).1 text rest p []
-        (each (declaration_in_block edition) rest).0 [] ends read (more rest less))
-
-declared-cut : (edition : Edition) (n : ℕ) (text : List ℕ) → length text ≤ n
-    → DeclaredCut edition text
-declared-cut edition zero text l =
-    declared-step edition text (λ rest less. absurd (omega (arith, l, less)))
-declared-cut edition (suc n) text l =
-    declared-step edition text
-    (λ rest less. declared-cut edition n rest (omega (arith, l, less)))
 
 -- what is in place of a declaration, up to the end of the block
 list_end-cut : (edition : Edition) (a rest : List ℕ) (fault : Fault)
@@ -287,19 +239,95 @@ list-cut edition a none = by (ends_list a) (declaration edition a) refl refl
         let missing : found (declaration edition a) ≡ None = none_broken edition a e none in
         absurd (cc (ap (λ (r : Reading StyleDeclaration). found r) f))
 
+-- the pieces of a block
+abbrev BlockCut : Edition → List ℕ → Type 0
+BlockCut edition text =
+    IsCutUp edition
+    (past_byte 125 (past_list edition (each (declaration_in_block edition) text).1)) text []
+    (each (declaration_in_block edition) text).0 (block_skips edition text)
+
+block-step : (edition : Edition) (text : List ℕ)
+    → ((rest : List ℕ) → length rest < length text → BlockCut edition rest)
+    → BlockCut edition text
+block-step edition text more =
+    elim (option_cases (declaration_in_block edition text)) [
+      | inl e ↦
+          rw (each-none (declaration_in_block edition) text e, block_skips-none edition text e)
+          (list-cut edition text e)
+      | inr one ↦ next one.0.1 one.0.0 one.1
+    ]
+  where
+    next : (rest : List ℕ) (p : StyleDeclaration)
+        → declaration_in_block edition text ≡ Some (p, rest) → BlockCut edition text
+    next rest p e =
+        let less = took (declaration_in_block edition) (declaration_in_block-takes edition) text
+        rest p e in
+        rw (each-some (declaration_in_block edition) (declaration_in_block-takes edition) text rest
+        p e, block_skips-some edition text rest p e)
+        (by (declaration_skips-ended edition text rest p read) (declaration_skips-at edition text)
+        (more rest less))
+      where
+        read : declaration edition text ≡ got p rest
+        read = declaration_in_block-got edition text rest p e
+
+        ends : Ends text rest
+        ends =
+            subst (λ (r : Reading StyleDeclaration). Ends text (left_after r)) read
+            (stands-ends text no_texts (declaration edition text) (declaration-stands edition text))
+
+        end : List ℕ
+        end = past_byte 125 (past_list edition (each (declaration_in_block edition) rest).1)
+
+        ds : List StyleDeclaration
+        ds = (each (declaration_in_block edition) rest).0
+
+        closed : declaration_skips edition text ≡ [] → BlockCut edition rest
+            → IsCutUp edition end text [] (p ∷ ds)
+            (declaration_skips edition text ++ block_skips edition rest)
+        closed none h =
+            subst (λ (xs : List Skip). IsCutUp edition end text [] (p ∷ ds)
+            (xs ++ block_skips edition rest)) (sym none)
+            (declaration_to edition end text rest p [] ds (block_skips edition rest) ends read h)
+
+        open_at : (from : List ℕ) → Ends text from
+            → declaration_skips edition text
+            ≡ record { from = from; after = []; why = open_value } ∷ [] → rest ≡ []
+            → BlockCut edition rest → IsCutUp edition end text [] (p ∷ ds)
+            (declaration_skips edition text ++ block_skips edition rest)
+        open_at from inside one ended h =
+            subst (λ (xs : List Skip). IsCutUp edition end text [] (p ∷ ds)
+            (xs ++ block_skips edition rest)) (sym one)
+            (subst (λ (t : List ℕ). IsCutUp edition end t [] (p ∷ ds)
+            (record { from = from; after = []; why = open_value } ∷ block_skips edition rest)) inside
+            (open_declaration_then (before text from) from p [] ds (block_skips edition rest)
+            (ap (declaration edition) inside ∙ read ∙ ap (got p) ended)
+            (subst (λ (t : List ℕ). IsCutUp edition end t [] ds (block_skips edition rest)) ended
+            h)))
+
+        by : (declaration_skips edition text ≡ []) ⊎ (rest ≡ [])
+            → (declaration_skips edition text ≡ [])
+            ⊎ ((from : List ℕ) × Ends text from
+            × (declaration_skips edition text
+            ≡ record { from = from; after = []; why = open_value } ∷ []))
+            → BlockCut edition rest → IsCutUp edition end text [] (p ∷ ds)
+            (declaration_skips edition text ++ block_skips edition rest)
+        by (inl none) other h = closed none h
+        by (inr ended) (inl none) h = closed none h
+        by (inr ended) (inr one) h = open_at one.0 one.1 one.2 ended h
+
+block-cut_up_to : (edition : Edition) (n : ℕ) (text : List ℕ) → length text ≤ n
+    → BlockCut edition text
+block-cut_up_to edition zero text l =
+    block-step edition text (λ rest less. absurd (omega (arith, l, less)))
+block-cut_up_to edition (suc n) text l =
+    block-step edition text
+    (λ rest less. block-cut_up_to edition n rest (omega (arith, l, less)))
+
 block-cut : (edition : Edition) (text : List ℕ)
     → IsCutUp edition (block edition text).1 text [] (block edition text).0
     (block_skips edition text)
-unfolding block block_skips
-block-cut edition text =
-    let list = each (declaration_in_block edition) text in
-    subst (λ (ds : List StyleDeclaration). IsCutUp edition
-    (past_byte 125 (past_list edition list.1)) text [] ds (list_skips edition list.1))
-    (append-nil list.0)
-    (joined edition list.1 (past_byte 125 (past_list edition list.1)) [] []
-    (list_skips edition list.1) (declared-cut edition (length text) text (omega arith))
-    (list-cut edition list.1
-    (each-stops (declaration_in_block edition) (declaration_in_block-takes edition) text)))
+unfolding block
+block-cut edition text = block-cut_up_to edition (length text) text (omega arith)
 
 -- without an opening brace nothing is left
 no_brace-left : (text : List ℕ) → starts 123 (from_brace text) ≡ false → from_brace text ≡ []

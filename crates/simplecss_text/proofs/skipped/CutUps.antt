@@ -16,7 +16,7 @@ use Rattle.simplecss_text.specs.Selectors.Outcome.{accepted, refused as is_refus
 use Rattle.simplecss_text.specs.Declarations.{StyleDeclaration, declaration}
 use Rattle.simplecss_text.specs.Statements.{part}
 use Rattle.simplecss_text.specs.Skipped.{Refusal, Skip, Why, extra_brace, refused_selector, brace_skips, from_brace, part_skips, past_refused, refusal, refusal_in, refused_part, selector_skips, skips_after, skips_after_read, unless_unknown, why_after}
-use Rattle.simplecss_text.specs.NothingLost.{IsCutUp, cut_ends, blank_then, mark_then, selector_then, declaration_then, skip_then, is_mark}
+use Rattle.simplecss_text.specs.NothingLost.{IsCutUp, cut_ends, blank_then, mark_then, selector_then, declaration_then, open_declaration_then, skip_then, is_mark}
 use Rattle.simplecss_text.proofs.bytes.BlankLaws.{past_blank-cut}
 use Rattle.simplecss_text.proofs.reading.EndsLemmas.{ends-by, ends-ends, ends-past, ends-same}
 use Rattle.simplecss_text.proofs.reading.NameLocal.{split-after}
@@ -43,6 +43,9 @@ joined edition middle end ts es ys (selector_then front text s ss ds xs r h) k =
     (joined edition middle end ts es ys h k)
 joined edition middle end ts es ys (declaration_then front text d ss ds xs r h) k =
     declaration_then front text d (ss ++ ts) (ds ++ es) (xs ++ ys) r
+    (joined edition middle end ts es ys h k)
+joined edition middle end ts es ys (open_declaration_then front text d ss ds xs r h) k =
+    open_declaration_then front text d (ss ++ ts) (ds ++ es) (xs ++ ys) r
     (joined edition middle end ts es ys h k)
 joined edition middle end ts es ys (skip_then front text why ss ds xs h) k =
     skip_then front text why (ss ++ ts) (ds ++ es) (xs ++ ys)

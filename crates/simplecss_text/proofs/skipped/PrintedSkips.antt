@@ -21,6 +21,7 @@ use Rattle.simplecss_text.proofs.round_trip.PrintedSelectors.{IsSelector}
 use Rattle.simplecss_text.proofs.round_trip.ReadSelectors.{selector-reads_back_before}
 use Rattle.simplecss_text.proofs.reading.EachLemmas.{not_empty}
 use Rattle.simplecss_text.proofs.reading.SkipLemmas.{parts_skips-last, skipped-blank, skipped-none}
+use Rattle.simplecss_text.proofs.reading.OpenValues.{block_skips-left}
 use Rattle.simplecss_text.proofs.round_trip.BlankTails.{past_blank-space}
 use Rattle.simplecss_text.proofs.round_trip.DeclarationsAgain.{IsDeclaration}
 use Rattle.simplecss_text.proofs.round_trip.KeptRules.{sheet-are}
@@ -55,7 +56,6 @@ part_skips-none edition text inside s e =
 block_skips-none : (edition : Edition) (p : StyleDeclaration) (ps : List StyleDeclaration)
     (text : List ℕ) → IsDeclaration edition p → AllByRecursion (IsDeclaration edition) ps
     → block_skips edition (32 ∷ (flat_map declaration_text (p ∷ ps) ++ (32 ∷ 125 ∷ text))) ≡ []
-unfolding block_skips
 block_skips-none edition p ps text w ws =
     let inside = declaration_text p ++ (flat_map declaration_text ps ++ (32 ∷ 125 ∷ text)) in
     let same : flat_map declaration_text (p ∷ ps) ++ (32 ∷ 125 ∷ text) ≡ inside =
@@ -72,7 +72,9 @@ block_skips-none edition p ps text w ws =
     (32 ∷ (flat_map declaration_text (p ∷ ps) ++ (32 ∷ 125 ∷ text))) ≡ (p ∷ ps, 125 ∷ text) = ap
     (λ t. each (declaration_in_block edition) (32 ∷ t)) same ∙ spaced ∙ listed in
     let some = not_empty 125 text in
-    ap (λ (r : List StyleDeclaration × List ℕ). list_skips edition r.1) all ∙ rw some refl
+    block_skips-left edition (32 ∷ (flat_map declaration_text (p ∷ ps) ++ (32 ∷ 125 ∷ text)))
+    (omega (arith, ap (λ (r : List StyleDeclaration × List ℕ). length r.1) all))
+    ∙ ap (λ (r : List StyleDeclaration × List ℕ). list_skips edition r.1) all ∙ rw some refl
 
 next_block_skips-again : (edition : Edition) (inside : List ℕ)
     → next_block_skips edition (123 ∷ inside) ≡ block_skips edition inside

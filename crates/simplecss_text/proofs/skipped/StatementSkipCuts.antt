@@ -12,7 +12,7 @@ use Rattle.simplecss_text.specs.Names.{begins_name, name, past_name_chars}
 use Rattle.simplecss_text.specs.Blocks.{from_block_end}
 use Rattle.simplecss_text.specs.Statements.{StyleRule, at_rule_rest, ends_statements, next_statement, statement, rule_set}
 use Rattle.simplecss_text.specs.PrintingLaws.{is_hyphen_name}
-use Rattle.simplecss_text.specs.Skipped.{Refusal, faulty, unknown_class, Why, leading_comma, refused_selector, after_selector, missing_block, broken_declaration, extra_brace, open_comment, at_rule, Skip, name_of, rule_set_skips, statement_skips}
+use Rattle.simplecss_text.specs.Skipped.{Refusal, faulty, unknown_class, Why, leading_comma, refused_selector, after_selector, missing_block, broken_declaration, open_value, extra_brace, open_comment, at_rule, Skip, name_of, rule_set_skips, statement_skips}
 use Rattle.simplecss_text.specs.SkippedLaws.{refusal_before, name_before, why_before, skip_before}
 use Rattle.simplecss_text.proofs.bytes.Utf8Lemmas.{utf8-after, utf8-first}
 use Rattle.simplecss_text.proofs.reading.PrintedNames.{IsName}
@@ -46,6 +46,7 @@ why-nil leading_comma = refl
 why-nil after_selector = refl
 why-nil missing_block = refl
 why-nil broken_declaration = refl
+why-nil open_value = refl
 why-nil extra_brace = refl
 why-nil open_comment = refl
 

@@ -15,7 +15,7 @@ use Rattle.simplecss_text.specs.Pieces.{attribute_operator, attribute_after, lan
 use Rattle.simplecss_text.specs.TokenSequences.{sequence_from}
 use Rattle.simplecss_text.specs.Selectors.{reads}
 use Rattle.simplecss_text.specs.Terms.{word, past_number, term}
-use Rattle.simplecss_text.specs.Declarations.{value, importance, trailing, declaration, declarations}
+use Rattle.simplecss_text.specs.Declarations.{value, importance, trailing, stated_name, declaration, declarations}
 use Rattle.simplecss_text.specs.Blocks.{block, block_end}
 use Rattle.simplecss_text.specs.Statements.{part, parts, next_block, rule_set, at_rule_rest, statement, statements, StyleRule, kept}
 use Rattle.simplecss_text.specs.Sheets.{sheet}
@@ -31,7 +31,7 @@ pub ends_of_statements : (edition : Edition) →
     (statement_ends edition further_brace ≡ 6 ∷ 16 ∷ [])
     × (statement_ends edition (codes "@m x; a{b:c} /**/ @--x{y:z} /* w") ≡ 5 ∷ 12 ∷ 20 ∷ 27 ∷ [])
     × (statement_ends edition (codes " /**/ ") ≡ [])
-unfolding rests_after each comment blank gap past_name_chars name string_or_name attribute_operator attribute_after lang_after pseudo_class_after named_token next_kind solid piece ending sequence_from chars encode trim_start trim_end reads part parts next_block rule_set at_rule_rest statement statements block block_end word past_number term value importance trailing declaration declarations
+unfolding rests_after each comment blank gap past_name_chars name string_or_name attribute_operator attribute_after lang_after pseudo_class_after named_token next_kind solid piece ending sequence_from chars encode trim_start trim_end reads part parts next_block rule_set at_rule_rest statement statements block block_end word past_number term value importance trailing stated_name declaration declarations
 ends_of_statements first_edition = (refl, refl, refl)
 ends_of_statements second_edition = (refl, refl, refl)
 
@@ -48,7 +48,7 @@ pub cut_at_statement : (edition : Edition) →
     × (take 6 further_brace ≡ codes "a { }}")
     × (kept edition (take 6 further_brace) ≡ [])
     × (kept edition (drop 6 further_brace) ≡ rule_b ∷ [])
-unfolding rests_after each comment blank gap past_name_chars name string_or_name attribute_operator attribute_after lang_after pseudo_class_after named_token next_kind solid piece ending sequence_from chars encode trim_start trim_end reads part parts next_block rule_set at_rule_rest statement statements block block_end word past_number term value importance trailing declaration declarations
+unfolding rests_after each comment blank gap past_name_chars name string_or_name attribute_operator attribute_after lang_after pseudo_class_after named_token next_kind solid piece ending sequence_from chars encode trim_start trim_end reads part parts next_block rule_set at_rule_rest statement statements block block_end word past_number term value importance trailing stated_name declaration declarations
 cut_at_statement first_edition = (refl, refl, refl, refl)
 cut_at_statement second_edition = (refl, refl, refl, refl)
 
@@ -66,7 +66,7 @@ pub cut_elsewhere : (edition : Edition) →
     × (kept edition (drop 5 further_brace) ≡ [])
     × (sheet edition (take 5 further_brace ∷ drop 5 further_brace ∷ []) ≡ [])
     × (sheet_text (sheet edition (further_brace ∷ [])) ≡ codes "b { c:d; }")
-unfolding rests_after each comment blank gap past_name_chars name string_or_name attribute_operator attribute_after lang_after pseudo_class_after named_token next_kind solid piece ending sequence_from chars encode trim_start trim_end reads part parts next_block rule_set at_rule_rest statement statements block block_end word past_number term value importance trailing declaration declarations
+unfolding rests_after each comment blank gap past_name_chars name string_or_name attribute_operator attribute_after lang_after pseudo_class_after named_token next_kind solid piece ending sequence_from chars encode trim_start trim_end reads part parts next_block rule_set at_rule_rest statement statements block block_end word past_number term value importance trailing stated_name declaration declarations
 cut_elsewhere first_edition = (refl, refl, refl, refl, refl)
 cut_elsewhere second_edition = (refl, refl, refl, refl, refl)
 

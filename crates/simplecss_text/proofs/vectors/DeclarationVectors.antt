@@ -9,7 +9,7 @@ use Rattle.simplecss_text.specs.Names.{past_name_chars, name}
 use Rattle.simplecss_text.specs.Strings.{string_or_name}
 use Rattle.simplecss_text.specs.Characters.{Edition, first_edition, second_edition}
 use Rattle.simplecss_text.specs.Terms.{word, past_number, term}
-use Rattle.simplecss_text.specs.Declarations.{value, importance, trailing, declaration, declarations}
+use Rattle.simplecss_text.specs.Declarations.{value, importance, trailing, stated_name, declaration, declarations}
 
 -- texts without a declaration at the front
 pub no_declaration : (edition : Edition) →
@@ -20,7 +20,7 @@ pub no_declaration : (edition : Edition) →
     × (declarations edition (codes "(color:red)") ≡ [])
     × (declarations edition (codes "[color:red]") ≡ [])
     × (declarations edition (codes "color:") ≡ [])
-unfolding each comment blank gap past_name_chars name string_or_name word past_number term value importance trailing declaration declarations chars encode trim_start trim_end
+unfolding each comment blank gap past_name_chars name string_or_name word past_number term value importance trailing stated_name declaration declarations chars encode trim_start trim_end
 no_declaration first_edition = (refl, refl, refl, refl, refl, refl, refl)
 no_declaration second_edition = (refl, refl, refl, refl, refl, refl, refl)
 
@@ -35,7 +35,7 @@ pub one_declaration : (edition : Edition) →
     × (declarations edition (codes "/* *\\/*/color: red;") ≡ record { name = (codes "color"); value = (codes "red"); important = false } ∷ [])
     × (declarations edition (codes "/**/color/**/:/**/red/**/;/**/") ≡ record { name = (codes "color"); value = (codes "red"); important = false } ∷ [])
     × (declarations edition (codes "\ncolor\n:\nred\n;\n") ≡ record { name = (codes "color"); value = (codes "red"); important = false } ∷ [])
-unfolding each comment blank gap past_name_chars name string_or_name word past_number term value importance trailing declaration declarations chars encode trim_start trim_end
+unfolding each comment blank gap past_name_chars name string_or_name word past_number term value importance trailing stated_name declaration declarations chars encode trim_start trim_end
 one_declaration first_edition = (refl, refl, refl, refl, refl, refl, refl, refl, refl)
 one_declaration second_edition = (refl, refl, refl, refl, refl, refl, refl, refl, refl)
 
@@ -43,7 +43,7 @@ one_declaration second_edition = (refl, refl, refl, refl, refl, refl, refl, refl
 pub two_declarations : (edition : Edition) →
     (declarations edition (codes "  color:red;;;;color:red; ") ≡ record { name = (codes "color"); value = (codes "red"); important = false } ∷ record { name = (codes "color"); value = (codes "red"); important = false } ∷ [])
     × (declarations edition (codes "background: url(\"img.png\"); color:red !important") ≡ record { name = (codes "background"); value = (codes "url(\"img.png\")"); important = false } ∷ record { name = (codes "color"); value = (codes "red"); important = true } ∷ [])
-unfolding each comment blank gap past_name_chars name string_or_name word past_number term value importance trailing declaration declarations chars encode trim_start trim_end
+unfolding each comment blank gap past_name_chars name string_or_name word past_number term value importance trailing stated_name declaration declarations chars encode trim_start trim_end
 two_declarations first_edition = (refl, refl)
 two_declarations second_edition = (refl, refl)
 
@@ -56,7 +56,7 @@ pub important_declarations : (edition : Edition) →
     × (declarations edition (codes "color:red !importantly:x") ≡ record { name = (codes "color"); value = (codes "red"); important = true } ∷ record { name = (codes "ly"); value = (codes "x"); important = false } ∷ [])
     × (declarations edition (codes "color:red ! foo:x") ≡ record { name = (codes "color"); value = (codes "red"); important = false } ∷ record { name = (codes "foo"); value = (codes "x"); important = false } ∷ [])
     × (declarations edition (codes "a:b !IMPORTANT") ≡ record { name = (codes "a"); value = (codes "b"); important = false } ∷ [])
-unfolding each comment blank gap past_name_chars name string_or_name word past_number term value importance trailing declaration declarations chars encode trim_start trim_end
+unfolding each comment blank gap past_name_chars name string_or_name word past_number term value importance trailing stated_name declaration declarations chars encode trim_start trim_end
 important_declarations first_edition = (refl, refl, refl, refl, refl, refl, refl)
 important_declarations second_edition = (refl, refl, refl, refl, refl, refl, refl)
 
@@ -74,7 +74,7 @@ pub values : (edition : Edition) →
     × (declarations edition (codes "color:.5") ≡ record { name = (codes "color"); value = (codes ".5"); important = false } ∷ [])
     × (declarations edition (codes "content:counter(chapno, upper-roman) \". \"") ≡ record { name = (codes "content"); value = (codes "counter(chapno, upper-roman) \". \""); important = false } ∷ [])
     × (declarations edition (codes "font-family:'Noto Serif','DejaVu Serif',serif") ≡ record { name = (codes "font-family"); value = (codes "'Noto Serif','DejaVu Serif',serif"); important = false } ∷ [])
-unfolding each comment blank gap past_name_chars name string_or_name word past_number term value importance trailing declaration declarations chars encode trim_start trim_end
+unfolding each comment blank gap past_name_chars name string_or_name word past_number term value importance trailing stated_name declaration declarations chars encode trim_start trim_end
 values first_edition = (refl, refl, refl, refl, refl, refl, refl, refl, refl, refl, refl, refl)
 values second_edition = (refl, refl, refl, refl, refl, refl, refl, refl, refl, refl, refl, refl)
 
@@ -85,14 +85,14 @@ pub terms_in_values : (edition : Edition) →
     × (declarations edition (codes "color:; x:y") ≡ [])
     × (declarations edition (codes "*zoom:1;") ≡ record { name = (codes "zoom"); value = (codes "1"); important = false } ∷ [])
     × (declarations edition (97 ∷ 58 ∷ 227 ∷ 128 ∷ 128 ∷ []) ≡ [])
-unfolding each comment blank gap past_name_chars name string_or_name word past_number term value importance trailing declaration declarations chars encode trim_start trim_end
+unfolding each comment blank gap past_name_chars name string_or_name word past_number term value importance trailing stated_name declaration declarations chars encode trim_start trim_end
 terms_in_values first_edition = (refl, refl, refl, refl, refl)
 terms_in_values second_edition = (refl, refl, refl, refl, refl)
 
 -- a slash is a term only in the second edition
 pub slashes : (edition : Edition) →
     (declarations edition (codes "a:b/* x") ≡ [])
-unfolding each comment blank gap past_name_chars name string_or_name word past_number term value importance trailing declaration declarations chars encode trim_start trim_end
+unfolding each comment blank gap past_name_chars name string_or_name word past_number term value importance trailing stated_name declaration declarations chars encode trim_start trim_end
 slashes first_edition = refl
 slashes second_edition = refl
 
@@ -100,7 +100,7 @@ slashes second_edition = refl
 pub slashes-editions :
     (declarations second_edition (codes "font:12px/1.5 serif") ≡ record { name = (codes "font"); value = (codes "12px/1.5 serif"); important = false } ∷ [])
     × (declarations first_edition (codes "font:12px/1.5 serif") ≡ record { name = (codes "font"); value = (codes "12px"); important = false } ∷ [])
-unfolding each comment blank gap past_name_chars name string_or_name word past_number term value importance trailing declaration declarations chars encode trim_start trim_end
+unfolding each comment blank gap past_name_chars name string_or_name word past_number term value importance trailing stated_name declaration declarations chars encode trim_start trim_end
 slashes-editions = (refl, refl)
 
 -- the first fault of a declaration, and what is left after it
@@ -112,7 +112,7 @@ pub first_faults : (edition : Edition) →
     × (declaration edition (codes "a: ;x") ≡ fails (no_value (codes ";x")) (codes "x"))
     × (declaration edition (codes "a:;/*") ≡ fails (no_comment (codes "/*")) [])
     × (declaration edition (codes "a:b; /* open") ≡ fails (no_comment (codes "/* open")) [])
-unfolding each comment blank gap past_name_chars name string_or_name word past_number term value importance trailing declaration declarations chars encode trim_start trim_end
+unfolding each comment blank gap past_name_chars name string_or_name word past_number term value importance trailing stated_name declaration declarations chars encode trim_start trim_end
 first_faults first_edition = (refl, refl, refl, refl, refl, refl, refl)
 first_faults second_edition = (refl, refl, refl, refl, refl, refl, refl)
 
@@ -123,7 +123,7 @@ pub broken_off : (edition : Edition) →
     × (declarations edition (codes "a:b f(x") ≡ record { name = codes "a"; value = codes "b"; important = false } ∷ [])
     × (declarations edition (codes "a:b /* x") ≡ [])
     × (declarations edition (codes "**a:b") ≡ [])
-unfolding each comment blank gap past_name_chars name string_or_name word past_number term value importance trailing declaration declarations chars encode trim_start trim_end
+unfolding each comment blank gap past_name_chars name string_or_name word past_number term value importance trailing stated_name declaration declarations chars encode trim_start trim_end
 broken_off first_edition = (refl, refl, refl, refl, refl)
 broken_off second_edition = (refl, refl, refl, refl, refl)
 
@@ -134,14 +134,14 @@ pub more_terms : (edition : Edition) →
     × (declarations edition (codes "a:1-%") ≡ record { name = codes "a"; value = codes "1-"; important = false } ∷ [])
     × (declarations edition (codes "a:#-%") ≡ record { name = codes "a"; value = codes "#-"; important = false } ∷ [])
     × (declarations edition (codes "a:'\\\\'b'") ≡ record { name = codes "a"; value = codes "'\\\\'b'"; important = false } ∷ [])
-unfolding each comment blank gap past_name_chars name string_or_name word past_number term value importance trailing declaration declarations chars encode trim_start trim_end
+unfolding each comment blank gap past_name_chars name string_or_name word past_number term value importance trailing stated_name declaration declarations chars encode trim_start trim_end
 more_terms first_edition = (refl, refl, refl, refl, refl)
 more_terms second_edition = (refl, refl, refl, refl, refl)
 
 -- slashes and wide characters of a value in the second edition
 pub slash_terms : (edition : Edition) →
     (declarations edition (codes "a:/**/b") ≡ record { name = codes "a"; value = codes "b"; important = false } ∷ [])
-unfolding each comment blank gap past_name_chars name string_or_name word past_number term value importance trailing declaration declarations chars encode trim_start trim_end
+unfolding each comment blank gap past_name_chars name string_or_name word past_number term value importance trailing stated_name declaration declarations chars encode trim_start trim_end
 slash_terms first_edition = refl
 slash_terms second_edition = refl
 
@@ -151,7 +151,7 @@ pub slash_terms-editions :
     × (declarations second_edition (codes "a:b//c") ≡ record { name = codes "a"; value = codes "b//c"; important = false } ∷ [])
     × (declarations second_edition (codes "a:b//**/c") ≡ record { name = codes "a"; value = codes "b//**/c"; important = false } ∷ [])
     × (declarations second_edition (97 ∷ 58 ∷ 194 ∷ 160 ∷ []) ≡ [])
-unfolding each comment blank gap past_name_chars name string_or_name word past_number term value importance trailing declaration declarations chars encode trim_start trim_end
+unfolding each comment blank gap past_name_chars name string_or_name word past_number term value importance trailing stated_name declaration declarations chars encode trim_start trim_end
 slash_terms-editions = (refl, refl, refl, refl)
 
 -- what is left after a declaration
@@ -165,7 +165,7 @@ pub declaration_ends : (edition : Edition) →
     × (declaration edition (codes "a:-") ≡ got (record { name = codes "a"; value = codes "-"; important = false }) [])
     × (declaration edition (codes "a:f(b)c") ≡ got (record { name = codes "a"; value = codes "f(b)c"; important = false }) [])
     × (declaration edition (codes "a:b (c);d:e") ≡ got (record { name = codes "a"; value = codes "b"; important = false }) (codes "(c);d:e"))
-unfolding each comment blank gap past_name_chars name string_or_name word past_number term value importance trailing declaration declarations chars encode trim_start trim_end
+unfolding each comment blank gap past_name_chars name string_or_name word past_number term value importance trailing stated_name declaration declarations chars encode trim_start trim_end
 declaration_ends first_edition = (refl, refl, refl, refl, refl, refl, refl, refl, refl)
 declaration_ends second_edition = (refl, refl, refl, refl, refl, refl, refl, refl, refl)
 
@@ -173,7 +173,7 @@ declaration_ends second_edition = (refl, refl, refl, refl, refl, refl, refl, ref
 pub declaration_ends-editions :
     (declaration second_edition (codes "a:b/c;d:e") ≡ got (record { name = codes "a"; value = codes "b/c"; important = false }) (codes "d:e"))
     × (declaration first_edition (codes "a:b/c;d:e") ≡ got (record { name = codes "a"; value = codes "b"; important = false }) (codes "/c;d:e"))
-unfolding each comment blank gap past_name_chars name string_or_name word past_number term value importance trailing declaration declarations chars encode trim_start trim_end
+unfolding each comment blank gap past_name_chars name string_or_name word past_number term value importance trailing stated_name declaration declarations chars encode trim_start trim_end
 declaration_ends-editions = (refl, refl)
 
 -- faults of blanks, names, colons and empty values, and what is left after them
@@ -194,7 +194,7 @@ pub more_faults : (edition : Edition) →
     × (declaration edition (codes "a:'x;b:c") ≡ fails (no_value (codes "'x;b:c")) [])
     × (declaration edition (codes "a:f(x;b:c") ≡ fails (no_value (codes "f(x;b:c")) [])
     × (declaration edition (codes "a:(b)") ≡ fails (no_value (codes "(b)")) (codes "(b)"))
-unfolding each comment blank gap past_name_chars name string_or_name word past_number term value importance trailing declaration declarations chars encode trim_start trim_end
+unfolding each comment blank gap past_name_chars name string_or_name word past_number term value importance trailing stated_name declaration declarations chars encode trim_start trim_end
 more_faults first_edition = (refl, refl, refl, refl, refl, refl, refl, refl, refl, refl, refl, refl, refl, refl, refl, refl)
 more_faults second_edition = (refl, refl, refl, refl, refl, refl, refl, refl, refl, refl, refl, refl, refl, refl, refl, refl)
 
@@ -202,5 +202,5 @@ more_faults second_edition = (refl, refl, refl, refl, refl, refl, refl, refl, re
 pub more_faults-editions :
     (declaration second_edition (codes "a:/b") ≡ got (record { name = codes "a"; value = codes "/b"; important = false }) [])
     × (declaration first_edition (codes "a:/b") ≡ fails (no_value (codes "/b")) (codes "/b"))
-unfolding each comment blank gap past_name_chars name string_or_name word past_number term value importance trailing declaration declarations chars encode trim_start trim_end
+unfolding each comment blank gap past_name_chars name string_or_name word past_number term value importance trailing stated_name declaration declarations chars encode trim_start trim_end
 more_faults-editions = (refl, refl)

@@ -17,10 +17,10 @@ use Rattle.simplecss_text.specs.Pieces.{attribute_operator, attribute_after, lan
 use Rattle.simplecss_text.specs.TokenSequences.{sequence_from}
 use Rattle.simplecss_text.specs.Selectors.{reads}
 use Rattle.simplecss_text.specs.Terms.{word, past_number, term}
-use Rattle.simplecss_text.specs.Declarations.{StyleDeclaration, value, importance, trailing, declaration}
+use Rattle.simplecss_text.specs.Declarations.{StyleDeclaration, value, importance, trailing, stated_name, declaration}
 use Rattle.simplecss_text.specs.Statements.{StyleRule}
-use Rattle.simplecss_text.specs.Skipped.{Skip, broken_declaration}
-use Rattle.simplecss_text.specs.NothingLost.{IsAccountedFor, IsCutUp, is_mark, blank_then, cut_ends, declaration_then, mark_then, selector_then, skip_then, statement_then, statements_end}
+use Rattle.simplecss_text.specs.Skipped.{Skip, broken_declaration, open_value}
+use Rattle.simplecss_text.specs.NothingLost.{IsAccountedFor, IsCutUp, is_mark, blank_then, cut_ends, declaration_then, mark_then, open_declaration_then, selector_then, skip_then, statement_then, statements_end}
 
 -- the selector `a`
 abbrev just_a : List Component
@@ -41,7 +41,7 @@ pub account_of_text : (edition : Edition) → IsAccountedFor edition (codes "a{b
 unfolding each comment blank gap past_name_chars name string_or_name attribute_operator
     attribute_after lang_after pseudo_class_after named_token next_kind solid piece ending
     sequence_from chars encode trim_start trim_end reads word past_number term value importance
-    trailing declaration
+    trailing stated_name declaration
 account_of_text first_edition =
     statement_then (codes "a{b:c;d}") [] (just_a ∷ []) (b_is_c ∷ []) _ [] []
     (selector_then (codes "a") (codes "{b:c;d}") just_a [] (b_is_c ∷ []) _ refl
@@ -57,6 +57,27 @@ account_of_text second_edition =
     (skip_then (codes "d") (codes "}") broken_declaration [] [] []
     (mark_then 125 [] [] [] [] refl cut_ends))))) tt (statements_end [] [] cut_ends)
 
+-- a text whose last value has a string that is not closed
+pub account_of_open_value : (edition : Edition) → IsAccountedFor edition (codes "a{b:c 'd}")
+    ((record { components = just_a; declarations = b_is_c ∷ [] } ∷ []) ∷ [])
+    (record { from = codes "'d}"; after = []; why = open_value } ∷ [])
+unfolding each comment blank gap past_name_chars name string_or_name attribute_operator
+    attribute_after lang_after pseudo_class_after named_token next_kind solid piece ending
+    sequence_from chars encode trim_start trim_end reads word past_number term value importance
+    trailing stated_name declaration
+account_of_open_value first_edition =
+    statement_then (codes "a{b:c 'd}") [] (just_a ∷ []) (b_is_c ∷ []) _ [] []
+    (selector_then (codes "a") (codes "{b:c 'd}") just_a [] (b_is_c ∷ []) _ refl
+    (mark_then 123 (codes "b:c 'd}") [] (b_is_c ∷ []) _ refl
+    (open_declaration_then (codes "b:c ") (codes "'d}") b_is_c [] [] [] refl cut_ends))) tt
+    (statements_end [] [] cut_ends)
+account_of_open_value second_edition =
+    statement_then (codes "a{b:c 'd}") [] (just_a ∷ []) (b_is_c ∷ []) _ [] []
+    (selector_then (codes "a") (codes "{b:c 'd}") just_a [] (b_is_c ∷ []) _ refl
+    (mark_then 123 (codes "b:c 'd}") [] (b_is_c ∷ []) _ refl
+    (open_declaration_then (codes "b:c ") (codes "'d}") b_is_c [] [] [] refl cut_ends))) tt
+    (statements_end [] [] cut_ends)
+
 -- ---- a byte that is neither read nor a blank or a mark
 
 -- a less-than sign alone is neither a selector nor a declaration
@@ -65,7 +86,7 @@ less_is_not_read : (edition : Edition) → ((reads edition (codes "<")).0 ≡ No
 unfolding each comment blank gap past_name_chars name string_or_name attribute_operator
     attribute_after lang_after pseudo_class_after named_token next_kind solid piece ending
     sequence_from chars encode trim_start trim_end reads word past_number term value importance
-    trailing declaration
+    trailing stated_name declaration
 less_is_not_read first_edition = (refl, refl)
 less_is_not_read second_edition = (refl, refl)
 
@@ -109,6 +130,7 @@ less_stays edition end (selector_then front text s ss ds xs r h) e f =
 less_stays edition end (declaration_then front text p ss ds xs r h) e f =
     let none_read = sym (less_is_not_read edition).1 ∙ ap (declaration edition) (sym e) ∙ r in
     absurd (cc)
+less_stays edition end (open_declaration_then front text p ss ds xs r h) e f = absurd (cc)
 less_stays edition end (skip_then front text why ss ds xs h) e f = absurd (cc)
 
 none_of : (xs ys : List Skip) → xs ++ ys ≡ [] → (xs ≡ []) × (ys ≡ [])

@@ -13,7 +13,7 @@ use Rattle.simplecss_text.specs.Pieces.{attribute_operator, attribute_after, lan
 use Rattle.simplecss_text.specs.TokenSequences.{sequence_from}
 use Rattle.simplecss_text.specs.Selectors.{reads}
 use Rattle.simplecss_text.specs.Terms.{word, past_number, term}
-use Rattle.simplecss_text.specs.Declarations.{value, importance, trailing, declaration, declarations}
+use Rattle.simplecss_text.specs.Declarations.{value, importance, trailing, stated_name, declaration, declarations}
 use Rattle.simplecss_text.specs.Blocks.{block, block_end}
 use Rattle.simplecss_text.specs.Statements.{part, parts, next_block, rule_set, at_rule_rest, statement, statements}
 use Rattle.simplecss_text.specs.Sheets.{sheet}
@@ -25,7 +25,7 @@ pub bare_apostrophe : (edition : Edition) →
     (are_clean (sheet edition (codes "[a=\"it's\"] { b:c }" ∷ [])) ≡ false)
     × (sheet_text (sheet edition (codes "[a=\"it's\"] { b:c }" ∷ [])) ≡ codes "*[a='it's'] { b:c; }")
     × (sheet edition (codes "*[a='it's'] { b:c; }" ∷ []) ≡ [])
-unfolding each comment blank gap past_name_chars name string_or_name attribute_operator attribute_after lang_after pseudo_class_after named_token next_kind solid piece ending sequence_from chars encode trim_start trim_end reads part parts next_block rule_set at_rule_rest statement statements block block_end word past_number term value importance trailing declaration declarations
+unfolding each comment blank gap past_name_chars name string_or_name attribute_operator attribute_after lang_after pseudo_class_after named_token next_kind solid piece ending sequence_from chars encode trim_start trim_end reads part parts next_block rule_set at_rule_rest statement statements block block_end word past_number term value importance trailing stated_name declaration declarations
 bare_apostrophe first_edition = (refl, refl, refl)
 bare_apostrophe second_edition = (refl, refl, refl)
 
@@ -34,7 +34,7 @@ pub escaped_apostrophe : (edition : Edition) →
     (are_clean (sheet edition (codes "[a=\"it\\'s\"] { b:c }" ∷ [])) ≡ true)
     × (sheet_text (sheet edition (codes "[a=\"it\\'s\"] { b:c }" ∷ [])) ≡ codes "*[a='it\\'s'] { b:c; }")
     × (sheet edition (codes "*[a='it\\'s'] { b:c; }" ∷ []) ≡ sheet edition (codes "[a=\"it\\'s\"] { b:c }" ∷ []))
-unfolding each comment blank gap past_name_chars name string_or_name attribute_operator attribute_after lang_after pseudo_class_after named_token next_kind solid piece ending sequence_from chars encode trim_start trim_end reads part parts next_block rule_set at_rule_rest statement statements block block_end word past_number term value importance trailing declaration declarations
+unfolding each comment blank gap past_name_chars name string_or_name attribute_operator attribute_after lang_after pseudo_class_after named_token next_kind solid piece ending sequence_from chars encode trim_start trim_end reads part parts next_block rule_set at_rule_rest statement statements block block_end word past_number term value importance trailing stated_name declaration declarations
 escaped_apostrophe first_edition = (refl, refl, refl)
 escaped_apostrophe second_edition = (refl, refl, refl)
 
@@ -43,6 +43,6 @@ pub ideographic_space : (edition : Edition) →
     (has_wide_space (codes "a { b:" ++ (227 ∷ 128 ∷ 128 ∷ codes "(c) }")) ≡ true)
     × (sheet_text (sheet edition ((codes "a { b:" ++ (227 ∷ 128 ∷ 128 ∷ codes "(c) }")) ∷ [])) ≡ codes "a { b:(c); }")
     × (sheet edition (codes "a { b:(c); }" ∷ []) ≡ [])
-unfolding each comment blank gap past_name_chars name string_or_name attribute_operator attribute_after lang_after pseudo_class_after named_token next_kind solid piece ending sequence_from chars encode trim_start trim_end reads part parts next_block rule_set at_rule_rest statement statements block block_end word past_number term value importance trailing declaration declarations
+unfolding each comment blank gap past_name_chars name string_or_name attribute_operator attribute_after lang_after pseudo_class_after named_token next_kind solid piece ending sequence_from chars encode trim_start trim_end reads part parts next_block rule_set at_rule_rest statement statements block block_end word past_number term value importance trailing stated_name declaration declarations
 ideographic_space first_edition = (refl, refl, refl)
 ideographic_space second_edition = (refl, refl, refl)

@@ -13,11 +13,11 @@ use Rattle.simplecss_text.specs.Pieces.{attribute_operator, attribute_after, lan
 use Rattle.simplecss_text.specs.TokenSequences.{sequence_from}
 use Rattle.simplecss_text.specs.Selectors.{reads}
 use Rattle.simplecss_text.specs.Terms.{word, past_number, term}
-use Rattle.simplecss_text.specs.Declarations.{value, importance, trailing, declaration, declarations}
+use Rattle.simplecss_text.specs.Declarations.{value, importance, trailing, stated_name, declaration, declarations}
 use Rattle.simplecss_text.specs.Blocks.{block, block_end}
 use Rattle.simplecss_text.specs.Statements.{part, parts, next_block, rule_set, at_rule_rest, statement, statements}
 use Rattle.simplecss_text.specs.Cutting.{rests_after, statement_ends}
-use Rattle.simplecss_text.specs.Skipped.{broken_declaration, at_rule, refusal, selector_skips, part_skips, skips_of_each, parts_skips, block_skips, next_block_skips, rule_set_skips, statement_skips, skipped}
+use Rattle.simplecss_text.specs.Skipped.{broken_declaration, open_value, at_rule, refusal, selector_skips, part_skips, skips_of_each, parts_skips, declaration_skips, block_skips, next_block_skips, rule_set_skips, statement_skips, skipped}
 use Rattle.simplecss_text.specs.SkippedLaws.{skip_before}
 
 -- a declaration that is skipped in the first piece, and nothing in the second
@@ -32,8 +32,8 @@ unfolding rests_after each position comment blank gap past_name_chars name strin
     attribute_operator attribute_after lang_after pseudo_class_after named_token next_kind solid
     piece ending sequence_from chars encode trim_start trim_end reads part parts next_block rule_set
     at_rule_rest statement statements block block_end word past_number term value importance
-    trailing declaration declarations refusal selector_skips part_skips skips_of_each parts_skips
-    block_skips next_block_skips rule_set_skips statement_skips skipped
+    trailing stated_name declaration declarations refusal selector_skips part_skips skips_of_each parts_skips
+    declaration_skips block_skips next_block_skips rule_set_skips statement_skips skipped
 skipped_in_front first_edition = (refl, refl, refl, refl)
 skipped_in_front second_edition = (refl, refl, refl, refl)
 
@@ -49,22 +49,23 @@ unfolding rests_after each position comment blank gap past_name_chars name strin
     attribute_operator attribute_after lang_after pseudo_class_after named_token next_kind solid
     piece ending sequence_from chars encode trim_start trim_end reads part parts next_block rule_set
     at_rule_rest statement statements block block_end word past_number term value importance
-    trailing declaration declarations refusal selector_skips part_skips skips_of_each parts_skips
-    block_skips next_block_skips rule_set_skips statement_skips skipped
+    trailing stated_name declaration declarations refusal selector_skips part_skips skips_of_each parts_skips
+    declaration_skips block_skips next_block_skips rule_set_skips statement_skips skipped
 hyphen_is_cut first_edition = (refl, refl, refl, refl)
 hyphen_is_cut second_edition = (refl, refl, refl, refl)
 
--- a declaration that takes a string that is not closed, and with it the rest of the text: nothing is
--- skipped, and the one rule has the declaration `b:c`
-pub open_string_is_taken : (edition : Edition) →
-    (skipped edition (codes "a{b:c 'x}d{e:f}") ≡ [])
+-- a string in a value that is not closed, and with it the rest of the text, is skipped, and the one
+-- rule has the declaration `b:c`
+pub open_string_is_skipped : (edition : Edition) →
+    (skipped edition (codes "a{b:c 'x}d{e:f}") ≡ record
+    { from = codes "'x}d{e:f}"; after = []; why = open_value } ∷ [])
     × (declaration edition (codes "b:c 'x}d{e:f}") ≡ got (record
     { name = codes "b"; value = codes "c"; important = false }) [])
 unfolding rests_after each position comment blank gap past_name_chars name string_or_name
     attribute_operator attribute_after lang_after pseudo_class_after named_token next_kind solid
     piece ending sequence_from chars encode trim_start trim_end reads part parts next_block rule_set
     at_rule_rest statement statements block block_end word past_number term value importance
-    trailing declaration declarations refusal selector_skips part_skips skips_of_each parts_skips
-    block_skips next_block_skips rule_set_skips statement_skips skipped
-open_string_is_taken first_edition = (refl, refl)
-open_string_is_taken second_edition = (refl, refl)
+    trailing stated_name declaration declarations refusal selector_skips part_skips skips_of_each parts_skips
+    declaration_skips block_skips next_block_skips rule_set_skips statement_skips skipped
+open_string_is_skipped first_edition = (refl, refl)
+open_string_is_skipped second_edition = (refl, refl)

@@ -15,10 +15,10 @@ use Rattle.simplecss_text.specs.Pieces.{attribute_operator, attribute_after, lan
 use Rattle.simplecss_text.specs.TokenSequences.{sequence_from}
 use Rattle.simplecss_text.specs.Selectors.{reads}
 use Rattle.simplecss_text.specs.Terms.{word, past_number, term}
-use Rattle.simplecss_text.specs.Declarations.{value, importance, trailing, declaration, declarations}
+use Rattle.simplecss_text.specs.Declarations.{value, importance, trailing, stated_name, declaration, declarations}
 use Rattle.simplecss_text.specs.Blocks.{block, block_end}
 use Rattle.simplecss_text.specs.Statements.{part, parts, next_block, rule_set, at_rule_rest, statement, statements}
-use Rattle.simplecss_text.specs.Skipped.{faulty, unknown_class, refused_selector, broken_declaration, open_comment, at_rule, leading_comma, after_selector, missing_block, extra_brace, refusal, selector_skips, part_skips, skips_of_each, parts_skips, block_skips, next_block_skips, rule_set_skips, statement_skips, skipped}
+use Rattle.simplecss_text.specs.Skipped.{faulty, unknown_class, refused_selector, broken_declaration, open_value, open_comment, at_rule, leading_comma, after_selector, missing_block, extra_brace, refusal, selector_skips, part_skips, skips_of_each, parts_skips, declaration_skips, block_skips, next_block_skips, rule_set_skips, statement_skips, skipped}
 
 -- what is skipped of a text
 pub skips_of_texts : (edition : Edition) →
@@ -37,6 +37,17 @@ pub skips_of_texts : (edition : Edition) →
     record { from = codes "/* y"; after = []; why = open_comment } ∷ [])
     × (skipped edition (codes "a{b:c; d e;f:g}h{}") ≡ record
     { from = codes "d e;f:g}h{}"; after = codes "}h{}"; why = broken_declaration } ∷ [])
+    × (skipped edition (codes "a{b:c 'd}e{f:g}") ≡ record
+    { from = codes "'d}e{f:g}"; after = []; why = open_value } ∷ [])
+    × (skipped edition (codes "a{b:c/**/\"") ≡ record
+    { from = codes "\""; after = []; why = open_value } ∷ [])
+    × (skipped edition (codes "a{b:c;*d : e f(g}") ≡ record
+    { from = codes "f(g}"; after = []; why = open_value } ∷ [])
+    × (skipped edition (codes "a{b:'c}d{}") ≡ record
+    { from = codes "b:'c}d{}"; after = []; why = broken_declaration } ∷ [])
+    × (skipped edition (codes "a{b:c !d") ≡ record
+    { from = codes "d"; after = []; why = broken_declaration } ∷ [])
+    × (skipped edition (codes "a{b:c ") ≡ [])
     × (map (λ s. s.after) (skipped edition (codes ":x,a{b:c}")) ≡ codes ",a{b:c}" ∷ [])
     × (map (λ s. s.after) (skipped edition (codes "a < b, c {d}e{}")) ≡ codes "{d}e{}" ∷ codes
     "}e{}" ∷ [])
@@ -62,10 +73,16 @@ pub skips_of_texts : (edition : Edition) →
 unfolding each position comment blank gap past_name_chars name string_or_name attribute_operator
     attribute_after lang_after pseudo_class_after named_token next_kind solid piece ending
     sequence_from chars encode trim_start trim_end reads part parts next_block rule_set at_rule_rest
-    statement statements block block_end word past_number term value importance trailing declaration
-    declarations refusal selector_skips part_skips skips_of_each parts_skips block_skips
+    statement statements block block_end word past_number term value importance trailing stated_name declaration
+    declarations refusal selector_skips part_skips skips_of_each parts_skips declaration_skips block_skips
     next_block_skips rule_set_skips statement_skips skipped
 skips_of_texts first_edition =
-    (refl, refl, refl, refl, refl, refl, refl, refl, refl, refl, refl, refl)
+    (
+      refl, refl, refl, refl, refl, refl, refl, refl, refl, refl, refl, refl, refl, refl, refl, refl,
+      refl, refl,
+    )
 skips_of_texts second_edition =
-    (refl, refl, refl, refl, refl, refl, refl, refl, refl, refl, refl, refl)
+    (
+      refl, refl, refl, refl, refl, refl, refl, refl, refl, refl, refl, refl, refl, refl, refl, refl,
+      refl, refl,
+    )

@@ -13,7 +13,7 @@ use Rattle.simplecss_text.specs.Pieces.{attribute_operator, attribute_after, lan
 use Rattle.simplecss_text.specs.TokenSequences.{sequence_from}
 use Rattle.simplecss_text.specs.Selectors.{reads}
 use Rattle.simplecss_text.specs.Terms.{word, past_number, term}
-use Rattle.simplecss_text.specs.Declarations.{value, importance, trailing, declaration, declarations}
+use Rattle.simplecss_text.specs.Declarations.{value, importance, trailing, stated_name, declaration, declarations}
 use Rattle.simplecss_text.specs.Blocks.{block, block_end}
 use Rattle.simplecss_text.specs.Statements.{part, parts, next_block, rule_set, at_rule_rest, statement, statements, is_open_comment}
 use Rattle.simplecss_text.specs.Ranks.{ordered_by}
@@ -26,7 +26,7 @@ pub blocks : (edition : Edition) →
     × (block edition (codes " }}a") ≡ ([], (codes "a")))
     × (block edition (codes "a:b;c{}}d") ≡ (record { name = (codes "a"); value = (codes "b"); important = false } ∷ [], (codes "d")))
     × (block edition (codes "a:b") ≡ (record { name = (codes "a"); value = (codes "b"); important = false } ∷ [], []))
-unfolding each comment blank gap past_name_chars name string_or_name attribute_operator attribute_after lang_after pseudo_class_after named_token next_kind solid piece ending sequence_from chars encode trim_start trim_end reads part parts next_block rule_set at_rule_rest statement statements block block_end word past_number term value importance trailing declaration declarations
+unfolding each comment blank gap past_name_chars name string_or_name attribute_operator attribute_after lang_after pseudo_class_after named_token next_kind solid piece ending sequence_from chars encode trim_start trim_end reads part parts next_block rule_set at_rule_rest statement statements block block_end word past_number term value importance trailing stated_name declaration declarations
 blocks first_edition = (refl, refl, refl, refl, refl)
 blocks second_edition = (refl, refl, refl, refl, refl)
 
@@ -38,7 +38,7 @@ pub statement_ends : (edition : Edition) →
     × ((statement edition (codes "@m")).1 ≡ [])
     × ((statement edition (codes "a{b:c}d")).1 ≡ (codes "d"))
     × ((statement edition (codes ",a, b")).1 ≡ [])
-unfolding each comment blank gap past_name_chars name string_or_name attribute_operator attribute_after lang_after pseudo_class_after named_token next_kind solid piece ending sequence_from chars encode trim_start trim_end reads part parts next_block rule_set at_rule_rest statement statements block block_end word past_number term value importance trailing declaration declarations
+unfolding each comment blank gap past_name_chars name string_or_name attribute_operator attribute_after lang_after pseudo_class_after named_token next_kind solid piece ending sequence_from chars encode trim_start trim_end reads part parts next_block rule_set at_rule_rest statement statements block block_end word past_number term value importance trailing stated_name declaration declarations
 statement_ends first_edition = (refl, refl, refl, refl, refl, refl)
 statement_ends second_edition = (refl, refl, refl, refl, refl, refl)
 
@@ -48,7 +48,7 @@ pub part_ends : (edition : Edition) →
     × ((part edition (codes "a {")).1 ≡ (codes "{"))
     × ((part edition (codes ":x  {")).1 ≡ (codes "{"))
     × ((part edition (codes "a/**/,")).1 ≡ (codes ","))
-unfolding each comment blank gap past_name_chars name string_or_name attribute_operator attribute_after lang_after pseudo_class_after named_token next_kind solid piece ending sequence_from chars encode trim_start trim_end reads part parts next_block rule_set at_rule_rest statement statements block block_end word past_number term value importance trailing declaration declarations
+unfolding each comment blank gap past_name_chars name string_or_name attribute_operator attribute_after lang_after pseudo_class_after named_token next_kind solid piece ending sequence_from chars encode trim_start trim_end reads part parts next_block rule_set at_rule_rest statement statements block block_end word past_number term value importance trailing stated_name declaration declarations
 part_ends first_edition = (refl, refl, refl, refl)
 part_ends second_edition = (refl, refl, refl, refl)
 
@@ -57,7 +57,7 @@ pub parts_of_sets : (edition : Edition) →
     (map selector_text (parts edition (codes "a, b > c {")).0 ≡ (codes "a") ∷ (codes "b > c") ∷ [])
     × (map selector_text (parts edition (codes "a, :x, b")).0 ≡ (codes "a") ∷ (codes "b") ∷ [])
     × (map selector_text (parts edition (codes ":x")).0 ≡ [])
-unfolding each comment blank gap past_name_chars name string_or_name attribute_operator attribute_after lang_after pseudo_class_after named_token next_kind solid piece ending sequence_from chars encode trim_start trim_end reads part parts next_block rule_set at_rule_rest statement statements block block_end word past_number term value importance trailing declaration declarations
+unfolding each comment blank gap past_name_chars name string_or_name attribute_operator attribute_after lang_after pseudo_class_after named_token next_kind solid piece ending sequence_from chars encode trim_start trim_end reads part parts next_block rule_set at_rule_rest statement statements block block_end word past_number term value importance trailing stated_name declaration declarations
 parts_of_sets first_edition = (refl, refl, refl)
 parts_of_sets second_edition = (refl, refl, refl)
 
@@ -68,7 +68,7 @@ pub open_comments :
     × (is_open_comment (codes "a") ≡ false)
     × (is_open_comment [] ≡ false)
     × (is_open_comment (codes "/**/") ≡ false)
-unfolding each comment blank gap past_name_chars name string_or_name attribute_operator attribute_after lang_after pseudo_class_after named_token next_kind solid piece ending sequence_from chars encode trim_start trim_end reads part parts next_block rule_set at_rule_rest statement statements block block_end word past_number term value importance trailing declaration declarations
+unfolding each comment blank gap past_name_chars name string_or_name attribute_operator attribute_after lang_after pseudo_class_after named_token next_kind solid piece ending sequence_from chars encode trim_start trim_end reads part parts next_block rule_set at_rule_rest statement statements block block_end word past_number term value importance trailing stated_name declaration declarations
 open_comments = (refl, refl, refl, refl, refl)
 
 -- each element at its rank
@@ -76,7 +76,7 @@ pub ranks :
     (ordered_by nat_lt (3 ∷ 1 ∷ 2 ∷ 1 ∷ []) ≡ 1 ∷ 1 ∷ 2 ∷ 3 ∷ [])
     × (ordered_by nat_lt [] ≡ [])
     × (ordered_by (λ (x y : ℕ × ℕ). nat_lt x.0 y.0) ((2, 7) ∷ (1, 8) ∷ (2, 6) ∷ (1, 9) ∷ []) ≡ (1, 8) ∷ (1, 9) ∷ (2, 7) ∷ (2, 6) ∷ [])
-unfolding each comment blank gap past_name_chars name string_or_name attribute_operator attribute_after lang_after pseudo_class_after named_token next_kind solid piece ending sequence_from chars encode trim_start trim_end reads part parts next_block rule_set at_rule_rest statement statements block block_end word past_number term value importance trailing declaration declarations
+unfolding each comment blank gap past_name_chars name string_or_name attribute_operator attribute_after lang_after pseudo_class_after named_token next_kind solid piece ending sequence_from chars encode trim_start trim_end reads part parts next_block rule_set at_rule_rest statement statements block block_end word past_number term value importance trailing stated_name declaration declarations
 ranks = (refl, refl, refl)
 
 -- where a block ends: one further brace is consumed after a broken declaration
@@ -98,7 +98,7 @@ pub block_ends : (edition : Edition) →
     × (block edition (codes "a'}'}b") ≡ ([], (codes "'}b")))
     × (block edition (codes "a:b") ≡ (record { name = codes "a"; value = codes "b"; important = false } ∷ [], []))
     × (block edition (codes "a:b!important;}c") ≡ (record { name = codes "a"; value = codes "b"; important = true } ∷ [], (codes "c")))
-unfolding each comment blank gap past_name_chars name string_or_name attribute_operator attribute_after lang_after pseudo_class_after named_token next_kind solid piece ending sequence_from chars encode trim_start trim_end reads part parts next_block rule_set at_rule_rest statement statements block block_end word past_number term value importance trailing declaration declarations
+unfolding each comment blank gap past_name_chars name string_or_name attribute_operator attribute_after lang_after pseudo_class_after named_token next_kind solid piece ending sequence_from chars encode trim_start trim_end reads part parts next_block rule_set at_rule_rest statement statements block block_end word past_number term value importance trailing stated_name declaration declarations
 block_ends first_edition = (refl, refl, refl, refl, refl, refl, refl, refl, refl, refl, refl, refl, refl, refl, refl, refl, refl)
 block_ends second_edition = (refl, refl, refl, refl, refl, refl, refl, refl, refl, refl, refl, refl, refl, refl, refl, refl, refl)
 
@@ -114,7 +114,7 @@ pub parts_and_blanks : (edition : Edition) →
     × ((part edition (codes ":x")).1 ≡ [])
     × ((part edition (codes "a,b")).1 ≡ (codes ",b"))
     × ((part edition (codes "-\t\n,")).1 ≡ (codes ","))
-unfolding each comment blank gap past_name_chars name string_or_name attribute_operator attribute_after lang_after pseudo_class_after named_token next_kind solid piece ending sequence_from chars encode trim_start trim_end reads part parts next_block rule_set at_rule_rest statement statements block block_end word past_number term value importance trailing declaration declarations
+unfolding each comment blank gap past_name_chars name string_or_name attribute_operator attribute_after lang_after pseudo_class_after named_token next_kind solid piece ending sequence_from chars encode trim_start trim_end reads part parts next_block rule_set at_rule_rest statement statements block block_end word past_number term value importance trailing stated_name declaration declarations
 parts_and_blanks first_edition = (refl, refl, refl, refl, refl, refl, refl, refl, refl, refl)
 parts_and_blanks second_edition = (refl, refl, refl, refl, refl, refl, refl, refl, refl, refl)
 
@@ -131,7 +131,7 @@ pub rule_sets : (edition : Edition) →
     × (map (λ rule. selector_text rule.components) (rule_set edition (codes "{c:d}")).0 ≡ [])
     × (map (λ rule. selector_text rule.components) (rule_set edition (codes "a:x,b{c:d}")).0 ≡ (codes "b") ∷ [])
     × (map (λ rule. selector_text rule.components) (rule_set edition (codes "a, b,c")).0 ≡ (codes "a") ∷ (codes "b") ∷ (codes "c") ∷ [])
-unfolding each comment blank gap past_name_chars name string_or_name attribute_operator attribute_after lang_after pseudo_class_after named_token next_kind solid piece ending sequence_from chars encode trim_start trim_end reads part parts next_block rule_set at_rule_rest statement statements block block_end word past_number term value importance trailing declaration declarations
+unfolding each comment blank gap past_name_chars name string_or_name attribute_operator attribute_after lang_after pseudo_class_after named_token next_kind solid piece ending sequence_from chars encode trim_start trim_end reads part parts next_block rule_set at_rule_rest statement statements block block_end word past_number term value importance trailing stated_name declaration declarations
 rule_sets first_edition = (refl, refl, refl, refl, refl, refl, refl, refl, refl, refl, refl)
 rule_sets second_edition = (refl, refl, refl, refl, refl, refl, refl, refl, refl, refl, refl)
 
@@ -148,7 +148,7 @@ pub rule_set_ends : (edition : Edition) →
     × ((statement edition (codes "{}a")).1 ≡ (codes "a"))
     × ((statement edition (codes ":x/**/{b:c}d")).1 ≡ (codes "d"))
     × ((statement edition (codes "a;b{c:d}e")).1 ≡ (codes "e"))
-unfolding each comment blank gap past_name_chars name string_or_name attribute_operator attribute_after lang_after pseudo_class_after named_token next_kind solid piece ending sequence_from chars encode trim_start trim_end reads part parts next_block rule_set at_rule_rest statement statements block block_end word past_number term value importance trailing declaration declarations
+unfolding each comment blank gap past_name_chars name string_or_name attribute_operator attribute_after lang_after pseudo_class_after named_token next_kind solid piece ending sequence_from chars encode trim_start trim_end reads part parts next_block rule_set at_rule_rest statement statements block block_end word past_number term value importance trailing stated_name declaration declarations
 rule_set_ends first_edition = (refl, refl, refl, refl, refl, refl, refl, refl, refl, refl, refl)
 rule_set_ends second_edition = (refl, refl, refl, refl, refl, refl, refl, refl, refl, refl, refl)
 
@@ -168,6 +168,6 @@ pub at_rule_ends : (edition : Edition) →
     × ((statement edition (codes "@m';'a")).1 ≡ (codes "'a"))
     × ((statement edition (codes "@m/*;*/a")).1 ≡ (codes "*/a"))
     × ((statement edition (codes "@m}a;b")).1 ≡ (codes "b"))
-unfolding each comment blank gap past_name_chars name string_or_name attribute_operator attribute_after lang_after pseudo_class_after named_token next_kind solid piece ending sequence_from chars encode trim_start trim_end reads part parts next_block rule_set at_rule_rest statement statements block block_end word past_number term value importance trailing declaration declarations
+unfolding each comment blank gap past_name_chars name string_or_name attribute_operator attribute_after lang_after pseudo_class_after named_token next_kind solid piece ending sequence_from chars encode trim_start trim_end reads part parts next_block rule_set at_rule_rest statement statements block block_end word past_number term value importance trailing stated_name declaration declarations
 at_rule_ends first_edition = (refl, refl, refl, refl, refl, refl, refl, refl, refl, refl, refl, refl, refl, refl)
 at_rule_ends second_edition = (refl, refl, refl, refl, refl, refl, refl, refl, refl, refl, refl, refl, refl, refl)
