@@ -203,27 +203,25 @@ block-broken edition text begun left rest front f h r =
 
 -- ---- what a block skips
 
-list_skips-broken : (edition : Edition) (text left : List ℕ) → ends_list text ≡ false → FailsAt (declaration edition text) left → list_skips edition text ≡ broken_part text (from_block_end left)
-list_skips-broken edition text left e h = rw e (by (declaration edition text) h)
-  where
-    by : (r : Reading StyleDeclaration) → FailsAt r left → if_broken text r ≡ broken_part text (from_block_end left)
-    by (got p rest) h = absurd h
-    by (fails fault rest) h = ap (λ (t : List ℕ). broken_part text (from_block_end t)) (sym h)
-
-list_skips-end : (edition : Edition) (text : List ℕ) → ends_list text ≡ true → list_skips edition text ≡ []
-list_skips-end edition text e = rw e refl
-
 -- where no broken declaration ends the list of declarations
-pub block_skips-ended : (edition : Edition) (text left : List ℕ) → EndsAt edition (each (declaration_in_block edition) text).1 None left → [] ≡ block_skips edition text
-unfolding block_skips
-block_skips-ended edition text left h = sym (list_skips-end edition (each (declaration_in_block edition) text).1 h.0)
+pub list_skips-ended : (edition : Edition) (here left : List ℕ) → EndsAt edition here None left
+    → list_skips edition here ≡ []
+list_skips-ended edition here left h = let ends = h.0 in rw ends refl
 
 -- where a broken declaration ends it
-pub block_skips-broken : (edition : Edition) (text begun left : List ℕ) → EndsAt edition (each (declaration_in_block edition) text).1 (Some begun) left → broken_part begun (from_block_end left) ≡ block_skips edition text
-unfolding block_skips
-block_skips-broken edition text begun left h =
-    ap (λ (t : List ℕ). broken_part t (from_block_end left)) h.1
-    ∙ sym (list_skips-broken edition (each (declaration_in_block edition) text).1 left h.0 h.2)
+pub list_skips-broken : (edition : Edition) (here begun left : List ℕ)
+    → EndsAt edition here (Some begun) left
+    → list_skips edition here ≡ broken_part begun (from_block_end left)
+list_skips-broken edition here begun left h =
+    let goes = h.0 in
+    rw goes (by (declaration edition here) h.2
+    ∙ ap (λ (t : List ℕ). broken_part t (from_block_end left)) (sym h.1))
+  where
+    by : (r : Reading StyleDeclaration) → FailsAt r left
+        → if_broken here r ≡ broken_part here (from_block_end left)
+    by (got p rest) f = absurd f
+    by (fails fault rest) f =
+        ap (λ (t : List ℕ). broken_part here (from_block_end t)) (sym f)
 
 -- the block after the first opening brace, if there is one
 abbrev skips_after : Edition → Option (List ℕ) → List Skip

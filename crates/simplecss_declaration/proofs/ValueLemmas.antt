@@ -58,14 +58,30 @@ before-range text rest = ap (λ n. take n text) (omega arith)
 pub trimmed : (text rest ranged result : List ℕ) → ranged ≡ slice_range text 0 (length text - length rest) → result ≡ trim ranged → result ≡ trim (before text rest)
 trimmed text rest ranged result r t = t ∙ ap (λ (v : List ℕ). trim v) (r ∙ before-range text rest)
 
--- A declaration's name and value occur in order, if each of its parts was read from what the one
--- before left.
-pub declaration-slices : (edition : Edition) (text a b n c d start g h v : List ℕ) (important : Bool) → blank text ≡ got tt a → b ≡ past_byte 42 a → name edition b ≡ got n c → blank c ≡ got tt d → byte 58 d ≡ got tt start
-    → (e : List ℕ) → blank start ≡ got tt e → StandBetween e g (v ∷ []) → trailing g ≡ got important h → StandBetween text h (n ∷ v ∷ [])
-declaration-slices edition text a b n c d start g h v important e1 e2 e3 e4 e5 e e6 e7 e8 =
-    let front : Ends text b = ends-ends text a b (ends-got text no_texts (blank text) tt a (blank-stands text) e1) (subst (λ (t : List ℕ). Ends a t) (sym e2) (ends-past_byte 42 a)) in
-    let named : StandBetween text c (n ∷ []) = stand-from text b c (n ∷ []) front (stands-got b itself (name edition b) n c (name-stands edition b) e3) in
-    let colon : Ends c start = ends-ends c d start (ends-got c no_texts (blank c) tt d (blank-stands c) e4) (ends-got d no_texts (byte 58 d) tt start (byte-stands 58 d) e5) in
-    let after : Ends c e = ends-ends c start e colon (ends-got start no_texts (blank start) tt e (blank-stands start) e6) in
-    let stated : StandBetween c h (v ∷ []) = stand-to c g h (v ∷ []) (stand-from c e g (v ∷ []) after e7) (ends-got g no_texts (trailing g) important h (trailing-stands g) e8) in
-    stand-append text c h (n ∷ []) (v ∷ []) named stated
+-- The name of a declaration is before what follows its colon, if each was read from what the one
+-- before it left.
+pub stated_name-slices : (text a b n c d e rest : List ℕ) (edition : Edition)
+    → blank text ≡ got tt a → b ≡ past_byte 42 a → name edition b ≡ got n c
+    → blank c ≡ got tt d → byte 58 d ≡ got tt e → blank e ≡ got tt rest
+    → StandBetween text rest (n ∷ [])
+stated_name-slices text a b n c d e rest edition e1 e2 e3 e4 e5 e6 =
+    let front : Ends text b =
+    ends-ends text a b (ends-got text no_texts (blank text) tt a (blank-stands text) e1)
+    (subst (λ (t : List ℕ). Ends a t) (sym e2) (ends-past_byte 42 a)) in
+    let named : StandBetween text c (n ∷ []) =
+    stand-from text b c (n ∷ []) front
+    (stands-got b itself (name edition b) n c (name-stands edition b) e3) in
+    let colon : Ends c e =
+    ends-ends c d e (ends-got c no_texts (blank c) tt d (blank-stands c) e4)
+    (ends-got d no_texts (byte 58 d) tt e (byte-stands 58 d) e5) in
+    stand-to text c rest (n ∷ []) named
+    (ends-ends c e rest colon (ends-got e no_texts (blank e) tt rest (blank-stands e) e6))
+
+-- The name and the value of a declaration occur in order.
+pub declaration-slices : (text start left rest n v : List ℕ) (important : Bool)
+    → StandBetween text start (n ∷ []) → StandBetween start left (v ∷ [])
+    → trailing left ≡ got important rest → StandBetween text rest (n ∷ v ∷ [])
+declaration-slices text start left rest n v important named stated e =
+    stand-append text start rest (n ∷ []) (v ∷ []) named
+    (stand-to start left rest (v ∷ []) stated
+    (ends-got left no_texts (trailing left) important rest (trailing-stands left) e))

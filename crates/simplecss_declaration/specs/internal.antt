@@ -1,4 +1,5 @@
 -- What contracts of private functions and proofs name, and no contract of a public call.
 pub mod BlockDepths
 pub mod ListEnds
+pub mod OpenValues
 pub mod UnreportedFaults

@@ -1,14 +1,16 @@
 //! Blocks of declarations, and what is skipped before and with a block in a style sheet.
 ghost use Rattle.std.specs.Prelude.{◌≡◌, ◌+◌, ◌<◌, ◌^◌, MatchResult, OnOk, IfOk, length, map, option_map};
 ghost use Rattle.std.specs.Str.{IsCharBoundary};
-ghost use Rattle.simplecss_text.specs.Reading.{each};
+ghost use Rattle.simplecss_text.specs.Reading.{got, each};
 ghost use Rattle.simplecss_text.specs.AsciiBytes.{semicolon, open_brace, close_brace};
 ghost use Rattle.simplecss_text.specs.Bytes.{past_byte, is_neither, past};
+ghost use Rattle.simplecss_text.specs.Declarations.{StyleDeclaration, declaration};
 ghost use Rattle.simplecss_text.specs.Blocks.{count_of, block_end as block_end_of, from_block_end};
 ghost use Rattle.simplecss_text.specs.Blocks.{ends_list, declaration_in_block, block};
 ghost use Rattle.simplecss_text.specs.Statements.{next_block, past_semicolon_or_block};
-ghost use Rattle.simplecss_text.specs.Skipped.{list_end_skips, brace_skips, broken_part};
-ghost use Rattle.simplecss_text.specs.Skipped.{block_skips, next_block_skips, add_each};
+ghost use Rattle.simplecss_text.specs.Skipped.{declaration_skips, list_end_skips, brace_skips};
+ghost use Rattle.simplecss_text.specs.Skipped.{broken_part, list_skips, block_skips};
+ghost use Rattle.simplecss_text.specs.Skipped.{next_block_skips, add_each};
 ghost use Rattle.simplecss_text.specs.ThisEdition.{this_edition};
 ghost use Rattle.simplecss_text.specs.Cursor.{text_of, rest_of};
 ghost use Rattle.simplecss_declaration.specs.internal.BlockDepths.{ClosesFirst, ClosesNowhere};
@@ -16,7 +18,7 @@ ghost use Rattle.simplecss_declaration.specs.internal.ListEnds.{EndsAt};
 ghost use Rattle.simplecss_declaration.specs.DeclarationViews.{declaration_of};
 
 use super::declarations::Declaration;
-use super::reader::take_declaration;
+use super::reader::{find_open_value, take_declaration};
 use simplecss_text::report::{Report, Skipped, Why};
 use simplecss_text::stream::Stream;
 use simplecss_text::{readers, scan};
@@ -202,9 +204,50 @@ fn at_list_end(s: &Stream<'_>) -> bool
     }
 }
 
-/// Reads the declarations of a block into the list, in place of those that it held. A broken one
-/// ends them; the text from its start is returned, and the cursor is where reading it stopped.
-fn consume_declarations<'a>(
+/// Reports the string or the function in the value of the declaration at the start of `text` that is
+/// not closed, if there is one.
+#[cold]
+#[inline(never)]
+fn report_open_value<'a, P: Report<'a>>(report: &mut P, text: &'a str) -> Result<(), AllocError>
+    ensures { OnOk result (P.state report.new
+        ≡ add_each P.add (P.state report.old) (declaration_skips this_edition text.now)) }
+{
+    match find_open_value(text) {
+        None => Ok(()),
+        Some(from) => report.report(Skipped {
+            from,
+            after: "",
+            why: Why::OpenValue,
+        }),
+    }
+}
+
+/// Reports what is read and skipped of the declaration at the start of `text`, after which the
+/// cursor is.
+#[inline(always)]
+fn report_declared<'a, P: Report<'a>>(
+    report: &mut P,
+    text: &'a str,
+    value: &'a str,
+    s: &Stream<'a>,
+) -> Result<(), AllocError>
+    ensures { (p : StyleDeclaration) → declaration this_edition text.now ≡ got p (rest_of s.now) →
+        OnOk result (P.state report.new
+        ≡ add_each P.add (P.state report.old) (declaration_skips this_edition text.now)) }
+{
+    report.declared(text, value);
+    // Only a value that takes the rest of the text can be open.
+    if s.at_end() {
+        return report_open_value(report, text);
+    }
+    Ok(())
+}
+
+/// Reads the declarations of a block into the list, in place of those that it held, and reports
+/// each. A broken one ends them; the text from its start is returned, and the cursor is where
+/// reading it stopped.
+fn consume_declarations<'a, P: Report<'a>>(
+    report: &mut P,
     s: &mut Stream<'a>,
     declarations: &mut Vec<Declaration<'a>>,
 ) -> Result<Option<&'a str>, AllocError>
@@ -214,12 +257,18 @@ fn consume_declarations<'a>(
     ensures list { IfOk result (λ broken. EndsAt this_edition
         (each (declaration_in_block this_edition) (rest_of s.old)).1
         (option_map (λ text. text.now) broken) (rest_of s.new)) }
+    ensures reported { OnOk result (add_each P.add (P.state report.new)
+        (list_skips this_edition (each (declaration_in_block this_edition) (rest_of s.old)).1)
+        ≡ add_each P.add (P.state report.old) (block_skips this_edition (rest_of s.old))) }
 {
     declarations.clear();
     'list: while !at_list_end(s) {
         let text = s.slice_tail();
         match take_declaration(s) {
-            Some(declaration) => declarations.push(declaration)?,
+            Some(declaration) => {
+                report_declared(report, text, declaration.value, s)?;
+                declarations.push(declaration)?;
+            }
             None => return Ok(Some(text)),
         }
     }
@@ -241,7 +290,7 @@ fn consume_block<'a, P: Report<'a>>(
     ensures reported { OnOk result (P.state report.new
         ≡ add_each P.add (P.state report.old) (block_skips this_edition (rest_of s.old))) }
 {
-    let broken = match consume_declarations(s, declarations) {
+    let broken = match consume_declarations(report, s, declarations) {
         Ok(broken) => broken,
         Err(error) => return Err(error),
     };

@@ -1,16 +1,20 @@
 //! Reads declarations from a cursor, without reporting errors.
-ghost use Rattle.std.specs.Prelude.{◌≡◌, [], ◌∷◌, IfSome};
+ghost use Rattle.std.specs.Prelude.{◌≡◌, [], ◌∷◌, IfSome, option_map};
 ghost use Rattle.simplecss_text.specs.Reading.{got, each};
 ghost use Rattle.simplecss_text.specs.AsciiBytes.{colon};
 ghost use Rattle.simplecss_text.specs.Bytes.{byte as byte_read};
 ghost use Rattle.simplecss_text.specs.Slices.{StandBetween};
 ghost use Rattle.simplecss_text.specs.Comments.{past_blank};
-ghost use Rattle.simplecss_text.specs.Declarations.{value as value_read, important_word};
+ghost use Rattle.simplecss_text.specs.Terms.{term};
+ghost use Rattle.simplecss_text.specs.Declarations.{terms, value as value_read, important_word};
 ghost use Rattle.simplecss_text.specs.Declarations.{importance, semicolon, trailing};
+ghost use Rattle.simplecss_text.specs.Declarations.{stated_name as stated_name_read};
 ghost use Rattle.simplecss_text.specs.Declarations.{declaration as declaration_read};
+ghost use Rattle.simplecss_text.specs.Skipped.{declaration_skips};
 ghost use Rattle.simplecss_text.specs.ThisEdition.{this_edition};
 ghost use Rattle.simplecss_text.specs.Cursor.{text_of, rest_of};
-ghost use Rattle.simplecss_declaration.specs.internal.UnreportedFaults.{Answers, Passes};
+ghost use Rattle.simplecss_declaration.specs.internal.UnreportedFaults.{Answers, FailsAt, Passes};
+ghost use Rattle.simplecss_declaration.specs.internal.OpenValues.{open_from};
 ghost use Rattle.simplecss_declaration.specs.DeclarationViews.{declaration_of};
 
 use super::declarations::Declaration;
@@ -116,6 +120,27 @@ fn skip_colon(s: &mut Stream<'_>) -> bool
     readers::skip_byte(s, b':')
 }
 
+/// Consumes what precedes the value of a declaration: a name and a colon, with blanks, and returns
+/// the name. An asterisk before the name is dropped.
+#[inline(always)]
+fn take_stated_name<'a>(s: &mut Stream<'a>) -> Option<&'a str>
+    ensures text { text_of s.new ≡ text_of s.old }
+    ensures reads { Answers (λ name. name.now) (stated_name_read this_edition (rest_of s.old)) result
+        (rest_of s.new) }
+    ensures slices { IfSome result
+        (λ name. StandBetween (rest_of s.old) (rest_of s.new) (name.now ∷ [])) }
+{
+    if !readers::skip_blank(s) {
+        return None;
+    }
+    s.try_consume_byte(b'*');
+    let name = readers::take_name(s)?;
+    if !readers::skip_blank(s) || !skip_colon(s) || !readers::skip_blank(s) {
+        return None;
+    }
+    Some(name)
+}
+
 /// Reads a declaration: a name, a colon, a value, and what follows it up to the next declaration.
 /// If there is none, the cursor is where reading stopped.
 #[inline(always)]
@@ -126,14 +151,7 @@ pub fn take_declaration<'a>(s: &mut Stream<'a>) -> Option<Declaration<'a>>
     ensures stands { IfSome result
         (λ d. StandBetween (rest_of s.old) (rest_of s.new) (d.name.now ∷ d.value.now ∷ [])) }
 {
-    if !readers::skip_blank(s) {
-        return None;
-    }
-    s.try_consume_byte(b'*');
-    let name = readers::take_name(s)?;
-    if !readers::skip_blank(s) || !skip_colon(s) || !readers::skip_blank(s) {
-        return None;
-    }
+    let name = take_stated_name(s)?;
     let value = read_value(s);
     let important = take_trailing(s)?;
     if value.is_empty() {
@@ -144,4 +162,34 @@ pub fn take_declaration<'a>(s: &mut Stream<'a>) -> Option<Declaration<'a>>
         value,
         important,
     })
+}
+
+/// Skips the terms of a value, and as much of the first term that is not read as was read of it.
+/// Returns the text from the start of that term on.
+fn skip_terms<'a>(s: &mut Stream<'a>) -> &'a str
+    ensures text { text_of s.new ≡ text_of s.old }
+    ensures from { result.now ≡ (terms this_edition (rest_of s.old)).1 }
+    ensures rest { FailsAt (term this_edition result.now) (rest_of s.new) }
+{
+    let mut from = s.slice_tail();
+    'terms: while skip_term(s) {
+        skip_gap(s);
+        from = s.slice_tail();
+    }
+    from
+}
+
+/// Returns the text from the start of the string or the function in the value of a declaration that
+/// is not closed, if there is one. The declaration begins with the text.
+pub fn find_open_value(text: &str) -> Option<&str>
+    ensures { open_from (option_map (λ from. from.now) result)
+        ≡ declaration_skips this_edition text.now }
+{
+    let mut s = Stream::new(text);
+    take_stated_name(&mut s)?;
+    let from = skip_terms(&mut s);
+    if from.is_empty() {
+        return None;
+    }
+    if s.at_end() { Some(from) } else { None }
 }

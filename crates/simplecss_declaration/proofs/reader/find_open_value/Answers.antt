@@ -1,0 +1,56 @@
+use Rattle.std.proofs.Common.{◌≡◌, sym, ◌∙◌, refl, subst, List, ℕ, false}
+use Rattle.std.specs.Bool.{IsTrue}
+use Rattle.simplecss_text.specs.Reading.{got}
+use Rattle.simplecss_text.specs.Declarations.{stated_name}
+use Rattle.simplecss_text.specs.ThisEdition.{this_edition}
+use Rattle.simplecss_text.specs.Cursor.{rest_of}
+use Rattle.simplecss_declaration.specs.internal.UnreportedFaults.{FailsAt}
+use Rattle.simplecss_declaration.proofs.OpenValueLemmas.{declaration_skips-none, declaration_skips-stated, open_at-empty, open_at-left, open_at-all}
+use Rattle.simplecss_declaration.proofs.reader.find_open_value.Goals as goal
+
+pub returns-in_err-take_stated_name : goal.returns-in_err-take_stated_name
+returns-in_err-take_stated_name c =
+    let whole : rest_of c.new-s.result ≡ c.args.text.now =
+    rw (c.new-s.ensures.offset, c.new-s.ensures.text) refl in
+    let none = c.from_residual.ensures in
+    rw none (sym (declaration_skips-none this_edition c.args.text.now
+    (rest_of c.take_stated_name.new.s)
+    (subst (λ (t : List ℕ). FailsAt (stated_name this_edition t)
+    (rest_of c.take_stated_name.new.s)) whole c.in_err-take_stated_name.ensures.reads)))
+
+pub returns-then-is_empty : goal.returns-then-is_empty
+returns-then-is_empty c =
+    let whole : rest_of c.new-s.result ≡ c.args.text.now =
+    rw (c.new-s.ensures.offset, c.new-s.ensures.text) refl in
+    sym (declaration_skips-stated this_edition c.args.text.now
+    (rest_of c.take_stated_name.new.s) c.skip_terms-from.result.now
+    (rest_of c.skip_terms-from.new.s) c.in_ok-take_stated_name.field-0.now
+    (rw (← whole) c.in_ok-take_stated_name.ensures.reads) c.skip_terms-from.ensures.from
+    c.skip_terms-from.ensures.rest
+    ∙ open_at-empty c.skip_terms-from.result.now (rest_of c.skip_terms-from.new.s)
+    (sym c.is_empty.ensures ∙ c.if-is_empty.true))
+
+pub returns-then-at_end : goal.returns-then-at_end
+returns-then-at_end c =
+    let whole : rest_of c.new-s.result ≡ c.args.text.now =
+    rw (c.new-s.ensures.offset, c.new-s.ensures.text) refl in
+    sym (declaration_skips-stated this_edition c.args.text.now
+    (rest_of c.take_stated_name.new.s) c.skip_terms-from.result.now
+    (rest_of c.skip_terms-from.new.s) c.in_ok-take_stated_name.field-0.now
+    (rw (← whole) c.in_ok-take_stated_name.ensures.reads) c.skip_terms-from.ensures.from
+    c.skip_terms-from.ensures.rest
+    ∙ open_at-all c.skip_terms-from.result.now (rest_of c.skip_terms-from.new.s)
+    (sym c.is_empty.ensures ∙ c.if-is_empty.false)
+    (c.at_end.ensures.0 (rw c.if-at_end.true refl)))
+
+pub returns-else-at_end : goal.returns-else-at_end
+returns-else-at_end c =
+    let whole : rest_of c.new-s.result ≡ c.args.text.now =
+    rw (c.new-s.ensures.offset, c.new-s.ensures.text) refl in
+    sym (declaration_skips-stated this_edition c.args.text.now
+    (rest_of c.take_stated_name.new.s) c.skip_terms-from.result.now
+    (rest_of c.skip_terms-from.new.s) c.in_ok-take_stated_name.field-0.now
+    (rw (← whole) c.in_ok-take_stated_name.ensures.reads) c.skip_terms-from.ensures.from
+    c.skip_terms-from.ensures.rest
+    ∙ open_at-left c.skip_terms-from.result.now (rest_of c.skip_terms-from.new.s)
+    (λ ended. let ends : IsTrue false = c.if-at_end.ensures.1 ended in cc))
