@@ -1,23 +1,17 @@
 //! Warnings on standard error: a line each, with the name of the text, the row and the column.
 use simplecss::stream::Stream;
 use simplecss::{Kept, Refusal, Report, Selector, Skipped, TextPos, Why};
-use simplecss_faults::{FaultLines, Hint, Reason, Surprise, find_mistakes};
-use std::alloc::{AllocError, Global};
+use simplecss_faults::{FaultLines, Reason, Surprise, open_parenthesis};
+use std::alloc::AllocError;
 use std::io;
 use std::io::{BufWriter, Stderr, Write};
 
-/// A reporter that writes a line for each part of the files' texts that is skipped, and for each
-/// mistake in what is kept, in the order of the text.
+/// A reporter that writes a line for each part of the files' texts that is skipped, and for a byte
+/// order mark at the start of one and each value that leaves a parenthesis open.
 #[derive(Debug, Drop)]
 pub struct SheetWarnings<'n, 'a, W: Write> {
     /// Writes the lines.
     lines: FaultLines<'n, 'a, W>,
-    /// The allocator of the hints.
-    alloc: Global,
-    /// The hints on mistakes in the text that is read.
-    hints: Vec<Hint<'a>>,
-    /// How many of them are written.
-    written: usize,
 }
 
 impl<'n, 'a> SheetWarnings<'n, 'a, BufWriter<Stderr>> {
@@ -26,33 +20,15 @@ impl<'n, 'a> SheetWarnings<'n, 'a, BufWriter<Stderr>> {
         let out = BufWriter::new(rt.alloc(), rt.stderr())?;
         Ok(SheetWarnings {
             lines: FaultLines::new(out, names),
-            alloc: rt.alloc(),
-            hints: Vec::new(rt.alloc()),
-            written: 0,
         })
     }
 }
 
 impl<'n, 'a, W: Write + Drop> SheetWarnings<'n, 'a, W> {
-    /// Writes the hints that are left, and what is in the writer's buffers.
+    /// Writes what is in the writer's buffers.
     pub fn finish(self) -> io::Result<()> {
-        let mut warnings = self;
-        warnings.write_hints(0);
-        let SheetWarnings { lines, .. } = warnings;
+        let SheetWarnings { lines } = self;
         lines.finish()
-    }
-}
-
-impl<'n, 'a, W: Write> SheetWarnings<'n, 'a, W> {
-    /// Writes the hints on parts before the last `len` bytes of the text.
-    fn write_hints(&mut self, len: usize) {
-        for hint in self.hints.iter().skip(self.written) {
-            if hint.from.len() <= len {
-                break;
-            }
-            self.lines.write_line(hint.from, &hint.surprise);
-            self.written = self.written.saturating_add(1);
-        }
     }
 }
 
@@ -64,15 +40,21 @@ impl<'n, 'a, W: Write> Report<'a> for SheetWarnings<'n, 'a, W> {
     ghost add = { λ _ _. tt };
 
     fn begin(&mut self, text: &'a str) {
-        self.write_hints(0);
         self.lines.begin(text);
-        self.written = 0;
-        // Without memory for the hints there are none.
-        self.hints = find_mistakes(self.alloc, text).unwrap_or(Vec::new(self.alloc));
+        if text.starts_with('\u{feff}') {
+            self.lines.write_line(text, &Surprise::ByteOrderMark);
+        }
+    }
+
+    #[inline(always)]
+    fn declared(&mut self, from: &'a str, value: &'a str) {
+        if let Some(stated) = open_parenthesis(from, value) {
+            self.lines
+                .write_line(stated, &Surprise::OpenParenthesis(value));
+        }
     }
 
     fn report(&mut self, skipped: Skipped<'a>) -> Result<(), AllocError> {
-        self.write_hints(skipped.from.len());
         self.lines.report(skipped)
     }
 }

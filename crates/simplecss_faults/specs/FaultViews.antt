@@ -7,10 +7,10 @@ use Rattle.simplecss.specs.declared.Error.TheVariants.{UnexpectedEndOfStream, In
 use Rattle.simplecss.specs.Reading.{before}
 use Rattle.simplecss.specs.Positions.{in_whole, position}
 use Rattle.simplecss.specs.Errors.{position_of}
-use Rattle.simplecss.specs.Skipped.{Why, leading_comma, refused_selector, after_selector, missing_block, broken_declaration, extra_brace, open_comment, at_rule, faulty, unknown_class, Skip}
+use Rattle.simplecss.specs.Skipped.{Why, leading_comma, refused_selector, after_selector, missing_block, broken_declaration, open_value, extra_brace, open_comment, at_rule, faulty, unknown_class, Skip}
 use Rattle.simplecss_faults.specs.declared.fault.SheetFault.{SheetFault}
 use Rattle.simplecss_faults.specs.declared.fault.Reason.{Reason}
-use Rattle.simplecss_faults.specs.declared.fault.Reason.TheVariants.{LeadingComma, Selector, PseudoClass, AfterSelector, MissingBlock, Declaration, ExtraBrace, Comment, AtRule}
+use Rattle.simplecss_faults.specs.declared.fault.Reason.TheVariants.{LeadingComma, Selector, PseudoClass, AfterSelector, MissingBlock, Declaration, OpenValue, ExtraBrace, Comment, AtRule}
 use Rattle.simplecss_faults.specs.declared.finding.Known.{Known}
 
 -- the error in a part of a text that begins at this position, with its own position in the whole
@@ -34,6 +34,7 @@ reason_in text (refused_selector (unknown_class name)) = PseudoClass
 reason_in text after_selector = AfterSelector
 reason_in text missing_block = MissingBlock
 reason_in text broken_declaration = Declaration
+reason_in text open_value = OpenValue
 reason_in text extra_brace = ExtraBrace
 reason_in text open_comment = Comment
 reason_in text (at_rule name) = AtRule

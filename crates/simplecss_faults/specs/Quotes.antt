@@ -6,7 +6,7 @@ use Rattle.simplecss.specs.AsciiBytes.{newline, carriage_return, semicolon, open
 use Rattle.simplecss.specs.declared.Error.{Error}
 use Rattle.simplecss.specs.declared.Error.TheVariants.{UnexpectedEndOfStream, InvalidIdent, InvalidComment, InvalidValue, InvalidByte, SelectorMissing, UnexpectedSelector, UnexpectedCombinator, InvalidAttributeSelector, InvalidLanguagePseudoClass}
 use Rattle.simplecss_faults.specs.declared.fault.Reason.{Reason}
-use Rattle.simplecss_faults.specs.declared.fault.Reason.TheVariants.{LeadingComma, Selector, PseudoClass, AfterSelector, MissingBlock, Declaration, ExtraBrace, Comment, AtRule}
+use Rattle.simplecss_faults.specs.declared.fault.Reason.TheVariants.{LeadingComma, Selector, PseudoClass, AfterSelector, MissingBlock, Declaration, OpenValue, ExtraBrace, Comment, AtRule}
 use Rattle.simplecss_faults.specs.FaultViews.{FaultView}
 
 -- the text before the first such byte, or all
@@ -27,6 +27,7 @@ quoted_part (Selector error) text = text
 quoted_part PseudoClass text = text
 quoted_part AfterSelector text = text
 quoted_part MissingBlock text = text
+quoted_part OpenValue text = text
 quoted_part ExtraBrace text = text
 quoted_part Comment text = text
 
@@ -55,6 +56,7 @@ reason_words PseudoClass = codes "unknown pseudo-class"
 reason_words AfterSelector = codes "unexpected text after a selector"
 reason_words MissingBlock = codes "block missing"
 reason_words Declaration = codes "broken declaration"
+reason_words OpenValue = codes "string or function not closed"
 reason_words ExtraBrace = codes "unexpected closing brace"
 reason_words Comment = codes "comment not closed"
 reason_words AtRule = codes "at-rule not supported"

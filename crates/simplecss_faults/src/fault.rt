@@ -33,6 +33,8 @@ pub enum Reason {
     MissingBlock,
     /// The declaration is broken. All that follows it in its block is skipped with it.
     Declaration,
+    /// A string or a function of a value is not closed. All that follows it is skipped with it.
+    OpenValue,
     /// A closing brace after a block that already has one.
     ExtraBrace,
     /// The comment is not closed. All that follows it is skipped with it.
@@ -86,6 +88,7 @@ impl Reason {
             Reason::AfterSelector => "unexpected text after a selector",
             Reason::MissingBlock => "block missing",
             Reason::Declaration => "broken declaration",
+            Reason::OpenValue => "string or function not closed",
             Reason::ExtraBrace => "unexpected closing brace",
             Reason::Comment => "comment not closed",
             Reason::AtRule => "at-rule not supported",

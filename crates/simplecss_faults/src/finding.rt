@@ -107,6 +107,7 @@ fn reason_in(text: &str, known: &mut Known, why: Why<'_>) -> Reason
         Why::AfterSelector => Reason::AfterSelector,
         Why::MissingBlock => Reason::MissingBlock,
         Why::Declaration => Reason::Declaration,
+        Why::OpenValue => Reason::OpenValue,
         Why::ExtraBrace => Reason::ExtraBrace,
         Why::Comment => Reason::Comment,
         Why::AtRule(_) => Reason::AtRule,

@@ -1,7 +1,7 @@
 //! Hints: parts of a style sheet that are kept, and that its author hardly meant.
 use crate::fault::first_line;
 use crate::finding::{Known, find};
-use crate::parentheses::{is_left_open, may_leave_open};
+use crate::parentheses::is_left_open;
 use simplecss::stream::Stream;
 use simplecss::{Declaration, DeclarationTokenizer, Selector, Silent, StatementReader, TextPos};
 use std::alloc::{AllocError, Global};
@@ -146,49 +146,23 @@ impl<'a> Found<'a> {
             let Some(declaration) = declarations.next() else {
                 break;
             };
-            self.read_value(block.get(start..).unwrap_or(""), declaration)?;
+            let from = block.get(start..).unwrap_or("");
             start = declarations.pos();
+            self.read_value(from, declaration, start == block.len())?;
         }
         Ok(())
     }
 
-    /// Adds the hints on the values of a rule set that leave a parenthesis open, from its start on.
-    fn read_open_values(
-        &mut self,
-        start: usize,
-        declarations: &[Declaration<'a>],
-    ) -> Result<(), AllocError> {
-        let mut start = start;
-        for declaration in declarations {
-            let value = declaration.value;
-            if !is_left_open(value) {
-                continue;
-            }
-            let Some(stated) = self
-                .text
-                .get(start..)
-                .and_then(|rest| from_first(rest, value))
-            else {
-                break;
-            };
-            self.push(stated, Surprise::OpenParenthesis(value))?;
-            let offset = self.text.len().saturating_sub(stated.len());
-            start = offset.saturating_add(value.len());
-        }
-        Ok(())
-    }
-
-    /// Adds the hint on the value of the declaration that begins here, if there is one.
+    /// Adds the hint on the value of the declaration that begins here, if there is one. After the
+    /// last declaration of a text a value is not cut: what follows it is skipped, and reported as that.
     fn read_value(
         &mut self,
         from: &'a str,
         declaration: Declaration<'a>,
+        is_last: bool,
     ) -> Result<(), AllocError> {
         let value = declaration.value;
-        let Some(stated) = from
-            .find(':')
-            .and_then(|colon| from_first(from.get(colon..)?, value))
-        else {
+        let Some(stated) = from_value(from, value) else {
             return Ok(());
         };
         let after = after_blank(stated.get(value.len()..).unwrap_or(""));
@@ -197,6 +171,7 @@ impl<'a> Found<'a> {
             None | Some(';' | '}') => return Ok(()),
             Some('!') if declaration.important => return Ok(()),
             Some('!') => Surprise::MarkWithoutImportant(value),
+            Some(_) if is_last => return Ok(()),
             Some(_) => Surprise::CutValue(value),
         };
         self.push(stated, surprise)
@@ -223,6 +198,22 @@ fn after_blank(text: &str) -> &str {
 /// Returns the text from the first occurrence of a part on.
 fn from_first<'a>(text: &'a str, part: &str) -> Option<&'a str> {
     text.get(text.find(part)?..)
+}
+
+/// Returns the text from the value of the declaration at its start on.
+fn from_value<'a>(from: &'a str, value: &str) -> Option<&'a str> {
+    let colon = from.find(':')?;
+    from_first(from.get(colon..)?, value)
+}
+
+/// Returns the text from a declaration's value on, if the value leaves a parenthesis open. The
+/// declaration begins with the text, as a reporter receives it.
+pub fn open_parenthesis<'a>(from: &'a str, value: &'a str) -> Option<&'a str> {
+    if value.contains('(') && is_left_open(value) {
+        from_value(from, value)
+    } else {
+        None
+    }
 }
 
 /// Returns the offset at which the next statement begins, if there is one.
@@ -253,27 +244,6 @@ pub fn find_hints<'a>(alloc: Global, text: &'a str) -> Result<Vec<Hint<'a>>, All
         }
         if let Some(block) = found.read_head(alloc, rest)? {
             found.read_block(block)?;
-        }
-    }
-    Ok(found.hints)
-}
-
-/// Returns the hints that are mistakes wherever they occur: a byte order mark, and values that leave a
-/// parenthesis open. The text is read a second time only if a quick search finds a parenthesis that
-/// may be left open.
-pub fn find_mistakes<'a>(alloc: Global, text: &'a str) -> Result<Vec<Hint<'a>>, AllocError> {
-    let mut found = Found::at_start(alloc, text)?;
-    if !may_leave_open(text) {
-        return Ok(found.hints);
-    }
-    let mut reader = StatementReader::new(text);
-    // A statement has a byte at least.
-    for _ in 0..text.len() {
-        let Some(statement) = reader.read_next_reporting(&mut Silent, alloc)? else {
-            break;
-        };
-        if let Some(rule) = statement.rules.first() {
-            found.read_open_values(statement.start, &rule.declarations)?;
         }
     }
     Ok(found.hints)

@@ -10,5 +10,5 @@ mod telling;
 
 pub use fault::{Reason, SheetFault};
 pub use finding::find_faults;
-pub use hints::{Hint, Surprise, find_hints, find_mistakes};
+pub use hints::{Hint, Surprise, find_hints, open_parenthesis};
 pub use telling::FaultLines;

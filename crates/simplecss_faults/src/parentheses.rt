@@ -24,26 +24,6 @@ fn next_within(within: Within, before: char, c: char) -> (Within, char) {
     }
 }
 
-/// Whether a part of a value ends within a string or a comment.
-fn is_text_left_open(part: &str) -> bool {
-    let mut within = Within::Value;
-    let mut before = ' ';
-    for c in part.chars() {
-        (within, before) = next_within(within, before, c);
-    }
-    within != Within::Value
-}
-
-/// Whether a value of the text may leave a parenthesis open: quick, and yes too often.
-pub(crate) fn may_leave_open(text: &str) -> bool {
-    text.split('(')
-        .skip(1)
-        .any(|inside| match inside.split_once(')') {
-            Some((inside, _)) => inside.contains(['"', '\'', '*']) && is_text_left_open(inside),
-            None => true,
-        })
-}
-
 /// Whether a value leaves a parenthesis open. Those in strings and comments do not count.
 pub(crate) fn is_left_open(value: &str) -> bool {
     let mut open = 0_usize;

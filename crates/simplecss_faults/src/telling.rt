@@ -62,7 +62,7 @@ impl<'n, 'a, W: Write> FaultLines<'n, 'a, W> {
     }
 
     /// Writes a line with other words: the name of the text that is read, the row and the column
-    /// where the rest of it begins, and the words.
+    /// where this rest of it begins, and the words.
     pub fn write_line<D: Display>(&mut self, rest: &'a str, words: &D) {
         self.known = find(self.text, self.known, rest);
         let name = self.name();
@@ -85,6 +85,9 @@ impl<'n, 'a, W: Write> Report<'a> for FaultLines<'n, 'a, W> {
         self.known = Known::START;
         self.begun = self.begun.saturating_add(1);
     }
+
+    #[inline(always)]
+    fn declared(&mut self, _from: &'a str, _value: &'a str) {}
 
     fn report(&mut self, skipped: Skipped<'a>) -> Result<(), AllocError> {
         let fault = fault(self.text, &mut self.known, skipped);

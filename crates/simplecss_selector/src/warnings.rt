@@ -44,6 +44,9 @@ impl<'a, 'r, R: Log> Report<'a> for Warnings<'r, R> {
     #[inline(always)]
     fn begin(&mut self, _text: &'a str) {}
 
+    #[inline(always)]
+    fn declared(&mut self, _from: &'a str, _value: &'a str) {}
+
     fn report(&mut self, skipped: Skipped<'a>) -> Result<(), AllocError> {
         warn_of(self.rt, skipped.why);
         Ok(())

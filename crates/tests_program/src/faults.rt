@@ -42,6 +42,14 @@ const FOUND: &[(&str, &str)] = &[
         "a { b:c; /* d } e",
         "1:5: 'b:c': broken declaration\n",
     ),
+    (
+        "a {\n  b: x 'c }\nd { e:f }",
+        "2:8: ''c }': string or function not closed\n",
+    ),
+    (
+        "a { b:c; d:e f(g; h:i }",
+        "1:14: 'f(g; h:i }': string or function not closed\n",
+    ),
     (", a { b:c }", "1:1: ',': comma before a selector\n"),
     (
         "a/b { c:d }",

@@ -31,8 +31,10 @@ list-preserved g c =
     let step = list-some this_edition here rest declared goes c.in-Some.ensures.reads in
     record {
       same = c.in-Some.ensures.text ∙ c.list.invariant.same;
-      read = rw (c.in_ok-push-in-Some.ensures.items,
-          map-append declaration_of c.list.declarations.items (c.in-Some.declaration ∷ []))
+      read = rw (
+        c.in_ok-push-in-Some.ensures.items,
+        map-append declaration_of c.list.declarations.items (c.in-Some.declaration ∷ []),
+      )
           (done_step (declaration_in_block this_edition) _ _ _ _ _ step c.list.invariant.read);
       reported =
           add_each-declaration g.P.Report.add this_edition here rest declared
@@ -59,8 +61,7 @@ returns-in-None-clause-list g c =
     list-broken this_edition here (rest_of c.take_declaration.new.s) c.in-None.ensures.reads in
     let all = done_end (declaration_in_block this_edition) _ _ _ broken c.list.invariant.read in
     subst (λ (t : List ℕ). EndsAt this_edition t (Some c.slice_tail-text.result.now)
-    (rest_of c.take_declaration.new.s)) (sym (ap (λ r. r.1) all))
-    (
+    (rest_of c.take_declaration.new.s)) (sym (ap (λ r. r.1) all)) (
       sym c.at_list_end.ensures ∙ c.list-test.true,
       c.slice_tail-text.ensures,
       c.in-None.ensures.reads,
