@@ -281,6 +281,8 @@ SHEETS = [
     ("a { b }} c { d:e }", "c { d:e; }\n", [":1:5: 'b': broken declaration", ":1:8: '}': unexpected closing brace"]),
     ("<!-- a { b:c } -->", "", [":1:1: '<!-- a': invalid ident", ":1:16: '-->': invalid ident"]),
     ("a { b:c } /* d { e:f }", "a { b:c; }\n", [":1:11: '/* d { e:f }': comment not closed"]),
+    ("a { b:c 'd } e { f:g }", "a { b:c; }\n", [":1:9: ''d } e { f:g }': string or function not closed"]),
+    ("a { b:1px var(c; d:e }", "a { b:1px; }\n", [":1:11: 'var(c; d:e }': string or function not closed"]),
     ("a { b:c; /* d } e { f:g }", "", [":1:5: 'b:c': broken declaration"]),
     ("@import 'b.css';\na { c:d }", "a { c:d; }\n", [":1:1: '@import 'b.css'': at-rule not supported"]),
     ("@media print { a { b:c } }\nd { e:f }", "d { e:f; }\n", [":1:1: '@media print': at-rule not supported"]),

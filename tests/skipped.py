@@ -155,13 +155,14 @@ class Reader:
         return close + 1
 
     def value(self, i):
-        """Whether the value is empty, and what is left after it."""
+        """Whether the value is empty, what is left after it, and where a term begins that takes the rest of the text."""
         start = last = i
         while True:
             try:
                 last = self.term(i)
             except Fault as fault:
-                return not self.text[start:last].strip(WHITE), fault.after
+                opened = [i] if i < fault.after == self.end else []
+                return not self.text[start:last].strip(WHITE), fault.after, opened
             i = self.past_blank(last)
 
     def trailing(self, i):
@@ -178,11 +179,11 @@ class Reader:
         i = self.past_byte(self.blank(i), "*")
         i = self.blank(self.name(i))
         i = self.blank(self.byte(i, ":"))
-        empty, i = self.value(i)
+        empty, i, opened = self.value(i)
         i = self.trailing(i)
         if empty:
             raise Fault("invalid value", i)
-        return i
+        return i, opened
 
     # Selectors.
 
@@ -274,10 +275,10 @@ class Reader:
 
     def from_block_end(self, i):
         depth = 0
-        for place in range(i, self.end):
-            depth += {"{": 1, "}": -1}.get(self.text[place], 0)
+        for offset in range(i, self.end):
+            depth += {"{": 1, "}": -1}.get(self.text[offset], 0)
             if depth < 0:
-                return place
+                return offset
         return self.end
 
     def ends_list(self, i):
@@ -285,13 +286,15 @@ class Reader:
 
     def block_skips(self, i):
         """What a block skips, after its opening brace, and its end."""
+        skips = []
         try:
             while not self.ends_list(i):
-                i = self.declaration(i)
-            return [], self.past_byte(i, "}")
+                i, opened = self.declaration(i)
+                skips += [(start, self.end, "string or function not closed") for start in opened]
+            return skips, self.past_byte(i, "}")
         except Fault as fault:
             after = self.from_block_end(fault.after)
-        skips, start = [], self.past_blank(i)
+        start = self.past_blank(i)
         if not self.ends_list(start):
             skips.append((start, after, "comment not closed" if self.starts(start, "/*") else "broken declaration"))
         end = self.past_byte(after, "}")
@@ -343,7 +346,7 @@ BAD_TAILS = (":nope", "::before", "[ a ]", "[a^=b]", ":lang()", ":lang(", ".1", 
 JOINTS = (" ", ">", " > ", "+", " + ", "/**/", " /* x */ ")
 BAD_JOINTS = (" ~ ", ">>", "+ >", "/", " / ", "<", "/*", "*/")
 VALUES = ("red", "10px", "#abc", "1.5em/2 serif", "url(a.png)", "'b;c'", "-1px", "a, b", "50%", "f(1)", "\u3000x")
-BAD_VALUES = ("10px\\9", "", "'", "f(", "f((1))", "-g(1)", "#", "$", "{", "a{b}", "/*", "\xa0", "\u3000", "c !x", "d ! important", "e !IMPORTANT")
+BAD_VALUES = ("10px\\9", "", "'", "f(", "g 'h", "1px i(j", "f((1))", "-g(1)", "#", "$", "{", "a{b}", "/*", "\xa0", "\u3000", "c !x", "d ! important", "e !IMPORTANT")
 BITS = "{}{};:,.#*/!@'\"()[]<>+~-\\= \t\n\r\xa0\u3000\ufeffab1"
 ODDS = ("/*", "*/", "<!--", "-->", "@media x { a { b:c } }", "@import 'a;b';", "@", "}}", "{ {", ";;", "--x", "-", "!important")
 
@@ -381,8 +384,8 @@ class Random:
         self.fault_rate = self.choice((0.02, 0.1, 0.3))
         text = "".join(self.statement() for _ in range(self.random.randrange(7)))
         for _ in range(self.choice((0, 0, 0, 1, 2, 5))):
-            place = self.random.randrange(len(text) + 1)
-            text = text[:place] + self.choice((self.choice(BITS), self.choice(ODDS), "")) + text[place + self.random.randrange(2) :]
+            offset = self.random.randrange(len(text) + 1)
+            text = text[:offset] + self.choice((self.choice(BITS), self.choice(ODDS), "")) + text[offset + self.random.randrange(2) :]
         return text
 
 
