@@ -4,16 +4,16 @@
 -- `laws::cutting_law`.
 use Rattle.std.proofs.Common.{◌≡◌, ℕ, ◌<◌, ◌≤◌, ◌⊎◌, inl, inr, List, [], ◌∷◌, ◌++◌, Bool, true, false, ◌&&◌, ◌==◌, length, arith, refl, sym, ap, ◌∙◌, subst, length-append, append_assoc, append-nil, IsUtf8}
 use Rattle.std.specs.Str.{chars}
-use Rattle.std.proofs.lemmas.Bool.{cases_lt}
+use Rattle.std.proofs.lemmas.Bool.{cases_lt, or_parts}
 use Rattle.std.proofs.lemmas.Str.{IsUtf8-append, chars-append}
 use Rattle.simplecss_text.specs.Reading.{Fault, Reading, got, fails, left_after, no_name}
 use Rattle.simplecss_text.specs.Bytes.{past, past_byte, starts_by}
 use Rattle.simplecss_text.specs.Characters.{Edition, first_edition, second_edition, is_name_start, is_name_char}
 use Rattle.simplecss_text.specs.Names.{begins_name, name}
 use Rattle.simplecss_text.specs.Terms.{is_hex_digit, past_hash}
-use Rattle.simplecss_text.proofs.reading.PrintedNames.{IsName, both_false, name-reads, ends_names, chars-byte}
+use Rattle.simplecss_text.proofs.reading.PrintedNames.{IsName, name-reads, ends_names}
 use Rattle.simplecss_text.proofs.reading.ReadNames.{name-is, name-fails, name-none_begins}
-use Rattle.simplecss_text.proofs.bytes.Utf8Lemmas.{utf8-before_byte, utf8-first, utf8-second}
+use Rattle.simplecss_text.proofs.bytes.Utf8Lemmas.{utf8-before_byte, utf8-first, utf8-second, chars-byte}
 use Rattle.simplecss_text.proofs.reading.TakesLemmas.{length-past}
 use Rattle.simplecss_text.proofs.reading.LocalLemmas.{Diverge, Equal, Guard, ContinuesNothing, Seam, To, diverge-front, diverge-split, beyond-less, passed-beyond, past-seam, past_byte-to, quiet-brace}
 use Rattle.simplecss_text.proofs.reading.LocalLemmas.Seam.{at_brace, at_quiet}
@@ -66,8 +66,8 @@ module _ (edition : Edition) (q : ℕ) (more : List ℕ) (quiet : ContinuesNothi
       let start = by rs h in rw (start, quiet.no_start) (hyphen (c == 45))
     where
       by : (rs : List ℕ) → begins_name edition (c ∷ rs) ≡ false → is_name_start edition c ≡ false
-      by [] h = (both_false (is_name_start edition c) (c == 45) h).0
-      by (d ∷ rs) h = (both_false (is_name_start edition c) (c == 45 && is_name_start edition d)
+      by [] h = (or_parts (is_name_start edition c) (c == 45) h).0
+      by (d ∷ rs) h = (or_parts (is_name_start edition c) (c == 45 && is_name_start edition d)
           h).0
 
       hyphen : (t : Bool) → (t && false) ≡ false
