@@ -155,12 +155,12 @@ at_rule-fault edition s v w fault u e = by (no_name-front edition s v u failed.0
 
     front : (s : List ℕ) → w ++ v ≡ past_byte 45 (s ++ v) → past_byte 45 s ≡ w
     front [] g = sym (nothing_in_front w v (omega (arith, ap length g, length-past_byte 45 v)))
-    front (b ∷ s) g = hyphen (b == 45) g
+    front (b ∷ s) g = by_hyphen (b == 45) g
       where
-        hyphen : (k : Bool) → w ++ v ≡ (if k then s ++ v else b ∷ (s ++ v))
+        by_hyphen : (k : Bool) → w ++ v ≡ (if k then s ++ v else b ∷ (s ++ v))
             → (if k then s else b ∷ s) ≡ w
-        hyphen true k = sym (append_cancel_right w s v k)
-        hyphen false k = sym (append_cancel_right w (b ∷ s) v k)
+        by_hyphen true k = sym (append_cancel_right w s v k)
+        by_hyphen false k = sym (append_cancel_right w (b ∷ s) v k)
 
     by : (begins_name edition (chars s) ≡ false) ⊎ (s ≡ 45 ∷ []) → at_rule_rest edition s ≡ w
     by (inl none) = at_rule-no_name edition s none ∙ front s failed.1
