@@ -10,5 +10,6 @@ pub mod GapSteps
 pub mod ByteTable
 pub mod StringLemmas
 pub mod BlankLaws
+pub mod RunLemmas
 pub mod Utf8Lemmas
 pub mod TrimLemmas

@@ -5,6 +5,7 @@ use Rattle.std.specs.Str.{IsUtf8, IsCharBoundary}
 use Rattle.std.specs.List.{prefix_len}
 use Rattle.std.proofs.Math.Nat.{eq-or-lt_of_le}
 use Rattle.std.proofs.lemmas.Bool.Decides.{nat_tests, leb_tells}
+use Rattle.std.proofs.lemmas.Bool.{and_parts}
 use Rattle.std.proofs.lemmas.List.Sums.{prefix_len-le-length, prefix_len_passes}
 use Rattle.std.proofs.lemmas.Str.{IsUtf8-had, IsCharBoundary-after_ascii, IsCharBoundary-start, lead_after_ascii, IsUtf8-drop}
 use Rattle.simplecss_text.specs.Bytes.{starts_by, starts_two, is_ascii}
@@ -96,12 +97,8 @@ IsCharBoundary-after_comment (a ∷ []) u e = absurd (false_and (a == 47) e)
     false_and true h = cc
     false_and false h = cc
 IsCharBoundary-after_comment (a ∷ b ∷ text) u e =
-    let star : b ≡ 42 = eqb-true b 42 (second (a == 47) (b == 42) e) in
+    let star : b ≡ 42 = eqb-true b 42 (and_parts (a == 47) (b == 42) e).1 in
     IsCharBoundary-after_ascii (a ∷ b ∷ text) 1 u (omega arith) (omega (arith, star))
-  where
-    second : (x y : Bool) → (x && y) ≡ true → y ≡ true
-    second true y h = h
-    second false y h = cc
 
 -- a text may be cut at its start
 pub boundary_at_start : (text : List ℕ) → IsUtf8 text → IsCharBoundary text 0

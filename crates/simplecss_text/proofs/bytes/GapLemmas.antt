@@ -1,10 +1,12 @@
--- No blank follows a blank.
--- Serves `readers::consume_gap`, `Stream::skip_spaces_and_comments` and `SelectorTokenizer` (a
--- blank is consumed once).
-use Rattle.std.proofs.Common.{◌≡◌, ℕ, List, [], Bool, true, false, if◌then◌else◌, refl, ap, subst}
-use Rattle.simplecss_text.specs.Reading.{Fault, got, fails, no_comment, follow, each}
+-- No blank follows a blank, and gaps by what is in them.
+-- Serves `readers::consume_gap`, `Stream::skip_spaces_and_comments`, `SelectorTokenizer` (a blank is
+-- consumed once) and `Selector::parse` (gaps that are printed).
+use Rattle.std.proofs.Common.{◌≡◌, ℕ, List, [], ◌∷◌, Bool, true, false, if◌then◌else◌, ◌==◌, None, refl, ap, subst, ◌∙◌}
+use Rattle.std.specs.List.{list_any}
+use Rattle.simplecss_text.specs.Reading.{Fault, got, fails, no_comment, follow, followed_by, each}
+use Rattle.simplecss_text.specs.Characters.{is_space}
 use Rattle.simplecss_text.specs.Comments.{opens_comment, blank_part, past_blank, blank, has_space, gap}
-use Rattle.simplecss_text.proofs.reading.EachLemmas.{each-none, each-stops}
+use Rattle.simplecss_text.proofs.reading.EachLemmas.{each-none, each-some, each-stops}
 use Rattle.simplecss_text.proofs.reading.TakesLemmas.{blank_part-takes}
 
 -- no part of a blank follows one
@@ -72,3 +74,43 @@ blank_where_gap_fails text rest fault = by (opens_comment (past_blank text)) ref
         let left : [] ≡ rest = cc in
         rw (e, which, left) refl
     by false e h = absurd (cc)
+
+-- ---- where no gap begins
+
+-- no gap begins there, nor an open comment
+pub record NoGap (text : List ℕ) : Type 0 where
+  pub none : each blank_part text ≡ ([], text)
+  pub closed : opens_comment text ≡ false
+
+-- no gap begins with another byte
+pub no_gap-byte : (b : ℕ) (text : List ℕ) → is_space b ≡ false → (b == 47) ≡ false
+    → NoGap (b ∷ text)
+no_gap-byte b text not_space not_slash =
+    let part : blank_part (b ∷ text) ≡ None = rw (not_space, not_slash) refl in
+    record { none = each-none blank_part (b ∷ text) part; closed = rw not_slash refl }
+
+-- a blank, by what is left after it
+pub blank-at : (text rest : List ℕ) → past_blank text ≡ rest → opens_comment rest ≡ false
+    → blank text ≡ got tt rest
+unfolding blank
+blank-at text rest p c =
+    ap (λ t. if opens_comment t then fails (no_comment t) [] else got (tt {0}) t) p
+    ∙ ap (λ (k : Bool). if k then fails (no_comment rest) [] else got (tt {0}) rest) c
+
+-- a gap, by its parts and what is left after it
+gap-at : (text rest : List ℕ) (parts : List Bool) → each blank_part text ≡ (parts, rest)
+    → opens_comment rest ≡ false → gap text ≡ got (list_any (λ b. b) parts) rest
+gap-at text rest parts e c =
+    gap_is_closed text (ap (λ r. opens_comment r.1) e ∙ c)
+    ∙ ap (λ r. got (list_any (λ b. b) r.0) r.1) e
+
+-- a gap that is empty
+pub gap-none : (text : List ℕ) → NoGap text → gap text ≡ got false text
+gap-none text w = gap-at text text [] w.none w.closed
+
+-- a space, and no further gap
+pub gap-space : (text : List ℕ) → NoGap text → gap (32 ∷ text) ≡ got true text
+gap-space text w =
+    let part : each blank_part (32 ∷ text) ≡ followed_by true (each blank_part text) =
+    each-some blank_part blank_part-takes (32 ∷ text) text true refl in
+    gap-at (32 ∷ text) text (true ∷ []) (part ∙ ap (followed_by true) w.none) w.closed

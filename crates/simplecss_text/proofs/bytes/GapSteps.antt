@@ -1,7 +1,7 @@
 -- A gap, a part at a time.
 -- Serves `scan::{closed_part, long_gap, find_gap}` (a gap consumed part by part).
 use Rattle.std.proofs.Common.{◌≡◌, ℕ, ◌+◌, Bool, true, false, ◌||◌, nat_lt, List, drop, Some, None, refl, sym, ap, ◌∙◌, subst, [], ◌∷◌, arith}
-use Rattle.std.proofs.lemmas.Bool.{lt-ltb}
+use Rattle.std.proofs.lemmas.Bool.{lt-ltb, or_parts}
 use Rattle.std.specs.List.{prefix_len}
 use Rattle.std.specs.Str.{IsUtf8, IsCharBoundary}
 use Rattle.std.proofs.Math.Bool.{or_assoc}
@@ -10,11 +10,11 @@ use Rattle.std.proofs.lemmas.Str.{IsCharBoundary-start, IsCharBoundary-from_rest
 use Rattle.simplecss_text.specs.Reading.{each, followed_by}
 use Rattle.simplecss_text.specs.Comments.{blank_part, past_blank, has_space, opens_comment}
 use Rattle.simplecss_text.proofs.bytes.CutLemmas.{IsCharBoundary-prefix_len, is_space-ascii}
+use Rattle.simplecss_text.proofs.bytes.RunLemmas.{starts_by-past, past-yes, past-no}
 use Rattle.simplecss_text.proofs.reading.EachLemmas.{each-none, each-some}
 use Rattle.simplecss_text.proofs.reading.TakesLemmas.{blank_part-takes}
 use Rattle.simplecss_text.specs.Characters.{is_space}
 use Rattle.simplecss_text.specs.Bytes.{starts_by, past}
-use Rattle.simplecss_text.proofs.bytes.Utf8Lemmas.{starts_by-past, past-yes, past-no}
 
 -- The first bytes of the text are parts of its gap, and this reports whether a space byte is among
 -- them.
@@ -61,25 +61,13 @@ passed-space text len spaced p e =
     or_false true = refl
     or_false false = refl
 
--- and of its first
-or_left : (x y : Bool) → (x || y) ≡ false → x ≡ false
-or_left true y e = e
-or_left false y e = refl
-
--- what a false disjunction says of its second part
-pub or_right : (x y : Bool) → (x || y) ≡ false → y ≡ false
-or_right true y e = absurd (cc)
-or_right false y e = e
-
 -- a text at whose front no part of a gap begins
 pub blank_part-none : (text : List ℕ) → (starts_by is_space text || opens_comment text) ≡ false
     → blank_part text ≡ None
 blank_part-none [] e = refl
 blank_part-none (b ∷ text) e =
-    let solid : is_space b ≡ false = or_left (is_space b) (opens_comment (b ∷ text)) e in
-    let closed : opens_comment (b ∷ text) ≡ false =
-    or_right (is_space b) (opens_comment (b ∷ text)) e in
-    rw (solid, closed) refl
+    let parts = or_parts (is_space b) (opens_comment (b ∷ text)) e in
+    rw (parts.0, parts.1) refl
 
 -- a space byte at the front is a part of the gap
 each-space : (b : ℕ) (text : List ℕ) → is_space b ≡ true

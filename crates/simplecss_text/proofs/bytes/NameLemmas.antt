@@ -2,6 +2,7 @@
 -- Serves `scan::{begins_by_characters, wide_name_chars_len, name_len}` (where a name begins and
 -- ends) and `readers::take_name` (a name).
 use Rattle.std.proofs.Common.{◌≡◌, ℕ, suc, ◌+◌, ◌-◌, ◌≤◌, List, [], ◌∷◌, ◌++◌, Bool, true, false, length, drop, refl, ap, sym, ◌∙◌, arith, length-append, length-drop, encode_utf8, encode_utf8_all, take, slice_range, drop-drop, ◌&&◌, subst, one-add, get_or, ◌<◌, inl, inr, drop-cons, lt-ltb, ltb-true}
+use Rattle.std.proofs.lemmas.Bool.{and_parts}
 use Rattle.std.specs.Str.{chars, IsUtf8, IsCharBoundary}
 use Rattle.std.specs.List.{take_while, prefix_len}
 use Rattle.std.specs.Char.{len_utf8}
@@ -73,14 +74,6 @@ encode-ascii : (b : ℕ) → is_ascii b ≡ true → encode_utf8 b ≡ b ∷ []
 unfolding encode
 encode-ascii b e = rw e refl
 
-and_left : (x y : Bool) → (x && y) ≡ true → x ≡ true
-and_left true y e = refl
-and_left false y e = e
-
-and_right : (x y : Bool) → (x && y) ≡ true → y ≡ true
-and_right true y e = e
-and_right false y e = cc
-
 -- what an ASCII byte at the front says of the text
 ascii-front : (b : ℕ) (rest : List ℕ) → is_ascii b ≡ true → b ∷ rest ≡ encode_utf8 b ++ rest
 ascii-front b rest e = ap (λ (bs : List ℕ). bs ++ rest) (sym (encode-ascii b e))
@@ -136,13 +129,12 @@ module _ (edition : Edition) where
             utf8 = subst (λ (n : ℕ). IsUtf8 (drop n (b ∷ rest))) (sym none) u;
           }
       by true e more =
-          let ascii = and_left (is_ascii b) (is_name_char edition b) e in
-          let front = ascii-front b rest ascii in
+          let parts = and_parts (is_ascii b) (is_name_char edition b) e in
+          let front = ascii-front b rest parts.0 in
           let tail = more (IsUtf8-past_char (b ∷ rest) rest b u front) in
           let some : prefix_len (is_ascii_name_char edition) (b ∷ rest) ≡ suc (prefix_len
           (is_ascii_name_char edition) rest) = rw (e, one-add) refl in
-          let step = past_name_chars-passes (b ∷ rest) rest b u front (and_right (is_ascii b)
-          (is_name_char edition b) e) in
+          let step = past_name_chars-passes (b ∷ rest) rest b u front parts.1 in
           record {
             same = step ∙ tail.same ∙ ap (λ n. past_name_chars edition (drop n (b ∷ rest)))
                 (sym some);
@@ -194,7 +186,7 @@ module _ (edition : Edition) where
       → n ≡ prefix_len (is_ascii_name_char edition) text → IsCharBoundary text n
   boundary_past_ascii_name text n u is =
       let ascii : (b : ℕ) → is_ascii_name_char edition b ≡ true → b < 128 = λ b e. ltb-true b 128
-      (and_left (is_ascii b) (is_name_char edition b) e) in
+      (and_parts (is_ascii b) (is_name_char edition b) e).0 in
       subst (λ (i : ℕ). IsCharBoundary text i) (sym is) (IsCharBoundary-prefix_len
       (is_ascii_name_char edition) ascii text u)
 
@@ -204,9 +196,9 @@ module _ (edition : Edition) where
       → begins_name edition (chars text) ≡ true
   begins_name-ascii [] u e = absurd (cc)
   begins_name-ascii (b ∷ rest) u e =
-      let front = ascii-front b rest (and_left (is_ascii b) (is_name_start edition b) e) in
-      rw (chars_past_char (b ∷ rest) rest b u front) (begins (chars rest) (and_right (is_ascii b)
-      (is_name_start edition b) e))
+      let parts = and_parts (is_ascii b) (is_name_start edition b) e in
+      let front = ascii-front b rest parts.0 in
+      rw (chars_past_char (b ∷ rest) rest b u front) (begins (chars rest) parts.1)
     where
       begins : (cs : List ℕ) → is_name_start edition b ≡ true → begins_name edition (b ∷ cs) ≡ true
       begins [] s = rw s refl

@@ -2,11 +2,11 @@
 -- Serves `Selector::{parse, parse_front}` and `StyleSheet::parse` (a selector printed and read
 -- again).
 use Rattle.std.proofs.Common.{◌≡◌, ℕ, List, [], ◌∷◌, ◌++◌, Bool, true, false, cond, ◌&&◌, ◌==◌, length, refl, ap, ◌∙◌, subst, encode_utf8_all, IsUtf8}
+use Rattle.std.proofs.lemmas.Bool.{and_parts}
 use Rattle.std.specs.Char.{is_whitespace}
 use Rattle.std.specs.Str.{all_scalars, trim_start, trim_end, trim, skip_leading_whitespace, drop_trailing_whitespace}
 use Rattle.std.proofs.lemmas.Str.{chars-encodes}
 use lib.Utf8.{scalar}
-use Rattle.simplecss_text.proofs.reading.PrintedNames.{both_true}
 use Rattle.simplecss_text.proofs.reading.StandLemmas.{trim-parts}
 
 -- the characters without the white space at both ends
@@ -60,7 +60,7 @@ pub scalars-skip : (cs : List ℕ) → all_scalars cs ≡ true
     → all_scalars (skip_leading_whitespace cs) ≡ true
 scalars-skip [] h = refl
 scalars-skip (c ∷ cs) h = by (is_whitespace c)
-    (scalars-skip cs (both_true (scalar c) (all_scalars cs) h).1)
+    (scalars-skip cs (and_parts (scalar c) (all_scalars cs) h).1)
   where
     by : (t : Bool) → all_scalars (skip_leading_whitespace cs) ≡ true
         → all_scalars (cond t (skip_leading_whitespace cs) (c ∷ cs)) ≡ true
@@ -71,12 +71,12 @@ scalars-drop : (cs : List ℕ) → all_scalars cs ≡ true
     → all_scalars (drop_trailing_whitespace cs) ≡ true
 scalars-drop [] h = refl
 scalars-drop (c ∷ cs) h = by (is_whitespace c && length (drop_trailing_whitespace cs) == 0)
-    (scalars-drop cs (both_true (scalar c) (all_scalars cs) h).1)
+    (scalars-drop cs (and_parts (scalar c) (all_scalars cs) h).1)
   where
     by : (t : Bool) → all_scalars (drop_trailing_whitespace cs) ≡ true
         → all_scalars (cond t [] (c ∷ drop_trailing_whitespace cs)) ≡ true
     by true more = refl
-    by false more = rw ((both_true (scalar c) (all_scalars cs) h).0, more) refl
+    by false more = rw ((and_parts (scalar c) (all_scalars cs) h).0, more) refl
 
 -- What is between the white space at the ends of a text: it is a text, and trimmed again it is
 -- the same.

@@ -1,20 +1,23 @@
--- A text may be cut at its ASCII bytes.
+-- A text may be cut at its ASCII bytes. Its characters are those of its parts.
 -- Serves `scan::long_gap`, `Selector::parse_front` and `StyleSheet::parse` (texts printed and read
 -- again).
-use Rattle.std.proofs.Common.{not, drop, ◌⊎◌, inl, inr, length, [], Bool, true, false, if◌then◌else◌, ◌==◌, suc, refl, ◌≡◌, ℕ, ◌+◌, ◌<◌, List, ◌∷◌, ◌++◌, get_or, arith, sym, ap, ◌∙◌, subst, length-append, IsUtf8, eqb-true}
-use Rattle.std.specs.Str.{IsCharBoundary}
+use Rattle.std.proofs.Common.{not, drop, ◌⊎◌, inl, inr, length, [], Bool, true, false, if◌then◌else◌, ◌==◌, refl, ◌≡◌, ℕ, ◌+◌, ◌<◌, List, ◌∷◌, ◌++◌, get_or, arith, sym, ap, ◌∙◌, subst, length-append, IsUtf8, eqb-true}
+use Rattle.std.specs.Str.{IsCharBoundary, all_scalars, chars}
+use lib.Utf8.{scalar}
 use Rattle.std.proofs.lemmas.Str.{IsUtf8-take, IsCharBoundary-after_ascii, IsCharBoundary-at_seam, IsCharBoundary-before_ascii, IsCharBoundary-end}
-use Rattle.std.proofs.lemmas.Bool.{not-false}
+use Rattle.std.proofs.lemmas.Bool.{not-false, and_parts}
 use Rattle.std.proofs.lemmas.List.Sums.{prefix_len_stops, prefix_len-le-length}
 use Rattle.std.proofs.Math.Nat.{eq-or-lt_of_le}
 use Rattle.std.proofs.Math.Seq.{get_or-append_seam, drop-append-add}
 use Rattle.std.proofs.Math.Seq.{take-append_seam, get_or-append-add}
 use Rattle.simplecss_text.proofs.reading.EndsLemmas.{ends-append}
+use Rattle.simplecss_text.proofs.bytes.RunLemmas.{past-yes, past-no}
 use Rattle.std.specs.List.{prefix_len}
-use Rattle.std.proofs.lemmas.Str.{IsUtf8-drop, IsCharBoundary-from_take}
+use Rattle.std.proofs.lemmas.Str.{IsUtf8-drop, IsUtf8-from_ascii, IsCharBoundary-from_take, chars-append, chars-IsAscii}
+use Rattle.std.proofs.lemmas.Str.Ascii.{IsAscii-cons, IsAscii-nil}
 use Rattle.std.proofs.Math.Seq.{drop-append_seam}
 use Rattle.simplecss_text.specs.Reading.{Ends, before}
-use Rattle.simplecss_text.specs.Bytes.{past, past_byte, starts_by}
+use Rattle.simplecss_text.specs.Bytes.{past, past_byte}
 
 -- after an ASCII character the text is UTF-8
 pub utf8-after : (text rest : List ℕ) (b : ℕ) → b < 128 → IsUtf8 text → Ends text (b ∷ rest)
@@ -88,27 +91,6 @@ utf8-past_byte_if c (b ∷ text) low u = by (b == c) refl
     by true e = utf8-past_byte b text (let same = eqb-true b c e in omega arith) u
     by false e = u
 
--- a run of bytes that pass a test, a byte at a time
-pub past-yes : (test : ℕ → Bool) (b : ℕ) (text : List ℕ) → test b ≡ true
-    → past test (b ∷ text) ≡ past test text
-past-yes test b text e =
-    let one : 1 + prefix_len test text ≡ suc (prefix_len test text) = omega arith in rw (e, one)
-    refl
-
-pub past-no : (test : ℕ → Bool) (b : ℕ) (text : List ℕ) → test b ≡ false
-    → past test (b ∷ text) ≡ b ∷ text
-past-no test b text e = rw e refl
-
--- where a run of bytes or characters ends, the next one does not pass
-pub starts_by-past : (test : ℕ → Bool) (text : List ℕ) → starts_by test (past test text) ≡ false
-starts_by-past test [] = refl
-starts_by-past test (b ∷ text) = by (test b) refl (starts_by-past test text)
-  where
-    by : (t : Bool) → test b ≡ t → starts_by test (past test text) ≡ false
-        → starts_by test (past test (b ∷ text)) ≡ false
-    by true e more = rw (past-yes test b text e) more
-    by false e more = rw (past-no test b text e) e
-
 -- after a run of ASCII bytes
 pub utf8-past : (test : ℕ → Bool) (text : List ℕ) → ((b : ℕ) → test b ≡ true → b < 128)
     → IsUtf8 text → IsUtf8 (past test text)
@@ -133,3 +115,21 @@ pub utf8-first : (a b : List ℕ) → IsUtf8 (a ++ b) → IsUtf8 b → IsUtf8 a
 utf8-first a b u v =
     subst IsUtf8 (take-append_seam a b)
     (IsUtf8-take (a ++ b) (length a) u (IsCharBoundary-at_seam (a ++ b) a b refl v))
+
+-- ---- characters
+
+-- an ASCII byte is a character
+pub chars-byte : (b : ℕ) (text : List ℕ) → b < 128 → chars (b ∷ text) ≡ b ∷ chars text
+chars-byte b text h =
+    let one = IsAscii-cons b [] h IsAscii-nil in
+    chars-append (b ∷ []) text (IsUtf8-from_ascii (b ∷ []) one)
+    ∙ ap (λ l. l ++ chars text) (chars-IsAscii (b ∷ []) one)
+
+-- both parts of a list of characters
+pub all_scalars-append : (a b : List ℕ) → all_scalars (a ++ b) ≡ true
+    → (all_scalars a ≡ true) × (all_scalars b ≡ true)
+all_scalars-append [] b h = (refl, h)
+all_scalars-append (c ∷ a) b h =
+    let here = and_parts (scalar c) (all_scalars (a ++ b)) h in
+    let more = all_scalars-append a b here.1 in
+    (rw (here.0, more.0) refl, more.1)

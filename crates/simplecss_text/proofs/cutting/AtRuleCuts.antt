@@ -1,6 +1,7 @@
 -- An at-rule ends at the same offset where the text is cut there.
 -- Serves `StyleSheet::parse_more` and `laws::cutting_law` (a text read in pieces).
 use Rattle.std.proofs.Common.{◌⊎◌, Bool, List, [], ap, arith, false, if◌then◌else◌, inl, inr, length, refl, subst, true, ℕ, ◌&&◌, ◌++◌, ◌<◌, ◌==◌, ◌∙◌, ◌∷◌, ◌≡◌, IsUtf8, encode_utf8_all, eqb-true, sym, length-append, ◌≤◌}
+use Rattle.std.proofs.lemmas.Bool.{or_parts}
 use Rattle.std.proofs.lemmas.List.{append_cancel_right}
 use Rattle.std.proofs.lemmas.Str.{chars-append, encodes-chars}
 use Rattle.std.specs.Str.{chars}
@@ -14,7 +15,6 @@ use Rattle.simplecss_text.specs.Statements.{past_semicolon_or_block, at_rule_res
 use Rattle.simplecss_text.proofs.reading.TakesLemmas.{length-past, length-past_byte}
 use Rattle.simplecss_text.proofs.reading.DeclarationLemmas.{length-from_block_end}
 use Rattle.simplecss_text.proofs.reading.ReadNames.{name-fails}
-use Rattle.simplecss_text.proofs.reading.PrintedNames.{both_false}
 use Rattle.simplecss_text.proofs.reading.LocalLemmas.{Diverge, Equal, Guard, To, at, longer-diverge, on, past-diverge, past-both}
 use Rattle.simplecss_text.proofs.reading.LocalLemmas.{quiet-brace, quiet-semicolon}
 use Rattle.simplecss_text.proofs.reading.NameLocal.{name-same}
@@ -126,9 +126,9 @@ no_name-front edition s v u e =
   where
     start : (c : ℕ) (ds : List ℕ) → begins_name edition (c ∷ ds) ≡ false
         → is_name_start edition c ≡ false
-    start c [] h = (both_false (is_name_start edition c) (c == 45) h).0
+    start c [] h = (or_parts (is_name_start edition c) (c == 45) h).0
     start c (d ∷ ds) h =
-        (both_false (is_name_start edition c) (c == 45 && is_name_start edition d) h).0
+        (or_parts (is_name_start edition c) (c == 45 && is_name_start edition d) h).0
 
     by : (cs : List ℕ) → encode_utf8_all cs ≡ s → begins_name edition (cs ++ chars v) ≡ false
         → (begins_name edition cs ≡ false) ⊎ (s ≡ 45 ∷ [])
@@ -155,12 +155,12 @@ at_rule-fault edition s v w fault u e = by (no_name-front edition s v u failed.0
 
     front : (s : List ℕ) → w ++ v ≡ past_byte 45 (s ++ v) → past_byte 45 s ≡ w
     front [] g = sym (nothing_in_front w v (omega (arith, ap length g, length-past_byte 45 v)))
-    front (b ∷ s) g = hyphen (b == 45) g
+    front (b ∷ s) g = by_hyphen (b == 45) g
       where
-        hyphen : (k : Bool) → w ++ v ≡ (if k then s ++ v else b ∷ (s ++ v))
+        by_hyphen : (k : Bool) → w ++ v ≡ (if k then s ++ v else b ∷ (s ++ v))
             → (if k then s else b ∷ s) ≡ w
-        hyphen true k = sym (append_cancel_right w s v k)
-        hyphen false k = sym (append_cancel_right w (b ∷ s) v k)
+        by_hyphen true k = sym (append_cancel_right w s v k)
+        by_hyphen false k = sym (append_cancel_right w (b ∷ s) v k)
 
     by : (begins_name edition (chars s) ≡ false) ⊎ (s ≡ 45 ∷ []) → at_rule_rest edition s ≡ w
     by (inl none) = at_rule-no_name edition s none ∙ front s failed.1

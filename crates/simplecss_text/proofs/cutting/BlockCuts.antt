@@ -6,8 +6,7 @@ use Rattle.simplecss_text.specs.Bytes.{past_byte, starts}
 use Rattle.simplecss_text.specs.Characters.{Edition}
 use Rattle.simplecss_text.specs.Declarations.{StyleDeclaration, declaration, next_declaration}
 use Rattle.simplecss_text.specs.Blocks.{closes_block, block_end, from_block_end, ends_list, declaration_in_block, past_broken, past_list, block}
-use Rattle.std.proofs.lemmas.Bool.{cases_lt}
-use Rattle.simplecss_text.proofs.reading.PrintedNames.{both_true}
+use Rattle.std.proofs.lemmas.Bool.{cases_lt, and_parts}
 use Rattle.simplecss_text.proofs.reading.EachLemmas.{each-stops}
 use Rattle.simplecss_text.proofs.reading.TakesLemmas.{Cuts, length-past_byte}
 use Rattle.simplecss_text.proofs.reading.DeclarationLemmas.{declaration_in_block-takes, length-from_block_end}
@@ -40,7 +39,7 @@ at_brace x = by (cases_lt (block_end x) (length x))
     by (inl l) =
         let closes : closes_block x (block_end x) ≡ true =
         least-passes (closes_block x) (length x) l in
-        inr (starts-drop 125 (block_end x) x l ∙ (both_true _ _ closes).0)
+        inr (starts-drop 125 (block_end x) x l ∙ (and_parts _ _ closes).0)
 
 pub taken-lost : (t x : List ℕ) → (x ≡ []) ⊎ (starts 125 x ≡ true) → length x ≤ length t
     → Lost t (past_byte 125 x)

@@ -163,7 +163,7 @@ module _ (edition : Edition) where
       → RulesSame (u ++ v) u (rule_set edition r) (rule_set edition s)
   unfolding rule_set
   rule_set-same u v r s w h =
-      comma (past_byte 44 r) (past_byte 44 s) (utf8-past_byte_if 44 r (omega arith) w)
+      after_comma (past_byte 44 r) (past_byte 44 s) (utf8-past_byte_if 44 r (omega arith) w)
       (past_byte-to (125 ∷ (u ++ v)) (125 ∷ u) 44 refl r s h)
     where
       body : (xs ys : List (List Component)) (c d : List StyleDeclaration × List ℕ) → xs ≡ ys
@@ -188,7 +188,7 @@ module _ (edition : Edition) where
           body a.0 b.0 (next_block edition a.1) (next_block edition b.1) e
           (next_block-same u v x a.1 b.1 z f k)
 
-      comma : (x y : List ℕ) → IsUtf8 x
+      after_comma : (x y : List ℕ) → IsUtf8 x
           → (length x < length (125 ∷ (u ++ v))) ⊎ Diverge (125 ∷ (u ++ v)) (125 ∷ u) x y
           → RulesSame (u ++ v) u (
             map (λ selector. record {
@@ -207,8 +207,8 @@ module _ (edition : Edition) where
                 (parts edition y).0,
             (next_block edition (parts edition y).1).1,
           )
-      comma x y z (inl l) =
+      after_comma x y z (inl l) =
           inl (next_block-lost (u ++ v) (parts edition x).1 (omega (arith, length-parts edition x)))
-      comma x y z (inr k) =
+      after_comma x y z (inr k) =
           head x (parts edition x) (parts edition y) z (parts-ends edition x)
           (parts-same u v x y z k)

@@ -247,11 +247,11 @@ module _ (edition : Edition) where
           ∙ more in
           next_statement-reads u w rules goes (rw sign r)
 
-      at_sign : (s : List ℕ) → past_blank u ≡ 64 ∷ s → rules ≡ []
+      from_sign : (s : List ℕ) → past_blank u ≡ 64 ∷ s → rules ≡ []
           → (w ++ v ≡ []) ⊎ (at_rule_rest edition s ≡ w) → next_statement edition u ≡ Some
           (rules, w)
-      at_sign s is none (inl n) = nil n
-      at_sign s is none (inr r) =
+      from_sign s is none (inl n) = nil n
+      from_sign s is none (inr r) =
           let goes : ends_statements (past_blank u) ≡ false =
           ap ends_statements is ∙ rw (not_empty 64 s) refl in
           let read : statement edition (past_blank u) ≡ (rules, w) =
@@ -282,6 +282,6 @@ module _ (edition : Edition) where
           utf8-after (u ++ v) (s ++ v) 64 (omega arith) whole
           (ends-ends (u ++ v) (past_blank (u ++ v)) (64 ∷ (s ++ v)) (ends-past_blank (u ++ v))
           following) in
-          at_sign s (diverge-at 64 (s ++ v) s (past_blank (u ++ v)) (past_blank u) diverge start) none
+          from_sign s (diverge-at 64 (s ++ v) s (past_blank (u ++ v)) (past_blank u) diverge start) none
           (at_rule-cut s v w (w ++ v) whole_after cut refl
           (subst (λ (t : List ℕ). AtRuleEnds edition t (w ++ v)) parts h))

@@ -200,10 +200,10 @@ module _ (edition : Edition) where
           (if j then past_byte 125 (from_block_end x) else (if b == 59 then x else b ∷ x))
       by true g = at_block-ends text n rest x e (f ∙ ap (λ (c : ℕ). c ∷ x) (eqb-true b 123 g))
       by false g =
-          let semicolon : (b == 59) ≡ true =
+          let is_semicolon : (b == 59) ≡ true =
           neither_one b (past-stops (is_neither 59 123) rest b x f) g in
-          rw semicolon (at_semicolon n rest x e (f ∙ ap (λ (c : ℕ). c ∷ x)
-          (eqb-true b 59 semicolon)))
+          rw is_semicolon (at_semicolon n rest x e (f ∙ ap (λ (c : ℕ). c ∷ x)
+          (eqb-true b 59 is_semicolon)))
 
   pub at_rule-ends : (text : List ℕ) → AtRuleEnds edition text (at_rule_rest edition text)
   unfolding at_rule_rest

@@ -19,7 +19,7 @@ use Rattle.simplecss_text.specs.Blocks.{block_end, declaration_in_block, ends_li
 use Rattle.simplecss_text.specs.Names.{begins_name, name}
 use Rattle.simplecss_text.proofs.reading.EndsLemmas.{EndsFound, Stands, ends-drop, length-ends, no_texts}
 use Rattle.simplecss_text.proofs.reading.WellLemmas.{EndsWell, WellFound, each-well, found-ends, found-text, well-blank, well-closed, well-name, well-past, well-past_blank, well-tail, well-then}
-use Rattle.simplecss_text.proofs.bytes.Utf8Lemmas.{utf8-second}
+use Rattle.simplecss_text.proofs.bytes.Utf8Lemmas.{utf8-second, chars-byte}
 use Rattle.simplecss_text.proofs.reading.GotLemmas.{IfAfter, after_byte-after, starts-cons}
 use Rattle.simplecss_text.proofs.reading.ReadValues.{quote_low}
 use Rattle.simplecss_text.proofs.reading.TakesLemmas.{Cuts, cuts-follow, cuts-if, cuts-so, follow-cuts, length-past_blank, length-past_byte, name-cuts}
@@ -28,7 +28,6 @@ use Rattle.simplecss_text.proofs.reading.LocalLemmas.{Diverge, Equal, Guard, Nev
 use Rattle.simplecss_text.proofs.reading.LocalLemmas.Seam.{at_brace, at_quiet}
 use Rattle.simplecss_text.proofs.reading.NameLocal.{past_hash-seam}
 use Rattle.simplecss_text.proofs.reading.SearchLemmas.{brace_plain, closed-diverge, past_blank-to}
-use Rattle.simplecss_text.proofs.reading.PrintedNames.{chars-byte}
 use Rattle.simplecss_text.proofs.reading.ReadNames.{name-none_begins}
 use Rattle.simplecss_text.proofs.reading.EditionLaws.{Shared, each-editions, name-editions, shared-ends}
 use Rattle.simplecss_text.proofs.reading.Lawful.{Lawful, Owes, blank-lawful, byte-lawful, lawful-cases, lawful-guarded, lawful-keeps, lawful-stands, name-lawful, name-owes, optional-lawful, owes-choice, owes-cuts, owes-fails, owes-follow, owes-give, owes-if, owes-past, owes-sign, owes-so, owes-starts, passes-sign, past-lawful, past_name-lawful, string_after-lawful, takes-passed}

@@ -8,7 +8,7 @@ use Rattle.std.specs.List.{prefix_len}
 use Rattle.std.specs.Str.{IsAscii, chars}
 use Rattle.simplecss_text.specs.Reading.{Ends, and_then, before, each, followed_by, up_to}
 use Rattle.simplecss_text.specs.Bytes.{is_digit}
-use Rattle.simplecss_text.specs.Characters.{first_edition, is_name_char, is_name_start, second_edition}
+use Rattle.simplecss_text.specs.Characters.{Edition, first_edition, is_name_char, is_name_start, second_edition}
 use Rattle.simplecss_text.specs.Names.{begins_name, name, past_name_chars}
 use Rattle.simplecss_text.specs.Editions.{IsCommon}
 use Rattle.simplecss_text.proofs.reading.EndsLemmas.{EndsFound}
@@ -35,6 +35,12 @@ shared-ascii (b ∷ text) h zero = h.0.0
 shared-ascii (b ∷ text) h (suc i) = shared-ascii text h.1 i
 
 -- ---- general forms
+
+-- what holds in each edition
+pub in_either : (P : Edition → Type 0) → P first_edition → P second_edition
+    → (edition : Edition) → P edition
+in_either P first second first_edition = first
+in_either P first second second_edition = second
 
 pub if-editions : {A : Type 0} (k : Bool) (x y p q : A) → x ≡ y → p ≡ q → (if k then x else p) ≡ (if k then y else q)
 if-editions true x y p q e f = e

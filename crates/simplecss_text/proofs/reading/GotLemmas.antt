@@ -2,12 +2,12 @@
 -- Serves `Selector::{parse, parse_front}` and `StyleSheet::parse` (a selector printed and read
 -- again).
 use Rattle.std.proofs.Common.{◌&&◌, ◌<◌, ◌≡◌, ℕ, zero, suc, List, [], ◌∷◌, ◌++◌, Bool, true, false, if◌then◌else◌, ◌==◌, length, Option, Some, None, refl, ap, subst, IsUtf8, eqb-true}
+use Rattle.std.proofs.lemmas.Bool.{and_parts}
 use Rattle.std.specs.List.{AllByRecursion}
 use Rattle.simplecss_text.specs.Reading.{Reading, got, fails, Reader, follow, and_then, up_to, each, Ends}
 use Rattle.simplecss_text.specs.Bytes.{byte, past_one, starts, starts_two, after_byte}
 use Rattle.simplecss_text.specs.Comments.{after_close, opens_comment}
 use Rattle.simplecss_text.proofs.bytes.Utf8Lemmas.{utf8-after}
-use Rattle.simplecss_text.proofs.reading.PrintedNames.{both_true}
 
 -- where a value was read, this holds of it and of what is left
 abbrev pub IfGot : {A : Type 0} → (A → List ℕ → Type 0) → Reading A → Type 0
@@ -103,7 +103,7 @@ after_close-after (b ∷ text) = by (starts_two 42 47 (b ∷ text)) refl (after_
     by : (t : Bool) → starts_two 42 47 (b ∷ text) ≡ t → IfAfter 47 text (after_close text)
         → IfAfter 47 (b ∷ text) (if t then Some (past_one text) else after_close text)
     by true e more =
-        (b ∷ [], ap (λ l. b ∷ l) (starts-cons 47 text (both_true (b == 42) (starts 47 text) e).1))
+        (b ∷ [], ap (λ l. b ∷ l) (starts-cons 47 text (and_parts (b == 42) (starts 47 text) e).1))
     by false e more = follows-later 47 b text (after_close text) more
 
 -- where something was taken off a text, this holds of it, and that of what is left

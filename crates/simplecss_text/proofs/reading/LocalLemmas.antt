@@ -36,7 +36,7 @@ quiet-by : {q : ℕ} → q < 128 → is_name_char first_edition q ≡ false
     → is_name_start second_edition q ≡ false → is_digit q ≡ false → is_hex_digit q ≡ false
     → (q == 46) ≡ false → (q == 37) ≡ false → (q == 40) ≡ false → (q == 42) ≡ false
     → (q == 45) ≡ false → (edition : Edition) → ContinuesNothing edition q
-quiet-by low c d s e digit hex point percent opening star hyphen first_edition = record {
+quiet-by low c d s e digit hex point percent opening star not_hyphen first_edition = record {
   low = low;
   no_char = c;
   no_start = s;
@@ -46,9 +46,9 @@ quiet-by low c d s e digit hex point percent opening star hyphen first_edition =
   no_percent = percent;
   no_opening = opening;
   no_star = star;
-  no_hyphen = hyphen;
+  no_hyphen = not_hyphen;
 }
-quiet-by low c d s e digit hex point percent opening star hyphen second_edition = record {
+quiet-by low c d s e digit hex point percent opening star not_hyphen second_edition = record {
   low = low;
   no_char = d;
   no_start = e;
@@ -58,7 +58,7 @@ quiet-by low c d s e digit hex point percent opening star hyphen second_edition 
   no_percent = percent;
   no_opening = opening;
   no_star = star;
-  no_hyphen = hyphen;
+  no_hyphen = not_hyphen;
 }
 
 pub quiet-brace : (edition : Edition) → ContinuesNothing edition 125

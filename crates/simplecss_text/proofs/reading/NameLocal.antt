@@ -4,16 +4,16 @@
 -- `laws::cutting_law`.
 use Rattle.std.proofs.Common.{◌≡◌, ℕ, ◌<◌, ◌≤◌, ◌⊎◌, inl, inr, List, [], ◌∷◌, ◌++◌, Bool, true, false, ◌&&◌, ◌==◌, length, arith, refl, sym, ap, ◌∙◌, subst, length-append, append_assoc, append-nil, IsUtf8}
 use Rattle.std.specs.Str.{chars}
-use Rattle.std.proofs.lemmas.Bool.{cases_lt}
+use Rattle.std.proofs.lemmas.Bool.{cases_lt, or_parts}
 use Rattle.std.proofs.lemmas.Str.{IsUtf8-append, chars-append}
 use Rattle.simplecss_text.specs.Reading.{Fault, Reading, got, fails, left_after, no_name}
 use Rattle.simplecss_text.specs.Bytes.{past, past_byte, starts_by}
 use Rattle.simplecss_text.specs.Characters.{Edition, first_edition, second_edition, is_name_start, is_name_char}
 use Rattle.simplecss_text.specs.Names.{begins_name, name}
 use Rattle.simplecss_text.specs.Terms.{is_hex_digit, past_hash}
-use Rattle.simplecss_text.proofs.reading.PrintedNames.{IsName, both_false, name-reads, ends_names, chars-byte}
+use Rattle.simplecss_text.proofs.reading.PrintedNames.{IsName, name-reads, ends_names}
 use Rattle.simplecss_text.proofs.reading.ReadNames.{name-is, name-fails, name-none_begins}
-use Rattle.simplecss_text.proofs.bytes.Utf8Lemmas.{utf8-before_byte, utf8-first, utf8-second}
+use Rattle.simplecss_text.proofs.bytes.Utf8Lemmas.{utf8-before_byte, utf8-first, utf8-second, chars-byte}
 use Rattle.simplecss_text.proofs.reading.TakesLemmas.{length-past}
 use Rattle.simplecss_text.proofs.reading.LocalLemmas.{Diverge, Equal, Guard, ContinuesNothing, Seam, To, diverge-front, diverge-split, beyond-less, passed-beyond, past-seam, past_byte-to, quiet-brace}
 use Rattle.simplecss_text.proofs.reading.LocalLemmas.Seam.{at_brace, at_quiet}
@@ -63,16 +63,16 @@ module _ (edition : Edition) (q : ℕ) (more : List ℕ) (quiet : ContinuesNothi
   begins-one : (c : ℕ) (rs ds : List ℕ) → begins_name edition (c ∷ rs) ≡ false
       → begins_name edition (c ∷ q ∷ ds) ≡ false
   begins-one c rs ds h =
-      let start = by rs h in rw (start, quiet.no_start) (hyphen (c == 45))
+      let start = by rs h in rw (start, quiet.no_start) (and_false (c == 45))
     where
       by : (rs : List ℕ) → begins_name edition (c ∷ rs) ≡ false → is_name_start edition c ≡ false
-      by [] h = (both_false (is_name_start edition c) (c == 45) h).0
-      by (d ∷ rs) h = (both_false (is_name_start edition c) (c == 45 && is_name_start edition d)
+      by [] h = (or_parts (is_name_start edition c) (c == 45) h).0
+      by (d ∷ rs) h = (or_parts (is_name_start edition c) (c == 45 && is_name_start edition d)
           h).0
 
-      hyphen : (t : Bool) → (t && false) ≡ false
-      hyphen true = refl
-      hyphen false = refl
+      and_false : (t : Bool) → (t && false) ≡ false
+      and_false true = refl
+      and_false false = refl
 
   begins-alike : (r front : List ℕ) → IsUtf8 front
       → begins_name edition (chars (front ++ r)) ≡ false
@@ -127,17 +127,17 @@ module _ (edition : Edition) (q : ℕ) (more : List ℕ) (quiet : ContinuesNothi
   lone_name : (r front n rest : List ℕ) → name edition (front ++ r) ≡ got n rest → n ≡ 45 ∷ []
       → rest ≡ [] → front ++ r ≡ n ++ rest → length r ≤ length rest
       → NamesAlike edition r (q ∷ more) (front ++ r) (front ++ (q ∷ more))
-  lone_name r front n rest e hyphen ended joined h =
+  lone_name r front n rest e is_lone ended joined h =
       let none_left : r ≡ [] = no_length r (omega (arith, ap length ended)) in
       let whole : front ≡ 45 ∷ [] =
       sym (append-nil front) ∙ ap (λ l. front ++ l) (sym none_left) ∙ joined
-      ∙ ap (λ l. n ++ l) ended ∙ append-nil n ∙ hyphen in
+      ∙ ap (λ l. n ++ l) ended ∙ append-nil n ∙ is_lone in
       let text = 45 ∷ q ∷ more in
       let again : name edition (front ++ (q ∷ more)) ≡ fails (no_name text) (q ∷ more) =
       ap (λ l. name edition (l ++ (q ∷ more))) whole
       ∙ name-none_begins edition text begins_hyphen in
       lone n (no_name text) (e ∙ ap (got n) ended) again none_left (joined ∙ ap (λ l. n ++ l) ended
-      ∙ append-nil n ∙ hyphen)
+      ∙ append-nil n ∙ is_lone)
     where
       no_length : (l : List ℕ) → length l ≤ 0 → l ≡ []
       no_length [] h = refl
@@ -178,7 +178,7 @@ module _ (edition : Edition) (q : ℕ) (more : List ℕ) (quiet : ContinuesNothi
           let read = name-is edition (front ++ r) n rest (IsUtf8-append front r u v) e in
           elim (read.is) [
             | inl w ↦ same_name r front n rest u e w read.joined read.ends h
-            | inr hyphen ↦ lone_name r front n rest e hyphen.0 hyphen.1
+            | inr is_lone ↦ lone_name r front n rest e is_lone.0 is_lone.1
                 read.joined h
           ]
       by (fails fault rest) e h = no_name_there r front rest fault u e h

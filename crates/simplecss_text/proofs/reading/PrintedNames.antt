@@ -1,13 +1,16 @@
--- Printed names read back.
+-- Printed names read back, and the byte that begins a name.
 -- Serves `Selector::{parse, parse_front}` and `StyleSheet::parse` (a selector printed and read
 -- again).
-use Rattle.std.proofs.Common.{◌≡◌, ℕ, zero, suc, ◌<◌, List, [], ◌∷◌, ◌++◌, Bool, true, false, ◌||◌, ◌&&◌, ◌==◌, length, take, drop, arith, refl, sym, ap, ◌∙◌, encode_utf8_all, IsUtf8, IsAscii}
+use Rattle.std.proofs.Common.{◌≡◌, ℕ, ◌<◌, ◌≤◌, ◌⊎◌, inl, inr, List, [], ◌∷◌, ◌++◌, Bool, true, false, ◌||◌, ◌&&◌, ◌==◌, nat_lt, length, length-append, drop, arith, refl, sym, ap, ◌∙◌, encode_utf8, encode_utf8_all, eqb-true, IsUtf8}
+use Rattle.std.proofs.lemmas.Bool.{and_parts, or_left}
 use Rattle.std.specs.Str.{chars, all_scalars}
-use lib.Utf8.{scalar}
-use Rattle.std.specs.List.{list_all, prefix_len, take_while}
-use Rattle.std.proofs.lemmas.List.Folds.{list_all-append}
-use Rattle.std.proofs.lemmas.Str.{chars-append, chars-nil, chars-encodes, chars-IsAscii, IsUtf8-from_ascii}
-use Rattle.std.proofs.Math.Seq.{take-append_seam, drop-append_seam}
+use lib.Utf8.{encode}
+use Rattle.std.specs.List.{list_all}
+use Rattle.std.proofs.lemmas.Str.{chars-append, chars-nil, chars-encodes, char_from_byte, length-encode, len_utf8_bounds}
+use Rattle.std.proofs.Math.Seq.{drop-append_seam}
+use Rattle.simplecss_text.proofs.bytes.RunLemmas.{take_while-append}
+use Rattle.simplecss_text.proofs.bytes.Utf8Lemmas.{chars-byte}
+use Rattle.simplecss_text.proofs.reading.EditionLaws.{in_either}
 use Rattle.simplecss_text.proofs.reading.EndsLemmas.{before-append}
 use Rattle.simplecss_text.specs.Reading.{got}
 use Rattle.simplecss_text.specs.Bytes.{starts_by}
@@ -33,76 +36,13 @@ pub record IsName (edition : Edition) (n : List ℕ) : Type 0 where
 abbrev pub ends_names : Edition → List ℕ → Bool
 ends_names edition text = starts_by (is_name_char edition) (chars text)
 
--- both sides of a test that holds
-pub both_true : (a b : Bool) → (a && b) ≡ true → (a ≡ true) × (b ≡ true)
-both_true true true h = (refl, refl)
-both_true true false h = absurd (cc)
-both_true false b h = absurd (cc)
-
--- both sides of a test that fails
-pub both_false : (a b : Bool) → (a || b) ≡ false → (a ≡ false) × (b ≡ false)
-both_false true b h = absurd (cc)
-both_false false b h = (refl, h)
-
--- a run that ends where the list continues with what does not pass
-pub prefix_len-whole : (p : ℕ → Bool) (cs ds : List ℕ) → list_all p cs ≡ true
-    → starts_by p ds ≡ false → prefix_len p (cs ++ ds) ≡ length cs
-prefix_len-whole p [] [] a s = refl
-prefix_len-whole p [] (d ∷ ds) a s = rw s refl
-prefix_len-whole p (c ∷ cs) ds a s =
-    let h = both_true (p c) (list_all p cs) a in
-    let more = prefix_len-whole p cs ds h.1 s in
-    rw (h.0, more) (omega arith)
-
--- it is taken whole
-take_while-whole : (p : ℕ → Bool) (cs ds : List ℕ) → list_all p cs ≡ true → starts_by p ds ≡ false
-    → take_while p (cs ++ ds) ≡ cs
-take_while-whole p cs ds a s = ap (λ k. take k (cs ++ ds)) (prefix_len-whole p cs ds a s)
-    ∙ take-append_seam cs ds
-
-either_true : (a b : Bool) → a ≡ true → (a || b) ≡ true
-either_true true b h = refl
-either_true false b h = absurd (cc)
-
-one_ascii : (b : ℕ) → b < 128 → IsAscii (b ∷ [])
-one_ascii b h zero = h
-one_ascii b h (suc i) = omega arith
-
--- an ASCII byte is a character
-pub chars-byte : (b : ℕ) (text : List ℕ) → b < 128 → chars (b ∷ text) ≡ b ∷ chars text
-chars-byte b text h =
-    let a = one_ascii b h in
-    chars-append (b ∷ []) text (IsUtf8-from_ascii (b ∷ []) a)
-    ∙ ap (λ l. l ++ chars text) (chars-IsAscii (b ∷ []) a)
-
--- what holds in each edition
-pub in_either : (P : Edition → Type 0) → P first_edition → P second_edition
-    → (edition : Edition) → P edition
-in_either P first second first_edition = first
-in_either P first second second_edition = second
-
--- both parts of a list that passes a test
-pub both_pass : {A : Type 0} (test : A → Bool) (a b : List A) → list_all test (a ++ b) ≡ true
-    → (list_all test a ≡ true) × (list_all test b ≡ true)
-both_pass test a b h =
-    both_true (list_all test a) (list_all test b) (sym (list_all-append test a b) ∙ h)
-
--- both parts of a list of characters
-pub scalars-parts : (a b : List ℕ) → all_scalars (a ++ b) ≡ true
-    → (all_scalars a ≡ true) × (all_scalars b ≡ true)
-scalars-parts [] b h = (refl, h)
-scalars-parts (c ∷ a) b h =
-    let here = both_true (scalar c) (all_scalars (a ++ b)) h in
-    let more = scalars-parts a b here.1 in
-    (rw (here.0, more.0) refl, more.1)
-
 module _ (edition : Edition) where
   -- what begins a name begins one with more after it
   begins_name-append : (cs ds : List ℕ) → begins_any_name edition cs ≡ true
       → begins_name edition (cs ++ ds) ≡ true
   begins_name-append [] ds h = absurd (cc)
-  begins_name-append (c ∷ []) [] h = either_true (is_name_start edition c) (c == 45) h
-  begins_name-append (c ∷ []) (d ∷ ds) h = either_true (is_name_start edition c)
+  begins_name-append (c ∷ []) [] h = or_left (is_name_start edition c) (c == 45) h
+  begins_name-append (c ∷ []) (d ∷ ds) h = or_left (is_name_start edition c)
       (c == 45 && is_name_start edition d) h
   begins_name-append (c ∷ d ∷ cs) ds h = h
 
@@ -120,7 +60,7 @@ module _ (edition : Edition) where
   unfolding name past_name_chars
   name-reads n tail w s =
       let cs = name-chars n tail w in
-      let whole = take_while-whole (is_name_char edition) w.letters (chars tail) w.pass s in
+      let whole = take_while-append (is_name_char edition) w.letters (chars tail) w.pass s in
       let begins = begins_name-append w.letters (chars tail) w.begins in
       let left : drop (length n) (n ++ tail) ≡ tail = drop-append_seam n tail in
       let value = before-append n tail in
@@ -135,3 +75,66 @@ module _ (edition : Edition) where
   -- nor where the text ends
   pub ends_names-nil : ends_names edition [] ≡ false
   ends_names-nil = rw chars-nil refl
+
+-- ---- the byte that begins a name
+
+-- A byte that may begin a name: a name character, or one past ASCII.
+abbrev pub IsNameByte : Edition → ℕ → Type 0
+IsNameByte edition b = (128 ≤ b) ⊎ (is_name_char edition b ≡ true)
+
+name_byte : (edition : Edition) (b : ℕ) (text rest : List ℕ) (c : ℕ)
+    → b ∷ text ≡ encode_utf8 c ++ rest → is_name_char edition c ≡ true → IsNameByte edition b
+name_byte edition b text rest c e h = by (nat_lt b 128) refl
+  where
+    by : (t : Bool) → nat_lt b 128 ≡ t → IsNameByte edition b
+    by true p =
+        let less : b < 128 = grind arith in
+        let same : c ≡ b = char_from_byte (b ∷ text) rest c e less (omega arith) in
+        inr (ap (is_name_char edition) (sym same) ∙ h)
+    by false p = inl (grind arith)
+
+-- the first byte of a name
+pub record FirstByte (edition : Edition) (n : List ℕ) : Type 0 where
+  pub first : ℕ
+  pub others : List ℕ
+  pub is : n ≡ first ∷ others
+  pub fit : IsNameByte edition first
+
+-- the byte that begins a name
+pub name-first : (edition : Edition) (n : List ℕ) → IsName edition n → FirstByte edition n
+name-first edition n w = by n w.letters w.spell w.begins w.pass
+  where
+    by : (n cs : List ℕ) → encode_utf8_all cs ≡ n → begins_any_name edition cs ≡ true
+        → list_all (is_name_char edition) cs ≡ true → FirstByte edition n
+    by n [] e b p = absurd (cc)
+    by [] (c ∷ cs) e b p =
+        absurd (omega (
+          arith,
+          ap length e,
+          length-append (encode_utf8 c) (encode_utf8_all cs),
+          length-encode c,
+          len_utf8_bounds c,
+        ))
+    by (x ∷ n) (c ∷ cs) e b p =
+        record {
+          first = x;
+          others = n;
+          is = refl;
+          fit = name_byte edition x n (encode_utf8_all cs) c (sym e)
+              (and_parts (is_name_char edition c) (list_all (is_name_char edition) cs) p).0;
+        }
+
+-- a byte of a name is no other ASCII byte
+pub other_byte : (edition : Edition) (k b : ℕ) → k < 128
+    → is_name_char first_edition k ≡ false → is_name_char second_edition k ≡ false
+    → IsNameByte edition b → (b == k) ≡ false
+other_byte edition k b less e0 f0 h = by (b == k) refl h
+  where
+    by : (t : Bool) → (b == k) ≡ t → IsNameByte edition b → t ≡ false
+    by false e w = refl
+    by true e (inl w) = absurd (omega (arith, eqb-true b k e))
+    by true e (inr w) =
+        let same : b ≡ k = eqb-true b k e in
+        let yes : is_name_char edition k ≡ true = ap (is_name_char edition) (sym same) ∙ w in
+        let no = in_either (λ edition. is_name_char edition k ≡ false) e0 f0 edition in
+        absurd (cc)

@@ -22,7 +22,9 @@ use Rattle.simplecss_text.specs.Selectors.{role_of}
 use Rattle.simplecss_text.specs.Selectors.Part.{with}
 use Rattle.simplecss_text.specs.Selectors.Role.{part}
 use Rattle.simplecss_text.specs.Printing.{pseudo_class_text, operator_text, subselector_text, escaped_after, is_clean_operator, is_clean_subselector}
-use Rattle.simplecss_text.proofs.reading.PrintedNames.{IsName, name-reads, ends_names, ends_names-byte, prefix_len-whole, begins_any_name, in_either}
+use Rattle.simplecss_text.proofs.reading.PrintedNames.{IsName, name-reads, ends_names, ends_names-byte, begins_any_name}
+use Rattle.simplecss_text.proofs.reading.EditionLaws.{in_either}
+use Rattle.simplecss_text.proofs.bytes.RunLemmas.{prefix_len-append}
 
 -- the last byte of a text, before which is `previous`
 abbrev pub last_after : ℕ → List ℕ → ℕ
@@ -123,7 +125,7 @@ pub record IsLanguage (v : List ℕ) : Type 0 where
 all_before-reads : (v tail : List ℕ) → list_all (λ b. not (b == 41)) v ≡ true
     → all_before 41 (v ++ (41 ∷ tail)) ≡ got v (41 ∷ tail)
 all_before-reads v tail h =
-    let n = prefix_len-whole (λ b. not (b == 41)) v (41 ∷ tail) h refl in
+    let n = prefix_len-append (λ b. not (b == 41)) v (41 ∷ tail) h refl in
     let left : drop (length v) (v ++ (41 ∷ tail)) ≡ 41 ∷ tail = drop-append_seam v (41 ∷ tail) in
     let value = before-append v (41 ∷ tail) in
     rw (n, left, value) refl

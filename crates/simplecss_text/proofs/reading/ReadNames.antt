@@ -15,8 +15,9 @@ use Rattle.simplecss_text.specs.Bytes.{past_byte, starts_by}
 use Rattle.simplecss_text.specs.Characters.{Edition, is_name_start, is_name_char, first_edition, second_edition}
 use Rattle.simplecss_text.specs.Names.{begins_name, past_name_chars, name}
 use Rattle.simplecss_text.proofs.reading.TakesLemmas.{first_of_name}
-use Rattle.simplecss_text.proofs.bytes.Utf8Lemmas.{starts_by-past}
-use Rattle.simplecss_text.proofs.reading.PrintedNames.{IsName, ends_names, begins_any_name, scalars-parts}
+use Rattle.simplecss_text.proofs.reading.PrintedNames.{IsName, ends_names, begins_any_name}
+use Rattle.simplecss_text.proofs.bytes.RunLemmas.{starts_by-past}
+use Rattle.simplecss_text.proofs.bytes.Utf8Lemmas.{all_scalars-append}
 
 -- what is in a run passes the test
 pub taken_pass : (p : ℕ → Bool) (cs : List ℕ) → list_all p (take_while p cs) ≡ true
@@ -124,7 +125,7 @@ module _ (edition : Edition) where
       let k = take_while p cs in
       let l = drop (prefix_len p cs) cs in
       let parts : k ++ l ≡ cs = take-append-drop (prefix_len p cs) cs in
-      let each_scalar = scalars-parts k l (ap all_scalars parts ∙ s) in
+      let each_scalar = all_scalars-append k l (ap all_scalars parts ∙ s) in
       record {
         is = elim (taken_begins cs h) [
           | inl b ↦ inl

@@ -9,11 +9,11 @@ use Rattle.std.proofs.lemmas.List.Folds.{list_all-append}
 use Rattle.simplecss_text.specs.Characters.{Edition, first_edition, second_edition, is_name_char}
 use Rattle.simplecss_text.specs.Names.{name}
 use Rattle.simplecss_text.specs.Strings.{is_quote, string_or_name}
-use Rattle.simplecss_text.proofs.reading.PrintedNames.{IsName, chars-byte}
+use Rattle.simplecss_text.proofs.reading.PrintedNames.{IsName}
 use Rattle.simplecss_text.proofs.reading.PrintedPieces.{last_after, IsValue}
 use Rattle.simplecss_text.proofs.reading.ReadNames.{name-is}
 use Rattle.simplecss_text.proofs.reading.ReadStrings.{string_after-gives}
-use Rattle.simplecss_text.proofs.bytes.Utf8Lemmas.{utf8-before_byte}
+use Rattle.simplecss_text.proofs.bytes.Utf8Lemmas.{utf8-before_byte, chars-byte}
 use Rattle.simplecss_text.proofs.reading.GotLemmas.{IfGot, if_got, if_got-if}
 use Rattle.std.proofs.lemmas.Bool.Decides.{nat_tests}
 

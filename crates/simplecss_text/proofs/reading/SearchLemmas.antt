@@ -2,6 +2,7 @@
 -- Serves `Lawful` (what every reader owes): `StyleSheet::{parse, parse_all, parse_more}` and
 -- `laws::cutting_law`.
 use Rattle.std.proofs.Common.{◌≡◌, ℕ, ◌≤◌, List, [], ◌∷◌, ◌++◌, Bool, true, false, if◌then◌else◌, ◌==◌, ◌&&◌, not, length, length-append, Option, Some, None, arith, refl, sym, ap, ◌∙◌, ◌<◌, ◌⊎◌, inl, inr}
+use Rattle.std.proofs.lemmas.Bool.{and_parts}
 use Rattle.std.specs.Option.{option_map}
 use Rattle.simplecss_text.specs.Reading.{Fault, no_comment, got, fails, each, left_after, before}
 use Rattle.simplecss_text.specs.Bytes.{past_one, starts, starts_two, after_byte, closed_or}
@@ -11,7 +12,6 @@ use Rattle.simplecss_text.specs.Strings.{from_quote, string_up_to}
 use Rattle.simplecss_text.proofs.reading.TakesLemmas.{blank_part-takes}
 use Rattle.simplecss_text.proofs.reading.LocalLemmas.{Diverge, diverge-append, at, on, To, Passed, Guard, Equal, Step, Never, Repeats, before-diverge, beyond-less, each-repeats, guard-if, passed-beyond, starts-diverge}
 use Rattle.simplecss_text.proofs.reading.GotLemmas.{IfAfter, after_byte-after, after_close-after, starts-cons}
-use Rattle.simplecss_text.proofs.reading.PrintedNames.{both_true}
 use Rattle.simplecss_text.proofs.reading.ReadStrings.{IfCloses, from_quote-closes}
 
 -- what two searches find: the first finds nothing before the texts part, or both find alike
@@ -32,7 +32,7 @@ close-diverge t u r s (on b r1 s1 at) = by (starts_two 42 47 (b ∷ t)) refl
     by : (k : Bool) → starts_two 42 47 (b ∷ t) ≡ k
         → FindsAlike t u (if k then Some (past_one t) else after_close t) (after_close (b ∷ u))
     by true e =
-        inl (let there = starts-cons 47 t (both_true (b == 42) (starts 47 t) e).1 in omega
+        inl (let there = starts-cons 47 t (and_parts (b == 42) (starts 47 t) e).1 in omega
         (arith, ap length there))
     by false e = finds-within t u (after_close t) (after_close (b ∷ u)) (after_close-after t)
 close-diverge t u r s (on b r1 s1 (on c r2 s2 h)) =

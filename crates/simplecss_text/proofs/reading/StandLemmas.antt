@@ -23,10 +23,9 @@ use Rattle.simplecss_text.specs.Components.Operator.{equals, has_word, begins_wi
 use Rattle.simplecss_text.specs.Tokens.{Token, token_texts, operator_texts}
 use Rattle.simplecss_text.specs.Tokens.Token.{universal_selector, type_selector, id_selector, class_selector, attribute_selector, named_pseudo_class, lang_pseudo_class, child_combinator, adjacent_combinator}
 use Rattle.simplecss_text.specs.Pieces.{attribute_operator, equated, attribute_after, lang_of, lang_after, pseudo_class_named, pseudo_class_after, named_token, next_kind, solid_as, solid}
-use Rattle.simplecss_text.proofs.reading.PrintedNames.{scalars-parts}
 use Rattle.simplecss_text.proofs.reading.KindLemmas.{sign-begins}
 use Rattle.simplecss_text.proofs.reading.WellLemmas.{ends-past_name_chars, well-blank, well-gap, well-past_blank}
-use Rattle.simplecss_text.proofs.bytes.Utf8Lemmas.{until-boundary, utf8-after}
+use Rattle.simplecss_text.proofs.bytes.Utf8Lemmas.{until-boundary, utf8-after, all_scalars-append}
 use Rattle.simplecss_text.proofs.reading.EndsLemmas.{before-append, ends-append, ends-by, ends-same, ends-nil, ends-tail, ends-past_one, ends-past_byte, ends-past, EndsSome, ends_some-if, ends_some-ends, stand-from, stand-to, stand-ends, stand-before, Stands, no_texts, itself, stands-unseen, stands-from, stands-if, stands-none, stands-then, stands-follow}
 
 -- ---- bytes, comments and blanks
@@ -168,7 +167,7 @@ trim-parts bs u =
     let front = skip-leading cs in
     let back = drop-trailing k in
     let good : all_scalars k ≡ true =
-    (scalars-parts front.0 k (sym (ap all_scalars front.1) ∙ scalars-chars bs u)).1 in
+    (all_scalars-append front.0 k (sym (ap all_scalars front.1) ∙ scalars-chars bs u)).1 in
     let trimmed : trim bs ≡ encode_utf8_all d =
     ap (λ x. encode_utf8_all (drop_trailing_whitespace x)) (chars-encodes k good) in (
       encode_utf8_all front.0,

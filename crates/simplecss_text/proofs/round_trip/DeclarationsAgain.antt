@@ -16,10 +16,10 @@ use Rattle.simplecss_text.specs.Printing.{important_text, declaration_text}
 use Rattle.simplecss_text.specs.PrintingLaws.{IsNarrow, DeclarationReadsBack}
 use Rattle.simplecss_text.proofs.reading.DeclarationsLawful.{declaration-steps, semicolon-takes}
 use Rattle.simplecss_text.proofs.reading.EndsLemmas.{before-append, ends-past_byte}
-use Rattle.simplecss_text.proofs.reading.PrintedNames.{IsName, name-reads, ends_names, ends_names-byte}
+use Rattle.simplecss_text.proofs.reading.PrintedNames.{IsName, name-reads, ends_names, ends_names-byte, IsNameByte, name-first, other_byte}
 use Rattle.simplecss_text.proofs.reading.EachLemmas.{each-none, each-some}
-use Rattle.simplecss_text.proofs.bytes.GapLemmas.{past_blank-again}
-use Rattle.simplecss_text.proofs.round_trip.PrintedHeads.{NoGap, IsNameByte, no_gap-byte, no_gap-name, blank-at, name-first, other_byte}
+use Rattle.simplecss_text.proofs.bytes.GapLemmas.{past_blank-again, NoGap, no_gap-byte, blank-at}
+use Rattle.simplecss_text.proofs.round_trip.PrintedHeads.{no_gap-name}
 use Rattle.simplecss_text.proofs.reading.LocalLemmas.{ContinuesNothing, diverge-front, quiet-mark, quiet-semicolon, quiet-space}
 use Rattle.simplecss_text.proofs.reading.NameLocal.{name-quiet}
 use Rattle.simplecss_text.proofs.round_trip.BlankTails.{blank_part-by, past_blank-space}

@@ -1,14 +1,11 @@
--- Printed heads read back, and the gaps of a printed selector.
+-- Printed heads read back.
 -- Serves `Selector::{parse, parse_front}` and `StyleSheet::parse` (a selector printed and read
 -- again).
-use Rattle.std.proofs.Common.{◌≡◌, ℕ, ◌<◌, ◌≤◌, ◌⊎◌, inl, inr, List, [], ◌∷◌, ◌++◌, Bool, true, false, if◌then◌else◌, ◌&&◌, ◌==◌, nat_lt, length, arith, refl, sym, ap, ◌∙◌, subst, length-append, encode_utf8, encode_utf8_all, Option, Some, None, eqb-true}
+use Rattle.std.proofs.Common.{◌≡◌, ℕ, ◌<◌, ◌⊎◌, inl, inr, List, [], ◌∷◌, ◌++◌, false, ◌==◌, arith, refl, sym, ap, ◌∙◌, subst, Option, Some, None}
 use Rattle.std.specs.Str.{chars}
-use Rattle.std.specs.List.{list_all, list_any}
-use Rattle.std.proofs.lemmas.Str.{length-encode, len_utf8_bounds, char_from_byte}
 use lib.Utf8.{encode}
-use Rattle.simplecss_text.specs.Reading.{no_comment, got, fails, follow, followed_by, each}
-use Rattle.simplecss_text.specs.Characters.{Edition, first_edition, second_edition, is_name_char, is_space}
-use Rattle.simplecss_text.specs.Comments.{opens_comment, blank_part, past_blank, blank, has_space, gap}
+use Rattle.simplecss_text.specs.Reading.{got}
+use Rattle.simplecss_text.specs.Characters.{Edition, first_edition, second_edition, is_name_char}
 use Rattle.simplecss_text.specs.Names.{past_name_chars, name}
 use Rattle.simplecss_text.specs.Tokens.{Token}
 use Rattle.simplecss_text.specs.Tokens.Token.{universal_selector, type_selector}
@@ -16,116 +13,8 @@ use Rattle.simplecss_text.specs.Pieces.{named_token, next_kind, solid}
 use Rattle.simplecss_text.specs.Selectors.{Part}
 use Rattle.simplecss_text.specs.Selectors.Part.{any_type, of_type}
 use Rattle.simplecss_text.specs.Printing.{type_text}
-use Rattle.simplecss_text.proofs.reading.EachLemmas.{each-none, each-some}
-use Rattle.simplecss_text.proofs.reading.TakesLemmas.{blank_part-takes}
-use Rattle.simplecss_text.proofs.reading.PrintedNames.{IsName, name-reads, ends_names, begins_any_name, in_either}
-
--- a byte that may begin a name: a name character, or one past ASCII
-abbrev pub IsNameByte : Edition → ℕ → Type 0
-IsNameByte edition b = (128 ≤ b) ⊎ (is_name_char edition b ≡ true)
-
-begins_char : (edition : Edition) (c : ℕ) (cs : List ℕ) → begins_any_name edition (c ∷ cs) ≡ true
-    → list_all (is_name_char edition) (c ∷ cs) ≡ true → is_name_char edition c ≡ true
-begins_char edition c cs h a = by (is_name_char edition c) (list_all (is_name_char edition) cs) a
-  where
-    by : (x y : Bool) → (x && y) ≡ true → x ≡ true
-    by true y e = refl
-    by false y e = absurd (cc)
-
-name_byte : (edition : Edition) (b : ℕ) (text rest : List ℕ) (c : ℕ)
-    → b ∷ text ≡ encode_utf8 c ++ rest → is_name_char edition c ≡ true → IsNameByte edition b
-name_byte edition b text rest c e h = by (nat_lt b 128) refl
-  where
-    by : (t : Bool) → nat_lt b 128 ≡ t → IsNameByte edition b
-    by true p =
-        let less : b < 128 = grind arith in
-        let same : c ≡ b = char_from_byte (b ∷ text) rest c e less (omega arith) in
-        inr (ap (is_name_char edition) (sym same) ∙ h)
-    by false p = inl (grind arith)
-
--- the first byte of a name
-pub record FirstByte (edition : Edition) (n : List ℕ) : Type 0 where
-  pub first : ℕ
-  pub others : List ℕ
-  pub is : n ≡ first ∷ others
-  pub fit : IsNameByte edition first
-
--- the byte that begins a name
-pub name-first : (edition : Edition) (n : List ℕ) → IsName edition n → FirstByte edition n
-name-first edition n w = by n w.letters w.spell w.begins w.pass
-  where
-    by : (n cs : List ℕ) → encode_utf8_all cs ≡ n → begins_any_name edition cs ≡ true
-        → list_all (is_name_char edition) cs ≡ true → FirstByte edition n
-    by n [] e b p = absurd (cc)
-    by [] (c ∷ cs) e b p =
-        absurd (omega (
-          arith,
-          ap length e,
-          length-append (encode_utf8 c) (encode_utf8_all cs),
-          length-encode c,
-          len_utf8_bounds c,
-        ))
-    by (x ∷ n) (c ∷ cs) e b p =
-        record {
-          first = x;
-          others = n;
-          is = refl;
-          fit = name_byte edition x n (encode_utf8_all cs)
-              c (sym e) (begins_char edition c cs b p);
-        }
-
--- a byte of a name is no other ASCII byte
-pub other_byte : (edition : Edition) (k b : ℕ) → k < 128
-    → is_name_char first_edition k ≡ false → is_name_char second_edition k ≡ false
-    → IsNameByte edition b → (b == k) ≡ false
-other_byte edition k b less e0 f0 h = by (b == k) refl h
-  where
-    by : (t : Bool) → (b == k) ≡ t → IsNameByte edition b → t ≡ false
-    by false e w = refl
-    by true e (inl w) = absurd (omega (arith, eqb-true b k e))
-    by true e (inr w) =
-        let same : b ≡ k = eqb-true b k e in
-        let yes : is_name_char edition k ≡ true = ap (is_name_char edition) (sym same) ∙ w in
-        let no = in_either (λ edition. is_name_char edition k ≡ false) e0 f0 edition in
-        absurd (cc)
-
--- no gap begins there, nor an open comment
-pub record NoGap (text : List ℕ) : Type 0 where
-  pub none : each blank_part text ≡ ([], text)
-  pub closed : opens_comment text ≡ false
-
--- no gap begins with another byte
-pub no_gap-byte : (b : ℕ) (text : List ℕ) → is_space b ≡ false → (b == 47) ≡ false
-    → NoGap (b ∷ text)
-no_gap-byte b text space slash =
-    let part : blank_part (b ∷ text) ≡ None = rw (space, slash) refl in
-    record { none = each-none blank_part (b ∷ text) part; closed = rw slash refl }
-
--- a blank, by what is left after it
-pub blank-at : (text rest : List ℕ) → past_blank text ≡ rest → opens_comment rest ≡ false
-    → blank text ≡ got tt rest
-unfolding blank
-blank-at text rest p c =
-    ap (λ t. if opens_comment t then fails (no_comment t) [] else got (tt {0}) t) p
-    ∙ ap (λ (k : Bool). if k then fails (no_comment rest) [] else got (tt {0}) rest) c
-
-gap-at : (text rest : List ℕ) (parts : List Bool) → each blank_part text ≡ (parts, rest)
-    → opens_comment rest ≡ false → gap text ≡ got (list_any (λ b. b) parts) rest
-unfolding gap
-gap-at text rest parts e c =
-    ap (λ r. follow r (λ u. got (has_space text))) (blank-at text rest (ap (λ r. r.1) e) c)
-    ∙ ap (λ r. got (list_any (λ b. b) r.0) rest) e
-
--- a gap that is empty
-pub gap-none : (text : List ℕ) → NoGap text → gap text ≡ got false text
-gap-none text w = gap-at text text [] w.none w.closed
-
--- a space, and no further gap
-pub gap-space : (text : List ℕ) → NoGap text → gap (32 ∷ text) ≡ got true text
-gap-space text w =
-    let part : each blank_part (32 ∷ text) ≡ followed_by true (each blank_part text) =
-    each-some blank_part blank_part-takes (32 ∷ text) text true refl in
-    gap-at (32 ∷ text) text (true ∷ []) (part ∙ ap (followed_by true) w.none) w.closed
+use Rattle.simplecss_text.proofs.bytes.GapLemmas.{NoGap, no_gap-byte}
+use Rattle.simplecss_text.proofs.reading.PrintedNames.{IsName, name-reads, ends_names, IsNameByte, name-first, other_byte}
 
 -- what begins like a name is after no gap
 pub no_gap-name : (edition : Edition) (b : ℕ) (text : List ℕ) → IsNameByte edition b

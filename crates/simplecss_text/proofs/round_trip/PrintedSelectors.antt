@@ -2,6 +2,7 @@
 -- Serves `Selector::{parse, parse_front}` and `StyleSheet::parse` (a selector printed and read
 -- again).
 use Rattle.std.proofs.Common.{◌≡◌, ℕ, List, [], ◌∷◌, ◌++◌, Bool, true, false, map, refl, sym, ap, ◌∙◌, subst, append_assoc, append-nil, arith, Option, Some, None}
+use Rattle.std.proofs.lemmas.Bool.{and_parts}
 use Rattle.std.specs.List.{list_all, flat_map}
 use Rattle.simplecss_text.specs.Reading.{no_selector, got, fails}
 use Rattle.simplecss_text.specs.declared.next_kind.NextKind.TheVariants.{Stop}
@@ -24,9 +25,10 @@ use Rattle.simplecss_text.specs.Printing.{subselector_text, type_text, component
 use Rattle.simplecss_text.proofs.reading.EachLemmas.{each-none}
 use Rattle.simplecss_text.proofs.reading.SequenceSteps.{solid_sequence, sequence_from-solid, sequence_from-kind}
 use Rattle.simplecss_text.proofs.round_trip.TokenKinds.{kind_of, sequence_from-token, descends-token}
-use Rattle.simplecss_text.proofs.reading.PrintedNames.{both_true, ends_names, ends_names-byte, ends_names-nil}
+use Rattle.simplecss_text.proofs.reading.PrintedNames.{ends_names, ends_names-byte, ends_names-nil}
 use Rattle.simplecss_text.proofs.reading.PrintedPieces.{IsSubselector, printed_token, printed_token-role, subselector-reads}
-use Rattle.simplecss_text.proofs.round_trip.PrintedHeads.{NoGap, no_gap-byte, gap-none, gap-space, IsTypeName, head_token, head_part, head-reads, head-no_gap}
+use Rattle.simplecss_text.proofs.bytes.GapLemmas.{NoGap, no_gap-byte, gap-none, gap-space}
+use Rattle.simplecss_text.proofs.round_trip.PrintedHeads.{IsTypeName, head_token, head_part, head-reads, head-no_gap}
 
 -- After a simple piece the text continues with these roles, and then this is left. No name
 -- continues there.
@@ -250,7 +252,7 @@ module _ (edition : Edition) where
       → Goes edition (flat_map subselector_text ss ++ tail) (map part (map with ss) ++ roles) left
   subselectors-go [] tail left roles w c g = g
   subselectors-go (s ∷ ss) tail left roles w c g =
-      let h = both_true (is_clean_subselector s) (list_all is_clean_subselector ss) c in
+      let h = and_parts (is_clean_subselector s) (list_all is_clean_subselector ss) c in
       let more = subselectors-go ss tail left roles w.1 h.1 g in
       subst (λ (t : List ℕ). Goes edition t (part (with s) ∷ (map part
       (map with ss) ++ roles)) left) (sym (append_assoc (subselector_text s)
@@ -367,7 +369,7 @@ module _ (edition : Edition) where
       → Goes edition (selector_text cs ++ tail) (flat_map component_roles cs ++ roles) left
   components-go [] tail left roles w clean g = g
   components-go (c ∷ cs) tail left roles w clean g =
-      let h = both_true (is_clean_compound c.compound) (is_clean cs) clean in
+      let h = and_parts (is_clean_compound c.compound) (is_clean cs) clean in
       let more = components-go cs tail left roles w.1 h.1 g in
       let here = component-goes c (selector_text cs ++ tail) left
       (flat_map component_roles cs ++ roles) w.0 h.0 more in
@@ -387,7 +389,7 @@ module _ (edition : Edition) where
       ≡ (Some (record { combinator = none; compound = c } ∷ cs), left)
   unfolding reads
   selector-reads c cs tail left w ws clean g =
-      let h = both_true (is_clean_compound c) (is_clean cs) clean in
+      let h = and_parts (is_clean_compound c) (is_clean cs) clean in
       let more = components-go cs tail left [] ws h.1 g in
       let none_more : Goes edition (selector_text cs ++ tail)
       (flat_map component_roles cs) left = subst (λ (r : List Role). Goes edition

@@ -17,10 +17,11 @@ use Rattle.simplecss_text.specs.Tokens.{Token}
 use Rattle.simplecss_text.specs.Tokens.Token.{universal_selector, type_selector, id_selector, class_selector, attribute_selector, named_pseudo_class, lang_pseudo_class, descendant_combinator, child_combinator, adjacent_combinator}
 use Rattle.simplecss_text.specs.Pieces.{attribute_operator, attribute_after, lang_of, lang_after, pseudo_class_after, named_token, next_kind, solid_as, solid}
 use Rattle.simplecss_text.proofs.reading.KindLemmas.{HasSign, sign-begins}
-use Rattle.simplecss_text.proofs.reading.PrintedNames.{IsName, both_pass}
+use Rattle.simplecss_text.proofs.reading.PrintedNames.{IsName}
 use Rattle.simplecss_text.proofs.reading.PrintedPieces.{IsValue, IsOperator, IsLanguage}
 use Rattle.simplecss_text.proofs.bytes.Utf8Lemmas.{utf8-past_byte, utf8-before_byte}
 use Rattle.simplecss_text.proofs.bytes.TrimLemmas.{Trimmed, trim-is}
+use Rattle.simplecss_text.proofs.bytes.RunLemmas.{list_all-parts}
 use Rattle.simplecss_text.proofs.reading.GotLemmas.{IfGot, if_got, if_got-follow, if_got-if, byte-is}
 use Rattle.simplecss_text.proofs.reading.ReadNames.{ReadName, name-is, taken_pass}
 use Rattle.simplecss_text.proofs.reading.ReadValues.{name-value_is}
@@ -60,9 +61,9 @@ all_before-is text =
 inside_all : (test : ℕ → Bool) (v inside : List ℕ) → Trimmed v inside → list_all test v ≡ true
     → list_all test inside ≡ true
 inside_all test v inside w h =
-    let first = both_pass test w.front (inside ++ w.following) (ap (list_all test) (sym w.is) ∙ h)
-    in
-    (both_pass test inside w.following first.1).0
+    let first =
+    list_all-parts test w.front (inside ++ w.following) (ap (list_all test) (sym w.is) ∙ h) in
+    (list_all-parts test inside w.following first.1).0
 
 -- what is left after an ASCII byte
 utf8-past : (kind : NextKind) (text : List ℕ) → HasSign kind → next_kind text ≡ kind → IsUtf8 text

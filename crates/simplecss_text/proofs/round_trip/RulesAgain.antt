@@ -16,9 +16,10 @@ use Rattle.simplecss_text.specs.Printing.{declaration_text, type_text, subselect
 use Rattle.simplecss_text.specs.PrintingLaws.{RuleReadsBack}
 use Rattle.simplecss_text.proofs.reading.EachLemmas.{each-none, each-some}
 use Rattle.simplecss_text.proofs.reading.DeclarationLemmas.{declaration_in_block-takes}
-use Rattle.simplecss_text.proofs.reading.PrintedNames.{IsName}
+use Rattle.simplecss_text.proofs.reading.PrintedNames.{IsName, IsNameByte, name-first, other_byte}
 use Rattle.simplecss_text.proofs.reading.EachLemmas.{not_empty}
-use Rattle.simplecss_text.proofs.round_trip.PrintedHeads.{NoGap, IsNameByte, no_gap-byte, no_gap-name, name-first, other_byte, IsTypeName}
+use Rattle.simplecss_text.proofs.bytes.GapLemmas.{NoGap, no_gap-byte}
+use Rattle.simplecss_text.proofs.round_trip.PrintedHeads.{no_gap-name, IsTypeName}
 use Rattle.simplecss_text.proofs.round_trip.PrintedSelectors.{IsSelector}
 use Rattle.simplecss_text.proofs.round_trip.ReadSelectors.{selector-reads_back_before}
 use Rattle.simplecss_text.proofs.round_trip.KeptRules.{IsKept}

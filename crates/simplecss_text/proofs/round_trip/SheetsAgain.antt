@@ -2,6 +2,7 @@
 -- Serves `prints_back` of `StyleSheet::{parse, parse_all, parse_more}` (a sheet printed and read
 -- again).
 use Rattle.std.proofs.Common.{subst, ◌≡◌, ℕ, List, [], ◌∷◌, ◌++◌, Bool, true, false, if◌then◌else◌, ◌==◌, length, map, filter, refl, sym, ap, ◌∙◌, append-nil, Option, Some, None}
+use Rattle.std.proofs.lemmas.Bool.{and_parts}
 use Rattle.std.specs.List.{flat_map, AllByRecursion, All}
 use Rattle.std.proofs.lemmas.List.Elements.{All-push, All-from_recursion, recursion_from_All}
 use Rattle.simplecss_text.specs.Reading.{each, followed_by}
@@ -13,7 +14,6 @@ use Rattle.simplecss_text.specs.Printing.{rule_text, sheet_text, is_clean}
 use Rattle.simplecss_text.specs.PrintingLaws.{IsNarrow, DeclarationReadsBack, RuleReadsBack, are_clean, PrintsBack, PrintsBackAfter}
 use Rattle.simplecss_text.proofs.reading.EachLemmas.{each-none, each-some}
 use Rattle.simplecss_text.proofs.reading.StatementTextLemmas.{next_statement-takes}
-use Rattle.simplecss_text.proofs.reading.PrintedNames.{both_true}
 use Rattle.simplecss_text.proofs.reading.EachLemmas.{not_empty}
 use Rattle.simplecss_text.proofs.round_trip.BlankTails.{past_blank-space}
 use Rattle.simplecss_text.proofs.round_trip.DeclarationsAgain.{printed_declaration-reads_back, IsDeclaration, narrow-end, declaration-is}
@@ -54,7 +54,7 @@ module _ (edition : Edition) where
       → AllByRecursion (Printable edition) rules
   all-printable [] h clean = tt
   all-printable (rule ∷ rules) h clean =
-      let parts = both_true (is_clean rule.components) (are_clean rules) clean in
+      let parts = and_parts (is_clean rule.components) (are_clean rules) clean in
       ((h.0, parts.0), all-printable rules h.1 parts.1)
 
   statement-there : (text : List ℕ) → BeginsPart edition text

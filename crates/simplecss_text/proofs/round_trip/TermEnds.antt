@@ -4,7 +4,7 @@
 use Rattle.std.proofs.Common.{◌≡◌, ℕ, suc, ◌<◌, ◌≤◌, ◌⊎◌, inl, inr, List, [], ◌∷◌, ◌++◌, Bool, true, false, if◌then◌else◌, ◌||◌, ◌&&◌, not, ◌==◌, nat_lt, length, get_or, Option, Some, None, arith, refl, sym, ap, ◌∙◌, subst, length-append, append_assoc, append-nil, encode_utf8, encode_utf8_all, IsUtf8, eqb-true}
 use Rattle.std.specs.List.{list_all}
 use Rattle.std.proofs.lemmas.Str.{inside_one, encode_ascii, length-encode, len_utf8_bounds}
-use Rattle.std.proofs.lemmas.Bool.{cases_lt}
+use Rattle.std.proofs.lemmas.Bool.{cases_lt, and_parts}
 use Rattle.std.proofs.lemmas.Bool.Decides.{nat_tests}
 use Rattle.std.proofs.lemmas.List.Folds.{list_all-append}
 use Rattle.simplecss_text.specs.Reading.{Fault, ended, Reading, got, fails, follow, left_after}
@@ -14,12 +14,13 @@ use Rattle.simplecss_text.specs.Names.{name}
 use Rattle.simplecss_text.specs.Strings.{is_quote, from_quote, string_up_to}
 use Rattle.simplecss_text.specs.Terms.{is_hex_digit, past_hash, past_decimals, past_unit, past_number, arguments, word, quoted, is_slash_term, begins_number, term}
 use Rattle.simplecss_text.proofs.reading.DeclarationsLawful.{digit_low, number_low, past_decimals-lawful, term-cuts}
-use Rattle.simplecss_text.proofs.reading.PrintedNames.{begins_any_name, both_true}
+use Rattle.simplecss_text.proofs.reading.PrintedNames.{begins_any_name}
 use Rattle.simplecss_text.proofs.reading.TakesLemmas.{Cuts}
 use Rattle.simplecss_text.proofs.reading.ReadStrings.{IfCloses, from_quote-closes}
 use Rattle.simplecss_text.proofs.reading.ReadNames.{ReadName, name-is, name-fails}
 use Rattle.simplecss_text.proofs.reading.GotLemmas.{IfGot, if_got, if_got-if, if_got-follow, if_got-weaker, got-holds, IfAfter, after_byte-after}
-use Rattle.simplecss_text.proofs.bytes.Utf8Lemmas.{past-yes, past-no, utf8-past_byte, utf8-past}
+use Rattle.simplecss_text.proofs.bytes.Utf8Lemmas.{utf8-past_byte, utf8-past}
+use Rattle.simplecss_text.proofs.bytes.RunLemmas.{past-yes, past-no}
 
 -- a byte that is no white space of ASCII
 abbrev pub is_bare : ℕ → Bool
@@ -48,7 +49,7 @@ bare-then text middle rest (some front c there ok) (some passed b is bare) =
 bare-all : (front rest : List ℕ) → list_all is_bare front ≡ true → EndsBare (front ++ rest) rest
 bare-all [] rest h = nothing refl
 bare-all (b ∷ front) rest h =
-    let parts = both_true (is_bare b) (list_all is_bare front) h in bare-cons b (front ++ rest) rest
+    let parts = and_parts (is_bare b) (list_all is_bare front) h in bare-cons b (front ++ rest) rest
     parts.0 (bare-all front rest parts.1)
 
 bare-past : (test : ℕ → Bool) (text : List ℕ) → ((b : ℕ) → test b ≡ true → is_bare b ≡ true)
@@ -174,7 +175,7 @@ module _ (edition : Edition) where
       → list_all is_bare (encode_utf8_all letters) ≡ true
   letters_bare [] h = refl
   letters_bare (c ∷ letters) h =
-      let parts = both_true (is_name_char edition c) (list_all (is_name_char edition) letters) h in
+      let parts = and_parts (is_name_char edition c) (list_all (is_name_char edition) letters) h in
       let first = encoded_bare c parts.0 in
       let others = letters_bare letters parts.1 in
       list_all-append is_bare (encode_utf8 c) (encode_utf8_all letters) ∙ rw (first, others) refl
@@ -293,7 +294,7 @@ module _ (edition : Edition) where
     where
       by : (n : List ℕ) → (n ≡ [] → ⊥) → list_all is_bare n ≡ true → FirstBare (n ++ rest)
       by [] some_there h = absurd (some_there refl)
-      by (b ∷ n) some_there h = (both_true (is_bare b) (list_all is_bare n) h).0
+      by (b ∷ n) some_there h = (and_parts (is_bare b) (list_all is_bare n) h).0
 
   word-begins_bare : (text : List ℕ) → IsUtf8 text
       → IfGot (λ x rest. FirstBare text) (word edition text)

@@ -6,10 +6,9 @@ use Rattle.std.specs.Char.{is_whitespace}
 use Rattle.std.specs.List.{list_any}
 use Rattle.std.specs.Str.{chars, all_scalars, trim, drop_trailing_whitespace}
 use Rattle.std.proofs.lemmas.Str.{encode_ascii, length-encode, len_utf8_bounds, chars-encodes}
-use Rattle.std.proofs.lemmas.Bool.{cases_lt}
+use Rattle.std.proofs.lemmas.Bool.{cases_lt, or_parts}
 use Rattle.std.proofs.lemmas.Bool.Decides.{nat_tests}
 use Rattle.simplecss_text.specs.PrintingLaws.{is_wide_space, has_wide_space}
-use Rattle.simplecss_text.proofs.reading.PrintedNames.{both_false}
 use Rattle.simplecss_text.proofs.reading.PrintedPieces.{last_after}
 use Rattle.simplecss_text.proofs.reading.EachLemmas.{not_empty}
 use Rattle.simplecss_text.proofs.bytes.TrimLemmas.{BeginsBare, bare-skip, scalars-skip, trim-encodes}
@@ -39,7 +38,7 @@ begins-bare [] text e b w = tt
 begins-bare (c ∷ cs) text e b w =
     bare_char c
     (λ low. subst FirstBare (sym e ∙ ap (λ l. l ++ encode_utf8_all cs) (encode_ascii c low)) b)
-    (both_false (is_wide_space c) (list_any is_wide_space cs) w).0
+    (or_parts (is_wide_space c) (list_any is_wide_space cs) w).0
 
 -- the last byte is in the last part that is not empty
 pub last-append : (previous : ℕ) (front : List ℕ) (b : ℕ) (text : List ℕ)
@@ -73,14 +72,14 @@ ends-bare [] b w = refl
 ends-bare (c ∷ []) b w =
     let last : c < 128 → is_bare c ≡ true =
     λ low. sym (ap (λ l. is_bare (last_after 0 (l ++ []))) (encode_ascii c low)) ∙ b in
-    let space = bare_char c last (both_false (is_wide_space c) false w).0 in
+    let space = bare_char c last (or_parts (is_wide_space c) false w).0 in
     rw space refl
 ends-bare (c ∷ d ∷ cs) b w =
     let more =
     ends-bare (d ∷ cs)
     (ap is_bare
     (sym (last-front 0 0 (encode_utf8 c) (encode_utf8_all (d ∷ cs)) (some_bytes d cs))) ∙ b)
-    (both_false (is_wide_space c) (list_any is_wide_space (d ∷ cs)) w).1 in
+    (or_parts (is_wide_space c) (list_any is_wide_space (d ∷ cs)) w).1 in
     ap (λ (l : List ℕ). cond (is_whitespace c && (length l == 0)) [] (c ∷ l)) more
     ∙ kept_end (is_whitespace c) c d cs
 

@@ -2,6 +2,7 @@
 -- Serves `Selector::{parse, parse_front}` and `StyleSheet::parse` (a selector printed and read
 -- again).
 use Rattle.std.proofs.Common.{◌≡◌, ℕ, ◌⊎◌, inl, inr, List, [], ◌∷◌, ◌++◌, Bool, true, false, ◌&&◌, map, length, length-append, refl, sym, ap, ◌∙◌, subst, append_assoc, arith, Option, Some, None}
+use Rattle.std.proofs.lemmas.Bool.{and_cases}
 use Rattle.std.specs.List.{list_all, flat_map}
 use Rattle.simplecss_text.specs.Reading.{Reading, got, fails, follow}
 use Rattle.simplecss_text.specs.Bytes.{byte}
@@ -25,7 +26,8 @@ use Rattle.simplecss_text.specs.Printing.{operator_text, subselector_text, compo
 use Rattle.simplecss_text.proofs.reading.SequenceSteps.{solid_sequence, sequence_from-solid}
 use Rattle.simplecss_text.proofs.reading.PrintedNames.{IsName, name-reads, ends_names}
 use Rattle.simplecss_text.proofs.reading.PrintedPieces.{string-cut, quoted, operator-ends, bracketed, solid-attribute, IsSubselector, printed_token-role}
-use Rattle.simplecss_text.proofs.round_trip.PrintedHeads.{gap-none, head_part}
+use Rattle.simplecss_text.proofs.bytes.GapLemmas.{gap-none}
+use Rattle.simplecss_text.proofs.round_trip.PrintedHeads.{head_part}
 use Rattle.simplecss_text.proofs.round_trip.PrintedSelectors.{subselector-no_gap, subselector-sequence, EachIs, compound-no_gap, compound-outcome, joined-ends, joined-outcome, subselectors-end, compound_text, is_clean_compound, joined_text, component-assoc, EachJoined, IsSelector}
 
 longer : (v front more : List ℕ) → v ≡ front ++ (39 ∷ more) → front ≡ v → ⊥
@@ -101,10 +103,6 @@ components-assoc : (c : Component) (cs : List Component) (tail : List ℕ)
     (compound_text c.compound ++ (selector_text cs ++ tail))
 components-assoc c cs tail = append_assoc (component_text c) (selector_text cs) tail
     ∙ component-assoc c (selector_text cs ++ tail)
-
-either_unclean : (a b : Bool) → (a && b) ≡ false → (a ≡ false) ⊎ (b ≡ false)
-either_unclean false b h = inl refl
-either_unclean true b h = inr h
 
 or_later : {A B C : Type 0} → (B → C) → A ⊎ B → A ⊎ C
 or_later f (inl a) = inl a
@@ -271,7 +269,7 @@ module _ (edition : Edition) where
       let o = outcome (sequence_from edition closed_side (flat_map subselector_text
       c.compound.subselectors ++ following)) in
       let inner = subselectors-differ c.compound.subselectors following cs w.0.compound.others ends
-      (or_later (components-differ cs tail w.1 e) (either_unclean (is_clean_compound c.compound)
+      (or_later (components-differ cs tail w.1 e) (and_cases (is_clean_compound c.compound)
       (is_clean cs) h)) in
       let is = ap (λ t. outcome (sequence_from edition closed_side t)) (components-assoc c cs tail)
       ∙ joined-outcome edition c.combinator c.compound following w.0.joins w.0.compound ends in
@@ -290,7 +288,7 @@ module _ (edition : Edition) where
       let o = outcome (sequence_from edition closed_side (flat_map subselector_text
       c.compound.subselectors ++ following)) in
       let inner = subselectors-differ c.compound.subselectors following cs w.1.others ends (or_later
-      (components-differ cs tail w.2 e) (either_unclean (is_clean_compound c.compound)
+      (components-differ cs tail w.2 e) (and_cases (is_clean_compound c.compound)
       (is_clean cs) h)) in
       let first : selector_text (c ∷ cs) ++ tail ≡ compound_text c.compound ++ following =
       components-assoc c cs tail ∙ ap (λ j. joined_text j

@@ -2,6 +2,7 @@
 -- Serves `prints_back` of `StyleSheet::{parse, parse_all, parse_more}` (a sheet printed and read
 -- again).
 use Rattle.std.proofs.Common.{◌≡◌, ℕ, zero, suc, ◌<◌, ◌≤◌, ◌⊎◌, inl, inr, List, [], ◌∷◌, ◌++◌, Bool, true, false, length, arith, refl, sym, ap, ◌∙◌, subst, append_assoc, IsUtf8}
+use Rattle.std.proofs.lemmas.Bool.{or_parts}
 use Rattle.std.specs.Str.{chars, trim}
 use Rattle.std.specs.List.{list_any}
 use Rattle.std.proofs.lemmas.Str.{IsUtf8-append, chars-append}
@@ -13,7 +14,6 @@ use Rattle.simplecss_text.specs.Terms.{term}
 use Rattle.simplecss_text.specs.Declarations.{last_or, after_term, term_in_value, terms, value}
 use Rattle.simplecss_text.specs.PrintingLaws.{is_wide_space, IsNarrow}
 use Rattle.std.proofs.lemmas.List.Folds.{list_any-append}
-use Rattle.simplecss_text.proofs.reading.PrintedNames.{both_false}
 use Rattle.simplecss_text.proofs.reading.EachLemmas.{each-none, each-some}
 use Rattle.simplecss_text.proofs.reading.TakesLemmas.{Cuts, length-past_blank}
 use Rattle.simplecss_text.proofs.reading.EndsLemmas.{before-append, ends-ends, ends-got}
@@ -65,7 +65,7 @@ pub narrow-parts : (a b : List ℕ) → IsNarrow (a ++ b) → IsUtf8 b → IsNar
 narrow-parts a b n v =
     let u = utf8-first a b n.0 v in
     let parts =
-    both_false _ _ (sym (list_any-append is_wide_space (chars a) (chars b))
+    or_parts _ _ (sym (list_any-append is_wide_space (chars a) (chars b))
     ∙ ap (list_any is_wide_space) (sym (chars-append a b u)) ∙ n.1) in
     ((u, parts.0), (v, parts.1))
 
