@@ -49,7 +49,7 @@ tail_of e = cc
 cons_same : {a b : ℕ} {xs ys : List ℕ} → a ≡ b → xs ≡ ys → a ∷ xs ≡ b ∷ ys
 cons_same e f = cc
 
--- two ways to part a text at a space, the first of them at the first space
+-- two ways to split a text at a space, the first of them at the first space
 cut_first : (f z t r : List ℕ) → Spaceless f → z ++ 32 ∷ t ≡ f ++ 32 ∷ r → ((z ≡ f) × (t ≡ r)) ⊎ ((m : List ℕ) × (z ≡ f ++ 32 ∷ m) × (r ≡ m ++ 32 ∷ t))
 cut_first [] [] t r s e = inl (refl, tail_of e)
 cut_first [] (a ∷ z) t r s e = inr (z, cons_same (head_of e) refl, sym (tail_of e))
@@ -136,12 +136,12 @@ or-false false = refl
 -- the others follow the first word
 pub is_word_of-first : (w f r : List ℕ) → Spaceless f → is_word_of w (f ++ 32 ∷ r) ≡ (bytes_eq f w || is_word_of w r)
 is_word_of-first w f r s =
-    ap (list_any (λ part. bytes_eq part w)) (slice_split_at (λ b. b == 32) f 32 r (is_space-Spaceless f s) refl)
+    ap (list_any (λ entry. bytes_eq entry w)) (slice_split_at (λ b. b == 32) f 32 r (is_space-Spaceless f s) refl)
 
 -- a text with no space is its one word
 pub is_word_of-last : (w v : List ℕ) → Spaceless v → is_word_of w v ≡ bytes_eq v w
 is_word_of-last w v s =
-    ap (list_any (λ part. bytes_eq part w)) (slice_split_none (λ b. b == 32) v (is_space-Spaceless v s)) ∙ or-false (bytes_eq v w)
+    ap (list_any (λ entry. bytes_eq entry w)) (slice_split_none (λ b. b == 32) v (is_space-Spaceless v s)) ∙ or-false (bytes_eq v w)
 
 -- the same of a text with its first space at an offset
 pub is_word_of-at : (w r : List ℕ) (n : ℕ) → n < length r → (get_or r n 0 == 32) ≡ true → ((k : ℕ) → k < n → (get_or r k 0 == 32) ≡ false) → is_word_of w r ≡ (bytes_eq (take n r) w || is_word_of w (drop (n + 1) r))
