@@ -95,8 +95,8 @@ def choices(path):
 for crate, files in re.findall(r"^\| (`\w+`|tests, documents) \| (.*) \|$", read("docs/ARCHITECTURE.md").split("## How to add a rule", 1)[-1], re.MULTILINE):
     folders = [os.path.join("crates", crate.strip("`"))] if "`" in crate else ["crates", ""]
     for path in (whole for words in re.findall(r"`([^` *]+/[^` *]*)`", files) for whole in choices(words)):
-        places = [os.path.join(top, folder, path + ending) for folder in folders for ending in ("", ".antt", ".rt")]
-        expect(any(map(os.path.exists, places)), f"docs/ARCHITECTURE.md: {crate} has no {path}")
+        paths = [os.path.join(top, folder, path + ending) for folder in folders for ending in ("", ".antt", ".rt")]
+        expect(any(map(os.path.exists, paths)), f"docs/ARCHITECTURE.md: {crate} has no {path}")
 
 # ---- the sheets that docs/DIFFERENCES.md shows
 

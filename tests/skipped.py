@@ -120,7 +120,7 @@ class Reader:
     # Declarations.
 
     def past_name(self, i):
-        """What is left after a name, or after what is there in its place."""
+        """What is left after a name, or after what is there in place of one."""
         try:
             return self.name(i)
         except Fault as fault:
@@ -274,10 +274,10 @@ class Reader:
 
     def from_block_end(self, i):
         depth = 0
-        for place in range(i, self.end):
-            depth += {"{": 1, "}": -1}.get(self.text[place], 0)
+        for offset in range(i, self.end):
+            depth += {"{": 1, "}": -1}.get(self.text[offset], 0)
             if depth < 0:
-                return place
+                return offset
         return self.end
 
     def ends_list(self, i):
@@ -381,8 +381,8 @@ class Random:
         self.fault_rate = self.choice((0.02, 0.1, 0.3))
         text = "".join(self.statement() for _ in range(self.random.randrange(7)))
         for _ in range(self.choice((0, 0, 0, 1, 2, 5))):
-            place = self.random.randrange(len(text) + 1)
-            text = text[:place] + self.choice((self.choice(BITS), self.choice(ODDS), "")) + text[place + self.random.randrange(2) :]
+            offset = self.random.randrange(len(text) + 1)
+            text = text[:offset] + self.choice((self.choice(BITS), self.choice(ODDS), "")) + text[offset + self.random.randrange(2) :]
         return text
 
 

@@ -131,9 +131,9 @@ class StyleSheet:
         self._ends = library.ends_of(self._texts)
         self._rules: Optional[Tuple[Rule, ...]] = None
 
-    def _call(self, name: str, *arguments: Any, room: int, with_place: bool = False) -> bytes:
+    def _call(self, name: str, *arguments: Any, room: int, with_fault: bool = False) -> bytes:
         answer = library.call(
-            name, self._buffer, self._ends, *arguments, room=room, with_place=with_place
+            name, self._buffer, self._ends, *arguments, room=room, with_fault=with_fault
         )
         if answer.status != library.DONE:
             raise RuntimeError(f"{name}: unexpected status {answer.status}")
@@ -180,7 +180,7 @@ class StyleSheet:
         """Returns for each element the indexes of the rules that match it, in order."""
         arrays = tree._arrays(self._selectors)
         room = 1024 + 16 * len(tree) + 4 * len(arrays)
-        output = self._call("simplecss_match", arrays, room=room, with_place=True)
+        output = self._call("simplecss_match", arrays, room=room, with_fault=True)
         lines = output.split(b"\n")
         lines.pop()
         indexes = _Indexes()
@@ -194,7 +194,7 @@ class StyleSheet:
         """
         arrays = tree._arrays(self._selectors)
         room = 1024 + 64 * len(tree) + 16 * len(arrays)
-        output = self._call("simplecss_styles", arrays, room=room, with_place=True)
+        output = self._call("simplecss_styles", arrays, room=room, with_fault=True)
         return [[_declaration(value) for value in values] for values in _lines(output)]
 
     def style(self, tree: Tree, name: str) -> List[Optional[Declaration]]:

@@ -24,7 +24,7 @@ use Rattle.simplecss.specs.SelectorIndices.{selector_at, key_at, Adds}
 use Rattle.simplecss.specs.declared.index.link.Link.{Link}
 use Rattle.simplecss.specs.declared.index.last_by_wanted.LastByWanted.{LastByWanted}
 use Rattle.simplecss.proofs.Adding.{contains_none, contains_one, added}
-use Rattle.simplecss.proofs.Ascending.{places_are, sum_of_values, values_at}
+use Rattle.simplecss.proofs.Ascending.{indices_are, sum_of_values, values_at}
 use Rattle.simplecss.proofs.Following.{After}
 
 -- each key leads to the last of all selectors with it
@@ -165,7 +165,7 @@ candidate_within reported above selectors candidates are k d lt = ((are.exactly 
 pub sum_of_candidates : (reported : Near) (above : ℕ) (selectors : List (List Component)) (candidates : List ℕ) (cost : List Component → ℕ) → AreCandidates reported above selectors candidates → sum_by (λ index. cost (selector_at selectors index)) candidates ≡ sum_by cost (tested_for reported above selectors)
 sum_of_candidates reported above selectors candidates cost are =
     let all = range_with_len 0 (length selectors) in
-    ap (sum_by (λ index. cost (selector_at selectors index))) (places_are (λ index. is_tested reported above (selector_at selectors index)) (length selectors) candidates are) ∙ sum_of_values (selector_at selectors) (is_tested reported above) cost all ∙ ap (λ ss. sum_by cost (tested_for reported above ss)) (values_at selectors [])
+    ap (sum_by (λ index. cost (selector_at selectors index))) (indices_are (λ index. is_tested reported above (selector_at selectors index)) (length selectors) candidates are) ∙ sum_of_values (selector_at selectors) (is_tested reported above) cost all ∙ ap (λ ss. sum_by cost (tested_for reported above ss)) (values_at selectors [])
 
 ones : {X : Type 0} (xs : List X) → sum_by (λ x. 1) xs ≡ length xs
 ones [] = refl

@@ -64,4 +64,5 @@ IsFound selectors name class indices = (near : Near) → near.own.name ≡ name 
 -- a slot is empty, or has what was found by its name and class value
 abbrev pub IsSlotOf : List (List Component) → Option Slot → Type 0
 IsSlotOf selectors None = Unit {0}
-IsSlotOf selectors (Some slot) = IsFound selectors (string_bytes slot.name) (option_map string_bytes slot.class) slot.indices.items
+IsSlotOf selectors (Some slot) =
+    IsFound selectors (string_bytes slot.name) (option_map string_bytes slot.class) slot.indices.items

@@ -290,11 +290,11 @@ fn calls_by_index(alloc: Global, sheet: &str, is_counted: bool) -> Result<(u64, 
         node: page.node(2).ok_or("no element")?,
         calls: &calls,
     };
-    let mut places = Vec::new(alloc);
+    let mut indices = Vec::new(alloc);
     if is_counted {
-        index.matching_counted(&sheet.rules, &element, &mut places, &mut Tests::new())?;
+        index.matching_counted(&sheet.rules, &element, &mut indices, &mut Tests::new())?;
     } else {
-        index.matching(&sheet.rules, &element, &mut places)?;
+        index.matching(&sheet.rules, &element, &mut indices)?;
     }
     Ok((calls.names.get(), calls.attributes.get()))
 }

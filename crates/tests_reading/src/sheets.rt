@@ -278,7 +278,7 @@ const DIFFERENT: &[&str] = &[
 ];
 
 #[test]
-fn rules_differ_in_any_part(rt: HostRuntime) -> Result<(), Fail> {
+fn rules_differ_in_any_field(rt: HostRuntime) -> Result<(), Fail> {
     for (i, text) in DIFFERENT.iter().enumerate() {
         let sheet = read(&rt, text)?;
         for (j, other) in DIFFERENT.iter().enumerate() {
