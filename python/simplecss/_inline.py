@@ -291,7 +291,7 @@ class _Rules:
         return "\n".join(inlined), "\n".join(kept)
 
     def texts(self, winners: List[Declaration]) -> List[str]:
-        """Returns the declarations that the winners stand for, in order."""
+        """Returns the declarations that the winners denote, in order."""
         return [str(each) for winner in winners for each in self.values[int(winner.value)]]
 
 
