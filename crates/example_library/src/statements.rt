@@ -14,8 +14,8 @@ pub fn statements<'a>(alloc: Global, text: &'a str) -> Result<Vec<(&'a str, usiz
         let Some(statement) = reader.read_next(&Discard, alloc)? else {
             break;
         };
-        if let Some(slice) = text.get(statement.start..statement.end) {
-            found.push((slice, statement.rules.len()))?;
+        if let Some(part) = text.get(statement.start..statement.end) {
+            found.push((part, statement.rules.len()))?;
         }
     }
     Ok(found)
