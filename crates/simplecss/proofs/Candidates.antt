@@ -85,7 +85,7 @@ module _ (is_wanted : Wanted → Bool) (lasts : LastByWanted) (links : List Link
   pub led_within : (old indices sorted : List ℕ) → ((index : ℕ) → Contains old index → index < length selectors) → Adds old indices (Leads is_wanted lasts) → ((index : ℕ) → Contains sorted index ↔ Contains indices index) → (index : ℕ) → Contains sorted index → index < length selectors
   led_within old indices sorted within leads same index c = elim ((added old indices leads index).0 ((same index).0 c)) [ inl x ↦ within index x | inr y ↦ (led_to index y).0 ]
 
--- the starts, and what stands before them in their chains, are all selectors whose key is reported
+-- the starts, and what is before them in their chains, are all selectors whose key is reported
 pub are_keyed : (reported : Near) (selectors : List (List Component)) (starts sorted all final : List ℕ) → AreStarts (reports_wanted reported) selectors starts → ((index : ℕ) → Contains sorted index ↔ Contains starts index)
     → Adds sorted all (After selectors sorted) → IsStrictlyIncreasing final → ((index : ℕ) → Contains final index ↔ Contains all index) → AreKeyed reported selectors final
 are_keyed reported selectors starts sorted all final are same after up same_again = record {

@@ -1,4 +1,4 @@
--- What is found by an element's name and classes alone, and by what stands beside them.
+-- What is found by an element's name and classes only, and by its other keys.
 use Rattle.std.specs.Prelude.{◌≡◌, ◌≤◌, ◌<◌, ℕ, List, [], Option, Some, None, Bool, true, false, IsTrue, Contains, length, bytes_eq, string_bytes}
 use Rattle.std.specs.Option.{option_map}
 use Rattle.simplecss_text.specs.Components.{Component}

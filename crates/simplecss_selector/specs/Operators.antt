@@ -27,8 +27,8 @@ abbrev pub IsFromSpace : List ℕ → Type 0
 IsFromSpace y = (y ≡ []) ⊎ ((z : List ℕ) × (y ≡ space ∷ z))
 
 -- the word occurs in the text between spaces or ends
-abbrev pub StandsIn : List ℕ → List ℕ → Type 0
-StandsIn word text =
+abbrev pub OccursIn : List ℕ → List ℕ → Type 0
+OccursIn word text =
     (x : List ℕ) × (y : List ℕ) × (text ≡ x ++ (word ++ y)) × IsUpToSpace x × IsFromSpace y
 
 -- the meaning of the test: any value; the text itself; the word has no space and occurs in the
@@ -36,6 +36,6 @@ StandsIn word text =
 abbrev pub IsSatisfied : Operator → List ℕ → Type 0
 IsSatisfied exists value = Unit {0}
 IsSatisfied (equals text) value = value ≡ text
-IsSatisfied (has_word word) value = All (λ b. b ≢ space) word × StandsIn word value
+IsSatisfied (has_word word) value = All (λ b. b ≢ space) word × OccursIn word value
 IsSatisfied (begins_with start) value =
     (value ≡ start) ⊎ ((rest : List ℕ) × (value ≡ start ++ hyphen ∷ rest))

@@ -169,7 +169,7 @@ fn ties_elements(rt: HostRuntime) -> Result<(), Fail> {
 const THREE: &str = "0\ta\tid=x\tclass=u v\t=e\n1\tb\r\n1\tc\n";
 
 /// An attribute, an operator, and the answer of the first element.
-const ASKED: &[(&str, AttributeOperator<'static>, bool)] = &[
+const TESTED: &[(&str, AttributeOperator<'static>, bool)] = &[
     ("id", AttributeOperator::Exists, true),
     ("id", AttributeOperator::Matches("x"), true),
     ("id", AttributeOperator::Matches(""), false),
@@ -185,7 +185,7 @@ const ASKED: &[(&str, AttributeOperator<'static>, bool)] = &[
 fn answers_of_attributes(rt: HostRuntime) -> Result<(), Fail> {
     let page = Page::read(rt.alloc(), THREE)?;
     let a = page.node(0).ok_or("no node")?;
-    for &(key, operator, answer) in ASKED {
+    for &(key, operator, answer) in TESTED {
         let found = a.attribute_matches(key, operator);
         same(&rt, (operator, found), (operator, answer), key);
     }

@@ -58,7 +58,7 @@ const GIVEN: &[(&str, &[(&str, &str, bool)])] = &[
 ];
 
 #[test]
-fn gives_declarations_as_they_stand(rt: HostRuntime) {
+fn returns_declarations_in_order(rt: HostRuntime) {
     assert_gives(&rt, GIVEN);
 }
 

@@ -105,7 +105,7 @@ fn weighs(rt: HostRuntime) -> Result<(), Fail> {
 }
 
 /// Texts, and the lines that the logger gets: one if the selector is refused, and else none.
-const TOLD: &[(&str, &[&str])] = &[
+const REPORTED: &[(&str, &[&str])] = &[
     (
         "> {}",
         &[
@@ -134,7 +134,7 @@ fn reported(alloc: Global, text: &str) -> Result<(Lines, bool), AllocError> {
 
 #[test]
 fn warns_why_it_refuses(rt: HostRuntime) -> Result<(), AllocError> {
-    for &(text, want) in TOLD {
+    for &(text, want) in REPORTED {
         let (lines, is_refused) = reported(rt.alloc(), text)?;
         same(
             &rt,
