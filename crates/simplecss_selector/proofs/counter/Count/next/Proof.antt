@@ -16,7 +16,7 @@ use contract.Running.{tables, tables_of}
 use sound.WpLaws.{WpFn-mono}
 use types.Kit.{‵, raw, ◌$◌, ◌∵◌, !, qed, move, suffices, done}
 use types.Run.{no_more, returns, enter}
-use types.FlatComponent.{agg}
+use types.Part.{agg}
 use types.ByLocal.{alloc_all, pass_all, free_all, look_at, sets}
 use denote.Exit.{yes}
 use denote.RattleType.{owns}
