@@ -22,9 +22,9 @@
  * whose buffer is too small does its whole work again when it is repeated: pass a buffer of a likely
  * size first.
  *
- * A call keeps nothing: any thread may call at any time, with an `out`, `len` and `place` of its own;
+ * A call keeps nothing: any thread may call at any time, with an `out`, `len` and `fault` of its own;
  * threads may share what they pass for reading. The library allocates by malloc, realloc and free, and
- * a call leaves nothing allocated. Do not call it from a signal handler. `out`, `len` and `place` must
+ * a call leaves nothing allocated. Do not call it from a signal handler. `out`, `len` and `fault` must
  * not overlap each other or anything that is passed for reading.
  *
  * Time: a style sheet is read in time that grows as its texts and, to put n rules in order, as
@@ -48,7 +48,7 @@ extern "C" {
 /* The statuses of calls. */
 #define SIMPLECSS_DONE 0u          /* the answer was written */
 #define SIMPLECSS_REFUSED 1u       /* a selector is refused, or ends are not those of texts */
-#define SIMPLECSS_TREE_FAULT 2u    /* the tree has a fault, at `*place` */
+#define SIMPLECSS_TREE_FAULT 2u    /* the tree has a fault, in `*fault` */
 #define SIMPLECSS_OUT_OF_MEMORY 3u /* an allocation failed */
 #define SIMPLECSS_NOT_UTF8 5u      /* a text is not UTF-8, or the strings of a tree are not */
 #define SIMPLECSS_TOO_SMALL 6u     /* the answer is longer than the buffer */
@@ -70,13 +70,13 @@ typedef struct simplecss_element {
                                      elements: there are strings, or bytes, that no element has */
 #define SIMPLECSS_REPEATED_KEY 4u /* two attributes have one key */
 
-/* Where a tree has a fault: the first fault of its first faulty element, in the order of these numbers
+/* A fault of a tree: the first fault of its first faulty element, in the order of these numbers
  * but for the name, which is tested after the strings. Set at SIMPLECSS_TREE_FAULT only. Elements are
  * numbered from 1. */
-typedef struct simplecss_place {
+typedef struct simplecss_tree_fault {
     uint32_t fault;
     size_t element;
-} simplecss_place;
+} simplecss_tree_fault;
 
 /* Writes the version of the library, as "0.1.0". */
 uint32_t simplecss_version(uint8_t *out, size_t out_size, size_t *len);
@@ -109,7 +109,7 @@ uint32_t simplecss_rules(const uint8_t *texts, size_t texts_len,
                          const size_t *ends, size_t ends_count,
                          uint8_t *out, size_t out_size, size_t *len);
 
-/* Writes a line of JSON for each part of a style sheet's text that is skipped:
+/* Writes a line of JSON for each piece of a style sheet's text that is skipped:
  * {"row":1,"column":1,"reason":"at-rule not supported","text":"@media print"} */
 uint32_t simplecss_skipped(const uint8_t *text, size_t text_len,
                            uint8_t *out, size_t out_size, size_t *len);
@@ -118,7 +118,8 @@ uint32_t simplecss_skipped(const uint8_t *text, size_t text_len,
  * first root too. `:lang(x)` tests the attribute `lang` of the element or of its nearest ancestor that
  * has one. `:link`, `:visited`, `:hover`, `:active` and `:focus` match no element. Names, keys and
  * values are compared byte by byte. The words of a value, of which `.a` and `[k~=a]` test one, are what
- * spaces part: where other white space of a `class` is to part words too, replace it by spaces. */
+ * spaces separate: where other white space of a `class` is to separate words too, replace it by
+ * spaces. */
 
 /* Writes a line for each element of a tree: its number, a colon, the number of each rule that matches
  * it after a space, and a newline. Elements and rules are numbered from 1. */
@@ -127,7 +128,7 @@ uint32_t simplecss_match(const uint8_t *texts, size_t texts_len,
                          const simplecss_element *elements, size_t elements_count,
                          const uint8_t *strings, size_t strings_len,
                          const size_t *string_ends, size_t string_ends_count,
-                         uint8_t *out, size_t out_size, size_t *len, simplecss_place *place);
+                         uint8_t *out, size_t out_size, size_t *len, simplecss_tree_fault *fault);
 
 /* Writes the number of each element of a tree that one of the selectors of a list matches, and a
  * newline. */
@@ -135,7 +136,7 @@ uint32_t simplecss_select(const uint8_t *selectors, size_t selectors_len,
                           const simplecss_element *elements, size_t elements_count,
                           const uint8_t *strings, size_t strings_len,
                           const size_t *string_ends, size_t string_ends_count,
-                          uint8_t *out, size_t out_size, size_t *len, simplecss_place *place);
+                          uint8_t *out, size_t out_size, size_t *len, simplecss_tree_fault *fault);
 
 /* Writes a line for each element of a tree: its number, a colon, the value of the declaration that
  * wins for the name after a space, ` !important` if it is important, and a newline. A value may have
@@ -146,7 +147,7 @@ uint32_t simplecss_style(const uint8_t *texts, size_t texts_len,
                          const uint8_t *strings, size_t strings_len,
                          const size_t *string_ends, size_t string_ends_count,
                          const uint8_t *name, size_t name_len,
-                         uint8_t *out, size_t out_size, size_t *len, simplecss_place *place);
+                         uint8_t *out, size_t out_size, size_t *len, simplecss_tree_fault *fault);
 
 /* Writes a line of JSON for each element of a tree: an array of the winning declaration of each name,
  * in the order in which the cascade applies them:
@@ -156,7 +157,7 @@ uint32_t simplecss_styles(const uint8_t *texts, size_t texts_len,
                           const simplecss_element *elements, size_t elements_count,
                           const uint8_t *strings, size_t strings_len,
                           const size_t *string_ends, size_t string_ends_count,
-                          uint8_t *out, size_t out_size, size_t *len, simplecss_place *place);
+                          uint8_t *out, size_t out_size, size_t *len, simplecss_tree_fault *fault);
 
 #ifdef __cplusplus
 }

@@ -2,7 +2,7 @@
 
     docs.py PROGRAM     PROGRAM is the built `cssq`
 
-A block of code below a line `<!-- from FILE -->` is a part of that file, apart from indentation; so is one in the documentation of
+A block of code below a line `<!-- from FILE -->` is in that file, apart from indentation; so is one in the documentation of
 an item. The README's table of commands shows what the program prints, with the files of the blocks below lines
 `<!-- file NAME -->`, of which page.tree is what tools/html_tree.py writes of page.html. The words of its other command lines are
 files of the repository. What docs/DIFFERENCES.md shows of sheets is what the program prints. The files
@@ -36,7 +36,7 @@ def flush(lines):
     return [line[depth:].rstrip() for line in lines]
 
 
-def is_part(block, text):
+def is_within(block, text):
     """Whether the lines of a block follow one another in a text, apart from indentation."""
     lines = text.split("\n")
     wanted = flush(block)
@@ -76,7 +76,7 @@ for name, text in documents:
         if source:
             named += 1
             where = os.path.join(top, source[1])
-            expect(os.path.isfile(where) and is_part(block, read(source[1])), f"{name}: {source[1]} has no {block[:1]}..")
+            expect(os.path.isfile(where) and is_within(block, read(source[1])), f"{name}: {source[1]} has no {block[:1]}..")
         else:
             expect(above.startswith("<!-- file ") or above == "<!-- run -->", f"{name}: no source is named of {block[:1]}..")
 expect(named > 0, "no document names a source")
@@ -95,8 +95,8 @@ def choices(path):
 for crate, files in re.findall(r"^\| (`\w+`|tests, documents) \| (.*) \|$", read("docs/ARCHITECTURE.md").split("## How to add a rule", 1)[-1], re.MULTILINE):
     folders = [os.path.join("crates", crate.strip("`"))] if "`" in crate else ["crates", ""]
     for path in (whole for words in re.findall(r"`([^` *]+/[^` *]*)`", files) for whole in choices(words)):
-        places = [os.path.join(top, folder, path + ending) for folder in folders for ending in ("", ".antt", ".rt")]
-        expect(any(map(os.path.exists, places)), f"docs/ARCHITECTURE.md: {crate} has no {path}")
+        paths = [os.path.join(top, folder, path + ending) for folder in folders for ending in ("", ".antt", ".rt")]
+        expect(any(map(os.path.exists, paths)), f"docs/ARCHITECTURE.md: {crate} has no {path}")
 
 # ---- the sheets that docs/DIFFERENCES.md shows
 

@@ -1,6 +1,6 @@
 """Tests the C library and the Python package: builds the library by tools/build_library, tests its calls by
 library_calls.py, compiles the C example by the toolchain's clang and runs it, refuses each request for memory of each
-call in turn, installs into a folder, and runs the package's unit tests. The last line is `N passed, M failed`."""
+call, one after another, installs into a folder, and runs the package's unit tests. The last line is `N passed, M failed`."""
 
 import glob
 import os

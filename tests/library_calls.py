@@ -13,8 +13,8 @@ SIZE = ctypes.c_size_t
 MARK = 0xA5
 
 
-class Place(ctypes.Structure):
-    """Where a tree has a fault."""
+class TreeFault(ctypes.Structure):
+    """A fault of a tree."""
 
     _fields_ = [("fault", ctypes.c_uint32), ("element", SIZE)]
 
@@ -55,12 +55,12 @@ def words_of(arguments):
 
 
 def call(library, name, arguments, room):
-    """The status, the buffer, the length, and the place of a call with a buffer of so many bytes."""
+    """The status, the buffer, the length, and the fault of a call with a buffer of `room` bytes."""
     out = (ctypes.c_uint8 * (room + 4))(*([MARK] * (room + 4)))
-    length, place = SIZE(77), Place(88, 99)
-    tail = (ctypes.byref(place),) if name in WITH_TREE else ()
+    length, fault = SIZE(77), TreeFault(88, 99)
+    tail = (ctypes.byref(fault),) if name in WITH_TREE else ()
     status = getattr(library, name)(*words_of(arguments), out, SIZE(room), ctypes.byref(length), *tail)
-    return status, bytes(out), length.value, (place.fault, place.element)
+    return status, bytes(out), length.value, (fault.fault, fault.element)
 
 
 SHEET = buffer_of((b"ul > li { color: red }", b".new { color: blue !important }"))
@@ -140,12 +140,12 @@ def test_answers(check, library):
     for name, arguments, expected in ANSWERS:
         need = len(expected)
         for room in range(need + 2):
-            status, out, length, place = call(library, name, arguments, room)
+            status, out, length, fault = call(library, name, arguments, room)
             fits = room >= need
             front = expected if fits else b""
             whole = front + bytes([MARK] * (room + 4 - len(front)))
             due = (DONE if fits else TOO_SMALL, whole, need, (88, 99))
-            check((status, out, length, place) == due, name, f"room {room}: {status} {out} {length} {place}")
+            check((status, out, length, fault) == due, name, f"room {room}: {status} {out} {length} {fault}")
 
 
 def test_failures(check, library):
@@ -155,10 +155,10 @@ def test_failures(check, library):
         rows += [(name, arguments, TREE_FAULT, (fault, element)) for name, arguments in (
             ("simplecss_match", (*SHEET, *page)), ("simplecss_styles", (*SHEET, *page)),
             ("simplecss_style", (*SHEET, *page, b"color")), ("simplecss_select", (b"a", *page)))]
-    for name, arguments, status, place in rows:
+    for name, arguments, status, fault in rows:
         for room in (0, 64):
             found = call(library, name, arguments, room)
-            check(found == (status, bytes([MARK] * (room + 4)), 0, place), name, f"{status}: {found}")
+            check(found == (status, bytes([MARK] * (room + 4)), 0, fault), name, f"{status}: {found}")
 
 
 def test_threads(check, library):

@@ -21,7 +21,7 @@ static uint8_t out[4096];
 
 int main(int count, char **words) {
     size_t len = 77;
-    simplecss_place place = {0, 0};
+    simplecss_tree_fault fault = {0, 0};
     int call = count == 2 ? atoi(words[1]) : -1;
     uint32_t status = 99;
     memset(out, 0xA5, sizeof(out));
@@ -33,10 +33,10 @@ int main(int count, char **words) {
     case 3: status = simplecss_sheet(SHEET, OUT); break;
     case 4: status = simplecss_rules(SHEET, OUT); break;
     case 5: status = simplecss_skipped(TEXT(sheet), OUT); break;
-    case 6: status = simplecss_match(SHEET, TREE, OUT, &place); break;
-    case 7: status = simplecss_select(TEXT("li, ul > .new"), TREE, OUT, &place); break;
-    case 8: status = simplecss_style(SHEET, TREE, TEXT("color"), OUT, &place); break;
-    case 9: status = simplecss_styles(SHEET, TREE, OUT, &place); break;
+    case 6: status = simplecss_match(SHEET, TREE, OUT, &fault); break;
+    case 7: status = simplecss_select(TEXT("li, ul > .new"), TREE, OUT, &fault); break;
+    case 8: status = simplecss_style(SHEET, TREE, TEXT("color"), OUT, &fault); break;
+    case 9: status = simplecss_styles(SHEET, TREE, OUT, &fault); break;
     case 10: status = simplecss_version(OUT); break;
     default: break;
     }

@@ -111,10 +111,10 @@ def holds(element, kind, key, value):
     return True
 
 
-def has_placement(elements, place, components):
-    """Whether the components can be placed, the last of them on the element at this place."""
+def has_placement(elements, index, components):
+    """Whether the components can be placed, the last of them on the element at this index."""
     combinator, (name, conditions) = components[-1]
-    element = elements[place]
+    element = elements[index]
     if name not in (None, element[1]) or not all(holds(element, *each) for each in conditions):
         return False
     if not combinator:
@@ -139,9 +139,9 @@ def main():
                 file.writelines(line(each) for each in elements)
             rules = sorted(selectors, key=specificity)
             wanted = ""
-            for place in range(len(elements)):
-                found = [i + 1 for i, rule in enumerate(rules) if has_placement(elements, place, rule)]
-                wanted += f"{place + 1}:" + "".join(f" {i}" for i in found) + "\n"
+            for index in range(len(elements)):
+                found = [i + 1 for i, rule in enumerate(rules) if has_placement(elements, index, rule)]
+                wanted += f"{index + 1}:" + "".join(f" {i}" for i in found) + "\n"
             done = subprocess.run([program, "match", sheet_path, page_path], stdin=subprocess.DEVNULL, capture_output=True, text=True, check=False)
             counts.expect((done.returncode, done.stdout) == (0, wanted), f"pair {number}")
     return counts.end()

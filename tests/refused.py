@@ -1,9 +1,9 @@
-"""Each request for memory that a call of the libraries makes is refused in turn.
+"""Each request for memory that a call of the libraries makes is refused, one after another.
 
     refused.py CALLS SHIM     CALLS is the built `tests_refusals`, SHIM the built tests/refuse.c
 
-A call answers its want of memory where the refused request was its own, and what it answers with ample memory where the
-request was the logger's; nothing else takes its place. In each of these runs the calls that take no memory answer the same, and
+A call answers that it is out of memory if the refused request was its own, and what it answers with ample memory if the
+request was the logger's; there is no other answer. In each of these runs the calls that take no memory answer the same, and
 make no request. Prints a line for each call with the number of refused requests, then 'N passed, M failed'; the status is 1 if
 something failed.
 """

@@ -120,7 +120,7 @@ class Reader:
     # Declarations.
 
     def past_name(self, i):
-        """What is left after a name, or after what is there in its place."""
+        """What is left after a name, or after what is there in place of one."""
         try:
             return self.name(i)
         except Fault as fault:

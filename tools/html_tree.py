@@ -20,9 +20,9 @@ SPECIAL = re.compile("[\t\r\n]")
 
 
 def warn(name, row, column, words):
-    """Writes a warning with its place, as far as it is known."""
-    place = "" if row is None else f"{row}:{column}:"
-    print(f"{name}:{place} {words}", file=sys.stderr)
+    """Writes a warning with its position, as far as it is known."""
+    position = "" if row is None else f"{row}:{column}:"
+    print(f"{name}:{position} {words}", file=sys.stderr)
 
 
 def read(name):

@@ -38,12 +38,12 @@ int main(void) {
     uint8_t *out = malloc(1);
     size_t size = 0;
     size_t len = 0;
-    simplecss_place place = {0, 0};
+    simplecss_tree_fault fault = {0, 0};
     uint32_t status = SIMPLECSS_TOO_SMALL;
     while (out != NULL) {
         status = simplecss_match((const uint8_t *)sheet, sheet_len, sheet_ends, COUNT(texts),
                                  elements, COUNT(elements), (const uint8_t *)names, names_len,
-                                 name_ends, COUNT(strings), out, size, &len, &place);
+                                 name_ends, COUNT(strings), out, size, &len, &fault);
         if (status != SIMPLECSS_TOO_SMALL) {
             break;
         }
@@ -52,7 +52,7 @@ int main(void) {
         out = malloc(size);
     }
     if (out == NULL || status != SIMPLECSS_DONE) {
-        fprintf(stderr, "status %u, element %zu\n", (unsigned)status, place.element);
+        fprintf(stderr, "status %u, element %zu\n", (unsigned)status, fault.element);
         free(out);
         return 1;
     }

@@ -49,7 +49,7 @@ def _tree(name: str) -> Tree:
         raise _Failure(f"{name}:{error}", REFUSED) from None
 
 
-def _place(name: str, row: Optional[int], column: Optional[int]) -> str:
+def _position(name: str, row: Optional[int], column: Optional[int]) -> str:
     """Returns `file:row:column`, in bold on a terminal."""
     text = name if row is None else f"{name}:{row}:{column}"
     return f"\033[1m{text}\033[0m" if sys.stdout.isatty() else text
@@ -71,12 +71,12 @@ def _print_json(value: Any) -> None:
 def _match(words: argparse.Namespace) -> int:
     sheet = StyleSheet(*map(_read, words.sheets))
     tree = _tree(words.page)
-    for place, (element, found) in enumerate(zip(tree.elements, sheet.match(tree))):
+    for index, (element, found) in enumerate(zip(tree.elements, sheet.match(tree))):
         if words.json:
-            _print_json({"element": place, "name": element.name, "rules": found})
+            _print_json({"element": index, "name": element.name, "rules": found})
         else:
             selectors = ", ".join(sheet.rules[rule].selector for rule in found)
-            print(f"{_place(words.page, element.row, element.column)}: {_tag(element)} {selectors}")
+            print(f"{_position(words.page, element.row, element.column)}: {_tag(element)} {selectors}")
     return DONE
 
 
@@ -86,26 +86,26 @@ def _select(words: argparse.Namespace) -> int:
         found = tree.select(words.selectors)
     except SelectorError as error:
         raise _Failure(f"selector refused: {error}", REFUSED) from None
-    for place in found:
-        element = tree.elements[place]
+    for index in found:
+        element = tree.elements[index]
         if words.json:
-            _print_json({"element": place, "name": element.name, "row": element.row,
+            _print_json({"element": index, "name": element.name, "row": element.row,
                          "column": element.column})
         else:
-            print(f"{_place(words.page, element.row, element.column)}: {_tag(element)}")
+            print(f"{_position(words.page, element.row, element.column)}: {_tag(element)}")
     return DONE
 
 
 def _style(words: argparse.Namespace) -> int:
     sheet = StyleSheet(*map(_read, words.sheets))
     tree = _tree(words.page)
-    for place, (element, winner) in enumerate(zip(tree.elements, sheet.style(tree, words.name))):
+    for index, (element, winner) in enumerate(zip(tree.elements, sheet.style(tree, words.name))):
         if words.json:
             value = None if winner is None else winner._asdict()
-            _print_json({"element": place, "name": element.name, "winner": value})
+            _print_json({"element": index, "name": element.name, "winner": value})
         elif winner is not None:
-            place_text = _place(words.page, element.row, element.column)
-            print(f"{place_text}: {_tag(element)} {winner}")
+            position = _position(words.page, element.row, element.column)
+            print(f"{position}: {_tag(element)} {winner}")
     return DONE
 
 
@@ -128,7 +128,7 @@ def _lint(words: argparse.Namespace) -> int:
             _print_json({"file": name, "row": part.row, "column": part.column,
                          "reason": part.reason, "text": part.text})
         else:
-            print(f"{_place(name, part.row, part.column)}: '{part.text}': {part.reason}")
+            print(f"{_position(name, part.row, part.column)}: '{part.text}': {part.reason}")
     return REFUSED if skipped else DONE
 
 

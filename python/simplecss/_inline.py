@@ -49,9 +49,9 @@ class _Content(NamedTuple):
 
 
 class _Reader(_HtmlParser):
-    """Collects the elements of a document, the places of their tags, and its `style` elements.
+    """Collects the elements of a document, the offsets of their tags, and its `style` elements.
 
-    A `tbody` whose tag is left out is an element without a place, as it is one in a browser.
+    A `tbody` whose tag is left out is an element without a tag, as it is one in a browser.
     """
 
     def __init__(self, text: str) -> None:
@@ -99,56 +99,56 @@ class _Reader(_HtmlParser):
             self._style = None
 
 
-def _skip_string(css: str, place: int) -> int:
-    """Returns the place after the string that begins at a place."""
-    quote = css[place]
-    place += 1
-    while place < len(css) and css[place] != quote:
-        place += 2 if css[place] == "\\" else 1
-    return min(place + 1, len(css))
+def _skip_string(css: str, offset: int) -> int:
+    """Returns the offset after the string that begins at an offset."""
+    quote = css[offset]
+    offset += 1
+    while offset < len(css) and css[offset] != quote:
+        offset += 2 if css[offset] == "\\" else 1
+    return min(offset + 1, len(css))
 
 
-def _skip_comment(css: str, place: int) -> int:
-    """Returns the place after the comment that begins at a place."""
-    end = css.find("*/", place + 2)
+def _skip_comment(css: str, offset: int) -> int:
+    """Returns the offset after the comment that begins at an offset."""
+    end = css.find("*/", offset + 2)
     return len(css) if end < 0 else end + 2
 
 
-def _skip_until(css: str, place: int, stops: str) -> int:
-    """Returns the next place of one of the stops outside strings, comments and brackets."""
+def _skip_until(css: str, offset: int, stops: str) -> int:
+    """Returns the next offset of one of the stops outside strings, comments and brackets."""
     depth = 0
-    while place < len(css):
-        c = css[place]
+    while offset < len(css):
+        c = css[offset]
         if depth == 0 and c in stops:
-            return place
+            return offset
         if c in "\"'":
-            place = _skip_string(css, place)
+            offset = _skip_string(css, offset)
             continue
-        if css.startswith("/*", place):
-            place = _skip_comment(css, place)
+        if css.startswith("/*", offset):
+            offset = _skip_comment(css, offset)
             continue
         if c in "([{":
             depth += 1
         elif c in ")]}" and depth > 0:
             depth -= 1
-        place += 1
+        offset += 1
     return len(css)
 
 
-def _skip_blank(css: str, place: int) -> int:
-    """Returns the place after spaces, comments, and the marks `<!--` and `-->`."""
-    while place < len(css):
-        if css[place] in _SPACES:
-            place += 1
-        elif css.startswith("/*", place):
-            place = _skip_comment(css, place)
-        elif css.startswith("<!--", place):
-            place += 4
-        elif css.startswith("-->", place):
-            place += 3
+def _skip_blank(css: str, offset: int) -> int:
+    """Returns the offset after spaces, comments, and the marks `<!--` and `-->`."""
+    while offset < len(css):
+        if css[offset] in _SPACES:
+            offset += 1
+        elif css.startswith("/*", offset):
+            offset = _skip_comment(css, offset)
+        elif css.startswith("<!--", offset):
+            offset += 4
+        elif css.startswith("-->", offset):
+            offset += 3
         else:
             break
-    return place
+    return offset
 
 
 def _statements(css: str) -> List[Tuple[str, str]]:
@@ -157,41 +157,41 @@ def _statements(css: str) -> List[Tuple[str, str]]:
     A block that the end of the text closes gets its brace.
     """
     found = []
-    place = _skip_blank(css, 0)
-    while place < len(css):
-        head_end = _skip_until(css, place, "{;" if css[place] == "@" else "{")
+    offset = _skip_blank(css, 0)
+    while offset < len(css):
+        head_end = _skip_until(css, offset, "{;" if css[offset] == "@" else "{")
         end = head_end
         if css[head_end : head_end + 1] == "{":
             end = _skip_until(css, head_end + 1, "}")
         is_open = end == len(css) and head_end < end
-        found.append((css[place:head_end], css[head_end : end + 1] + "}" * is_open))
-        place = _skip_blank(css, end + 1)
+        found.append((css[offset:head_end], css[head_end : end + 1] + "}" * is_open))
+        offset = _skip_blank(css, end + 1)
     return found
 
 
 def _pieces(text: str, separator: str) -> List[str]:
     """Returns the text cut at a separator outside strings, comments and brackets."""
     found = []
-    place = 0
-    while place <= len(text):
-        end = _skip_until(text, place, separator)
-        found.append(text[place:end].strip(_SPACES))
-        place = end + 1
+    offset = 0
+    while offset <= len(text):
+        end = _skip_until(text, offset, separator)
+        found.append(text[offset:end].strip(_SPACES))
+        offset = end + 1
     return found
 
 
 def _without_comments(text: str) -> str:
     """Returns the text with a space in place of each comment outside strings."""
     parts = []
-    last = place = 0
-    while place < len(text):
-        if text[place] in "\"'":
-            place = _skip_string(text, place)
-        elif text.startswith("/*", place):
-            parts.append(text[last:place] + " ")
-            last = place = _skip_comment(text, place)
+    last = offset = 0
+    while offset < len(text):
+        if text[offset] in "\"'":
+            offset = _skip_string(text, offset)
+        elif text.startswith("/*", offset):
+            parts.append(text[last:offset] + " ")
+            last = offset = _skip_comment(text, offset)
         else:
-            place += 1
+            offset += 1
     parts.append(text[last:])
     return "".join(parts)
 
@@ -199,20 +199,20 @@ def _without_comments(text: str) -> str:
 def _is_balanced(value: str) -> bool:
     """Whether brackets and strings are closed."""
     waiting = []
-    place = 0
-    while place < len(value):
-        c = value[place]
+    offset = 0
+    while offset < len(value):
+        c = value[offset]
         if c in "\"'":
-            end = _skip_string(value, place)
-            if end - place < 2 or value[end - 1] != c:
+            end = _skip_string(value, offset)
+            if end - offset < 2 or value[end - 1] != c:
                 return False
-            place = end
+            offset = end
             continue
         if c in "([{":
             waiting.append(")]}"["([{".index(c)])
         elif c in ")]}" and (not waiting or waiting.pop() != c):
             return False
-        place += 1
+        offset += 1
     return not waiting
 
 
@@ -239,7 +239,7 @@ def _in_lower_case(printed: str) -> Optional[str]:
     Returns `None` if the text is not one that reads back.
     """
     parts = re.split(r"('(?:\\.|[^'])*')", printed, flags=re.DOTALL)
-    text = "".join(part if place % 2 else part.lower() for place, part in enumerate(parts))
+    text = "".join(part if index % 2 else part.lower() for index, part in enumerate(parts))
     try:
         return text if str(Selector(text)) == text else None
     except SelectorError:
@@ -291,7 +291,7 @@ class _Rules:
         return "\n".join(inlined), "\n".join(kept)
 
     def texts(self, winners: List[Declaration]) -> List[str]:
-        """Returns the declarations that the winners stand for, in order."""
+        """Returns the declarations that the winners denote, in order."""
         return [str(each) for winner in winners for each in self.values[int(winner.value)]]
 
 
@@ -332,8 +332,8 @@ def _escape(text: str, quote: str) -> str:
 def _own_style(tag: str) -> Optional[Tuple[int, int, str, str]]:
     """Returns where the attribute `style` of a start tag is, its raw value, and its quote."""
     name = re.match(r"<[^\s/>]+", tag)
-    place = name.end() if name else 1
-    for found in _ATTRIBUTE.finditer(tag, place):
+    offset = name.end() if name else 1
+    for found in _ATTRIBUTE.finditer(tag, offset):
         if found.group(1).lower() != "style":
             continue
         value = found.group(2) or ""
@@ -350,12 +350,12 @@ def _new_tag(tag: str, declarations: List[str]) -> str:
     style = _escape("; ".join(declarations), quote)
     if own is None:
         name = re.match(r"<[^\s/>]+", tag)
-        place = len(tag) - (2 if tag.endswith("/>") else 1)
-        if tag[place:] not in (">", "/>"):
-            place = name.end() if name else place
-        while place > 0 and tag[place - 1].isspace():
-            place -= 1
-        return f'{tag[:place]} style="{style}"{tag[place:]}'
+        offset = len(tag) - (2 if tag.endswith("/>") else 1)
+        if tag[offset:] not in (">", "/>"):
+            offset = name.end() if name else offset
+        while offset > 0 and tag[offset - 1].isspace():
+            offset -= 1
+        return f'{tag[:offset]} style="{style}"{tag[offset:]}'
     start, end, raw, quote = own
     both = f"{style}; {raw}" if raw.strip() else style
     return f"{tag[:start]}style={quote}{both}{quote}{tag[end:]}"
@@ -377,7 +377,7 @@ def _in_head(elements: List[Element]) -> List[bool]:
     return found
 
 
-def _place_of_style(reader: _Reader) -> int:
+def _offset_of_style(reader: _Reader) -> int:
     """Returns where a new `style` element goes: at the end of the head, or before the content."""
     if reader.head_end is not None:
         return reader.head_end
@@ -404,8 +404,8 @@ def inline(html: str, css: str = "") -> str:
     inlined, kept = rules.split(css)
     sheets = [inlined]
     if kept:
-        place = _place_of_style(reader)
-        edits[(place, place)] = f"<style>\n{kept}\n</style>"
+        offset = _offset_of_style(reader)
+        edits[(offset, offset)] = f"<style>\n{kept}\n</style>"
     for content in reader.styles:
         if not _is_plain(reader.elements[content.element]):
             continue
@@ -419,10 +419,10 @@ def inline(html: str, css: str = "") -> str:
             edits[(content.start, content.end)] = ""
     winners = StyleSheet(*sheets).styles(Tree(reader.elements))
     skipped = _in_head(reader.elements)
-    for place, tag in enumerate(reader.tags):
-        if tag is not None and winners[place] and not skipped[place]:
+    for index, tag in enumerate(reader.tags):
+        if tag is not None and winners[index] and not skipped[index]:
             text = html[tag.start : tag.end]
-            edits[(tag.start, tag.end)] = _new_tag(text, rules.texts(winners[place]))
+            edits[(tag.start, tag.end)] = _new_tag(text, rules.texts(winners[index]))
     parts = []
     last = 0
     for (start, end), text in sorted(edits.items()):

@@ -42,7 +42,7 @@ class Answer(NamedTuple):
     fault: Optional[TreeFault]
 
 
-class _Place(ctypes.Structure):
+class _TreeFault(ctypes.Structure):
     _fields_ = [("fault", ctypes.c_uint32), ("element", ctypes.c_size_t)]
 
 
@@ -125,7 +125,7 @@ def ends_of(texts: Sequence[bytes]) -> "ctypes.Array[ctypes.c_size_t]":
     return (ctypes.c_size_t * len(texts)).from_buffer_copy(ends)
 
 
-def call(name: str, *arguments: Any, room: int, with_place: bool = False) -> Answer:
+def call(name: str, *arguments: Any, room: int, with_fault: bool = False) -> Answer:
     """Calls a function of the library.
 
     An argument is a text, an array of ends, or the arrays of a tree. `room` is the length of the
@@ -138,9 +138,9 @@ def call(name: str, *arguments: Any, room: int, with_place: bool = False) -> Ans
         for part in parts:
             words.append(part)
             words.append(ctypes.c_size_t(len(part)))
-    place = _Place()
+    found = _TreeFault()
     length = ctypes.c_size_t(0)
-    tail: Tuple[Any, ...] = (ctypes.byref(place),) if with_place else ()
+    tail: Tuple[Any, ...] = (ctypes.byref(found),) if with_fault else ()
     while True:
         buffer = ctypes.create_string_buffer(room)
         status = function(*words, buffer, ctypes.c_size_t(room), ctypes.byref(length), *tail)
@@ -149,6 +149,6 @@ def call(name: str, *arguments: Any, room: int, with_place: bool = False) -> Ans
         room = length.value
     if status == OUT_OF_MEMORY:
         raise MemoryError(name)
-    fault = TreeFault(place.fault, place.element) if status == TREE_FAULT else None
+    fault = TreeFault(found.fault, found.element) if status == TREE_FAULT else None
     output = ctypes.string_at(buffer, length.value) if status == DONE else b""
     return Answer(status, output, fault)

@@ -131,9 +131,9 @@ class StyleSheet:
         self._ends = library.ends_of(self._texts)
         self._rules: Optional[Tuple[Rule, ...]] = None
 
-    def _call(self, name: str, *arguments: Any, room: int, with_place: bool = False) -> bytes:
+    def _call(self, name: str, *arguments: Any, room: int, with_fault: bool = False) -> bytes:
         answer = library.call(
-            name, self._buffer, self._ends, *arguments, room=room, with_place=with_place
+            name, self._buffer, self._ends, *arguments, room=room, with_fault=with_fault
         )
         if answer.status != library.DONE:
             raise RuntimeError(f"{name}: unexpected status {answer.status}")
@@ -177,14 +177,14 @@ class StyleSheet:
         return "\0".join(rule.selector for rule in self.rules)
 
     def match(self, tree: Tree) -> List[List[int]]:
-        """Returns for each element the indexes of the rules that match it, in order."""
+        """Returns for each element the indices of the rules that match it, in order."""
         arrays = tree._arrays(self._selectors)
         room = 1024 + 16 * len(tree) + 4 * len(arrays)
-        output = self._call("simplecss_match", arrays, room=room, with_place=True)
+        output = self._call("simplecss_match", arrays, room=room, with_fault=True)
         lines = output.split(b"\n")
         lines.pop()
-        indexes = _Indexes()
-        return [indexes[line.partition(b":")[2]].copy() for line in lines]
+        indices = _Indices()
+        return [indices[line.partition(b":")[2]].copy() for line in lines]
 
     def styles(self, tree: Tree) -> List[List[Declaration]]:
         """Returns for each element the winning declaration of each name (CSS 2.1 section 6.4.1).
@@ -194,7 +194,7 @@ class StyleSheet:
         """
         arrays = tree._arrays(self._selectors)
         room = 1024 + 64 * len(tree) + 16 * len(arrays)
-        output = self._call("simplecss_styles", arrays, room=room, with_place=True)
+        output = self._call("simplecss_styles", arrays, room=room, with_fault=True)
         return [[_declaration(value) for value in values] for values in _lines(output)]
 
     def style(self, tree: Tree, name: str) -> List[Optional[Declaration]]:
@@ -208,10 +208,10 @@ class StyleSheet:
         ]
 
 
-class _Indexes(Dict[bytes, List[int]]):
-    """The indexes that each text of numbers from 1 stands for: most elements share few texts."""
+class _Indices(Dict[bytes, List[int]]):
+    """The indices that each text of numbers from 1 denotes: most elements share few texts."""
 
     def __missing__(self, numbers: bytes) -> List[int]:
-        indexes = [int(number) - 1 for number in numbers.split()]
-        self[numbers] = indexes
-        return indexes
+        indices = [int(number) - 1 for number in numbers.split()]
+        self[numbers] = indices
+        return indices

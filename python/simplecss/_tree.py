@@ -13,7 +13,7 @@ from . import _library as library
 class TreeError(ValueError):
     """A document is no tree that selectors can match.
 
-    `row` and `column` begin at 1, and are `None` where the place is not known.
+    `row` and `column` begin at 1, and are `None` where the position is not known.
     """
 
     def __init__(self, reason: str, row: Optional[int], column: Optional[int]) -> None:
@@ -105,8 +105,8 @@ class _HtmlParser(HTMLParser):
 
     def _close(self, depth: int) -> None:
         """Ends the open elements from this depth on."""
-        for place in self.open[depth:]:
-            self.counts[self.elements[place].name] -= 1
+        for index in self.open[depth:]:
+            self.counts[self.elements[index].name] -= 1
         del self.open[depth:]
 
     def _is_foreign(self) -> bool:
@@ -177,20 +177,20 @@ class Tree:
         # The arrays of the tree, with the values of `class` as they are and with single spaces.
         self._passed: Dict[bool, library.TreeArrays] = {}
         last: List[int] = []
-        for place, element in enumerate(self._elements):
-            self._place(place, element, last)
+        for index, element in enumerate(self._elements):
+            self._append(index, element, last)
 
-    def _place(self, place: int, element: Element, last: List[int]) -> None:
+    def _append(self, index: int, element: Element, last: List[int]) -> None:
         """Adds the depth of an element, whose parent must be one of the elements still open."""
         depth = 0
         if element.parent is not None:
-            if not 0 <= element.parent < place:
+            if not 0 <= element.parent < index:
                 raise self._error(element, "the parent is not an earlier element")
             depth = self._depths[element.parent] + 1
             if depth > len(last) or last[depth - 1] != element.parent:
                 raise self._error(element, "the elements are not in document order")
         del last[depth:]
-        last.append(place)
+        last.append(index)
         self._depths.append(depth)
         if not element.name:
             raise self._error(element, "the name is empty")
@@ -243,8 +243,8 @@ class Tree:
             elements.append(
                 Element(_local(node.tag), attributes, parent, row, None if row is None else 1)
             )
-            place = len(elements) - 1
-            waiting.extend((child, place) for child in reversed(list(node)))
+            index = len(elements) - 1
+            waiting.extend((child, index) for child in reversed(list(node)))
         return cls(elements)
 
     @property
@@ -292,7 +292,7 @@ class Tree:
             _encode(selectors),
             self._arrays(lambda: selectors),
             room=1024 + 8 * len(self._elements),
-            with_place=True,
+            with_fault=True,
         )
         if answer.status == library.REFUSED:
             raise selector_error(selectors)

@@ -8,9 +8,9 @@ use Rattle.std.proofs.lemmas.List.{take_more, take_all, length-map, get_or-map}
 use Rattle.simplecss.specs.Declarations.{StyleDeclaration}
 use Rattle.simplecss.specs.DeclarationViews.{declaration_of, declarations_of}
 use Rattle.simplecss.specs.declared.Declaration.{Declaration}
-use Rattle.cssq.specs.Winners.{Standing, weight, Beats, WinsAt, NoneStands, Wins, IsEarlier}
+use Rattle.cssq.specs.Winners.{DeclarationSet, weight, Beats, WinsAt, HasNone, Wins, IsEarlier}
 use Rattle.cssq.specs.RuleWinners.{InRule, better_of}
-use Rattle.cssq.specs.Winners.Beats.{by_importance, by_rule, by_place}
+use Rattle.cssq.specs.Winners.Beats.{by_importance, by_rule, by_index}
 
 -- ---- the order
 
@@ -22,38 +22,38 @@ weight_small false = omega arith
 pub beats_weight : {x y : StyleDeclaration} {i j k l : ℕ} → Beats x i j y k l → weight y.important ≤ weight x.important
 beats_weight (by_importance a) = omega (arith, a)
 beats_weight (by_rule a b) = omega (arith, a)
-beats_weight (by_place a b d) = omega (arith, a)
+beats_weight (by_index a b d) = omega (arith, a)
 
 -- one of an earlier rule beats only by importance
 pub beats_earlier : {x y : StyleDeclaration} {i j k l : ℕ} → Beats x i j y k l → i < k → weight y.important < weight x.important
 beats_earlier (by_importance a) h = a
 beats_earlier (by_rule a b) h = absurd (omega (arith, b, h))
-beats_earlier (by_place a b d) h = absurd (omega (arith, b, h))
+beats_earlier (by_index a b d) h = absurd (omega (arith, b, h))
 
 pub beats_same : {x y : StyleDeclaration} {i j k l : ℕ} → i ≡ k → j ≡ l → x ≡ y → Beats x i j y k l → ⊥
 beats_same e f g (by_importance a) = let same = ap (λ p. weight p.important) g in omega (arith, a, same)
 beats_same e f g (by_rule a b) = omega (arith, e, b)
-beats_same e f g (by_place a b d) = omega (arith, f, d)
+beats_same e f g (by_index a b d) = omega (arith, f, d)
 
 beats_trans : {x y z : StyleDeclaration} {i j k l m n : ℕ} → Beats x i j y k l → Beats y k l z m n → Beats x i j z m n
 beats_trans (by_importance a) (by_importance f) = by_importance (omega (arith, a, f))
 beats_trans (by_importance a) (by_rule f g) = by_importance (omega (arith, a, f))
-beats_trans (by_importance a) (by_place f g h) = by_importance (omega (arith, a, f))
+beats_trans (by_importance a) (by_index f g h) = by_importance (omega (arith, a, f))
 beats_trans (by_rule a b) (by_importance f) = by_importance (omega (arith, a, f))
 beats_trans (by_rule a b) (by_rule f g) = by_rule (a ∙ f) (omega (arith, b, g))
-beats_trans (by_rule a b) (by_place f g h) = by_rule (a ∙ f) (omega (arith, b, g))
-beats_trans (by_place a b d) (by_importance f) = by_importance (omega (arith, a, f))
-beats_trans (by_place a b d) (by_rule f g) = by_rule (a ∙ f) (omega (arith, b, g))
-beats_trans (by_place a b d) (by_place f g h) = by_place (a ∙ f) (g ∙ b) (omega (arith, d, h))
+beats_trans (by_rule a b) (by_index f g h) = by_rule (a ∙ f) (omega (arith, b, g))
+beats_trans (by_index a b d) (by_importance f) = by_importance (omega (arith, a, f))
+beats_trans (by_index a b d) (by_rule f g) = by_rule (a ∙ f) (omega (arith, b, g))
+beats_trans (by_index a b d) (by_index f g h) = by_index (a ∙ f) (g ∙ b) (omega (arith, d, h))
 
 pub beats_as_later : {x y : StyleDeclaration} {i j k l : ℕ} → weight x.important ≡ weight y.important → IsEarlier k l i j → Beats x i j y k l
 beats_as_later e (inl lt) = by_rule e lt
-beats_as_later e (inr h) = by_place e h.0 h.1
+beats_as_later e (inr h) = by_index e h.0 h.1
 
-not_two_by : (stands : Standing) (name : List ℕ) (i k j l : ℕ) (p q : StyleDeclaration) → IsEarlier i k j l → WinsAt stands name i k p → WinsAt stands name j l q → (q.important ≡ p.important) ⊎ ((weight p.important < weight q.important) ⊎ (weight q.important < weight p.important)) → ⊥
-not_two_by stands name i k j l p q lt won other (inl e) = won.unbeaten j l q other.stated other.named (beats_as_later (ap weight e) lt)
-not_two_by stands name i k j l p q lt won other (inr (inl less)) = won.unbeaten j l q other.stated other.named (by_importance less)
-not_two_by stands name i k j l p q lt won other (inr (inr less)) = other.unbeaten i k p won.stated won.named (by_importance less)
+not_two_by : (has : DeclarationSet) (name : List ℕ) (i k j l : ℕ) (p q : StyleDeclaration) → IsEarlier i k j l → WinsAt has name i k p → WinsAt has name j l q → (q.important ≡ p.important) ⊎ ((weight p.important < weight q.important) ⊎ (weight q.important < weight p.important)) → ⊥
+not_two_by has name i k j l p q lt won other (inl e) = won.unbeaten j l q other.stated other.named (beats_as_later (ap weight e) lt)
+not_two_by has name i k j l p q lt won other (inr (inl less)) = won.unbeaten j l q other.stated other.named (by_importance less)
+not_two_by has name i k j l p q lt won other (inr (inr less)) = other.unbeaten i k p won.stated won.named (by_importance less)
 
 weights : (b d : Bool) → (b ≡ d) ⊎ ((weight d < weight b) ⊎ (weight b < weight d))
 weights true true = inl refl
@@ -61,20 +61,20 @@ weights true false = inr (inl (omega arith))
 weights false true = inr (inr (omega arith))
 weights false false = inl refl
 
--- no two places win
-pub not_two : (stands : Standing) (name : List ℕ) (i k j l : ℕ) (p q : StyleDeclaration) → IsEarlier i k j l → WinsAt stands name i k p → WinsAt stands name j l q → ⊥
-not_two stands name i k j l p q lt won other = not_two_by stands name i k j l p q lt won other (weights q.important p.important)
+-- no two indices win
+pub not_two : (has : DeclarationSet) (name : List ℕ) (i k j l : ℕ) (p q : StyleDeclaration) → IsEarlier i k j l → WinsAt has name i k p → WinsAt has name j l q → ⊥
+not_two has name i k j l p q lt won other = not_two_by has name i k j l p q lt won other (weights q.important p.important)
 
 -- ---- one more after all others
 
 -- what is stated, and one more after all of it
-pub record OneMore (before after : Standing) (i j : ℕ) (p : StyleDeclaration) : Type 0 where
+pub record OneMore (before after : DeclarationSet) (i j : ℕ) (p : StyleDeclaration) : Type 0 where
   pub kept : (k l : ℕ) (q : StyleDeclaration) → before k l q → after k l q
   pub new : after i j p
   pub either : (k l : ℕ) (q : StyleDeclaration) → after k l q → before k l q ⊎ ((k ≡ i) × (l ≡ j) × (q ≡ p))
   pub later : (k l : ℕ) (q : StyleDeclaration) → before k l q → IsEarlier k l i j
 
-module _ (before after : Standing) (i j : ℕ) (p : StyleDeclaration) (more : OneMore before after i j p) (name : List ℕ) where
+module _ (before after : DeclarationSet) (i j : ℕ) (p : StyleDeclaration) (more : OneMore before after i j p) (name : List ℕ) where
   other_at : (k l : ℕ) (q : StyleDeclaration) → (p.name ≡ name → ⊥) → q.name ≡ name → before k l q ⊎ ((k ≡ i) × (l ≡ j) × (q ≡ p)) → before k l q
   other_at k l q not_named named (inl h) = h
   other_at k l q not_named named (inr h) = absurd (not_named (ap (λ x. x.name) (sym h.2) ∙ named))
@@ -83,23 +83,23 @@ module _ (before after : Standing) (i j : ℕ) (p : StyleDeclaration) (more : On
   others_stay m n v not_named won = record {
     stated = more.kept m n v won.stated;
     named = won.named;
-    unbeaten = λ k l q stands named. won.unbeaten k l q (other_at k l q not_named named (more.either k l q stands)) named;
+    unbeaten = λ k l q has named. won.unbeaten k l q (other_at k l q not_named named (more.either k l q has)) named;
   }
 
   -- one of another name changes nothing
   pub more_other : (w : Option StyleDeclaration) → (p.name ≡ name → ⊥) → Wins before name w → Wins after name w
-  more_other None not_named none = λ k l q stands named. none k l q (other_at k l q not_named named (more.either k l q stands)) named
+  more_other None not_named none = λ k l q has named. none k l q (other_at k l q not_named named (more.either k l q has)) named
   more_other (Some v) not_named won = (won.0, won.1, others_stay won.0 won.1 v not_named won.2)
 
-  first_unbeaten : (k l : ℕ) (q : StyleDeclaration) → NoneStands before name → q.name ≡ name → Beats q k l p i j → before k l q ⊎ ((k ≡ i) × (l ≡ j) × (q ≡ p)) → ⊥
+  first_unbeaten : (k l : ℕ) (q : StyleDeclaration) → HasNone before name → q.name ≡ name → Beats q k l p i j → before k l q ⊎ ((k ≡ i) × (l ≡ j) × (q ≡ p)) → ⊥
   first_unbeaten k l q none named beats (inl h) = none k l q h named
   first_unbeaten k l q none named beats (inr h) = beats_same h.0 h.1 h.2 beats
 
-  pub first : NoneStands before name → p.name ≡ name → WinsAt after name i j p
+  pub first : HasNone before name → p.name ≡ name → WinsAt after name i j p
   first none named = record {
     stated = more.new;
     named = named;
-    unbeaten = λ k l q stands same beats. first_unbeaten k l q none same beats (more.either k l q stands);
+    unbeaten = λ k l q has same beats. first_unbeaten k l q none same beats (more.either k l q has);
   }
 
   module _ (m n : ℕ) (v : StyleDeclaration) (won : WinsAt before name m n v) where
@@ -111,7 +111,7 @@ module _ (before after : Standing) (i j : ℕ) (p : StyleDeclaration) (more : On
     takes_over named over = record {
       stated = more.new;
       named = named;
-      unbeaten = λ k l q stands same beats. taken_unbeaten k l q over same beats (more.either k l q stands);
+      unbeaten = λ k l q has same beats. taken_unbeaten k l q over same beats (more.either k l q has);
     }
 
     kept_unbeaten : (k l : ℕ) (q : StyleDeclaration) → weight p.important < weight v.important → q.name ≡ name → Beats q k l v m n → before k l q ⊎ ((k ≡ i) × (l ≡ j) × (q ≡ p)) → ⊥
@@ -125,7 +125,7 @@ module _ (before after : Standing) (i j : ℕ) (p : StyleDeclaration) (more : On
     stays lighter = record {
       stated = more.kept m n v won.stated;
       named = won.named;
-      unbeaten = λ k l q stands same beats. kept_unbeaten k l q lighter same beats (more.either k l q stands);
+      unbeaten = λ k l q has same beats. kept_unbeaten k l q lighter same beats (more.either k l q has);
     }
 
     better_at : (a b : Bool) → v.important ≡ a → p.important ≡ b → p.name ≡ name → Wins after name (Some (if a && not b then v else p))

@@ -25,17 +25,17 @@ numbers_push first (false ∷ answers) answer =
     let at : first + 1 + length answers ≡ first + suc (length answers) = omega arith in
     numbers_push (first + 1) answers answer ∙ ap (λ n. items_where_true answers (range_with_len (first + 1) (length answers)) ++ cond answer (n ∷ []) []) at
 
--- the answers for the first rules, of which those at these places are a yes
-pub record AnsweredSoFar (rules : List StyleRule) (element : Spot) (count : ℕ) (places : List ℕ) : Type 0 where
+-- the answers for the first rules, of which those at these indices are a yes
+pub record AnsweredSoFar (rules : List StyleRule) (element : Spot) (count : ℕ) (indices : List ℕ) : Type 0 where
   pub answers : List Bool
   pub are : AreAnswers answers (take count rules) element
   pub counted : length answers ≡ count
-  pub numbers : numbers_of answers ≡ map (λ place. place + 1) places
+  pub numbers : numbers_of answers ≡ map (λ index. index + 1) indices
 
 pub answered_none : (rules : List StyleRule) (element : Spot) → AnsweredSoFar rules element 0 []
 answered_none rules element = record { answers = []; are = tt; counted = refl; numbers = refl }
 
-module _ {rules : List StyleRule} {element : Spot} {i : ℕ} {places : List ℕ} (so_far : AnsweredSoFar rules element i places) (rule : StyleRule) (within : i < length rules) (at : get_or rules i rule ≡ rule) where
+module _ {rules : List StyleRule} {element : Spot} {i : ℕ} {indices : List ℕ} (so_far : AnsweredSoFar rules element i indices) (rule : StyleRule) (within : i < length rules) (at : get_or rules i rule ≡ rule) where
   more : (answer : Bool) → ((answer ≡ true) ↔ Takes rule element) → AreAnswers (so_far.answers ++ answer ∷ []) (take (i + 1) rules) element
   more answer reports =
       subst (λ rs. AreAnswers (so_far.answers ++ answer ∷ []) rs element) (sym (take_more rules i rule within ∙ ap (λ r. take i rules ++ r ∷ []) at))
@@ -44,7 +44,7 @@ module _ {rules : List StyleRule} {element : Spot} {i : ℕ} {places : List ℕ}
   longer : (answer : Bool) → length (so_far.answers ++ answer ∷ []) ≡ i + 1
   longer answer = length-append so_far.answers (answer ∷ []) ∙ ap (λ n. n + 1) so_far.counted
 
-  pub answered_yes : Takes rule element → AnsweredSoFar rules element (i + 1) (places ++ i ∷ [])
+  pub answered_yes : Takes rule element → AnsweredSoFar rules element (i + 1) (indices ++ i ∷ [])
   answered_yes takes =
       let next : 1 + length so_far.answers ≡ i + 1 = omega (arith, so_far.counted) in
       record {
@@ -52,10 +52,10 @@ module _ {rules : List StyleRule} {element : Spot} {i : ℕ} {places : List ℕ}
         are = more true (λ _. takes, λ _. refl);
         counted = longer true;
         numbers = numbers_push 1 so_far.answers true ∙ ap (λ ns. ns ++ (1 + length so_far.answers) ∷ []) so_far.numbers
-            ∙ ap (λ n. map (λ place. place + 1) places ++ n ∷ []) next ∙ sym (map-append (λ place. place + 1) places (i ∷ []));
+            ∙ ap (λ n. map (λ index. index + 1) indices ++ n ∷ []) next ∙ sym (map-append (λ index. index + 1) indices (i ∷ []));
       }
 
-  pub answered_no : (Takes rule element → ⊥) → AnsweredSoFar rules element (i + 1) places
+  pub answered_no : (Takes rule element → ⊥) → AnsweredSoFar rules element (i + 1) indices
   answered_no not_taken = record {
     answers = so_far.answers ++ false ∷ [];
     are = more false (λ e. absurd (cc), λ takes. absurd (not_taken takes));
@@ -73,20 +73,20 @@ concat_push : (lines : List (List ℕ)) (line : List ℕ) → concat (lines ++ l
 concat_push [] line = append-nil line
 concat_push (l ∷ lines) line = ap (λ t. l ++ t) (concat_push lines line) ∙ sym (append_assoc l (concat lines) line)
 
--- the lines of the first places
-pub record LinesSoFar (IsLine : ℕ → List ℕ → Type 0) (place : ℕ) (text : List ℕ) : Type 0 where
+-- the lines of the first indices
+pub record LinesSoFar (IsLine : ℕ → List ℕ → Type 0) (index : ℕ) (text : List ℕ) : Type 0 where
   pub lines : List (List ℕ)
-  pub are : AllZip IsLine (range_with_len 0 place) lines
+  pub are : AllZip IsLine (range_with_len 0 index) lines
   pub whole : text ≡ concat lines
 
 -- one more line
-pub lines_more : {IsLine : ℕ → List ℕ → Type 0} {place : ℕ} {before : List ℕ} → LinesSoFar IsLine place before → (line text : List ℕ) → IsLine place line → text ≡ before ++ line → LinesSoFar IsLine (place + 1) text
-lines_more {IsLine} {place} {before} so_far line text here added =
-    let places : range_with_len 0 (suc place) ≡ range_with_len 0 place ++ place ∷ [] = range_push 0 place ∙ (let same : 0 + place ≡ place = omega arith in ap (λ n. range_with_len 0 place ++ n ∷ []) same) in
-    let next : suc place ≡ place + 1 = omega arith in
+pub lines_more : {IsLine : ℕ → List ℕ → Type 0} {index : ℕ} {before : List ℕ} → LinesSoFar IsLine index before → (line text : List ℕ) → IsLine index line → text ≡ before ++ line → LinesSoFar IsLine (index + 1) text
+lines_more {IsLine} {index} {before} so_far line text here added =
+    let indices : range_with_len 0 (suc index) ≡ range_with_len 0 index ++ index ∷ [] = range_push 0 index ∙ (let same : 0 + index ≡ index = omega arith in ap (λ n. range_with_len 0 index ++ n ∷ []) same) in
+    let next : suc index ≡ index + 1 = omega arith in
     record {
       lines = so_far.lines ++ line ∷ [];
-      are = subst (λ ps. AllZip IsLine ps (so_far.lines ++ line ∷ [])) (sym places ∙ ap (range_with_len 0) next)
-          (all_zip_push IsLine (range_with_len 0 place) so_far.lines place line so_far.are here);
+      are = subst (λ ps. AllZip IsLine ps (so_far.lines ++ line ∷ [])) (sym indices ∙ ap (range_with_len 0) next)
+          (all_zip_push IsLine (range_with_len 0 index) so_far.lines index line so_far.are here);
       whole = added ∙ ap (λ t. t ++ line) so_far.whole ∙ sym (concat_push so_far.lines line);
     }

@@ -9,7 +9,7 @@ use Rattle.cssq_page.specs.declared.tree.TreeFault.{TreeFault}
 use Rattle.cssq_page.specs.declared.tree.TreeFault.TheVariants as reported
 use Rattle.cssq_page.specs.TreeText.{tree_of, IsFaultOf}
 use Rattle.cssq.specs.Faults.{run_fault}
-use Rattle.cssq.specs.Writing.{AppendsProperPart, Writes, FailsBeforeWriting}
+use Rattle.cssq.specs.Writing.{AppendsProperPrefix, Writes, FailsBeforeWriting}
 use Rattle.std.specs.Result.{IsErrAnd}
 use Rattle.std.specs.Io.KnownBytes.{Keeps, Appends}
 use Rattle.std.proofs.KnownBytes.{Appends-trans}
@@ -27,7 +27,7 @@ wrote_more bytes front rest n a b c whole wrote took = (
 
 -- what `write_out` leaves, where the bytes are due
 pub runs_written : (IsDue : Result (List ℕ) RunFault → Type 0) (bytes : List ℕ) (r : Result (Unit {0}) RunFault) (old new : Option (List ℕ)) → IsDue (Ok bytes)
-    → OnOk r (Appends old new bytes) → OnErr r (AppendsProperPart old new bytes) → IfErr r (λ fault. fault ≡ Output) → Writes IsDue r old new
+    → OnOk r (Appends old new bytes) → OnErr r (AppendsProperPrefix old new bytes) → IfErr r (λ fault. fault ≡ Output) → Writes IsDue r old new
 runs_written IsDue bytes (Ok x) old new due ok err fault = (bytes, due, ok)
 runs_written IsDue bytes (Err Output) old new due ok err fault = (bytes, due, err)
 runs_written IsDue bytes (Err Memory) old new due ok err fault = absurd (cc)

@@ -33,9 +33,9 @@ numbers_line number numbers = decimal number ++ (colon ∷ (numbers_text numbers
 
 -- the line of the element at an index
 abbrev pub IsLineOf : List StyleRule → List Row → ℕ → List ℕ → Type 0
-IsLineOf rules rows place line =
-    (answers : List Bool) × AreAnswers answers rules (spot rows place)
-    × (line ≡ numbers_line (place + 1) (numbers_of answers))
+IsLineOf rules rows index line =
+    (answers : List Bool) × AreAnswers answers rules (spot rows index)
+    × (line ≡ numbers_line (index + 1) (numbers_of answers))
 
 -- the text is a line for each index below the count, in order
 abbrev pub AreLines : (ℕ → List ℕ → Type 0) → ℕ → List ℕ → Type 0

@@ -15,8 +15,8 @@ IsElementLine (Winner name) = IsStyleLineOf name.now
 
 -- the line of the element at an index was appended to a text
 abbrev pub AppendsElementLine : LineContent → List StyleRule → List Row → ℕ → List ℕ → List ℕ → Type 0
-AppendsElementLine content rules rows place old new =
-    (line : List ℕ) × IsElementLine content rules rows place line × (new ≡ old ++ line)
+AppendsElementLine content rules rows index old new =
+    (line : List ℕ) × IsElementLine content rules rows index line × (new ≡ old ++ line)
 
 -- the lines of all elements, in order
 abbrev pub AreElementLines : LineContent → List StyleRule → List Row → List ℕ → Type 0

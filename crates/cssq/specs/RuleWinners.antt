@@ -9,10 +9,10 @@ use Rattle.std.specs.Borrow.{Bor}
 use Rattle.std.specs.BTreeMap.{BTreeMap, get_by}
 use Rattle.std.specs.Ordering.{nat_cmp}
 use Rattle.std.specs.Cmp.Lexicographic.{slice_cmp}
-use Rattle.cssq.specs.Winners.{Standing, weight, Wins, WinsAt, NoneStands}
+use Rattle.cssq.specs.Winners.{DeclarationSet, weight, Wins, WinsAt, HasNone}
 
 -- the declarations of one rule, whose index is `i`
-abbrev pub InRule : ℕ → List StyleDeclaration → Standing
+abbrev pub InRule : ℕ → List StyleDeclaration → DeclarationSet
 InRule i declarations k l q = (k ≡ i) × (slice_get declarations l ≡ Some q)
 
 -- the later, unless only the earlier is important
@@ -40,17 +40,17 @@ IsPassedOver tree n rule name is_later_known =
 
 -- the index that a map has for a name
 abbrev pub index_for_name : BTreeMap (Bor (List ℕ)) ℕ → List ℕ → Option ℕ
-index_for_name places name = get_by (λ key. slice_cmp nat_cmp name key.now) places
+index_for_name indices name = get_by (λ key. slice_cmp nat_cmp name key.now) indices
 
 -- the index of what wins for the name among the declarations of a list, or none if none has the
 -- name
 abbrev pub IsBestIndex : List StyleDeclaration → List ℕ → Option ℕ → Type 0
-IsBestIndex declarations name None = NoneStands (InRule 0 declarations) name
+IsBestIndex declarations name None = HasNone (InRule 0 declarations) name
 IsBestIndex declarations name (Some k) = (p : StyleDeclaration) × WinsAt (InRule 0 declarations) name 0 k p
 
 -- the map has for each name the index of what wins for it
 abbrev pub HasBestIndices : BTreeMap (Bor (List ℕ)) ℕ → List StyleDeclaration → Type 0
-HasBestIndices places declarations = (name : List ℕ) → IsBestIndex declarations name (index_for_name places name)
+HasBestIndices indices declarations = (name : List ℕ) → IsBestIndex declarations name (index_for_name indices name)
 
 -- whether the later replaces the one at the known index, if one is known: it is at least as
 -- important

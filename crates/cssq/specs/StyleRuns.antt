@@ -28,10 +28,10 @@ style_line number winner = decimal number ++ (colon ∷ (winner_text winner ++ n
 
 -- the line of the element at an index
 abbrev pub IsStyleLineOf : List ℕ → List StyleRule → List Row → ℕ → List ℕ → Type 0
-IsStyleLineOf name rules rows place line =
+IsStyleLineOf name rules rows index line =
     (winner : Option StyleDeclaration)
-    × Wins (IsStated page_tree (spot rows place) rules) name winner
-    × (line ≡ style_line (place + 1) winner)
+    × Wins (IsStated page_tree (spot rows index) rules) name winner
+    × (line ≡ style_line (index + 1) winner)
 
 -- the lines of all elements, in order
 abbrev pub IsStyleText : List ℕ → List StyleRule → List Row → List ℕ → Type 0

@@ -8,8 +8,8 @@ use Rattle.simplecss.specs.Placements.{HasPlacement}
 
 -- A set of declarations: for each index of a rule and index in that rule, whether it has a
 -- declaration there, and which.
-abbrev pub Standing : Type 1
-Standing = ℕ → ℕ → StyleDeclaration → Type 0
+abbrev pub DeclarationSet : Type 1
+DeclarationSet = ℕ → ℕ → StyleDeclaration → Type 0
 
 -- The declaration is at index `j` of the rule at index `i`, and this rule has a placement on the
 -- node.
@@ -31,23 +31,23 @@ weight false = 0
 pub data Beats (x : StyleDeclaration) (i j : ℕ) (y : StyleDeclaration) (k l : ℕ) : Type 0 where
   by_importance : weight y.important < weight x.important → Beats x i j y k l
   by_rule : weight x.important ≡ weight y.important → k < i → Beats x i j y k l
-  by_place : weight x.important ≡ weight y.important → k ≡ i → l < j → Beats x i j y k l
+  by_index : weight x.important ≡ weight y.important → k ≡ i → l < j → Beats x i j y k l
 
 -- The declaration of the name is in the set at this index, and no other of the name in the set
 -- beats it.
-pub record WinsAt (stands : Standing) (name : List ℕ) (i j : ℕ) (p : StyleDeclaration) : Type 0 where
-  pub stated : stands i j p
+pub record WinsAt (has : DeclarationSet) (name : List ℕ) (i j : ℕ) (p : StyleDeclaration) : Type 0 where
+  pub stated : has i j p
   pub named : p.name ≡ name
-  pub unbeaten : (k l : ℕ) (q : StyleDeclaration) → stands k l q → q.name ≡ name → Beats q k l p i j → ⊥
+  pub unbeaten : (k l : ℕ) (q : StyleDeclaration) → has k l q → q.name ≡ name → Beats q k l p i j → ⊥
 
 -- none of the name is in the set
-abbrev pub NoneStands : Standing → List ℕ → Type 0
-NoneStands stands name = (i j : ℕ) (p : StyleDeclaration) → stands i j p → p.name ≡ name → ⊥
+abbrev pub HasNone : DeclarationSet → List ℕ → Type 0
+HasNone has name = (i j : ℕ) (p : StyleDeclaration) → has i j p → p.name ≡ name → ⊥
 
 -- what wins, or none if none of the name is in the set
-abbrev pub Wins : Standing → List ℕ → Option StyleDeclaration → Type 0
-Wins stands name None = NoneStands stands name
-Wins stands name (Some p) = (i : ℕ) × (j : ℕ) × WinsAt stands name i j p
+abbrev pub Wins : DeclarationSet → List ℕ → Option StyleDeclaration → Type 0
+Wins has name None = HasNone has name
+Wins has name (Some p) = (i : ℕ) × (j : ℕ) × WinsAt has name i j p
 
 -- Among the declarations of a name in the rules that have a placement on the node, a winner is one
 -- that no other beats.
@@ -56,16 +56,16 @@ IsWinner tree n name rules p = Wins (IsStated tree n rules) name (Some p)
 
 -- no rule that has a placement on the node has a declaration of the name
 abbrev pub HasNoWinner : {Node : Type 0} → Tree Node → Node → List ℕ → List StyleRule → Type 0
-HasNoWinner tree n name rules = NoneStands (IsStated tree n rules) name
+HasNoWinner tree n name rules = HasNone (IsStated tree n rules) name
 
 -- What wins on the node for its own name.
-abbrev pub WinsForItsName : {Node : Type 0} → Tree Node → Node → List StyleRule → Standing
+abbrev pub WinsForItsName : {Node : Type 0} → Tree Node → Node → List StyleRule → DeclarationSet
 WinsForItsName tree n rules i j p = WinsAt (IsStated tree n rules) p.name i j p
 
 -- a declaration with the index of its rule, and its index in the rule
-pub record Placed : Type 0 where
+pub record Indexed : Type 0 where
   pub rule : ℕ
-  pub place : ℕ
+  pub index : ℕ
   pub declaration : StyleDeclaration
 
 -- index `k` of rule `i` is before index `l` of rule `j`
@@ -74,14 +74,14 @@ IsEarlier i k j l = (i < j) ⊎ ((i ≡ j) × (k < l))
 
 -- The declarations are all those in the set, once for each index at which one is, in the order of
 -- their indices.
-pub record ListsInOrder (stands : Standing) (declarations : List StyleDeclaration) : Type 0 where
-  pub placed : List Placed
-  pub are : map (λ a. a.declaration) placed ≡ declarations
-  pub stand : (k : ℕ) (a : Placed) → slice_get placed k ≡ Some a → stands a.rule a.place a.declaration
-  pub rise : (k l : ℕ) (a b : Placed) → k < l → slice_get placed k ≡ Some a → slice_get placed l ≡ Some b
-      → IsEarlier a.rule a.place b.rule b.place
-  pub all : (i j : ℕ) (p : StyleDeclaration) → stands i j p
-      → (k : ℕ) × (slice_get placed k ≡ Some (record { rule = i; place = j; declaration = p }))
+pub record ListsInOrder (has : DeclarationSet) (declarations : List StyleDeclaration) : Type 0 where
+  pub indexed : List Indexed
+  pub are : map (λ a. a.declaration) indexed ≡ declarations
+  pub member : (k : ℕ) (a : Indexed) → slice_get indexed k ≡ Some a → has a.rule a.index a.declaration
+  pub rise : (k l : ℕ) (a b : Indexed) → k < l → slice_get indexed k ≡ Some a → slice_get indexed l ≡ Some b
+      → IsEarlier a.rule a.index b.rule b.index
+  pub all : (i j : ℕ) (p : StyleDeclaration) → has i j p
+      → (k : ℕ) × (slice_get indexed k ≡ Some (record { rule = i; index = j; declaration = p }))
 
 -- no two of the declarations have the same name
 abbrev pub HaveOwnNames : List StyleDeclaration → Type 0

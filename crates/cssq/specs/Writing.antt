@@ -5,8 +5,8 @@ use Rattle.cssq.specs.declared.runs.RunFault.{RunFault}
 use Rattle.cssq.specs.declared.runs.RunFault.TheVariants.{Refused, Tree, Memory, Output}
 
 -- a prefix of the bytes was written, but not all of them
-abbrev pub AppendsProperPart : Option (List ℕ) → Option (List ℕ) → List ℕ → Type 0
-AppendsProperPart old new bytes =
+abbrev pub AppendsProperPrefix : Option (List ℕ) → Option (List ℕ) → List ℕ → Type 0
+AppendsProperPrefix old new bytes =
     (front : List ℕ) × (rest : List ℕ) × (bytes ≡ front ++ rest) × (0 < length rest)
     × Appends old new front
 
@@ -15,7 +15,7 @@ AppendsProperPart old new bytes =
 abbrev pub Writes : (Result (List ℕ) RunFault → Type 0) → Result (Unit {0}) RunFault → Option (List ℕ)
     → Option (List ℕ) → Type 0
 Writes IsDue (Ok x) old new = (bytes : List ℕ) × IsDue (Ok bytes) × Appends old new bytes
-Writes IsDue (Err Output) old new = (bytes : List ℕ) × IsDue (Ok bytes) × AppendsProperPart old new bytes
+Writes IsDue (Err Output) old new = (bytes : List ℕ) × IsDue (Ok bytes) × AppendsProperPrefix old new bytes
 Writes IsDue (Err Memory) old new = Keeps old new
 Writes IsDue (Err Refused) old new = IsDue (Err Refused) × Keeps old new
 Writes IsDue (Err (Tree fault)) old new = IsDue (Err (Tree fault)) × Keeps old new

@@ -33,7 +33,7 @@ fn better_of<'a>(earlier: Option<Declaration<'a>>, later: Declaration<'a>) -> De
 /// The declaration of the name that wins within a rule: the last that is important, or else the
 /// last.
 fn best_of<'a>(declarations: &[Declaration<'a>], name: &str) -> Option<Declaration<'a>>
-    // Whatever the rule's place.
+    // Whatever the rule's index.
     ensures { (i : ℕ) → Wins (InRule i (declarations_of declarations.now)) name.now
         (option_map declaration_of result) }
 {
@@ -105,8 +105,8 @@ pub fn winning<'a, E: Element>(
 {
     let rules = sheet.rules.as_slice();
     let mut winner: Option<Declaration<'a>> = None;
-    for place in (0..rules.len()).rev() {
-        let Some(best) = candidate(&rules[place], element, name, winner.is_some()) else {
+    for index in (0..rules.len()).rev() {
+        let Some(best) = candidate(&rules[index], element, name, winner.is_some()) else {
             continue;
         };
         if best.important {
@@ -117,22 +117,22 @@ pub fn winning<'a, E: Element>(
     winner
 }
 
-/// Returns what `winning` returns for an element of a page, by the places of the rules that match
+/// Returns what `winning` returns for an element of a page, by the indices of the rules that match
 /// it.
 pub(crate) fn winning_among<'a>(
     rules: &[Rule<'a>],
-    places: &[usize],
+    indices: &[usize],
     name: &str,
 ) -> Option<Declaration<'a>>
-    requires { All (λ place. place < length rules.now) places.now }
+    requires { All (λ index. index < length rules.now) indices.now }
     ensures { (element : Spot)
-        → AreMatches page_tree element (map (λ rule. rule.selector) rules.now) places.now
+        → AreMatches page_tree element (map (λ rule. rule.selector) rules.now) indices.now
         → Wins (IsStated page_tree element (rules_of rules.now)) name.now
         (option_map declaration_of result) }
 {
     let mut winner: Option<Declaration<'a>> = None;
-    for i in (0..places.len()).rev() {
-        let Some(found) = contender(&rules[places[i]], name, winner.is_some()) else {
+    for i in (0..indices.len()).rev() {
+        let Some(found) = contender(&rules[indices[i]], name, winner.is_some()) else {
             continue;
         };
         if found.important {
@@ -143,7 +143,7 @@ pub(crate) fn winning_among<'a>(
     winner
 }
 
-/// Returns the declarations of the rules that match the element, in the order of their places.
+/// Returns the declarations of the rules that match the element, in the order of their indices.
 fn stated_on<'a, E: Element>(
     alloc: Global,
     rules: &[Rule<'a>],
@@ -173,27 +173,27 @@ fn takes_over(
     ensures { DecidesWhether result (declarations_of declarations.now) known
         (declaration_of later.now) }
 {
-    let Some(place) = known else {
+    let Some(index) = known else {
         return true;
     };
-    later.important || !declarations[place].important
+    later.important || !declarations[index].important
 }
 
-/// The place in the list of the declaration that wins for each name.
-pub fn best_places<'a>(
+/// Returns for each name the index in the list of the declaration that wins.
+pub fn best_indices<'a>(
     alloc: Global,
     declarations: &[Declaration<'a>],
 ) -> Result<BTreeMap<&'a str, usize>, AllocError>
-    ensures { IfOk result (λ places. HasBestIndices places (declarations_of declarations.now)) }
+    ensures { IfOk result (λ indices. HasBestIndices indices (declarations_of declarations.now)) }
 {
-    let mut places: BTreeMap<&'a str, usize> = BTreeMap::new(alloc);
-    for (place, declaration) in declarations.iter().enumerate() {
-        let known = places.get(declaration.name).copied();
+    let mut indices: BTreeMap<&'a str, usize> = BTreeMap::new(alloc);
+    for (index, declaration) in declarations.iter().enumerate() {
+        let known = indices.get(declaration.name).copied();
         if takes_over(declarations, known, declaration) {
-            places.insert(declaration.name, place)?;
+            indices.insert(declaration.name, index)?;
         }
     }
-    Ok(places)
+    Ok(indices)
 }
 
 /// Returns the declarations of the rules with these indices, in order. The rules are those that match
@@ -201,16 +201,16 @@ pub fn best_places<'a>(
 fn stated_at<'a, E: Element>(
     alloc: Global,
     rules: &[Rule<'a>],
-    places: &[usize],
+    indices: &[usize],
 ) -> Result<Vec<Declaration<'a>>, AllocError>
-    requires { All (λ place. place < length rules.now) places.now }
+    requires { All (λ index. index < length rules.now) indices.now }
     ensures { IfOk result (λ all. (element : E.Node)
-        → AreMatches E.tree element (map (λ rule. rule.selector) rules.now) places.now
+        → AreMatches E.tree element (map (λ rule. rule.selector) rules.now) indices.now
         → ListsInOrder (IsStated E.tree element (rules_of rules.now)) (declarations_of all.items)) }
 {
     let mut all = Vec::new(alloc);
-    for place in places {
-        all.extend_from_slice(&rules[*place].declarations)?;
+    for index in indices {
+        all.extend_from_slice(&rules[*index].declarations)?;
     }
     Ok(all)
 }
@@ -225,10 +225,10 @@ fn winners_of<'a, E: Element>(
         → ListsInOrder (IsStated E.tree element rules) (declarations_of stated.now)
         → ListsInOrder (WinsForItsName E.tree element rules) (declarations_of all.items)) }
 {
-    let places = best_places(alloc, stated)?;
+    let indices = best_indices(alloc, stated)?;
     let mut all = Vec::new(alloc);
-    for (place, declaration) in stated.iter().enumerate() {
-        if places.get(declaration.name).copied() == Some(place) {
+    for (index, declaration) in stated.iter().enumerate() {
+        if indices.get(declaration.name).copied() == Some(index) {
             all.push(*declaration)?;
         }
     }
@@ -275,7 +275,7 @@ pub struct Cascade<'s, 'a> {
     /// The index of the rules.
     index: RuleIndex<'a>,
     /// The indices of the rules that match the last element. The list is reused.
-    places: Vec<usize>,
+    indices: Vec<usize>,
     /// What the index found for earlier elements by their names and classes.
     recent: Recent<'a>,
 }
@@ -304,7 +304,7 @@ impl<'s, 'a> Cascade<'s, 'a> {
             alloc,
             rules,
             index,
-            places: Vec::new(alloc),
+            indices: Vec::new(alloc),
             recent,
         })
     }
@@ -317,8 +317,8 @@ impl<'s, 'a> Cascade<'s, 'a> {
         ensures same { self.new ≡ self.old }
     {
         self.index
-            .matching_recent(self.rules, element, &mut self.places, &mut self.recent)?;
-        stated_at::<E>(self.alloc, self.rules, &self.places)
+            .matching_recent(self.rules, element, &mut self.indices, &mut self.recent)?;
+        stated_at::<E>(self.alloc, self.rules, &self.indices)
     }
 
     /// Returns the declarations that win on the element, as [`winners`] does, and tests only rules

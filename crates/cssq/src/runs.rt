@@ -6,7 +6,7 @@ ghost use Rattle.std.specs.List.{flat_map};
 ghost use Rattle.std.specs.Option.{option_map};
 ghost use Rattle.std.specs.Fmt.{WritesStyledOnOk};
 ghost use Rattle.std.specs.Io.KnownBytes.{Appends};
-ghost use Rattle.cssq.specs.Writing.{AppendsProperPart, Writes, FailsBeforeWriting};
+ghost use Rattle.cssq.specs.Writing.{AppendsProperPrefix, Writes, FailsBeforeWriting};
 ghost use Rattle.cssq.specs.Faults.{status_of, message_of, run_fault};
 ghost use Rattle.cssq.specs.SelectorRuns.{selector_line, IsSelectorRun};
 ghost use Rattle.cssq.specs.SheetRuns.{sheet_output, IsSheetRun};
@@ -120,7 +120,7 @@ impl From<TreeFault> for RunFault {
 fn write_out<W: Write>(out: &mut W, bytes: &[u8]) -> Result<(), RunFault>
     ensures ok { OnOk result (Appends (W.contents out.old) (W.contents out.new) bytes.now) }
     ensures err { OnErr result
-        (AppendsProperPart (W.contents out.old) (W.contents out.new) bytes.now) }
+        (AppendsProperPrefix (W.contents out.old) (W.contents out.new) bytes.now) }
     ensures fault { IfErr result (λ fault. fault ≡ RunFault.Output) }
 {
     let mut rest = bytes;
@@ -229,15 +229,15 @@ pub fn run_sheet_into<'a, P: Report<'a>, W: Write>(
     write_out(out, text.as_bytes())
 }
 
-/// Adds the line of an element: its number, and the numbers of the rules at the places.
-fn push_line(out: &mut String, number: usize, places: &[usize]) -> Result<(), AllocError>
-    requires { All (λ place. place + 1 < 2 ^ 64) places.now }
+/// Adds the line of an element: its number, and the numbers of the rules with these indices.
+fn push_line(out: &mut String, number: usize, indices: &[usize]) -> Result<(), AllocError>
+    requires { All (λ index. index + 1 < 2 ^ 64) indices.now }
     ensures { OnOk result (string_bytes out.new
-        ≡ string_bytes out.old ++ numbers_line number (map (λ place. place + 1) places.now)) }
+        ≡ string_bytes out.old ++ numbers_line number (map (λ index. index + 1) indices.now)) }
 {
     write!(out, "{number}:")?;
-    for place in places {
-        let rule_number = *place + 1;
+    for index in indices {
+        let rule_number = *index + 1;
         write!(out, " {rule_number}")?;
     }
     out.push('\n')
@@ -274,36 +274,36 @@ pub enum LineContent<'n> {
     Winner(&'n str),
 }
 
-/// Adds the line of the element at a place of a page, by an index of the rules and what it found for
-/// earlier elements. The previous items of `places` are dropped.
+/// Adds the line of an element of a page by an index of the rules and what it found for earlier
+/// elements; `element` is the index of the element. The previous items of `indices` are dropped.
 fn push_element<'a>(
     out: &mut String,
     content: LineContent<'_>,
     index: &RuleIndex<'a>,
     rules: &[Rule<'a>],
     page: &Page<'_>,
-    place: usize,
-    places: &mut Vec<usize>,
+    element: usize,
+    indices: &mut Vec<usize>,
     recent: &mut Recent<'a>,
 ) -> Result<(), AllocError>
     requires index { index.now ≡ map (λ rule. rule.selector) rules.now }
-    requires place { place < length page.now }
-    requires number { place + 1 < 2 ^ 64 }
+    requires element { element < length page.now }
+    requires number { element + 1 < 2 ^ 64 }
     requires recent { recent.old ≡ index.now }
     ensures reported { OnOk result (AppendsElementLine content.entry
-        (rules_of rules.now) page.now place
+        (rules_of rules.now) page.now element
         (string_bytes out.old) (string_bytes out.new)) }
     ensures recent { recent.new ≡ recent.old }
 {
-    let node = page.node(place).unwrap();
-    index.matching_recent(rules, &node, places, recent)?;
-    let places = places.as_slice();
+    let node = page.node(element).unwrap();
+    index.matching_recent(rules, &node, indices, recent)?;
+    let indices = indices.as_slice();
     match content {
-        LineContent::Rules => push_line(out, place + 1, places),
+        LineContent::Rules => push_line(out, element + 1, indices),
         LineContent::Winner(name) => push_winner(
             out,
-            place + 1,
-            winning_among(rules, places, name),
+            element + 1,
+            winning_among(rules, indices, name),
         ),
     }
 }
@@ -321,18 +321,18 @@ pub fn page_lines<'a>(
         (λ text. AreElementLines content.entry (rules_of rules.now) page.now (string_bytes text)) }
     ensures fault { IfErr result (λ fault. fault ≡ RunFault.Memory) }
 {
-    let mut places = Vec::new(alloc);
+    let mut indices = Vec::new(alloc);
     let mut recent = Recent::new(alloc, index)?;
     let mut text = String::new(alloc);
-    for place in 0..page.len() {
+    for element in 0..page.len() {
         push_element(
             &mut text,
             content,
             index,
             rules,
             page,
-            place,
-            &mut places,
+            element,
+            &mut indices,
             &mut recent,
         )?;
     }

@@ -16,19 +16,19 @@ use Rattle.cssq_page.specs.internal.Spans.{name_in, attribute_text}
 
 -- what precedes the first such byte of a text
 module _ (text : List ℕ) (byte n : ℕ) (is : n ≡ position_or_len (λ b. b == byte) text) where
-  pub place_within : n ≤ length text
-  place_within = omega (arith, is, prefix_len-le-length (λ b. not (b == byte)) text)
+  pub offset_within : n ≤ length text
+  offset_within = omega (arith, is, prefix_len-le-length (λ b. not (b == byte)) text)
 
   byte_there : byte < 128 → n < length text → get_or text n 0 < 128
   byte_there ascii lt =
       let found = passes_at_first (λ b. b == byte) text 0 (omega (arith, is)) in
       omega (arith, eqb-true (get_or text (position_or_len (λ b. b == byte) text) 0) byte found, ap (λ k. get_or text k 0) is)
 
-  pub place_boundary : byte < 128 → IsCharBoundary text n
-  place_boundary ascii = (place_within, λ lt wide. absurd (omega (arith, byte_there ascii lt)))
+  pub offset_boundary : byte < 128 → IsCharBoundary text n
+  offset_boundary ascii = (offset_within, λ lt wide. absurd (omega (arith, byte_there ascii lt)))
 
-  pub place_after : IsUtf8 text → byte < 128 → n < length text → IsCharBoundary text (n + 1)
-  place_after u ascii lt = IsCharBoundary-after_ascii text n u lt (byte_there ascii lt)
+  pub offset_after : IsUtf8 text → byte < 128 → n < length text → IsCharBoundary text (n + 1)
+  offset_after u ascii lt = IsCharBoundary-after_ascii text n u lt (byte_there ascii lt)
 
 range_front : (text : List ℕ) (n : ℕ) → slice_range text 0 n ≡ take n text
 range_front text n = grind (arith, common_steps)

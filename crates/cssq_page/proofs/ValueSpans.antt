@@ -80,8 +80,8 @@ module _ (all t field : List ℕ) (shorter : length t ≤ length all) (end : dro
     λ lt wide. absurd (omega (arith, wide, get_or_drop (equals + 1) (length (value_of field)) t, tab_there (equals + 1 + length (value_of field)) (omega (arith, value_len)) (omega (arith, lt, length-drop (equals + 1) t)))),
   )
 
-  pub value_at_place : IsUtf8 all → IsAt all (length all - length t + length (key_of field) + 1) (length (value_of field)) (Some (value_of field))
-  value_at_place u = record {
+  pub value_at_offset : IsUtf8 all → IsAt all (length all - length t + length (key_of field) + 1) (length (value_of field)) (Some (value_of field))
+  value_at_offset u = record {
     starts = starts u;
     ends = subst (λ r. IsCharBoundary r (length (value_of field))) (sym rest_is) ends;
     is = ap Some (value_is ∙ ap (take (length (value_of field))) (sym rest_is));
@@ -91,7 +91,7 @@ pub value_here : (all t field : List ℕ) → length t ≤ length all → drop (
     → IsAt all (length all - length t + length key + 1) (length value) (Some value)
 value_here all t field shorter end cut some key value key_is value_is u =
     subst (λ k. IsAt all (length all - length t + length k + 1) (length value) (Some value)) (sym key_is)
-    (subst (λ v. IsAt all (length all - length t + length (key_of field) + 1) (length v) (Some v)) (sym value_is) (value_at_place all t field shorter end cut some u))
+    (subst (λ v. IsAt all (length all - length t + length (key_of field) + 1) (length v) (Some v)) (sym value_is) (value_at_offset all t field shorter end cut some u))
 
 -- what is left of a text is its end
 pub end_all : (all : List ℕ) → (length all ≤ length all) × (drop (length all - length all) all ≡ all)

@@ -1,6 +1,6 @@
 -- The laws of an element: its depth and its parent's, its parent and its sibling's, and that it
 -- reports every key that it has. They are proofs, and are in this folder since the traits `Element`
--- and `Keyed` require them: an impl names them, so they are part of what is stated.
+-- and `Keyed` require them: an impl names them, so they belong to what is stated.
 use Rattle.std.proofs.Common.{◌≡◌, ℕ, zero, suc, ◌+◌, ◌<◌, ◌≤◌, Bool, true, false, cond, List, take, get_or, refl, sym, ap, ◌∙◌, subst, arith, Option, None, Some, IfSome, MatchOption}
 use Rattle.std.specs.Prelude.{nat_lt, ◌==◌, IsTrue, is_some}
 use Rattle.std.specs.Option.{option_map, option_map_or}

@@ -76,8 +76,8 @@ fn own_style(line: &str) -> &str {
 /// Prints each line of the tree with its style.
 fn print(rt: &HostRuntime, sheet: &StyleSheet<'_>, page: &Page<'_>, tree: &str) -> io::Result<()> {
     let mut cascade = Cascade::new(rt.alloc(), &sheet.rules)?;
-    for (place, line) in tree.split('\n').enumerate() {
-        let Some(element) = page.node(place) else {
+    for (index, line) in tree.split('\n').enumerate() {
+        let Some(element) = page.node(index) else {
             break;
         };
         let winners = cascade.winners(&element)?;

@@ -44,28 +44,28 @@ pub struct Spot<'t> {
     /// All entries.
     pub entries: &'t [Entry<'t>],
     /// The index of this one.
-    pub place: usize,
-    pub ghost within: { place < length entries.now },
+    pub index: usize,
+    pub ghost within: { index < length entries.now },
 }
 
 /// Returns the index of the parent, if that is less.
-fn parent_of(entries: &[Entry<'_>], place: usize) -> Option<usize>
-    requires { place < length entries.now }
-    ensures value { result ≡ parent_index entry_list entries.now place }
-    ensures before { IfSome result (λ parent. parent < place) }
+fn parent_of(entries: &[Entry<'_>], index: usize) -> Option<usize>
+    requires { index < length entries.now }
+    ensures value { result ≡ parent_index entry_list entries.now index }
+    ensures before { IfSome result (λ parent. parent < index) }
 {
-    let parent = entries[place].parent?;
-    if parent < place { Some(parent) } else { None }
+    let parent = entries[index].parent?;
+    if parent < index { Some(parent) } else { None }
 }
 
 /// Returns the index of the previous sibling, if that is less and has the same parent.
-fn previous_of(entries: &[Entry<'_>], place: usize) -> Option<usize>
-    requires { place < length entries.now }
-    ensures value { result ≡ sibling_index entry_list entries.now place }
-    ensures before { IfSome result (λ previous. previous < place) }
+fn previous_of(entries: &[Entry<'_>], index: usize) -> Option<usize>
+    requires { index < length entries.now }
+    ensures value { result ≡ sibling_index entry_list entries.now index }
+    ensures before { IfSome result (λ previous. previous < index) }
 {
-    let previous = entries[place].previous?;
-    if previous < place && parent_of(entries, previous) == parent_of(entries, place) {
+    let previous = entries[index].previous?;
+    if previous < index && parent_of(entries, previous) == parent_of(entries, index) {
         Some(previous)
     } else {
         None
@@ -76,9 +76,9 @@ impl<'t> Spot<'t> {
     /// Returns the value of an attribute.
     fn value(&self, name: &str) -> Option<&'t str>
         ensures { option_map (λ value. value.now) result
-            ≡ value_at self.now.entries.now self.now.place name.now }
+            ≡ value_at self.now.entries.now self.now.index name.now }
     {
-        self.entries[self.place].value(name)
+        self.entries[self.index].value(name)
     }
 }
 
@@ -89,7 +89,7 @@ impl<'t> Element for Spot<'t> {
 
     ghost tree = { list_tree entry_list };
 
-    ghost node = { λ spot. (spot.entries.now, spot.place) };
+    ghost node = { λ spot. (spot.entries.now, spot.index) };
 
     ghost depth_law = { list_counts_ancestors entry_list };
 
@@ -97,18 +97,18 @@ impl<'t> Element for Spot<'t> {
 
     fn parent_element(&self) -> Option<Self> {
         let entries = self.entries;
-        let place = parent_of(entries, self.place)?;
-        Some(Spot { entries, place })
+        let index = parent_of(entries, self.index)?;
+        Some(Spot { entries, index })
     }
 
     fn prev_sibling_element(&self) -> Option<Self> {
         let entries = self.entries;
-        let place = previous_of(entries, self.place)?;
-        Some(Spot { entries, place })
+        let index = previous_of(entries, self.index)?;
+        Some(Spot { entries, index })
     }
 
     fn has_local_name(&self, name: &str) -> bool {
-        self.entries[self.place].name == name
+        self.entries[self.index].name == name
     }
 
     fn attribute_matches(&self, local_name: &str, operator: AttributeOperator<'_>) -> bool {
@@ -120,7 +120,7 @@ impl<'t> Element for Spot<'t> {
 
     fn pseudo_class_matches(&self, class: PseudoClass<'_>) -> bool {
         match class {
-            PseudoClass::FirstChild => previous_of(self.entries, self.place).is_none(),
+            PseudoClass::FirstChild => previous_of(self.entries, self.index).is_none(),
             _ => false,
         }
     }
@@ -128,12 +128,12 @@ impl<'t> Element for Spot<'t> {
 
 /// Reports its name, and the values of `id` and `class`.
 impl<'t> Keyed for Spot<'t> {
-    ghost reported = { λ spot. reported_at (spot.entries.now, spot.place) };
+    ghost reported = { λ spot. reported_at (spot.entries.now, spot.index) };
 
-    ghost reported_law = { λ spot. keys_reported (spot.entries.now, spot.place) };
+    ghost reported_law = { λ spot. keys_reported (spot.entries.now, spot.index) };
 
     fn local_name(&self) -> &str {
-        self.entries[self.place].name
+        self.entries[self.index].name
     }
 
     fn id_value(&self) -> Option<&str> {

@@ -12,7 +12,7 @@ use std::{env, fs, io};
 /// What a text is as a list of selectors with commas between them.
 #[derive(Drop)]
 enum List<'a> {
-    /// Each part is a selector.
+    /// Each item is a selector.
     Selectors(Vec<Selector<'a>>),
     /// From here on it is none.
     Refused(&'a str),
@@ -52,13 +52,13 @@ fn print_matches(
     tree: &str,
 ) -> io::Result<bool> {
     let mut is_found = false;
-    for (place, line) in tree.split('\n').enumerate() {
-        let Some(element) = page.node(place) else {
+    for (index, line) in tree.split('\n').enumerate() {
+        let Some(element) = page.node(index) else {
             break;
         };
         if is_matched(selectors, &element) {
             is_found = true;
-            println!(rt; "{}: {line}", place + 1)?;
+            println!(rt; "{}: {line}", index + 1)?;
         }
     }
     Ok(is_found)

@@ -21,16 +21,16 @@ fn push_line<'t>(
     line: &'t str,
 ) -> Result<usize, TreeError> {
     let mut fields = line.split('\t');
-    let place = tree.push(parent, fields.next().unwrap_or(""))?;
+    let index = tree.push(parent, fields.next().unwrap_or(""))?;
     for field in fields {
         if let Some((name, value)) = field.split_once('=') {
             tree.set_attribute(name, value)?;
         }
     }
-    Ok(place)
+    Ok(index)
 }
 
-/// Reads a picture. `open` has the depth and the place of each element whose children may follow.
+/// Reads a picture. `open` has the depth and the index of each element whose children may follow.
 fn read_picture(alloc: Global, text: &str) -> Result<Tree<'_>, TreeError> {
     let mut tree = Tree::new(alloc);
     let mut open: Vec<(usize, usize)> = Vec::new(alloc);
@@ -38,9 +38,9 @@ fn read_picture(alloc: Global, text: &str) -> Result<Tree<'_>, TreeError> {
         let content = line.trim_start_matches(' ');
         let depth = line.len() - content.len();
         open.retain(|(other, _)| *other < depth);
-        let parent = open.last().map(|(_, place)| *place);
-        let place = push_line(&mut tree, parent, content)?;
-        open.push((depth, place))?;
+        let parent = open.last().map(|(_, index)| *index);
+        let index = push_line(&mut tree, parent, content)?;
+        open.push((depth, index))?;
     }
     Ok(tree)
 }
@@ -69,8 +69,8 @@ fn print_declarations(
 /// Prints each element with its declarations, the weakest first.
 fn print(rt: &HostRuntime, sheet: &StyleSheet<'_>, tree: &Tree<'_>) -> io::Result<()> {
     let mut cascade = Cascade::new(rt.alloc(), &sheet.rules)?;
-    for place in 0..tree.len() {
-        let Some(element) = tree.node(place) else {
+    for index in 0..tree.len() {
+        let Some(element) = tree.node(index) else {
             break;
         };
         let stated = cascade.stated(&element)?;

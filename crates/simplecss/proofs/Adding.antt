@@ -1,4 +1,4 @@
--- Places that are added to others.
+-- Indices that are added to others.
 -- Serves `RuleIndex::matching_counted` (indices are gathered from chains).
 use Rattle.std.proofs.Common.{◌≡◌, ℕ, zero, suc, ◌<◌, ◌↔◌, ◌⊎◌, get_or, inl, inr, List, [], ◌∷◌, ◌++◌, eqb, sym, ap, ◌∙◌, subst, arith, append_assoc, append-nil}
 use Rattle.std.specs.List.{Contains, dedup}

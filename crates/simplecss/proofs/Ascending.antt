@@ -90,8 +90,8 @@ module _ (test : ℕ → Bool) where
           ap (λ y. y ∷ xs) (sym h.0) ∙ ap (λ ys. a ∷ ys) (rest xs rising h.1)
       at rest false e xs r are = let h = without_first n a xs e r are in rest xs h.0 h.1
 
-  pub places_are : (n : ℕ) (indices : List ℕ) → AreTheIndices (λ index. IsTrue (test index)) n indices → indices ≡ filter test (range_with_len 0 n)
-  places_are n indices are = are_passed n 0 indices (rises 0 indices (λ some. omega arith) are.ascending) (λ x. (
+  pub indices_are : (n : ℕ) (indices : List ℕ) → AreTheIndices (λ index. IsTrue (test index)) n indices → indices ≡ filter test (range_with_len 0 n)
+  indices_are n indices are = are_passed n 0 indices (rises 0 indices (λ some. omega arith) are.ascending) (λ x. (
     λ c. let h = (are.exactly x).0 c in (omega arith, omega (arith, h.0), h.1),
     λ h. (are.exactly x).1 (omega (arith, h.1), h.2),
   ))

@@ -24,7 +24,7 @@ use Rattle.simplecss.specs.SelectorIndices.{selector_at, key_at, Adds}
 use Rattle.simplecss.specs.declared.index.link.Link.{Link}
 use Rattle.simplecss.specs.declared.index.last_by_wanted.LastByWanted.{LastByWanted}
 use Rattle.simplecss.proofs.Adding.{contains_none, contains_one, added}
-use Rattle.simplecss.proofs.Ascending.{places_are, sum_of_values, values_at}
+use Rattle.simplecss.proofs.Ascending.{indices_are, sum_of_values, values_at}
 use Rattle.simplecss.proofs.Following.{After}
 
 -- each key leads to the last of all selectors with it
@@ -85,7 +85,7 @@ module _ (is_wanted : Wanted → Bool) (lasts : LastByWanted) (links : List Link
   pub led_within : (old indices sorted : List ℕ) → ((index : ℕ) → Contains old index → index < length selectors) → Adds old indices (Leads is_wanted lasts) → ((index : ℕ) → Contains sorted index ↔ Contains indices index) → (index : ℕ) → Contains sorted index → index < length selectors
   led_within old indices sorted within leads same index c = elim ((added old indices leads index).0 ((same index).0 c)) [ inl x ↦ within index x | inr y ↦ (led_to index y).0 ]
 
--- the starts, and what stands before them in their chains, are all selectors whose key is reported
+-- the starts, and what is before them in their chains, are all selectors whose key is reported
 pub are_keyed : (reported : Near) (selectors : List (List Component)) (starts sorted all final : List ℕ) → AreStarts (reports_wanted reported) selectors starts → ((index : ℕ) → Contains sorted index ↔ Contains starts index)
     → Adds sorted all (After selectors sorted) → IsStrictlyIncreasing final → ((index : ℕ) → Contains final index ↔ Contains all index) → AreKeyed reported selectors final
 are_keyed reported selectors starts sorted all final are same after up same_again = record {
@@ -165,7 +165,7 @@ candidate_within reported above selectors candidates are k d lt = ((are.exactly 
 pub sum_of_candidates : (reported : Near) (above : ℕ) (selectors : List (List Component)) (candidates : List ℕ) (cost : List Component → ℕ) → AreCandidates reported above selectors candidates → sum_by (λ index. cost (selector_at selectors index)) candidates ≡ sum_by cost (tested_for reported above selectors)
 sum_of_candidates reported above selectors candidates cost are =
     let all = range_with_len 0 (length selectors) in
-    ap (sum_by (λ index. cost (selector_at selectors index))) (places_are (λ index. is_tested reported above (selector_at selectors index)) (length selectors) candidates are) ∙ sum_of_values (selector_at selectors) (is_tested reported above) cost all ∙ ap (λ ss. sum_by cost (tested_for reported above ss)) (values_at selectors [])
+    ap (sum_by (λ index. cost (selector_at selectors index))) (indices_are (λ index. is_tested reported above (selector_at selectors index)) (length selectors) candidates are) ∙ sum_of_values (selector_at selectors) (is_tested reported above) cost all ∙ ap (λ ss. sum_by cost (tested_for reported above ss)) (values_at selectors [])
 
 ones : {X : Type 0} (xs : List X) → sum_by (λ x. 1) xs ≡ length xs
 ones [] = refl

@@ -102,8 +102,8 @@ chain_push old new links link chained leads takes = record {
 -- a link that leads to the last selector with its key is appended
 pub link_more : (old new : LastByWanted) (links more : List Link) (link : Link) (index : ℕ) (known : Option ℕ) (s : List Component) (key : Wanted) → AreChained old links → index ≡ length links → key ≡ wanted_of s → known ≡ last_wanted old key → TakesWanted old new key index → link.earlier ≡ known → link.selector.value ≡ s → more ≡ links ++ link ∷ []
     → AreChained new more × (selectors_of more ≡ selectors_of links ++ s ∷ [])
-link_more old new links more link index known s key chained place_is key_is is takes leads value e =
+link_more old new links more link index known s key chained index_is key_is is takes leads value e =
     let own : key ≡ wanted_of link.selector.value = key_is ∙ ap wanted_of (sym value) in (
-      subst (AreChained new) (sym e) (chain_push old new links link chained (leads ∙ is ∙ ap (last_wanted old) own) (subst (TakesWanted old new (wanted_of link.selector.value)) place_is (subst (λ k. TakesWanted old new k index) own takes))),
+      subst (AreChained new) (sym e) (chain_push old new links link chained (leads ∙ is ∙ ap (last_wanted old) own) (subst (TakesWanted old new (wanted_of link.selector.value)) index_is (subst (λ k. TakesWanted old new k index) own takes))),
       ap selectors_of e ∙ map-append (λ l. l.selector.value) links (link ∷ []) ∙ ap (λ v. selectors_of links ++ v ∷ []) value,
     )

@@ -24,18 +24,18 @@ module _ (selectors : List (List Component)) where
   abbrev pub Between : ℕ → ℕ → Wanted → ℕ → Type 0
   Between start end key index = (start ≤ index) × (index < end) × (key_at selectors index ≡ key)
 
-  abbrev pub StandsBefore : ℕ → Wanted → Option ℕ → Type 0
-  StandsBefore end key None = Unit {0}
-  StandsBefore end key (Some index) = (index < end) × (key_at selectors index ≡ key)
+  abbrev pub IsBefore : ℕ → Wanted → Option ℕ → Type 0
+  IsBefore end key None = Unit {0}
+  IsBefore end key (Some index) = (index < end) × (key_at selectors index ≡ key)
 
   -- the indices from the end of what is left of the chain on were added
   pub record Follows (start : ℕ) (old new : List ℕ) (left : Option ℕ) : Type 0 where
-    pub stands : StandsBefore start (key_at selectors start) left
+    pub before : IsBefore start (key_at selectors start) left
     pub adds : Adds old new (Between (end_of left) start (key_at selectors start))
 
-  last_stands : (end : ℕ) (key : Wanted) (left : Option ℕ) → IsLastBefore selectors end key left → StandsBefore end key left
-  last_stands end key None h = tt
-  last_stands end key (Some index) h = (h.0, h.1)
+  last_before : (end : ℕ) (key : Wanted) (left : Option ℕ) → IsLastBefore selectors end key left → IsBefore end key left
+  last_before end key None h = tt
+  last_before end key (Some index) h = (h.0, h.1)
 
   none_after : (end : ℕ) (key : Wanted) (left : Option ℕ) → IsLastBefore selectors end key left → (index : ℕ) → Between (end_of left) end key index → ⊥
   none_after end key None h index b = h index b.1 b.2
@@ -43,30 +43,30 @@ module _ (selectors : List (List Component)) where
 
   pub chain_start : (start : ℕ) (old : List ℕ) (left : Option ℕ) → IsLastBefore selectors start (key_at selectors start) left → Follows start old old left
   chain_start start old left h = record {
-    stands = last_stands start (key_at selectors start) left h;
+    before = last_before start (key_at selectors start) left h;
     adds = adds_none old (Between (end_of left) start (key_at selectors start)) (none_after start (key_at selectors start) left h);
   }
 
   pub chain_more : (start : ℕ) (old new more : List ℕ) (index : ℕ) (left : Option ℕ) → Follows start old new (Some index) → IsLastBefore selectors index (key_at selectors index) left → more ≡ new ++ index ∷ [] → Follows start old more left
   chain_more start old new more index left f h e = record {
-    stands = further left (last_stands index (key_at selectors index) left h);
+    before = further left (last_before index (key_at selectors index) left h);
     adds = adds_as old more (λ p. (there p, back p)) (adds_then old new more f.adds (adds_one new more index e));
   }
     where
       same : key_at selectors index ≡ key_at selectors start
-      same = f.stands.1
+      same = f.before.1
 
-      further : (left : Option ℕ) → StandsBefore index (key_at selectors index) left → StandsBefore start (key_at selectors start) left
+      further : (left : Option ℕ) → IsBefore index (key_at selectors index) left → IsBefore start (key_at selectors start) left
       further None s = tt
-      further (Some p) s = let lt = f.stands.0 in (omega (arith, s.0, lt), s.1 ∙ same)
+      further (Some p) s = let lt = f.before.0 in (omega (arith, s.0, lt), s.1 ∙ same)
 
-      le : (left : Option ℕ) → StandsBefore index (key_at selectors index) left → end_of left ≤ index
+      le : (left : Option ℕ) → IsBefore index (key_at selectors index) left → end_of left ≤ index
       le None s = omega arith
       le (Some p) s = omega (arith, s.0)
 
       there : (p : ℕ) → Between (index + 1) start (key_at selectors start) p ⊎ (index ≡ p) → Between (end_of left) start (key_at selectors start) p
-      there p (inl b) = let l = le left (last_stands index (key_at selectors index) left h) in (omega (arith, b.0, l), b.1, b.2)
-      there p (inr e) = subst (Between (end_of left) start (key_at selectors start)) e (le left (last_stands index (key_at selectors index) left h), f.stands.0, same)
+      there p (inl b) = let l = le left (last_before index (key_at selectors index) left h) in (omega (arith, b.0, l), b.1, b.2)
+      there p (inr e) = subst (Between (end_of left) start (key_at selectors start)) e (le left (last_before index (key_at selectors index) left h), f.before.0, same)
 
       order : (p : ℕ) → (index + 1 ≤ p) ⊎ ((index ≡ p) ⊎ (p < index))
       order p = grind arith

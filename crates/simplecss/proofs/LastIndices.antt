@@ -78,18 +78,18 @@ module _ (old : LastByKey) (index : ℕ) where
 
 -- ---- the words of a class
 
-word_test : (ws : List (List ℕ)) (word : List ℕ) → Contains ws word ↔ (list_any (λ part. bytes_eq part word) ws ≡ true)
+word_test : (ws : List (List ℕ)) (word : List ℕ) → Contains ws word ↔ (list_any (λ entry. bytes_eq entry word) ws ≡ true)
 word_test [] word = (λ c. absurd (contains_none word c), λ e. absurd (false≢true e))
 word_test (w ∷ ws) word = (there (word_test ws word).0, back (word_test ws word).1 (bytes_eq w word) refl)
   where
-    there : (Contains ws word → list_any (λ part. bytes_eq part word) ws ≡ true) → Contains (w ∷ ws) word → (bytes_eq w word || list_any (λ part. bytes_eq part word) ws) ≡ true
+    there : (Contains ws word → list_any (λ entry. bytes_eq entry word) ws ≡ true) → Contains (w ∷ ws) word → (bytes_eq w word || list_any (λ entry. bytes_eq entry word) ws) ≡ true
     there later h =
         elim (Contains-append_cases (w ∷ []) ws word h) [
-          | inl x ↦ ap (λ b. b || list_any (λ part. bytes_eq part word) ws) ((bytes_eq-Decides w word).1 ((contains_one w word).0 x))
+          | inl x ↦ ap (λ b. b || list_any (λ entry. bytes_eq entry word) ws) ((bytes_eq-Decides w word).1 ((contains_one w word).0 x))
           | inr y ↦ ap (λ b. bytes_eq w word || b) (later y) ∙ or-true (bytes_eq w word)
         ]
 
-    back : (list_any (λ part. bytes_eq part word) ws ≡ true → Contains ws word) → (b : Bool) → bytes_eq w word ≡ b → (b || list_any (λ part. bytes_eq part word) ws) ≡ true → Contains (w ∷ ws) word
+    back : (list_any (λ entry. bytes_eq entry word) ws ≡ true → Contains ws word) → (b : Bool) → bytes_eq w word ≡ b → (b || list_any (λ entry. bytes_eq entry word) ws) ≡ true → Contains (w ∷ ws) word
     back later true e h = Contains-append_left (w ∷ []) ws word ((contains_one w word).1 ((bytes_eq-Decides w word).0 e))
     back later false e h = Contains-append_right (w ∷ []) ws word (later h)
 
@@ -116,8 +116,8 @@ class_more lasts words word a b c before more = adds_as a c (λ index. (there in
 
 pub all_classes : (lasts : LastByKey) (words : List (List ℕ)) (value : List ℕ) (a b : List ℕ) → words ≡ slice_split (λ byte. eqb byte 32) value → Adds a b (OfClasses lasts words) → Adds a b (ClassLeads lasts (Some value))
 all_classes lasts words value a b e = adds_as a b (λ index. (
-  λ h. (h.0, subst (λ ws. list_any (λ part. bytes_eq part h.0) ws ≡ true) e ((word_test words h.0).0 h.1), h.2),
-  λ h. (h.0, (word_test words h.0).1 (subst (λ ws. list_any (λ part. bytes_eq part h.0) ws ≡ true) (sym e) h.1), h.2),
+  λ h. (h.0, subst (λ ws. list_any (λ entry. bytes_eq entry h.0) ws ≡ true) e ((word_test words h.0).0 h.1), h.2),
+  λ h. (h.0, (word_test words h.0).1 (subst (λ ws. list_any (λ entry. bytes_eq entry h.0) ws ≡ true) (sym e) h.1), h.2),
 ))
 
 -- ---- all keys that are reported
@@ -162,11 +162,11 @@ module _ (reported : Reported) (lasts : LastByKey) where
 
   -- where no key has an index, none is added
   pub none_lead : (indices : List ℕ) → ((key : Key) → last_for lasts key ≡ None) → Adds indices indices (KeyLeads reported lasts)
-  none_lead indices none = adds_none indices (KeyLeads reported lasts) (λ index h. no_place (last_for lasts h.0) index (none h.0) h.2)
+  none_lead indices none = adds_none indices (KeyLeads reported lasts) (λ index h. no_index (last_for lasts h.0) index (none h.0) h.2)
     where
-      no_place : (r : Option ℕ) (index : ℕ) → r ≡ None → r ≡ Some index → ⊥
-      no_place None index e h = cc
-      no_place (Some p) index e h = cc
+      no_index : (r : Option ℕ) (index : ℕ) → r ≡ None → r ≡ Some index → ⊥
+      no_index None index e h = cc
+      no_index (Some p) index e h = cc
 
   -- the indices of the five kinds of keys were added
   pub keys_added : (a b c d e f : List ℕ) → Adds a b (λ index. last_for lasts by_nothing ≡ Some index) → Adds b c (λ index. last_for lasts (by_name reported.name) ≡ Some index)

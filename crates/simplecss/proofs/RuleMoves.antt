@@ -89,7 +89,7 @@ pub record IsMoving {X : Type 0} (old : List X) (order : List ℕ) (done : ℕ) 
   pub who_at : (k : ℕ) → k < length old → get_or who (get_or at k 0) 0 ≡ k
   pub at_who : (k : ℕ) → k < length old → get_or at (get_or who k 0) 0 ≡ k
   pub moved : (k : ℕ) (d : X) → k < length old → get_or now k d ≡ get_or old (get_or who k 0) d
-  pub placed : (k : ℕ) → k < done → get_or who k 0 ≡ get_or order k 0
+  pub settled : (k : ℕ) → k < done → get_or who k 0 ≡ get_or order k 0
 
 pub moving_none : {X : Type 0} (old : List X) (order who at : List ℕ) → who ≡ range_with_len 0 (length old) → at ≡ range_with_len 0 (length old) → IsMoving old order 0 old who at
 moving_none old order who at p q =
@@ -104,7 +104,7 @@ moving_none old order who at p q =
       who_at = λ k h. ap (λ n. get_or who n 0) (here at q k h) ∙ here who p k h;
       at_who = λ k h. ap (λ n. get_or at n 0) (here who p k h) ∙ here at q k h;
       moved = λ k d h. ap (λ n. get_or old n d) (sym (here who p k h));
-      placed = λ k h. absurd (omega arith);
+      settled = λ k h. absurd (omega arith);
     }
 
 module _ {X : Type 0} (old : List X) (order : List ℕ) (i : ℕ) (now : List X) (who at : List ℕ) where
@@ -158,17 +158,17 @@ module _ {X : Type 0} (old : List X) (order : List ℕ) (i : ℕ) (now : List X)
             | inr b ↦ moved_now.2 k d a b ∙ m.moved k d h ∙ ap (λ n. get_or old n d) (sym (moved_who.2 k 0 a b))
           ]
         ];
-        placed = λ k h. elim (same_or_not k i) [
+        settled = λ k h. elim (same_or_not k i) [
           | inl e ↦ ap (λ n. get_or who' n 0) e ∙ who_i ∙ is_first ∙ ap (λ n. get_or order n 0) (sym e)
           | inr a ↦
-              let not_from : k ≢ from = λ e. a (o.apart k i (omega arith) here (sym (m.placed k (omega arith)) ∙ ap (λ n. get_or who n 0) e ∙ who_from ∙ is_first)) in
-              moved_who.2 k 0 a not_from ∙ m.placed k (omega arith)
+              let not_from : k ≢ from = λ e. a (o.apart k i (omega arith) here (sym (m.settled k (omega arith)) ∙ ap (λ n. get_or who n 0) e ∙ who_from ∙ is_first)) in
+              moved_who.2 k 0 a not_from ∙ m.settled k (omega arith)
         ];
       }
 
-  -- when all are placed, each is where the order names it
+  -- when all are settled, each is where the order names it
   pub moving_all : IsMoving old order (length old) now who at → (k : ℕ) (d : X) → k < length old → get_or now k d ≡ get_or old (get_or order k 0) d
-  moving_all m k d h = m.moved k d h ∙ ap (λ n. get_or old n d) (m.placed k h)
+  moving_all m k d h = m.moved k d h ∙ ap (λ n. get_or old n d) (m.settled k h)
 
 pub moved_map : {X Y : Type 0} (f : X → Y) (none : Y) (old new : List X) (indices : List ℕ) → IsOrder (length old) indices → length new ≡ length old → IsMovedBy indices old new → map f new ≡ map (λ k. get_or (map f old) k none) indices
 moved_map f none [] [] [] o long moved = refl
@@ -183,8 +183,8 @@ moved_map f none (x ∷ xs) new indices o long moved =
     get_or-map f new k x none (omega arith) ∙ ap f (moved k x here)
     ∙ sym (get_or-map f old (get_or indices k 0) x none there) ∙ sym (get_or-map (λ k. get_or (map f old) k none) indices k 0 none (omega arith)))
 
-all_places : (rules : List StyleRule) → map (rule_at rules) (range_with_len 0 (length rules)) ≡ rules
-all_places rules =
+all_indices : (rules : List StyleRule) → map (rule_at rules) (range_with_len 0 (length rules)) ≡ rules
+all_indices rules =
     let n = length-map-range_with_len (rule_at rules) 0 (length rules) in
     ext_get_or no_rule (map (rule_at rules) (range_with_len 0 (length rules))) rules n
     (λ k h. get_or-map-range_with_len (rule_at rules) 0 (length rules) k k no_rule (omega arith) (omega arith))
@@ -193,13 +193,13 @@ all_places rules =
 abbrev pub smaller_at : List StyleRule → ℕ → ℕ → Bool
 smaller_at rules a b = is_smaller (rule_at rules a) (rule_at rules b)
 
-pub smaller_places : (rules : List StyleRule) → IsStrictWeakOrder (smaller_at rules)
-smaller_places rules = ranks_by nat_list_cmp_total (λ index. weight (rule_at rules index))
+pub smaller_indices : (rules : List StyleRule) → IsStrictWeakOrder (smaller_at rules)
+smaller_indices rules = ranks_by nat_list_cmp_total (λ index. weight (rule_at rules index))
 
 pub orders_rules : (rules : List StyleRule) (indices : List ℕ) → IsPermutation (range_with_len 0 (length rules)) indices → IsSortedBy (smaller_at rules) indices → IsStableBy (smaller_at rules) (range_with_len 0 (length rules)) indices → OrdersRules rules indices
 orders_rules rules indices moved up stable = record {
   order = order_moved (length rules) indices moved;
-  gives = sym (ap ordered (sym (all_places rules)) ∙ ordered_is is_smaller smaller_order _ _
+  gives = sym (ap ordered (sym (all_indices rules)) ∙ ordered_is is_smaller smaller_order _ _
       (arranges-map (rule_at rules) is_smaller smaller_order _ _
-      (arranges_from_sort (smaller_at rules) (smaller_places rules) _ _ moved up stable)));
+      (arranges_from_sort (smaller_at rules) (smaller_indices rules) _ _ moved up stable)));
 }

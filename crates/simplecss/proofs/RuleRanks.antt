@@ -48,21 +48,21 @@ given_by f (x ∷ xs) k y d full at = given_at f x xs k y d (f x) refl full at (
 
 record Found {X : Type 0} (p : ℕ × X → Bool) (n : ℕ) (xs : List X) (y : X) : Type 0 where
   at : ℕ
-  stands : slice_get xs at ≡ Some y
+  read : slice_get xs at ≡ Some y
   passes : p (n + at, y) ≡ true
 
 found_step : {X : Type 0} (p : ℕ × X → Bool) (n : ℕ) (x : X) (xs : List X) (y : X) (b : Bool) → p (n, x) ≡ b → option_map (λ e. e.1) (cond b (Some (n, x)) (find p (enumerate_from (n + 1) xs))) ≡ Some y
     → (option_map (λ e. e.1) (find p (enumerate_from (n + 1) xs)) ≡ Some y → Found p (n + 1) xs y) → Found p n (x ∷ xs) y
 found_step p n x xs y true e is later = record {
   at = 0;
-  stands = is;
+  read = is;
   passes = let same : x ≡ y = same_Some x y is in let zero_more : n + 0 ≡ n = omega arith in ap p (λ i. (zero_more i, sym same i)) ∙ e;
 }
 found_step p n x xs y false e is later =
     let f = later is in
     record {
       at = suc f.at;
-      stands = f.stands;
+      read = f.read;
       passes = let more : n + suc f.at ≡ n + 1 + f.at = omega arith in ap p (λ i. (more i, y)) ∙ f.passes;
     }
 
@@ -81,7 +81,7 @@ from_rank source i a at =
     let f = found (λ p. eqb (rank_by is_smaller source p.0 p.1) i) 0 source a (sym (ap (of_rank is_smaller source) here) ∙ given) in
     record {
       index = f.at;
-      stands = f.stands;
+      read = f.read;
       ranked = let same : 0 + f.at ≡ f.at = omega arith in ap (λ k. rank_by is_smaller source k a) (sym same) ∙ (unsigned_Decides (rank_by is_smaller source (0 + f.at) a) i).0 f.passes;
     }
 

@@ -11,7 +11,7 @@ use Rattle.simplecss_selector.specs.Placements.{HasPlacement}
 use Rattle.simplecss_selector.specs.Trees.{Tree}
 use Rattle.simplecss.specs.Matching.{AreMatches, AreAnswers, indices_with_yes}
 use Rattle.simplecss.specs.SelectorIndices.{selector_at}
-use Rattle.simplecss.proofs.Ascending.{places_are, reported_by}
+use Rattle.simplecss.proofs.Ascending.{indices_are, reported_by}
 
 -- a test at each index of a list that decides a property of the value there
 all_reported : {V : Type 0} (test : ℕ → Bool) (P : V → Type 0) (vs : List V) (d : V) (a : ℕ) → ((k : ℕ) → k < length vs → (test (a + k) ≡ true) ↔ P (get_or vs k d)) → AllZip (λ answer v. (answer ≡ true) ↔ P v) (map test (range_with_len a (length vs))) vs
@@ -36,7 +36,7 @@ answers_of tree selectors element indices are =
         λ e. ((are.exactly k).0 (Contains-from_any (λ x y. (unsigned_Decides x y).0) k indices e)).1,
         λ h. list_any-from_Contains nat_eq_equiv k indices ((are.exactly k).1 (lt, h)),
       )),
-      places_are test (length selectors) indices (record {
+      indices_are test (length selectors) indices (record {
         ascending = are.ascending;
         exactly = λ k. (
           λ c. (((are.exactly k).0 c).0, list_any-from_Contains nat_eq_equiv k indices c),

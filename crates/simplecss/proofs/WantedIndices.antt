@@ -48,14 +48,14 @@ no_neighbour lasts indices = adds_none indices (NeighbourLeads lasts None) (λ i
 
 -- an element's keys are those that its name and classes report, and the others
 module _ (near : Near) where
-  pub key_parts : (wanted : Wanted) → IsTrue (reports_wanted near wanted) → IsTrue (adds_wanted near wanted) ⊎ IsTrue (names_wanted near.own.name near.own.class wanted)
-  key_parts (of_element (by_id text)) h = inl h
-  key_parts (of_element (by_class word)) h = inr h
-  key_parts (of_element (by_name name)) h = inr h
-  key_parts (of_element (by_attribute name)) h = inl h
-  key_parts (of_element by_nothing) h = inr h
-  key_parts (of_parent key) h = inl h
-  key_parts (of_previous key) h = inl h
+  pub key_cases : (wanted : Wanted) → IsTrue (reports_wanted near wanted) → IsTrue (adds_wanted near wanted) ⊎ IsTrue (names_wanted near.own.name near.own.class wanted)
+  key_cases (of_element (by_id text)) h = inl h
+  key_cases (of_element (by_class word)) h = inr h
+  key_cases (of_element (by_name name)) h = inr h
+  key_cases (of_element (by_attribute name)) h = inl h
+  key_cases (of_element by_nothing) h = inr h
+  key_cases (of_parent key) h = inl h
+  key_cases (of_previous key) h = inl h
 
   pub added_key : (wanted : Wanted) → IsTrue (adds_wanted near wanted) → IsTrue (reports_wanted near wanted)
   added_key (of_element (by_id text)) h = h

@@ -1,4 +1,4 @@
--- What is found by an element's name and classes alone, and by what stands beside them.
+-- What is found by an element's name and classes only, and by its other keys.
 use Rattle.std.specs.Prelude.{◌≡◌, ◌≤◌, ◌<◌, ℕ, List, [], Option, Some, None, Bool, true, false, IsTrue, Contains, length, bytes_eq, string_bytes}
 use Rattle.std.specs.Option.{option_map}
 use Rattle.simplecss_text.specs.Components.{Component}
@@ -64,4 +64,5 @@ IsFound selectors name class indices = (near : Near) → near.own.name ≡ name 
 -- a slot is empty, or has what was found by its name and class value
 abbrev pub IsSlotOf : List (List Component) → Option Slot → Type 0
 IsSlotOf selectors None = Unit {0}
-IsSlotOf selectors (Some slot) = IsFound selectors (string_bytes slot.name) (option_map string_bytes slot.class) slot.indices.items
+IsSlotOf selectors (Some slot) =
+    IsFound selectors (string_bytes slot.name) (option_map string_bytes slot.class) slot.indices.items

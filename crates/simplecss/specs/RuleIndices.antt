@@ -9,7 +9,7 @@ use Rattle.simplecss_text.specs.Sheets.{is_smaller}
 -- The rule has this index in the source, and its index in the ordered list is its rank there.
 pub record IsFrom (source : List StyleRule) (i : ℕ) (a : StyleRule) : Type 0 where
   pub index : ℕ
-  pub stands : slice_get source index ≡ Some a
+  pub read : slice_get source index ≡ Some a
   pub ranked : rank_by is_smaller source index a ≡ i
 
 -- Two rules, at indices `i` and `j`, of which the first has a smaller specificity, or an equal one

@@ -76,17 +76,17 @@ at_last content depths depth b is = last_with-append content depths depth ∙ ap
 pub path_none : IsPath [] []
 path_none = record { limit = refl; each = λ d less. absurd (omega (arith, less)) }
 
--- one more element, after the part of the path that is above it
-module _ {path depths : List ℕ} (is : IsPath path depths) (depth place : ℕ) (low : depth ≤ length path) (here : place ≡ length depths) where
-  above : (d : ℕ) → d < depth + 1 → (b : Bool) → (depth == d) ≡ b → last_with d (depths ++ depth ∷ []) ≡ Some (get_or (take depth path ++ place ∷ []) d 0)
+-- one more element, after the elements of the path that are above it
+module _ {path depths : List ℕ} (is : IsPath path depths) (depth index : ℕ) (low : depth ≤ length path) (here : index ≡ length depths) where
+  above : (d : ℕ) → d < depth + 1 → (b : Bool) → (depth == d) ≡ b → last_with d (depths ++ depth ∷ []) ≡ Some (get_or (take depth path ++ index ∷ []) d 0)
   above d less true same =
       let at : d ≡ length (take depth path) = grind (arith, nat_tests, common_steps, same) in
-      at_last d depths depth true same ∙ ap Some (sym here ∙ sym (ap (λ k. get_or (take depth path ++ place ∷ []) k 0) at ∙ grind (arith, common_steps)))
+      at_last d depths depth true same ∙ ap Some (sym here ∙ sym (ap (λ k. get_or (take depth path ++ index ∷ []) k 0) at ∙ grind (arith, common_steps)))
   above d less false other =
       let below : d < depth = grind (arith, nat_tests, other, less) in
       at_last d depths depth false other ∙ is.each d (omega (arith, below, low)) ∙ ap Some (grind (arith, common_steps, below, low))
 
-  pub path_more : (all : List ℕ) → all ≡ take depth path ++ place ∷ [] → IsPath all (depths ++ depth ∷ [])
+  pub path_more : (all : List ℕ) → all ≡ take depth path ++ index ∷ [] → IsPath all (depths ++ depth ∷ [])
   path_more all are = record {
     limit = ap length are ∙ grind (arith, common_steps, low) ∙ sym (limit-append depths depth);
     each = λ d less. above d (grind (arith, common_steps, low, less, are)) (depth == d) refl ∙ ap (λ p. Some (get_or p d 0)) (sym are);
@@ -99,9 +99,9 @@ sound number limit element strings none = grind (arith, nat_tests, none)
 
 -- ---- one more element of the tree
 
--- the strings from a place on
-pub strings_from_place : (strings : List (Bor (List ℕ))) (n : ℕ) → map (λ string. string.now) (take (length strings - n) (drop n strings)) ≡ drop n (map (λ string. string.now) strings)
-strings_from_place strings n =
+-- the strings from an index on
+pub strings_from_index : (strings : List (Bor (List ℕ))) (n : ℕ) → map (λ string. string.now) (take (length strings - n) (drop n strings)) ≡ drop n (map (λ string. string.now) strings)
+strings_from_index strings n =
     ap (map (λ string. string.now)) (take_all (length strings - n) (drop n strings) (omega (arith, length-drop n strings)))
     ∙ sym (drop-map (λ string. string.now) n strings)
 
@@ -113,16 +113,16 @@ pub element_added : (rows : List Row) (depths : List ℕ) (element : TreeElement
 element_added rows depths element strings nothing some parent is =
     ap (λ p. rows ++ element_row rows p (get_or strings 0 nothing).now (map (λ string. string.now) (take (length strings - 1) (drop 1 strings))) element.attributes ∷ []) is
     ∙ ap (λ name. rows ++ element_row rows (parent_after depths element.depth) name (map (λ string. string.now) (take (length strings - 1) (drop 1 strings))) element.attributes ∷ []) (sym (get_or-map (λ string. string.now) strings 0 nothing [] some))
-    ∙ ap (λ fields. rows ++ element_row rows (parent_after depths element.depth) (name_in (map (λ string. string.now) strings)) fields element.attributes ∷ []) (strings_from_place strings 1)
+    ∙ ap (λ fields. rows ++ element_row rows (parent_after depths element.depth) (name_in (map (λ string. string.now) strings)) fields element.attributes ∷ []) (strings_from_index strings 1)
 
--- the strings that are left from a place on
-abbrev pub from_place : Strings → ℕ → Strings
-from_place all n = record { strings = drop n all.strings; are_all = all.are_all }
+-- the strings that are left from an index on
+abbrev pub from_index : Strings → ℕ → Strings
+from_index all n = record { strings = drop n all.strings; are_all = all.are_all }
 
 -- what the first elements make of the tree
 pub record LinkedSoFar (all : Strings) (elements rest : List TreeElement) (rows : List Row) (path : List ℕ) (next : ℕ) : Type 0 where
   pub depths : List ℕ
-  pub whole : tree_from [] [] all elements ≡ tree_from rows depths (from_place all next) rest
+  pub whole : tree_from [] [] all elements ≡ tree_from rows depths (from_index all next) rest
   pub path_is : IsPath path depths
   pub same : length depths ≡ length rows
   pub within : next ≤ length all.strings
@@ -154,8 +154,8 @@ length_with rows depths element strings = length-append rows _
 
 module _ {all : Strings} {elements rest : List TreeElement} {rows : List Row} {path : List ℕ} {next : ℕ} (so_far : LinkedSoFar all elements rest rows path next) where
   module _ (element : TreeElement) (later : List TreeElement) (is : rest ≡ element ∷ later) where
-    at_element : tree_from [] [] all elements ≡ tree_from rows so_far.depths (from_place all next) (element ∷ later)
-    at_element = so_far.whole ∙ ap (tree_from rows so_far.depths (from_place all next)) is
+    at_element : tree_from [] [] all elements ≡ tree_from rows so_far.depths (from_index all next) (element ∷ later)
+    at_element = so_far.whole ∙ ap (tree_from rows so_far.depths (from_index all next)) is
 
     pub linked_more : fault_in (length rows + 1) (limit_after so_far.depths) element (drop next all.strings) ≡ None
         → (more : List Row) → more ≡ with_element rows so_far.depths element (drop next all.strings)
@@ -165,7 +165,7 @@ module _ {all : Strings} {elements rest : List TreeElement} {rows : List Row} {p
     linked_more none more are longer longer_is read read_is low = record {
       depths = so_far.depths ++ element.depth ∷ [];
       whole = at_element
-          ∙ next_element rows so_far.depths (from_place all next) element later None none
+          ∙ next_element rows so_far.depths (from_index all next) element later None none
           ∙ ap (λ rs. tree_from rs (so_far.depths ++ element.depth ∷ []) (record { strings = drop (strings_of element) (drop next all.strings); are_all = all.are_all }) later) (sym are)
           ∙ ap (λ n. tree_from more (so_far.depths ++ element.depth ∷ []) (record { strings = drop n (drop next all.strings); are_all = all.are_all }) later) (sym read_is)
           ∙ ap (λ ss. tree_from more (so_far.depths ++ element.depth ∷ []) (record { strings = ss; are_all = all.are_all }) later) (drop-drop read next all.strings);
@@ -176,13 +176,13 @@ module _ {all : Strings} {elements rest : List TreeElement} {rows : List Row} {p
 
     pub linked_fault : (fault : ElementFault) → fault_in (length rows + 1) (limit_after so_far.depths) element (drop next all.strings) ≡ Some fault
         → tree_from [] [] all elements ≡ Err fault
-    linked_fault fault is_fault = at_element ∙ next_element rows so_far.depths (from_place all next) element later (Some fault) is_fault
+    linked_fault fault is_fault = at_element ∙ next_element rows so_far.depths (from_index all next) element later (Some fault) is_fault
 
   -- no element is left
   at_end : rest ≡ [] → (b : Bool) → (length (drop next all.strings) == 0 && all.are_all) ≡ b
       → tree_from [] [] all elements ≡ (if b then Ok rows else Err (BadStrings (length rows + 1)))
   at_end none b is =
-      so_far.whole ∙ ap (tree_from rows so_far.depths (from_place all next)) none
+      so_far.whole ∙ ap (tree_from rows so_far.depths (from_index all next)) none
       ∙ ap (λ b. if b then Ok rows else Err (BadStrings (length rows + 1))) is
 
   pub linked_all : rest ≡ [] → length all.strings ≤ next → all.are_all ≡ true → tree_from [] [] all elements ≡ Ok rows
@@ -192,8 +192,8 @@ module _ {all : Strings} {elements rest : List TreeElement} {rows : List Row} {p
   linked_left none less number is =
       at_end none false (let some : 0 < length (drop next all.strings) = omega (arith, less, length-drop next all.strings) in grind (arith, nat_tests, some)) ∙ ap (λ n. Err (BadStrings (n + 1))) (sym is)
 
-  pub linked_part : rest ≡ [] → all.are_all ≡ false → (number : ℕ) → number ≡ length rows → tree_from [] [] all elements ≡ Err (BadStrings (number + 1))
-  linked_part none part number is = at_end none false (grind (arith, nat_tests, part)) ∙ ap (λ n. Err (BadStrings (n + 1))) (sym is)
+  pub linked_not_all : rest ≡ [] → all.are_all ≡ false → (number : ℕ) → number ≡ length rows → tree_from [] [] all elements ≡ Err (BadStrings (number + 1))
+  linked_not_all none not_all number is = at_end none false (grind (arith, nat_tests, not_all)) ∙ ap (λ n. Err (BadStrings (n + 1))) (sym is)
 
 -- a failure that is handed on, for its own reason
 pub handed_on : {V : Type 0} (P : V → Type 0) (r : Result V Failure) (failure : Failure) (F G : ElementFault → Type 0) → IsErrAnd r (λ reported. reported ≡ failure) → FailsFor ⊥ F ⊥ failure → ((fault : ElementFault) → F fault → G fault) → MatchResult r P (FailsFor ⊥ G ⊥)

@@ -19,15 +19,15 @@ use Rattle.simplecss_c.specs.Json.{is_escaped, escape, within_string, string, ar
 use Rattle.simplecss.specs.Statements.{StyleRule}
 use Rattle.simplecss_faults.specs.FaultViews.{FaultView}
 use Rattle.simplecss_faults.specs.Quotes.{quote, reason_words}
-use Rattle.simplecss_c.specs.JsonLines.{line, selector_members, declaration_array, rule_line, place_members, fault_line}
+use Rattle.simplecss_c.specs.JsonLines.{line, selector_members, declaration_array, rule_line, position_members, fault_line}
 
 -- ---- strings
 
--- What was written of the first bytes of a text, and its bytes between the two places, which are
+-- What was written of the first bytes of a text, and its bytes between the two offsets, which are
 -- still to be written as they are.
-pub record EscapedSoFar (text : List ℕ) (start place : ℕ) (before out : List ℕ) : Type 0 where
-  pub written : out ++ between start place text ≡ before ++ flat_map within_string (take place text)
-  pub within : start ≤ place
+pub record EscapedSoFar (text : List ℕ) (start offset : ℕ) (before out : List ℕ) : Type 0 where
+  pub written : out ++ between start offset text ≡ before ++ flat_map within_string (take offset text)
+  pub within : start ≤ offset
   pub boundary : IsCharBoundary text start
 
 pub escaped_none : (text : List ℕ) → IsUtf8 text → (out : List ℕ) → EscapedSoFar text 0 0 out out
@@ -41,45 +41,45 @@ escaped_none text utf8 out = record {
 escaped_ascii : (b : ℕ) → is_escaped b ≡ true → b < 128
 escaped_ascii b is = grind (arith, nat_tests, is)
 
-module _ {text : List ℕ} {start place : ℕ} {before out : List ℕ} (so_far : EscapedSoFar text start place before out) (less : place < length text) where
-  one_more : before ++ flat_map within_string (take (place + 1) text) ≡ (out ++ between start place text) ++ within_string (get_or text place 0)
+module _ {text : List ℕ} {start offset : ℕ} {before out : List ℕ} (so_far : EscapedSoFar text start offset before out) (less : offset < length text) where
+  one_more : before ++ flat_map within_string (take (offset + 1) text) ≡ (out ++ between start offset text) ++ within_string (get_or text offset 0)
   one_more =
-      ap (λ bs. before ++ flat_map within_string bs) (take_more text place 0 less)
-      ∙ sym (flat_map_more within_string before (take place text) (get_or text place 0))
-      ∙ ap (λ t. t ++ within_string (get_or text place 0)) (sym so_far.written)
+      ap (λ bs. before ++ flat_map within_string bs) (take_more text offset 0 less)
+      ∙ sym (flat_map_more within_string before (take offset text) (get_or text offset 0))
+      ∙ ap (λ t. t ++ within_string (get_or text offset 0)) (sym so_far.written)
 
   -- one more byte that is not escaped
-  pub escaped_plain : is_escaped (get_or text place 0) ≡ false → EscapedSoFar text start (place + 1) before out
+  pub escaped_plain : is_escaped (get_or text offset 0) ≡ false → EscapedSoFar text start (offset + 1) before out
   escaped_plain same =
       let within = so_far.within in
-      let b = get_or text place 0 in
+      let b = get_or text offset 0 in
       record {
-        written = ap (λ bs. out ++ bs) (between_more text start place 0 within less) ∙ sym (append_assoc out (between start place text) (b ∷ []))
-            ∙ ap (λ bs. (out ++ between start place text) ++ bs) (sym (ap (λ t. if t then escape b else b ∷ []) same))
+        written = ap (λ bs. out ++ bs) (between_more text start offset 0 within less) ∙ sym (append_assoc out (between start offset text) (b ∷ []))
+            ∙ ap (λ bs. (out ++ between start offset text) ++ bs) (sym (ap (λ t. if t then escape b else b ∷ []) same))
             ∙ sym one_more;
         within = omega (arith, within);
         boundary = so_far.boundary;
       }
 
   -- one more byte that is escaped, after those before it
-  pub escaped_byte : IsUtf8 text → is_escaped (get_or text place 0) ≡ true → (all : List ℕ)
-      → all ≡ (out ++ between start place text) ++ escape (get_or text place 0) → EscapedSoFar text (place + 1) (place + 1) before all
+  pub escaped_byte : IsUtf8 text → is_escaped (get_or text offset 0) ≡ true → (all : List ℕ)
+      → all ≡ (out ++ between start offset text) ++ escape (get_or text offset 0) → EscapedSoFar text (offset + 1) (offset + 1) before all
   escaped_byte utf8 is all are =
-      let b = get_or text place 0 in
+      let b = get_or text offset 0 in
       record {
-        written = ap (λ bs. all ++ bs) (between_none text (place + 1)) ∙ append-nil all ∙ are
-            ∙ ap (λ bs. (out ++ between start place text) ++ bs) (sym (ap (λ t. if t then escape b else b ∷ []) is))
+        written = ap (λ bs. all ++ bs) (between_none text (offset + 1)) ∙ append-nil all ∙ are
+            ∙ ap (λ bs. (out ++ between start offset text) ++ bs) (sym (ap (λ t. if t then escape b else b ∷ []) is))
             ∙ sym one_more;
         within = omega arith;
-        boundary = IsCharBoundary-after_ascii text place utf8 less (escaped_ascii b is);
+        boundary = IsCharBoundary-after_ascii text offset utf8 less (escaped_ascii b is);
       }
 
 -- all bytes
-pub escaped_all : {text : List ℕ} {start place : ℕ} {before out : List ℕ} → EscapedSoFar text start place before out → length text ≤ place
+pub escaped_all : {text : List ℕ} {start offset : ℕ} {before out : List ℕ} → EscapedSoFar text start offset before out → length text ≤ offset
     → out ++ drop start text ≡ before ++ flat_map within_string text
-escaped_all {text} {start} {place} {before} {out} so_far all =
-    ap (λ bs. out ++ bs) (sym (between_to_end text start place all)) ∙ so_far.written
-    ∙ ap (λ bs. before ++ flat_map within_string bs) (take_all place text all)
+escaped_all {text} {start} {offset} {before} {out} so_far all =
+    ap (λ bs. out ++ bs) (sym (between_to_end text start offset all)) ∙ so_far.written
+    ∙ ap (λ bs. before ++ flat_map within_string bs) (take_all offset text all)
 
 -- ---- arrays
 
@@ -97,26 +97,26 @@ join_push c (v ∷ w ∷ values) value =
     ap (λ t. v ++ (c ∷ t)) (join_push c (w ∷ values) value) ∙ sym (append_assoc v (c ∷ join_with_byte c (w ∷ values)) (c ∷ value))
 
 -- what was written before a value is a comma, unless it is the first
-mid_is : (c place : ℕ) (values : List (List ℕ)) (value out mid : List ℕ) → length values ≡ place
-    → (place ≡ 0 → mid ≡ out) → (0 < place → mid ≡ out ++ c ∷ []) → mid ++ value ≡ out ++ joined_after c values value
-mid_is c place [] value out mid len none some = ap (λ t. t ++ value) (none (sym len))
-mid_is c place (v ∷ values) value out mid len none some =
-    let later : 0 < place = omega (arith, len) in ap (λ t. t ++ value) (some later) ∙ append_assoc out (c ∷ []) value
+mid_is : (c index : ℕ) (values : List (List ℕ)) (value out mid : List ℕ) → length values ≡ index
+    → (index ≡ 0 → mid ≡ out) → (0 < index → mid ≡ out ++ c ∷ []) → mid ++ value ≡ out ++ joined_after c values value
+mid_is c index [] value out mid len none some = ap (λ t. t ++ value) (none (sym len))
+mid_is c index (v ∷ values) value out mid len none some =
+    let later : 0 < index = omega (arith, len) in ap (λ t. t ++ value) (some later) ∙ append_assoc out (c ∷ []) value
 
 -- one value more of an array
-pub array_more : {D E : Type 0} (f : E → List ℕ) (g : D → E) (ds : List D) (place : ℕ) (d : D) (before out mid all : List ℕ) → place < length ds
-    → out ≡ before ++ join_with_byte comma (map f (map g (take place ds)))
-    → (place ≡ 0 → mid ≡ out) → (0 < place → mid ≡ out ++ comma ∷ []) → all ≡ mid ++ f (g (get_or ds place d))
-    → all ≡ before ++ join_with_byte comma (map f (map g (take (place + 1) ds)))
-array_more f g ds place d before out mid all less so_far none some wrote =
-    let values = map f (map g (take place ds)) in
-    let value = f (g (get_or ds place d)) in
-    let len : length values ≡ place = omega (arith, less, length-map (map g (take place ds)) f, length-map (take place ds) g, length-take place ds) in
-    wrote ∙ mid_is comma place values value out mid len none some
+pub array_more : {D E : Type 0} (f : E → List ℕ) (g : D → E) (ds : List D) (index : ℕ) (d : D) (before out mid all : List ℕ) → index < length ds
+    → out ≡ before ++ join_with_byte comma (map f (map g (take index ds)))
+    → (index ≡ 0 → mid ≡ out) → (0 < index → mid ≡ out ++ comma ∷ []) → all ≡ mid ++ f (g (get_or ds index d))
+    → all ≡ before ++ join_with_byte comma (map f (map g (take (index + 1) ds)))
+array_more f g ds index d before out mid all less so_far none some wrote =
+    let values = map f (map g (take index ds)) in
+    let value = f (g (get_or ds index d)) in
+    let len : length values ≡ index = omega (arith, less, length-map (map g (take index ds)) f, length-map (take index ds) g, length-take index ds) in
+    wrote ∙ mid_is comma index values value out mid len none some
     ∙ ap (λ t. t ++ joined_after comma values value) so_far
     ∙ append_assoc before (join_with_byte comma values) (joined_after comma values value)
     ∙ ap (λ t. before ++ t) (sym (join_push comma values value))
-    ∙ ap (λ vs. before ++ join_with_byte comma vs) (sym (ap (λ xs. map f (map g xs)) (take_more ds place d less) ∙ ap (map f) (map-append g (take place ds) (get_or ds place d ∷ [])) ∙ map-append f (map g (take place ds)) (g (get_or ds place d) ∷ [])))
+    ∙ ap (λ vs. before ++ join_with_byte comma vs) (sym (ap (λ xs. map f (map g xs)) (take_more ds index d less) ∙ ap (map f) (map-append g (take index ds) (get_or ds index d ∷ [])) ∙ map-append f (map g (take index ds)) (g (get_or ds index d) ∷ [])))
 
 -- ---- the last piece
 
@@ -128,13 +128,13 @@ wrote_last (Err e) old more new is = tt
 -- ---- lines
 
 -- one line more
-pub line_more : {D E : Type 0} (f : E → List ℕ) (g : D → E) (ds : List D) (place : ℕ) (d : D) (out all : List ℕ) → place < length ds
-    → out ≡ flat_map f (map g (take place ds)) → all ≡ out ++ f (g (get_or ds place d))
-    → all ≡ flat_map f (map g (take (place + 1) ds))
-line_more f g ds place d out all less so_far wrote =
-    let value = g (get_or ds place d) in
-    wrote ∙ ap (λ t. t ++ f value) so_far ∙ flat_map_more f [] (map g (take place ds)) value
-    ∙ ap (flat_map f) (sym (ap (map g) (take_more ds place d less) ∙ map-append g (take place ds) (get_or ds place d ∷ [])))
+pub line_more : {D E : Type 0} (f : E → List ℕ) (g : D → E) (ds : List D) (index : ℕ) (d : D) (out all : List ℕ) → index < length ds
+    → out ≡ flat_map f (map g (take index ds)) → all ≡ out ++ f (g (get_or ds index d))
+    → all ≡ flat_map f (map g (take (index + 1) ds))
+line_more f g ds index d out all less so_far wrote =
+    let value = g (get_or ds index d) in
+    wrote ∙ ap (λ t. t ++ f value) so_far ∙ flat_map_more f [] (map g (take index ds)) value
+    ∙ ap (flat_map f) (sym (ap (map g) (take_more ds index d less) ∙ map-append g (take index ds) (get_or ds index d ∷ [])))
 
 -- ---- a selector
 
@@ -177,10 +177,10 @@ fault_joined : (out a b d e : List ℕ)
 fault_joined out a b d e = simp append_assoc
 
 -- the line of skipped text, a piece after another
-pub fault_written : (fault : FaultView) (out brace place key all : List ℕ) → brace ≡ out ++ codes "{"
-    → place ≡ brace ++ members (place_members fault.pos (reason_words fault.reason)) → key ≡ place ++ codes ",\"text\":"
+pub fault_written : (fault : FaultView) (out brace position key all : List ℕ) → brace ≡ out ++ codes "{"
+    → position ≡ brace ++ members (position_members fault.pos (reason_words fault.reason)) → key ≡ position ++ codes ",\"text\":"
     → all ≡ key ++ string (quote fault) → all ++ codes "}\n" ≡ out ++ fault_line fault
-fault_written fault out brace place key all first second third fourth =
+fault_written fault out brace position key all first second third fourth =
     ap (λ t. t ++ codes "}\n") (fourth ∙ ap (λ t. t ++ string (quote fault)) (third
-    ∙ ap (λ t. t ++ codes ",\"text\":") (second ∙ ap (λ t. t ++ members (place_members fault.pos (reason_words fault.reason))) first)))
+    ∙ ap (λ t. t ++ codes ",\"text\":") (second ∙ ap (λ t. t ++ members (position_members fault.pos (reason_words fault.reason))) first)))
     ∙ fault_joined out (member (codes "row") (decimal fault.pos.row)) (member (codes "column") (decimal fault.pos.col)) (member (codes "reason") (string (reason_words fault.reason))) (string (quote fault))

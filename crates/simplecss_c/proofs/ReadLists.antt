@@ -12,7 +12,7 @@ use Rattle.simplecss.specs.Selectors.{reads}
 use Rattle.simplecss.specs.ThisEdition.{this_edition}
 use Rattle.simplecss_c.specs.SelectorLists.{list_after, list_within, selectors_in}
 
--- the selectors that were read up to a place, after which at most `left` follow
+-- the selectors that were read up to an offset, after which at most `left` follow
 pub record ListSoFar (text : List ℕ) (start left : ℕ) (so_far : List (List Component)) : Type 0 where
   pub whole : selectors_in text ≡ option_map (λ more. so_far ++ more) (list_within left (drop start text))
   pub boundary : IsCharBoundary text start

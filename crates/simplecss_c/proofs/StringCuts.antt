@@ -10,7 +10,7 @@ use Rattle.simplecss_c.specs.Elements.{Strings, may_end, with_string, strings_fr
 abbrev pub with_strings : List (List ℕ) → Strings → Strings
 with_strings before more = record { strings = before ++ more.strings; are_all = more.are_all }
 
--- what was cut so far, up to a place, and the ends that are left
+-- what was cut so far, up to an offset, and the ends that are left
 pub record StringsSoFar (buffer ends : List ℕ) (start : ℕ) (rest : List ℕ) (strings : List (List ℕ)) : Type 0 where
   pub whole : strings_in buffer ends ≡ with_strings strings (strings_from buffer start rest)
   pub boundary : IsCharBoundary buffer start

@@ -13,7 +13,7 @@ use Rattle.simplecss_c.specs.declared.answer.Failure.TheVariants.{NotUtf8}
 use Rattle.simplecss_c.specs.Texts.{texts_from, texts_in}
 use Rattle.simplecss_c.specs.Calls.{IsBrokenUtf8, FailsFor}
 
--- what was cut so far, up to a place, and the ends that are left
+-- what was cut so far, up to an offset, and the ends that are left
 pub record CutSoFar (buffer ends : List ℕ) (start : ℕ) (rest : List ℕ) (texts : List (List ℕ)) : Type 0 where
   pub whole : texts_in buffer ends ≡ option_map (λ more. texts ++ more) (texts_from buffer start rest)
   pub utf8 : All IsUtf8 texts

@@ -22,18 +22,18 @@ selectors_of rules = map (λ rule. rule.components) rules
 -- an element's number, where a selector matches it
 abbrev pub selected_line : ℕ → List ℕ → List ℕ
 selected_line number [] = []
-selected_line number (place ∷ places) = decimal number ++ newline ∷ []
+selected_line number (index ∷ indices) = decimal number ++ newline ∷ []
 
--- the line of an element of this number, which the selectors at these places match
-abbrev pub places_line : LineContent → ℕ → List ℕ → List ℕ
-places_line Numbers number places = numbers_line number (map (λ place. place + 1) places)
-places_line Selected number places = selected_line number places
+-- the line of an element of this number, which the selectors with these indices match
+abbrev pub indices_line : LineContent → ℕ → List ℕ → List ℕ
+indices_line Numbers number indices = numbers_line number (map (λ index. index + 1) indices)
+indices_line Selected number indices = selected_line number indices
 
--- the line of the element at a place, by the places of the selectors that match it, in order
+-- the line of the element at an index, by the indices of the selectors that match it, in order
 abbrev pub IsLineOf : LineContent → List (List Component) → List Row → ℕ → List ℕ → Type 0
-IsLineOf content selectors rows place line =
-    (places : List ℕ) × AreMatches element_tree (spot rows place) selectors places
-    × (line ≡ places_line content (place + 1) places)
+IsLineOf content selectors rows index line =
+    (indices : List ℕ) × AreMatches element_tree (spot rows index) selectors indices
+    × (line ≡ indices_line content (index + 1) indices)
 
 -- the lines of all elements, in order
 abbrev pub AreLinesOf : LineContent → List (List Component) → List Row → List ℕ → Type 0
@@ -43,23 +43,23 @@ AreLinesOf content selectors rows = AreLines (IsLineOf content selectors rows) (
 abbrev pub AreMatchLines : List StyleRule → List Row → List ℕ → Type 0
 AreMatchLines rules = AreLinesOf Numbers (selectors_of rules)
 
--- the line of what wins for a name on the element at a place
+-- the line of what wins for a name on the element at an index
 abbrev pub IsWinnerLine : List ℕ → List StyleRule → List Row → ℕ → List ℕ → Type 0
-IsWinnerLine name rules rows place line =
+IsWinnerLine name rules rows index line =
     (winner : Option StyleDeclaration)
-    × Wins (IsStated element_tree (spot rows place) rules) name winner
-    × (line ≡ style_line (place + 1) winner)
+    × Wins (IsStated element_tree (spot rows index) rules) name winner
+    × (line ≡ style_line (index + 1) winner)
 
 -- the lines of all elements, in order
 abbrev pub AreWinnerLines : List ℕ → List StyleRule → List Row → List ℕ → Type 0
 AreWinnerLines name rules rows = AreLines (IsWinnerLine name rules rows) (length rows)
 
--- the line of all that wins on the element at a place: for each name what wins for it, in the order of
+-- the line of all that wins on the element at an index: for each name what wins for it, in the order of
 -- rules and of declarations in them
 abbrev pub IsWinnersLine : List StyleRule → List Row → ℕ → List ℕ → Type 0
-IsWinnersLine rules rows place text =
+IsWinnersLine rules rows index text =
     (winners : List StyleDeclaration)
-    × ListsInOrder (WinsForItsName element_tree (spot rows place) rules) winners
+    × ListsInOrder (WinsForItsName element_tree (spot rows index) rules) winners
     × (text ≡ line (declaration_array winners))
 
 -- the lines of all elements, in order

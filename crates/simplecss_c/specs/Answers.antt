@@ -4,7 +4,7 @@ use Rattle.simplecss_c.specs.declared.elements.ElementFault.{ElementFault}
 use Rattle.simplecss_c.specs.Elements.{fault_number, fault_element}
 use Rattle.simplecss_c.specs.declared.answer.Failure.{Failure}
 use Rattle.simplecss_c.specs.declared.answer.Failure.TheVariants.{Refused, Tree, Memory, NotUtf8}
-use Rattle.simplecss_c.specs.declared.answer.TreePlace.{TreePlace}
+use Rattle.simplecss_c.specs.declared.answer.TreeFault.{TreeFault}
 
 -- the status of a failure
 abbrev pub status_of : Failure → ℕ
@@ -28,13 +28,13 @@ Answers (Ok bytes) status old new len = IsHandedOver bytes status old new len
 Answers (Err failure) status old new len = (status ≡ status_of failure) × (new ≡ old) × (len ≡ 0)
 
 -- the number of a fault's kind and of its element
-abbrev pub place_of : ElementFault → TreePlace
-place_of fault = record { fault = fault_number fault; element = fault_element fault }
+abbrev pub tree_fault_of : ElementFault → TreeFault
+tree_fault_of fault = record { fault = fault_number fault; element = fault_element fault }
 
 -- if the failure is a fault of the tree this is its number and the element's; else it is unchanged
-abbrev pub IsPlaced : Result (List ℕ) Failure → TreePlace → TreePlace → Type 0
-IsPlaced (Ok bytes) old new = new ≡ old
-IsPlaced (Err Refused) old new = new ≡ old
-IsPlaced (Err (Tree fault)) old new = new ≡ place_of fault
-IsPlaced (Err Memory) old new = new ≡ old
-IsPlaced (Err NotUtf8) old new = new ≡ old
+abbrev pub IsFaultSet : Result (List ℕ) Failure → TreeFault → TreeFault → Type 0
+IsFaultSet (Ok bytes) old new = new ≡ old
+IsFaultSet (Err Refused) old new = new ≡ old
+IsFaultSet (Err (Tree fault)) old new = new ≡ tree_fault_of fault
+IsFaultSet (Err Memory) old new = new ≡ old
+IsFaultSet (Err NotUtf8) old new = new ≡ old

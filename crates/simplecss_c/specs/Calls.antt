@@ -66,7 +66,7 @@ IsPrinted rules bytes = bytes ≡ sheet_output rules
 abbrev pub IsRuleLines : List StyleRule → List ℕ → Type 0
 IsRuleLines rules bytes = bytes ≡ rule_lines rules
 
--- a line in JSON for each part of the text that is skipped
+-- a line in JSON for each piece of the text that is skipped
 abbrev pub IsSkippedCall : List ℕ → Result (List ℕ) Failure → Type 0
 IsSkippedCall text (Ok bytes) =
     IsUtf8 text × (bytes ≡ fault_lines (map (fault_in text) (skipped this_edition text)))

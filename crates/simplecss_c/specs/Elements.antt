@@ -9,12 +9,12 @@ use Rattle.simplecss_c.specs.declared.elements.ElementFault.TheVariants.{BadDept
 
 -- ---- the strings of a buffer
 
--- whether a character of a text begins at the place, or the text ends there
+-- whether a character of a text begins at the offset, or the text ends there
 abbrev pub is_boundary : List ℕ → ℕ → Bool
 is_boundary text i =
     nat_le i (length text) && (nat_lt (slice_index text i) 128 || nat_le 192 (slice_index text i))
 
--- whether a string that begins at one place may end at another
+-- whether a string that begins at one offset may end at another
 abbrev pub may_end : List ℕ → ℕ → ℕ → Bool
 may_end buffer start end = nat_le start end && is_boundary buffer end
 
@@ -27,7 +27,7 @@ pub record Strings : Type 0 where
 abbrev pub with_string : List ℕ → Strings → Strings
 with_string string more = record { strings = string ∷ more.strings; are_all = more.are_all }
 
--- the strings that end at these places, the first of which begins at `start` and each other one
+-- the strings that end at these offsets, the first of which begins at `start` and each other one
 -- where the one before ends
 abbrev pub strings_from : List ℕ → ℕ → List ℕ → Strings
 strings_from buffer start [] = record { strings = []; are_all = start == length buffer }
@@ -49,7 +49,7 @@ limit_after [] = 0
 limit_after (d ∷ []) = d + 1
 limit_after (d ∷ e ∷ ds) = limit_after (e ∷ ds)
 
--- the last place at which a depth is
+-- the last index at which a depth is
 abbrev pub last_with : ℕ → List ℕ → Option ℕ
 last_with depth [] = None
 last_with depth (d ∷ ds) =
@@ -63,7 +63,7 @@ abbrev pub parent_after : List ℕ → ℕ → Option ℕ
 parent_after depths zero = None
 parent_after depths (suc depth) = last_with depth depths
 
--- the places of the last element and its ancestors, from the root on
+-- the indices of the last element and its ancestors, from the root on
 pub record IsPath (path depths : List ℕ) : Type 0 where
   pub limit : length path ≡ limit_after depths
   pub each : (d : ℕ) → d < length path → last_with d depths ≡ Some (slice_index path d)
@@ -78,7 +78,7 @@ name_in strings = slice_index_or strings 0 []
 abbrev pub fields_in : List (List ℕ) → List (List ℕ)
 fields_in strings = drop 1 strings
 
--- the key of the attribute at a place, by the strings after the name
+-- the key of the attribute at an index, by the strings after the name
 abbrev pub key_in : List (List ℕ) → ℕ → List ℕ
 key_in fields i = slice_index_or fields (2 * i) []
 

@@ -53,22 +53,22 @@ selector_line selector = line (object (selector_members selector))
 abbrev pub selector_lines : List (List Component) → List ℕ
 selector_lines selectors = flat_map selector_line selectors
 
--- of a place: its row, its column, and what is wrong there
-abbrev pub place_members : TextPos → List ℕ → List (List ℕ)
-place_members pos reason =
+-- of a position: its row, its column, and what is wrong there
+abbrev pub position_members : TextPos → List ℕ → List (List ℕ)
+position_members pos reason =
     member (codes "row") (decimal pos.row)
     ∷ member (codes "column") (decimal pos.col)
     ∷ member (codes "reason") (string reason)
     ∷ []
 
--- the line of a place and what is wrong there
-abbrev pub place_line : TextPos → List ℕ → List ℕ
-place_line pos reason = line (object (place_members pos reason))
+-- the line of a position and what is wrong there
+abbrev pub position_line : TextPos → List ℕ → List ℕ
+position_line pos reason = line (object (position_members pos reason))
 
 -- the line of skipped text: where it begins, why it is skipped, and what is quoted of it
 abbrev pub fault_line : FaultView → List ℕ
 fault_line fault =
-    line (object (place_members fault.pos (reason_words fault.reason)
+    line (object (position_members fault.pos (reason_words fault.reason)
     ++ member (codes "text") (string (quote fault)) ∷ []))
 
 -- the lines of all that is skipped, in order

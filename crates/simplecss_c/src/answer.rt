@@ -2,7 +2,7 @@
 
 ghost use Rattle.std.specs.Prelude.{◌≡◌, Ok, Err};
 ghost use Rattle.std.specs.Prelude.{string_bytes};
-ghost use Rattle.simplecss_c.specs.Answers.{status_of, IsHandedOver, Answers, IsPlaced};
+ghost use Rattle.simplecss_c.specs.Answers.{status_of, IsHandedOver, Answers, IsFaultSet};
 ghost use Rattle.simplecss_c.specs.Outcomes.{outcome_of};
 ghost use Rattle.simplecss_c.specs.declared.answer.Failure.TheVariants.{Memory};
 
@@ -67,9 +67,9 @@ impl From<TreeError> for Failure {
     }
 }
 
-/// Where a tree has a fault.
+/// A fault of a tree, as the caller of a function gets it.
 #[repr(C)]
-pub struct TreePlace {
+pub struct TreeFault {
     /// The number of the kind of fault.
     pub fault: u32,
     /// The number of the element, from 1.
@@ -102,12 +102,12 @@ pub fn hand_over(outcome: Result<String, Failure>, out: &mut [u8], len: &mut usi
     }
 }
 
-/// Sets the place of a tree's fault, where that is why a call has no answer.
-pub fn set_place(outcome: &Result<String, Failure>, place: &mut TreePlace)
-    ensures { IsPlaced (outcome_of outcome.now) place.old place.new }
+/// Sets the fault of a tree, if that is why a call has no answer.
+pub fn set_fault(outcome: &Result<String, Failure>, fault: &mut TreeFault)
+    ensures { IsFaultSet (outcome_of outcome.now) fault.old fault.new }
 {
-    if let Err(Failure::Tree(fault)) = outcome {
-        place.fault = fault.number();
-        place.element = fault.element();
+    if let Err(Failure::Tree(found)) = outcome {
+        fault.fault = found.number();
+        fault.element = found.element();
     }
 }

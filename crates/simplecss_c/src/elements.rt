@@ -67,7 +67,7 @@ impl ElementFault {
     }
 }
 
-/// The string between two places of a buffer, if one may end at the second.
+/// The string between two offsets of a buffer, if one may end at the second.
 fn string_between(buffer: &str, start: usize, end: usize) -> Option<&str>
     requires { IsCharBoundary buffer.now start }
     ensures { MatchOption result (may_end buffer.now start end ≡ false)
@@ -165,7 +165,7 @@ fn add_element<'t>(
     Ok(())
 }
 
-/// The parent of an element of this depth, by the places of the last element and its ancestors.
+/// The parent of an element of this depth, by the indices of the last element and its ancestors.
 fn parent_of(path: &[usize], depth: usize) -> Option<usize>
     ensures { (depths : List ℕ) → IsPath path.now depths → depth ≤ length path.now
         → result ≡ parent_after depths depth }
@@ -191,14 +191,14 @@ fn add_next<'t>(
         × (read ≡ strings_of element) × (read ≤ length strings.now))
         (λ failure. FailsFor ⊥ (λ reported. fault ≡ Some reported) ⊥ failure) }
 {
-    let place = tree.len();
-    if let Some(fault) = fault_in(alloc, place + 1, path.len(), element, strings)? {
+    let index = tree.len();
+    if let Some(fault) = fault_in(alloc, index + 1, path.len(), element, strings)? {
         return Err(Failure::Tree(fault));
     }
     let parent = parent_of(path, element.depth);
     add_element(tree, parent, strings[0], &strings[1..], element.attributes)?;
     path.truncate(element.depth);
-    path.push(place)?;
+    path.push(index)?;
     Ok(2 * element.attributes + 1)
 }
 

@@ -3,16 +3,16 @@
 //! Each returns a status: 0 done, 1 refused, 2 a fault of the tree, 3 out of memory, 5 not UTF-8, 6
 //! the buffer is too small. At 0 the answer is at the front of `out`, and `len` is its length. At 6
 //! nothing was written, and `len` is the length that the call needs. At any other status nothing was
-//! written, and `len` is 0. `place` is set at 2 only.
+//! written, and `len` is 0. `fault` is set at 2 only.
 
 ghost use Rattle.std.specs.Prelude.{◌≡◌, List, ℕ, Result};
 ghost use Rattle.simplecss_c.specs.declared.answer.Failure.{Failure as FailureView};
-ghost use Rattle.simplecss_c.specs.Answers.{Answers, IsHandedOver, IsPlaced};
+ghost use Rattle.simplecss_c.specs.Answers.{Answers, IsHandedOver, IsFaultSet};
 ghost use Rattle.simplecss_c.specs.Calls.{IsSelectorCall, IsSheetCall, IsPrinted, IsMatchCall};
 ghost use Rattle.simplecss_c.specs.Calls.{IsListCall, IsRuleLines, IsSkippedCall, IsSelectCall, IsStyleCall};
 ghost use Rattle.simplecss_c.specs.Calls.{IsStylesCall};
 
-use crate::answer::{TreePlace, copy_whole, hand_over, set_place};
+use crate::answer::{TreeFault, copy_whole, hand_over, set_fault};
 use crate::calls;
 use crate::calls::Passed;
 use crate::elements::TreeElement;
@@ -102,7 +102,7 @@ pub extern "C" fn simplecss_rules(
     hand_over(calls::rules(alloc, texts, ends), out, len)
 }
 
-/// Writes a line of JSON for each part of a style sheet's text that is skipped: `row`, `column`,
+/// Writes a line of JSON for each piece of a style sheet's text that is skipped: `row`, `column`,
 /// `reason` and `text`.
 #[unsafe(no_mangle)]
 pub extern "C" fn simplecss_skipped(
@@ -129,12 +129,12 @@ pub extern "C" fn simplecss_match(
     string_ends: &[usize],
     out: &mut [u8],
     len: &mut usize,
-    place: &mut TreePlace,
+    fault: &mut TreeFault,
 ) -> u32
     ensures { (outcome : Result (List ℕ) FailureView) × IsMatchCall texts.now ends.now
         (record { elements = elements.now; strings = strings.now; ends = string_ends.now }) outcome
         × Answers outcome result out.old out.new len.new
-        × IsPlaced outcome place.old place.new }
+        × IsFaultSet outcome fault.old fault.new }
 {
     let tree = Passed {
         elements,
@@ -142,7 +142,7 @@ pub extern "C" fn simplecss_match(
         ends: string_ends,
     };
     let outcome = calls::matches(alloc, texts, ends, tree);
-    set_place(&outcome, place);
+    set_fault(&outcome, fault);
     hand_over(outcome, out, len)
 }
 
@@ -157,12 +157,12 @@ pub extern "C" fn simplecss_select(
     string_ends: &[usize],
     out: &mut [u8],
     len: &mut usize,
-    place: &mut TreePlace,
+    fault: &mut TreeFault,
 ) -> u32
     ensures { (outcome : Result (List ℕ) FailureView) × IsSelectCall selectors.now
         (record { elements = elements.now; strings = strings.now; ends = string_ends.now }) outcome
         × Answers outcome result out.old out.new len.new
-        × IsPlaced outcome place.old place.new }
+        × IsFaultSet outcome fault.old fault.new }
 {
     let tree = Passed {
         elements,
@@ -170,7 +170,7 @@ pub extern "C" fn simplecss_select(
         ends: string_ends,
     };
     let outcome = calls::select(alloc, selectors, tree);
-    set_place(&outcome, place);
+    set_fault(&outcome, fault);
     hand_over(outcome, out, len)
 }
 
@@ -187,12 +187,12 @@ pub extern "C" fn simplecss_style(
     name: &[u8],
     out: &mut [u8],
     len: &mut usize,
-    place: &mut TreePlace,
+    fault: &mut TreeFault,
 ) -> u32
     ensures { (outcome : Result (List ℕ) FailureView) × IsStyleCall texts.now ends.now
         (record { elements = elements.now; strings = strings.now; ends = string_ends.now }) name.now outcome
         × Answers outcome result out.old out.new len.new
-        × IsPlaced outcome place.old place.new }
+        × IsFaultSet outcome fault.old fault.new }
 {
     let tree = Passed {
         elements,
@@ -200,7 +200,7 @@ pub extern "C" fn simplecss_style(
         ends: string_ends,
     };
     let outcome = calls::style(alloc, texts, ends, tree, name);
-    set_place(&outcome, place);
+    set_fault(&outcome, fault);
     hand_over(outcome, out, len)
 }
 
@@ -216,12 +216,12 @@ pub extern "C" fn simplecss_styles(
     string_ends: &[usize],
     out: &mut [u8],
     len: &mut usize,
-    place: &mut TreePlace,
+    fault: &mut TreeFault,
 ) -> u32
     ensures { (outcome : Result (List ℕ) FailureView) × IsStylesCall texts.now ends.now
         (record { elements = elements.now; strings = strings.now; ends = string_ends.now }) outcome
         × Answers outcome result out.old out.new len.new
-        × IsPlaced outcome place.old place.new }
+        × IsFaultSet outcome fault.old fault.new }
 {
     let tree = Passed {
         elements,
@@ -229,6 +229,6 @@ pub extern "C" fn simplecss_styles(
         ends: string_ends,
     };
     let outcome = calls::styles(alloc, texts, ends, tree);
-    set_place(&outcome, place);
+    set_fault(&outcome, fault);
     hand_over(outcome, out, len)
 }

@@ -8,8 +8,8 @@ ghost use Rattle.simplecss_faults.specs.FaultViews.{fault_of};
 ghost use Rattle.simplecss_c.specs.Json.{is_escaped, escape, string, members};
 ghost use Rattle.simplecss_c.specs.JsonLines.{declaration_object, declaration_array};
 ghost use Rattle.simplecss_c.specs.JsonLines.{selector_members, rule_line, rule_lines};
-ghost use Rattle.simplecss_c.specs.JsonLines.{selector_line, selector_lines, place_members};
-ghost use Rattle.simplecss_c.specs.JsonLines.{place_line, fault_line, fault_lines};
+ghost use Rattle.simplecss_c.specs.JsonLines.{selector_line, selector_lines, position_members};
+ghost use Rattle.simplecss_c.specs.JsonLines.{position_line, fault_line, fault_lines};
 
 use simplecss::{Declaration, Rule, Selector, TextPos};
 use simplecss_faults::SheetFault;
@@ -57,11 +57,11 @@ fn push_string(out: &mut String, text: &str) -> Result<(), AllocError>
 {
     out.push('"')?;
     let mut start: usize = 0;
-    for (place, byte) in text.as_bytes().iter().enumerate() {
+    for (offset, byte) in text.as_bytes().iter().enumerate() {
         if is_escaped(*byte) {
-            out.push_str(&text[start..place])?;
+            out.push_str(&text[start..offset])?;
             push_escape(out, *byte)?;
-            start = place + 1;
+            start = offset + 1;
         }
     }
     out.push_str(&text[start..])?;
@@ -105,8 +105,8 @@ pub fn push_declarations(
         ≡ string_bytes out.old ++ declaration_array (declarations_of declarations.now)) }
 {
     out.push('[')?;
-    for (place, declaration) in declarations.iter().enumerate() {
-        if place > 0 {
+    for (index, declaration) in declarations.iter().enumerate() {
+        if index > 0 {
             out.push(',')?;
         }
         push_declaration(out, declaration)?;
@@ -159,10 +159,10 @@ pub fn selector_lines(alloc: Global, rules: &[Rule<'_>]) -> Result<String, Alloc
     Ok(out)
 }
 
-/// Appends the members of a place: its row, its column, and what is wrong there.
-fn push_place(out: &mut String, pos: TextPos, reason: &str) -> Result<(), AllocError>
+/// Appends the members of a position: its row, its column, and what is wrong there.
+fn push_position(out: &mut String, pos: TextPos, reason: &str) -> Result<(), AllocError>
     ensures { OnOk result
-        (string_bytes out.new ≡ string_bytes out.old ++ members (place_members pos reason.now)) }
+        (string_bytes out.new ≡ string_bytes out.old ++ members (position_members pos reason.now)) }
 {
     let (row, column) = (pos.row, pos.col);
     write!(out, "\"row\":{row},\"column\":{column},\"reason\":")?;
@@ -175,7 +175,7 @@ fn push_fault(out: &mut String, fault: &SheetFault<'_>) -> Result<(), AllocError
         (string_bytes out.new ≡ string_bytes out.old ++ fault_line (fault_of fault.now)) }
 {
     out.push('{')?;
-    push_place(out, fault.pos, fault.reason.words())?;
+    push_position(out, fault.pos, fault.reason.words())?;
     out.push_str(",\"text\":")?;
     push_string(out, fault.quote())?;
     out.push_str("}\n")
@@ -192,13 +192,13 @@ pub fn fault_lines(alloc: Global, faults: &[SheetFault<'_>]) -> Result<String, A
     Ok(out)
 }
 
-/// The line of a place and what is wrong there.
-pub fn place_line(alloc: Global, pos: TextPos, reason: &str) -> Result<String, AllocError>
-    ensures { IfOk result (λ text. string_bytes text ≡ place_line pos reason.now) }
+/// The line of a position and what is wrong there.
+pub fn position_line(alloc: Global, pos: TextPos, reason: &str) -> Result<String, AllocError>
+    ensures { IfOk result (λ text. string_bytes text ≡ position_line pos reason.now) }
 {
     let mut out = String::new(alloc);
     out.push('{')?;
-    push_place(&mut out, pos, reason)?;
+    push_position(&mut out, pos, reason)?;
     out.push_str("}\n")?;
     Ok(out)
 }

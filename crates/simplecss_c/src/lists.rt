@@ -16,25 +16,25 @@ use std::alloc::{AllocError, Global};
 /// What a text is as a list of selectors.
 #[derive(Drop)]
 enum Listed<'a> {
-    /// Each part is a selector, here of a rule without declarations.
+    /// Each item is a selector, here of a rule without declarations.
     Selectors(Vec<Rule<'a>>),
-    /// The part that begins at the first place is none, and reading stopped at the second.
+    /// The item that begins at the first offset is none, and reading stopped at the second.
     Refused(usize, usize),
-    /// At this place a selector has ended, and no comma follows.
+    /// At this offset a selector has ended, and no comma follows.
     NoComma(usize),
 }
 
-/// The text from a place on.
-fn tail(text: &str, place: usize) -> &str {
-    text.get(place..).unwrap_or("")
+/// The text from an offset on.
+fn tail(text: &str, offset: usize) -> &str {
+    text.get(offset..).unwrap_or("")
 }
 
-/// The text from a place on, which is a character's.
-fn rest_from(text: &str, place: usize) -> &str
-    requires { IsCharBoundary text.now place }
-    ensures { result.now ≡ drop place text.now }
+/// The text from an offset on, which is a character's.
+fn rest_from(text: &str, offset: usize) -> &str
+    requires { IsCharBoundary text.now offset }
+    ensures { result.now ≡ drop offset text.now }
 {
-    &text[place..]
+    &text[offset..]
 }
 
 /// Reads a list of selectors. A comma within an attribute's value, as in `[a="b,c"]`, ends none.
@@ -78,13 +78,13 @@ pub fn selectors_of(alloc: Global, text: &str) -> Result<Vec<Rule<'_>>, Failure>
     }
 }
 
-/// The position of a place.
-fn position(text: &str, place: usize) -> TextPos {
-    let front = text.get(..place).unwrap_or(text);
+/// The position of an offset.
+fn position(text: &str, offset: usize) -> TextPos {
+    let front = text.get(..offset).unwrap_or(text);
     Stream::new(front).gen_text_pos_from(front.len())
 }
 
-/// The line of the error in the selector that begins at a place, where reading stopped at another.
+/// The line of the error in the selector that begins at an offset, where reading stopped at another.
 fn error_line(alloc: Global, text: &str, start: usize, end: usize) -> Result<String, Failure> {
     for token in SelectorTokenizer::from(tail(text, start)) {
         let Err(error) = token else {
@@ -95,10 +95,10 @@ fn error_line(alloc: Global, text: &str, start: usize, end: usize) -> Result<Str
             None => position(text, end),
         };
         let reason = format!(in alloc; "{}", Reason::Selector(error))?;
-        return Ok(json::place_line(alloc, at, reason.as_str())?);
+        return Ok(json::position_line(alloc, at, reason.as_str())?);
     }
     let at = position(text, end);
-    Ok(json::place_line(alloc, at, "unknown pseudo-class")?)
+    Ok(json::position_line(alloc, at, "unknown pseudo-class")?)
 }
 
 /// The line of the first error in a list of selectors, or nothing where there is none.
@@ -108,7 +108,7 @@ pub fn refusal(alloc: Global, text: &str) -> Result<String, Failure> {
         Listed::Refused(start, end) => error_line(alloc, text, start, end),
         Listed::NoComma(end) => {
             let at = position(text, end);
-            Ok(json::place_line(alloc, at, "a comma or the end was expected")?)
+            Ok(json::position_line(alloc, at, "a comma or the end was expected")?)
         }
     }
 }

@@ -7,7 +7,7 @@ ghost use Rattle.simplecss.specs.DeclarationViews.{declaration_of};
 ghost use Rattle.simplecss.specs.RuleViews.{rules_of, rules_in};
 ghost use Rattle.cssq.specs.MatchRuns.{numbers_line};
 ghost use Rattle.cssq.specs.StyleRuns.{style_line};
-ghost use Rattle.simplecss_c.specs.AnswerLines.{selected_line, places_line, IsLineOf, AreLinesOf};
+ghost use Rattle.simplecss_c.specs.AnswerLines.{selected_line, indices_line, IsLineOf, AreLinesOf};
 ghost use Rattle.simplecss_c.specs.AnswerLines.{IsWinnerLine, AreWinnerLines};
 ghost use Rattle.simplecss_c.specs.AnswerLines.{IsWinnersLine, AreWinnersLines};
 
@@ -28,26 +28,26 @@ pub enum LineContent {
     Selected,
 }
 
-/// Appends an element's number, and the numbers of the rules at the places.
-fn push_numbers(out: &mut String, number: usize, places: &[usize]) -> Result<(), AllocError>
-    requires { All (λ place. place + 1 < 2 ^ 64) places.now }
+/// Appends an element's number, and the numbers of the rules with these indices.
+fn push_numbers(out: &mut String, number: usize, indices: &[usize]) -> Result<(), AllocError>
+    requires { All (λ index. index + 1 < 2 ^ 64) indices.now }
     ensures { OnOk result (string_bytes out.new
-        ≡ string_bytes out.old ++ numbers_line number (map (λ place. place + 1) places.now)) }
+        ≡ string_bytes out.old ++ numbers_line number (map (λ index. index + 1) indices.now)) }
 {
     write!(out, "{number}:")?;
-    for place in places {
-        let rule_number = *place + 1;
+    for index in indices {
+        let rule_number = *index + 1;
         write!(out, " {rule_number}")?;
     }
     out.push('\n')
 }
 
-/// Appends an element's number, if there is a place.
-fn push_selected(out: &mut String, number: usize, places: &[usize]) -> Result<(), AllocError>
+/// Appends an element's number, if there is an index.
+fn push_selected(out: &mut String, number: usize, indices: &[usize]) -> Result<(), AllocError>
     ensures { OnOk result
-        (string_bytes out.new ≡ string_bytes out.old ++ selected_line number places.now) }
+        (string_bytes out.new ≡ string_bytes out.old ++ selected_line number indices.now) }
 {
-    if places.is_empty() {
+    if indices.is_empty() {
         return Ok(());
     }
     writeln!(out, "{number}")
@@ -74,30 +74,30 @@ fn push_winner(
     writeln!(out, "{number}: {value}{mark}")
 }
 
-/// Appends the line of the element at a place, by an index of the rules. What was in `places` is
-/// dropped.
+/// Appends the line of an element, which is given by its index, by an index of the rules. What was in
+/// `indices` is dropped.
 fn push_line<'a>(
     out: &mut String,
     content: LineContent,
     index: &RuleIndex<'a>,
     rules: &[Rule<'a>],
     tree: &Tree<'_>,
-    place: usize,
-    places: &mut Vec<usize>,
+    element: usize,
+    indices: &mut Vec<usize>,
 ) -> Result<(), AllocError>
     requires index { index.now ≡ map (λ rule. rule.selector) rules.now }
-    requires place { place < length tree.now }
-    requires number { place + 1 < 2 ^ 64 }
+    requires element { element < length tree.now }
+    requires number { element + 1 < 2 ^ 64 }
     ensures { OnOk result ((line : List ℕ) × IsLineOf content
-        (map (λ rule. rule.selector) rules.now) tree.now place line
+        (map (λ rule. rule.selector) rules.now) tree.now element line
         × (string_bytes out.new ≡ string_bytes out.old ++ line)) }
 {
-    let node = tree.node(place).unwrap();
-    index.matching(rules, &node, places)?;
-    let places = places.as_slice();
+    let node = tree.node(element).unwrap();
+    index.matching(rules, &node, indices)?;
+    let indices = indices.as_slice();
     match content {
-        LineContent::Numbers => push_numbers(out, place + 1, places),
-        LineContent::Selected => push_selected(out, place + 1, places),
+        LineContent::Numbers => push_numbers(out, element + 1, indices),
+        LineContent::Selected => push_selected(out, element + 1, indices),
     }
 }
 
@@ -114,30 +114,38 @@ pub fn lines(
         (λ failure. failure ≡ Failure.Memory) }
 {
     let index = RuleIndex::new(alloc, rules)?;
-    let mut places = Vec::new(alloc);
+    let mut indices = Vec::new(alloc);
     let mut text = String::new(alloc);
-    for place in 0..tree.len() {
-        push_line(&mut text, content, &index, rules, tree, place, &mut places)?;
+    for element in 0..tree.len() {
+        push_line(
+            &mut text,
+            content,
+            &index,
+            rules,
+            tree,
+            element,
+            &mut indices,
+        )?;
     }
     Ok(text)
 }
 
-/// Appends the line of what wins for a name on the element at a place.
+/// Appends the line of what wins for a name on an element, which is given by its index.
 fn push_winning(
     out: &mut String,
     sheet: &StyleSheet<'_>,
     tree: &Tree<'_>,
-    place: usize,
+    element: usize,
     name: &str,
 ) -> Result<(), AllocError>
-    requires place { place < length tree.now }
-    requires number { place + 1 < 2 ^ 64 }
+    requires element { element < length tree.now }
+    requires number { element + 1 < 2 ^ 64 }
     ensures { OnOk result
-        ((line : List ℕ) × IsWinnerLine name.now (rules_in sheet.now) tree.now place line
+        ((line : List ℕ) × IsWinnerLine name.now (rules_in sheet.now) tree.now element line
         × (string_bytes out.new ≡ string_bytes out.old ++ line)) }
 {
-    let node = tree.node(place).unwrap();
-    push_winner(out, place + 1, winning(sheet, &node, name))
+    let node = tree.node(element).unwrap();
+    push_winner(out, element + 1, winning(sheet, &node, name))
 }
 
 /// The lines of what wins for a name on each element of a tree.
@@ -152,26 +160,26 @@ pub fn winner_lines(
         (λ failure. failure ≡ Failure.Memory) }
 {
     let mut text = String::new(alloc);
-    for place in 0..tree.len() {
-        push_winning(&mut text, sheet, tree, place, name)?;
+    for element in 0..tree.len() {
+        push_winning(&mut text, sheet, tree, element, name)?;
     }
     Ok(text)
 }
 
-/// Appends the line of all that wins on the element at a place, in JSON.
+/// Appends the line of all that wins on an element, which is given by its index, in JSON.
 fn push_winners(
     out: &mut String,
     cascade: &mut Cascade<'_, '_>,
     tree: &Tree<'_>,
-    place: usize,
+    element: usize,
 ) -> Result<(), AllocError>
-    requires { place < length tree.now }
+    requires { element < length tree.now }
     ensures same { cascade.new ≡ cascade.old }
     ensures written { OnOk result
-        ((line : List ℕ) × IsWinnersLine cascade.old tree.now place line
+        ((line : List ℕ) × IsWinnersLine cascade.old tree.now element line
         × (string_bytes out.new ≡ string_bytes out.old ++ line)) }
 {
-    let node = tree.node(place).unwrap();
+    let node = tree.node(element).unwrap();
     let winners = cascade.winners(&node)?;
     push_declarations(out, &winners)?;
     out.push('\n')
@@ -185,8 +193,8 @@ pub fn winners_lines(alloc: Global, rules: &[Rule<'_>], tree: &Tree<'_>) -> Resu
 {
     let mut cascade = Cascade::new(alloc, rules)?;
     let mut text = String::new(alloc);
-    for place in 0..tree.len() {
-        push_winners(&mut text, &mut cascade, tree, place)?;
+    for element in 0..tree.len() {
+        push_winners(&mut text, &mut cascade, tree, element)?;
     }
     Ok(text)
 }

@@ -8,8 +8,8 @@ use Rattle.std.proofs.lemmas.List.Sums.{sum_by-append, sum_by-cons}
 use Rattle.std.specs.List.{slice_range}
 use Rattle.std.specs.Option.{option_map}
 use Rattle.simplecss_text.specs.Components.{Component, Subselector}
-use Rattle.simplecss_selector.specs.internal.SelectorViews.{subselector_of, component_of_part, components_from, Tile}
-use Rattle.simplecss_selector.specs.declared.selector.Part.{Part}
+use Rattle.simplecss_selector.specs.internal.SelectorViews.{subselector_of, component_of_flat, components_from, Tile}
+use Rattle.simplecss_selector.specs.declared.selector.FlatComponent.{FlatComponent}
 use Rattle.simplecss_selector.specs.declared.selector.SubSelector.{SubSelector}
 
 count_by-cons : {X : Type 0} (p : X → Bool) (x : X) (xs : List X) → count_by p (x ∷ xs) ≡ cond (p x) 1 0 + count_by p xs
@@ -41,10 +41,10 @@ count_by-not p (x ∷ xs) =
     omega (arith, one_or_none (p x), count_by-cons p x xs, count_by-cons (λ y. not (p y)) x xs, count_by-not p xs)
 
 -- the subselectors of all components are those of the one list
-pub sum_by-components_from : (p : Subselector → Bool) (start : ℕ) (ps : List Part) (ss : List SubSelector) → Tile start ps (length ss) → sum_by (λ c. count_by p c.compound.subselectors) (components_from start ps ss) ≡ count_by (λ s. p (subselector_of s)) (drop start ss)
+pub sum_by-components_from : (p : Subselector → Bool) (start : ℕ) (ps : List FlatComponent) (ss : List SubSelector) → Tile start ps (length ss) → sum_by (λ c. count_by p c.compound.subselectors) (components_from start ps ss) ≡ count_by (λ s. p (subselector_of s)) (drop start ss)
 sum_by-components_from p start [] ss t = sym (ap (count_by (λ s. p (subselector_of s))) (drop_all start ss (let e : start ≡ length ss = t in omega arith)))
 sum_by-components_from p start (q ∷ ps) ss t =
-    let first = sum_by-cons (λ (c : Component). count_by p c.compound.subselectors) (component_of_part q (slice_range ss start q.end)) (components_from q.end ps ss) in
+    let first = sum_by-cons (λ (c : Component). count_by p c.compound.subselectors) (component_of_flat q (slice_range ss start q.end)) (components_from q.end ps ss) in
     let rest = sum_by-components_from p q.end ps ss t.1 in
     let here = count_by-map p subselector_of (slice_range ss start q.end) in
     let both = ap (count_by (λ s. p (subselector_of s))) (drop_split ss start q.end t.0)
@@ -56,10 +56,10 @@ is_some-option_map : {A B : Type 0} (f : A → B) (o : Option A) → is_some (op
 is_some-option_map f None = refl
 is_some-option_map f (Some a) = refl
 
-pub count_by-components_from : (start : ℕ) (ps : List Part) (ss : List SubSelector) → count_by (λ c. is_some c.compound.name) (components_from start ps ss) ≡ count_by (λ p. is_some p.name) ps
+pub count_by-components_from : (start : ℕ) (ps : List FlatComponent) (ss : List SubSelector) → count_by (λ c. is_some c.compound.name) (components_from start ps ss) ≡ count_by (λ p. is_some p.name) ps
 count_by-components_from start [] ss = refl
 count_by-components_from start (p ∷ ps) ss =
-    count_by-cons (λ (c : Component). is_some c.compound.name) (component_of_part p (slice_range ss start p.end)) (components_from p.end ps ss)
+    count_by-cons (λ (c : Component). is_some c.compound.name) (component_of_flat p (slice_range ss start p.end)) (components_from p.end ps ss)
     ∙ ap (λ b. cond {A = ℕ} b 1 0 + count_by (λ (c : Component). is_some c.compound.name) (components_from p.end ps ss)) (is_some-option_map (λ n. n.now) p.name)
     ∙ ap (λ n. cond {A = ℕ} (is_some p.name) 1 0 + n) (count_by-components_from p.end ps ss)
-    ∙ sym (count_by-cons (λ (q : Part). is_some q.name) p ps)
+    ∙ sym (count_by-cons (λ (q : FlatComponent). is_some q.name) p ps)

@@ -13,30 +13,30 @@ use Rattle.simplecss_text.specs.Components.Combinator.{none}
 use Rattle.simplecss_selector.specs.internal.CombinatorViews.{combinator_of}
 use Rattle.simplecss_selector.specs.internal.Stretches.{kept_ends_after}
 use Rattle.simplecss_selector.specs.Shapes.{component_at, any_component, IsSelector}
-use Rattle.simplecss_selector.specs.internal.SelectorViews.{subselector_of, component_of_part, components_from, Tile, last_end, drafted, IsFlat}
+use Rattle.simplecss_selector.specs.internal.SelectorViews.{subselector_of, component_of_flat, components_from, Tile, last_end, drafted, IsFlat}
 use Rattle.simplecss_selector.specs.internal.SelectorDrafts.{with_subselector, joined, finished}
-use Rattle.simplecss_selector.specs.declared.selector.Part.{Part}
+use Rattle.simplecss_selector.specs.declared.selector.FlatComponent.{FlatComponent}
 use Rattle.simplecss_selector.specs.declared.selector.SubSelector.{SubSelector}
 use Rattle.simplecss_selector.proofs.Flat.{Tile-le, components_from-length}
 use Rattle.simplecss_selector.proofs.StretchEnds.{AreStretchEnds-same, AreStretchEnds-push}
 
-pub components_from-append : (start : ℕ) (ps qs : List Part) (ss : List SubSelector) → components_from start (ps ++ qs) ss ≡ components_from start ps ss ++ components_from (last_end start ps) qs ss
+pub components_from-append : (start : ℕ) (ps qs : List FlatComponent) (ss : List SubSelector) → components_from start (ps ++ qs) ss ≡ components_from start ps ss ++ components_from (last_end start ps) qs ss
 components_from-append start [] qs ss = refl
-components_from-append start (p ∷ ps) qs ss = ap (λ cs. component_of_part p (slice_range ss start p.end) ∷ cs) (components_from-append p.end ps qs ss)
+components_from-append start (p ∷ ps) qs ss = ap (λ cs. component_of_flat p (slice_range ss start p.end) ∷ cs) (components_from-append p.end ps qs ss)
 
-pub last_end-push : (start : ℕ) (ps : List Part) (p : Part) → last_end start (ps ++ p ∷ []) ≡ p.end
+pub last_end-push : (start : ℕ) (ps : List FlatComponent) (p : FlatComponent) → last_end start (ps ++ p ∷ []) ≡ p.end
 last_end-push start [] p = refl
 last_end-push start (q ∷ ps) p = last_end-push q.end ps p
 
-pub Tile-last : (start : ℕ) (ps : List Part) (p : Part) (n : ℕ) → Tile start (ps ++ p ∷ []) n → (last_end start ps ≤ p.end) × (p.end ≡ n) × Tile start ps (last_end start ps)
+pub Tile-last : (start : ℕ) (ps : List FlatComponent) (p : FlatComponent) (n : ℕ) → Tile start (ps ++ p ∷ []) n → (last_end start ps ≤ p.end) × (p.end ≡ n) × Tile start ps (last_end start ps)
 Tile-last start [] p n t = (t.0, t.1, refl)
 Tile-last start (q ∷ ps) p n t = let r = Tile-last q.end ps p n t.1 in (r.0, r.1, (t.0, r.2))
 
-pub Tile-push : (start : ℕ) (ps : List Part) (p : Part) (n m : ℕ) → Tile start ps n → n ≤ p.end → p.end ≡ m → Tile start (ps ++ p ∷ []) m
+pub Tile-push : (start : ℕ) (ps : List FlatComponent) (p : FlatComponent) (n m : ℕ) → Tile start ps n → n ≤ p.end → p.end ≡ m → Tile start (ps ++ p ∷ []) m
 Tile-push start [] p n m t h e = (omega arith, e)
 Tile-push start (q ∷ ps) p n m t h e = (t.0, Tile-push q.end ps p n m t.1 h e)
 
--- what follows a part of a list does not change the part
+-- what follows a flat component of a list does not change its component
 slice_range-append : {X : Type 0} (xs ys : List X) (i j : ℕ) → j ≤ length xs → slice_range (xs ++ ys) i j ≡ slice_range xs i j
 slice_range-append xs ys i j h = between_is (xs ++ ys) i j ∙ ap (drop i) (take-append-le j xs ys h) ∙ sym (between_is xs i j)
 
@@ -46,24 +46,24 @@ slice_range-push xs x i n h e =
     ∙ drop-append-le i xs (x ∷ []) h
     ∙ ap (λ l. l ++ x ∷ []) (sym (between_to_end xs i n (omega arith)))
 
-pub components_from-more : (start : ℕ) (ps : List Part) (ss ts : List SubSelector) (n : ℕ) → Tile start ps n → n ≤ length ss → components_from start ps (ss ++ ts) ≡ components_from start ps ss
+pub components_from-more : (start : ℕ) (ps : List FlatComponent) (ss ts : List SubSelector) (n : ℕ) → Tile start ps n → n ≤ length ss → components_from start ps (ss ++ ts) ≡ components_from start ps ss
 components_from-more start [] ss ts n t h = refl
 components_from-more start (p ∷ ps) ss ts n t h =
     let below = Tile-le p.end ps n t.1 in
     let here : slice_range (ss ++ ts) start p.end ≡ slice_range ss start p.end = slice_range-append ss ts start p.end (omega arith) in
-    ap (λ l. component_of_part p l ∷ components_from p.end ps (ss ++ ts)) here
-    ∙ ap (λ cs. component_of_part p (slice_range ss start p.end) ∷ cs) (components_from-more p.end ps ss ts n t.1 h)
+    ap (λ l. component_of_flat p l ∷ components_from p.end ps (ss ++ ts)) here
+    ∙ ap (λ cs. component_of_flat p (slice_range ss start p.end) ∷ cs) (components_from-more p.end ps ss ts n t.1 h)
 
 -- how each component is related to the one before it
 abbrev pub joints : List Component → List Combinator
 joints cs = map (λ c. c.combinator) cs
 
-abbrev pub part_joint : Part → Combinator
-part_joint p = combinator_of p.combinator
+abbrev pub flat_joint : FlatComponent → Combinator
+flat_joint p = combinator_of p.combinator
 
-pub joints-components_from : (start : ℕ) (ps : List Part) (ss : List SubSelector) → joints (components_from start ps ss) ≡ map part_joint ps
+pub joints-components_from : (start : ℕ) (ps : List FlatComponent) (ss : List SubSelector) → joints (components_from start ps ss) ≡ map flat_joint ps
 joints-components_from start [] ss = refl
-joints-components_from start (p ∷ ps) ss = ap (λ js. part_joint p ∷ js) (joints-components_from p.end ps ss)
+joints-components_from start (p ∷ ps) ss = ap (λ js. flat_joint p ∷ js) (joints-components_from p.end ps ss)
 
 joint_at : (cs : List Component) (k : ℕ) → (component_at cs k).combinator ≡ get_or (joints cs) k none
 joint_at [] k = refl
@@ -93,16 +93,16 @@ IsSelector-push cs c s j = (
   ],
 )
 
-joints-push : (ps : List Part) (p q : Part) (ss ts : List SubSelector) → part_joint p ≡ part_joint q → joints (components_from 0 (ps ++ p ∷ []) ss) ≡ joints (components_from 0 (ps ++ q ∷ []) ts)
+joints-push : (ps : List FlatComponent) (p q : FlatComponent) (ss ts : List SubSelector) → flat_joint p ≡ flat_joint q → joints (components_from 0 (ps ++ p ∷ []) ss) ≡ joints (components_from 0 (ps ++ q ∷ []) ts)
 joints-push ps p q ss ts e =
     joints-components_from 0 (ps ++ p ∷ []) ss
-    ∙ map-append part_joint ps (p ∷ [])
-    ∙ ap (λ j. map part_joint ps ++ j ∷ []) e
-    ∙ sym (map-append part_joint ps (q ∷ []))
+    ∙ map-append flat_joint ps (p ∷ [])
+    ∙ ap (λ j. map flat_joint ps ++ j ∷ []) e
+    ∙ sym (map-append flat_joint ps (q ∷ []))
     ∙ sym (joints-components_from 0 (ps ++ q ∷ []) ts)
 
--- the last part changes, but for its combinator
-pub flat_more : (ps : List Part) (p q : Part) (ss ts : List SubSelector) (n m : ℕ) (kept : List ℕ) → IsFlat (ps ++ p ∷ []) ss n kept → part_joint p ≡ part_joint q → n ≤ m → q.end ≡ m → IsFlat (ps ++ q ∷ []) ts m kept
+-- the last component changes, but for its combinator
+pub flat_more : (ps : List FlatComponent) (p q : FlatComponent) (ss ts : List SubSelector) (n m : ℕ) (kept : List ℕ) → IsFlat (ps ++ p ∷ []) ss n kept → flat_joint p ≡ flat_joint q → n ≤ m → q.end ≡ m → IsFlat (ps ++ q ∷ []) ts m kept
 flat_more ps p q ss ts n m kept f j h e =
     let t = Tile-last 0 ps p n f.tiled in
     let cs = components_from 0 (ps ++ p ∷ []) ss in
@@ -115,14 +115,14 @@ flat_more ps p q ss ts n m kept f j h e =
           (λ k. joint_at cs k ∙ ap (λ js. get_or js k none) same ∙ sym (joint_at ds k)) f.stretches;
     }
 
-components_from-push : (ps : List Part) (q : Part) (ss : List SubSelector) → components_from 0 (ps ++ q ∷ []) ss ≡ components_from 0 ps ss ++ component_of_part q (slice_range ss (last_end 0 ps) q.end) ∷ []
+components_from-push : (ps : List FlatComponent) (q : FlatComponent) (ss : List SubSelector) → components_from 0 (ps ++ q ∷ []) ss ≡ components_from 0 ps ss ++ component_of_flat q (slice_range ss (last_end 0 ps) q.end) ∷ []
 components_from-push ps q ss = components_from-append 0 ps (q ∷ []) ss
 
--- one more part, which is joined to the others
-pub flat_joined : (ps : List Part) (q : Part) (ss : List SubSelector) (n m : ℕ) (kept : List ℕ) → IsFlat ps ss n kept → part_joint q ≢ none → q.end ≡ n → m ≡ length ps → IsFlat (ps ++ q ∷ []) ss n (kept_ends_after (part_joint q) m kept)
+-- one more component, which is joined to the others
+pub flat_joined : (ps : List FlatComponent) (q : FlatComponent) (ss : List SubSelector) (n m : ℕ) (kept : List ℕ) → IsFlat ps ss n kept → flat_joint q ≢ none → q.end ≡ n → m ≡ length ps → IsFlat (ps ++ q ∷ []) ss n (kept_ends_after (flat_joint q) m kept)
 flat_joined ps q ss n m kept f j e done =
     let cs = components_from 0 ps ss in
-    let c = component_of_part q (slice_range ss (last_end 0 ps) q.end) in
+    let c = component_of_flat q (slice_range ss (last_end 0 ps) q.end) in
     let some : 0 < length cs = f.selector.0 in
     record {
       selector = rw (components_from-push ps q ss) (IsSelector-push cs c f.selector j);
@@ -130,7 +130,7 @@ flat_joined ps q ss n m kept f j e done =
       stretches = rw (done ∙ sym (components_from-length 0 ps ss), components_from-push ps q ss) (AreStretchEnds-push cs c kept some j f.stretches);
     }
 
-pub drafted-finished : (ps : List Part) (ss : List SubSelector) (p : Part) → components_from 0 (ps ++ p ∷ []) ss ≡ finished (drafted ps ss p)
+pub drafted-finished : (ps : List FlatComponent) (ss : List SubSelector) (p : FlatComponent) → components_from 0 (ps ++ p ∷ []) ss ≡ finished (drafted ps ss p)
 drafted-finished ps ss p = components_from-push ps p ss
 
 -- what two facts on success come to
@@ -152,14 +152,14 @@ without_last xs ys zs x n e m t =
 slice_range-empty : {X : Type 0} (xs : List X) (i j : ℕ) → i ≡ j → slice_range xs i j ≡ []
 slice_range-empty xs i j e = let z : j - i ≡ 0 = omega arith in rw z refl
 
-pub drafted-joined : (ps : List Part) (ss : List SubSelector) (p q : Part) → q.name ≡ None → q.end ≡ p.end → drafted (ps ++ p ∷ []) ss q ≡ joined (part_joint q) (drafted ps ss p)
+pub drafted-joined : (ps : List FlatComponent) (ss : List SubSelector) (p q : FlatComponent) → q.name ≡ None → q.end ≡ p.end → drafted (ps ++ p ∷ []) ss q ≡ joined (flat_joint q) (drafted ps ss p)
 drafted-joined ps ss p q none_yet e =
     let nothing = slice_range-empty ss (last_end 0 (ps ++ p ∷ [])) q.end (last_end-push 0 ps p ∙ sym e) in
-    ap (λ cs. record { done = cs; last = component_of_part q (slice_range ss (last_end 0 (ps ++ p ∷ [])) q.end) }) (components_from-push ps p ss)
-    ∙ ap (λ l. record { done = components_from 0 ps ss ++ component_of_part p (slice_range ss (last_end 0 ps) p.end) ∷ []; last = component_of_part q l }) nothing
-    ∙ ap (λ o. record { done = components_from 0 ps ss ++ component_of_part p (slice_range ss (last_end 0 ps) p.end) ∷ []; last = record { combinator = part_joint q; compound = record { name = option_map (λ n. n.now) o; subselectors = [] } } }) none_yet
+    ap (λ cs. record { done = cs; last = component_of_flat q (slice_range ss (last_end 0 (ps ++ p ∷ [])) q.end) }) (components_from-push ps p ss)
+    ∙ ap (λ l. record { done = components_from 0 ps ss ++ component_of_flat p (slice_range ss (last_end 0 ps) p.end) ∷ []; last = component_of_flat q l }) nothing
+    ∙ ap (λ o. record { done = components_from 0 ps ss ++ component_of_flat p (slice_range ss (last_end 0 ps) p.end) ∷ []; last = record { combinator = flat_joint q; compound = record { name = option_map (λ n. n.now) o; subselectors = [] } } }) none_yet
 
-pub drafted-narrowed : (ps : List Part) (ss : List SubSelector) (s : SubSelector) (p q : Part) (n : ℕ) (kept : List ℕ) → IsFlat (ps ++ p ∷ []) ss n kept → n ≡ length ss → q.combinator ≡ p.combinator → q.name ≡ p.name → q.end ≡ p.end + 1 → drafted ps (ss ++ s ∷ []) q ≡ with_subselector (subselector_of s) (drafted ps ss p)
+pub drafted-narrowed : (ps : List FlatComponent) (ss : List SubSelector) (s : SubSelector) (p q : FlatComponent) (n : ℕ) (kept : List ℕ) → IsFlat (ps ++ p ∷ []) ss n kept → n ≡ length ss → q.combinator ≡ p.combinator → q.name ≡ p.name → q.end ≡ p.end + 1 → drafted ps (ss ++ s ∷ []) q ≡ with_subselector (subselector_of s) (drafted ps ss p)
 drafted-narrowed ps ss s p q n kept f whole j name e =
     let t = Tile-last 0 ps p n f.tiled in
     let done = components_from-more 0 ps ss (s ∷ []) (last_end 0 ps) t.2 (omega (arith, t.0, t.1)) in

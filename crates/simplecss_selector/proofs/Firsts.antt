@@ -194,27 +194,27 @@ gives_steps old new (Some x) left s (reported, seen, before) =
 
 -- what is returned first is between what was left before and what is left then
 given-first : (old : SelectorTokenizer) (r : Option (Result SelectorToken Error)) (left : List ℕ) (after : TokenSequence) → FirstStands (left_of old) (still_to_come old) → GivesFirst (whole_text old) (still_to_come old) r left after → StandBetween (left_of old) left (given_texts r)
-given-first old None left after stands first = subst (FirstStands (left_of old)) first.0 stands
-given-first old (Some (Ok token)) left after stands (Ok reported, seen, before) =
+given-first old None left after between first = subst (FirstStands (left_of old)) first.0 between
+given-first old (Some (Ok token)) left after between (Ok reported, seen, before) =
     let same : reported ≡ token_of token = cc in
-    let h : StandBetween (left_of old) left (token_texts reported) = subst (FirstStands (left_of old)) before stands in
+    let h : StandBetween (left_of old) left (token_texts reported) = subst (FirstStands (left_of old)) before between in
     subst (λ (t : Token). StandBetween (left_of old) left (token_texts t)) same h
-given-first old (Some (Ok token)) left after stands (Err fault, seen, before) = absurd (cc)
-given-first old (Some (Err error)) left after stands (Ok reported, seen, before) = absurd (cc)
-given-first old (Some (Err error)) left after stands (Err fault, seen, before) = subst (FirstStands (left_of old)) before stands
+given-first old (Some (Ok token)) left after between (Err fault, seen, before) = absurd (cc)
+given-first old (Some (Err error)) left after between (Ok reported, seen, before) = absurd (cc)
+given-first old (Some (Err error)) left after between (Err fault, seen, before) = subst (FirstStands (left_of old)) before between
 
-stage-stands : (text : List ℕ) → IsUtf8 text → (s : Stage) → FirstStands text (sequence_in s text)
-stage-stands text u stages.Open = sequence_from-first this_edition open_side text u
-stage-stands text u stages.Closed = sequence_from-first this_edition closed_side text u
-stage-stands text u stages.Missing = ends-same text
-stage-stands text u stages.Ended = ends-same text
+stage-slices : (text : List ℕ) → IsUtf8 text → (s : Stage) → FirstStands text (sequence_in s text)
+stage-slices text u stages.Open = sequence_from-first this_edition open_side text u
+stage-slices text u stages.Closed = sequence_from-first this_edition closed_side text u
+stage-slices text u stages.Missing = ends-same text
+stage-slices text u stages.Ended = ends-same text
 
 -- what is left to read is the UTF-8 of some characters
 left-utf8 : (t : SelectorTokenizer) → IsUtf8 (left_of t)
 left-utf8 t = IsUtf8-drop t.stream.text.now t.stream.pos (IsUtf8-had t.stream.text.now t.stream.utf8) t.stream.boundary
 
-pub given-stands : (old : SelectorTokenizer) (r : Option (Result SelectorToken Error)) (left : List ℕ) (after : TokenSequence) → GivesFirst (whole_text old) (still_to_come old) r left after → StandBetween (left_of old) left (given_texts r)
-given-stands old r left after first = given-first old r left after (stage-stands (left_of old) (left-utf8 old) old.stage) first
+pub given-slices : (old : SelectorTokenizer) (r : Option (Result SelectorToken Error)) (left : List ℕ) (after : TokenSequence) → GivesFirst (whole_text old) (still_to_come old) r left after → StandBetween (left_of old) left (given_texts r)
+given-slices old r left after first = given-first old r left after (stage-slices (left_of old) (left-utf8 old) old.stage) first
 
 -- what comes in a stage is what is still to come
 pub first-in : (old : SelectorTokenizer) (s : Stage) (r : Option (Result SelectorToken Error)) (left : List ℕ) (after : TokenSequence) → old.stage ≡ s → GivesFirst (whole_text old) (sequence_in s (left_of old)) r left after → GivesFirst (whole_text old) (still_to_come old) r left after
@@ -224,13 +224,13 @@ first-in old s r left after e h = subst (λ (s : Stage). GivesFirst (whole_text 
 pub gives-item : (old new : SelectorTokenizer) (s : Stage) (r : Option (Result SelectorToken Error)) → old.stage ≡ s → whole_text new ≡ whole_text old → GivesFirst (whole_text old) (sequence_in s (left_of old)) r (left_of new) (still_to_come new) → GivesItem old r new
 gives-item old new s r is same h =
     let first = first-in old s r (left_of new) (still_to_come new) is h in
-    let stands = given-stands old r (left_of new) (still_to_come new) first in
+    let between = given-slices old r (left_of new) (still_to_come new) first in
     record {
       items = gives_steps old new r (left_of new) same first;
       text = same;
       first = first;
-      slices = stands;
-      forward = offset-ends old.stream new.stream same (stand-ends (left_of old) (left_of new) (given_texts r) stands);
+      slices = between;
+      forward = offset-ends old.stream new.stream same (stand-ends (left_of old) (left_of new) (given_texts r) between);
     }
 
 -- an item that was returned is no longer to come

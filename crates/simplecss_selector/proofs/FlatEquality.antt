@@ -23,7 +23,7 @@ use Rattle.simplecss_selector.specs.declared.pseudo_class.PseudoClass.{PseudoCla
 use Rattle.simplecss_selector.specs.declared.pseudo_class.PseudoClass.TheVariants.{FirstChild, Link, Visited, Hover, Active, Focus, Lang}
 use Rattle.simplecss_selector.specs.declared.selector.Combinator.{Combinator as Joint}
 use Rattle.simplecss_selector.specs.declared.selector.Combinator.TheVariants.{None as NoCombinator, Descendant, Child, Adjacent}
-use Rattle.simplecss_selector.specs.declared.selector.Part.{Part}
+use Rattle.simplecss_selector.specs.declared.selector.FlatComponent.{FlatComponent}
 use Rattle.simplecss_selector.specs.declared.selector.SubSelector.{SubSelector}
 use Rattle.simplecss_selector.specs.declared.selector.SubSelector.TheVariants.{Attribute, PseudoClass as ByClass}
 use Rattle.simplecss_selector.specs.contracts.operator.AttributeOperatorPartialEq.TheImpl.{eq-value as operator_test}
@@ -32,7 +32,7 @@ use Rattle.simplecss_selector.specs.contracts.selector.CombinatorPartialEq.TheIm
 use Rattle.simplecss_selector.specs.contracts.selector.SubSelectorPartialEq.TheImpl.{eq-value as subselector_test}
 use Rattle.std.specs.contracts.prelude.RefStrPartialEq.TheImpl.{eq-value as text_test}
 use Rattle.simplecss_selector.proofs.Flat.{Tile-le}
-use Rattle.simplecss_selector.specs.contracts.selector.PartPartialEq.TheImpl.{eq-value as part_test}
+use Rattle.simplecss_selector.specs.contracts.selector.FlatComponentPartialEq.TheImpl.{eq-value as flat_test}
 
 -- the derived tests compare texts, wherever they are stored
 pub by_operator : (a b : AttributeOperator) → operator_test.it a b ≡ operator_eq (operator_of a) (operator_of b)
@@ -65,11 +65,11 @@ by_subselector (ByClass c) (ByClass d) = by_class c d
 by_subselector (Attribute n o) (ByClass d) = refl
 by_subselector (ByClass c) (Attribute m p) = refl
 
--- a part, without regard to where its name is stored
+-- a flat component, without regard to where its name is stored
 abbrev pub Share : Type 0
 Share = Combinator × Option (List ℕ) × ℕ
 
-abbrev pub share_of : Part → Share
+abbrev pub share_of : FlatComponent → Share
 share_of p = (combinator_of p.combinator, option_map (λ n. n.now) p.name, p.end)
 
 abbrev pub share_eq : Share → Share → Bool
@@ -81,8 +81,8 @@ by_name None (Some b) = refl
 by_name (Some a) None = refl
 by_name (Some a) (Some b) = refl
 
-by_part : (a b : Part) → part_test.it a b ≡ share_eq (share_of a) (share_of b)
-by_part a b =
+by_flat : (a b : FlatComponent) → flat_test.it a b ≡ share_eq (share_of a) (share_of b)
+by_flat a b =
     ap (λ t. t && (option_eq text_test.it a.name b.name && eqb a.end b.end)) (by_combinator a.combinator b.combinator)
     ∙ ap (λ t. combinator_eq (combinator_of a.combinator) (combinator_of b.combinator) && (t && eqb a.end b.end)) (by_name a.name b.name)
 
@@ -108,7 +108,7 @@ pointwise_agree E F h [] (y ∷ ys) = refl
 pointwise_agree E F h (x ∷ xs) [] = refl
 pointwise_agree E F h (x ∷ xs) (y ∷ ys) = ap (λ b. b && pointwise E xs ys) (h x y) ∙ ap (λ b. F x y && b) (pointwise_agree E F h xs ys)
 
--- the components, from the shares of the parts
+-- the components, from the shares of the flat components
 built : ℕ → List Share → List Subselector → List Component
 built start [] subselectors = []
 built start (s ∷ shares) subselectors =
@@ -122,7 +122,7 @@ map-drop f (suc n) (x ∷ xs) = map-drop f n xs
 map-slice_range : {X Y : Type 0} (f : X → Y) (xs : List X) (i j : ℕ) → map f (slice_range xs i j) ≡ slice_range (map f xs) i j
 map-slice_range f xs i j = sym (take-map f (j - i) (drop i xs)) ∙ ap (take (j - i)) (map-drop f i xs)
 
-components_from-built : (start : ℕ) (ps : List Part) (ss : List SubSelector) → components_from start ps ss ≡ built start (map share_of ps) (map subselector_of ss)
+components_from-built : (start : ℕ) (ps : List FlatComponent) (ss : List SubSelector) → components_from start ps ss ≡ built start (map share_of ps) (map subselector_of ss)
 unfolding built
 components_from-built start [] ss = refl
 components_from-built start (p ∷ ps) ss =
@@ -138,10 +138,10 @@ shares start (c ∷ cs) =
 length-slice_range : (ss : List SubSelector) (i j : ℕ) → i ≤ j → j ≤ length ss → i + length (map subselector_of (slice_range ss i j)) ≡ j
 length-slice_range ss i j h l = omega (arith, length-map (slice_range ss i j) subselector_of, length-take (j - i) (drop i ss), length-drop i ss)
 
-Tile-end : (start : ℕ) (p : Part) (ps : List Part) (n : ℕ) → Tile start (p ∷ ps) n → p.end ≤ n
+Tile-end : (start : ℕ) (p : FlatComponent) (ps : List FlatComponent) (n : ℕ) → Tile start (p ∷ ps) n → p.end ≤ n
 Tile-end start p ps n t = Tile-le p.end ps n t.1
 
-shares-components_from : (start : ℕ) (ps : List Part) (ss : List SubSelector) → Tile start ps (length ss) → shares start (components_from start ps ss) ≡ map share_of ps
+shares-components_from : (start : ℕ) (ps : List FlatComponent) (ss : List SubSelector) → Tile start ps (length ss) → shares start (components_from start ps ss) ≡ map share_of ps
 unfolding shares
 shares-components_from start [] ss t = refl
 shares-components_from start (p ∷ ps) ss t =
@@ -149,14 +149,14 @@ shares-components_from start (p ∷ ps) ss t =
     ap (λ e. (combinator_of p.combinator, option_map (λ n. n.now) p.name, e) ∷ shares e (components_from p.end ps ss)) end
     ∙ ap (λ l. share_of p ∷ l) (shares-components_from p.end ps ss t.1)
 
-subselectors-components_from : (start : ℕ) (ps : List Part) (ss : List SubSelector) → Tile start ps (length ss) → flat_map (λ c. c.compound.subselectors) (components_from start ps ss) ≡ map subselector_of (drop start ss)
+subselectors-components_from : (start : ℕ) (ps : List FlatComponent) (ss : List SubSelector) → Tile start ps (length ss) → flat_map (λ c. c.compound.subselectors) (components_from start ps ss) ≡ map subselector_of (drop start ss)
 subselectors-components_from start [] ss t = sym (ap (map subselector_of) (drop_all start ss (let e : start ≡ length ss = t in omega arith)))
 subselectors-components_from start (p ∷ ps) ss t =
     ap (λ l. map subselector_of (slice_range ss start p.end) ++ l) (subselectors-components_from p.end ps ss t.1)
     ∙ sym (map-append subselector_of (slice_range ss start p.end) (drop p.end ss))
     ∙ ap (map subselector_of) (sym (drop_split ss start p.end t.0))
 
-module _ (ps qs : List Part) (ss ts : List SubSelector) (t : Tile 0 ps (length ss)) (u : Tile 0 qs (length ts)) where
+module _ (ps qs : List FlatComponent) (ss ts : List SubSelector) (t : Tile 0 ps (length ss)) (u : Tile 0 qs (length ts)) where
   lists_eq : Bool
   lists_eq = pointwise share_eq (map share_of ps) (map share_of qs) && pointwise subselector_eq (map subselector_of ss) (map subselector_of ts)
 
@@ -177,10 +177,10 @@ module _ (ps qs : List Part) (ss ts : List SubSelector) (t : Tile 0 ps (length s
             (s.1 (sym (subselectors-components_from 0 ps ss t) ∙ ap (flat_map (λ c. c.compound.subselectors)) e ∙ subselectors-components_from 0 qs ts u))),
       )
 
-  pub flat_eq : (pointwise part_test.it ps qs && pointwise subselector_test.it ss ts) ≡ selector_eq (components_from 0 ps ss) (components_from 0 qs ts)
+  pub flat_eq : (pointwise flat_test.it ps qs && pointwise subselector_test.it ss ts) ≡ selector_eq (components_from 0 ps ss) (components_from 0 qs ts)
   unfolding lists_eq
   flat_eq =
-      ap (λ b. b && pointwise subselector_test.it ss ts) (pointwise_agree _ _ by_part ps qs ∙ sym (pointwise-map share_of share_eq ps qs))
+      ap (λ b. b && pointwise subselector_test.it ss ts) (pointwise_agree _ _ by_flat ps qs ∙ sym (pointwise-map share_of share_eq ps qs))
       ∙ ap (λ b. pointwise share_eq (map share_of ps) (map share_of qs) && b) (pointwise_agree _ _ by_subselector ss ts ∙ sym (pointwise-map subselector_of subselector_eq ss ts))
       ∙ same_from_decides lists_eq _ lists_decide (selector_decides (components_from 0 ps ss) (components_from 0 qs ts))
 
@@ -192,8 +192,8 @@ pointwise-push E (a ∷ []) [] x y = and-false (E a y)
 pointwise-push E (a ∷ b ∷ xs) [] x y = and-false (E a y)
 pointwise-push E (a ∷ xs) (b ∷ ys) x y = ap (λ t. E a b && t) (pointwise-push E xs ys x y) ∙ sym (and_assoc (E a b) (pointwise E xs ys) (E x y))
 
--- the last parts are compared apart from the lists
-pub flat_last_eq : (ps qs : List Part) (p q : Part) (ss ts : List SubSelector) → Tile 0 (ps ++ p ∷ []) (length ss) → Tile 0 (qs ++ q ∷ []) (length ts) → ((pointwise part_test.it ps qs && part_test.it p q) && pointwise subselector_test.it ss ts) ≡ selector_eq (components_from 0 (ps ++ p ∷ []) ss) (components_from 0 (qs ++ q ∷ []) ts)
+-- the last components are compared separately from the lists
+pub flat_last_eq : (ps qs : List FlatComponent) (p q : FlatComponent) (ss ts : List SubSelector) → Tile 0 (ps ++ p ∷ []) (length ss) → Tile 0 (qs ++ q ∷ []) (length ts) → ((pointwise flat_test.it ps qs && flat_test.it p q) && pointwise subselector_test.it ss ts) ≡ selector_eq (components_from 0 (ps ++ p ∷ []) ss) (components_from 0 (qs ++ q ∷ []) ts)
 flat_last_eq ps qs p q ss ts t u =
-    ap (λ b. b && pointwise subselector_test.it ss ts) (sym (pointwise-push part_test.it ps qs p q))
+    ap (λ b. b && pointwise subselector_test.it ss ts) (sym (pointwise-push flat_test.it ps qs p q))
     ∙ flat_eq (ps ++ p ∷ []) (qs ++ q ∷ []) ss ts t u

@@ -94,16 +94,16 @@ pub covers_no_word : (bits : ℕ) (w : List ℕ) → Contains {X = List ℕ} [] 
 covers_no_word bits w c = absurd (omega (arith, c.1))
 
 -- a word that the test finds is among the words
-word_among : (ws : List (List ℕ)) (word : List ℕ) → list_any (λ part. bytes_eq part word) ws ≡ true → Contains ws word
+word_among : (ws : List (List ℕ)) (word : List ℕ) → list_any (λ entry. bytes_eq entry word) ws ≡ true → Contains ws word
 word_among [] word e = absurd (false≢true e)
 word_among (w ∷ ws) word e = at (word_among ws word) (bytes_eq w word) refl e
   where
-    at : (list_any (λ part. bytes_eq part word) ws ≡ true → Contains ws word) → (b : Bool) → bytes_eq w word ≡ b → (b || list_any (λ part. bytes_eq part word) ws) ≡ true → Contains (w ∷ ws) word
+    at : (list_any (λ entry. bytes_eq entry word) ws ≡ true → Contains ws word) → (b : Bool) → bytes_eq w word ≡ b → (b || list_any (λ entry. bytes_eq entry word) ws) ≡ true → Contains (w ∷ ws) word
     at later true is h = Contains-append_left (w ∷ []) ws word (0, omega arith, (bytes_eq-Decides w word).0 is)
     at later false is h = Contains-append_right (w ∷ []) ws word (later h)
 
 pub covers_words : (bits : ℕ) (words : List (List ℕ)) (value word : List ℕ) → words ≡ slice_split (λ byte. eqb byte 32) value → ((w : List ℕ) → Contains words w → Covers bits (key_bits (by_class w))) → IsTrue (is_word_of word value) → Covers bits (key_bits (by_class word))
-covers_words bits words value word e all h = all word (word_among words word (subst (λ ws. list_any (λ part. bytes_eq part word) ws ≡ true) (sym e) h))
+covers_words bits words value word e all h = all word (word_among words word (subst (λ ws. list_any (λ entry. bytes_eq entry word) ws ≡ true) (sym e) h))
 
 -- the bits of an id, of the words of a class
 abbrev pub CoversId : ℕ → Option (List ℕ) → Type 0

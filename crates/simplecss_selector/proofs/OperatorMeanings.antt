@@ -7,7 +7,7 @@ use Rattle.std.proofs.lemmas.Slice.Eq.{bytes_eq-Decides}
 use Rattle.simplecss_text.specs.Components.{Operator}
 use Rattle.simplecss_text.specs.Components.Operator.{exists, equals, has_word, begins_with}
 use Rattle.simplecss_selector.specs.Operators.{is_satisfied, IsSatisfied}
-use Rattle.simplecss_selector.proofs.WordLemmas.{or-true, is_word_of-StandsIn}
+use Rattle.simplecss_selector.proofs.WordLemmas.{or-true, is_word_of-OccursIn}
 
 front : (start rest : List ℕ) → start ++ 45 ∷ [] ≡ take (length (start ++ 45 ∷ [])) (start ++ 45 ∷ rest)
 front [] rest = refl
@@ -28,7 +28,7 @@ begins start value =
 pub is_satisfied-IsSatisfied : (o : Operator) (value : List ℕ) → (is_satisfied o value ≡ true) ↔ IsSatisfied o value
 is_satisfied-IsSatisfied exists value = (λ e. tt, λ h. refl)
 is_satisfied-IsSatisfied (equals text) value = bytes_eq-Decides value text
-is_satisfied-IsSatisfied (has_word word) value = is_word_of-StandsIn word value
+is_satisfied-IsSatisfied (has_word word) value = is_word_of-OccursIn word value
 is_satisfied-IsSatisfied (begins_with start) value =
     let same = bytes_eq-Decides value start in
     let continues = begins start value in

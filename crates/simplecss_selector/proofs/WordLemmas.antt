@@ -9,7 +9,7 @@ use Rattle.std.proofs.lemmas.List.{take-append-drop, get_or-take, length-take, l
 use Rattle.std.proofs.lemmas.List.Elements.{All-head, All-tail, All-cons}
 use Rattle.std.proofs.lemmas.List.Splits.{slice_split_none, slice_split_at}
 use Rattle.std.proofs.lemmas.Slice.Eq.{bytes_eq-Decides}
-use Rattle.simplecss_selector.specs.Operators.{IsUpToSpace, IsFromSpace, StandsIn, is_word_of}
+use Rattle.simplecss_selector.specs.Operators.{IsUpToSpace, IsFromSpace, OccursIn, is_word_of}
 
 -- no byte is a space
 abbrev pub Spaceless : List ℕ → Type 0
@@ -49,7 +49,7 @@ tail_of e = cc
 cons_same : {a b : ℕ} {xs ys : List ℕ} → a ≡ b → xs ≡ ys → a ∷ xs ≡ b ∷ ys
 cons_same e f = cc
 
--- two ways to part a text at a space, the first of them at the first space
+-- two ways to split a text at a space, the first of them at the first space
 cut_first : (f z t r : List ℕ) → Spaceless f → z ++ 32 ∷ t ≡ f ++ 32 ∷ r → ((z ≡ f) × (t ≡ r)) ⊎ ((m : List ℕ) × (z ≡ f ++ 32 ∷ m) × (r ≡ m ++ 32 ∷ t))
 cut_first [] [] t r s e = inl (refl, tail_of e)
 cut_first [] (a ∷ z) t r s e = inr (z, cons_same (head_of e) refl, sym (tail_of e))
@@ -77,7 +77,7 @@ pub no_space : (r : List ℕ) → ((k : ℕ) → k < length r → (get_or r k 0 
 no_space r none i h = not_space (get_or r i 0) (none i h)
 
 abbrev pub IsWord : List ℕ → List ℕ → Type 0
-IsWord w v = Spaceless w × StandsIn w v
+IsWord w v = Spaceless w × OccursIn w v
 
 only_word : (w v x y : List ℕ) → Spaceless v → v ≡ x ++ (w ++ y) → IsUpToSpace x → IsFromSpace y → v ≡ w
 only_word w v x y s e (inl a) (inl b) = e ∙ (rw (a, b) (append-nil w))
@@ -90,12 +90,12 @@ last_word w v s = (
   λ e. (subst Spaceless e s, ([], [], e ∙ sym (append-nil w), inl refl, inl refl)),
 )
 
-from_later : (w f r x y : List ℕ) → r ≡ x ++ (w ++ y) → IsUpToSpace x → IsFromSpace y → StandsIn w (f ++ 32 ∷ r)
+from_later : (w f r x y : List ℕ) → r ≡ x ++ (w ++ y) → IsUpToSpace x → IsFromSpace y → OccursIn w (f ++ 32 ∷ r)
 from_later w f r x y e (inl a) b = (f ++ 32 ∷ [], y, rw (e, a, append_assoc) refl, inr (f, refl), b)
 from_later w f r x y e (inr a) b =
     (f ++ 32 ∷ x, y, rw (e, append_assoc) refl, inr (f ++ 32 ∷ a.0, rw (a.1, append_assoc) refl), b)
 
-to_later : (w f r x y : List ℕ) → Spaceless w → Spaceless f → f ++ 32 ∷ r ≡ x ++ (w ++ y) → IsUpToSpace x → IsFromSpace y → (f ≡ w) ⊎ StandsIn w r
+to_later : (w f r x y : List ℕ) → Spaceless w → Spaceless f → f ++ 32 ∷ r ≡ x ++ (w ++ y) → IsUpToSpace x → IsFromSpace y → (f ≡ w) ⊎ OccursIn w r
 to_later w f r x y s sf e (inl a) (inl b) = absurd (has_space f r w s (sym (e ∙ rw (a, b) (append-nil w))))
 to_later w f r x y s sf e (inl a) (inr b) =
     elim (cut_first f w b.0 r sf (sym (e ∙ rw (a, b.1) refl)))
@@ -118,7 +118,7 @@ next_word w f r v sf e =
     back (inl a) = (subst Spaceless a sf, ([], 32 ∷ r, ap (λ (q : List ℕ). q ++ 32 ∷ r) a, inl refl, inr (r, refl)))
     back (inr h) = (h.0, from_later w f r h.1.0 h.1.1 h.1.2 h.1.3 h.1.4)
 
-pub words_are : (w v : List ℕ) → (All (λ b. b ≢ 32) w × StandsIn w v) ↔ IsWord w v
+pub words_are : (w v : List ℕ) → (All (λ b. b ≢ 32) w × OccursIn w v) ↔ IsWord w v
 words_are w v = (λ h. (spaceless_all w h.0, h.1), λ h. (all_spaceless w h.0, h.1))
 
 is_space-Spaceless : (bs : List ℕ) → Spaceless bs → All (λ b. (b == 32) ≡ false) bs
@@ -136,12 +136,12 @@ or-false false = refl
 -- the others follow the first word
 pub is_word_of-first : (w f r : List ℕ) → Spaceless f → is_word_of w (f ++ 32 ∷ r) ≡ (bytes_eq f w || is_word_of w r)
 is_word_of-first w f r s =
-    ap (list_any (λ part. bytes_eq part w)) (slice_split_at (λ b. b == 32) f 32 r (is_space-Spaceless f s) refl)
+    ap (list_any (λ entry. bytes_eq entry w)) (slice_split_at (λ b. b == 32) f 32 r (is_space-Spaceless f s) refl)
 
 -- a text with no space is its one word
 pub is_word_of-last : (w v : List ℕ) → Spaceless v → is_word_of w v ≡ bytes_eq v w
 is_word_of-last w v s =
-    ap (list_any (λ part. bytes_eq part w)) (slice_split_none (λ b. b == 32) v (is_space-Spaceless v s)) ∙ or-false (bytes_eq v w)
+    ap (list_any (λ entry. bytes_eq entry w)) (slice_split_none (λ b. b == 32) v (is_space-Spaceless v s)) ∙ or-false (bytes_eq v w)
 
 -- the same of a text with its first space at an offset
 pub is_word_of-at : (w r : List ℕ) (n : ℕ) → n < length r → (get_or r n 0 == 32) ≡ true → ((k : ℕ) → k < n → (get_or r k 0 == 32) ≡ false) → is_word_of w r ≡ (bytes_eq (take n r) w || is_word_of w (drop (n + 1) r))
@@ -192,8 +192,8 @@ word_in (suc n) word text few (parted first rest none is) =
       λ w. test ∙ either.1 (elim (next.0 w) [ inl t ↦ inl (same.1 t) | inr f ↦ inr (later.1 f) ]),
     )
 
-pub is_word_of-StandsIn : (word value : List ℕ) → (is_word_of word value ≡ true) ↔ (All (λ b. b ≢ 32) word × StandsIn word value)
-is_word_of-StandsIn word value =
+pub is_word_of-OccursIn : (word value : List ℕ) → (is_word_of word value ≡ true) ↔ (All (λ b. b ≢ 32) word × OccursIn word value)
+is_word_of-OccursIn word value =
     let is = word_in (length value) word value (omega arith) (cut_of value) in
     let words = words_are word value in
     (λ e. words.1 (is.0 e), λ h. is.1 (words.0 h))

@@ -1,5 +1,5 @@
 -- Selectors are equal exactly if their components are. This is proved here since the trait
--- `PartialEq` requires `selector_per`: the impl names it, so it is part of what is stated.
+-- `PartialEq` requires `selector_per`: the impl names it, so it belongs to what is stated.
 use Rattle.std.specs.Prelude.{◌≡◌, ℕ, zero, suc, List, Bool, true, false, ◌&&◌, Option, Some, None, refl}
 use Rattle.std.proofs.Common.{sym, ap, ◌∙◌, eqb}
 use Rattle.std.specs.Bool.{Decides}

@@ -63,7 +63,11 @@ key_among None None None None = by_nothing
 -- the first attribute, or else no condition
 abbrev pub compound_key : Compound → Key
 compound_key compound =
-    key_among (first_required required_id compound.subselectors) (first_required required_class compound.subselectors) compound.name (first_required required_attribute compound.subselectors)
+    key_among
+    (first_required required_id compound.subselectors)
+    (first_required required_class compound.subselectors)
+    compound.name
+    (first_required required_attribute compound.subselectors)
 
 -- the key of a selector is that of its last component
 abbrev pub key_of : List Component → Key

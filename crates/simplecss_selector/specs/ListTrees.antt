@@ -1,7 +1,7 @@
 -- Trees whose nodes are kept in a list, each after its parent. For elements in a list with the
 -- indices of their parents and previous siblings, the two laws of `Element` are proved here. Their
 -- proofs are in this folder since the trait `Element` requires the laws: an impl names them, so
--- they are part of what is stated.
+-- they belong to what is stated.
 use Rattle.std.proofs.Common.{◌≡◌, ℕ, zero, suc, ◌+◌, ◌<◌, Bool, true, false, cond, List, [], ◌∷◌, length, Option, None, Some, IfSome, MatchOption, refl, ap, ◌∙◌, arith}
 use Rattle.std.specs.Prelude.{nat_lt, nat_eq, if◌then◌else◌}
 use Rattle.std.specs.Option.{option_map, option_eq}
@@ -120,18 +120,18 @@ module _ {Rows : Type 0} (list : ListOf Rows) where
   pub list_counts_ancestors : DepthCountsAncestors (list_tree list)
   list_counts_ancestors n = counted n.0 n.1 (parent_index list n.0 n.1) (ancestors_step (list.parent n.0) n.1)
 
-  same_place : (r s : Option ℕ) → option_eq nat_eq r s ≡ true → r ≡ s
-  same_place None None is = refl
-  same_place None (Some q) is = absurd (cc)
-  same_place (Some p) None is = absurd (cc)
-  same_place (Some p) (Some q) is = ap Some (grind (arith, nat_tests, is))
+  same_index : (r s : Option ℕ) → option_eq nat_eq r s ≡ true → r ≡ s
+  same_index None None is = refl
+  same_index None (Some q) is = absurd (cc)
+  same_index (Some p) None is = absurd (cc)
+  same_index (Some p) (Some q) is = ap Some (grind (arith, nat_tests, is))
 
   kept_sharing : (rows : Rows) (parent : Option ℕ) (s : ℕ) (b : Bool)
       → option_eq nat_eq (parent_index list rows s) parent ≡ b
       → IfSome (option_map (spot rows) (cond b (Some s) None))
       (λ n. option_map (spot n.0) (parent_index list n.0 n.1) ≡ option_map (spot rows) parent)
   kept_sharing rows parent s true is =
-      ap (option_map (spot rows)) (same_place (parent_index list rows s) parent is)
+      ap (option_map (spot rows)) (same_index (parent_index list rows s) parent is)
   kept_sharing rows parent s false is = tt
 
   sharing : (rows : Rows) (parent r : Option ℕ)

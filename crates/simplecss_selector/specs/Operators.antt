@@ -7,7 +7,7 @@ use Rattle.simplecss_text.specs.Components.Operator.{exists, equals, has_word, b
 
 -- whether the word is one of those that single spaces separate in the value
 abbrev pub is_word_of : List ℕ → List ℕ → Bool
-is_word_of word value = list_any (λ part. bytes_eq part word) (slice_split (λ b. b == space) value)
+is_word_of word value = list_any (λ entry. bytes_eq entry word) (slice_split (λ b. b == space) value)
 
 -- whether the value satisfies the operator: any value; the same bytes; the word is one of its
 -- words; the same bytes, or these and then a hyphen at its start
@@ -27,8 +27,8 @@ abbrev pub IsFromSpace : List ℕ → Type 0
 IsFromSpace y = (y ≡ []) ⊎ ((z : List ℕ) × (y ≡ space ∷ z))
 
 -- the word occurs in the text between spaces or ends
-abbrev pub StandsIn : List ℕ → List ℕ → Type 0
-StandsIn word text =
+abbrev pub OccursIn : List ℕ → List ℕ → Type 0
+OccursIn word text =
     (x : List ℕ) × (y : List ℕ) × (text ≡ x ++ (word ++ y)) × IsUpToSpace x × IsFromSpace y
 
 -- the meaning of the test: any value; the text itself; the word has no space and occurs in the
@@ -36,6 +36,6 @@ StandsIn word text =
 abbrev pub IsSatisfied : Operator → List ℕ → Type 0
 IsSatisfied exists value = Unit {0}
 IsSatisfied (equals text) value = value ≡ text
-IsSatisfied (has_word word) value = All (λ b. b ≢ space) word × StandsIn word value
+IsSatisfied (has_word word) value = All (λ b. b ≢ space) word × OccursIn word value
 IsSatisfied (begins_with start) value =
     (value ≡ start) ⊎ ((rest : List ℕ) × (value ≡ start ++ hyphen ∷ rest))

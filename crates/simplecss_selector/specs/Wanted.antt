@@ -77,7 +77,8 @@ IsReportedFor {Self = Self} node reported (Some m) (Some t) = (e : Self) × (nod
 
 -- what is reported near an element: by the element, and by elements that denote its parent and its
 -- previous sibling
-pub record IsNear {Node Self : Type 0} (tree : Tree Node) (node : Self → Node) (reported : Self → Reported) (element : Self) (near : Near) : Type 0 where
+pub record IsNear {Node Self : Type 0} (tree : Tree Node) (node : Self → Node)
+    (reported : Self → Reported) (element : Self) (near : Near) : Type 0 where
   pub own : near.own ≡ reported element
   pub parent : IsReportedFor node reported (tree.parent (node element)) near.parent
   pub previous : IsReportedFor node reported (tree.previous_sibling (node element)) near.previous

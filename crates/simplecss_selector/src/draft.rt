@@ -8,7 +8,7 @@ ghost use Rattle.simplecss_selector.specs.internal.SelectorDrafts.{finished};
 ghost use Rattle.simplecss_selector.specs.internal.Stretches.{kept_ends_after};
 ghost use Rattle.simplecss_selector.specs.internal.SelectorViews.{subselector_of};
 
-use crate::selector::{Combinator, Part, Selector, SubSelector};
+use crate::selector::{Combinator, FlatComponent, Selector, SubSelector};
 use std::alloc::{AllocError, Global};
 use std::marker::Model;
 
@@ -16,7 +16,7 @@ use std::marker::Model;
 #[derive(Drop)]
 pub(crate) struct Draft<'a> {
     /// The finished components.
-    parts: Vec<Part<'a>>,
+    front: Vec<FlatComponent<'a>>,
     /// The subselectors of all components, including the current one.
     subselectors: Vec<SubSelector<'a>>,
     /// The ends of the finished stretches, as a selector keeps them.
@@ -35,11 +35,11 @@ impl<'a> Model for Draft<'a> {
 
     ghost use Rattle.simplecss_selector.specs.internal.SelectorViews.{drafted, IsFlat};
 
-    ghost view = { λ d. drafted d.parts.items d.subselectors.items
+    ghost view = { λ d. drafted d.front.items d.subselectors.items
         (record { combinator = d.combinator; name = d.name; end = vec_len d.subselectors }) };
 
     ghost invariant = { λ d. IsFlat
-        (d.parts.items
+        (d.front.items
         ++ (record { combinator = d.combinator; name = d.name; end = vec_len d.subselectors }) ∷ [])
         d.subselectors.items (vec_len d.subselectors) d.stretch_ends.items };
 }
@@ -82,7 +82,7 @@ impl<'a> Draft<'a> {
         ensures { result ≡ empty_draft }
     {
         Draft {
-            parts: Vec::new(alloc),
+            front: Vec::new(alloc),
             subselectors: Vec::new(alloc),
             stretch_ends: Vec::new(alloc),
             combinator: Combinator::None,
@@ -118,14 +118,14 @@ impl<'a> Draft<'a> {
         ensures ok { IfOk result (λ _. self.new ≡ joined (combinator_of combinator) self.old) }
         ensures err { OnErr result (self.new ≡ self.old) }
     {
-        let part = Part {
+        let flat = FlatComponent {
             combinator: self.combinator,
             name: self.name,
             end: self.subselectors.len(),
         };
-        push_few(&mut self.parts, part)?;
-        if let Err(error) = push_stretch_end(&mut self.stretch_ends, self.parts.len(), combinator) {
-            self.parts.pop();
+        push_few(&mut self.front, flat)?;
+        if let Err(error) = push_stretch_end(&mut self.stretch_ends, self.front.len(), combinator) {
+            self.front.pop();
             return Err(error);
         }
         self.combinator = combinator;
@@ -139,19 +139,19 @@ impl<'a> Draft<'a> {
         ensures { result ≡ finished self.entry }
     {
         let Draft {
-            parts,
+            front,
             subselectors,
             stretch_ends,
             combinator,
             name,
         } = self;
-        let last = Part {
+        let last = FlatComponent {
             combinator,
             name,
             end: subselectors.len(),
         };
         Selector {
-            parts,
+            front,
             last,
             subselectors,
             stretch_ends,

@@ -33,7 +33,7 @@ use crate::{AttributeOperator, PseudoClass};
 ///
 ///     ghost tree = { list_tree entry_list };
 ///
-///     ghost node = { λ spot. (spot.entries.now, spot.place) };
+///     ghost node = { λ spot. (spot.entries.now, spot.index) };
 ///
 ///     ghost depth_law = { list_counts_ancestors entry_list };
 ///
@@ -41,18 +41,18 @@ use crate::{AttributeOperator, PseudoClass};
 ///
 ///     fn parent_element(&self) -> Option<Self> {
 ///         let entries = self.entries;
-///         let place = parent_of(entries, self.place)?;
-///         Some(Spot { entries, place })
+///         let index = parent_of(entries, self.index)?;
+///         Some(Spot { entries, index })
 ///     }
 ///
 ///     fn prev_sibling_element(&self) -> Option<Self> {
 ///         let entries = self.entries;
-///         let place = previous_of(entries, self.place)?;
-///         Some(Spot { entries, place })
+///         let index = previous_of(entries, self.index)?;
+///         Some(Spot { entries, index })
 ///     }
 ///
 ///     fn has_local_name(&self, name: &str) -> bool {
-///         self.entries[self.place].name == name
+///         self.entries[self.index].name == name
 ///     }
 ///
 ///     fn attribute_matches(&self, local_name: &str, operator: AttributeOperator<'_>) -> bool {
@@ -64,7 +64,7 @@ use crate::{AttributeOperator, PseudoClass};
 ///
 ///     fn pseudo_class_matches(&self, class: PseudoClass<'_>) -> bool {
 ///         match class {
-///             PseudoClass::FirstChild => previous_of(self.entries, self.place).is_none(),
+///             PseudoClass::FirstChild => previous_of(self.entries, self.index).is_none(),
 ///             _ => false,
 ///         }
 ///     }

@@ -30,5 +30,5 @@ pub fn components_law(selector: &Selector<'_>)
     ensures first_alone { (index : ℕ) → index < length selector.now
         → ((component_at selector.now index).combinator ≡ no_combinator) ↔ (index ≡ 0) }
 {
-    let _parts = &selector.parts;
+    let _front = &selector.front;
 }

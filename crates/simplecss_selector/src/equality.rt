@@ -16,7 +16,7 @@ impl<'a> PartialEq for Selector<'a> {
     ghost laws = { selector_per };
 
     fn eq(&self, other: &Self) -> bool {
-        self.parts.as_slice() == other.parts.as_slice()
+        self.front.as_slice() == other.front.as_slice()
             && self.last == other.last
             && self.subselectors.as_slice() == other.subselectors.as_slice()
     }

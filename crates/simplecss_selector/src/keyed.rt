@@ -19,12 +19,12 @@ use crate::Element;
 /// <!-- from crates/example_library/src/own_tree.rt -->
 /// ```text
 /// impl<'t> Keyed for Spot<'t> {
-///     ghost reported = { λ spot. reported_at (spot.entries.now, spot.place) };
+///     ghost reported = { λ spot. reported_at (spot.entries.now, spot.index) };
 ///
-///     ghost reported_law = { λ spot. keys_reported (spot.entries.now, spot.place) };
+///     ghost reported_law = { λ spot. keys_reported (spot.entries.now, spot.index) };
 ///
 ///     fn local_name(&self) -> &str {
-///         self.entries[self.place].name
+///         self.entries[self.index].name
 ///     }
 ///
 ///     fn id_value(&self) -> Option<&str> {

@@ -85,8 +85,8 @@ pub(crate) fn is_met_at<E: Element>(
     ensures counted { tests.new ≡ tests.old + 1 }
 {
     tests.tick();
-    let (part, subselectors) = selector.component(index);
-    if let Some(name) = part.name
+    let (flat, subselectors) = selector.component(index);
+    if let Some(name) = flat.name
         && !element.has_local_name(name)
     {
         return false;

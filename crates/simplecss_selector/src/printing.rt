@@ -8,9 +8,9 @@ ghost use Rattle.simplecss_text.specs.Printing.{combinator_text, type_text, comp
 ghost use Rattle.simplecss_selector.specs.OperatorViews.{operator_of, pseudo_class_of};
 ghost use Rattle.simplecss_selector.specs.internal.CombinatorViews.{combinator_of};
 ghost use Rattle.simplecss_selector.specs.internal.SelectorViews.{subselector_of};
-ghost use Rattle.simplecss_selector.specs.internal.SelectorViews.{component_of_part};
+ghost use Rattle.simplecss_selector.specs.internal.SelectorViews.{component_of_flat};
 
-use crate::selector::{Combinator, Part, Selector, SubSelector};
+use crate::selector::{Combinator, FlatComponent, Selector, SubSelector};
 use crate::{AttributeOperator, PseudoClass};
 use std::fmt;
 
@@ -40,8 +40,8 @@ impl<'a> fmt::Display for Selector<'a> {
     #[tactic(auto, using(simplecss_text::proofs::round_trip::StyledWrites::plain_of_styled))]
     fn fmt<W: fmt::Write>(&self, f: &mut fmt::Formatter<W>) -> fmt::Result {
         for index in 0..self.len() {
-            let (part, subselectors) = self.component(index);
-            write_component(f, part, subselectors)?;
+            let (flat, subselectors) = self.component(index);
+            write_component(f, flat, subselectors)?;
         }
         Ok(())
     }
@@ -50,14 +50,14 @@ impl<'a> fmt::Display for Selector<'a> {
 /// Writes a component, with its combinator before it.
 fn write_component<W: fmt::Write>(
     f: &mut fmt::Formatter<W>,
-    part: Part,
+    flat: FlatComponent,
     subselectors: &[SubSelector],
 ) -> fmt::Result
     ensures { WritesStyledOnOk W.write_str_gives f.old result
-        (component_text (component_of_part part.entry subselectors.now)) f.new }
+        (component_text (component_of_flat flat.entry subselectors.now)) f.new }
 {
-    f.write_str(before(part.combinator))?;
-    f.write_str(name_or_star(part.name))?;
+    f.write_str(before(flat.combinator))?;
+    f.write_str(name_or_star(flat.name))?;
     write_subselectors(f, subselectors)
 }
 

@@ -8,7 +8,7 @@ ghost use Rattle.simplecss_text.specs.Components.Combinator.{none as no_combinat
 ghost use Rattle.simplecss_text.specs.Specificity.{is_id};
 ghost use Rattle.simplecss_selector.specs.Placements.{Holds};
 ghost use Rattle.simplecss_selector.specs.internal.CombinatorViews.{combinator_of};
-ghost use Rattle.simplecss_selector.specs.internal.SelectorViews.{component_of_part};
+ghost use Rattle.simplecss_selector.specs.internal.SelectorViews.{component_of_flat};
 ghost use Rattle.simplecss_selector.specs.internal.SelectorViews.{subselector_of};
 ghost use Rattle.simplecss_selector.specs.Keys.{required_id, required_class, required_attribute};
 
@@ -45,10 +45,10 @@ pub(crate) enum SubSelector<'a> {
     PseudoClass(PseudoClass<'a>),
 }
 
-/// A component: its subselectors end at `end` in the one list of all, and begin at the end of those
-/// of the one before.
+/// A component in the flat lists of its selector: its subselectors end at `end` in the one list of
+/// all, and begin at the end of those of the one before.
 #[derive(Clone, Copy, Debug, PartialEq)]
-pub(crate) struct Part<'a> {
+pub(crate) struct FlatComponent<'a> {
     /// The relation to the component before it.
     pub(crate) combinator: Combinator,
     /// The type name, or `None` for any type.
@@ -70,9 +70,9 @@ pub(crate) struct Part<'a> {
 #[derive(Debug, Drop)]
 pub struct Selector<'a> {
     /// All components but the last, so that a selector of one component allocates nothing for it.
-    pub(crate) parts: Vec<Part<'a>>,
+    pub(crate) front: Vec<FlatComponent<'a>>,
     /// The last component.
-    pub(crate) last: Part<'a>,
+    pub(crate) last: FlatComponent<'a>,
     /// The subselectors of all components, one component after the other.
     pub(crate) subselectors: Vec<SubSelector<'a>>,
     /// For each stretch of components joined by child and adjacent combinators but the last, in
@@ -90,9 +90,9 @@ impl<'a> Model for Selector<'a> {
     ghost use Rattle.std.specs.Prelude.{◌++◌, ◌∷◌, [], vec_len};
     ghost use Rattle.simplecss_selector.specs.internal.SelectorViews.{components_from, IsFlat};
 
-    ghost view = { λ s. components_from 0 (s.parts.items ++ s.last ∷ []) s.subselectors.items };
+    ghost view = { λ s. components_from 0 (s.front.items ++ s.last ∷ []) s.subselectors.items };
 
-    ghost invariant = { λ s. IsFlat (s.parts.items ++ s.last ∷ [])
+    ghost invariant = { λ s. IsFlat (s.front.items ++ s.last ∷ [])
         s.subselectors.items (vec_len s.subselectors) s.stretch_ends.items };
 }
 
@@ -158,7 +158,7 @@ impl<'a> SubSelector<'a> {
     }
 }
 
-impl<'a> Part<'a> {
+impl<'a> FlatComponent<'a> {
     /// Whether it has a type name.
     #[inline(always)]
     pub(crate) fn is_named(&self) -> bool
@@ -178,14 +178,18 @@ fn between<'s, 'a>(all: &'s [SubSelector<'a>], start: usize, end: usize) -> &'s 
     &all[start..end]
 }
 
-/// Returns the part at this index, where `last` follows the others.
+/// Returns the flat component at this index, where `last` follows the others.
 #[inline(always)]
-fn part_at<'a>(parts: &[Part<'a>], last: Part<'a>, index: usize) -> Part<'a>
-    requires { index ≤ length parts.now }
-    ensures { result ≡ slice_index_or (parts.now ++ last.entry ∷ []) index result }
+fn flat_at<'a>(
+    front: &[FlatComponent<'a>],
+    last: FlatComponent<'a>,
+    index: usize,
+) -> FlatComponent<'a>
+    requires { index ≤ length front.now }
+    ensures { result ≡ slice_index_or (front.now ++ last.entry ∷ []) index result }
 {
-    if index < parts.len() {
-        parts[index]
+    if index < front.len() {
+        front[index]
     } else {
         last
     }
@@ -200,7 +204,7 @@ impl<'a> Selector<'a> {
     pub(crate) fn len(&self) -> usize
         ensures { result ≡ length self.now }
     {
-        self.parts.len() + 1
+        self.front.len() + 1
     }
 
     /// Returns the index of the last component.
@@ -208,7 +212,7 @@ impl<'a> Selector<'a> {
     pub(crate) fn last_index(&self) -> usize
         ensures { result + 1 ≡ length self.now }
     {
-        self.parts.len()
+        self.front.len()
     }
 
     /// Returns the relation of the component at this index to the one before it. Only the first has
@@ -219,23 +223,23 @@ impl<'a> Selector<'a> {
         ensures value { combinator_of result ≡ (component_at self.now index).combinator }
         ensures first { (combinator_of result ≡ no_combinator) ↔ (index ≡ 0) }
     {
-        let part = part_at(&self.parts, self.last, index);
-        part.combinator
+        let flat = flat_at(&self.front, self.last, index);
+        flat.combinator
     }
 
-    /// Returns the component at this index: its part and its subselectors.
+    /// Returns the component at this index: its flat component and its subselectors.
     #[inline(always)]
-    pub(crate) fn component(&self, index: usize) -> (Part<'a>, &[SubSelector<'a>])
+    pub(crate) fn component(&self, index: usize) -> (FlatComponent<'a>, &[SubSelector<'a>])
         requires { index < length self.now }
-        ensures { component_of_part result.0 result.1.now ≡ component_at self.now index }
+        ensures { component_of_flat result.0 result.1.now ≡ component_at self.now index }
     {
-        let part = part_at(&self.parts, self.last, index);
+        let flat = flat_at(&self.front, self.last, index);
         let start = if index == 0 {
             0
         } else {
-            self.parts[index - 1].end
+            self.front[index - 1].end
         };
-        (part, between(&self.subselectors, start, part.end))
+        (flat, between(&self.subselectors, start, flat.end))
     }
 }
 
@@ -252,9 +256,9 @@ impl<'a> Selector<'a> {
     /// section 5).
     ///
     /// It ends at the end of the text, before `,` or `{`, or before a `/` that opens no comment and
-    /// follows a part of a simple selector with no space byte between. It is refused at the first
-    /// error of its tokens, and at a pseudo-class whose name is not known; the logger gets a
-    /// warning. Fails only if an allocation fails.
+    /// follows a simple piece with no space byte between. It is refused at the first error of its
+    /// tokens, and at a pseudo-class whose name is not known; the logger gets a warning. Fails only
+    /// if an allocation fails.
     pub fn parse<R: Log>(
         rt: &R,
         alloc: Global,
@@ -368,7 +372,7 @@ impl<'a> Selector<'a> {
         [
             at_most_255(ids),
             at_most_255(others),
-            at_most_255(name_count(&self.parts)).saturating_add(u8::from(self.last.is_named())),
+            at_most_255(name_count(&self.front)).saturating_add(u8::from(self.last.is_named())),
         ]
     }
 
@@ -386,14 +390,14 @@ impl<'a> Selector<'a> {
         requires { index < length self.now }
         ensures { key_value result ≡ compound_key (component_at self.now index).compound }
     {
-        let (part, subselectors) = self.component(index);
+        let (flat, subselectors) = self.component(index);
         if let Some(text) = first_id(subselectors) {
             return Key::Id(text);
         }
         if let Some(word) = first_class(subselectors) {
             return Key::Class(word);
         }
-        if let Some(name) = part.name {
+        if let Some(name) = flat.name {
             return Key::Name(name);
         }
         match first_attribute(subselectors) {
@@ -448,9 +452,9 @@ impl<'a> Selector<'a> {
     pub fn clone(&self) -> Result<Self, AllocError>
         ensures { IfOk result (λ copy. copy ≡ self.now) }
     {
-        let alloc = *self.parts.allocator();
+        let alloc = *self.front.allocator();
         Ok(Selector {
-            parts: Vec::from_slice(alloc, &self.parts)?,
+            front: Vec::from_slice(alloc, &self.front)?,
             last: self.last,
             subselectors: Vec::from_slice(alloc, &self.subselectors)?,
             stretch_ends: Vec::from_slice(alloc, &self.stretch_ends)?,

@@ -3,7 +3,7 @@ ghost use Rattle.std.specs.Prelude.{◌≡◌, min, count_by, is_some};
 ghost use Rattle.simplecss_text.specs.Specificity.{is_id};
 ghost use Rattle.simplecss_selector.specs.internal.SelectorViews.{subselector_of};
 
-use crate::selector::{Part, SubSelector};
+use crate::selector::{FlatComponent, SubSelector};
 
 /// Returns the number of subselectors that are attributes named `id`.
 pub(crate) fn id_count(subselectors: &[SubSelector]) -> usize
@@ -12,11 +12,11 @@ pub(crate) fn id_count(subselectors: &[SubSelector]) -> usize
     subselectors.iter().filter(|s| s.is_id()).count()
 }
 
-/// Returns the number of parts with a type name.
-pub(crate) fn name_count(parts: &[Part]) -> usize
-    ensures { result ≡ count_by (λ p. is_some p.name) parts.now }
+/// Returns the number of components with a type name.
+pub(crate) fn name_count(components: &[FlatComponent]) -> usize
+    ensures { result ≡ count_by (λ p. is_some p.name) components.now }
 {
-    parts.iter().filter(|p| p.is_named()).count()
+    components.iter().filter(|p| p.is_named()).count()
 }
 
 /// Returns the count, or 255 if it is greater.

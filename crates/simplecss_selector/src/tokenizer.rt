@@ -40,8 +40,8 @@ enum Stage {
 /// An iterator over the tokens of a selector's text, in order, up to the first error.
 ///
 /// They end at the end of the text, before `,` or `{`, or before a `/` that opens no comment and
-/// follows a part of a simple selector with no space byte between. At most one more error follows
-/// the first: that a selector is missing. Nothing is allocated.
+/// follows a simple piece with no space byte between. At most one more error follows the first: that
+/// a selector is missing. Nothing is allocated.
 #[derive(Drop)]
 pub struct SelectorTokenizer<'a> {
     /// The text, and the offset up to which it was read.

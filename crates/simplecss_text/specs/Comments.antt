@@ -29,8 +29,8 @@ comment text =
     if opens_comment text then closed_or (no_comment text) (after_comment text)
     else fails (no_comment text) (past_byte slash text)
 
--- One part of a blank, a space byte or a closed comment: whether it is a space byte, and the rest
--- after it.
+-- What a blank begins with, a space byte or a closed comment: whether it is a space byte, and the
+-- rest after it.
 abbrev pub blank_part : List ℕ → Option (Bool × List ℕ)
 blank_part [] = None
 blank_part (b ∷ text) =

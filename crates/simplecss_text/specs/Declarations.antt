@@ -23,7 +23,7 @@ last_or other (x ∷ xs) = last_or x xs
 
 -- The rest after a term, and the rest after the blank that follows it. (A comment that is open
 -- there is no fault yet: no term begins at its slash, so the value ends there and consumes nothing
--- of it, and the part after the value has the fault.)
+-- of it, and the blank after the value has the fault.)
 abbrev pub after_term : Reading (Unit {0}) → Option (List ℕ × List ℕ)
 after_term (got u rest) = Some (rest, past_blank rest)
 after_term (fails fault rest) = None

@@ -8,8 +8,8 @@ use Rattle.simplecss_text.specs.declared.text_pos.TextPos.{TextPos}
 abbrev pub greatest : ℕ
 greatest = 0xFFFF_FFFF
 
--- The position in a whole text of the position `inner` in a part of it that begins at `start`: rows
--- add up, and so do columns on the part's first row. Both stop at the greatest `u32`.
+-- The position in a whole text of `inner`, a position in the text that begins at `start`: rows add
+-- up, and so do columns on the first row of that text. Both stop at the greatest `u32`.
 abbrev pub in_whole : TextPos → TextPos → TextPos
 in_whole start inner = record {
   row = min greatest (start.row + (inner.row - 1));

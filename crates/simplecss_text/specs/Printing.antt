@@ -1,4 +1,4 @@
--- The printed texts of selectors and sheets, each a join of the texts of its parts.
+-- The printed texts of selectors and sheets, joined from the texts of their components and rules.
 use Rattle.std.specs.Prelude.{ℕ, Bool, true, not, ◌||◌, ◌&&◌, ◌==◌, if◌then◌else◌, List, [], ◌∷◌, ◌++◌, Option, None, Some, codes, map}
 use Rattle.std.specs.List.{flat_map, join_with_byte, list_all}
 use Rattle.simplecss_text.specs.AsciiBytes.{newline, single_quote, backslash}

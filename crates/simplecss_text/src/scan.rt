@@ -338,7 +338,7 @@ fn may_open_comment(text: &str) -> bool
 
 /// Returns the space bytes and closed comments at the start of the text, one after another.
 #[inline(never)]
-fn closed_part(text: &str) -> Part
+fn closed_part(text: &str) -> Blank
     ensures rest { past_blank text.now ≡ drop result.len text.now }
     ensures spaced { result.spaced ≡ has_space text.now }
     ensures boundary { IsCharBoundary text.now result.len }
@@ -349,19 +349,19 @@ fn closed_part(text: &str) -> Part
         len += part.len;
         spaced |= part.spaced;
     }
-    Part { len, spaced }
+    Blank { len, spaced }
 }
 
-/// Returns the first part of a gap: a space byte or a closed comment.
+/// Returns the space byte or the closed comment at the start of the text.
 #[inline(always)]
-fn blank_part_len(text: &str) -> Option<Part>
+fn blank_part_len(text: &str) -> Option<Blank>
     ensures found { MatchOption result (blank_part text.now ≡ None)
         (λ p. blank_part text.now ≡ Some (p.spaced, drop p.len text.now)) }
     ensures boundary { IfSome result (λ p. IsCharBoundary text.now p.len) }
     ensures some { IfSome result (λ p. 0 < p.len) }
 {
     if starts_with_space(text) {
-        return Some(Part {
+        return Some(Blank {
             len: 1,
             spaced: true,
         });
@@ -370,7 +370,7 @@ fn blank_part_len(text: &str) -> Option<Part>
         return None;
     }
     match close_len(&text[2..]) {
-        Some(n) => Some(Part {
+        Some(n) => Some(Blank {
             len: 2 + n,
             spaced: false,
         }),
@@ -378,9 +378,9 @@ fn blank_part_len(text: &str) -> Option<Part>
     }
 }
 
-/// One or more parts of a gap, each a space byte or a closed comment.
+/// Space bytes and closed comments, one after another, at the start of a text.
 #[derive(Clone, Copy)]
-struct Part {
+struct Blank {
     /// The number of bytes.
     len: usize,
     /// Whether a space byte is among them, outside the comments.

@@ -23,7 +23,7 @@ impl TextPos {
         TextPos { row, col }
     }
 
-    /// Returns the position in the whole text of the position `inner` in the part that begins at
+    /// Returns the position in a whole text of `inner`, a position in the text that begins at
     /// `self`.
     pub fn in_whole(self, inner: TextPos) -> TextPos
         ensures { result ≡ in_whole self inner }

@@ -104,7 +104,7 @@ value_there None o h = absurd (cc)
 value_there (Some v) o h = refl
 
 -- An element reports every key that it has. This is proved here since the trait `Keyed` requires
--- it: the impl names it, so it is part of what is stated.
+-- it: the impl names it, so it belongs to what is stated.
 pub keys_reported : (n : List Row × ℕ) → ReportsKeys element_tree n (reported_at n)
 keys_reported n (by_id text) h = h
 keys_reported n (by_class word) h = h

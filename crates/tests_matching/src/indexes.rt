@@ -92,18 +92,18 @@ const FOUND: &[(&str, &[Entry<'static>], &str)] = &[
 ];
 
 /// Returns the value of the first declaration of the rule at this index.
-fn value_at<'a>(rules: &[Rule<'a>], place: usize) -> Option<&'a str> {
-    Some(rules.get(place)?.declarations.first()?.value)
+fn value_at<'a>(rules: &[Rule<'a>], index: usize) -> Option<&'a str> {
+    Some(rules.get(index)?.declarations.first()?.value)
 }
 
 /// Returns the values of the first declarations of the rules at these indices, separated by spaces.
-fn values_at(alloc: Global, rules: &[Rule<'_>], places: &[usize]) -> Result<String, AllocError> {
+fn values_at(alloc: Global, rules: &[Rule<'_>], indices: &[usize]) -> Result<String, AllocError> {
     let mut text = String::new(alloc);
-    for place in places {
+    for index in indices {
         if !text.is_empty() {
             text.push(' ')?;
         }
-        text.push_str(value_at(rules, *place).unwrap_or("none"))?;
+        text.push_str(value_at(rules, *index).unwrap_or("none"))?;
     }
     Ok(text)
 }
@@ -114,9 +114,9 @@ fn found(alloc: Global, text: &str, line: &[Entry<'_>]) -> Result<String, Fail> 
     let index = RuleIndex::new(alloc, &sheet.rules)?;
     let tree = tree_of(alloc, line)?;
     let element = last(&tree).ok_or("no element")?;
-    let mut places = Vec::new(alloc);
-    index.matching(&sheet.rules, &element, &mut places)?;
-    Ok(values_at(alloc, &sheet.rules, &places)?)
+    let mut indices = Vec::new(alloc);
+    index.matching(&sheet.rules, &element, &mut indices)?;
+    Ok(values_at(alloc, &sheet.rules, &indices)?)
 }
 
 #[test]
@@ -162,13 +162,13 @@ fn tested_in_order(
     rules: &[Rule<'_>],
     element: &Node<'_, '_>,
 ) -> Result<Vec<usize>, AllocError> {
-    let mut places = Vec::new(alloc);
-    for (place, rule) in rules.iter().enumerate() {
+    let mut indices = Vec::new(alloc);
+    for (index, rule) in rules.iter().enumerate() {
         if rule.selector.matches(element) {
-            places.push(place)?;
+            indices.push(index)?;
         }
     }
-    Ok(places)
+    Ok(indices)
 }
 
 /// One vector serves all calls, and its earlier items are dropped.
@@ -177,14 +177,14 @@ fn as_if_each_rule_were_tested(rt: HostRuntime) -> Result<(), Fail> {
     let sheet = StyleSheet::parse(&Discard, rt.alloc(), SHEET)?;
     same(&rt, sheet.rules.len(), 27, SHEET);
     let index = RuleIndex::new(rt.alloc(), &sheet.rules)?;
-    let mut places = Vec::new(rt.alloc());
-    places.push(7)?;
+    let mut indices = Vec::new(rt.alloc());
+    indices.push(7)?;
     for line in LINES {
         let tree = tree_of(rt.alloc(), line)?;
         let element = last(&tree).ok_or("no element")?;
-        index.matching_counted(&sheet.rules, &element, &mut places, &mut Tests::new())?;
+        index.matching_counted(&sheet.rules, &element, &mut indices, &mut Tests::new())?;
         let tested = tested_in_order(rt.alloc(), &sheet.rules, &element)?;
-        same(&rt, places.as_slice(), tested.as_slice(), element.name());
+        same(&rt, indices.as_slice(), tested.as_slice(), element.name());
     }
     Ok(())
 }
@@ -205,11 +205,11 @@ fn rooms(alloc: Global, text: &str, class: &str) -> Result<(usize, usize, usize)
     let index = RuleIndex::new(alloc, &sheet.rules)?;
     let tree = tree_of(alloc, &[("a", None, Some(class))])?;
     let element = last(&tree).ok_or("no element")?;
-    let mut places = Vec::new(alloc);
-    index.matching(&sheet.rules, &element, &mut places)?;
-    let room = places.capacity();
-    index.matching(&sheet.rules, &element, &mut places)?;
-    Ok((places.len(), room, places.capacity()))
+    let mut indices = Vec::new(alloc);
+    index.matching(&sheet.rules, &element, &mut indices)?;
+    let room = indices.capacity();
+    index.matching(&sheet.rules, &element, &mut indices)?;
+    Ok((indices.len(), room, indices.capacity()))
 }
 
 /// A hundred times the class of a hundred rules: the vector's capacity is for words and rules, and
@@ -219,7 +219,7 @@ fn a_repeated_class_takes_little_memory(rt: HostRuntime) -> Result<(), Fail> {
     let text = repeated(rt.alloc(), ".b{n:1} ", 100)?;
     let class = repeated(rt.alloc(), "b ", 100)?;
     let (count, room, later) = rooms(rt.alloc(), text.as_str(), class.as_str())?;
-    same(&rt, (count, later), (100, room), "the places");
+    same(&rt, (count, later), (100, room), "the indices");
     same(&rt, room <= 512, true, "their room");
     Ok(())
 }

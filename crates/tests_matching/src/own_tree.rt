@@ -60,13 +60,13 @@ fn matches_in_an_own_tree(rt: HostRuntime) -> Result<(), Fail> {
     let entries = entries();
     for &(text, wanted) in MATCHED {
         let selector = Selector::parse(&Discard, rt.alloc(), text)?.ok_or("refused")?;
-        for place in 0..entries.len() {
+        for index in 0..entries.len() {
             let spot = Spot {
                 entries: &entries,
-                place,
+                index,
             };
-            let found = (place, selector.matches(&spot));
-            same(&rt, found, (place, wanted.contains(&place)), text);
+            let found = (index, selector.matches(&spot));
+            same(&rt, found, (index, wanted.contains(&index)), text);
         }
     }
     Ok(())
@@ -82,15 +82,15 @@ fn is_found_by_an_index(rt: HostRuntime) -> Result<(), Fail> {
     let entries = entries();
     let sheet = StyleSheet::parse(&Discard, rt.alloc(), SHEET)?;
     let index = RuleIndex::new(rt.alloc(), &sheet.rules)?;
-    let mut places = Vec::new(rt.alloc());
-    for (place, wanted) in RULES.iter().enumerate() {
-        if place < entries.len() {
+    let mut indices = Vec::new(rt.alloc());
+    for (entry, wanted) in RULES.iter().enumerate() {
+        if entry < entries.len() {
             let spot = Spot {
                 entries: &entries,
-                place,
+                index: entry,
             };
-            index.matching(&sheet.rules, &spot, &mut places)?;
-            same(&rt, places.as_slice(), *wanted, spot.local_name());
+            index.matching(&sheet.rules, &spot, &mut indices)?;
+            same(&rt, indices.as_slice(), *wanted, spot.local_name());
         }
     }
     Ok(())

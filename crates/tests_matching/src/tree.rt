@@ -55,14 +55,14 @@ fn two_trees(alloc: Global) -> Result<Tree<'static>, TreeError> {
 /// Returns the indices of the elements that the selector matches.
 fn matched(alloc: Global, tree: &Tree<'_>, text: &str) -> Result<Vec<usize>, Fail> {
     let selector = Selector::parse(&Discard, alloc, text)?.ok_or("refused")?;
-    let mut places = Vec::new(alloc);
-    for place in 0..tree.len() {
-        let node = tree.node(place).ok_or("no element")?;
+    let mut indices = Vec::new(alloc);
+    for index in 0..tree.len() {
+        let node = tree.node(index).ok_or("no element")?;
         if selector.matches(&node) {
-            places.push(place)?;
+            indices.push(index)?;
         }
     }
-    Ok(places)
+    Ok(indices)
 }
 
 /// Selectors, and the indices of the elements that they match. By CSS 2.1: sections 5.2 to 5.9 for
@@ -96,8 +96,8 @@ const MATCHED: &[(&str, &[usize])] = &[
 fn matches_as_the_standard_says(rt: HostRuntime) -> Result<(), Fail> {
     let tree = two_trees(rt.alloc())?;
     for &(text, wanted) in MATCHED {
-        let places = matched(rt.alloc(), &tree, text)?;
-        same(&rt, places.as_slice(), wanted, text);
+        let indices = matched(rt.alloc(), &tree, text)?;
+        same(&rt, indices.as_slice(), wanted, text);
     }
     Ok(())
 }
@@ -140,8 +140,8 @@ const RELATIVES: &[(usize, Option<usize>, Option<usize>)] = &[
 #[test]
 fn returns_relatives(rt: HostRuntime) -> Result<(), Fail> {
     let tree = two_trees(rt.alloc())?;
-    for &(place, parent, previous) in RELATIVES {
-        let node = tree.node(place).ok_or("no element")?;
+    for &(index, parent, previous) in RELATIVES {
+        let node = tree.node(index).ok_or("no element")?;
         let above = node.parent_element().map(|n| n.index());
         let before = node.prev_sibling_element().map(|n| n.index());
         same(&rt, (above, before), (parent, previous), node.name());

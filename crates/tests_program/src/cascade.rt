@@ -46,7 +46,7 @@ const BY_IMPORTANCE: &[(&str, Option<(&str, bool)>)] = &[
 ];
 
 #[test]
-fn wins_by_importance_then_place(rt: HostRuntime) -> Result<(), Fail> {
+fn wins_by_importance_then_index(rt: HostRuntime) -> Result<(), Fail> {
     for &(text, wanted) in BY_IMPORTANCE {
         let sheet = sheet_of(rt.alloc(), text)?;
         same(&rt, wins(rt.alloc(), &sheet, "0\ta", wanted)?, true, text);
@@ -55,7 +55,7 @@ fn wins_by_importance_then_place(rt: HostRuntime) -> Result<(), Fail> {
 }
 
 #[test]
-fn wins_by_place_in_an_edited_sheet(rt: HostRuntime) -> Result<(), Fail> {
+fn wins_by_index_in_an_edited_sheet(rt: HostRuntime) -> Result<(), Fail> {
     let tree = "0\ta\tclass=x";
     let mut sheet = sheet_of(rt.alloc(), "a { c:red } .x { c:blue }")?;
     same(

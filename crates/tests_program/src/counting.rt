@@ -256,7 +256,7 @@ fn calls_for_winners(alloc: Global, sheet: &str) -> Result<(u64, u64), Fail> {
 }
 
 /// A sheet, and how often an element is tested for one name and for all.
-const ASKED_RULES: &[(&str, (u64, u64))] = &[
+const TESTED_RULES: &[(&str, (u64, u64))] = &[
     ("a{d:x} a{e:x}", (0, 2)),
     ("a{c:x} a{c:y}", (1, 2)),
     ("a{c:x} a{c:y} a{d:z}", (1, 3)),
@@ -269,7 +269,7 @@ const ASKED_RULES: &[(&str, (u64, u64))] = &[
 
 #[test]
 fn asks_few_rules_for_winners(rt: HostRuntime) -> Result<(), Fail> {
-    for &(sheet, times) in ASKED_RULES {
+    for &(sheet, times) in TESTED_RULES {
         let calls = calls_for_winners(rt.alloc(), sheet)?;
         same(&rt, calls, times, sheet);
     }
@@ -290,11 +290,11 @@ fn calls_by_index(alloc: Global, sheet: &str, is_counted: bool) -> Result<(u64, 
         node: page.node(2).ok_or("no element")?,
         calls: &calls,
     };
-    let mut places = Vec::new(alloc);
+    let mut indices = Vec::new(alloc);
     if is_counted {
-        index.matching_counted(&sheet.rules, &element, &mut places, &mut Tests::new())?;
+        index.matching_counted(&sheet.rules, &element, &mut indices, &mut Tests::new())?;
     } else {
-        index.matching(&sheet.rules, &element, &mut places)?;
+        index.matching(&sheet.rules, &element, &mut indices)?;
     }
     Ok((calls.names.get(), calls.attributes.get()))
 }

@@ -83,8 +83,8 @@ fn a_cut_tree_reports_its_fault(rt: HostRuntime) -> Result<(), Fail> {
         Ok(2),
         Ok(2),
     ];
-    for (place, want) in wanted.iter().enumerate() {
-        let front = text.get(..place).ok_or("past the end")?;
+    for (offset, want) in wanted.iter().enumerate() {
+        let front = text.get(..offset).ok_or("past the end")?;
         same(&rt, read(rt.alloc(), front), *want, front);
     }
     Ok(())
@@ -122,13 +122,13 @@ fn checks_many_attributes(rt: HostRuntime) -> Result<(), Fail> {
 }
 
 /// Returns the index of an element among those that these letters name, in order.
-fn place_of(element: &Node<'_, '_>) -> Option<usize> {
-    for (place, name) in ["a", "b", "c", "d", "e", "f", "g", "h", "i"]
+fn index_of(element: &Node<'_, '_>) -> Option<usize> {
+    for (index, name) in ["a", "b", "c", "d", "e", "f", "g", "h", "i"]
         .iter()
         .enumerate()
     {
         if element.has_local_name(name) {
-            return Some(place);
+            return Some(index);
         }
     }
     None
@@ -153,13 +153,13 @@ fn ties_elements(rt: HostRuntime) -> Result<(), Fail> {
     let text = "0\ta\n1\tb\n2\tc\n1\td\n0\te\n1\tf\n2\tg\n2\th\n0\ti\n";
     let page = Page::read(rt.alloc(), text)?;
     same(&rt, page.len(), 9, text);
-    for (place, (parent, previous)) in TIES.iter().enumerate() {
-        let node = page.node(place).ok_or("no node")?;
-        same(&rt, place_of(&node), Some(place), text);
-        let parent_index = node.parent_element().map(|n| place_of(&n));
-        let previous_index = node.prev_sibling_element().map(|n| place_of(&n));
-        let wanted = (place, parent.map(Some), previous.map(Some));
-        same(&rt, (place, parent_index, previous_index), wanted, text);
+    for (index, (parent, previous)) in TIES.iter().enumerate() {
+        let node = page.node(index).ok_or("no node")?;
+        same(&rt, index_of(&node), Some(index), text);
+        let parent_index = node.parent_element().map(|n| index_of(&n));
+        let previous_index = node.prev_sibling_element().map(|n| index_of(&n));
+        let wanted = (index, parent.map(Some), previous.map(Some));
+        same(&rt, (index, parent_index, previous_index), wanted, text);
     }
     same(&rt, page.node(9).is_none(), true, text);
     Ok(())
@@ -169,7 +169,7 @@ fn ties_elements(rt: HostRuntime) -> Result<(), Fail> {
 const THREE: &str = "0\ta\tid=x\tclass=u v\t=e\n1\tb\r\n1\tc\n";
 
 /// An attribute, an operator, and the answer of the first element.
-const ASKED: &[(&str, AttributeOperator<'static>, bool)] = &[
+const TESTED: &[(&str, AttributeOperator<'static>, bool)] = &[
     ("id", AttributeOperator::Exists, true),
     ("id", AttributeOperator::Matches("x"), true),
     ("id", AttributeOperator::Matches(""), false),
@@ -185,7 +185,7 @@ const ASKED: &[(&str, AttributeOperator<'static>, bool)] = &[
 fn answers_of_attributes(rt: HostRuntime) -> Result<(), Fail> {
     let page = Page::read(rt.alloc(), THREE)?;
     let a = page.node(0).ok_or("no node")?;
-    for &(key, operator, answer) in ASKED {
+    for &(key, operator, answer) in TESTED {
         let found = a.attribute_matches(key, operator);
         same(&rt, (operator, found), (operator, answer), key);
     }
@@ -203,8 +203,8 @@ const NAMED: &[(usize, &str, bool)] = &[
 #[test]
 fn answers_to_names(rt: HostRuntime) -> Result<(), Fail> {
     let page = Page::read(rt.alloc(), THREE)?;
-    for &(place, name, answer) in NAMED {
-        let node = page.node(place).ok_or("no node")?;
+    for &(index, name, answer) in NAMED {
+        let node = page.node(index).ok_or("no node")?;
         same(&rt, node.has_local_name(name), answer, name);
     }
     Ok(())
@@ -226,10 +226,10 @@ const CLASSED: &[(usize, PseudoClass<'static>, bool)] = &[
 #[test]
 fn is_in_pseudo_classes(rt: HostRuntime) -> Result<(), Fail> {
     let page = Page::read(rt.alloc(), THREE)?;
-    for &(place, class, answer) in CLASSED {
-        let node = page.node(place).ok_or("no node")?;
-        let found = (place, class, node.pseudo_class_matches(class));
-        same(&rt, found, (place, class, answer), THREE);
+    for &(index, class, answer) in CLASSED {
+        let node = page.node(index).ok_or("no node")?;
+        let found = (index, class, node.pseudo_class_matches(class));
+        same(&rt, found, (index, class, answer), THREE);
     }
     Ok(())
 }

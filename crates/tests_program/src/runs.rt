@@ -7,7 +7,7 @@ use log::sink::Discard;
 use std::test::Fail;
 
 /// Faults, their statuses and their lines.
-const TOLD: &[(RunFault, u8, &str)] = &[
+const REPORTED: &[(RunFault, u8, &str)] = &[
     (RunFault::Refused, 1, "cssq: selector refused"),
     (
         RunFault::Tree(TreeFault::BadDepth(1)),
@@ -30,7 +30,7 @@ const TOLD: &[(RunFault, u8, &str)] = &[
 
 #[test]
 fn reports_statuses_and_lines(rt: HostRuntime) -> Result<(), Fail> {
-    for &(fault, status, line) in TOLD {
+    for &(fault, status, line) in REPORTED {
         same(&rt, fault.status(), status, line);
         let text = format!(in rt.alloc(); "{fault}")?;
         same(&rt, text.as_str(), line, "the plain form");

@@ -27,14 +27,14 @@ fn taken(alloc: Global, selector: &str, tree: &str) -> Result<String, Fail> {
     let page = Page::read(alloc, text.as_str())?;
     let selector = Selector::parse(&Discard, alloc, selector)?.ok_or("refused")?;
     let mut numbers = String::new(alloc);
-    for place in 0..page.len() {
-        let element = page.node(place).ok_or("no element")?;
+    for index in 0..page.len() {
+        let element = page.node(index).ok_or("no element")?;
         let answer = selector.matches(&element);
         if answer != selector.matches_counted(&element, &mut Tests::new()) {
             return Err(Fail::from("the two calls differ"));
         }
         if answer {
-            let number = place.saturating_add(1);
+            let number = index.saturating_add(1);
             let gap = if numbers.is_empty() { "" } else { " " };
             write!(numbers, "{gap}{number}")?;
         }

@@ -13,7 +13,8 @@ const LINES: &[(&[&str], &str)] = &[
     (&["a < b { c:d }"], "x.css:1:1: 'a < b': invalid ident\n"),
     (
         &["a { b:c; d } e:f { g:h }\n@i; /* j"],
-        "x.css:1:10: 'd': broken declaration\nx.css:1:14: 'e:f': unknown pseudo-class\nx.css:2:1: '@i': at-rule not supported\nx.css:2:5: '/* j': comment not closed\n",
+        "x.css:1:10: 'd': broken declaration\nx.css:1:14: 'e:f': unknown pseudo-class\n\
+        x.css:2:1: '@i': at-rule not supported\nx.css:2:5: '/* j': comment not closed\n",
     ),
     (
         &["@a;", "\n@b;"],

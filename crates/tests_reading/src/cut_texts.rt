@@ -62,8 +62,8 @@ fn ends_in_each_way(alloc: Global, text: &str) -> Result<bool, AllocError> {
 #[test]
 fn each_front_is_read(rt: HostRuntime) -> Result<(), Fail> {
     for text in TEXTS {
-        for (place, _) in text.char_indices() {
-            let front = text.get(..place).ok_or("a place within a character")?;
+        for (offset, _) in text.char_indices() {
+            let front = text.get(..offset).ok_or("an offset within a character")?;
             same(&rt, ends_in_each_way(rt.alloc(), front)?, true, front);
         }
         same(&rt, ends_in_each_way(rt.alloc(), text)?, true, text);
@@ -74,10 +74,10 @@ fn each_front_is_read(rt: HostRuntime) -> Result<(), Fail> {
 #[test]
 fn a_cut_sheet_keeps_what_is_whole(rt: HostRuntime) -> Result<(), Fail> {
     let text = "a { b:\"c\" }";
-    for place in 0..=11 {
-        let front = text.get(..place).ok_or("past the end")?;
+    for offset in 0..=11 {
+        let front = text.get(..offset).ok_or("past the end")?;
         let printed = StyleSheet::parse(&Discard, rt.alloc(), front)?.to_string(rt.alloc())?;
-        let want = if place < 9 { "" } else { "a { b:\"c\"; }" };
+        let want = if offset < 9 { "" } else { "a { b:\"c\"; }" };
         same(&rt, printed.as_str(), want, front);
     }
     Ok(())

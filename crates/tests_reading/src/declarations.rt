@@ -58,12 +58,12 @@ const GIVEN: &[(&str, &[(&str, &str, bool)])] = &[
 ];
 
 #[test]
-fn gives_declarations_as_they_stand(rt: HostRuntime) {
+fn returns_declarations_in_order(rt: HostRuntime) {
     assert_gives(&rt, GIVEN);
 }
 
 /// Each text, and the offset after each call of `next`, including those that return `None`.
-const PLACES: &[(&str, &[usize])] = &[
+const OFFSETS: &[(&str, &[usize])] = &[
     ("color: red; a:b", &[12, 15, 15]),
     ("a:b !importantly:x", &[14, 18, 18]),
     ("a:b } c", &[4, 7, 7]),
@@ -73,12 +73,12 @@ const PLACES: &[(&str, &[usize])] = &[
 
 #[test]
 fn returns_the_offset_after_each_declaration(rt: HostRuntime) {
-    for (text, places) in PLACES {
+    for (text, offsets) in OFFSETS {
         let mut declarations = DeclarationTokenizer::from(*text);
         assert_eq!(rt; declarations.pos(), 0, "at {text}");
-        for place in *places {
+        for offset in *offsets {
             let _ = declarations.next();
-            assert_eq!(rt; declarations.pos(), *place, "at {text}");
+            assert_eq!(rt; declarations.pos(), *offset, "at {text}");
         }
     }
 }

@@ -6,7 +6,7 @@ use simplecss::{Error, TextPos};
 const POS: TextPos = TextPos { row: 2, col: 4 };
 
 /// Errors, and the positions in them.
-const PLACED: &[(Error, Option<TextPos>)] = &[
+const POSITIONED: &[(Error, Option<TextPos>)] = &[
     (Error::UnexpectedEndOfStream, None),
     (Error::InvalidIdent(POS), Some(POS)),
     (Error::InvalidComment(POS), Some(POS)),
@@ -28,7 +28,7 @@ const PLACED: &[(Error, Option<TextPos>)] = &[
 
 #[test]
 fn returns_the_position_of_an_error(rt: HostRuntime) {
-    for &(error, reported) in PLACED {
+    for &(error, reported) in POSITIONED {
         assert_eq!(rt; error.pos(), reported, "of {error}");
     }
 }

@@ -4,7 +4,7 @@ use crate::same::same;
 use simplecss::AttributeOperator;
 
 /// An operator, a value, and whether the value satisfies the operator.
-const ASKED: &[(AttributeOperator<'static>, &str, bool)] = &[
+const TESTED: &[(AttributeOperator<'static>, &str, bool)] = &[
     (AttributeOperator::Exists, "", true),
     (AttributeOperator::Exists, "a b", true),
     (AttributeOperator::Matches("a"), "a", true),
@@ -45,7 +45,7 @@ const ASKED: &[(AttributeOperator<'static>, &str, bool)] = &[
 
 #[test]
 fn the_relations_of_operators(rt: HostRuntime) {
-    for (operator, value, answer) in ASKED {
+    for (operator, value, answer) in TESTED {
         same(
             &rt,
             (*operator, operator.matches(value)),

@@ -9,12 +9,12 @@ use std::test::Fail;
 
 /// Returns the printed selector, or `refused`, and the offset where reading ended.
 fn read(alloc: Global, text: &str) -> Result<(String, usize), AllocError> {
-    let (selector, place) = Selector::parse_front(&Memory::new(alloc), alloc, text)?;
+    let (selector, offset) = Selector::parse_front(&Memory::new(alloc), alloc, text)?;
     let printed = match selector {
         Some(selector) => format!(in alloc; "{selector}")?,
         None => String::from_str(alloc, "refused")?,
     };
-    Ok((printed, place))
+    Ok((printed, offset))
 }
 
 fn assert_reads(
@@ -22,9 +22,9 @@ fn assert_reads(
     alloc: Global,
     rows: &[(&str, &str, usize)],
 ) -> Result<(), AllocError> {
-    for (text, want, place) in rows {
+    for (text, want, offset) in rows {
         let (printed, end) = read(alloc, text)?;
-        same(rt, (printed.as_str(), end), (*want, *place), text);
+        same(rt, (printed.as_str(), end), (*want, *offset), text);
     }
     Ok(())
 }
@@ -105,7 +105,7 @@ fn weighs(rt: HostRuntime) -> Result<(), Fail> {
 }
 
 /// Texts, and the lines that the logger gets: one if the selector is refused, and else none.
-const TOLD: &[(&str, &[&str])] = &[
+const REPORTED: &[(&str, &[&str])] = &[
     (
         "> {}",
         &[
@@ -134,7 +134,7 @@ fn reported(alloc: Global, text: &str) -> Result<(Lines, bool), AllocError> {
 
 #[test]
 fn warns_why_it_refuses(rt: HostRuntime) -> Result<(), AllocError> {
-    for &(text, want) in TOLD {
+    for &(text, want) in REPORTED {
         let (lines, is_refused) = reported(rt.alloc(), text)?;
         same(
             &rt,
@@ -153,11 +153,11 @@ fn warns_why_it_refuses(rt: HostRuntime) -> Result<(), AllocError> {
 fn repeated(
     alloc: Global,
     first: &str,
-    part: &str,
+    unit: &str,
     count: usize,
     last: &str,
 ) -> Result<String, AllocError> {
-    let middle = part.repeat(alloc, count)?;
+    let middle = unit.repeat(alloc, count)?;
     format!(in alloc; "{first}{middle}{last}")
 }
 
@@ -176,10 +176,10 @@ const LONG_GAPS: &[(&str, &str, &str, &str, usize)] = &[
 
 #[test]
 fn reads_long_gaps(rt: HostRuntime) -> Result<(), Fail> {
-    for &(first, part, last, want, place) in LONG_GAPS {
-        let text = repeated(rt.alloc(), first, part, 100_000, last)?;
+    for &(first, unit, last, want, offset) in LONG_GAPS {
+        let text = repeated(rt.alloc(), first, unit, 100_000, last)?;
         let (printed, end) = read(rt.alloc(), text.as_str())?;
-        same(&rt, (printed.as_str(), end), (want, place), first);
+        same(&rt, (printed.as_str(), end), (want, offset), first);
     }
     Ok(())
 }
@@ -238,18 +238,18 @@ fn copies_are_equal(rt: HostRuntime) -> Result<(), Fail> {
 const LISTS: &[(&str, &str)] = &[
     (
         "a.b.c > #d",
-        "Selector { parts: [Part { combinator: None, name: Some(\"a\"), end: 2 }], \
-        last: Part { combinator: Child, name: None, end: 3 }, \
+        "Selector { front: [FlatComponent { combinator: None, name: Some(\"a\"), end: 2 }], \
+        last: FlatComponent { combinator: Child, name: None, end: 3 }, \
         subselectors: [Attribute(\"class\", Contains(\"b\")), \
         Attribute(\"class\", Contains(\"c\")), Attribute(\"id\", Matches(\"d\"))], \
         stretch_ends: [] }",
     ),
     (
         "a > b c + d",
-        "Selector { parts: [Part { combinator: None, name: Some(\"a\"), end: 0 }, \
-        Part { combinator: Child, name: Some(\"b\"), end: 0 }, \
-        Part { combinator: Descendant, name: Some(\"c\"), end: 0 }], \
-        last: Part { combinator: Adjacent, name: Some(\"d\"), end: 0 }, \
+        "Selector { front: [FlatComponent { combinator: None, name: Some(\"a\"), end: 0 }, \
+        FlatComponent { combinator: Child, name: Some(\"b\"), end: 0 }, \
+        FlatComponent { combinator: Descendant, name: Some(\"c\"), end: 0 }], \
+        last: FlatComponent { combinator: Adjacent, name: Some(\"d\"), end: 0 }, \
         subselectors: [], stretch_ends: [2] }",
     ),
 ];

@@ -43,7 +43,7 @@ fn prints_rules_in_order(rt: HostRuntime) -> Result<(), Fail> {
 }
 
 /// Texts with what a reader skips, and the sheets that they are read as.
-const MAY_STAND: &[(&str, &str)] = &[
+const ALLOWED: &[(&str, &str)] = &[
     (" /* x", ""),
     ("a { color:red } /* open", "a { color:red; }"),
     ("@x", ""),
@@ -59,14 +59,14 @@ const MAY_STAND: &[(&str, &str)] = &[
 
 #[test]
 fn reads_what_is_allowed(rt: HostRuntime) -> Result<(), Fail> {
-    for &(text, want) in MAY_STAND {
+    for &(text, want) in ALLOWED {
         same(&rt, prints(&rt, &read(&rt, text)?, want)?, true, text);
     }
     Ok(())
 }
 
 /// Texts, and the end of the one warning for each.
-const PASSED_OVER: &[(&str, &str)] = &[
+const SKIPPED: &[(&str, &str)] = &[
     (
         "> {}",
         "Selector parsing failed cause unexpected combinator.",
@@ -85,7 +85,7 @@ const PASSED_OVER: &[(&str, &str)] = &[
 
 #[test]
 fn warns_of_what_is_skipped(rt: HostRuntime) -> Result<(), Fail> {
-    for &(text, message) in PASSED_OVER {
+    for &(text, message) in SKIPPED {
         let sink = Memory::new(rt.alloc());
         let sheet = StyleSheet::parse(&sink, rt.alloc(), text)?;
         let lines = sink.into_lines();
@@ -278,7 +278,7 @@ const DIFFERENT: &[&str] = &[
 ];
 
 #[test]
-fn rules_differ_in_any_part(rt: HostRuntime) -> Result<(), Fail> {
+fn rules_differ_in_any_field(rt: HostRuntime) -> Result<(), Fail> {
     for (i, text) in DIFFERENT.iter().enumerate() {
         let sheet = read(&rt, text)?;
         for (j, other) in DIFFERENT.iter().enumerate() {

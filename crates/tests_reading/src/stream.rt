@@ -66,10 +66,10 @@ const NAMES: &[(&str, Result<&str, Error>, usize)] = &[
 
 #[test]
 fn reads_names(rt: HostRuntime) {
-    for &(text, found, place) in NAMES {
+    for &(text, found, offset) in NAMES {
         let mut s = Stream::from(text);
         same(&rt, s.consume_ident(), found, text);
-        same(&rt, s.pos(), place, text);
+        same(&rt, s.pos(), offset, text);
     }
 }
 
@@ -89,10 +89,10 @@ const STRINGS: &[(&str, Result<&str, Error>, usize)] = &[
 
 #[test]
 fn reads_strings(rt: HostRuntime) {
-    for &(text, found, place) in STRINGS {
+    for &(text, found, offset) in STRINGS {
         let mut s = Stream::from(text);
         same(&rt, s.consume_string(), found, text);
-        same(&rt, s.pos(), place, text);
+        same(&rt, s.pos(), offset, text);
     }
 }
 
@@ -112,10 +112,10 @@ const COMMENTS: &[(&str, Result<(), Error>, usize)] = &[
 
 #[test]
 fn reads_comments(rt: HostRuntime) {
-    for &(text, found, place) in COMMENTS {
+    for &(text, found, offset) in COMMENTS {
         let mut s = Stream::from(text);
         same(&rt, s.skip_comment(), found, text);
-        same(&rt, s.pos(), place, text);
+        same(&rt, s.pos(), offset, text);
     }
 }
 
@@ -140,10 +140,10 @@ const BLANKS: &[(&str, Result<(), Error>, usize)] = &[
 
 #[test]
 fn reads_blanks(rt: HostRuntime) {
-    for &(text, found, place) in BLANKS {
+    for &(text, found, offset) in BLANKS {
         let mut s = Stream::from(text);
         same(&rt, s.skip_spaces_and_comments(), found, text);
-        same(&rt, s.pos(), place, text);
+        same(&rt, s.pos(), offset, text);
     }
 }
 
@@ -202,7 +202,7 @@ fn consumes_nothing_at_the_end(rt: HostRuntime) {
 }
 
 #[test]
-fn goes_by_places(rt: HostRuntime) {
+fn goes_by_offsets(rt: HostRuntime) {
     let text = "abc";
     let mut s = Stream::new(text);
     s.advance(2);

@@ -67,9 +67,9 @@ fn assert_ends(
     alloc: Global,
     rows: &[(&str, &str, usize)],
 ) -> Result<(), AllocError> {
-    for (text, want, place) in rows {
+    for (text, want, offset) in rows {
         let (items, end) = given(alloc, text)?;
-        same(rt, (items.as_str(), end), (*want, *place), text);
+        same(rt, (items.as_str(), end), (*want, *offset), text);
     }
     Ok(())
 }
@@ -159,7 +159,7 @@ fn keeps_the_table_of_neighbours(rt: HostRuntime) -> Result<(), AllocError> {
             ("a/**/*", "a, !unexpected selector", 5),
             ("*bc.d", "*, !unexpected selector", 3),
             ("[a]/**/b,c", "[a], !unexpected selector", 8),
-            // closed, a space byte, a simple piece or a fault in its place
+            // closed, a space byte, a simple piece or a fault in place of one
             ("a/**/ *", "a, descendant, *", 7),
             ("a b", "a, descendant, b", 3),
             ("a [b]", "a, descendant, [b]", 5),
@@ -218,12 +218,12 @@ fn returns_the_offset_after_each_item(rt: HostRuntime) {
         ("*a", &[1, 2, 2]),
         ("", &[0, 0]),
     ];
-    for (text, places) in rows {
+    for (text, offsets) in rows {
         let mut tokenizer = SelectorTokenizer::from(*text);
         same(&rt, tokenizer.pos(), 0, text);
-        for place in *places {
+        for offset in *offsets {
             let _ = tokenizer.next();
-            same(&rt, tokenizer.pos(), *place, text);
+            same(&rt, tokenizer.pos(), *offset, text);
         }
     }
 }

@@ -90,7 +90,7 @@ fn pieces(text: &str) -> usize {
 }
 
 /// Makes the calls that have offsets as arguments.
-fn places() -> usize {
+fn offsets() -> usize {
     let mut s = Stream::new("abc");
     s.advance(2);
     yes(&[
@@ -173,8 +173,8 @@ impl<'t> Made<'t> {
     /// wins on them.
     fn page_answers(&self) -> (usize, usize, (usize, usize)) {
         let (mut elements, mut matches, mut e, mut f) = (0_usize, 0_usize, 0_usize, 0_usize);
-        for place in 0..self.page.len() {
-            let Some(node) = self.page.node(place) else {
+        for index in 0..self.page.len() {
+            let Some(node) = self.page.node(index) else {
                 break;
             };
             elements = elements.saturating_add(element_answers(&node));
@@ -204,7 +204,7 @@ impl<'t> Made<'t> {
         Answers {
             stream: looks(text)
                 .saturating_add(pieces(text))
-                .saturating_add(places()),
+                .saturating_add(offsets()),
             tokens: (
                 SelectorTokenizer::from(SHEET).count(),
                 DeclarationTokenizer::from("a:b; c:d").count(),

@@ -220,14 +220,14 @@ fn found_rules(
     page: &Page<'_>,
 ) -> Result<usize, AllocError> {
     let index = RuleIndex::new(alloc, &sheet.rules)?;
-    let mut places = Vec::new(alloc);
+    let mut indices = Vec::new(alloc);
     let mut sum = 0_usize;
-    for place in 0..page.len() {
-        let Some(element) = page.node(place) else {
+    for node_index in 0..page.len() {
+        let Some(element) = page.node(node_index) else {
             break;
         };
-        index.matching(&sheet.rules, &element, &mut places)?;
-        for found in &places {
+        index.matching(&sheet.rules, &element, &mut indices)?;
+        for found in &indices {
             sum = sum.saturating_add(*found).saturating_add(1);
         }
     }
@@ -241,8 +241,8 @@ fn winner_count(
     page: &Page<'_>,
 ) -> Result<usize, AllocError> {
     let mut sum = 0_usize;
-    for place in 0..page.len() {
-        let Some(element) = page.node(place) else {
+    for node_index in 0..page.len() {
+        let Some(element) = page.node(node_index) else {
             break;
         };
         sum = sum.saturating_add(winners(alloc, sheet, &element)?.len());

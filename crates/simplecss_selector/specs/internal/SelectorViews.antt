@@ -9,7 +9,7 @@ use Rattle.simplecss_text.specs.Components.Subselector.{attribute, pseudo_class}
 use Rattle.simplecss_selector.specs.internal.SelectorDrafts.{Drafted}
 use Rattle.simplecss_selector.specs.Shapes.{IsSelector}
 use Rattle.simplecss_selector.specs.internal.Stretches.{AreStretchEnds, all_stretch_ends}
-use Rattle.simplecss_selector.specs.declared.selector.Part.{Part}
+use Rattle.simplecss_selector.specs.declared.selector.FlatComponent.{FlatComponent}
 use Rattle.simplecss_selector.specs.declared.selector.SubSelector.{SubSelector}
 use Rattle.simplecss_selector.specs.declared.selector.SubSelector.TheVariants.{Attribute, PseudoClass}
 
@@ -17,8 +17,8 @@ abbrev pub subselector_of : SubSelector → Subselector
 subselector_of (Attribute name operator) = attribute name.now (operator_of operator)
 subselector_of (PseudoClass class) = pseudo_class (pseudo_class_of class)
 
-abbrev pub component_of_part : Part → List SubSelector → Component
-component_of_part p subselectors =
+abbrev pub component_of_flat : FlatComponent → List SubSelector → Component
+component_of_flat p subselectors =
     record {
       combinator = combinator_of p.combinator;
       compound =
@@ -26,31 +26,31 @@ component_of_part p subselectors =
     }
 
 -- the components, whose subselectors follow one another in the one list from index `start` on
-abbrev pub components_from : ℕ → List Part → List SubSelector → List Component
+abbrev pub components_from : ℕ → List FlatComponent → List SubSelector → List Component
 components_from start [] subselectors = []
 components_from start (p ∷ ps) subselectors =
-    component_of_part p (slice_range subselectors start p.end) ∷ components_from p.end ps subselectors
+    component_of_flat p (slice_range subselectors start p.end) ∷ components_from p.end ps subselectors
 
 -- the ends never fall from `start` on, and the last of them is `n`
-abbrev pub Tile : ℕ → List Part → ℕ → Type 0
+abbrev pub Tile : ℕ → List FlatComponent → ℕ → Type 0
 Tile start [] n = start ≡ n
 Tile start (p ∷ ps) n = (start ≤ p.end) × Tile p.end ps n
 
--- the end of the subselectors of the last of these parts
-abbrev pub last_end : ℕ → List Part → ℕ
+-- the end of the subselectors of the last of these components
+abbrev pub last_end : ℕ → List FlatComponent → ℕ
 last_end start [] = start
 last_end start (p ∷ ps) = last_end p.end ps
 
--- a draft of finished parts, and of one that has the subselectors after theirs
-abbrev pub drafted : List Part → List SubSelector → Part → Drafted
-drafted ps ss open_part = record {
+-- a draft of finished components, and of one that has the subselectors after theirs
+abbrev pub drafted : List FlatComponent → List SubSelector → FlatComponent → Drafted
+drafted ps ss unfinished = record {
   done = components_from 0 ps ss;
-  last = component_of_part open_part (slice_range ss (last_end 0 ps) open_part.end);
+  last = component_of_flat unfinished (slice_range ss (last_end 0 ps) unfinished.end);
 }
 
 -- The flat lists of a selector: its components, whose subselectors tile the `n` of the one list,
 -- and the ends of its stretches but the last.
-pub record IsFlat (ps : List Part) (ss : List SubSelector) (n : ℕ) (kept : List ℕ) : Type 0 where
+pub record IsFlat (ps : List FlatComponent) (ss : List SubSelector) (n : ℕ) (kept : List ℕ) : Type 0 where
   pub selector : IsSelector (components_from 0 ps ss)
   pub tiled : Tile 0 ps n
   pub stretches : AreStretchEnds (components_from 0 ps ss) (all_stretch_ends (components_from 0 ps ss) kept)

@@ -7,9 +7,9 @@ use Rattle.cssq.proofs.Indexed.{after}
 use Rattle.cssq.proofs.Listing.{Before}
 use Rattle.cssq.proofs.cascade.stated_at.Given as goal
 
--- what the rules up to the last place that was read state
-abbrev pub invariant-loop-place : goal.invariant-loop-place
-invariant-loop-place g l =
-    (l.place-index ≤ length l.places)
-    × ((element : g.E.Element.Node) → AreMatches g.E.Element.tree element (map (λ rule. rule.selector) l.rules) l.places
-    → ListsInOrder (Before (IsStated g.E.Element.tree element (rules_of l.rules)) (after l.places l.place-index)) (declarations_of l.all.items))
+-- what the rules up to the last index that was read state
+abbrev pub invariant-loop-index : goal.invariant-loop-index
+invariant-loop-index g l =
+    (l.index-index ≤ length l.indices)
+    × ((element : g.E.Element.Node) → AreMatches g.E.Element.tree element (map (λ rule. rule.selector) l.rules) l.indices
+    → ListsInOrder (Before (IsStated g.E.Element.tree element (rules_of l.rules)) (after l.indices l.index-index)) (declarations_of l.all.items))

@@ -11,8 +11,8 @@ use Rattle.cssq.proofs.cascade.stated_on.Goals.{then-matches+in_ok-extend_from_s
 
 pub loop-rule-init : goal.loop-rule-init
 loop-rule-init g c =
-    let stands = Before (IsStated g.E.Element.tree (g.E.Element.node c.args.element.now) (rules_of c.args.rules.now)) 0 in
-    subst (λ items. ListsInOrder stands (declarations_of items)) (sym c.new-all.ensures.items) (lists_before (IsStated g.E.Element.tree (g.E.Element.node c.args.element.now) (rules_of c.args.rules.now)))
+    let has = Before (IsStated g.E.Element.tree (g.E.Element.node c.args.element.now) (rules_of c.args.rules.now)) 0 in
+    subst (λ items. ListsInOrder has (declarations_of items)) (sym c.new-all.ensures.items) (lists_before (IsStated g.E.Element.tree (g.E.Element.node c.args.element.now) (rules_of c.args.rules.now)))
 
 pub loop-rule-preserved : goal.loop-rule-preserved
 loop-rule-preserved g c =

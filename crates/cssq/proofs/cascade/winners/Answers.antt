@@ -20,10 +20,10 @@ listed g c =
 
 pub returns-clause-winners : goal.returns-clause-winners
 returns-clause-winners g c =
-    let stands = IsStated g.E.Element.tree (g.E.Element.node c.args.element.now) (rules_in c.args.sheet.now) in
-    IfOk-weaker c.winners_of.result _ _ (λ all. has_winners stands (declarations_of all.items)) (listed g c)
+    let has = IsStated g.E.Element.tree (g.E.Element.node c.args.element.now) (rules_in c.args.sheet.now) in
+    IfOk-weaker c.winners_of.result _ _ (λ all. has_winners has (declarations_of all.items)) (listed g c)
 
 pub returns-clause-names : goal.returns-clause-names
 returns-clause-names g c =
-    let stands = IsStated g.E.Element.tree (g.E.Element.node c.args.element.now) (rules_in c.args.sheet.now) in
-    IfOk-weaker c.winners_of.result _ _ (λ all. own_names stands (declarations_of all.items)) (listed g c)
+    let has = IsStated g.E.Element.tree (g.E.Element.node c.args.element.now) (rules_in c.args.sheet.now) in
+    IfOk-weaker c.winners_of.result _ _ (λ all. own_names has (declarations_of all.items)) (listed g c)

@@ -7,8 +7,8 @@ use Rattle.cssq.proofs.BestIndices.{Kept}
 use Rattle.cssq.proofs.cascade.winners_of.Given as goal
 
 -- what wins of the declarations so far
-abbrev pub invariant-loop-place : goal.invariant-loop-place
-invariant-loop-place g l =
-    HasBestIndices l.places (declarations_of l.stated)
+abbrev pub invariant-loop-index : goal.invariant-loop-index
+invariant-loop-index g l =
+    HasBestIndices l.indices (declarations_of l.stated)
     × ((element : g.E.Element.Node) (rules : List StyleRule) (lists : ListsInOrder (IsStated g.E.Element.tree element rules) (declarations_of l.stated))
-    → ListsInOrder (Kept (IsStated g.E.Element.tree element rules) (declarations_of l.stated) lists l.place) (declarations_of l.all.items))
+    → ListsInOrder (Kept (IsStated g.E.Element.tree element rules) (declarations_of l.stated) lists l.index) (declarations_of l.all.items))

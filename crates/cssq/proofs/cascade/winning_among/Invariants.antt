@@ -8,8 +8,8 @@ use Rattle.cssq.specs.Winners.{IsStated}
 use Rattle.cssq.proofs.FromLast.{KnownFrom}
 use Rattle.cssq.proofs.cascade.winning_among.Given as goal
 
--- what wins in the rules from the last place that was looked at on
+-- what wins in the rules from the last index that was looked at on
 abbrev pub invariant-loop-i : goal.invariant-loop-i
 invariant-loop-i l =
-    (element : Spot) → AreMatches page_tree element (map (λ rule. rule.selector) l.rules) l.places
-    → KnownFrom (IsStated page_tree element (rules_of l.rules)) l.name (get_or l.places l.i (length (map (λ rule. rule.selector) l.rules))) (option_map declaration_of l.winner)
+    (element : Spot) → AreMatches page_tree element (map (λ rule. rule.selector) l.rules) l.indices
+    → KnownFrom (IsStated page_tree element (rules_of l.rules)) l.name (get_or l.indices l.i (length (map (λ rule. rule.selector) l.rules))) (option_map declaration_of l.winner)

@@ -3,7 +3,7 @@ use Rattle.cssq.proofs.MatchLines.{lines_more}
 use Rattle.cssq.proofs.runs.page_lines.Goals as goal
 
 -- the line of one more element
-pub loop-place-preserved : goal.loop-place-preserved
-loop-place-preserved c =
+pub loop-element-preserved : goal.loop-element-preserved
+loop-element-preserved c =
     let added = c.in_ok-push_element.ensures.reported in
-    (lines_more c.loop-place.invariant.0 added.0 (string_bytes c.push_element.new.out) added.1 added.2, c.in_ok-push_element.ensures.recent ∙ c.loop-place.invariant.1)
+    (lines_more c.loop-element.invariant.0 added.0 (string_bytes c.push_element.new.out) added.1 added.2, c.in_ok-push_element.ensures.recent ∙ c.loop-element.invariant.1)

@@ -9,8 +9,8 @@ returns c = λ depths is same.
     let all = map (λ string. string.now) c.args.strings.now in
     let limit : c.len.result ≡ limit_after depths = c.len.ensures ∙ c.args.path.now.ok.0 ∙ is.limit in
     let none : fault_in (length c.args.tree.now + 1) (limit_after depths) c.args.element all ≡ None =
-    ap (λ n. fault_in (n + 1) (limit_after depths) c.args.element all) (sym c.len-place.ensures)
-    ∙ ap (λ n. fault_in (c.len-place.result + 1) n c.args.element all) (sym limit)
+    ap (λ n. fault_in (n + 1) (limit_after depths) c.args.element all) (sym c.len-index.ensures)
+    ∙ ap (λ n. fault_in (c.len-index.result + 1) n c.args.element all) (sym limit)
     ∙ sym c.in_ok-fault.ensures ∙ c.in_default.is in
     let fits = sound (length c.args.tree.now + 1) (limit_after depths) c.args.element all none in
     let many : strings_of c.args.element ≤ length c.args.strings.now = omega (arith, fits.1, length-map c.args.strings.now (λ string. string.now)) in
@@ -20,7 +20,7 @@ returns c = λ depths is same.
       none,
       c.in_ok-add_element.ensures
           ∙ element_added c.args.tree.now depths c.args.element c.args.strings.now (record { ref_ptr = (0, 0); now = [] }) (omega (arith, many)) c.parent_of-parent.result (c.parent_of-parent.ensures depths path low_too),
-      path_more is c.args.element.depth c.len-place.result low (c.len-place.ensures ∙ sym same) c.push.new.self.items (c.in_ok-push.ensures.items ∙ ap (λ p. p ++ c.len-place.result ∷ []) c.truncate.ensures.items),
+      path_more is c.args.element.depth c.len-index.result low (c.len-index.ensures ∙ sym same) c.push.new.self.items (c.in_ok-push.ensures.items ∙ ap (λ p. p ++ c.len-index.result ∷ []) c.truncate.ensures.items),
       refl,
       many,
     )

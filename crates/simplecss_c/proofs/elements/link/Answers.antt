@@ -3,7 +3,7 @@ use Rattle.std.specs.Prelude.{[], Ok, Err}
 use Rattle.std.proofs.lemmas.List.{drop_more, length-map}
 use Rattle.simplecss_c.specs.declared.elements.TreeElement.{TreeElement}
 use Rattle.simplecss_c.specs.Elements.{Strings, limit_after, fault_in, with_element, tree_from}
-use Rattle.simplecss_c.proofs.Building.{strings_from_place, linked_more, linked_fault, length_with, handed_on}
+use Rattle.simplecss_c.proofs.Building.{strings_from_index, linked_more, linked_fault, length_with, handed_on}
 use Rattle.simplecss_c.proofs.elements.link.Goals as goal
 
 -- what is passed for an element that is not there
@@ -27,7 +27,7 @@ returns-in_err-next c =
     (λ fault. tree_from [] [] all c.args.elements.now ≡ Err fault)
     c.from_residual.ensures.1 (c.in_err-next.ensures so_far.depths so_far.path_is so_far.same)
     (λ fault due. linked_fault so_far element (drop (i + 1) c.args.elements.now) (drop_more c.args.elements.now i no_element c.loop-element-test.true) fault
-    (ap (fault_in (length c.loop-element.tree + 1) (limit_after so_far.depths) element) (sym (strings_from_place c.args.strings.now c.loop-element.next)) ∙ due))
+    (ap (fault_in (length c.loop-element.tree + 1) (limit_after so_far.depths) element) (sym (strings_from_index c.args.strings.now c.loop-element.next)) ∙ due))
 
 pub loop-element-preserved : goal.loop-element-preserved
 loop-element-preserved c =
@@ -35,7 +35,7 @@ loop-element-preserved c =
     let i = c.loop-element.element-index in
     let element = get_or c.args.elements.now i no_element in
     let next = c.loop-element.next in
-    let here = strings_from_place c.args.strings.now next in
+    let here = strings_from_index c.args.strings.now next in
     let added = c.in_ok-next.ensures so_far.depths so_far.path_is so_far.same in
     let low : c.in_ok-next.field-0 ≤ length (drop next (map (λ string. string.now) c.args.strings.now)) =
     omega (arith, added.4, ap length here, length-map (take (length c.args.strings.now - next) (drop next c.args.strings.now)) (λ string. string.now)) in (

@@ -4,19 +4,19 @@ use Rattle.simplecss.specs.DeclarationViews.{declaration_of}
 use Rattle.simplecss_c.specs.JsonLines.{declaration_object}
 use Rattle.simplecss_c.proofs.JsonTexts.{array_more}
 use Rattle.simplecss_c.proofs.json.push_declarations.Goals as goal
-use Rattle.simplecss_c.proofs.json.push_declarations.Goals.{then-place-gt0+in_ok-push-2, else-place-gt0}
+use Rattle.simplecss_c.proofs.json.push_declarations.Goals.{then-index-gt0+in_ok-push-2, else-index-gt0}
 
-pub loop-place-preserved : goal.loop-place-preserved
+pub loop-index-preserved : goal.loop-index-preserved
 unfolding encode
-loop-place-preserved c =
-    array_more declaration_object declaration_of c.args.declarations.now c.loop-place.place _ (string_bytes c.push.new.self) (string_bytes c.loop-place.out)
-    (string_bytes c.if-place-gt0.out) (string_bytes c.push_declaration.new.out) c.loop-place-test.true c.loop-place.invariant
-    (λ none. elim c.if-place-gt0.branch [
-      | then-place-gt0+in_ok-push-2 w ↦ absurd (omega (arith, w.if-place-gt0.true, none))
-      | else-place-gt0 w ↦ ap string_bytes w.out-is
+loop-index-preserved c =
+    array_more declaration_object declaration_of c.args.declarations.now c.loop-index.index _ (string_bytes c.push.new.self) (string_bytes c.loop-index.out)
+    (string_bytes c.if-index-gt0.out) (string_bytes c.push_declaration.new.out) c.loop-index-test.true c.loop-index.invariant
+    (λ none. elim c.if-index-gt0.branch [
+      | then-index-gt0+in_ok-push-2 w ↦ absurd (omega (arith, w.if-index-gt0.true, none))
+      | else-index-gt0 w ↦ ap string_bytes w.out-is
     ])
-    (λ some. elim c.if-place-gt0.branch [
-      | then-place-gt0+in_ok-push-2 w ↦ ap string_bytes w.out-is ∙ w.in_ok-push-2.ensures.bytes
-      | else-place-gt0 w ↦ absurd (omega (arith, w.if-place-gt0.false, some))
+    (λ some. elim c.if-index-gt0.branch [
+      | then-index-gt0+in_ok-push-2 w ↦ ap string_bytes w.out-is ∙ w.in_ok-push-2.ensures.bytes
+      | else-index-gt0 w ↦ absurd (omega (arith, w.if-index-gt0.false, some))
     ])
     c.in_ok-push_declaration.ensures

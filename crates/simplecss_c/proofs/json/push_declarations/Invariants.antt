@@ -6,7 +6,7 @@ use Rattle.simplecss_c.specs.JsonLines.{declaration_object}
 use Rattle.simplecss_c.proofs.json.push_declarations.Given as goal
 
 -- the declarations so far
-abbrev pub invariant-loop-place : goal.invariant-loop-place
-invariant-loop-place l =
+abbrev pub invariant-loop-index : goal.invariant-loop-index
+invariant-loop-index l =
     string_bytes l.out ≡ string_bytes l.initial.out
-    ++ join_with_byte comma (map declaration_object (declarations_of (take l.place l.declarations)))
+    ++ join_with_byte comma (map declaration_object (declarations_of (take l.index l.declarations)))

@@ -3,7 +3,7 @@ use Rattle.cssq.proofs.MatchLines.{lines_more}
 use Rattle.simplecss_c.proofs.pages.winner_lines.Goals as goal
 
 -- the line of one more element
-pub loop-place-preserved : goal.loop-place-preserved
-loop-place-preserved c =
+pub loop-element-preserved : goal.loop-element-preserved
+loop-element-preserved c =
     let added = c.in_ok-push_winning.ensures in
-    lines_more c.loop-place.invariant added.0 (string_bytes c.push_winning.new.out) added.1 added.2
+    lines_more c.loop-element.invariant added.0 (string_bytes c.push_winning.new.out) added.1 added.2

@@ -5,7 +5,7 @@ use Rattle.simplecss_c.specs.AnswerLines.{IsWinnersLine}
 use Rattle.simplecss_c.proofs.pages.winners_lines.Given as goal
 
 -- the lines of the elements so far, by the cascade of the rules
-abbrev pub invariant-loop-place : goal.invariant-loop-place
-invariant-loop-place l =
+abbrev pub invariant-loop-element : goal.invariant-loop-element
+invariant-loop-element l =
     (l.cascade ≡ rules_of l.rules)
-    × LinesSoFar (IsWinnersLine (rules_of l.rules) l.tree) l.place (string_bytes l.text)
+    × LinesSoFar (IsWinnersLine (rules_of l.rules) l.tree) l.element (string_bytes l.text)

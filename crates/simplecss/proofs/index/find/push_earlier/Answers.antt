@@ -9,7 +9,7 @@ back-init c =
 pub earlier-known-requires-in-Some : goal.earlier-known-requires-in-Some
 earlier-known-requires-in-Some c =
     let at = chain_at c.args.rule_index.now c.args.index c.args.indices.now.items c.back.indices.items c.back.known c.in-Some.other c.in-Some.is c.back.invariant in
-    let before = at.stands.0 in
+    let before = at.before.0 in
     let within = c.requires in
     omega (arith, before, within)
 

@@ -7,4 +7,4 @@ invariant_of-result c = rw c.len.ensures c.self.invariant
 pub returns : goal.returns
 returns c =
     let s = c.self.inside in
-    rw (c.len.ensures, ← c.self.view_is) (drafted-finished s.parts.items s.subselectors.items _)
+    rw (c.len.ensures, ← c.self.view_is) (drafted-finished s.front.items s.subselectors.items _)

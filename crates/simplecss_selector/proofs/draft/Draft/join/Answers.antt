@@ -7,8 +7,8 @@ use Rattle.simplecss_selector.proofs.draft.Draft.join.Goals.{After-pop}
 pub invariant_of-self : goal.invariant_of-self
 invariant_of-self c = rw c.in_err-push_few.ensures.err c.self.invariant
 
-unpushed : (c : After-pop) → c.pop.new.self.items ≡ c.self.inside.parts.items
-unpushed c = without_last c.self.inside.parts.items c.push_few.new.list.items c.pop.new.self.items _ (vec_len c.push_few.new.list) c.in_ok-push_few.ensures.ok c.push_few.new.list.ok.0 c.pop.ensures.rest
+unpushed : (c : After-pop) → c.pop.new.self.items ≡ c.self.inside.front.items
+unpushed c = without_last c.self.inside.front.items c.push_few.new.list.items c.pop.new.self.items _ (vec_len c.push_few.new.list) c.in_ok-push_few.ensures.ok c.push_few.new.list.ok.0 c.pop.ensures.rest
 
 pub invariant_of-self-in-Err : goal.invariant_of-self-in-Err
 invariant_of-self-in-Err c = rw (unpushed c, c.in-Err.ensures.err) c.self.invariant
@@ -27,4 +27,4 @@ invariant_of-self-2 c =
 pub returns-clause-ok : goal.returns-clause-ok
 returns-clause-ok c =
     let s = c.self.inside in
-    rw (c.in_ok-push_few.ensures.ok, c.len.ensures, ← c.self.view_is) (drafted-joined s.parts.items s.subselectors.items _ _ refl refl)
+    rw (c.in_ok-push_few.ensures.ok, c.len.ensures, ← c.self.view_is) (drafted-joined s.front.items s.subselectors.items _ _ refl refl)

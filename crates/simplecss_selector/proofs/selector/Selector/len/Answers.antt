@@ -5,9 +5,9 @@ use Rattle.simplecss_selector.proofs.selector.Selector.len.Goals as goal
 pub overflow_add-result : goal.overflow_add-result
 overflow_add-result c =
     let s = c.self.inside in
-    omega (arith, c.len.ensures, s.parts.ok.1, s.parts.small)
+    omega (arith, c.len.ensures, s.front.ok.1, s.front.small)
 
 pub returns : goal.returns
 returns c =
     let s = c.self.inside in
-    omega (arith, c.len.ensures, s.parts.ok.0, length_is s.parts.items _ s.subselectors.items c.args.self.now c.self.view_is)
+    omega (arith, c.len.ensures, s.front.ok.0, length_is s.front.items _ s.subselectors.items c.args.self.now c.self.view_is)

@@ -11,15 +11,15 @@ pub returns : goal.returns
 returns c =
     let s = c.self.inside in
     let ss = s.subselectors.items in
-    let parts = s.parts.items ++ s.last ∷ [] in
-    let tiled : Tile 0 parts (length ss) = rw (← s.subselectors.ok.0) c.self.invariant.tiled in
-    let ids = sum_by-components_from is_id 0 parts ss tiled in
-    let others = sum_by-components_from (λ x. not (is_id x)) 0 parts ss tiled in
-    let names = count_by-components_from 0 parts ss in
+    let flat = s.front.items ++ s.last ∷ [] in
+    let tiled : Tile 0 flat (length ss) = rw (← s.subselectors.ok.0) c.self.invariant.tiled in
+    let ids = sum_by-components_from is_id 0 flat ss tiled in
+    let others = sum_by-components_from (λ x. not (is_id x)) 0 flat ss tiled in
+    let names = count_by-components_from 0 flat ss in
     let both = count_by-not (λ x. is_id (subselector_of x)) ss in
     let id_count = ap (count_by (λ x. is_id (subselector_of x))) c.deref.ensures.value in
     let name_count = ap (count_by (λ p. is_some p.name)) c.deref-2.ensures.value in
-    let all_names = count_by-push (λ p. is_some p.name) s.parts.items s.last in
+    let all_names = count_by-push (λ p. is_some p.name) s.front.items s.last in
     let last = c.from.ensures ∙ bool_byte-is _ _ c.is_named.ensures in
     rw (← c.self.view_is) (three
     (c.at_most_255.ensures ∙ ap (min 255) (omega (arith, ids, id_count, c.id_count-ids.ensures)))
