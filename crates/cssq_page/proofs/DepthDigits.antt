@@ -8,20 +8,21 @@ use Rattle.std.specs.Str.{all_ascii_digits}
 use Rattle.std.specs.Str.Parse.{digits_value, ParsesUnsigned}
 use Rattle.std.specs.Result.{OkIff}
 use Rattle.std.proofs.lemmas.Str.Parse.{IsNumeralModel, numerals_by_value, tells_all_ascii_digits, parse_digits}
+use Rattle.simplecss_text.specs.AsciiBytes.{digit_zero}
 use Rattle.cssq_page.specs.TreeText.{is_depth, spelled_depth}
 
 all_digits : (bs : List ℕ) → list_all is_ascii_digit bs ≡ all_ascii_digits bs
 all_digits [] = refl
 all_digits (c ∷ cs) = ap (λ b. is_ascii_digit c && b) (all_digits cs)
 
-digits_from : (c : ℕ) (cs : List ℕ) → (first : Bool) → (c == 48) ≡ first → cond first (length cs == 0) (list_all is_ascii_digit (c ∷ cs)) ≡ true → all_ascii_digits (c ∷ cs) ≡ true
+digits_from : (c : ℕ) (cs : List ℕ) → (first : Bool) → (c == digit_zero) ≡ first → cond first (length cs == 0) (list_all is_ascii_digit (c ∷ cs)) ≡ true → all_ascii_digits (c ∷ cs) ≡ true
 digits_from c [] true zero ok = grind arith
 digits_from c (d ∷ cs) true zero ok = grind arith
 digits_from c cs false other ok = sym (all_digits (c ∷ cs)) ∙ ok
 
 pub digits : (bs : List ℕ) → is_depth bs ≡ true → (all_ascii_digits bs ≡ true) × (0 < length bs)
 digits [] ok = absurd (cc)
-digits (c ∷ cs) ok = (digits_from c cs (c == 48) refl ok, omega arith)
+digits (c ∷ cs) ok = (digits_from c cs (c == digit_zero) refl ok, omega arith)
 
 own : IsNumeralModel (λ ds. all_ascii_digits ds ≡ true) (digits_value 10)
 own = numerals_by_value _ tells_all_ascii_digits
@@ -37,6 +38,6 @@ depth_unparsed {E} limit bs r e parsed ok was fits =
     let refused = subst (λ r. OkIff r ((0 < length bs) × (digits_value 10 bs < 2 ^ 64)) (digits_value 10 bs)) was (reads bs r parsed ok) in
     grind arith
 
-pub depth_digits : (bs : List ℕ) → 0 < length bs → (get_or bs 0 0 ≡ 48 → ⊥) → list_all is_ascii_digit bs ≡ is_depth bs
+pub depth_digits : (bs : List ℕ) → 0 < length bs → (get_or bs 0 0 ≡ digit_zero → ⊥) → list_all is_ascii_digit bs ≡ is_depth bs
 depth_digits [] some other = absurd (omega arith)
 depth_digits (c ∷ cs) some other = grind arith

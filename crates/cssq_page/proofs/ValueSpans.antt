@@ -7,6 +7,7 @@ use Rattle.std.proofs.lemmas.List.{length-take-le, length-drop, get_or-take, dro
 use Rattle.std.proofs.lemmas.List.Sums.{passes_at_first, prefix_len-le-length}
 use Rattle.std.proofs.lemmas.Grind.{common_steps}
 use Rattle.std.proofs.lemmas.Str.{IsCharBoundary-after_ascii}
+use Rattle.simplecss_text.specs.AsciiBytes.{equals_sign, tab as tab_byte}
 use Rattle.cssq_page.specs.TreeText.{is_tab, is_equals, key_of, value_of, has_equals}
 use Rattle.cssq_page.specs.internal.Spans.{IsAt, IsCut, IsEnd}
 
@@ -60,7 +61,7 @@ module _ (all t field : List ℕ) (shorter : length t ≤ length all) (end : dro
   equals_there : get_or all (length all - length t + equals) 0 < 128
   equals_there =
       let found = passes_at_first is_equals field 0 equals_within in
-      let byte : get_or field equals 0 ≡ 61 = eqb-true (get_or field equals 0) 61 found in
+      let byte : get_or field equals 0 ≡ equals_sign = eqb-true (get_or field equals 0) equals_sign found in
       let inside : equals < tab = omega (arith, equals_within, field_len) in
       let front : get_or field equals 0 ≡ get_or t equals 0 = ap (λ f. get_or f equals 0) cut ∙ get_or-take tab t equals 0 inside in
       let whole : get_or t equals 0 ≡ get_or all (length all - length t + equals) 0 = ap (λ l. get_or l equals 0) (sym end) ∙ get_or_drop (length all - length t) equals all in
@@ -72,7 +73,7 @@ module _ (all t field : List ℕ) (shorter : length t ≤ length all) (end : dro
   tab_there : (n : ℕ) → n ≡ tab → n < length t → get_or t n 0 < 128
   tab_there n is lt =
       let found = passes_at_first is_tab t 0 (omega (arith, is)) in
-      omega (arith, eqb-true (get_or t tab 0) 9 found, ap (λ k. get_or t k 0) is)
+      omega (arith, eqb-true (get_or t tab 0) tab_byte found, ap (λ k. get_or t k 0) is)
 
   ends : IsCharBoundary (drop (equals + 1) t) (length (value_of field))
   ends = (

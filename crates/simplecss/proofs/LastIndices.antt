@@ -12,6 +12,7 @@ use Rattle.std.proofs.lemmas.Bool.{false≢true}
 use Rattle.std.proofs.lemmas.List.Elements.{Contains-append_left, Contains-append_right, Contains-append_cases, Contains-push, Contains-push_cases}
 use Rattle.std.proofs.lemmas.Map.Text.{btree_map_updates_str}
 use Rattle.std.proofs.lemmas.Slice.Eq.{bytes_eq-Decides}
+use Rattle.simplecss_text.specs.AsciiBytes.{space}
 use Rattle.simplecss_text.specs.Components.Operator.{equals, has_word}
 use Rattle.simplecss_selector.specs.Keys.{Key, Reported, reports_key, has_satisfying_value}
 use Rattle.simplecss_selector.specs.Keys.Key.{by_id, by_class, by_name, by_attribute, by_nothing}
@@ -114,7 +115,7 @@ class_more lasts words word a b c before more = adds_as a c (λ index. (there in
     back : (index : ℕ) → OfClasses lasts (words ++ word ∷ []) index → OfClasses lasts words index ⊎ (last_for lasts (by_class word) ≡ Some index)
     back index h = at index h.0 h.2 (Contains-push_cases words word h.0 h.1)
 
-pub all_classes : (lasts : LastByKey) (words : List (List ℕ)) (value : List ℕ) (a b : List ℕ) → words ≡ slice_split (λ byte. eqb byte 32) value → Adds a b (OfClasses lasts words) → Adds a b (ClassLeads lasts (Some value))
+pub all_classes : (lasts : LastByKey) (words : List (List ℕ)) (value : List ℕ) (a b : List ℕ) → words ≡ slice_split (λ byte. eqb byte space) value → Adds a b (OfClasses lasts words) → Adds a b (ClassLeads lasts (Some value))
 all_classes lasts words value a b e = adds_as a b (λ index. (
   λ h. (h.0, subst (λ ws. list_any (λ entry. bytes_eq entry h.0) ws ≡ true) e ((word_test words h.0).0 h.1), h.2),
   λ h. (h.0, (word_test words h.0).1 (subst (λ ws. list_any (λ entry. bytes_eq entry h.0) ws ≡ true) (sym e) h.1), h.2),

@@ -4,6 +4,7 @@
 use Rattle.std.proofs.Common.{◌≡◌, ◌==◌, ◌||◌, not, ℕ, ◌<◌, List, [], ◌∷◌, ◌++◌, Bool, true, false, if◌then◌else◌, length, Option, Some, None, option_to_list, refl, sym, ap, ◌∙◌, arith, inl, inr, subst, MatchBool, IsTrue, ◌↔◌}
 use Rattle.std.proofs.lemmas.Bool.Decides.{nat_tests}
 use Rattle.std.specs.List.{filter_map, flat_map}
+use Rattle.simplecss_text.specs.AsciiBytes.{comma}
 use Rattle.simplecss_text.specs.Reading.{Fault, no_comment, got, fails, each}
 use Rattle.simplecss_text.specs.Bytes.{past_one, starts}
 use Rattle.simplecss_text.specs.Characters.{Edition}
@@ -17,9 +18,9 @@ use Rattle.simplecss_text.proofs.reading.StatementTextLemmas.{part_and_comma-tak
 -- ---- parts
 
 abbrev with_comma : Option (List Component) × List ℕ → Option (Option (List Component) × List ℕ)
-with_comma p = if starts 44 p.1 then Some (p.0, past_one p.1) else None
+with_comma p = if starts comma p.1 then Some (p.0, past_one p.1) else None
 
-part_and_comma-some : (edition : Edition) (here rest : List ℕ) (o : Option (List Component)) → part edition here ≡ (o, rest) → starts 44 rest ≡ true → part_and_comma edition here ≡ Some (o, past_one rest)
+part_and_comma-some : (edition : Edition) (here rest : List ℕ) (o : Option (List Component)) → part edition here ≡ (o, rest) → starts comma rest ≡ true → part_and_comma edition here ≡ Some (o, past_one rest)
 part_and_comma-some edition here rest o p e = ap with_comma p ∙ rw e refl
 
 first-some : (o : Option (List Component)) (more : List (Option (List Component))) → filter_map (λ s. s) (o ∷ more) ≡ option_to_list o ++ filter_map (λ s. s) more
@@ -34,7 +35,7 @@ abbrev finished : Edition → List (Option (List Component)) × List ℕ → Lis
 finished edition listed = (filter_map (λ selector. selector) (listed.0 ++ (part edition listed.1).0 ∷ []), (part edition listed.1).1)
 
 -- a part with a comma after it
-pub parts-some : (edition : Edition) (here rest : List ℕ) (o : Option (List Component)) → part edition here ≡ (o, rest) → starts 44 rest ≡ true
+pub parts-some : (edition : Edition) (here rest : List ℕ) (o : Option (List Component)) → part edition here ≡ (o, rest) → starts comma rest ≡ true
     → parts edition here ≡ (option_to_list o ++ (parts edition (past_one rest)).0, (parts edition (past_one rest)).1)
 unfolding parts
 parts-some edition here rest o p e =
@@ -43,7 +44,7 @@ parts-some edition here rest o p e =
     ∙ ap (λ (l : List (List Component)). (l, (part edition more.1).1)) (first-some o (more.0 ++ (part edition more.1).0 ∷ []))
 
 -- the last part
-pub parts-last : (edition : Edition) (here rest : List ℕ) (o : Option (List Component)) → part edition here ≡ (o, rest) → starts 44 rest ≡ false → parts edition here ≡ (option_to_list o, rest)
+pub parts-last : (edition : Edition) (here rest : List ℕ) (o : Option (List Component)) → part edition here ≡ (o, rest) → starts comma rest ≡ false → parts edition here ≡ (option_to_list o, rest)
 unfolding parts
 parts-last edition here rest o p e =
     let none : part_and_comma edition here ≡ None = ap with_comma p ∙ rw e refl in
@@ -51,7 +52,7 @@ parts-last edition here rest o p e =
     ∙ ap (λ (q : Option (List Component) × List ℕ). (filter_map (λ s. s) (q.0 ∷ []), q.1)) p
     ∙ ap (λ (l : List (List Component)). (l, rest)) (only-some o)
 
-pub parts-less : (edition : Edition) (here rest : List ℕ) (o : Option (List Component)) → part edition here ≡ (o, rest) → starts 44 rest ≡ true → length (past_one rest) < length here
+pub parts-less : (edition : Edition) (here rest : List ℕ) (o : Option (List Component)) → part edition here ≡ (o, rest) → starts comma rest ≡ true → length (past_one rest) < length here
 parts-less edition here rest o p e = took (part_and_comma edition) (part_and_comma-takes edition) here (past_one rest) o (part_and_comma-some edition here rest o p e)
 
 pub pair-of : {A B : Type 0} {a : A} {b : B} {r : A × B} → a ≡ r.0 → b ≡ r.1 → r ≡ (a, b)

@@ -11,7 +11,7 @@ use Rattle.std.proofs.lemmas.List.Edits.{between_more, between_none}
 use Rattle.std.proofs.lemmas.Slice.{between_to_end}
 use Rattle.std.proofs.lemmas.Bool.Decides.{nat_tests}
 use Rattle.std.proofs.lemmas.Str.{IsCharBoundary-start, IsCharBoundary-after_ascii}
-use Rattle.simplecss.specs.AsciiBytes.{comma}
+use Rattle.simplecss.specs.AsciiBytes.{close_bracket, comma}
 use Rattle.simplecss.specs.Components.{Component}
 use Rattle.simplecss.specs.Printing.{selector_text}
 use Rattle.simplecss.specs.Specificity.{specificity}
@@ -139,18 +139,18 @@ line_more f g ds index d out all less so_far wrote =
 -- ---- a selector
 
 numbers_joined : (out text a b d : List ℕ)
-    → ((out ++ codes "\"selector\":") ++ text) ++ (codes ",\"specificity\":[" ++ (a ++ (44 ∷ (b ++ (44 ∷ (d ++ 93 ∷ []))))))
+    → ((out ++ codes "\"selector\":") ++ text) ++ (codes ",\"specificity\":[" ++ (a ++ (comma ∷ (b ++ (comma ∷ (d ++ close_bracket ∷ []))))))
     ≡ out ++ members (member (codes "selector") text ∷ member (codes "specificity") (array (a ∷ b ∷ d ∷ [])) ∷ [])
 numbers_joined out text a b d = simp append_assoc
 
 -- the members of a selector, of which the printed text was written before the numbers
 pub selector_written : (selector : List Component) (out key text numbers : List ℕ) → numbers ≡ specificity selector
     → key ≡ out ++ codes "\"selector\":" → text ≡ key ++ string (selector_text selector)
-    → text ++ (codes ",\"specificity\":[" ++ (decimal (get_or numbers 0 0) ++ (44 ∷ (decimal (get_or numbers 1 0) ++ (44 ∷ (decimal (get_or numbers 2 0) ++ 93 ∷ []))))))
+    → text ++ (codes ",\"specificity\":[" ++ (decimal (get_or numbers 0 0) ++ (comma ∷ (decimal (get_or numbers 1 0) ++ (comma ∷ (decimal (get_or numbers 2 0) ++ close_bracket ∷ []))))))
     ≡ out ++ members (selector_members selector)
 selector_written selector out key text numbers are before after =
-    ap (λ v. text ++ (codes ",\"specificity\":[" ++ (decimal (get_or v 0 0) ++ (44 ∷ (decimal (get_or v 1 0) ++ (44 ∷ (decimal (get_or v 2 0) ++ 93 ∷ []))))))) are
-    ∙ ap (λ t. t ++ (codes ",\"specificity\":[" ++ (decimal (get_or (specificity selector) 0 0) ++ (44 ∷ (decimal (get_or (specificity selector) 1 0) ++ (44 ∷ (decimal (get_or (specificity selector) 2 0) ++ 93 ∷ []))))))) (after ∙ ap (λ t. t ++ string (selector_text selector)) before)
+    ap (λ v. text ++ (codes ",\"specificity\":[" ++ (decimal (get_or v 0 0) ++ (comma ∷ (decimal (get_or v 1 0) ++ (comma ∷ (decimal (get_or v 2 0) ++ close_bracket ∷ []))))))) are
+    ∙ ap (λ t. t ++ (codes ",\"specificity\":[" ++ (decimal (get_or (specificity selector) 0 0) ++ (comma ∷ (decimal (get_or (specificity selector) 1 0) ++ (comma ∷ (decimal (get_or (specificity selector) 2 0) ++ close_bracket ∷ []))))))) (after ∙ ap (λ t. t ++ string (selector_text selector)) before)
     ∙ numbers_joined out (string (selector_text selector)) (decimal (get_or (specificity selector) 0 0)) (decimal (get_or (specificity selector) 1 0)) (decimal (get_or (specificity selector) 2 0))
 
 -- ---- a rule

@@ -7,6 +7,7 @@ use Rattle.std.proofs.lemmas.List.Sums.{sum_by-take-drop, sum_by-append}
 use mir.Val.{bool_byte}
 use Rattle.std.specs.List.{prefix_len}
 use Rattle.std.specs.Str.{IsCharBoundary}
+use Rattle.simplecss_text.specs.AsciiBytes.{close_brace, open_brace}
 use Rattle.simplecss_text.specs.Reading.{Reading, got, fails, found, each, followed_by}
 use Rattle.simplecss_text.specs.Bytes.{past_byte, after_byte}
 use Rattle.simplecss_text.specs.Characters.{Edition}
@@ -58,7 +59,7 @@ same_test a b c d there back = by (a == b) (c == d) refl refl
 -- The block in which the text begins is not closed before the offset, and `depth` of those that
 -- begin before it are open there.
 pub record IsInside (text : List ℕ) (offset depth : ℕ) : Type 0 where
-  pub counts : depth + count_of 125 (take offset text) ≡ count_of 123 (take offset text)
+  pub counts : depth + count_of close_brace (take offset text) ≡ count_of open_brace (take offset text)
   pub none : (k : ℕ) → k < offset → closes_block text k ≡ false
 
 -- `n` bytes from an offset on are a part of the text
@@ -81,16 +82,16 @@ closes_block-part : (text part : List ℕ) (offset depth k : ℕ) → IsInside t
 closes_block-part text part offset depth k inside p h =
     let front : take k part ≡ take k (drop offset text) = ap (take k) p ∙ take-take k (length part) (drop offset text) (omega arith) in
     let byte : get_or part k 0 ≡ get_or text (offset + k) 0 = ap (λ t. get_or t k 0) p ∙ get_or-take (length part) (drop offset text) k 0 h ∙ get_or-drop offset text k 0 in
-    let begun : count_of 123 (take (offset + k) text) ≡ count_of 123 (take offset text) + count_of 123 (take k part) = count_of-take-add 123 text offset k ∙ ap (λ t. count_of 123 (take offset text) + count_of 123 t) (sym front) in
-    let ended : count_of 125 (take (offset + k) text) ≡ count_of 125 (take offset text) + count_of 125 (take k part) = count_of-take-add 125 text offset k ∙ ap (λ t. count_of 125 (take offset text) + count_of 125 t) (sym front) in
-    let even : (count_of 123 (take (offset + k) text) == count_of 125 (take (offset + k) text)) ≡ (depth + count_of 123 (take k part) == count_of 125 (take k part)) =
+    let begun : count_of open_brace (take (offset + k) text) ≡ count_of open_brace (take offset text) + count_of open_brace (take k part) = count_of-take-add open_brace text offset k ∙ ap (λ t. count_of open_brace (take offset text) + count_of open_brace t) (sym front) in
+    let ended : count_of close_brace (take (offset + k) text) ≡ count_of close_brace (take offset text) + count_of close_brace (take k part) = count_of-take-add close_brace text offset k ∙ ap (λ t. count_of close_brace (take offset text) + count_of close_brace t) (sym front) in
+    let even : (count_of open_brace (take (offset + k) text) == count_of close_brace (take (offset + k) text)) ≡ (depth + count_of open_brace (take k part) == count_of close_brace (take k part)) =
     same_test _ _ _ _ (λ e. omega (arith, inside.counts)) (λ e. omega (arith, inside.counts)) in
-    ap (λ b. b == 125 && count_of 123 (take (offset + k) text) == count_of 125 (take (offset + k) text)) (sym byte) ∙ ap (λ t. get_or part k 0 == 125 && t) even
+    ap (λ b. b == close_brace && count_of open_brace (take (offset + k) text) == count_of close_brace (take (offset + k) text)) (sym byte) ∙ ap (λ t. get_or part k 0 == close_brace && t) even
 
 -- after a part of the text in which nothing closes the block
 pub inside-passed : (text part : List ℕ) (offset depth after : ℕ) → IsInside text offset depth → part ≡ take (length part) (drop offset text) → ClosesNowhere depth part after → IsInside text (offset + length part) after
 inside-passed text part offset depth after inside p nowhere = record {
-  counts = omega (arith, inside.counts, nowhere.counts, count_of-take-add 123 text offset (length part), count_of-take-add 125 text offset (length part), ap (count_of 123) p, ap (count_of 125) p);
+  counts = omega (arith, inside.counts, nowhere.counts, count_of-take-add open_brace text offset (length part), count_of-take-add close_brace text offset (length part), ap (count_of open_brace) p, ap (count_of close_brace) p);
   none = λ k h. by k h (nat_lt k offset) refl;
 }
   where
@@ -127,7 +128,7 @@ boundary_at_block_end text = (
   least-le (closes_block text) (length text),
   λ h wide.
       let here : closes_block text (block_end text) ≡ true = least-passes (closes_block text) (length text) h in
-      let brace : slice_index text (block_end text) ≡ 125 = eqb-true (slice_index text (block_end text)) 125 (first-true (slice_index text (block_end text) == 125) (count_of 123 (take (block_end text) text) == count_of 125 (take (block_end text) text)) here) in
+      let brace : slice_index text (block_end text) ≡ close_brace = eqb-true (slice_index text (block_end text)) close_brace (first-true (slice_index text (block_end text) == close_brace) (count_of open_brace (take (block_end text) text) == count_of close_brace (take (block_end text) text)) here) in
       absurd (omega (arith, brace)),
 )
 
@@ -152,12 +153,12 @@ list-broken edition text left h = each-none (declaration_in_block edition) text 
 pub past_list-end : (edition : Edition) (text : List ℕ) → ends_list text ≡ true → past_list edition text ≡ text
 past_list-end edition text e = rw e refl
 
-pub past_list-broken : (edition : Edition) (text left : List ℕ) → ends_list text ≡ false → FailsAt (declaration edition text) left → past_list edition text ≡ past_byte 125 (from_block_end left)
+pub past_list-broken : (edition : Edition) (text left : List ℕ) → ends_list text ≡ false → FailsAt (declaration edition text) left → past_list edition text ≡ past_byte close_brace (from_block_end left)
 past_list-broken edition text left e h = rw e (by (declaration edition text) h)
   where
-    by : (r : Reading StyleDeclaration) → FailsAt r left → past_broken r ≡ past_byte 125 (from_block_end left)
+    by : (r : Reading StyleDeclaration) → FailsAt r left → past_broken r ≡ past_byte close_brace (from_block_end left)
     by (got p rest) h = absurd h
-    by (fails fault rest) h = ap (λ (t : List ℕ). past_byte 125 (from_block_end t)) (sym h)
+    by (fails fault rest) h = ap (λ (t : List ℕ). past_byte close_brace (from_block_end t)) (sym h)
 
 -- ---- the block of a rule set
 
@@ -166,39 +167,39 @@ abbrev block_after : Edition → Option (List ℕ) → List StyleDeclaration × 
 block_after edition None = ([], [])
 block_after edition (Some text) = block edition text
 
-next_block-after : (edition : Edition) (text : List ℕ) → next_block edition text ≡ block_after edition (after_byte 123 text)
+next_block-after : (edition : Edition) (text : List ℕ) → next_block edition text ≡ block_after edition (after_byte open_brace text)
 unfolding next_block
 next_block-after edition [] = refl
-next_block-after edition (b ∷ text) = by (b == 123) refl (next_block-after edition text)
+next_block-after edition (b ∷ text) = by (b == open_brace) refl (next_block-after edition text)
   where
-    by : (t : Bool) → (b == 123) ≡ t → next_block edition text ≡ block_after edition (after_byte 123 text) → next_block edition (b ∷ text) ≡ block_after edition (after_byte 123 (b ∷ text))
+    by : (t : Bool) → (b == open_brace) ≡ t → next_block edition text ≡ block_after edition (after_byte open_brace text) → next_block edition (b ∷ text) ≡ block_after edition (after_byte open_brace (b ∷ text))
     by true e more = rw (e, e) refl
     by false e more =
-        let one : 1 + prefix_len (λ b. not (b == 123)) text ≡ suc (prefix_len (λ b. not (b == 123)) text) = omega arith in
+        let one : 1 + prefix_len (λ b. not (b == open_brace)) text ≡ suc (prefix_len (λ b. not (b == open_brace)) text) = omega arith in
         rw (e, one) more
 
-pub next_block-some : (edition : Edition) (text rest : List ℕ) → after_byte 123 text ≡ Some rest → next_block edition text ≡ block edition rest
+pub next_block-some : (edition : Edition) (text rest : List ℕ) → after_byte open_brace text ≡ Some rest → next_block edition text ≡ block edition rest
 next_block-some edition text rest e = next_block-after edition text ∙ ap (block_after edition) e
 
-pub next_block-none : (edition : Edition) (text : List ℕ) → after_byte 123 text ≡ None → next_block edition text ≡ ([], [])
+pub next_block-none : (edition : Edition) (text : List ℕ) → after_byte open_brace text ≡ None → next_block edition text ≡ ([], [])
 next_block-none edition text e = next_block-after edition text ∙ ap (block_after edition) e
 
 -- where no broken declaration ends the list of declarations
-pub block-ended : (edition : Edition) (text left rest : List ℕ) (front : List StyleDeclaration) → front ≡ (each (declaration_in_block edition) text).0 → EndsAt edition (each (declaration_in_block edition) text).1 None left → rest ≡ past_byte 125 left → block edition text ≡ (front, rest)
+pub block-ended : (edition : Edition) (text left rest : List ℕ) (front : List StyleDeclaration) → front ≡ (each (declaration_in_block edition) text).0 → EndsAt edition (each (declaration_in_block edition) text).1 None left → rest ≡ past_byte close_brace left → block edition text ≡ (front, rest)
 unfolding block
 block-ended edition text left rest front f h r =
     let here = (each (declaration_in_block edition) text).1 in
-    ap (λ (x : List StyleDeclaration). (x, past_byte 125 (past_list edition here))) (sym f)
-    ∙ ap (λ (t : List ℕ). (front, past_byte 125 t)) (past_list-end edition here h.0 ∙ sym h.1)
+    ap (λ (x : List StyleDeclaration). (x, past_byte close_brace (past_list edition here))) (sym f)
+    ∙ ap (λ (t : List ℕ). (front, past_byte close_brace t)) (past_list-end edition here h.0 ∙ sym h.1)
     ∙ ap (λ (t : List ℕ). (front, t)) (sym r)
 
 -- where a broken declaration ends it
-pub block-broken : (edition : Edition) (text begun left rest : List ℕ) (front : List StyleDeclaration) → front ≡ (each (declaration_in_block edition) text).0 → EndsAt edition (each (declaration_in_block edition) text).1 (Some begun) left → rest ≡ past_byte 125 (past_byte 125 (from_block_end left)) → block edition text ≡ (front, rest)
+pub block-broken : (edition : Edition) (text begun left rest : List ℕ) (front : List StyleDeclaration) → front ≡ (each (declaration_in_block edition) text).0 → EndsAt edition (each (declaration_in_block edition) text).1 (Some begun) left → rest ≡ past_byte close_brace (past_byte close_brace (from_block_end left)) → block edition text ≡ (front, rest)
 unfolding block
 block-broken edition text begun left rest front f h r =
     let here = (each (declaration_in_block edition) text).1 in
-    ap (λ (x : List StyleDeclaration). (x, past_byte 125 (past_list edition here))) (sym f)
-    ∙ ap (λ (t : List ℕ). (front, past_byte 125 t)) (past_list-broken edition here left h.0 h.2)
+    ap (λ (x : List StyleDeclaration). (x, past_byte close_brace (past_list edition here))) (sym f)
+    ∙ ap (λ (t : List ℕ). (front, past_byte close_brace t)) (past_list-broken edition here left h.0 h.2)
     ∙ ap (λ (t : List ℕ). (front, t)) (sym r)
 
 -- ---- what a block skips
@@ -228,19 +229,19 @@ abbrev skips_after : Edition → Option (List ℕ) → List Skip
 skips_after edition None = []
 skips_after edition (Some text) = block_skips edition text
 
-next_block_skips-after : (edition : Edition) (text : List ℕ) → next_block_skips edition text ≡ skips_after edition (after_byte 123 text)
+next_block_skips-after : (edition : Edition) (text : List ℕ) → next_block_skips edition text ≡ skips_after edition (after_byte open_brace text)
 unfolding next_block_skips
 next_block_skips-after edition [] = refl
-next_block_skips-after edition (b ∷ text) = by (b == 123) refl (next_block_skips-after edition text)
+next_block_skips-after edition (b ∷ text) = by (b == open_brace) refl (next_block_skips-after edition text)
   where
-    by : (t : Bool) → (b == 123) ≡ t → next_block_skips edition text ≡ skips_after edition (after_byte 123 text) → next_block_skips edition (b ∷ text) ≡ skips_after edition (after_byte 123 (b ∷ text))
+    by : (t : Bool) → (b == open_brace) ≡ t → next_block_skips edition text ≡ skips_after edition (after_byte open_brace text) → next_block_skips edition (b ∷ text) ≡ skips_after edition (after_byte open_brace (b ∷ text))
     by true e more = rw (e, e) refl
     by false e more =
-        let one : 1 + prefix_len (λ b. not (b == 123)) text ≡ suc (prefix_len (λ b. not (b == 123)) text) = omega arith in
+        let one : 1 + prefix_len (λ b. not (b == open_brace)) text ≡ suc (prefix_len (λ b. not (b == open_brace)) text) = omega arith in
         rw (e, one) more
 
-pub next_block_skips-some : (edition : Edition) (text rest : List ℕ) → after_byte 123 text ≡ Some rest → next_block_skips edition text ≡ block_skips edition rest
+pub next_block_skips-some : (edition : Edition) (text rest : List ℕ) → after_byte open_brace text ≡ Some rest → next_block_skips edition text ≡ block_skips edition rest
 next_block_skips-some edition text rest e = next_block_skips-after edition text ∙ ap (skips_after edition) e
 
-pub next_block_skips-none : (edition : Edition) (text : List ℕ) → after_byte 123 text ≡ None → next_block_skips edition text ≡ []
+pub next_block_skips-none : (edition : Edition) (text : List ℕ) → after_byte open_brace text ≡ None → next_block_skips edition text ≡ []
 next_block_skips-none edition text e = next_block_skips-after edition text ∙ ap (skips_after edition) e

@@ -3,6 +3,7 @@
 use Rattle.std.proofs.Common.{◌≡◌, ℕ, ◌<◌, ◌-◌, List, [], ◌∷◌, Bool, true, false, length, take, refl, sym, ap, ◌∙◌, subst, arith, length-take-le, slice_range}
 use Rattle.std.specs.Str.{trim, IsUtf8, IsCharBoundary}
 use Rattle.std.proofs.lemmas.Str.{IsCharBoundary-at_seam}
+use Rattle.simplecss_text.specs.AsciiBytes.{asterisk, colon as colon_byte, semicolon as semicolon_byte}
 use Rattle.simplecss_text.specs.Reading.{Fault, got, fails, each, followed_by, before, Ends}
 use Rattle.simplecss_text.specs.Bytes.{starts, past_one, past_byte, byte}
 use Rattle.simplecss_text.specs.Characters.{Edition}
@@ -36,13 +37,13 @@ value-done edition text end here rest fault last left e =
     let at : (each (term_in_value edition) text).1 ≡ here = sym left ∙ ap (λ r. r.1) none in
     rw (ended, at, e) refl
 
-pub semicolons-some : (text : List ℕ) → starts 59 text ≡ true → (each semicolon text).1 ≡ (each semicolon (past_blank (past_one text))).1
+pub semicolons-some : (text : List ℕ) → starts semicolon_byte text ≡ true → (each semicolon text).1 ≡ (each semicolon (past_blank (past_one text))).1
 semicolons-some text e = ap (λ r. r.1) (each-some semicolon semicolon-takes text (past_blank (past_one text)) tt (rw e refl))
 
-pub semicolons-none : (text : List ℕ) → starts 59 text ≡ false → (each semicolon text).1 ≡ text
+pub semicolons-none : (text : List ℕ) → starts semicolon_byte text ≡ false → (each semicolon text).1 ≡ text
 semicolons-none text e = ap (λ r. r.1) (each-none semicolon text (rw e refl))
 
-pub semicolon-less : (text : List ℕ) → starts 59 text ≡ true → length (past_blank (past_one text)) < length text
+pub semicolon-less : (text : List ℕ) → starts semicolon_byte text ≡ true → length (past_blank (past_one text)) < length text
 semicolon-less text e = took semicolon semicolon-takes text (past_blank (past_one text)) tt (rw e refl)
 
 -- a text may be cut where an end of it begins
@@ -61,19 +62,19 @@ trimmed text rest ranged result r t = t ∙ ap (λ (v : List ℕ). trim v) (r �
 -- The name of a declaration is before what follows its colon, if each was read from what the one
 -- before it left.
 pub stated_name-slices : (text a b n c d e rest : List ℕ) (edition : Edition)
-    → blank text ≡ got tt a → b ≡ past_byte 42 a → name edition b ≡ got n c
-    → blank c ≡ got tt d → byte 58 d ≡ got tt e → blank e ≡ got tt rest
+    → blank text ≡ got tt a → b ≡ past_byte asterisk a → name edition b ≡ got n c
+    → blank c ≡ got tt d → byte colon_byte d ≡ got tt e → blank e ≡ got tt rest
     → StandBetween text rest (n ∷ [])
 stated_name-slices text a b n c d e rest edition e1 e2 e3 e4 e5 e6 =
     let front : Ends text b =
     ends-ends text a b (ends-got text no_texts (blank text) tt a (blank-stands text) e1)
-    (subst (λ (t : List ℕ). Ends a t) (sym e2) (ends-past_byte 42 a)) in
+    (subst (λ (t : List ℕ). Ends a t) (sym e2) (ends-past_byte asterisk a)) in
     let named : StandBetween text c (n ∷ []) =
     stand-from text b c (n ∷ []) front
     (stands-got b itself (name edition b) n c (name-stands edition b) e3) in
     let colon : Ends c e =
     ends-ends c d e (ends-got c no_texts (blank c) tt d (blank-stands c) e4)
-    (ends-got d no_texts (byte 58 d) tt e (byte-stands 58 d) e5) in
+    (ends-got d no_texts (byte colon_byte d) tt e (byte-stands colon_byte d) e5) in
     stand-to text c rest (n ∷ []) named
     (ends-ends c e rest colon (ends-got e no_texts (blank e) tt rest (blank-stands e) e6))
 

@@ -13,6 +13,7 @@ use Rattle.std.proofs.lemmas.Bool.Decides.{nat_tests}
 use Rattle.std.proofs.lemmas.List.Elements.{Contains-append_left, Contains-append_right, Contains-push_cases}
 use Rattle.std.proofs.lemmas.Nat.Bits.{bit_at_or, bit_at-zero, bit_at-lt, bit_at_ones, bit_at_above, same_from_bits}
 use Rattle.std.proofs.lemmas.Slice.Eq.{bytes_eq-Decides}
+use Rattle.simplecss_text.specs.AsciiBytes.{space}
 use Rattle.simplecss_text.specs.Components.{Component, Combinator}
 use Rattle.simplecss_text.specs.Components.Operator.{equals, has_word}
 use Rattle.simplecss_text.specs.Components.Combinator.{none, descendant, child, adjacent}
@@ -102,7 +103,7 @@ word_among (w ∷ ws) word e = at (word_among ws word) (bytes_eq w word) refl e
     at later true is h = Contains-append_left (w ∷ []) ws word (0, omega arith, (bytes_eq-Decides w word).0 is)
     at later false is h = Contains-append_right (w ∷ []) ws word (later h)
 
-pub covers_words : (bits : ℕ) (words : List (List ℕ)) (value word : List ℕ) → words ≡ slice_split (λ byte. eqb byte 32) value → ((w : List ℕ) → Contains words w → Covers bits (key_bits (by_class w))) → IsTrue (is_word_of word value) → Covers bits (key_bits (by_class word))
+pub covers_words : (bits : ℕ) (words : List (List ℕ)) (value word : List ℕ) → words ≡ slice_split (λ byte. eqb byte space) value → ((w : List ℕ) → Contains words w → Covers bits (key_bits (by_class w))) → IsTrue (is_word_of word value) → Covers bits (key_bits (by_class word))
 covers_words bits words value word e all h = all word (word_among words word (subst (λ ws. list_any (λ entry. bytes_eq entry word) ws ≡ true) (sym e) h))
 
 -- the bits of an id, of the words of a class

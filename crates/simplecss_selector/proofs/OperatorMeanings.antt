@@ -4,22 +4,23 @@ use Rattle.std.proofs.Common.{◌≡◌, ℕ, ◌↔◌, Bool, true, false, IsTr
 use Rattle.std.specs.Prelude.{bytes_eq, nat_eq}
 use Rattle.std.specs.List.{starts_with}
 use Rattle.std.proofs.lemmas.Slice.Eq.{bytes_eq-Decides}
+use Rattle.simplecss_text.specs.AsciiBytes.{hyphen}
 use Rattle.simplecss_text.specs.Components.{Operator}
 use Rattle.simplecss_text.specs.Components.Operator.{exists, equals, has_word, begins_with}
 use Rattle.simplecss_selector.specs.Operators.{is_satisfied, IsSatisfied}
 use Rattle.simplecss_selector.proofs.WordLemmas.{or-true, is_word_of-OccursIn}
 
-front : (start rest : List ℕ) → start ++ 45 ∷ [] ≡ take (length (start ++ 45 ∷ [])) (start ++ 45 ∷ rest)
+front : (start rest : List ℕ) → start ++ hyphen ∷ [] ≡ take (length (start ++ hyphen ∷ [])) (start ++ hyphen ∷ rest)
 front [] rest = refl
 front (b ∷ start) rest = ap (λ t. b ∷ t) (front start rest)
 
-begins : (start value : List ℕ) → (starts_with nat_eq value (start ++ 45 ∷ []) ≡ true) ↔ ((rest : List ℕ) × (value ≡ start ++ 45 ∷ rest))
+begins : (start value : List ℕ) → (starts_with nat_eq value (start ++ hyphen ∷ []) ≡ true) ↔ ((rest : List ℕ) × (value ≡ start ++ hyphen ∷ rest))
 begins start value =
-    let n = length (start ++ 45 ∷ []) in
-    let same = bytes_eq-Decides (start ++ 45 ∷ []) (take n value) in (
+    let n = length (start ++ hyphen ∷ []) in
+    let same = bytes_eq-Decides (start ++ hyphen ∷ []) (take n value) in (
       λ e. (
         drop n value,
-        sym (take-append-drop n value) ∙ ap (λ t. t ++ drop n value) (sym (same.0 e)) ∙ append_assoc start (45 ∷ []) _,
+        sym (take-append-drop n value) ∙ ap (λ t. t ++ drop n value) (sym (same.0 e)) ∙ append_assoc start (hyphen ∷ []) _,
       ),
       λ h. same.1 (front start h.0 ∙ ap (take n) (sym h.1)),
     )
@@ -32,7 +33,7 @@ is_satisfied-IsSatisfied (has_word word) value = is_word_of-OccursIn word value
 is_satisfied-IsSatisfied (begins_with start) value =
     let same = bytes_eq-Decides value start in
     let continues = begins start value in
-    let either = or-true (bytes_eq value start) (starts_with nat_eq value (start ++ 45 ∷ [])) in (
+    let either = or-true (bytes_eq value start) (starts_with nat_eq value (start ++ hyphen ∷ [])) in (
       λ e. elim (either.0 e) [ inl t ↦ inl (same.0 t) | inr f ↦ inr (continues.0 f) ],
       λ h. either.1 (elim h [ inl t ↦ inl (same.1 t) | inr f ↦ inr (continues.1 f) ]),
     )
@@ -54,4 +55,4 @@ starts_not o s v e none h = go (rw e at h)
   where
     go : IsSatisfied (begins_with s) v → ⊥
     go (inl a) = none [] (a ∙ sym (append-nil s))
-    go (inr b) = none (45 ∷ b.0) b.1
+    go (inr b) = none (hyphen ∷ b.0) b.1

@@ -5,6 +5,7 @@ use Rattle.std.proofs.Common.{◌≡◌, ℕ, zero, suc, ◌-◌, ◌<◌, ◌�
 use Rattle.std.specs.List.{list_any}
 use Rattle.std.specs.Option.{option_map}
 use Rattle.std.proofs.lemmas.Bool.{and_parts, or_parts}
+use Rattle.simplecss_text.specs.AsciiBytes.{asterisk, slash}
 use Rattle.simplecss_text.specs.Reading.{no_comment, got, fails, and_then, up_to, each, before, Ends}
 use Rattle.simplecss_text.specs.Bytes.{starts_two, past_one, past_byte, closed_or}
 use Rattle.simplecss_text.specs.Characters.{is_space}
@@ -33,59 +34,59 @@ starts_two-reports one two (b ∷ c ∷ text) e =
 
 -- before a `*/` that follows it none begins
 abbrev IsInside : List ℕ → Type 0
-IsInside inside = (k : ℕ) → k < length inside → starts_two 42 47 (drop k (inside ++ (42 ∷ 47 ∷ [])))
+IsInside inside = (k : ℕ) → k < length inside → starts_two asterisk slash (drop k (inside ++ (asterisk ∷ slash ∷ [])))
     ≡ false
 
 -- whether a `*/` begins with a byte does not depend on what follows a later one
 starts_two-close : (b : ℕ) (inside rest : List ℕ)
-    → starts_two 42 47 (b ∷ (inside ++ (42 ∷ 47 ∷ rest)))
-    ≡ starts_two 42 47 (b ∷ (inside ++ (42 ∷ 47 ∷ [])))
+    → starts_two asterisk slash (b ∷ (inside ++ (asterisk ∷ slash ∷ rest)))
+    ≡ starts_two asterisk slash (b ∷ (inside ++ (asterisk ∷ slash ∷ [])))
 starts_two-close b [] rest = refl
 starts_two-close b (c ∷ inside) rest = refl
 
 after_close-inside : (inside rest : List ℕ) → IsInside inside
-    → after_close (inside ++ (42 ∷ 47 ∷ rest)) ≡ Some rest
+    → after_close (inside ++ (asterisk ∷ slash ∷ rest)) ≡ Some rest
 after_close-inside [] rest h = refl
 after_close-inside (b ∷ inside) rest h =
-    let here : starts_two 42 47 (b ∷ (inside ++ (42 ∷ 47 ∷ rest)))
+    let here : starts_two asterisk slash (b ∷ (inside ++ (asterisk ∷ slash ∷ rest)))
     ≡ false = starts_two-close b inside rest ∙ h 0 (omega arith) in
     rw here (after_close-inside inside rest (λ k l. h (suc k) (omega arith)))
 
 -- the text is cut by its first `*/`
 record IsClosed (text rest : List ℕ) : Type 0 where
   inside : List ℕ
-  is : text ≡ inside ++ (42 ∷ 47 ∷ rest)
+  is : text ≡ inside ++ (asterisk ∷ slash ∷ rest)
   first : IsInside inside
 
-inside-cons : (b : ℕ) (inside : List ℕ) → starts_two 42 47 (b ∷ (inside ++ (42 ∷ 47 ∷ []))) ≡ false
+inside-cons : (b : ℕ) (inside : List ℕ) → starts_two asterisk slash (b ∷ (inside ++ (asterisk ∷ slash ∷ []))) ≡ false
     → IsInside inside → IsInside (b ∷ inside)
 inside-cons b inside here h zero l = here
 inside-cons b inside here h (suc k) l = h k (omega arith)
 
-closed-cons : (b : ℕ) (text rest : List ℕ) → starts_two 42 47 (b ∷ text) ≡ false
+closed-cons : (b : ℕ) (text rest : List ℕ) → starts_two asterisk slash (b ∷ text) ≡ false
     → IsClosed text rest → IsClosed (b ∷ text) rest
 closed-cons b text rest here c = record {
   inside = b ∷ c.inside;
   is = ap (λ t. b ∷ t) c.is;
   first = inside-cons b c.inside (sym (starts_two-close b c.inside rest)
-      ∙ ap (λ t. starts_two 42 47 (b ∷ t)) (sym c.is) ∙ here) c.first;
+      ∙ ap (λ t. starts_two asterisk slash (b ∷ t)) (sym c.is) ∙ here) c.first;
 }
 
 after_close-reports : (text rest : List ℕ) → after_close text ≡ Some rest → IsClosed text rest
 after_close-reports [] rest e = absurd (cc)
-after_close-reports (b ∷ text) rest e = by (starts_two 42 47 (b ∷ text)) refl e
+after_close-reports (b ∷ text) rest e = by (starts_two asterisk slash (b ∷ text)) refl e
     (after_close-reports text rest)
   where
-    by : (t : Bool) → starts_two 42 47 (b ∷ text) ≡ t
+    by : (t : Bool) → starts_two asterisk slash (b ∷ text) ≡ t
         → (if t then Some (past_one text) else after_close text) ≡ Some rest
         → (after_close text ≡ Some rest → IsClosed text rest) → IsClosed (b ∷ text) rest
     by true here f more =
-        let cut : b ∷ text ≡ 42 ∷ 47 ∷ drop 1 text = starts_two-reports 42 47 (b ∷ text) here in
-        let tail : text ≡ 47 ∷ drop 1 text = cc in
+        let cut : b ∷ text ≡ asterisk ∷ slash ∷ drop 1 text = starts_two-reports asterisk slash (b ∷ text) here in
+        let tail : text ≡ slash ∷ drop 1 text = cc in
         let left : past_one text ≡ rest = cc in
         record {
           inside = [];
-          is = cut ∙ ap (λ t. 42 ∷ 47 ∷ t) (sym (ap past_one tail) ∙ left);
+          is = cut ∙ ap (λ t. asterisk ∷ slash ∷ t) (sym (ap past_one tail) ∙ left);
           first = λ k l. absurd (omega (arith, l));
         }
     by false here f more = closed-cons b text rest here (more f)
@@ -106,9 +107,9 @@ front-before P text rest f =
     (ends-append f.front rest, subst P (sym (before-append f.front rest)) f.is)
 
 comment-append : (c rest : List ℕ) (h : IsComment c)
-    → c ++ rest ≡ 47 ∷ 42 ∷ (h.inside ++ (42 ∷ 47 ∷ rest))
+    → c ++ rest ≡ slash ∷ asterisk ∷ (h.inside ++ (asterisk ∷ slash ∷ rest))
 comment-append c rest h = ap (λ t. t ++ rest) h.is
-    ∙ ap (λ t. 47 ∷ 42 ∷ t) (append_assoc h.inside (42 ∷ 47 ∷ []) rest)
+    ∙ ap (λ t. slash ∷ asterisk ∷ t) (append_assoc h.inside (asterisk ∷ slash ∷ []) rest)
 
 -- a comment at the front of a text is read
 comment-front : (c rest : List ℕ) → IsComment c → comment (c ++ rest) ≡ got (tt {0}) rest
@@ -121,9 +122,9 @@ after_comment-front : (text rest : List ℕ) → opens_comment text ≡ true
 after_comment-front text rest o e =
     let c = after_close-reports (drop 2 text) rest e in
     record {
-      front = 47 ∷ 42 ∷ (c.inside ++ (42 ∷ 47 ∷ []));
-      cut = ap (λ t. 47 ∷ 42 ∷ t) (append_assoc c.inside (42 ∷ 47 ∷ []) rest ∙ sym c.is)
-          ∙ sym (starts_two-reports 47 42 text o);
+      front = slash ∷ asterisk ∷ (c.inside ++ (asterisk ∷ slash ∷ []));
+      cut = ap (λ t. slash ∷ asterisk ∷ t) (append_assoc c.inside (asterisk ∷ slash ∷ []) rest ∙ sym c.is)
+          ∙ sym (starts_two-reports slash asterisk text o);
       is = record { inside = c.inside; is = refl; first = c.first };
     }
 
@@ -132,7 +133,7 @@ unfolding comment
 comment-reports text rest e = by (opens_comment text) (after_comment text) refl refl e
   where
     by : (t : Bool) (o : Option (List ℕ)) → opens_comment text ≡ t → after_comment text ≡ o
-        → (if t then closed_or (no_comment text) o else fails (no_comment text) (past_byte 47 text))
+        → (if t then closed_or (no_comment text) o else fails (no_comment text) (past_byte slash text))
         ≡ got tt rest → Front IsComment text rest
     by true (Some left) f g h = let same : left
         ≡ rest = cc in after_comment-front text rest f (g ∙ ap Some same)
@@ -301,9 +302,9 @@ pub blank-open : (text : List ℕ) → opens_comment (past_blank text) ≡ true
     → blank text ≡ comment (past_blank text)
 unfolding blank comment
 blank-open text o = rw o (by (past_blank text) (after_comment (past_blank text))
-    (starts_two-reports 47 42 (past_blank text) o) refl (each-stops blank_part blank_part-takes text))
+    (starts_two-reports slash asterisk (past_blank text) o) refl (each-stops blank_part blank_part-takes text))
   where
-    by : (rest : List ℕ) (c : Option (List ℕ)) → rest ≡ 47 ∷ 42 ∷ drop 2 rest
+    by : (rest : List ℕ) (c : Option (List ℕ)) → rest ≡ slash ∷ asterisk ∷ drop 2 rest
         → after_comment rest ≡ c → blank_part rest ≡ None
         → fails (no_comment rest) [] ≡ closed_or (no_comment rest) c
     by rest None e f h = refl

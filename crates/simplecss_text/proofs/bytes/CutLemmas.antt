@@ -8,6 +8,7 @@ use Rattle.std.proofs.lemmas.Bool.Decides.{nat_tests, leb_tells}
 use Rattle.std.proofs.lemmas.Bool.{and_parts}
 use Rattle.std.proofs.lemmas.List.Sums.{prefix_len-le-length, prefix_len_passes}
 use Rattle.std.proofs.lemmas.Str.{IsUtf8-had, IsCharBoundary-after_ascii, IsCharBoundary-start, lead_after_ascii, IsUtf8-drop}
+use Rattle.simplecss_text.specs.AsciiBytes.{asterisk, slash}
 use Rattle.simplecss_text.specs.Bytes.{starts_by, starts_two, is_ascii}
 use Rattle.simplecss_text.specs.Characters.{is_space}
 use Rattle.simplecss_text.specs.ByteTests.{IsByteTest, PassesUpTo}
@@ -88,16 +89,16 @@ IsCharBoundary-after_found text byte (Some n) u l h =
     IsCharBoundary-after_ascii text n u h.0 small
 
 -- after two ASCII bytes at the front
-pub IsCharBoundary-after_comment : (text : List ℕ) → IsUtf8 text → starts_two 47 42 text ≡ true
+pub IsCharBoundary-after_comment : (text : List ℕ) → IsUtf8 text → starts_two slash asterisk text ≡ true
     → IsCharBoundary text 2
 IsCharBoundary-after_comment [] u e = absurd (cc)
-IsCharBoundary-after_comment (a ∷ []) u e = absurd (false_and (a == 47) e)
+IsCharBoundary-after_comment (a ∷ []) u e = absurd (false_and (a == slash) e)
   where
     false_and : (x : Bool) → (x && false) ≡ true → ⊥
     false_and true h = cc
     false_and false h = cc
 IsCharBoundary-after_comment (a ∷ b ∷ text) u e =
-    let star : b ≡ 42 = eqb-true b 42 (and_parts (a == 47) (b == 42) e).1 in
+    let star : b ≡ asterisk = eqb-true b asterisk (and_parts (a == slash) (b == asterisk) e).1 in
     IsCharBoundary-after_ascii (a ∷ b ∷ text) 1 u (omega arith) (omega (arith, star))
 
 -- a text may be cut at its start

@@ -3,6 +3,7 @@
 -- consumed once) and `Selector::parse` (gaps that are printed).
 use Rattle.std.proofs.Common.{◌≡◌, ℕ, List, [], ◌∷◌, Bool, true, false, if◌then◌else◌, ◌==◌, None, refl, ap, subst, ◌∙◌}
 use Rattle.std.specs.List.{list_any}
+use Rattle.simplecss_text.specs.AsciiBytes.{slash, space}
 use Rattle.simplecss_text.specs.Reading.{Fault, got, fails, no_comment, follow, followed_by, each}
 use Rattle.simplecss_text.specs.Characters.{is_space}
 use Rattle.simplecss_text.specs.Comments.{opens_comment, blank_part, past_blank, blank, has_space, gap}
@@ -83,7 +84,7 @@ pub record NoGap (text : List ℕ) : Type 0 where
   pub closed : opens_comment text ≡ false
 
 -- no gap begins with another byte
-pub no_gap-byte : (b : ℕ) (text : List ℕ) → is_space b ≡ false → (b == 47) ≡ false
+pub no_gap-byte : (b : ℕ) (text : List ℕ) → is_space b ≡ false → (b == slash) ≡ false
     → NoGap (b ∷ text)
 no_gap-byte b text not_space not_slash =
     let part : blank_part (b ∷ text) ≡ None = rw (not_space, not_slash) refl in
@@ -109,8 +110,8 @@ pub gap-none : (text : List ℕ) → NoGap text → gap text ≡ got false text
 gap-none text w = gap-at text text [] w.none w.closed
 
 -- a space, and no further gap
-pub gap-space : (text : List ℕ) → NoGap text → gap (32 ∷ text) ≡ got true text
+pub gap-space : (text : List ℕ) → NoGap text → gap (space ∷ text) ≡ got true text
 gap-space text w =
-    let part : each blank_part (32 ∷ text) ≡ followed_by true (each blank_part text) =
-    each-some blank_part blank_part-takes (32 ∷ text) text true refl in
-    gap-at (32 ∷ text) text (true ∷ []) (part ∙ ap (followed_by true) w.none) w.closed
+    let part : each blank_part (space ∷ text) ≡ followed_by true (each blank_part text) =
+    each-some blank_part blank_part-takes (space ∷ text) text true refl in
+    gap-at (space ∷ text) text (true ∷ []) (part ∙ ap (followed_by true) w.none) w.closed

@@ -10,19 +10,20 @@ use Rattle.std.proofs.lemmas.List.Sums.{sum_by-append, sum_by-cons}
 use Rattle.std.proofs.lemmas.List.Sorted.{sum_by-IsPermutation, IsPermutation-reverse}
 use Rattle.std.proofs.lemmas.Str.{chars-append}
 use Rattle.simplecss_text.specs.declared.text_pos.TextPos.{TextPos}
+use Rattle.simplecss_text.specs.AsciiBytes.{newline}
 use Rattle.simplecss_text.specs.Reading.{Ends}
 use Rattle.simplecss_text.specs.Positions.{greatest, in_whole, position}
 use Rattle.simplecss_text.proofs.reading.EndsLemmas.{ends-same, ends-cons}
 use Rattle.simplecss_text.proofs.bytes.Utf8Lemmas.{utf8-after}
 
 abbrev newlines : List ℕ → ℕ
-newlines xs = count_by (λ b. b == 10) xs
+newlines xs = count_by (λ b. b == newline) xs
 
 abbrev line : List ℕ → List ℕ
-line xs = after_last (λ b. b == 10) xs
+line xs = after_last (λ b. b == newline) xs
 
 abbrev front : List ℕ → ℕ
-front xs = prefix_len (λ b. not (b == 10)) xs
+front xs = prefix_len (λ b. not (b == newline)) xs
 
 -- a text has no newline, or it has one
 abbrev Split : List ℕ → Type 0
@@ -31,30 +32,30 @@ Split xs =
 
 split : (xs : List ℕ) → Split xs
 split [] = inl (refl, refl)
-split (x ∷ xs) = by (x == 10) refl (split xs)
+split (x ∷ xs) = by (x == newline) refl (split xs)
   where
-    by : (k : Bool) → (x == 10) ≡ k → Split xs → Split (x ∷ xs)
+    by : (k : Bool) → (x == newline) ≡ k → Split xs → Split (x ∷ xs)
     by true e h =
-        inr (rw e (omega arith), rw (sum_by-cons (λ b. cond (b == 10) 1 0) x xs, e) (omega arith))
+        inr (rw e (omega arith), rw (sum_by-cons (λ b. cond (b == newline) 1 0) x xs, e) (omega arith))
     by false e (inl h) =
         inl (
           rw e (omega (arith, h.0)),
-          rw (sum_by-cons (λ b. cond (b == 10) 1 0) x xs, e)
+          rw (sum_by-cons (λ b. cond (b == newline) 1 0) x xs, e)
               (omega (arith, h.1)),
         )
     by false e (inr h) =
         inr (
           rw e (omega (arith, h.0)),
-          rw (sum_by-cons (λ b. cond (b == 10) 1 0) x xs, e)
+          rw (sum_by-cons (λ b. cond (b == newline) 1 0) x xs, e)
               (omega (arith, h.1)),
         )
 
 newlines-reverse : (xs : List ℕ) → newlines (reverse xs) ≡ newlines xs
 newlines-reverse xs =
-    sum_by-IsPermutation (λ b. cond (b == 10) 1 0) xs (reverse xs) (IsPermutation-reverse xs)
+    sum_by-IsPermutation (λ b. cond (b == newline) 1 0) xs (reverse xs) (IsPermutation-reverse xs)
 
 pub newlines-append : (xs ys : List ℕ) → newlines (xs ++ ys) ≡ newlines xs + newlines ys
-newlines-append xs ys = sum_by-append (λ b. cond (b == 10) 1 0) xs ys
+newlines-append xs ys = sum_by-append (λ b. cond (b == newline) 1 0) xs ys
 
 none-front : (xs : List ℕ) → newlines xs ≡ 0 → front (reverse xs) ≡ length (reverse xs)
 none-front xs h = by (split (reverse xs))
@@ -72,12 +73,12 @@ some-front xs h = by (split (reverse xs))
 
 -- the end of two texts that has no newline
 suffix-append : (xs ys : List ℕ)
-    → suffix_len (λ b. not (b == 10)) (xs ++ ys)
+    → suffix_len (λ b. not (b == newline)) (xs ++ ys)
     ≡ cond (eqb (front (reverse ys)) (length (reverse ys)))
     (length (reverse ys) + front (reverse xs)) (front (reverse ys))
 suffix-append xs ys =
     ap front (reverse-append xs ys)
-    ∙ prefix_len-append (λ b. not (b == 10)) (reverse ys) (reverse xs)
+    ∙ prefix_len-append (λ b. not (b == newline)) (reverse ys) (reverse xs)
 
 eqb-less : (a b : ℕ) → a < b → eqb a b ≡ false
 eqb-less a b h = by (eqb a b) refl
@@ -92,7 +93,7 @@ pub line-append_none : (xs ys : List ℕ) → newlines ys ≡ 0 → line (xs ++ 
 line-append_none xs ys h =
     let all : eqb (front (reverse ys)) (length (reverse ys)) ≡ true =
     rw (none-front ys h) (eq-eqb (length (reverse ys)) (length (reverse ys)) refl) in
-    let len : suffix_len (λ b. not (b == 10)) (xs ++ ys) ≡ length ys + front (reverse xs) =
+    let len : suffix_len (λ b. not (b == newline)) (xs ++ ys) ≡ length ys + front (reverse xs) =
     suffix-append xs ys ∙ rw (all, length-reverse ys) refl in
     let from : length (xs ++ ys) - (length ys + front (reverse xs)) ≡ length xs - front
     (reverse xs) = rw (length-append xs ys) (omega arith) in
@@ -105,7 +106,7 @@ line-append_some xs ys h =
     let less : front (reverse ys) < length (reverse ys) = some-front ys h in
     let not_all : eqb (front (reverse ys)) (length (reverse ys)) ≡ false =
     eqb-less (front (reverse ys)) (length (reverse ys)) less in
-    let len : suffix_len (λ b. not (b == 10)) (xs ++ ys) ≡ front (reverse ys) =
+    let len : suffix_len (λ b. not (b == newline)) (xs ++ ys) ≡ front (reverse ys) =
     suffix-append xs ys ∙ rw not_all refl in
     let same : length (reverse ys) ≡ length ys = length-reverse ys in
     let from : length (xs ++ ys) - front (reverse ys) ≡ length xs +
@@ -119,31 +120,31 @@ line-append_some xs ys h =
 line-none : (xs : List ℕ) → newlines xs ≡ 0 → line xs ≡ xs
 line-none xs h = line-append_none [] xs h
 
-line-some : (xs : List ℕ) → 0 < newlines xs → Ends xs (10 ∷ line xs)
+line-some : (xs : List ℕ) → 0 < newlines xs → Ends xs (newline ∷ line xs)
 line-some [] h = absurd (omega (arith, h))
 line-some (x ∷ xs) h = by (split xs) (λ more. line-some xs more)
   where
-    by : Split xs → (0 < newlines xs → Ends xs (10 ∷ line xs)) → Ends (x ∷ xs) (10 ∷ line (x ∷ xs))
-    by (inl s) more = first (x == 10) refl
+    by : Split xs → (0 < newlines xs → Ends xs (newline ∷ line xs)) → Ends (x ∷ xs) (newline ∷ line (x ∷ xs))
+    by (inl s) more = first (x == newline) refl
       where
-        first : (k : Bool) → (x == 10) ≡ k → Ends (x ∷ xs) (10 ∷ line (x ∷ xs))
+        first : (k : Bool) → (x == newline) ≡ k → Ends (x ∷ xs) (newline ∷ line (x ∷ xs))
         first true e =
-            let ten : x ≡ 10 = eqb-true x 10 e in
+            let ten : x ≡ newline = eqb-true x newline e in
             let one : line (x ∷ xs) ≡ xs = line-append_none (x ∷ []) xs s.1 ∙ rw ten refl in
-            rw (one, ten) (ends-same (10 ∷ xs))
+            rw (one, ten) (ends-same (newline ∷ xs))
         first false e =
             let same : newlines (x ∷ xs) ≡ newlines xs =
-            rw (sum_by-cons (λ b. cond (b == 10) 1 0) x xs, e) (omega arith) in
+            rw (sum_by-cons (λ b. cond (b == newline) 1 0) x xs, e) (omega arith) in
             absurd (omega (arith, h, s.1, same))
     by (inr s) more =
-        rw (line-append_some (x ∷ []) xs s.1) (ends-cons x xs (10 ∷ line xs) (more s.1))
+        rw (line-append_some (x ∷ []) xs s.1) (ends-cons x xs (newline ∷ line xs) (more s.1))
 
 line-utf8 : (xs : List ℕ) → IsUtf8 xs → IsUtf8 (line xs)
 line-utf8 xs i = by (split xs)
   where
     by : Split xs → IsUtf8 (line xs)
     by (inl s) = subst IsUtf8 (sym (line-none xs s.1)) i
-    by (inr s) = utf8-after xs (line xs) 10 (omega arith) i (line-some xs s.1)
+    by (inr s) = utf8-after xs (line xs) newline (omega arith) i (line-some xs s.1)
 
 -- ---- positions
 

@@ -1,6 +1,7 @@
 -- What is found by looking through the bytes of a text.
 -- Serves `scan::{close_len, find_byte}` (where a byte or the end of a comment is found first).
 use Rattle.std.proofs.Common.{◌≡◌, ◌≢◌, ℕ, zero, suc, ◌+◌, ◌<◌, ◌≤◌, Bool, true, false, ◌&&◌, ◌==◌, List, [], ◌∷◌, length, drop, Option, Some, None, MatchOption, arith, refl, sym, eqb-true, eq-eqb, add-one, subst, get_or}
+use Rattle.simplecss_text.specs.AsciiBytes.{asterisk, slash}
 use Rattle.simplecss_text.specs.Bytes.{starts_two, after_byte}
 use Rattle.simplecss_text.specs.Comments.{after_close}
 
@@ -25,23 +26,23 @@ starts_two-lacks one two (a ∷ b ∷ rest) h = by (a == one) (b == two) refl re
 
 -- a text without a `*/`
 pub after_close-none : (text : List ℕ) → ((i : ℕ) → i ≤ length text → (rest : List ℕ)
-    → drop i text ≢ 42 ∷ 47 ∷ rest) → after_close text ≡ None
+    → drop i text ≢ asterisk ∷ slash ∷ rest) → after_close text ≡ None
 after_close-none [] h = refl
 after_close-none (b ∷ text) h =
-    let here : starts_two 42 47 (b ∷ text) ≡ false = starts_two-lacks 42 47 (b ∷ text)
+    let here : starts_two asterisk slash (b ∷ text) ≡ false = starts_two-lacks asterisk slash (b ∷ text)
     (h 0 (omega arith)) in
     rw here (after_close-none text (λ i l rest. h (suc i) (omega arith) rest))
 
 -- a text whose first `*/` is at i
 pub after_close-at : (text rest : List ℕ) (i : ℕ)
-    → ((k : ℕ) → k < i → (r : List ℕ) → drop k text ≢ 42 ∷ 47 ∷ r) → drop i text ≡ 42 ∷ 47 ∷ rest
+    → ((k : ℕ) → k < i → (r : List ℕ) → drop k text ≢ asterisk ∷ slash ∷ r) → drop i text ≡ asterisk ∷ slash ∷ rest
     → after_close text ≡ Some rest
 after_close-at [] rest zero h e = absurd (cc)
 after_close-at [] rest (suc i) h e = absurd (cc)
 after_close-at (b ∷ text) rest zero h e = subst (λ (t : List ℕ). after_close t ≡ Some rest) (sym e)
     refl
 after_close-at (b ∷ text) rest (suc i) h e =
-    let here : starts_two 42 47 (b ∷ text) ≡ false = starts_two-lacks 42 47 (b ∷ text)
+    let here : starts_two asterisk slash (b ∷ text) ≡ false = starts_two-lacks asterisk slash (b ∷ text)
     (h 0 (omega arith)) in
     rw here (after_close-at text rest i (λ k l r. h (suc k) (omega arith) r) e)
 

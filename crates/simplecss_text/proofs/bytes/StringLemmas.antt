@@ -3,6 +3,7 @@
 -- `readers::take_name` (a name).
 use Rattle.std.proofs.Common.{◌≡◌, ℕ, ◌+◌, ◌-◌, ◌<◌, ◌≤◌, List, [], length, take, drop, slice_range, Some, None, arith, refl, ap, sym, ◌∙◌, get_or, ◌⊎◌, length-drop, add-one, drop-cons}
 use Rattle.std.proofs.lemmas.Bool.Decides.{nat_tests}
+use Rattle.simplecss_text.specs.AsciiBytes.{backslash}
 use Rattle.simplecss_text.specs.Reading.{ended, got, fails, before}
 use Rattle.simplecss_text.specs.Bytes.{past_one}
 use Rattle.simplecss_text.specs.Strings.{from_quote, string_up_to, string_after}
@@ -44,7 +45,7 @@ string-none quote tail text rest e none left =
 
 -- a byte that closes no string is consumed
 pub from_quote-passes : (quote previous : ℕ) (bytes : List ℕ) (n : ℕ) → n < length bytes
-    → ((get_or bytes n 0 ≡ quote) × (previous ≡ 92)) ⊎ (get_or bytes n 0 ≡ quote → ⊥)
+    → ((get_or bytes n 0 ≡ quote) × (previous ≡ backslash)) ⊎ (get_or bytes n 0 ≡ quote → ⊥)
     → from_quote quote previous (drop n bytes)
     ≡ from_quote quote (get_or bytes n 0) (drop (n + 1) bytes)
 from_quote-passes quote previous bytes n h passes = rw (drop-cons bytes n 0, add-one)

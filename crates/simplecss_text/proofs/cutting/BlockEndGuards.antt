@@ -5,6 +5,7 @@ use Rattle.std.proofs.Common.{◌≡◌, ℕ, ◌<◌, ◌≤◌, List, [], ◌�
 use Rattle.std.proofs.lemmas.Bool.{cases_lt}
 use Rattle.std.proofs.Math.ListN.{get_or-append}
 use Rattle.std.proofs.lemmas.List.{take-append-le}
+use Rattle.simplecss_text.specs.AsciiBytes.{close_brace}
 use Rattle.simplecss_text.specs.Bytes.{past_byte, starts}
 use Rattle.simplecss_text.specs.Blocks.{block_end, from_block_end, closes_block}
 use Rattle.simplecss_text.proofs.reading.LocalLemmas.{Diverge, diverge-append, drop-to, at, on, To, longer-diverge, length-diverge}
@@ -30,28 +31,28 @@ block_end_local u v h =
     ∙ least-before (closes_block (u ++ v)) (length (u ++ v)) j l)
 
 -- from the end of a block on
-pub from_block_end-to : (u v r s : List ℕ) → Diverge (125 ∷ (u ++ v)) (125 ∷ u) r s
-    → To true (125 ∷ (u ++ v)) (125 ∷ u) (from_block_end r) (from_block_end s)
+pub from_block_end-to : (u v r s : List ℕ) → Diverge (close_brace ∷ (u ++ v)) (close_brace ∷ u) r s
+    → To true (close_brace ∷ (u ++ v)) (close_brace ∷ u) (from_block_end r) (from_block_end s)
 from_block_end-to u v r s h = by (cases_lt (block_end (s ++ v)) (length s))
   where
     whole : r ≡ s ++ v
-    whole = diverge-append 125 u v r s h
+    whole = diverge-append close_brace u v r s h
 
     by : (block_end (s ++ v) < length s) ⊎ (length s ≤ block_end (s ++ v))
-        → To true (125 ∷ (u ++ v)) (125 ∷ u) (from_block_end r) (from_block_end s)
+        → To true (close_brace ∷ (u ++ v)) (close_brace ∷ u) (from_block_end r) (from_block_end s)
     by (inr l) =
         let e : block_end r ≡ block_end (s ++ v) = ap block_end whole in
         inl (omega (
           arith,
           e,
           length-drop (block_end r) r,
-          length-diverge (125 ∷ (u ++ v)) (125 ∷ u) r s h,
+          length-diverge (close_brace ∷ (u ++ v)) (close_brace ∷ u) r s h,
           length-append u v,
-          longer-diverge (125 ∷ (u ++ v)) (125 ∷ u) r s h,
+          longer-diverge (close_brace ∷ (u ++ v)) (close_brace ∷ u) r s h,
         ))
     by (inl l) =
         let e : block_end s ≡ block_end r = block_end_local s v l ∙ ap block_end (sym whole) in
-        rw e (drop-to 125 (u ++ v) u (block_end r) r s h)
+        rw e (drop-to close_brace (u ++ v) u (block_end r) r s h)
 
 -- Both readings end where the brace is or before it, with the same after it.
 pub data Exact (g : ℕ) (t u : List ℕ) : List ℕ → List ℕ → Type 0 where
@@ -59,39 +60,39 @@ pub data Exact (g : ℕ) (t u : List ℕ) : List ℕ → List ℕ → Type 0 whe
   before_it : (r s : List ℕ) → Diverge (g ∷ t) (g ∷ u) r s → Exact g t u r s
 
 -- a brace is consumed
-pub past_brace-exact : (t u r s : List ℕ) → Diverge (125 ∷ t) (125 ∷ u) r s
-    → Exact 125 t u (past_byte 125 r) (past_byte 125 s)
+pub past_brace-exact : (t u r s : List ℕ) → Diverge (close_brace ∷ t) (close_brace ∷ u) r s
+    → Exact close_brace t u (past_byte close_brace r) (past_byte close_brace s)
 past_brace-exact t u r s at = after_it
-past_brace-exact t u r s (on b r1 s1 h) = by (b == 125)
+past_brace-exact t u r s (on b r1 s1 h) = by (b == close_brace)
   where
-    by : (k : Bool) → Exact 125 t u (if k then r1 else b ∷ r1) (if k then s1 else b ∷ s1)
+    by : (k : Bool) → Exact close_brace t u (if k then r1 else b ∷ r1) (if k then s1 else b ∷ s1)
     by true = before_it r1 s1 h
     by false = before_it (b ∷ r1) (b ∷ s1) (on b r1 s1 h)
 
-no_brace_front : (u v : List ℕ) → starts 125 (u ++ v) ≡ false → past_byte 125 u ≡ u
+no_brace_front : (u v : List ℕ) → starts close_brace (u ++ v) ≡ false → past_byte close_brace u ≡ u
 no_brace_front [] v e = refl
 no_brace_front (b ∷ u) v e = rw e refl
 
-pub no_brace : (u : List ℕ) → starts 125 u ≡ false → past_byte 125 u ≡ u
+pub no_brace : (u : List ℕ) → starts close_brace u ≡ false → past_byte close_brace u ≡ u
 no_brace [] e = refl
 no_brace (b ∷ u) e = rw e refl
 
-pub less_of_brace : (t : List ℕ) → starts 125 t ≡ true → length (past_byte 125 t) < length t
+pub less_of_brace : (t : List ℕ) → starts close_brace t ≡ true → length (past_byte close_brace t) < length t
 less_of_brace [] e = absurd (cc)
 less_of_brace (b ∷ t) e = rw e (omega arith)
 
 -- one that follows is consumed too, and then less is left than after the first
-pub past_further-exact : (u v r s : List ℕ) → Exact 125 (u ++ v) u r s
-    → (length (past_byte 125 r) < length (u ++ v)) ⊎ Exact 125 (u ++ v) u (past_byte 125 r)
-    (past_byte 125 s)
+pub past_further-exact : (u v r s : List ℕ) → Exact close_brace (u ++ v) u r s
+    → (length (past_byte close_brace r) < length (u ++ v)) ⊎ Exact close_brace (u ++ v) u (past_byte close_brace r)
+    (past_byte close_brace s)
 past_further-exact u v r s (before_it r1 s1 h) = inr (past_brace-exact (u ++ v) u r s h)
-past_further-exact u v r s after_it = by (starts 125 (u ++ v)) refl
+past_further-exact u v r s after_it = by (starts close_brace (u ++ v)) refl
   where
-    by : (k : Bool) → starts 125 (u ++ v) ≡ k
-        → (length (past_byte 125 (u ++ v)) < length (u ++ v)) ⊎ Exact 125 (u ++ v) u
-        (past_byte 125 (u ++ v)) (past_byte 125 u)
+    by : (k : Bool) → starts close_brace (u ++ v) ≡ k
+        → (length (past_byte close_brace (u ++ v)) < length (u ++ v)) ⊎ Exact close_brace (u ++ v) u
+        (past_byte close_brace (u ++ v)) (past_byte close_brace u)
     by true e = inl (less_of_brace (u ++ v) e)
     by false e =
-        let whole : past_byte 125 (u ++ v) ≡ u ++ v = no_brace (u ++ v) e in
-        let front : past_byte 125 u ≡ u = no_brace_front u v e in
+        let whole : past_byte close_brace (u ++ v) ≡ u ++ v = no_brace (u ++ v) e in
+        let front : past_byte close_brace u ≡ u = no_brace_front u v e in
         inr (rw (whole, front) after_it)

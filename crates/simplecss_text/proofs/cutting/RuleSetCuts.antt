@@ -2,6 +2,7 @@
 -- Serves `StyleSheet::parse_more` and `laws::cutting_law` (a text read in pieces).
 use Rattle.std.proofs.Common.{◌≡◌, ℕ, ◌≤◌, List, [], ◌∷◌, ◌++◌, Bool, true, false, if◌then◌else◌, ◌==◌, not, length, map, Option, Some, None, arith, refl, ◌⊎◌, inl, inr, IsUtf8, ◌<◌, eqb-true}
 use Rattle.std.specs.List.{filter_map}
+use Rattle.simplecss_text.specs.AsciiBytes.{close_brace, comma, open_brace}
 use Rattle.simplecss_text.specs.Reading.{Ends, each}
 use Rattle.simplecss_text.specs.Bytes.{past, past_one, past_byte, starts}
 use Rattle.simplecss_text.specs.Characters.{Edition, is_space}
@@ -28,13 +29,13 @@ PartPasses edition t a = length (part edition a).1 ≤ length t
 
 -- a rule set, up to its block's end
 abbrev pub RulesSame : List ℕ → List ℕ → List StyleRule × List ℕ → List StyleRule × List ℕ → Type 0
-RulesSame t u a b = Lost t a.1 ⊎ ((a.0 ≡ b.0) × Exact 125 t u a.1 b.1)
+RulesSame t u a b = Lost t a.1 ⊎ ((a.0 ≡ b.0) × Exact close_brace t u a.1 b.1)
 
 module _ (edition : Edition) where
   pub opened-lost : (t x : List ℕ) → length x ≤ length t
-      → Lost t (if starts 123 x then block edition (past_one x) else ([], [])).1
+      → Lost t (if starts open_brace x then block edition (past_one x) else ([], [])).1
   opened-lost t [] l = inr refl
-  opened-lost t (b ∷ x) l = by (b == 123)
+  opened-lost t (b ∷ x) l = by (b == open_brace)
     where
       by : (k : Bool) → Lost t (if k then block edition x else ([], [])).1
       by true = inl (omega (arith, length-block edition x))
@@ -44,41 +45,41 @@ module _ (edition : Edition) where
   pub next_block-lost : (t x : List ℕ) → length x ≤ length t → Lost t (next_block edition x).1
   unfolding next_block
   next_block-lost t x l =
-      opened-lost t (past (λ b. not (b == 123)) x)
-      (omega (arith, length-past (λ b. not (b == 123)) x))
+      opened-lost t (past (λ b. not (b == open_brace)) x)
+      (omega (arith, length-past (λ b. not (b == open_brace)) x))
 
   opened-same : (u v whole x y : List ℕ) → IsUtf8 whole → Ends whole x
-      → Diverge (125 ∷ (u ++ v)) (125 ∷ u) x y
-      → BlockSame (u ++ v) u (if starts 123 x then block edition (past_one x) else ([], []))
-      (if starts 123 y then block edition (past_one y) else ([], []))
+      → Diverge (close_brace ∷ (u ++ v)) (close_brace ∷ u) x y
+      → BlockSame (u ++ v) u (if starts open_brace x then block edition (past_one x) else ([], []))
+      (if starts open_brace y then block edition (past_one y) else ([], []))
   opened-same u v whole x y w e at = inl (inr refl)
-  opened-same u v whole x y w e (on b x1 y1 h) = by (b == 123) refl
+  opened-same u v whole x y w e (on b x1 y1 h) = by (b == open_brace) refl
     where
-      by : (k : Bool) → (b == 123) ≡ k
+      by : (k : Bool) → (b == open_brace) ≡ k
           → BlockSame (u ++ v) u (if k then block edition x1 else ([], []))
           (if k then block edition y1 else ([], []))
       by true f =
           block-same edition u v x1 y1 (utf8-after whole x1 b (omega
-          (arith, eqb-true b 123 f)) w e)
+          (arith, eqb-true b open_brace f)) w e)
           h
       by false f = inl (inr refl)
 
   next_block-same : (u v whole r s : List ℕ) → IsUtf8 whole → Ends whole r
-      → Diverge (125 ∷ (u ++ v)) (125 ∷ u) r s
+      → Diverge (close_brace ∷ (u ++ v)) (close_brace ∷ u) r s
       → BlockSame (u ++ v) u (next_block edition r) (next_block edition s)
   unfolding next_block
   next_block-same u v whole r s w e h =
-      by (past (λ b. not (b == 123)) r) (past (λ b. not (b == 123)) s)
-      (ends-ends whole r (past (λ b. not (b == 123)) r) e (ends-past (λ b. not (b == 123)) r))
-      (past-both 125 (u ++ v) u (λ b. not (b == 123)) r s h)
+      by (past (λ b. not (b == open_brace)) r) (past (λ b. not (b == open_brace)) s)
+      (ends-ends whole r (past (λ b. not (b == open_brace)) r) e (ends-past (λ b. not (b == open_brace)) r))
+      (past-both close_brace (u ++ v) u (λ b. not (b == open_brace)) r s h)
     where
-      by : (x y : List ℕ) → Ends whole x → To true (125 ∷ (u ++ v)) (125 ∷ u) x y
-          → BlockSame (u ++ v) u (if starts 123 x then block edition (past_one x) else ([], []))
-          (if starts 123 y then block edition (past_one y) else ([], []))
+      by : (x y : List ℕ) → Ends whole x → To true (close_brace ∷ (u ++ v)) (close_brace ∷ u) x y
+          → BlockSame (u ++ v) u (if starts open_brace x then block edition (past_one x) else ([], []))
+          (if starts open_brace y then block edition (past_one y) else ([], []))
       by x y f (inl l) = inl (opened-lost (u ++ v) x l)
       by x y f (inr k) = opened-same u v whole x y w f k
 
-  pub part-same : (u v r s : List ℕ) → IsUtf8 r → Diverge (125 ∷ (u ++ v)) (125 ∷ u) r s
+  pub part-same : (u v r s : List ℕ) → IsUtf8 r → Diverge (close_brace ∷ (u ++ v)) (close_brace ∷ u) r s
       → Same (u ++ v) u (part edition r) (part edition s)
   unfolding part
   part-same u v r s w h =
@@ -87,21 +88,21 @@ module _ (edition : Edition) where
       by : (a b : Option (List Component) × List ℕ) → Same (u ++ v) u a b
           → Same (u ++ v) u (a.0, past is_space a.1) (b.0, past is_space b.1)
       by a b (inl l) = inl (omega (arith, length-past is_space a.1))
-      by a b (inr k) = inr (k.0, past-diverge 125 (u ++ v) u is_space refl a.1 b.1 k.1)
+      by a b (inr k) = inr (k.0, past-diverge close_brace (u ++ v) u is_space refl a.1 b.1 k.1)
 
   comma-step : (t u r s : List ℕ) (a b : Option (List Component) × List ℕ) → Same t u a b
       → (length a.1 ≤ length t → PartPasses edition t r)
-      → Step Equal (PartPasses edition t) 125 t u r
-      (if starts 44 a.1 then Some (a.0, past_one a.1) else None)
-      (if starts 44 b.1 then Some (b.0, past_one b.1) else None)
-  comma-step t u r s (a, x) (b, y) (inl l) stuck = by (starts 44 x) (starts 44 y)
+      → Step Equal (PartPasses edition t) close_brace t u r
+      (if starts comma a.1 then Some (a.0, past_one a.1) else None)
+      (if starts comma b.1 then Some (b.0, past_one b.1) else None)
+  comma-step t u r s (a, x) (b, y) (inl l) stuck = by (starts comma x) (starts comma y)
     where
       shorter : (z : List ℕ) → length (past_one z) ≤ length z
       shorter [] = omega arith
       shorter (c ∷ z) = omega arith
 
       by : (j k : Bool)
-          → Step Equal (PartPasses edition t) 125 t u r (if j then Some (a, past_one x) else None)
+          → Step Equal (PartPasses edition t) close_brace t u r (if j then Some (a, past_one x) else None)
           (if k then Some (b, past_one y) else None)
       by true true = inl (omega (arith, shorter x))
       by true false = omega (arith, shorter x)
@@ -109,26 +110,26 @@ module _ (edition : Edition) where
       by false false = tt
   comma-step t u r s (a, x) (b, y) (inr (e, k)) stuck = one x y k
     where
-      one : (c d : List ℕ) → Diverge (125 ∷ t) (125 ∷ u) c d
-          → Step Equal (PartPasses edition t) 125 t u r
-          (if starts 44 c then Some (a, past_one c) else None)
-          (if starts 44 d then Some (b, past_one d) else None)
+      one : (c d : List ℕ) → Diverge (close_brace ∷ t) (close_brace ∷ u) c d
+          → Step Equal (PartPasses edition t) close_brace t u r
+          (if starts comma c then Some (a, past_one c) else None)
+          (if starts comma d then Some (b, past_one d) else None)
       one c d at = tt
-      one c d (on z c1 d1 h) = by (z == 44)
+      one c d (on z c1 d1 h) = by (z == comma)
         where
           by : (j : Bool)
-              → Step Equal (PartPasses edition t) 125 t u r (if j then Some (a, c1) else None)
+              → Step Equal (PartPasses edition t) close_brace t u r (if j then Some (a, c1) else None)
               (if j then Some (b, d1) else None)
           by true = inr (e, h)
           by false = tt
 
-  pub parts-same : (u v r s : List ℕ) → IsUtf8 r → Diverge (125 ∷ (u ++ v)) (125 ∷ u) r s
+  pub parts-same : (u v r s : List ℕ) → IsUtf8 r → Diverge (close_brace ∷ (u ++ v)) (close_brace ∷ u) r s
       → Same (u ++ v) u (parts edition r) (parts edition s)
   unfolding parts
   parts-same u v r s w h =
       by (each (part_and_comma edition) r) (each (part_and_comma edition) s)
       ((each-well (part_and_comma edition) (part_and_comma-well edition) r).1 w)
-      (each-repeats IsUtf8 Equal (PartPasses edition (u ++ v)) 125 (u ++ v) u
+      (each-repeats IsUtf8 Equal (PartPasses edition (u ++ v)) close_brace (u ++ v) u
       (part_and_comma edition)
       (part_and_comma-takes edition)
       (found-text (part_and_comma edition) (part_and_comma-well edition))
@@ -146,7 +147,7 @@ module _ (edition : Edition) where
       last xs ys c d e (inr (f, k)) = inr (rw (e, f) refl, k)
 
       by : (a b : List (Option (List Component)) × List ℕ) → IsUtf8 a.1
-          → Repeats Equal (PartPasses edition (u ++ v)) 125 (u ++ v) u a b → Same (u ++ v) u (
+          → Repeats Equal (PartPasses edition (u ++ v)) close_brace (u ++ v) u a b → Same (u ++ v) u (
             filter_map (λ selector. selector) (a.0 ++ (part edition a.1).0 ∷ []),
             (part edition a.1).1,
           ) (
@@ -159,12 +160,12 @@ module _ (edition : Edition) where
           last a.0 b.0 (part edition a.1) (part edition b.1) (pairs-equal a.0 b.0 k.0)
           (part-same u v a.1 b.1 z k.1)
 
-  pub rule_set-same : (u v r s : List ℕ) → IsUtf8 r → Diverge (125 ∷ (u ++ v)) (125 ∷ u) r s
+  pub rule_set-same : (u v r s : List ℕ) → IsUtf8 r → Diverge (close_brace ∷ (u ++ v)) (close_brace ∷ u) r s
       → RulesSame (u ++ v) u (rule_set edition r) (rule_set edition s)
   unfolding rule_set
   rule_set-same u v r s w h =
-      after_comma (past_byte 44 r) (past_byte 44 s) (utf8-past_byte_if 44 r (omega arith) w)
-      (past_byte-to (125 ∷ (u ++ v)) (125 ∷ u) 44 refl r s h)
+      after_comma (past_byte comma r) (past_byte comma s) (utf8-past_byte_if comma r (omega arith) w)
+      (past_byte-to (close_brace ∷ (u ++ v)) (close_brace ∷ u) comma refl r s h)
     where
       body : (xs ys : List (List Component)) (c d : List StyleDeclaration × List ℕ) → xs ≡ ys
           → BlockSame (u ++ v) u c d → RulesSame (u ++ v) u
@@ -189,7 +190,7 @@ module _ (edition : Edition) where
           (next_block-same u v x a.1 b.1 z f k)
 
       after_comma : (x y : List ℕ) → IsUtf8 x
-          → (length x < length (125 ∷ (u ++ v))) ⊎ Diverge (125 ∷ (u ++ v)) (125 ∷ u) x y
+          → (length x < length (close_brace ∷ (u ++ v))) ⊎ Diverge (close_brace ∷ (u ++ v)) (close_brace ∷ u) x y
           → RulesSame (u ++ v) u (
             map (λ selector. record {
               components = selector;

@@ -1,6 +1,7 @@
 -- Selectors are guarded by a closing brace.
 -- Serves `StyleSheet::parse_more` and `laws::cutting_law` (a text read in pieces).
 use Rattle.std.proofs.Common.{Bool, List, [], arith, inl, inr, length, refl, subst, sym, suc, ◌∙◌, ℕ, ◌++◌, ◌≡◌, ◌≤◌, zero, IsUtf8, ◌∷◌, true}
+use Rattle.simplecss_text.specs.AsciiBytes.{close_brace}
 use Rattle.simplecss_text.specs.Reading.{Reading, fails, got, left_after}
 use Rattle.simplecss_text.specs.Bytes.{past_one}
 use Rattle.simplecss_text.specs.Characters.{Edition}
@@ -36,21 +37,21 @@ passed-unnamed n kind start (got token after) unnamed = λ k l. absurd (unnamed 
 passed-unnamed n kind start (fails fault after) unnamed = tt
 
 -- a piece of one byte does not begin with the brace
-one_byte : (t u r s : List ℕ) → Diverge (125 ∷ t) (125 ∷ u) r s → (next_kind r ≡ Other → ⊥)
+one_byte : (t u r s : List ℕ) → Diverge (close_brace ∷ t) (close_brace ∷ u) r s → (next_kind r ≡ Other → ⊥)
     → length (past_one r) ≤ length t → length r ≤ length t
 unfolding next_kind
 one_byte t u r s at other l = absurd (other refl)
 one_byte t u r s (on b r1 s1 h) other l =
-    absurd (omega (arith, l, longer-diverge (125 ∷ t) (125 ∷ u) r1 s1 h))
+    absurd (omega (arith, l, longer-diverge (close_brace ∷ t) (close_brace ∷ u) r1 s1 h))
 
 -- the sequence after every shorter text is guarded
 abbrev SequencesGuarded : Edition → ℕ → List ℕ → List ℕ → Type 0
 SequencesGuarded edition n t u =
-    (side : Side) (r s : List ℕ) → length r ≤ n → IsUtf8 r → Diverge (125 ∷ t) (125 ∷ u) r s
-    → OutcomeGuard 125 t u (outcome (sequence_from edition side r))
+    (side : Side) (r s : List ℕ) → length r ≤ n → IsUtf8 r → Diverge (close_brace ∷ t) (close_brace ∷ u) r s
+    → OutcomeGuard close_brace t u (outcome (sequence_from edition side r))
     (outcome (sequence_from edition side s))
 
-selector_of-same : (t u : List ℕ) (a b : Outcome) → OutcomeGuard 125 t u a b
+selector_of-same : (t u : List ℕ) (a b : Outcome) → OutcomeGuard close_brace t u a b
     → Same t u (selector_of a) (selector_of b)
 selector_of-same t u a b (inr (both_refused x y k)) = inr (refl, k)
 selector_of-same t u a b (inr (both_accepted roles x y k)) = inr (refl, k)
@@ -58,7 +59,7 @@ selector_of-same t u (refused x) b (inl l) = inl l
 selector_of-same t u (accepted roles x) b (inl l) = inl l
 
 module _ (edition : Edition) where
-  pub solid_as-passed : (t u r s : List ℕ) → Diverge (125 ∷ t) (125 ∷ u) r s → (kind : NextKind)
+  pub solid_as-passed : (t u r s : List ℕ) → Diverge (close_brace ∷ t) (close_brace ∷ u) r s → (kind : NextKind)
       → next_kind r ≡ kind → Passed (length t) kind r (solid_as edition kind r)
   solid_as-passed t u r s h Stop k = tt
   solid_as-passed t u r s h Slash k = tt
@@ -74,10 +75,10 @@ module _ (edition : Edition) where
   -- where a solid piece is read, or its fault
   piece-guard : (n : ℕ) (t u : List ℕ) → SequencesGuarded edition n t u
       → (side : Side) (spaced : Bool) (kind : NextKind) (r s : List ℕ) (x y : Reading Token)
-      → IsSolid kind → length r ≤ suc n → Diverge (125 ∷ t) (125 ∷ u) r s → Cuts r x
+      → IsSolid kind → length r ≤ suc n → Diverge (close_brace ∷ t) (close_brace ∷ u) r s → Cuts r x
       → IsUtf8 (left_after x) → Passed (length t) kind r x
-      → Guard Equal true (125 ∷ t) (125 ∷ u) x y
-      → OutcomeGuard 125 t u (outcome (solid_sequence edition side spaced kind r x))
+      → Guard Equal true (close_brace ∷ t) (close_brace ∷ u) x y
+      → OutcomeGuard close_brace t u (outcome (solid_sequence edition side spaced kind r x))
       (outcome (solid_sequence edition side spaced kind s y))
   piece-guard n t u runs side spaced kind r s (fails f p) y w l h c z k (inl less) =
       inl (rw (fault_ending-outcome side kind spaced r f p w) less)
@@ -100,41 +101,41 @@ module _ (edition : Edition) where
       (left_of-sequence edition (side_after kind) (length t) p less)))
   piece-guard n t u runs side spaced kind r s (got x p) (got y q) w l h c z k
       (inr (e, diverge)) =
-      subst (λ (z : Token). OutcomeGuard 125 t u
+      subst (λ (z : Token). OutcomeGuard close_brace t u
       (outcome (solid_sequence edition side spaced kind r (got x p)))
       (outcome (solid_sequence edition side spaced kind s (got z q)))) e
-      (answered-guard 125 t u side spaced kind r p s q
+      (answered-guard close_brace t u side spaced kind r p s q
       (token_then x p (sequence_from edition (side_after kind) p))
       (token_then x q (sequence_from edition (side_after kind) q)) h (inr diverge)
-      (after_role-guard 125 t u (role_of x) p q (outcome (sequence_from edition
+      (after_role-guard close_brace t u (role_of x) p q (outcome (sequence_from edition
       (side_after kind) p))
       (outcome (sequence_from edition (side_after kind) q)) diverge
       (runs (side_after kind) p q (omega arith) z diverge)))
 
   solid_sequence-guard : (n : ℕ) (u v : List ℕ) → SequencesGuarded edition n (u ++ v) u
       → (side : Side) (spaced : Bool) (r s : List ℕ) → length r ≤ suc n → IsUtf8 r
-      → Diverge (125 ∷ (u ++ v)) (125 ∷ u) r s
-      → OutcomeGuard 125 (u ++ v) u (outcome
+      → Diverge (close_brace ∷ (u ++ v)) (close_brace ∷ u) r s
+      → OutcomeGuard close_brace (u ++ v) u (outcome
       (solid_sequence edition side spaced (next_kind r) r (solid edition r)))
       (outcome (solid_sequence edition side spaced (next_kind s) s (solid edition s)))
   solid_sequence-guard n u v runs side spaced r s l z h =
       rw (sym same) (by (next_kind r) refl)
     where
       same : next_kind r ≡ next_kind s
-      same = next_kind-diverge 125 (u ++ v) u r s h
+      same = next_kind-diverge close_brace (u ++ v) u r s h
 
-      ended : OutcomeGuard 125 (u ++ v) u (accepted [] r) (accepted [] s)
+      ended : OutcomeGuard close_brace (u ++ v) u (accepted [] r) (accepted [] s)
       ended = inr (both_accepted [] r s h)
 
       -- both texts, where this kind is next
       Both : NextKind → Type 0
       Both kind =
-          OutcomeGuard 125 (u ++ v) u
+          OutcomeGuard close_brace (u ++ v) u
           (outcome (solid_sequence edition side spaced kind r (solid edition r)))
           (outcome (solid_sequence edition side spaced kind s (solid edition s)))
 
       as_read : (kind : NextKind) → next_kind r ≡ kind
-          → OutcomeGuard 125 (u ++ v) u
+          → OutcomeGuard close_brace (u ++ v) u
           (outcome (solid_sequence edition side spaced kind r (solid_as edition kind r)))
           (outcome (solid_sequence edition side spaced kind s (solid_as edition kind s)))
           → Both kind
@@ -152,12 +153,12 @@ module _ (edition : Edition) where
 
       by : (kind : NextKind) → next_kind r ≡ kind → Both kind
       by Stop k =
-          as_read Stop k (answered-guard 125 (u ++ v) u side spaced Stop r r s s _ _ h
+          as_read Stop k (answered-guard close_brace (u ++ v) u side spaced Stop r r s s _ _ h
           (inr h) ended)
       by Slash k =
           as_read Slash k
-          (answered-guard 125 (u ++ v) u side spaced Slash r (past_one r) s (past_one s) _ _ h
-          (past_one-diverge 125 (u ++ v) u r s h) ended)
+          (answered-guard close_brace (u ++ v) u side spaced Slash r (past_one r) s (past_one s) _ _ h
+          (past_one-diverge close_brace (u ++ v) u r s h) ended)
       by Child k = piece Child tt k
       by Adjacent k = piece Adjacent tt k
       by Universal k = piece Universal tt k
@@ -188,8 +189,8 @@ module _ (edition : Edition) where
 
   gap_sequence-guard : (n : ℕ) (u v : List ℕ) → SequencesGuarded edition n (u ++ v) u
       → (side : Side) (x y : Reading Bool) → length (left_after x) ≤ suc n → IsUtf8 (left_after x)
-      → Guard Equal true (125 ∷ (u ++ v)) (125 ∷ u) x y
-      → OutcomeGuard 125 (u ++ v) u (outcome (gap_sequence edition side x))
+      → Guard Equal true (close_brace ∷ (u ++ v)) (close_brace ∷ u) x y
+      → OutcomeGuard close_brace (u ++ v) u (outcome (gap_sequence edition side x))
       (outcome (gap_sequence edition side y))
   gap_sequence-guard n u v runs side x y l z (inl less) =
       inl (gap_sequence-within (length (u ++ v)) side x less)
@@ -198,21 +199,21 @@ module _ (edition : Edition) where
   gap_sequence-guard n u v runs side (fails f p) (got y q) l z (inr diverge) = absurd diverge
   gap_sequence-guard n u v runs side (got x p) (fails f q) l z (inr diverge) = absurd diverge
   gap_sequence-guard n u v runs side (got x p) (got y q) l z (inr (e, diverge)) =
-      subst (λ (z : Bool). OutcomeGuard 125 (u ++ v) u
+      subst (λ (z : Bool). OutcomeGuard close_brace (u ++ v) u
       (outcome (solid_sequence edition side x (next_kind p) p (solid edition p)))
       (outcome (solid_sequence edition side z (next_kind q) q (solid edition q)))) e
       (solid_sequence-guard n u v runs side x p q l z diverge)
 
   sequence_from-guard : (u v : List ℕ) (n : ℕ) → SequencesGuarded edition n (u ++ v) u
   sequence_from-guard u v zero left r s l z h =
-      absurd (omega (arith, l, longer-diverge (125 ∷ (u ++ v)) (125 ∷ u) r s h))
+      absurd (omega (arith, l, longer-diverge (close_brace ∷ (u ++ v)) (close_brace ∷ u) r s h))
   sequence_from-guard u v (suc n) left r s l z h =
       rw (sequence_from-by edition left r, sequence_from-by edition left s)
       (gap_sequence-guard n u v (sequence_from-guard u v n) left (gap r) (gap s)
       (omega (arith, l, length-ends r (left_after (gap r)) (well-gap r).0)) ((well-gap r).1 z)
       (gap-guarded u v r s h))
 
-  pub selectors-guarded : (u v r s : List ℕ) → IsUtf8 r → Diverge (125 ∷ (u ++ v)) (125 ∷ u) r s
+  pub selectors-guarded : (u v r s : List ℕ) → IsUtf8 r → Diverge (close_brace ∷ (u ++ v)) (close_brace ∷ u) r s
       → Same (u ++ v) u (reads edition r) (reads edition s)
   unfolding reads
   selectors-guarded u v r s z h =

@@ -3,6 +3,7 @@
 use Rattle.std.proofs.Common.{◌≡◌, ℕ, zero, suc, List, [], ◌∷◌, ◌++◌, Bool, true, false, if◌then◌else◌, ◌==◌, ◌||◌, ◌<◌, not, length, get_or, Option, Some, None, Ok, Err, refl, sym, subst, append_assoc, arith, inl, inr}
 use Rattle.std.specs.List.{flat_map}
 use Rattle.std.specs.Option.{option_map}
+use Rattle.simplecss_text.specs.AsciiBytes.{at_sign, close_brace, comma as comma_byte, open_brace, semicolon}
 use Rattle.simplecss_text.specs.Reading.{Reading, got, fails, left_after, each, up_to, and_then, Ends}
 use Rattle.simplecss_text.specs.Bytes.{past, past_one, past_byte, starts, is_neither}
 use Rattle.simplecss_text.specs.Errors.{error_of}
@@ -136,11 +137,11 @@ refusal_in-within text (item (Ok token) after rest) r e =
         unknown (unknown_class name) h = tt
 
 past_refused-ends : (text rest : List ℕ) → Ends text rest → Ends text (past_refused rest)
-past_refused-ends text rest e = by (starts 44 rest)
+past_refused-ends text rest e = by (starts comma_byte rest)
   where
     by : (k : Bool) → Ends text (if k then rest else from_brace rest)
     by true = e
-    by false = ends-ends text rest (from_brace rest) e (ends-past (λ b. not (b == 123)) rest)
+    by false = ends-ends text rest (from_brace rest) e (ends-past (λ b. not (b == open_brace)) rest)
 
 selector_skips-within : (edition : Edition) (text : List ℕ)
     → AllWithin text (selector_skips edition text)
@@ -164,9 +165,9 @@ selector_skips-within edition text = by (refusal_in text (sequence_of edition te
 
 skips_after-within : (text : List ℕ) → AllWithin text (skips_after text)
 skips_after-within text =
-    within-if text (starts 44 text || starts 123 text) []
+    within-if text (starts comma_byte text || starts open_brace text) []
     (record { from = text; after = from_brace text; why = why_after (from_brace text) } ∷ []) tt
-    ((ends-same text, ends-past (λ b. not (b == 123)) text, by (length (from_brace text) == 0)), tt)
+    ((ends-same text, ends-past (λ b. not (b == open_brace)) text, by (length (from_brace text) == 0)), tt)
   where
     by : (k : Bool) → IsWhyWithin text (if k then Why.missing_block else Why.after_selector)
     by true = tt
@@ -195,7 +196,7 @@ parts_skips-within edition text =
 
 brace_skips-within : (text : List ℕ) → AllWithin text (brace_skips text)
 brace_skips-within text =
-    within-if text (starts 125 text)
+    within-if text (starts close_brace text)
     (record { from = text; after = past_one text; why = Why.extra_brace } ∷ []) []
     ((ends-same text, ends-past_one text, tt), tt) tt
 
@@ -227,11 +228,11 @@ list_skips-within edition text =
     by (fails fault rest) h =
         let end = from_block_end rest in
         let ends : Ends text end = ends-ends text rest end h (ends-from_block_end rest) in
-        within-append text (list_end_skips text end) (brace_skips (past_byte 125 end))
+        within-append text (list_end_skips text end) (brace_skips (past_byte close_brace end))
         (list_end_skips-within text end ends)
-        (within-ends text (past_byte 125 end) (brace_skips (past_byte 125 end))
-        (ends-ends text end (past_byte 125 end) ends (ends-past_byte 125 end))
-        (brace_skips-within (past_byte 125 end)))
+        (within-ends text (past_byte close_brace end) (brace_skips (past_byte close_brace end))
+        (ends-ends text end (past_byte close_brace end) ends (ends-past_byte close_brace end))
+        (brace_skips-within (past_byte close_brace end)))
 
 declaration_skips-within : (edition : Edition) (text : List ℕ)
     → AllWithin text (declaration_skips edition text)
@@ -253,9 +254,9 @@ next_block_skips-within : (edition : Edition) (text : List ℕ)
 unfolding next_block_skips
 next_block_skips-within edition text =
     let opened = from_brace text in
-    within-if text (starts 123 opened) (block_skips edition (past_one opened)) []
+    within-if text (starts open_brace opened) (block_skips edition (past_one opened)) []
     (within-ends text (past_one opened) (block_skips edition (past_one opened))
-    (ends-ends text opened (past_one opened) (ends-past (λ b. not (b == 123)) text)
+    (ends-ends text opened (past_one opened) (ends-past (λ b. not (b == open_brace)) text)
     (ends-past_one opened)) (block_skips-within edition (past_one opened))) tt
 
 -- ---- statements
@@ -264,34 +265,34 @@ rule_set_skips-within : (edition : Edition) (text : List ℕ)
     → AllWithin text (rule_set_skips edition text)
 unfolding rule_set_skips
 rule_set_skips-within edition text =
-    let head = past_byte 44 text in
+    let head = past_byte comma_byte text in
     let left = (parts edition head).1 in
     let comma : AllWithin text (comma_skips text) =
-    within-if text (starts 44 text)
+    within-if text (starts comma_byte text)
     (record { from = text; after = past_one text; why = Why.leading_comma } ∷ []) []
     ((ends-same text, ends-past_one text, tt), tt) tt in
     within-append text (comma_skips text)
     (parts_skips edition head ++ next_block_skips edition left) comma
     (within-ends text head (parts_skips edition head ++ next_block_skips edition left)
-    (ends-past_byte 44 text)
+    (ends-past_byte comma_byte text)
     (within-append head (parts_skips edition head) (next_block_skips edition left)
     (parts_skips-within edition head)
     (within-ends head left (next_block_skips edition left) (parts-ends edition head)
     (next_block_skips-within edition left))))
 
 ends-past_semicolon_or_block : (text : List ℕ) → Ends text (past_semicolon_or_block text)
-ends-past_semicolon_or_block text = by (starts 123 text)
+ends-past_semicolon_or_block text = by (starts open_brace text)
   where
     inner : List ℕ
     inner = past_one text
 
     by : (k : Bool)
-        → Ends text (if k then past_byte 125 (from_block_end inner) else past_byte 59 text)
+        → Ends text (if k then past_byte close_brace (from_block_end inner) else past_byte semicolon text)
     by true =
-        ends-ends text inner (past_byte 125 (from_block_end inner)) (ends-past_one text)
-        (ends-ends inner (from_block_end inner) (past_byte 125 (from_block_end inner))
-        (ends-from_block_end inner) (ends-past_byte 125 (from_block_end inner)))
-    by false = ends-past_byte 59 text
+        ends-ends text inner (past_byte close_brace (from_block_end inner)) (ends-past_one text)
+        (ends-ends inner (from_block_end inner) (past_byte close_brace (from_block_end inner))
+        (ends-from_block_end inner) (ends-past_byte close_brace (from_block_end inner)))
+    by false = ends-past_byte semicolon text
 
 pub ends-at_rule_rest : (edition : Edition) (text : List ℕ) → Ends text (at_rule_rest edition text)
 unfolding at_rule_rest
@@ -300,18 +301,18 @@ ends-at_rule_rest edition text =
   where
     by : (r : Reading (List ℕ)) → Ends text (left_after r) → Ends text (at_rule_rest_by_name r)
     by (got n rest) h =
-        ends-ends text rest (past_semicolon_or_block (past (is_neither 59 123) rest)) h
-        (ends-ends rest (past (is_neither 59 123) rest)
-        (past_semicolon_or_block (past (is_neither 59 123) rest))
-        (ends-past (is_neither 59 123) rest)
-        (ends-past_semicolon_or_block (past (is_neither 59 123) rest)))
+        ends-ends text rest (past_semicolon_or_block (past (is_neither semicolon open_brace) rest)) h
+        (ends-ends rest (past (is_neither semicolon open_brace) rest)
+        (past_semicolon_or_block (past (is_neither semicolon open_brace) rest))
+        (ends-past (is_neither semicolon open_brace) rest)
+        (ends-past_semicolon_or_block (past (is_neither semicolon open_brace) rest)))
     by (fails fault rest) h = h
 
 statement_skips-within : (edition : Edition) (text : List ℕ)
     → AllWithin text (statement_skips edition text)
 unfolding statement_skips
 statement_skips-within edition text =
-    within-if text (starts 64 text) (at_rule_skip edition text ∷ []) (rule_set_skips edition text) (
+    within-if text (starts at_sign text) (at_rule_skip edition text ∷ []) (rule_set_skips edition text) (
       (
         ends-same text,
         ends-ends text (past_one text) (at_rule_rest edition (past_one text))

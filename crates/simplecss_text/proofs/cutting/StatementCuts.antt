@@ -3,6 +3,7 @@
 -- `StyleSheet::parse` and `laws::edition_law`.
 use Rattle.std.proofs.Common.{Bool, IsUtf8, List, None, Some, [], ap, arith, eqb-true, false, if◌then◌else◌, inl, inr, refl, subst, sym, true, ℕ, ◌==◌, ◌∙◌, ◌∷◌, ◌≡◌, append_assoc, length, ◌++◌, ◌⊎◌, append-nil, length-append}
 use Rattle.std.proofs.lemmas.List.{append_cancel_right}
+use Rattle.simplecss_text.specs.AsciiBytes.{at_sign, close_brace, open_brace, semicolon}
 use Rattle.simplecss_text.specs.Reading.{Ends, got, before, fails, left_after}
 use Rattle.simplecss_text.specs.Bytes.{is_neither, past, starts}
 use Rattle.simplecss_text.specs.Characters.{Edition}
@@ -31,9 +32,9 @@ use Rattle.simplecss_text.proofs.bytes.Utf8Lemmas.{utf8-first}
 pub data NextEnds (edition : Edition) (text : List ℕ) (rules : List StyleRule) (rest : List ℕ) : Type 0
   where
     text_ends : rest ≡ [] → NextEnds edition text rules rest
-    rules_end : starts 64 text ≡ false → rule_set edition text ≡ (rules, rest)
-        → Ends text (125 ∷ rest) → NextEnds edition text rules rest
-    at_rule_ends : (after : List ℕ) → text ≡ 64 ∷ after → rules ≡ [] → AtRuleEnds edition after rest
+    rules_end : starts at_sign text ≡ false → rule_set edition text ≡ (rules, rest)
+        → Ends text (close_brace ∷ rest) → NextEnds edition text rules rest
+    at_rule_ends : (after : List ℕ) → text ≡ at_sign ∷ after → rules ≡ [] → AtRuleEnds edition after rest
         → NextEnds edition text rules rest
 
 -- ---- the texts before and after a cut
@@ -66,7 +67,7 @@ past_blank-diverge g u v w plain e =
 
 -- ---- statements
 
-pub sign_plain : Plain 64
+pub sign_plain : Plain at_sign
 sign_plain = record { space = refl; slash = refl; star = refl }
 
 exact-second : (g : ℕ) (t u r s : List ℕ) → Exact g t u r s → r ≡ t → s ≡ u
@@ -74,12 +75,12 @@ exact-second g t u r s after_it e = refl
 exact-second g t u r s (before_it a b h) e =
     absurd (omega (arith, longer-diverge (g ∷ t) (g ∷ u) r s h, ap length e))
 
-ends_statements-diverge : (t u r s : List ℕ) → Diverge (125 ∷ t) (125 ∷ u) r s
+ends_statements-diverge : (t u r s : List ℕ) → Diverge (close_brace ∷ t) (close_brace ∷ u) r s
     → ends_statements r ≡ ends_statements s
-ends_statements-diverge t u r s at = rw (not_empty 125 t, not_empty 125 u) refl
+ends_statements-diverge t u r s at = rw (not_empty close_brace t, not_empty close_brace u) refl
 ends_statements-diverge t u r s (on b r1 s1 h) =
     rw (not_empty b r1, not_empty b s1)
-    (opens_comment-diverge 125 t u brace_plain (b ∷ r1) (b ∷ s1) (on b r1 s1 h))
+    (opens_comment-diverge close_brace t u brace_plain (b ∷ r1) (b ∷ s1) (on b r1 s1 h))
 
 module _ (edition : Edition) where
   statement-ends : (text : List ℕ) (rules : List StyleRule) (rest : List ℕ)
@@ -90,21 +91,21 @@ module _ (edition : Edition) where
       of_rules : AfterBrace [] (rule_set edition []).1 → NextEnds edition [] rules rest
       of_rules (inl h) = text_ends (sym (ap (λ r. r.1) e) ∙ h)
       of_rules (inr h) =
-          rules_end refl e (subst (λ (x : List ℕ). Ends [] (125 ∷ x)) (ap (λ r. r.1) e) h)
-  statement-ends (b ∷ text) rules rest e = by (b == 64) refl e
+          rules_end refl e (subst (λ (x : List ℕ). Ends [] (close_brace ∷ x)) (ap (λ r. r.1) e) h)
+  statement-ends (b ∷ text) rules rest e = by (b == at_sign) refl e
     where
-      of_rules : (b == 64) ≡ false → rule_set edition (b ∷ text) ≡ (rules, rest)
+      of_rules : (b == at_sign) ≡ false → rule_set edition (b ∷ text) ≡ (rules, rest)
           → AfterBrace (b ∷ text) (rule_set edition (b ∷ text)).1
           → NextEnds edition (b ∷ text) rules rest
       of_rules f g (inl h) = text_ends (sym (ap (λ r. r.1) g) ∙ h)
       of_rules f g (inr h) =
-          rules_end f g (subst (λ (x : List ℕ). Ends (b ∷ text) (125 ∷ x)) (ap (λ r. r.1) g) h)
+          rules_end f g (subst (λ (x : List ℕ). Ends (b ∷ text) (close_brace ∷ x)) (ap (λ r. r.1) g) h)
 
-      by : (k : Bool) → (b == 64) ≡ k
+      by : (k : Bool) → (b == at_sign) ≡ k
           → (if k then ([], at_rule_rest edition text) else rule_set edition (b ∷ text))
           ≡ (rules, rest) → NextEnds edition (b ∷ text) rules rest
       by true f g =
-          at_rule_ends text (ap (λ (c : ℕ). c ∷ text) (eqb-true b 64 f)) (sym (ap (λ r. r.0) g))
+          at_rule_ends text (ap (λ (c : ℕ). c ∷ text) (eqb-true b at_sign f)) (sym (ap (λ r. r.0) g))
           (subst (AtRuleEnds edition text) (ap (λ r. r.1) g) (at_rule-ends edition text))
       by false f g = of_rules f g (rule_set-after edition (b ∷ text))
 
@@ -127,22 +128,22 @@ module _ (edition : Edition) where
 
   -- an at-rule that ends after a semicolon or a block ends after that byte
   pub semicolon-front : (text n rest left : List ℕ) → name edition text ≡ got n rest
-      → past (is_neither 59 123) rest ≡ 59 ∷ left → Ends text (59 ∷ left)
+      → past (is_neither semicolon open_brace) rest ≡ semicolon ∷ left → Ends text (semicolon ∷ left)
   semicolon-front text n rest left e f =
-      ends-ends text rest (59 ∷ left)
+      ends-ends text rest (semicolon ∷ left)
       (ends-got _ _ _ _ _ (name-stands edition text) e)
-      (subst (Ends rest) f (ends-past (is_neither 59 123) rest))
+      (subst (Ends rest) f (ends-past (is_neither semicolon open_brace) rest))
 
   pub block-front : (text n rest inner left : List ℕ) → name edition text ≡ got n rest
-      → past (is_neither 59 123) rest ≡ 123 ∷ inner → from_block_end inner ≡ 125 ∷ left
-      → Ends text (125 ∷ left)
+      → past (is_neither semicolon open_brace) rest ≡ open_brace ∷ inner → from_block_end inner ≡ close_brace ∷ left
+      → Ends text (close_brace ∷ left)
   block-front text n rest inner left e f g =
-      let opened : Ends text (123 ∷ inner) =
-      ends-ends text rest (123 ∷ inner)
+      let opened : Ends text (open_brace ∷ inner) =
+      ends-ends text rest (open_brace ∷ inner)
       (ends-got _ _ _ _ _ (name-stands edition text) e)
-      (subst (Ends rest) f (ends-past (is_neither 59 123) rest)) in
-      ends-ends text inner (125 ∷ left)
-      (ends-ends text (123 ∷ inner) inner opened (ends-tail 123 inner))
+      (subst (Ends rest) f (ends-past (is_neither semicolon open_brace) rest)) in
+      ends-ends text inner (close_brace ∷ left)
+      (ends-ends text (open_brace ∷ inner) inner opened (ends-tail open_brace inner))
       (subst (Ends inner) g (ends-from_block_end inner))
 
   pub at_rule-well : (text rest : List ℕ) → AtRuleEnds edition text rest → EndsWell text rest
@@ -150,9 +151,9 @@ module _ (edition : Edition) where
   at_rule-well text rest (at_fault fault left e) =
       subst (λ r. EndsWell text (left_after r)) e (well-name edition text)
   at_rule-well text rest (at_semicolon n x left e f) =
-      well-after 59 text rest (omega arith) (semicolon-front text n x rest e f)
+      well-after semicolon text rest (omega arith) (semicolon-front text n x rest e f)
   at_rule-well text rest (at_block n x inner left e f g) =
-      well-after 125 text rest (omega arith) (block-front text n x inner rest e f g)
+      well-after close_brace text rest (omega arith) (block-front text n x inner rest e f g)
 
   -- what is left after a blank and a statement
   next-well : (text start : List ℕ) (rules : List StyleRule) (rest : List ℕ) → Ends text start
@@ -160,9 +161,9 @@ module _ (edition : Edition) where
   next-well text start rules rest b (text_ends e) =
       subst (EndsWell text) (sym e) (well-nil text)
   next-well text start rules rest b (rules_end e f h) =
-      well-after 125 text rest (omega arith) (ends-ends text start (125 ∷ rest) b h)
+      well-after close_brace text rest (omega arith) (ends-ends text start (close_brace ∷ rest) b h)
   next-well text start rules rest b (at_rule_ends after e f h) =
-      well-then text after rest (well-after 64 text after (omega arith) (subst (Ends text) e b))
+      well-then text after rest (well-after at_sign text after (omega arith) (subst (Ends text) e b))
       (at_rule-well after rest h)
 
   pub next_statement-well : (text rest : List ℕ) (rules : List StyleRule)
@@ -173,7 +174,7 @@ module _ (edition : Edition) where
 
   -- a rule set that ends after a brace
   rule_set-cut : (w v r s : List ℕ) (rules : List StyleRule) → IsUtf8 r
-      → Diverge (125 ∷ (w ++ v)) (125 ∷ w) r s → rule_set edition r ≡ (rules, w ++ v)
+      → Diverge (close_brace ∷ (w ++ v)) (close_brace ∷ w) r s → rule_set edition r ≡ (rules, w ++ v)
       → (w ++ v ≡ []) ⊎ (rule_set edition s ≡ (rules, w))
   rule_set-cut w v r s rules z h e =
       by (rule_set edition r) (rule_set edition s) e (rule_set-same edition w v r s z h)
@@ -185,7 +186,7 @@ module _ (edition : Edition) where
       by (x, p) b f (inl (inr k)) = inl (sym (ap (λ (c : List StyleRule × List ℕ). c.1) f) ∙ k)
       by (x, p) (y, q) f (inr (k, exact)) =
           let rest : p ≡ w ++ v = ap (λ (c : List StyleRule × List ℕ). c.1) f in
-          let same : q ≡ w = exact-second 125 (w ++ v) w p q exact rest in
+          let same : q ≡ w = exact-second close_brace (w ++ v) w p q exact rest in
           let ruled : y ≡ rules = sym k ∙ ap (λ (c : List StyleRule × List ℕ). c.0) f in
           inr (rw (same, ruled) refl)
 
@@ -196,14 +197,14 @@ module _ (edition : Edition) where
   at_rule-cut s v w rest whole cut e (at_fault fault left f) =
       inr (at_rule-fault edition s v w fault (utf8-first s v whole cut) (f ∙ ap (fails fault) e))
   at_rule-cut s v w rest whole cut e (at_semicolon n x left f g) =
-      let following : past (is_neither 59 123) x ≡ 59 ∷ (w ++ v) = g
-      ∙ ap (λ (t : List ℕ). 59 ∷ t) e in
+      let following : past (is_neither semicolon open_brace) x ≡ semicolon ∷ (w ++ v) = g
+      ∙ ap (λ (t : List ℕ). semicolon ∷ t) e in
       inr (at_rule-semicolon edition (w ++ v) w (s ++ v) s n x whole
-      (diverge-of 59 s v w (semicolon-front (s ++ v) n x (w ++ v) f following)) f following)
+      (diverge-of semicolon s v w (semicolon-front (s ++ v) n x (w ++ v) f following)) f following)
   at_rule-cut s v w rest whole cut e (at_block n x inner left f g h) =
-      let following : from_block_end inner ≡ 125 ∷ (w ++ v) = h ∙ ap (λ (t : List ℕ). 125 ∷ t) e in
+      let following : from_block_end inner ≡ close_brace ∷ (w ++ v) = h ∙ ap (λ (t : List ℕ). close_brace ∷ t) e in
       inr (at_rule-block edition w v (s ++ v) s n x inner whole
-      (diverge-of 125 s v w (block-front (s ++ v) n x inner (w ++ v) f g following)) f g following)
+      (diverge-of close_brace s v w (block-front (s ++ v) n x inner (w ++ v) f g following)) f g following)
 
   -- ---- the next statement
 
@@ -233,27 +234,27 @@ module _ (edition : Edition) where
       nil : w ++ v ≡ [] → next_statement edition u ≡ Some (rules, w)
       nil n = next-nil u v w rules n e
 
-      ruled : Diverge (125 ∷ (w ++ v)) (125 ∷ w) (past_blank (u ++ v)) (past_blank u)
-          → ends_statements (past_blank (u ++ v)) ≡ false → starts 64 (past_blank (u ++ v)) ≡ false
+      ruled : Diverge (close_brace ∷ (w ++ v)) (close_brace ∷ w) (past_blank (u ++ v)) (past_blank u)
+          → ends_statements (past_blank (u ++ v)) ≡ false → starts at_sign (past_blank (u ++ v)) ≡ false
           → (w ++ v ≡ []) ⊎ (rule_set edition (past_blank u) ≡ (rules, w))
           → next_statement edition u ≡ Some (rules, w)
       ruled diverge more other (inl n) = nil n
       ruled diverge more other (inr r) =
-          let sign : starts 64 (past_blank u) ≡ false =
-          sym (starts-diverge 125 (w ++ v) w 64 (past_blank (u ++ v)) (past_blank u) diverge)
+          let sign : starts at_sign (past_blank u) ≡ false =
+          sym (starts-diverge close_brace (w ++ v) w at_sign (past_blank (u ++ v)) (past_blank u) diverge)
           ∙ other in
           let goes : ends_statements (past_blank u) ≡ false =
           sym (ends_statements-diverge (w ++ v) w (past_blank (u ++ v)) (past_blank u) diverge)
           ∙ more in
           next_statement-reads u w rules goes (rw sign r)
 
-      from_sign : (s : List ℕ) → past_blank u ≡ 64 ∷ s → rules ≡ []
+      from_sign : (s : List ℕ) → past_blank u ≡ at_sign ∷ s → rules ≡ []
           → (w ++ v ≡ []) ⊎ (at_rule_rest edition s ≡ w) → next_statement edition u ≡ Some
           (rules, w)
       from_sign s is none (inl n) = nil n
       from_sign s is none (inr r) =
           let goes : ends_statements (past_blank u) ≡ false =
-          ap ends_statements is ∙ rw (not_empty 64 s) refl in
+          ap ends_statements is ∙ rw (not_empty at_sign s) refl in
           let read : statement edition (past_blank u) ≡ (rules, w) =
           ap (statement edition) is ∙ rw (r, none) refl in
           next_statement-reads u w rules goes read
@@ -263,8 +264,8 @@ module _ (edition : Edition) where
           → next_statement edition u ≡ Some (rules, w)
       by more (text_ends n) = nil n
       by more (rules_end other r h) =
-          let diverge : Diverge (125 ∷ (w ++ v)) (125 ∷ w) (past_blank (u ++ v)) (past_blank u) =
-          past_blank-diverge 125 u v w brace_plain h in
+          let diverge : Diverge (close_brace ∷ (w ++ v)) (close_brace ∷ w) (past_blank (u ++ v)) (past_blank u) =
+          past_blank-diverge close_brace u v w brace_plain h in
           ruled diverge more other (rule_set-cut w v (past_blank (u ++ v)) (past_blank u) rules
           ((well-past_blank (u ++ v)).1 whole) diverge r)
       by more (at_rule_ends after is none h) =
@@ -272,16 +273,16 @@ module _ (edition : Edition) where
           let parts : after ≡ s ++ v =
           sym (append_assoc (before after (w ++ v)) w v
           ∙ (at_rule-well after (w ++ v) h).0) in
-          let start : past_blank (u ++ v) ≡ 64 ∷ (s ++ v) = is ∙ ap (λ
-          (t : List ℕ). 64 ∷ t) parts in
-          let following : Ends (past_blank (u ++ v)) (64 ∷ (s ++ v)) =
+          let start : past_blank (u ++ v) ≡ at_sign ∷ (s ++ v) = is ∙ ap (λ
+          (t : List ℕ). at_sign ∷ t) parts in
+          let following : Ends (past_blank (u ++ v)) (at_sign ∷ (s ++ v)) =
           subst (Ends (past_blank (u ++ v))) start (ends-same (past_blank (u ++ v))) in
-          let diverge : Diverge (64 ∷ (s ++ v)) (64 ∷ s) (past_blank (u ++ v)) (past_blank u) =
-          past_blank-diverge 64 u v s sign_plain following in
+          let diverge : Diverge (at_sign ∷ (s ++ v)) (at_sign ∷ s) (past_blank (u ++ v)) (past_blank u) =
+          past_blank-diverge at_sign u v s sign_plain following in
           let whole_after : IsUtf8 (s ++ v) =
-          utf8-after (u ++ v) (s ++ v) 64 (omega arith) whole
-          (ends-ends (u ++ v) (past_blank (u ++ v)) (64 ∷ (s ++ v)) (ends-past_blank (u ++ v))
+          utf8-after (u ++ v) (s ++ v) at_sign (omega arith) whole
+          (ends-ends (u ++ v) (past_blank (u ++ v)) (at_sign ∷ (s ++ v)) (ends-past_blank (u ++ v))
           following) in
-          from_sign s (diverge-at 64 (s ++ v) s (past_blank (u ++ v)) (past_blank u) diverge start) none
+          from_sign s (diverge-at at_sign (s ++ v) s (past_blank (u ++ v)) (past_blank u) diverge start) none
           (at_rule-cut s v w (w ++ v) whole_after cut refl
           (subst (λ (t : List ℕ). AtRuleEnds edition t (w ++ v)) parts h))

@@ -3,6 +3,7 @@
 -- `StyleSheet::parse` and `laws::edition_law`.
 use Rattle.std.proofs.Common.{Bool, List, arith, None, Some, [], ap, eqb-true, false, if◌then◌else◌, inl, inr, not, one-add, refl, subst, sym, true, ℕ, ◌&&◌, ◌==◌, ◌∙◌, ◌∷◌, ◌≡◌, ◌⊎◌}
 use Rattle.std.specs.List.{prefix_len}
+use Rattle.simplecss_text.specs.AsciiBytes.{close_brace, comma, open_brace, semicolon}
 use Rattle.simplecss_text.specs.Reading.{Ends, Fault, Reading, each, fails, found, got}
 use Rattle.simplecss_text.specs.Bytes.{is_neither, past, past_byte, past_one, starts}
 use Rattle.simplecss_text.specs.Characters.{Edition, is_space}
@@ -40,32 +41,32 @@ starts-is c (b ∷ text) e = rw e (ap (λ (x : ℕ). x ∷ text) (eqb-true b c e
 
 -- nothing is left, or what is left directly follows a closing brace
 abbrev pub AfterBrace : List ℕ → List ℕ → Type 0
-AfterBrace text rest = (rest ≡ []) ⊎ Ends text (125 ∷ rest)
+AfterBrace text rest = (rest ≡ []) ⊎ Ends text (close_brace ∷ rest)
 
 after-from : (text middle rest : List ℕ) → Ends text middle → AfterBrace middle rest
     → AfterBrace text rest
 after-from text middle rest h (inl e) = inl e
-after-from text middle rest h (inr k) = inr (ends-ends text middle (125 ∷ rest) h k)
+after-from text middle rest h (inr k) = inr (ends-ends text middle (close_brace ∷ rest) h k)
 
-after-brace : (text rest : List ℕ) → Ends text rest → (rest ≡ []) ⊎ (starts 125 rest ≡ true)
-    → AfterBrace text (past_byte 125 rest)
-after-brace text rest h (inl e) = inl (ap (past_byte 125) e)
-after-brace text rest h (inr e) = inr (subst (Ends text) (starts-is 125 rest e) h)
+after-brace : (text rest : List ℕ) → Ends text rest → (rest ≡ []) ⊎ (starts close_brace rest ≡ true)
+    → AfterBrace text (past_byte close_brace rest)
+after-brace text rest h (inl e) = inl (ap (past_byte close_brace) e)
+after-brace text rest h (inr e) = inr (subst (Ends text) (starts-is close_brace rest e) h)
 
 after-further : (text rest : List ℕ) → AfterBrace text rest
-    → AfterBrace text (past_byte 125 rest)
-after-further text rest (inl e) = inl (ap (past_byte 125) e)
-after-further text rest (inr h) = by (starts 125 rest) refl
+    → AfterBrace text (past_byte close_brace rest)
+after-further text rest (inl e) = inl (ap (past_byte close_brace) e)
+after-further text rest (inr h) = by (starts close_brace rest) refl
   where
-    by : (k : Bool) → starts 125 rest ≡ k → AfterBrace text (past_byte 125 rest)
+    by : (k : Bool) → starts close_brace rest ≡ k → AfterBrace text (past_byte close_brace rest)
     by true e =
-        inr (subst (Ends text) (starts-is 125 rest e)
-        (ends-ends text (125 ∷ rest) rest h (ends-tail 125 rest)))
-    by false e = inr (subst (λ (x : List ℕ). Ends text (125 ∷ x)) (sym (no_brace rest e)) h)
+        inr (subst (Ends text) (starts-is close_brace rest e)
+        (ends-ends text (close_brace ∷ rest) rest h (ends-tail close_brace rest)))
+    by false e = inr (subst (λ (x : List ℕ). Ends text (close_brace ∷ x)) (sym (no_brace rest e)) h)
 
 -- ---- blocks
 
-list_end : (text : List ℕ) → ends_list text ≡ true → (text ≡ []) ⊎ (starts 125 text ≡ true)
+list_end : (text : List ℕ) → ends_list text ≡ true → (text ≡ []) ⊎ (starts close_brace text ≡ true)
 list_end [] e = inl refl
 list_end (b ∷ text) e = inr (rw (not_empty b text) at e)
 
@@ -78,13 +79,13 @@ pub data AtRuleEnds (edition : Edition) (text : List ℕ) : List ℕ → Type 0 
   at_fault : (fault : Fault) (left : List ℕ) → name edition text ≡ fails fault left
       → AtRuleEnds edition text left
   at_semicolon : (n rest left : List ℕ) → name edition text ≡ got n rest
-      → past (is_neither 59 123) rest ≡ 59 ∷ left → AtRuleEnds edition text left
+      → past (is_neither semicolon open_brace) rest ≡ semicolon ∷ left → AtRuleEnds edition text left
   at_block : (n rest inner left : List ℕ) → name edition text ≡ got n rest
-      → past (is_neither 59 123) rest ≡ 123 ∷ inner → from_block_end inner ≡ 125 ∷ left
+      → past (is_neither semicolon open_brace) rest ≡ open_brace ∷ inner → from_block_end inner ≡ close_brace ∷ left
       → AtRuleEnds edition text left
 
-neither_one : (b : ℕ) → is_neither 59 123 b ≡ false → (b == 123) ≡ false → (b == 59) ≡ true
-neither_one b e f = by (b == 59) (rw f at e)
+neither_one : (b : ℕ) → is_neither semicolon open_brace b ≡ false → (b == open_brace) ≡ false → (b == semicolon) ≡ true
+neither_one b e f = by (b == semicolon) (rw f at e)
   where
     by : (k : Bool) → (not k && true) ≡ false → k ≡ true
     by true h = refl
@@ -92,15 +93,15 @@ neither_one b e f = by (b == 59) (rw f at e)
 
 module _ (edition : Edition) where
   broken-after : (text : List ℕ) → found (declaration edition text) ≡ None
-      → AfterBrace text (past_byte 125 (past_broken (declaration edition text)))
+      → AfterBrace text (past_byte close_brace (past_broken (declaration edition text)))
   broken-after text none =
       by (declaration edition text) (declaration-stands edition text) none
     where
       by : (r : Reading StyleDeclaration) → Stands text no_texts r → found r ≡ None
-          → AfterBrace text (past_byte 125 (past_broken r))
+          → AfterBrace text (past_byte close_brace (past_broken r))
       by (got declared rest) h e = absurd (cc)
       by (fails fault rest) h e =
-          after-further text (past_byte 125 (from_block_end rest))
+          after-further text (past_byte close_brace (from_block_end rest))
           (after-brace text (from_block_end rest)
           (ends-ends text rest (from_block_end rest) h.at (ends-from_block_end rest))
           (at_brace rest))
@@ -116,7 +117,7 @@ module _ (edition : Edition) where
       left = each-ends (declaration_in_block edition) (declaration_in_block-ends edition) text
 
       by : (k : Bool) → ends_list a ≡ k
-          → AfterBrace text (past_byte 125 (if k then a else past_broken (declaration edition a)))
+          → AfterBrace text (past_byte close_brace (if k then a else past_broken (declaration edition a)))
       by true e = after-brace text a left (list_end a e)
       by false e =
           after-from text a _ left (broken-after a (none_broken edition a e
@@ -126,14 +127,14 @@ module _ (edition : Edition) where
 
   next_block-after : (text : List ℕ) → AfterBrace text (next_block edition text).1
   unfolding next_block
-  next_block-after text = by (starts 123 opened)
+  next_block-after text = by (starts open_brace opened)
     where
       opened : List ℕ
-      opened = past (λ b. not (b == 123)) text
+      opened = past (λ b. not (b == open_brace)) text
 
       inside : Ends text (past_one opened)
       inside =
-          ends-ends text opened (past_one opened) (ends-past (λ b. not (b == 123)) text)
+          ends-ends text opened (past_one opened) (ends-past (λ b. not (b == open_brace)) text)
           (ends-past_one opened)
 
       by : (k : Bool) → AfterBrace text (if k then block edition (past_one opened) else ([], [])).1
@@ -147,16 +148,16 @@ module _ (edition : Edition) where
       (reads-ends edition text) (ends-past is_space (reads edition text).1)
 
   pub part_and_comma-well : (text : List ℕ) → WellFound text (part_and_comma edition text)
-  part_and_comma-well text = by (starts 44 rest) refl
+  part_and_comma-well text = by (starts comma rest) refl
     where
       rest : List ℕ
       rest = (part edition text).1
 
-      by : (k : Bool) → starts 44 rest ≡ k
+      by : (k : Bool) → starts comma rest ≡ k
           → WellFound text (if k then Some ((part edition text).0, past_one rest) else None)
       by true e =
-          well-after 44 text (past_one rest) (omega arith)
-          (subst (Ends text) (starts-cons 44 rest e) (part-ends text))
+          well-after comma text (past_one rest) (omega arith)
+          (subst (Ends text) (starts-cons comma rest e) (part-ends text))
       by false e = tt
 
   pub part_and_comma-ends : (text : List ℕ) → EndsFound text (part_and_comma edition text)
@@ -174,36 +175,36 @@ module _ (edition : Edition) where
   pub rule_set-after : (text : List ℕ) → AfterBrace text (rule_set edition text).1
   unfolding rule_set
   rule_set-after text =
-      let head = (parts edition (past_byte 44 text)).1 in
-      after-from text head _ (ends-ends text (past_byte 44 text) head (ends-past_byte 44 text)
-      (parts-ends (past_byte 44 text))) (next_block-after head)
+      let head = (parts edition (past_byte comma text)).1 in
+      after-from text head _ (ends-ends text (past_byte comma text) head (ends-past_byte comma text)
+      (parts-ends (past_byte comma text))) (next_block-after head)
 
   at_block-ends : (text n rest inner : List ℕ) → name edition text ≡ got n rest
-      → past (is_neither 59 123) rest ≡ 123 ∷ inner
-      → AtRuleEnds edition text (past_byte 125 (from_block_end inner))
+      → past (is_neither semicolon open_brace) rest ≡ open_brace ∷ inner
+      → AtRuleEnds edition text (past_byte close_brace (from_block_end inner))
   at_block-ends text n rest inner e f = by (at_brace inner)
     where
-      by : (from_block_end inner ≡ []) ⊎ (starts 125 (from_block_end inner) ≡ true)
-          → AtRuleEnds edition text (past_byte 125 (from_block_end inner))
+      by : (from_block_end inner ≡ []) ⊎ (starts close_brace (from_block_end inner) ≡ true)
+          → AtRuleEnds edition text (past_byte close_brace (from_block_end inner))
       by (inl h) = rw h uses_up
       by (inr h) =
-          at_block n rest inner (past_byte 125 (from_block_end inner)) e f
-          (starts-is 125 (from_block_end inner) h)
+          at_block n rest inner (past_byte close_brace (from_block_end inner)) e f
+          (starts-is close_brace (from_block_end inner) h)
 
   at_end-ends : (text n rest : List ℕ) → name edition text ≡ got n rest → (x : List ℕ)
-      → past (is_neither 59 123) rest ≡ x → AtRuleEnds edition text (past_semicolon_or_block x)
+      → past (is_neither semicolon open_brace) rest ≡ x → AtRuleEnds edition text (past_semicolon_or_block x)
   at_end-ends text n rest e [] f = uses_up
-  at_end-ends text n rest e (b ∷ x) f = by (b == 123) refl
+  at_end-ends text n rest e (b ∷ x) f = by (b == open_brace) refl
     where
-      by : (j : Bool) → (b == 123) ≡ j
+      by : (j : Bool) → (b == open_brace) ≡ j
           → AtRuleEnds edition text
-          (if j then past_byte 125 (from_block_end x) else (if b == 59 then x else b ∷ x))
-      by true g = at_block-ends text n rest x e (f ∙ ap (λ (c : ℕ). c ∷ x) (eqb-true b 123 g))
+          (if j then past_byte close_brace (from_block_end x) else (if b == semicolon then x else b ∷ x))
+      by true g = at_block-ends text n rest x e (f ∙ ap (λ (c : ℕ). c ∷ x) (eqb-true b open_brace g))
       by false g =
-          let is_semicolon : (b == 59) ≡ true =
-          neither_one b (past-stops (is_neither 59 123) rest b x f) g in
+          let is_semicolon : (b == semicolon) ≡ true =
+          neither_one b (past-stops (is_neither semicolon open_brace) rest b x f) g in
           rw is_semicolon (at_semicolon n rest x e (f ∙ ap (λ (c : ℕ). c ∷ x)
-          (eqb-true b 59 is_semicolon)))
+          (eqb-true b semicolon is_semicolon)))
 
   pub at_rule-ends : (text : List ℕ) → AtRuleEnds edition text (at_rule_rest edition text)
   unfolding at_rule_rest
@@ -212,4 +213,4 @@ module _ (edition : Edition) where
       by : (r : Reading (List ℕ)) → name edition text ≡ r
           → AtRuleEnds edition text (at_rule_rest_by_name r)
       by (fails fault left) e = at_fault fault left e
-      by (got n rest) e = at_end-ends text n rest e (past (is_neither 59 123) rest) refl
+      by (got n rest) e = at_end-ends text n rest e (past (is_neither semicolon open_brace) rest) refl

@@ -3,6 +3,7 @@
 -- slash).
 use Rattle.std.proofs.Common.{Bool, List, None, Option, Some, [], ap, filter, if◌then◌else◌, map, not, refl, sym, ℕ, ◌++◌, ◌==◌, ◌∙◌, ◌∷◌, ◌≡◌}
 use Rattle.std.specs.List.{filter_map, flat_map}
+use Rattle.simplecss_text.specs.AsciiBytes.{at_sign, close_brace, comma, open_brace}
 use Rattle.simplecss_text.specs.Reading.{Ends, Reader, Reading, each, fails, follow, found, got}
 use Rattle.simplecss_text.specs.Bytes.{past, past_byte, past_one, starts}
 use Rattle.simplecss_text.specs.Characters.{Edition, first_edition, is_space, second_edition}
@@ -116,10 +117,10 @@ block-editions text h =
     let last : past_list first_edition listed.1
     ≡ past_list second_edition listed.1 = if-editions (ends_list listed.1) _ _ _ _ refl
     (ap past_broken ((declaration-lawful listed.1 listed.1).same shared)) in
-    ap (λ (t : List ℕ). (listed.0, past_byte 125 t)) last
+    ap (λ (t : List ℕ). (listed.0, past_byte close_brace t)) last
     ∙ ap (λ (r : List StyleDeclaration × List ℕ). (
       r.0,
-      past_byte 125
+      past_byte close_brace
           (past_list second_edition r.1),
     )) (each-editions (declaration_in_block first_edition)
     (declaration_in_block second_edition) declaration_in_block-editions
@@ -129,10 +130,10 @@ next_block-editions : (text : List ℕ) → Shared text
     → next_block first_edition text ≡ next_block second_edition text
 unfolding next_block
 next_block-editions text h =
-    let opened : List ℕ = past (λ b. not (b == 123)) text in
+    let opened : List ℕ = past (λ b. not (b == open_brace)) text in
     let inner : Ends text (past_one opened) = ends-ends text opened (past_one opened)
-    (ends-past (λ b. not (b == 123)) text) (ends-past_one opened) in
-    if-editions (starts 123 opened) _ _ _ _ (block-editions (past_one opened)
+    (ends-past (λ b. not (b == open_brace)) text) (ends-past_one opened) in
+    if-editions (starts open_brace opened) _ _ _ _ (block-editions (past_one opened)
     (shared-ends text (past_one opened) inner h)) refl
 
 part-editions : (text : List ℕ) → Shared text → part first_edition text ≡ part second_edition text
@@ -142,7 +143,7 @@ part-editions text h = ap (λ (r : Option (List Component) × List ℕ). (r.0, p
 
 part_and_comma-editions : (text : List ℕ) → Shared text
     → part_and_comma first_edition text ≡ part_and_comma second_edition text
-part_and_comma-editions text h = ap (λ (r : Option (List Component) × List ℕ). if starts 44 r.1 then
+part_and_comma-editions text h = ap (λ (r : Option (List Component) × List ℕ). if starts comma r.1 then
     Some (r.0, past_one r.1) else None) (part-editions text h)
 
 parts-editions : (text : List ℕ) → Shared text
@@ -170,8 +171,8 @@ rule_set-editions : (text : List ℕ) → Shared text
     → rule_set first_edition text ≡ rule_set second_edition text
 unfolding rule_set
 rule_set-editions text h =
-    let start : List ℕ = past_byte 44 text in
-    let shared : Shared start = shared-ends text start (ends-past_byte 44 text) h in
+    let start : List ℕ = past_byte comma text in
+    let shared : Shared start = shared-ends text start (ends-past_byte comma text) h in
     let head : List (List Component) × List ℕ = parts first_edition start in
     ap (λ (body : List StyleDeclaration × List ℕ). (
       map
@@ -200,7 +201,7 @@ statement-editions : (text : List ℕ) → Shared text
     → statement first_edition text ≡ statement second_edition text
 unfolding statement
 statement-editions text h =
-    if-editions (starts 64 text) _ _ _ _
+    if-editions (starts at_sign text) _ _ _ _
     (ap (λ (t : List ℕ). ([], t)) (at_rule_rest-editions (past_one text)
     (shared-ends text (past_one text) (ends-past_one text) h)))
     (rule_set-editions text h)

@@ -2,6 +2,7 @@
 -- Serves `DeclarationTokenizer` and `consume_declarations` (their loops end), and
 -- `laws::cutting_law`.
 use Rattle.std.proofs.Common.{ℕ, ◌≤◌, List, Bool, true, false, if◌then◌else◌, length, Option, None, arith, length-drop}
+use Rattle.simplecss_text.specs.AsciiBytes.{close_brace}
 use Rattle.simplecss_text.specs.Reading.{Reading, got, fails, each}
 use Rattle.simplecss_text.specs.Characters.{Edition}
 use Rattle.simplecss_text.specs.Declarations.{StyleDeclaration, declaration, next_declaration}
@@ -22,7 +23,7 @@ length-past_broken : (text : List ℕ) (r : Reading StyleDeclaration) → Keeps 
     → length (past_broken r) ≤ length text
 length-past_broken text (got declared rest) h = h
 length-past_broken text (fails fault rest) h = omega
-    (arith, length-past_byte 125 (from_block_end rest), length-from_block_end rest)
+    (arith, length-past_byte close_brace (from_block_end rest), length-from_block_end rest)
 
 module _ (edition : Edition) where
   pub next_declaration-takes : Takes (next_declaration edition)
@@ -51,5 +52,5 @@ module _ (edition : Edition) where
         arith,
         each-within (declaration_in_block edition) declaration_in_block-takes text,
         length-past_list rest,
-        length-past_byte 125 (past_list edition rest),
+        length-past_byte close_brace (past_list edition rest),
       )

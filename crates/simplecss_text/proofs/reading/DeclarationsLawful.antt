@@ -8,6 +8,7 @@ use lib.Utf8.{encode}
 use Rattle.std.proofs.lemmas.Bool.Decides.{nat_tests}
 use Rattle.std.proofs.lemmas.List.{take-append-drop}
 use Rattle.std.proofs.lemmas.Slice.Eq.{bytes_eq-Decides}
+use Rattle.simplecss_text.specs.AsciiBytes.{asterisk, close_brace, close_parenthesis, colon, comma, exclamation_mark, full_stop, hyphen, number_sign, open_parenthesis, percent_sign, semicolon as semicolon_byte, slash}
 use Rattle.simplecss_text.specs.Reading.{Reader, Ends, Reading, before, each, ended, fails, follow, found, give, no_name, got, here, left_after, ◌>>=◌, ◌>>◌}
 use Rattle.simplecss_text.specs.Bytes.{after_byte, byte, closed_or, is_digit, optional, past, past_byte, past_one, starts}
 use Rattle.simplecss_text.specs.Characters.{Edition, first_edition, second_edition}
@@ -48,33 +49,33 @@ number_low b e = grind (arith, nat_tests)
 
 -- a comma and a slash are ASCII
 pub single-low : (edition : Edition) (b : ℕ) (text : List ℕ)
-    → (b == 44 || is_slash_term edition b text) ≡ true → b < 128
+    → (b == comma || is_slash_term edition b text) ≡ true → b < 128
 single-low first_edition b text e = grind (arith, nat_tests)
-single-low second_edition b text e = by (b == 44) (b == 47) refl refl e
+single-low second_edition b text e = by (b == comma) (b == slash) refl refl e
   where
-    by : (x y : Bool) → (b == 44) ≡ x → (b == 47) ≡ y → (x || (y && not (starts 42 text))) ≡ true
+    by : (x y : Bool) → (b == comma) ≡ x → (b == slash) ≡ y → (x || (y && not (starts asterisk text))) ≡ true
         → b < 128
-    by true y h k e = let same = eqb-true b 44 h in omega arith
-    by false true h k e = let same = eqb-true b 47 k in omega arith
+    by true y h k e = let same = eqb-true b comma h in omega arith
+    by false true h k e = let same = eqb-true b slash k in omega arith
     by false false h k e = absurd (cc)
 
 arguments-lawful : (c : Bool) → Lawful c (λ edition. arguments) (λ edition. arguments)
 arguments-lawful c r s =
-    owes-starts 40 (λ edition q e w. w.no_opening)
-    (λ e edition. shorter (after_byte 41 r) (after_byte-after 41 r) (starts-cons 40 r e))
+    owes-starts open_parenthesis (λ edition q e w. w.no_opening)
+    (λ e edition. shorter (after_byte close_parenthesis r) (after_byte-after close_parenthesis r) (starts-cons open_parenthesis r e))
     (λ e. record {
       left =
-          λ edition. well-closed 41 r ended (after_byte 41 r) (omega arith)
-          (after_byte-after 41 r);
+          λ edition. well-closed close_parenthesis r ended (after_byte close_parenthesis r) (omega arith)
+          (after_byte-after close_parenthesis r);
       same = λ h. refl;
-      guard = λ edition t u m v h. closed-diverge c t u 41 ended ended r s h;
+      guard = λ edition t u m v h. closed-diverge c t u close_parenthesis ended ended r s h;
     })
     (owes-give tt r s)
   where
-    shorter : (o : Option (List ℕ)) → IfAfter 41 r o → r ≡ 40 ∷ past_one r
+    shorter : (o : Option (List ℕ)) → IfAfter close_parenthesis r o → r ≡ open_parenthesis ∷ past_one r
         → length (left_after (closed_or ended o)) < length r
     shorter None h e = omega (arith, ap length e)
-    shorter (Some rest) h e = omega (arith, ap length h.1, length-append h.0 (41 ∷ rest))
+    shorter (Some rest) h e = omega (arith, ap length h.1, length-append h.0 (close_parenthesis ∷ rest))
 
 past_hash-lawful : (c : Bool)
     → Lawful c (λ edition text. got (tt {0}) (past_hash (name edition text)))
@@ -95,14 +96,14 @@ pub past_decimals-lawful : (c : Bool)
     → Lawful c (λ edition text. got (tt {0}) (past_decimals text))
     (λ edition text. got tt (past_decimals text))
 past_decimals-lawful c r s =
-    passes-sign 46 (omega arith) (λ edition q e w. w.no_point) _ _ _ _
+    passes-sign full_stop (omega arith) (λ edition q e w. w.no_point) _ _ _ _
     (past-lawful c is_digit digit_low (λ edition q w. w.no_digit) (past_one r) (past_one s))
     (owes-give tt r s)
 
 pub past_unit-lawful : (c : Bool) → Lawful c (λ edition text. got (tt {0}) (past_unit edition text))
     (λ edition text. got tt (past_unit edition text))
 past_unit-lawful c r s =
-    passes-sign 37 (omega arith) (λ edition q e w. w.no_percent) _ _ _ _
+    passes-sign percent_sign (omega arith) (λ edition q e w. w.no_percent) _ _ _ _
     (owes-give tt (past_one r) (past_one s)) (past_name-lawful c r s)
 
 past_number-lawful : (c : Bool) → Lawful c (λ edition text. got (tt {0}) (past_number edition text))
@@ -117,7 +118,7 @@ past_number-lawful c r s =
     (λ x. past_unit-lawful c))
 
 -- a word, where the text is no lone hyphen
-word-owes : (c : Bool) (r s : List ℕ) → (c ≡ false → r ≡ 45 ∷ [] → ⊥)
+word-owes : (c : Bool) (r s : List ℕ) → (c ≡ false → r ≡ hyphen ∷ [] → ⊥)
     → Owes c r s (λ edition. word edition r) (λ edition. word edition s)
 unfolding word
 word-owes c r s some = owes-follow _ _ (name-owes c r s some) (λ n. arguments-lawful c)
@@ -128,7 +129,7 @@ quoted-lawful c quote e r s =
     owes-follow _ _ (string_after-lawful c quote e r s) (λ inside. owes-give tt)
 
 -- no slash begins a term
-slash-editions : (b : ℕ) (text : List ℕ) → (b == 47) ≡ false
+slash-editions : (b : ℕ) (text : List ℕ) → (b == slash) ≡ false
     → is_slash_term first_edition b text ≡ is_slash_term second_edition b text
 slash-editions b text e = rw e refl
 
@@ -143,27 +144,27 @@ pub term-cuts : (edition : Edition) (text : List ℕ) → Cuts text (term editio
 unfolding term
 term-cuts edition [] = omega arith
 term-cuts edition (b ∷ text) =
-    cuts-if (b ∷ text) (b == 35) _ _ (owes-cuts b (past_hash-lawful true text text) edition)
+    cuts-if (b ∷ text) (b == number_sign) _ _ (owes-cuts b (past_hash-lawful true text text) edition)
     (cuts-if (b ∷ text) (begins_number b) _ _
     (owes-cuts b (past_number-lawful true text text) edition)
     (cuts-so (b ∷ text) (is_quote b) _ _
     (λ e. owes-cuts b (quoted-lawful true b e text text) edition)
-    (cuts-if (b ∷ text) (b == 44 || is_slash_term edition b text) _ _ (omega arith)
+    (cuts-if (b ∷ text) (b == comma || is_slash_term edition b text) _ _ (omega arith)
     (word-cuts edition (b ∷ text)))))
 
 -- what begins no number is no hyphen
-number_hyphen : (b : ℕ) → begins_number b ≡ false → b ≡ 45 → ⊥
+number_hyphen : (b : ℕ) → begins_number b ≡ false → b ≡ hyphen → ⊥
 number_hyphen b e is = let here : begins_number b ≡ true = ap begins_number is in cc
 
 -- a slash that is no term begins none
 pub slash_word : (edition : Edition) (text : List ℕ)
-    → word edition (47 ∷ text) ≡ fails (no_name (47 ∷ text)) (47 ∷ text)
+    → word edition (slash ∷ text) ≡ fails (no_name (slash ∷ text)) (slash ∷ text)
 unfolding word
 slash_word edition text =
-    rw (name-none_begins edition (47 ∷ text)
-    (ap (begins_name edition) (chars-byte 47 text (omega arith)) ∙ by edition (chars text))) refl
+    rw (name-none_begins edition (slash ∷ text)
+    (ap (begins_name edition) (chars-byte slash text (omega arith)) ∙ by edition (chars text))) refl
   where
-    by : (edition : Edition) (cs : List ℕ) → begins_name edition (47 ∷ cs) ≡ false
+    by : (edition : Edition) (cs : List ℕ) → begins_name edition (slash ∷ cs) ≡ false
     by first_edition [] = refl
     by first_edition (c ∷ cs) = refl
     by second_edition [] = refl
@@ -171,7 +172,7 @@ slash_word edition text =
 
 -- a comma, or a slash that opens no comment
 abbrev is_single : Edition → ℕ → List ℕ → Bool
-is_single edition b text = b == 44 || is_slash_term edition b text
+is_single edition b text = b == comma || is_slash_term edition b text
 
 abbrev single : Edition → ℕ → List ℕ → Reading (Unit {0})
 single edition b text = if is_single edition b text then got tt text else word edition (b ∷ text)
@@ -181,24 +182,24 @@ single-cuts edition b text =
     cuts-if (b ∷ text) (is_single edition b text) (got tt text) (word edition (b ∷ text))
     (omega arith) (word-cuts edition (b ∷ text))
 
-slash_passed : (t text : List ℕ) (b : ℕ) → (b == 47) ≡ true
+slash_passed : (t text : List ℕ) (b : ℕ) → (b == slash) ≡ true
     → Passed false t (word second_edition (b ∷ text))
 slash_passed t text b e =
     subst (Passed false t) (sym (slash_word second_edition text)
-    ∙ ap (λ (k : ℕ). word second_edition (k ∷ text)) (sym (eqb-true b 47 e))) tt
+    ∙ ap (λ (k : ℕ). word second_edition (k ∷ text)) (sym (eqb-true b slash e))) tt
 
 -- The test comes out the same. Or a comment opens in the first tail: then the slash begins no term.
 single-after : (edition : Edition) (c : Bool) (t : List ℕ) (b : ℕ) (r s : List ℕ)
-    → (starts 42 r ≡ starts 42 s) ⊎ ((c ≡ false) × (r ≡ t) × (starts 42 r ≡ true))
+    → (starts asterisk r ≡ starts asterisk s) ⊎ ((c ≡ false) × (r ≡ t) × (starts asterisk r ≡ true))
     → (is_single edition b r ≡ is_single edition b s) ⊎ Passed c t (single edition b r)
 single-after first_edition c t b r s h = inl refl
 single-after second_edition c t b r s (inl e) =
-    inl (ap (λ (k : Bool). b == 44 || (b == 47 && not k)) e)
+    inl (ap (λ (k : Bool). b == comma || (b == slash && not k)) e)
 single-after second_edition true t b r s (inr h) = absurd (let e : true ≡ false = h.0 in cc)
-single-after second_edition false t b r s (inr h) = rw h.2 (by (b == 44) (b == 47) refl)
+single-after second_edition false t b r s (inr h) = rw h.2 (by (b == comma) (b == slash) refl)
   where
-    by : (j k : Bool) → (b == 47) ≡ k
-        → ((j || (k && false)) ≡ (j || (k && not (starts 42 s)))) ⊎ Passed false t
+    by : (j k : Bool) → (b == slash) ≡ k
+        → ((j || (k && false)) ≡ (j || (k && not (starts asterisk s)))) ⊎ Passed false t
         (if j || (k && false) then got (tt {0}) r else word second_edition (b ∷ r))
     by true k f = inl refl
     by false false f = inl refl
@@ -208,7 +209,7 @@ single-seam : (edition : Edition) (c : Bool) (t u : List ℕ) → Seam edition c
     → (b d : ℕ) (r s : List ℕ) → Diverge t u (b ∷ r) (d ∷ s)
     → (is_single edition b r ≡ is_single edition d s) ⊎ Passed c t (single edition b r)
 single-seam edition c t u m b d r s (on _ _ _ h) =
-    single-after edition c t b r s (starts-seam c t u 42 (λ q e w. w.no_star) m r s h)
+    single-after edition c t b r s (starts-seam c t u asterisk (λ q e w. w.no_star) m r s h)
 single-seam first_edition c t u (at_brace x y) b d r s at = inl refl
 single-seam second_edition c t u (at_brace x y) b d r s at = inl refl
 single-seam edition c t u (at_quiet _ q more w z) b d r s at =
@@ -217,14 +218,14 @@ single-seam edition c t u (at_quiet _ q more w z) b d r s at =
 pub term-lawful : (c : Bool) → Lawful c term term
 unfolding term
 term-lawful c = lawful-cases term term (λ e. term-cuts) (owes-fails ended ended [] []) (λ b r s.
-    owes-so (b == 35) _ _
-    (λ e. owes-past b (omega (arith, eqb-true b 35 e)) (past_hash-lawful c r s)) (λ e0.
+    owes-so (b == number_sign) _ _
+    (λ e. owes-past b (omega (arith, eqb-true b number_sign e)) (past_hash-lawful c r s)) (λ e0.
     owes-so (begins_number b) _ _ (λ e. owes-past b (number_low b e) (past_number-lawful c r s))
     (λ e1.
     owes-so (is_quote b) _ _ (λ e. owes-past b (quote_low b e) (quoted-lawful c b e r s)) (λ e2.
     owes-choice (b ∷ r) (b ∷ s) (λ edition. is_single edition b r)
     (λ edition. is_single edition b s) _ _ _ _
-    (λ h. ap (λ (k : Bool). b == 44 || k) (slash-editions b r h.0.1))
+    (λ h. ap (λ (k : Bool). b == comma || k) (slash-editions b r h.0.1))
     (λ edition t u m h. single-seam edition c t u m b b r s h)
     (λ edition e. owes-past b (single-low edition b r e) (owes-give tt r s))
     (word-owes c (b ∷ r) (b ∷ s) (λ e is. number_hyphen b e1 (cc)))))))
@@ -267,20 +268,20 @@ abbrev TermPasses : Edition → List ℕ → List ℕ → Type 0
 TermPasses edition t a = length (left_after (term edition a)) ≤ length t
 
 after_term-step : (u v r : List ℕ) (Stuck : List ℕ → Type 0) (a b : Reading (Unit {0}))
-    → Guard Equal true (125 ∷ (u ++ v)) (125 ∷ u) a b
+    → Guard Equal true (close_brace ∷ (u ++ v)) (close_brace ∷ u) a b
     → (length (left_after a) ≤ length (u ++ v) → Stuck r)
-    → Step (Diverge (125 ∷ (u ++ v)) (125 ∷ u)) Stuck 125 (u ++ v) u r (after_term a) (after_term b)
+    → Step (Diverge (close_brace ∷ (u ++ v)) (close_brace ∷ u)) Stuck close_brace (u ++ v) u r (after_term a) (after_term b)
 after_term-step u v r Stuck (got x p) (got y q) (inl h) stuck =
     inl (omega (arith, length-past_blank p))
 after_term-step u v r Stuck (got x p) (fails f q) (inl h) stuck = omega (arith, length-past_blank p)
 after_term-step u v r Stuck (fails f p) (got y q) (inl h) stuck = stuck h
 after_term-step u v r Stuck (fails f p) (fails e q) (inl h) stuck = tt
 after_term-step u v r Stuck (got x p) (got y q) (inr h) stuck =
-    by (past_blank p) (past_blank q) (past_blank-to 125 u v brace_plain p q h.1)
+    by (past_blank p) (past_blank q) (past_blank-to close_brace u v brace_plain p q h.1)
   where
-    by : (c d : List ℕ) → To true (125 ∷ (u ++ v)) (125 ∷ u) c d
+    by : (c d : List ℕ) → To true (close_brace ∷ (u ++ v)) (close_brace ∷ u) c d
         → (length c ≤ length (u ++ v))
-        ⊎ (Diverge (125 ∷ (u ++ v)) (125 ∷ u) p q × Diverge (125 ∷ (u ++ v)) (125 ∷ u) c d)
+        ⊎ (Diverge (close_brace ∷ (u ++ v)) (close_brace ∷ u) p q × Diverge (close_brace ∷ (u ++ v)) (close_brace ∷ u) c d)
     by c d (inl k) = inl k
     by c d (inr k) = inr (h.1, k)
 after_term-step u v r Stuck (got x p) (fails f q) (inr h) stuck = absurd h
@@ -288,20 +289,20 @@ after_term-step u v r Stuck (fails f p) (got y q) (inr h) stuck = absurd h
 after_term-step u v r Stuck (fails f p) (fails e q) (inr h) stuck = tt
 
 terms-repeats : (edition : Edition) (u v r s : List ℕ) → IsUtf8 r
-    → Diverge (125 ∷ (u ++ v)) (125 ∷ u) r s
-    → Repeats (Diverge (125 ∷ (u ++ v)) (125 ∷ u)) (TermPasses edition (u ++ v)) 125 (u ++ v) u
+    → Diverge (close_brace ∷ (u ++ v)) (close_brace ∷ u) r s
+    → Repeats (Diverge (close_brace ∷ (u ++ v)) (close_brace ∷ u)) (TermPasses edition (u ++ v)) close_brace (u ++ v) u
     (terms edition r) (terms edition s)
 terms-repeats edition u v r s w h =
-    each-repeats IsUtf8 (Diverge (125 ∷ (u ++ v)) (125 ∷ u)) (TermPasses edition (u ++ v)) 125
+    each-repeats IsUtf8 (Diverge (close_brace ∷ (u ++ v)) (close_brace ∷ u)) (TermPasses edition (u ++ v)) close_brace
     (u ++ v) u (term_in_value edition) (term_in_value-takes edition)
     (found-text (term_in_value edition) (term_in_value-well edition))
     (λ a b x k. after_term-step u v a (TermPasses edition (u ++ v)) (term edition a)
     (term edition b) (lawful-guarded term term (term-lawful true) edition u v a b x k) (λ l. l))
     (length r) r s (omega arith) w h
 
-last_or-diverge : (t u r s : List ℕ) (xs ys : List (List ℕ)) → Diverge (125 ∷ t) (125 ∷ u) r s
-    → Pairs (Diverge (125 ∷ t) (125 ∷ u)) xs ys
-    → Diverge (125 ∷ t) (125 ∷ u) (last_or r xs) (last_or s ys)
+last_or-diverge : (t u r s : List ℕ) (xs ys : List (List ℕ)) → Diverge (close_brace ∷ t) (close_brace ∷ u) r s
+    → Pairs (Diverge (close_brace ∷ t) (close_brace ∷ u)) xs ys
+    → Diverge (close_brace ∷ t) (close_brace ∷ u) (last_or r xs) (last_or s ys)
 last_or-diverge t u r s [] [] h p = h
 last_or-diverge t u r s [] (y ∷ ys) h p = absurd p
 last_or-diverge t u r s (x ∷ xs) [] h p = absurd p
@@ -335,10 +336,10 @@ value-lawful r s = record {
         (left_after o)) ((term-lawful true rest rest).same shared)
         ∙ ap (value_by second_edition r) (terms-editions r h)
 
-    by : (edition : Edition) (u v : List ℕ) → IsUtf8 r → Diverge (125 ∷ (u ++ v)) (125 ∷ u) r s
+    by : (edition : Edition) (u v : List ℕ) → IsUtf8 r → Diverge (close_brace ∷ (u ++ v)) (close_brace ∷ u) r s
         → (a b : List (List ℕ) × List ℕ) → IsUtf8 a.1
-        → Repeats (Diverge (125 ∷ (u ++ v)) (125 ∷ u)) (TermPasses edition (u ++ v)) 125 (u ++ v) u a
-        b → Guard Equal true (125 ∷ (u ++ v)) (125 ∷ u) (value_by edition r a)
+        → Repeats (Diverge (close_brace ∷ (u ++ v)) (close_brace ∷ u)) (TermPasses edition (u ++ v)) close_brace (u ++ v) u a
+        b → Guard Equal true (close_brace ∷ (u ++ v)) (close_brace ∷ u) (value_by edition r a)
         (value_by edition s b)
     by edition u v w h a b z (inl k) =
         inl (omega (
@@ -349,60 +350,60 @@ value-lawful r s = record {
     by edition u v w h a b z (inr (inl k)) = inl k
     by edition u v w h a b z (inr (inr k)) =
         let same : before r (last_or r a.0) ≡ before s (last_or s b.0) =
-        before-diverge (125 ∷ (u ++ v)) (125 ∷ u) r s _ _ h
+        before-diverge (close_brace ∷ (u ++ v)) (close_brace ∷ u) r s _ _ h
         (last_or-diverge (u ++ v) u r s a.0 b.0 h k.0) in
-        guard-got Equal true (125 ∷ (u ++ v)) (125 ∷ u) _ _ _ _ (ap trim same)
-        (left-to Equal (125 ∷ (u ++ v)) (125 ∷ u) (term edition a.1) (term edition b.1)
+        guard-got Equal true (close_brace ∷ (u ++ v)) (close_brace ∷ u) _ _ _ _ (ap trim same)
+        (left-to Equal (close_brace ∷ (u ++ v)) (close_brace ∷ u) (term edition a.1) (term edition b.1)
         (lawful-guarded term term (term-lawful true) edition u v a.1 b.1 z k.1))
 
 -- ---- what follows a value
 
 semicolon-well : (text : List ℕ) → WellFound text (semicolon text)
 semicolon-well [] = tt
-semicolon-well (b ∷ text) = by (b == 59) refl
+semicolon-well (b ∷ text) = by (b == semicolon_byte) refl
   where
-    by : (k : Bool) → (b == 59) ≡ k
+    by : (k : Bool) → (b == semicolon_byte) ≡ k
         → WellFound {A = Unit {0}} (b ∷ text) (if k then Some (tt, past_blank text) else None)
     by true e =
         well-then (b ∷ text) text (past_blank text)
-        (well-tail b text (omega (arith, eqb-true b 59 e))) (well-past_blank text)
+        (well-tail b text (omega (arith, eqb-true b semicolon_byte e))) (well-past_blank text)
     by false e = tt
 
 pub semicolon-takes : Takes semicolon
 semicolon-takes [] = tt
-semicolon-takes (b ∷ text) = by (b == 59)
+semicolon-takes (b ∷ text) = by (b == semicolon_byte)
   where
     by : (t : Bool) → Shrinks (b ∷ text) (if t then Some (tt {0}, past_blank text) else None)
     by true = omega (arith, length-past_blank text)
     by false = tt
 
-semicolon-step : (u v r s : List ℕ) → Diverge (125 ∷ (u ++ v)) (125 ∷ u) r s
-    → Step Equal Never 125 (u ++ v) u r (semicolon r) (semicolon s)
+semicolon-step : (u v r s : List ℕ) → Diverge (close_brace ∷ (u ++ v)) (close_brace ∷ u) r s
+    → Step Equal Never close_brace (u ++ v) u r (semicolon r) (semicolon s)
 semicolon-step u v r s at = tt
-semicolon-step u v r s (on b r1 s1 h) = by (b == 59)
+semicolon-step u v r s (on b r1 s1 h) = by (b == semicolon_byte)
   where
-    inner : (c d : List ℕ) → To true (125 ∷ (u ++ v)) (125 ∷ u) c d
-        → Step {A = Unit {0}} Equal Never 125 (u ++ v) u (b ∷ r1) (Some (tt, c)) (Some (tt, d))
+    inner : (c d : List ℕ) → To true (close_brace ∷ (u ++ v)) (close_brace ∷ u) c d
+        → Step {A = Unit {0}} Equal Never close_brace (u ++ v) u (b ∷ r1) (Some (tt, c)) (Some (tt, d))
     inner c d (inl k) = inl k
     inner c d (inr k) = inr (refl, k)
 
     by : (k : Bool)
-        → Step {A = Unit {0}} Equal Never 125 (u ++ v) u (b ∷ r1)
+        → Step {A = Unit {0}} Equal Never close_brace (u ++ v) u (b ∷ r1)
         (if k then Some (tt, past_blank r1) else None)
         (if k then Some (tt, past_blank s1) else None)
-    by true = inner (past_blank r1) (past_blank s1) (past_blank-to 125 u v brace_plain r1 s1 h)
+    by true = inner (past_blank r1) (past_blank s1) (past_blank-to close_brace u v brace_plain r1 s1 h)
     by false = tt
 
-semicolons-guarded : (u v r s : List ℕ) → IsUtf8 r → Diverge (125 ∷ (u ++ v)) (125 ∷ u) r s
-    → Guard Equal true (125 ∷ (u ++ v)) (125 ∷ u) (semicolons r) (semicolons s)
+semicolons-guarded : (u v r s : List ℕ) → IsUtf8 r → Diverge (close_brace ∷ (u ++ v)) (close_brace ∷ u) r s
+    → Guard Equal true (close_brace ∷ (u ++ v)) (close_brace ∷ u) (semicolons r) (semicolons s)
 semicolons-guarded u v r s w h =
     by (each semicolon r) (each semicolon s)
-    (each-repeats IsUtf8 Equal Never 125 (u ++ v) u semicolon semicolon-takes
+    (each-repeats IsUtf8 Equal Never close_brace (u ++ v) u semicolon semicolon-takes
     (found-text semicolon semicolon-well) (λ a b x. semicolon-step u v a b) (length r) r s
     (omega arith) w h)
   where
-    by : (a b : List (Unit {0}) × List ℕ) → Repeats Equal Never 125 (u ++ v) u a b
-        → Guard {A = Unit {0}} Equal true (125 ∷ (u ++ v)) (125 ∷ u) (got tt a.1) (got tt b.1)
+    by : (a b : List (Unit {0}) × List ℕ) → Repeats Equal Never close_brace (u ++ v) u a b
+        → Guard {A = Unit {0}} Equal true (close_brace ∷ (u ++ v)) (close_brace ∷ u) (got tt a.1) (got tt b.1)
     by a b (inl k) = inl k
     by a b (inr (inl k)) = absurd k
     by a b (inr (inr k)) = inr (refl, k.1)
@@ -420,13 +421,13 @@ semicolons-lawful r s = record {
 -- no byte of the word is a closing brace
 abbrev NoBrace : List ℕ → Type 0
 NoBrace [] = Unit {0}
-NoBrace (c ∷ word) = (eqb c 125 ≡ false) × NoBrace word
+NoBrace (c ∷ word) = (eqb c close_brace ≡ false) × NoBrace word
 
 -- a word without a brace is at both or at neither
-begins-diverge : (t u word : List ℕ) → NoBrace word → (r s : List ℕ) → Diverge (125 ∷ t) (125 ∷ u) r s
+begins-diverge : (t u word : List ℕ) → NoBrace word → (r s : List ℕ) → Diverge (close_brace ∷ t) (close_brace ∷ u) r s
     → starts_with eqb r word ≡ starts_with eqb s word
 begins-diverge t u [] n r s h = refl
-begins-diverge t u (c ∷ word) n r s at = let e : eqb c 125 ≡ false = n.0 in rw e refl
+begins-diverge t u (c ∷ word) n r s at = let e : eqb c close_brace ≡ false = n.0 in rw e refl
 begins-diverge t u (c ∷ word) n r s (on b r1 s1 h) =
     ap (λ (k : Bool). eqb c b && k) (begins-diverge t u word n.1 r1 s1 h)
 
@@ -457,14 +458,14 @@ important_word-lawful r s =
       guard =
           λ edition t u m v h. guard-got Equal true t u true true (drop 9 r) (drop 9 s) refl
           (at-brace (λ t u. Diverge t u r s → To true t u (drop 9 r) (drop 9 s))
-          (λ u v. drop-to 125 (u ++ v) u 9 r s) t u m h);
+          (λ u v. drop-to close_brace (u ++ v) u 9 r s) t u m h);
     })
     (owes-give false r s)
 
 importance-lawful : Lawful true (λ edition. importance) (λ edition. importance)
 unfolding importance
 importance-lawful r s =
-    owes-sign 33 (omega arith) (λ edition q e w. absurd (cc))
+    owes-sign exclamation_mark (omega arith) (λ edition q e w. absurd (cc))
     (owes-follow _ _ (blank-lawful (past_one r) (past_one s)) (λ u. important_word-lawful))
     (owes-give false r s)
 
@@ -492,21 +493,21 @@ unless_empty-lawful start other declared r s =
 abbrev name_end : List ℕ → Edition → Reader (List ℕ)
 name_end property edition = do
   blank
-  byte 58
+  byte colon
   blank
   give property
 
 name_end-lawful : (property : List ℕ) → Lawful true (name_end property) (name_end property)
 name_end-lawful property r s =
     owes-follow _ _ (blank-lawful r s) (λ u r s.
-    owes-follow _ _ (byte-lawful 58 (omega arith) r s) (λ u r s.
+    owes-follow _ _ (byte-lawful colon (omega arith) r s) (λ u r s.
     owes-follow _ _ (blank-lawful r s) (λ u. owes-give property)))
 
 stated_name-lawful : Lawful true stated_name stated_name
 unfolding stated_name
 stated_name-lawful r s =
     owes-follow _ _ (blank-lawful r s) (λ u r s.
-    owes-follow _ _ (optional-lawful 42 (omega arith) refl r s) (λ u r s.
+    owes-follow _ _ (optional-lawful asterisk (omega arith) refl r s) (λ u r s.
     owes-follow _ _ (name-lawful r s) name_end-lawful))
 
 stated_name-cuts : (edition : Edition) (text : List ℕ) → Cuts text (stated_name edition text)
@@ -514,7 +515,7 @@ unfolding stated_name
 stated_name-cuts edition text =
     follow-cuts text (blank text) _ (length-ends text (left_after (blank text)) (well-blank text).0)
     (λ u a.
-    follow-cuts a (optional 42 a) _ (length-past_byte 42 a) (λ u b.
+    follow-cuts a (optional asterisk a) _ (length-past_byte asterisk a) (λ u b.
     cuts-follow b (name edition b) (λ property. name_end property edition) (name-cuts edition b)
     (λ property. lawful-keeps (name_end property) (name_end property)
     (name_end-lawful property) edition)))
@@ -564,17 +565,17 @@ follow-follow (fails fault rest) next more both h = refl
 pub declaration-steps : (edition : Edition) (text : List ℕ)
     → declaration edition text
     ≡ follow (blank text)
-    (λ u a. follow (name edition (past_byte 42 a))
+    (λ u a. follow (name edition (past_byte asterisk a))
     (λ property c. follow (blank c)
-    (λ u d. follow (byte 58 d)
+    (λ u d. follow (byte colon d)
     (λ u e. follow (blank e) (λ u start. stated_value property edition start)))))
 unfolding declaration stated_name
 declaration-steps edition text =
     let more : List ℕ → Reader StyleDeclaration = λ property. stated_value property edition in
     follow-follow (blank text) _ more _ (λ u a.
-    follow-follow (name edition (past_byte 42 a)) _ more _ (λ property c.
+    follow-follow (name edition (past_byte asterisk a)) _ more _ (λ property c.
     follow-follow (blank c) _ more _ (λ u d.
-    follow-follow (byte 58 d) _ more _ (λ u e.
+    follow-follow (byte colon d) _ more _ (λ u e.
     follow-follow (blank e) (λ u. give property) more _ (λ u start. refl)))))
 
 pub declaration-stands : (edition : Edition) (text : List ℕ)

@@ -6,6 +6,7 @@ use Rattle.std.proofs.lemmas.Bool.Decides.{nat_tests}
 use Rattle.std.proofs.lemmas.Str.{chars-IsAscii}
 use Rattle.std.specs.List.{prefix_len}
 use Rattle.std.specs.Str.{IsAscii, chars}
+use Rattle.simplecss_text.specs.AsciiBytes.{hyphen, slash}
 use Rattle.simplecss_text.specs.Reading.{Ends, and_then, before, each, followed_by, up_to}
 use Rattle.simplecss_text.specs.Bytes.{is_digit}
 use Rattle.simplecss_text.specs.Characters.{Edition, first_edition, is_name_char, is_name_start, second_edition}
@@ -16,7 +17,7 @@ use Rattle.simplecss_text.proofs.reading.EndsLemmas.{EndsFound}
 -- ASCII bytes, and no slash among them
 abbrev pub Shared : List ℕ → Type 0
 Shared [] = Unit {0}
-Shared (b ∷ text) = ((b < 128) × ((b == 47) ≡ false)) × Shared text
+Shared (b ∷ text) = ((b < 128) × ((b == slash) ≡ false)) × Shared text
 
 pub shared-from : (text : List ℕ) → IsCommon text → Shared text
 shared-from [] h = tt
@@ -70,7 +71,7 @@ name_start-editions c l =
     rw (a, b) refl
 
 name_char-editions : (c : ℕ) → c < 128 → is_name_char first_edition c ≡ is_name_char second_edition c
-name_char-editions c l = ap (λ (k : Bool). k || is_digit c || c == 45) (name_start-editions c l)
+name_char-editions c l = ap (λ (k : Bool). k || is_digit c || c == hyphen) (name_start-editions c l)
 
 prefix_len-editions : (cs : List ℕ) → Shared cs → prefix_len (is_name_char first_edition) cs ≡ prefix_len (is_name_char second_edition) cs
 prefix_len-editions [] h = refl
@@ -78,7 +79,7 @@ prefix_len-editions (c ∷ cs) h = rw (name_char-editions c h.0.0, prefix_len-ed
 
 begins-editions : (cs : List ℕ) → Shared cs → begins_name first_edition cs ≡ begins_name second_edition cs
 begins-editions [] h = refl
-begins-editions (c ∷ []) h = ap (λ (k : Bool). k || c == 45) (name_start-editions c h.0.0)
+begins-editions (c ∷ []) h = ap (λ (k : Bool). k || c == hyphen) (name_start-editions c h.0.0)
 begins-editions (c ∷ d ∷ cs) h = rw (name_start-editions c h.0.0, name_start-editions d h.1.0.0) refl
 
 past_name_chars-editions : (text : List ℕ) → Shared text → past_name_chars first_edition text ≡ past_name_chars second_edition text

@@ -4,6 +4,7 @@
 use Rattle.std.proofs.Common.{◌&&◌, ◌<◌, ◌≡◌, ℕ, zero, suc, List, [], ◌∷◌, ◌++◌, Bool, true, false, if◌then◌else◌, ◌==◌, length, Option, Some, None, refl, ap, subst, IsUtf8, eqb-true}
 use Rattle.std.proofs.lemmas.Bool.{and_parts}
 use Rattle.std.specs.List.{AllByRecursion}
+use Rattle.simplecss_text.specs.AsciiBytes.{asterisk, slash}
 use Rattle.simplecss_text.specs.Reading.{Reading, got, fails, Reader, follow, and_then, up_to, each, Ends}
 use Rattle.simplecss_text.specs.Bytes.{byte, past_one, starts, starts_two, after_byte}
 use Rattle.simplecss_text.specs.Comments.{after_close, opens_comment}
@@ -80,12 +81,12 @@ starts-cons c (b ∷ text) e = ap (λ k. k ∷ text) (eqb-true b c e)
 
 -- the two bytes that open a comment
 pub opens_comment-two : (b : ℕ) (text : List ℕ) → opens_comment (b ∷ text) ≡ true
-    → (b ≡ 47) × (text ≡ 42 ∷ past_one text)
-opens_comment-two b text e = by (b == 47) refl e
+    → (b ≡ slash) × (text ≡ asterisk ∷ past_one text)
+opens_comment-two b text e = by (b == slash) refl e
   where
-    by : (t : Bool) → (b == 47) ≡ t → (t && starts 42 text) ≡ true
-        → (b ≡ 47) × (text ≡ 42 ∷ past_one text)
-    by true h k = (eqb-true b 47 h, starts-cons 42 text k)
+    by : (t : Bool) → (b == slash) ≡ t → (t && starts asterisk text) ≡ true
+        → (b ≡ slash) × (text ≡ asterisk ∷ past_one text)
+    by true h k = (eqb-true b slash h, starts-cons asterisk text k)
     by false h k = absurd (cc)
 
 -- after a byte that is there, in a text
@@ -96,15 +97,15 @@ utf8-past_one whole text c low u e s =
     (subst (λ (t : List ℕ). Ends whole t) (starts-cons c text s) e)
 
 -- what is left after `*/` follows its `/`
-pub after_close-after : (text : List ℕ) → IfAfter 47 text (after_close text)
+pub after_close-after : (text : List ℕ) → IfAfter slash text (after_close text)
 after_close-after [] = tt
-after_close-after (b ∷ text) = by (starts_two 42 47 (b ∷ text)) refl (after_close-after text)
+after_close-after (b ∷ text) = by (starts_two asterisk slash (b ∷ text)) refl (after_close-after text)
   where
-    by : (t : Bool) → starts_two 42 47 (b ∷ text) ≡ t → IfAfter 47 text (after_close text)
-        → IfAfter 47 (b ∷ text) (if t then Some (past_one text) else after_close text)
+    by : (t : Bool) → starts_two asterisk slash (b ∷ text) ≡ t → IfAfter slash text (after_close text)
+        → IfAfter slash (b ∷ text) (if t then Some (past_one text) else after_close text)
     by true e more =
-        (b ∷ [], ap (λ l. b ∷ l) (starts-cons 47 text (and_parts (b == 42) (starts 47 text) e).1))
-    by false e more = follows-later 47 b text (after_close text) more
+        (b ∷ [], ap (λ l. b ∷ l) (starts-cons slash text (and_parts (b == asterisk) (starts slash text) e).1))
+    by false e more = follows-later slash b text (after_close text) more
 
 -- where something was taken off a text, this holds of it, and that of what is left
 abbrev pub IfTaken : {A : Type 0} → (A → Type 0) → (List ℕ → Type 0) → Option (A × List ℕ) → Type 0

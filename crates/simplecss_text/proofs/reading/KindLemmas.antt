@@ -2,6 +2,7 @@
 -- Serves `SelectorTokenizer`, `Selector::parse_front` and `laws::{cutting_law, edition_law}`.
 use Rattle.std.proofs.Common.{◌≡◌, ℕ, ◌<◌, List, [], ◌∷◌, Bool, true, false, if◌then◌else◌, ◌==◌, refl, sym, ap, subst, arith}
 use Rattle.std.proofs.lemmas.Bool.{eqb-true}
+use Rattle.simplecss_text.specs.AsciiBytes.{asterisk, colon, comma, full_stop, greater_than_sign, number_sign, open_brace, open_bracket, plus_sign, slash}
 use Rattle.simplecss_text.specs.Reading.{Fault}
 use Rattle.simplecss_text.specs.Bytes.{past_one, starts}
 use Rattle.simplecss_text.specs.Characters.{Edition}
@@ -18,14 +19,14 @@ use Rattle.simplecss_text.specs.Neighbours.Answer.{nothing, descends, refuses}
 -- what the byte is that is of this kind
 abbrev Reports : NextKind → ℕ → Type 0
 Reports Stop b = Unit {0}
-Reports Slash b = b ≡ 47
-Reports Child b = b ≡ 62
-Reports Adjacent b = b ≡ 43
-Reports Universal b = b ≡ 42
-Reports Id b = b ≡ 35
-Reports Class b = b ≡ 46
-Reports Attribute b = b ≡ 91
-Reports Colon b = b ≡ 58
+Reports Slash b = b ≡ slash
+Reports Child b = b ≡ greater_than_sign
+Reports Adjacent b = b ≡ plus_sign
+Reports Universal b = b ≡ asterisk
+Reports Id b = b ≡ number_sign
+Reports Class b = b ≡ full_stop
+Reports Attribute b = b ≡ open_bracket
+Reports Colon b = b ≡ colon
 Reports Other b = Unit {0}
 
 reports-if : (b c : ℕ) (one other : NextKind) → (b ≡ c → Reports one b) → Reports other b
@@ -38,11 +39,11 @@ reports-if b c one other h k = by (b == c) refl
 
 kind_of_byte-reports : (b : ℕ) → Reports (kind_of_byte b) b
 kind_of_byte-reports b =
-    reports-if b 44 Stop _ (λ e. tt) (reports-if b 123 Stop _ (λ e. tt) (reports-if b 47 Slash _ (λ e. e)
-    (reports-if b 62 Child _ (λ e. e) (reports-if b 43 Adjacent _ (λ e. e)
-    (reports-if b 42 Universal _ (λ e. e)
-    (reports-if b 35 Id _ (λ e. e) (reports-if b 46 Class _ (λ e. e) (reports-if b 91 Attribute _ (λ e. e)
-    (reports-if b 58 Colon Other (λ e. e) tt)))))))))
+    reports-if b comma Stop _ (λ e. tt) (reports-if b open_brace Stop _ (λ e. tt) (reports-if b slash Slash _ (λ e. e)
+    (reports-if b greater_than_sign Child _ (λ e. e) (reports-if b plus_sign Adjacent _ (λ e. e)
+    (reports-if b asterisk Universal _ (λ e. e)
+    (reports-if b number_sign Id _ (λ e. e) (reports-if b full_stop Class _ (λ e. e) (reports-if b open_bracket Attribute _ (λ e. e)
+    (reports-if b colon Colon Other (λ e. e) tt)))))))))
 
 -- only one byte has this kind
 abbrev pub HasSign : NextKind → Type 0
@@ -81,7 +82,7 @@ sign-begins kind (b ∷ text) s e = record {
 }
 
 -- a slash is where its kind is next
-pub slash-starts : (text : List ℕ) → next_kind text ≡ Slash → starts 47 text ≡ true
+pub slash-starts : (text : List ℕ) → next_kind text ≡ Slash → starts slash text ≡ true
 unfolding next_kind
 slash-starts [] e = absurd (cc)
 slash-starts (b ∷ text) e = rw (subst (λ k. Reports k b) e (kind_of_byte-reports b)) refl

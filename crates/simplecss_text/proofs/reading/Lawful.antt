@@ -3,6 +3,7 @@
 -- Serves the tokenizers, `read_value`, `StyleSheet::{parse, parse_all, parse_more}` and
 -- `laws::{cutting_law, edition_law}`.
 use Rattle.std.proofs.Common.{◌≡◌, ℕ, ◌<◌, ◌⊎◌, List, [], ◌∷◌, ◌++◌, Bool, true, false, if◌then◌else◌, ◌==◌, length, arith, refl, ap, subst, sym, ◌∙◌, inl, inr, IsUtf8}
+use Rattle.simplecss_text.specs.AsciiBytes.{close_brace, hyphen}
 use Rattle.simplecss_text.specs.Reading.{Ends, Fault, Reader, Reading, fails, follow, got, left_after}
 use Rattle.simplecss_text.specs.Bytes.{byte, optional, past, past_byte, past_one, starts}
 use Rattle.simplecss_text.specs.Characters.{Edition, first_edition, second_edition}
@@ -234,7 +235,7 @@ cases-guard : {A : Type 0} (c : Bool) (m n : Edition → Reader A)
 cases-guard c m n takes some edition t u seam r s v (on b r1 s1 h) =
     (some b r1 s1).guard edition t u seam v (on b r1 s1 h)
 cases-guard c m n takes some edition t u (at_brace x y) r s v at =
-    (some 125 (x ++ y) x).guard edition t u (at_brace x y) v at
+    (some close_brace (x ++ y) x).guard edition t u (at_brace x y) v at
 cases-guard c m n takes some edition t u (at_quiet _ q more w z) r s v at =
     inl (takes-passed t (m edition t) (takes refl edition t))
 
@@ -289,10 +290,10 @@ lawful-text m n p edition text = ((p text text).left edition).1
 
 -- in texts that part at a closing brace
 pub lawful-guarded : {A : Type 0} (m n : Edition → Reader A) → Lawful true m n
-    → (edition : Edition) (u v r s : List ℕ) → IsUtf8 r → Diverge (125 ∷ (u ++ v)) (125 ∷ u) r s
-    → Guard Equal true (125 ∷ (u ++ v)) (125 ∷ u) (m edition r) (n edition s)
+    → (edition : Edition) (u v r s : List ℕ) → IsUtf8 r → Diverge (close_brace ∷ (u ++ v)) (close_brace ∷ u) r s
+    → Guard Equal true (close_brace ∷ (u ++ v)) (close_brace ∷ u) (m edition r) (n edition s)
 lawful-guarded m n p edition u v r s w h =
-    (p r s).guard edition (125 ∷ (u ++ v)) (125 ∷ u) (at_brace u v) w h
+    (p r s).guard edition (close_brace ∷ (u ++ v)) (close_brace ∷ u) (at_brace u v) w h
 
 -- what is left, by the ASCII byte that is next, which is consumed
 pub passes-sign : {k : Bool} {r s : List ℕ} (n : ℕ) → n < 128
@@ -327,18 +328,18 @@ past-lawful c test low ends r s =
           h. guard-got Equal c t u tt tt _ _ refl (past-seam c t u test (ends edition) m r s h);
     }
 
-optional-guarded : (u v : List ℕ) (c : ℕ) → (125 == c) ≡ false → (r s : List ℕ)
-    → Diverge (125 ∷ (u ++ v)) (125 ∷ u) r s
-    → Guard Equal true (125 ∷ (u ++ v)) (125 ∷ u) (optional c r) (optional c s)
-optional-guarded u v c e r s h = by (past_byte-to (125 ∷ (u ++ v)) (125 ∷ u) c (rw e refl) r s h)
+optional-guarded : (u v : List ℕ) (c : ℕ) → (close_brace == c) ≡ false → (r s : List ℕ)
+    → Diverge (close_brace ∷ (u ++ v)) (close_brace ∷ u) r s
+    → Guard Equal true (close_brace ∷ (u ++ v)) (close_brace ∷ u) (optional c r) (optional c s)
+optional-guarded u v c e r s h = by (past_byte-to (close_brace ∷ (u ++ v)) (close_brace ∷ u) c (rw e refl) r s h)
   where
-    by : (length (past_byte c r) < length (125 ∷ (u ++ v))) ⊎ Diverge (125 ∷ (u ++ v)) (125 ∷ u)
+    by : (length (past_byte c r) < length (close_brace ∷ (u ++ v))) ⊎ Diverge (close_brace ∷ (u ++ v)) (close_brace ∷ u)
         (past_byte c r) (past_byte c s)
-        → Guard Equal true (125 ∷ (u ++ v)) (125 ∷ u) (optional c r) (optional c s)
+        → Guard Equal true (close_brace ∷ (u ++ v)) (close_brace ∷ u) (optional c r) (optional c s)
     by (inl l) = inl (omega arith)
     by (inr k) = inr (refl, k)
 
-pub optional-lawful : (c : ℕ) → c < 128 → (125 == c) ≡ false
+pub optional-lawful : (c : ℕ) → c < 128 → (close_brace == c) ≡ false
     → Lawful true (λ edition. optional c) (λ edition. optional c)
 optional-lawful c low e r s =
     record {
@@ -356,7 +357,7 @@ byte-lawful c low r s =
       same = λ h. refl;
       guard = λ edition t u m v
           h. at-brace (λ t u. Diverge t u r s → Guard Equal true t u (byte c r) (byte c s))
-          (λ u v. byte-guarded 125 (u ++ v) u c r s) t u m h;
+          (λ u v. byte-guarded close_brace (u ++ v) u c r s) t u m h;
     }
 
 -- ---- blanks, names, strings
@@ -373,7 +374,7 @@ blank-lawful r s =
     }
 
 -- A lone hyphen that ends the text is a name, and none before another byte.
-pub name-owes : (c : Bool) (r s : List ℕ) → (c ≡ false → r ≡ 45 ∷ [] → ⊥)
+pub name-owes : (c : Bool) (r s : List ℕ) → (c ≡ false → r ≡ hyphen ∷ [] → ⊥)
     → Owes c r s (λ edition. name edition r) (λ edition. name edition s)
 name-owes c r s some =
     record {
@@ -384,7 +385,7 @@ name-owes c r s some =
     }
   where
     lone : {edition : Edition} (c : Bool) (t u : List ℕ) → Seam edition c t u
-        → (c ≡ false → r ≡ 45 ∷ [] → ⊥) → t ≡ [] → r ≡ 45 ∷ [] → ⊥
+        → (c ≡ false → r ≡ hyphen ∷ [] → ⊥) → t ≡ [] → r ≡ hyphen ∷ [] → ⊥
     lone c t u (at_brace x y) some none = absurd (cc)
     lone c t u (at_quiet _ q more w z) some none = some refl
 

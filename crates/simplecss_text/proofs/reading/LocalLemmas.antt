@@ -4,6 +4,7 @@
 -- `laws::cutting_law`.
 use Rattle.std.proofs.Common.{◌≡◌, ℕ, zero, suc, ◌+◌, ◌-◌, ◌<◌, ◌≤◌, List, [], ◌∷◌, ◌++◌, Bool, true, false, if◌then◌else◌, ◌==◌, length, take, drop, length-drop, length-append, Option, Some, None, arith, refl, ap, ◌⊎◌, inl, inr, one-add, IsUtf8}
 use Rattle.std.specs.List.{prefix_len}
+use Rattle.simplecss_text.specs.AsciiBytes.{asterisk, close_brace, exclamation_mark, full_stop, hyphen, open_parenthesis, percent_sign, semicolon, space}
 use Rattle.simplecss_text.specs.Reading.{Fault, Reading, got, fails, Reader, follow, followed_by, each, left_after, before}
 use Rattle.simplecss_text.specs.Bytes.{past, past_one, past_byte, starts, byte, is_digit}
 use Rattle.simplecss_text.specs.Characters.{Edition, first_edition, second_edition, is_name_start, is_name_char}
@@ -25,17 +26,17 @@ pub record ContinuesNothing (edition : Edition) (q : ℕ) : Type 0 where
   pub no_start : is_name_start edition q ≡ false
   pub no_digit : is_digit q ≡ false
   pub no_hex : is_hex_digit q ≡ false
-  pub no_point : (q == 46) ≡ false
-  pub no_percent : (q == 37) ≡ false
-  pub no_opening : (q == 40) ≡ false
-  pub no_star : (q == 42) ≡ false
-  pub no_hyphen : (q == 45) ≡ false
+  pub no_point : (q == full_stop) ≡ false
+  pub no_percent : (q == percent_sign) ≡ false
+  pub no_opening : (q == open_parenthesis) ≡ false
+  pub no_star : (q == asterisk) ≡ false
+  pub no_hyphen : (q == hyphen) ≡ false
 
 quiet-by : {q : ℕ} → q < 128 → is_name_char first_edition q ≡ false
     → is_name_char second_edition q ≡ false → is_name_start first_edition q ≡ false
     → is_name_start second_edition q ≡ false → is_digit q ≡ false → is_hex_digit q ≡ false
-    → (q == 46) ≡ false → (q == 37) ≡ false → (q == 40) ≡ false → (q == 42) ≡ false
-    → (q == 45) ≡ false → (edition : Edition) → ContinuesNothing edition q
+    → (q == full_stop) ≡ false → (q == percent_sign) ≡ false → (q == open_parenthesis) ≡ false → (q == asterisk) ≡ false
+    → (q == hyphen) ≡ false → (edition : Edition) → ContinuesNothing edition q
 quiet-by low c d s e digit hex point percent opening star not_hyphen first_edition = record {
   low = low;
   no_char = c;
@@ -61,23 +62,23 @@ quiet-by low c d s e digit hex point percent opening star not_hyphen second_edit
   no_hyphen = not_hyphen;
 }
 
-pub quiet-brace : (edition : Edition) → ContinuesNothing edition 125
+pub quiet-brace : (edition : Edition) → ContinuesNothing edition close_brace
 quiet-brace = quiet-by (omega arith) refl refl refl refl refl refl refl refl refl refl refl
 
-pub quiet-semicolon : (edition : Edition) → ContinuesNothing edition 59
+pub quiet-semicolon : (edition : Edition) → ContinuesNothing edition semicolon
 quiet-semicolon = quiet-by (omega arith) refl refl refl refl refl refl refl refl refl refl refl
 
-pub quiet-space : (edition : Edition) → ContinuesNothing edition 32
+pub quiet-space : (edition : Edition) → ContinuesNothing edition space
 quiet-space = quiet-by (omega arith) refl refl refl refl refl refl refl refl refl refl refl
 
-pub quiet-mark : (edition : Edition) → ContinuesNothing edition 33
+pub quiet-mark : (edition : Edition) → ContinuesNothing edition exclamation_mark
 quiet-mark = quiet-by (omega arith) refl refl refl refl refl refl refl refl refl refl refl
 
 -- How two texts part. `at_brace`: both at a closing brace, where the second ends where the first is
 -- cut. `at_quiet`: the first at any text, the second at a byte that continues nothing. The Bool is
 -- whether faults are alike too.
 pub data Seam (edition : Edition) : Bool → List ℕ → List ℕ → Type 0 where
-  at_brace : (u v : List ℕ) → Seam edition true (125 ∷ (u ++ v)) (125 ∷ u)
+  at_brace : (u v : List ℕ) → Seam edition true (close_brace ∷ (u ++ v)) (close_brace ∷ u)
   at_quiet : (t : List ℕ) (q : ℕ) (more : List ℕ) → ContinuesNothing edition q → IsUtf8 t
       → Seam edition false t (q ∷ more)
 
@@ -209,7 +210,7 @@ starts-seam c t u n other (at_quiet _ q more w z) r s at = by (starts n t) refl
 
 -- where both part at a brace
 pub at-brace : {edition : Edition} (P : List ℕ → List ℕ → Type 0)
-    → ((u v : List ℕ) → P (125 ∷ (u ++ v)) (125 ∷ u)) → (t u : List ℕ) → Seam edition true t u
+    → ((u v : List ℕ) → P (close_brace ∷ (u ++ v)) (close_brace ∷ u)) → (t u : List ℕ) → Seam edition true t u
     → P t u
 at-brace P h t u (at_brace x y) = h x y
 
@@ -282,7 +283,7 @@ past-ended (b ∷ t) u test e = rw e (by (test b) refl)
 pub past-seam : {edition : Edition} (c : Bool) (t u : List ℕ) (test : ℕ → Bool)
     → ((q : ℕ) → ContinuesNothing edition q → test q ≡ false) → Seam edition c t u → (r s : List ℕ)
     → Diverge t u r s → To c t u (past test r) (past test s)
-past-seam c t u test ends (at_brace x v) r s h = past-both 125 (x ++ v) x test r s h
+past-seam c t u test ends (at_brace x v) r s h = past-both close_brace (x ++ v) x test r s h
 past-seam c t u test ends (at_quiet _ q more w v) r s h =
     past-to false t (q ∷ more) test (past-ended t (q ∷ more) test (let e = ends q w in rw e refl)) r
     s h
@@ -360,7 +361,7 @@ diverge-append g u v r s (on b r1 s1 h) = ap (λ (x : List ℕ). b ∷ x) (diver
 
 -- a value with what is left: what is left follows the brace, or both are alike
 abbrev pub Same : {A : Type 0} → List ℕ → List ℕ → A × List ℕ → A × List ℕ → Type 0
-Same t u a b = (length a.1 ≤ length t) ⊎ ((a.0 ≡ b.0) × Diverge (125 ∷ t) (125 ∷ u) a.1 b.1)
+Same t u a b = (length a.1 ≤ length t) ⊎ ((a.0 ≡ b.0) × Diverge (close_brace ∷ t) (close_brace ∷ u) a.1 b.1)
 
 -- each item of one list with that of the other
 abbrev pub Pairs : {A : Type 0} → (A → A → Type 0) → List A → List A → Type 0

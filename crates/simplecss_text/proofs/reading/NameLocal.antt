@@ -6,6 +6,7 @@ use Rattle.std.proofs.Common.{◌≡◌, ℕ, ◌<◌, ◌≤◌, ◌⊎◌, inl
 use Rattle.std.specs.Str.{chars}
 use Rattle.std.proofs.lemmas.Bool.{cases_lt, or_parts}
 use Rattle.std.proofs.lemmas.Str.{IsUtf8-append, chars-append}
+use Rattle.simplecss_text.specs.AsciiBytes.{close_brace, hyphen}
 use Rattle.simplecss_text.specs.Reading.{Fault, Reading, got, fails, left_after, no_name}
 use Rattle.simplecss_text.specs.Bytes.{past, past_byte, starts_by}
 use Rattle.simplecss_text.specs.Characters.{Edition, first_edition, second_edition, is_name_start, is_name_char}
@@ -34,7 +35,7 @@ pub data NamesAlike (edition : Edition) (t u text other : List ℕ) : Type 0 whe
   same : (n rest left : List ℕ) → name edition text ≡ got n rest → name edition other ≡ got n left
       → Diverge t u rest left → NamesAlike edition t u text other
   lone : (n : List ℕ) (fault : Fault) → name edition text ≡ got n []
-      → name edition other ≡ fails fault u → t ≡ [] → text ≡ 45 ∷ []
+      → name edition other ≡ fails fault u → t ≡ [] → text ≡ hyphen ∷ []
       → NamesAlike edition t u text other
   none : (fault other_fault : Fault) (rest left : List ℕ) → name edition text ≡ fails fault rest
       → name edition other ≡ fails other_fault left → Diverge t u rest left
@@ -63,11 +64,11 @@ module _ (edition : Edition) (q : ℕ) (more : List ℕ) (quiet : ContinuesNothi
   begins-one : (c : ℕ) (rs ds : List ℕ) → begins_name edition (c ∷ rs) ≡ false
       → begins_name edition (c ∷ q ∷ ds) ≡ false
   begins-one c rs ds h =
-      let start = by rs h in rw (start, quiet.no_start) (and_false (c == 45))
+      let start = by rs h in rw (start, quiet.no_start) (and_false (c == hyphen))
     where
       by : (rs : List ℕ) → begins_name edition (c ∷ rs) ≡ false → is_name_start edition c ≡ false
-      by [] h = (or_parts (is_name_start edition c) (c == 45) h).0
-      by (d ∷ rs) h = (or_parts (is_name_start edition c) (c == 45 && is_name_start edition d)
+      by [] h = (or_parts (is_name_start edition c) (c == hyphen) h).0
+      by (d ∷ rs) h = (or_parts (is_name_start edition c) (c == hyphen && is_name_start edition d)
           h).0
 
       and_false : (t : Bool) → (t && false) ≡ false
@@ -94,7 +95,7 @@ module _ (edition : Edition) (q : ℕ) (more : List ℕ) (quiet : ContinuesNothi
       let begins : begins_name edition (chars (q ∷ more)) ≡ false =
       ap (begins_name edition) (chars-byte q more quiet.low)
       ∙ begins-quiet (chars more) in
-      let left : past_byte 45 (q ∷ more) ≡ q ∷ more = let p = quiet.no_hyphen in rw p refl in
+      let left : past_byte hyphen (q ∷ more) ≡ q ∷ more = let p = quiet.no_hyphen in rw p refl in
       name-none_begins edition (q ∷ more) begins ∙ ap (fails (no_name (q ∷ more))) left
 
   same_name : (r front n rest : List ℕ) → IsUtf8 front → name edition (front ++ r) ≡ got n rest
@@ -114,25 +115,25 @@ module _ (edition : Edition) (q : ℕ) (more : List ℕ) (quiet : ContinuesNothi
       (subst (λ (x : List ℕ). Diverge r (q ∷ more) x (left ++ (q ∷ more))) (sym split.2)
       (diverge-front r (q ∷ more) left))
 
-  begins_hyphen : begins_name edition (chars (45 ∷ q ∷ more)) ≡ false
+  begins_hyphen : begins_name edition (chars (hyphen ∷ q ∷ more)) ≡ false
   begins_hyphen =
-      ap (begins_name edition) (chars-byte 45 (q ∷ more) (omega arith)
-      ∙ ap (λ l. 45 ∷ l) (chars-byte q more quiet.low)) ∙ by edition quiet.no_start
+      ap (begins_name edition) (chars-byte hyphen (q ∷ more) (omega arith)
+      ∙ ap (λ l. hyphen ∷ l) (chars-byte q more quiet.low)) ∙ by edition quiet.no_start
     where
       by : (edition : Edition) → is_name_start edition q ≡ false
-          → begins_name edition (45 ∷ q ∷ chars more) ≡ false
+          → begins_name edition (hyphen ∷ q ∷ chars more) ≡ false
       by first_edition e = rw e refl
       by second_edition e = rw e refl
 
-  lone_name : (r front n rest : List ℕ) → name edition (front ++ r) ≡ got n rest → n ≡ 45 ∷ []
+  lone_name : (r front n rest : List ℕ) → name edition (front ++ r) ≡ got n rest → n ≡ hyphen ∷ []
       → rest ≡ [] → front ++ r ≡ n ++ rest → length r ≤ length rest
       → NamesAlike edition r (q ∷ more) (front ++ r) (front ++ (q ∷ more))
   lone_name r front n rest e is_lone ended joined h =
       let none_left : r ≡ [] = no_length r (omega (arith, ap length ended)) in
-      let whole : front ≡ 45 ∷ [] =
+      let whole : front ≡ hyphen ∷ [] =
       sym (append-nil front) ∙ ap (λ l. front ++ l) (sym none_left) ∙ joined
       ∙ ap (λ l. n ++ l) ended ∙ append-nil n ∙ is_lone in
-      let text = 45 ∷ q ∷ more in
+      let text = hyphen ∷ q ∷ more in
       let again : name edition (front ++ (q ∷ more)) ≡ fails (no_name text) (q ∷ more) =
       ap (λ l. name edition (l ++ (q ∷ more))) whole
       ∙ name-none_begins edition text begins_hyphen in
@@ -150,19 +151,19 @@ module _ (edition : Edition) (q : ℕ) (more : List ℕ) (quiet : ContinuesNothi
       let failed = name-fails edition (front ++ r) rest fault e in
       let begins = begins-alike r front u failed.0 in
       by (subst (λ (x : List ℕ). length r ≤ length x) failed.1 h) failed.1 begins
-      (past_byte-to r (q ∷ more) 45 (let p = quiet.no_hyphen in rw p refl) (front ++ r)
+      (past_byte-to r (q ∷ more) hyphen (let p = quiet.no_hyphen in rw p refl) (front ++ r)
       (front ++ (q ∷ more)) (diverge-front r (q ∷ more) front))
     where
-      by : length r ≤ length (past_byte 45 (front ++ r)) → rest ≡ past_byte 45 (front ++ r)
+      by : length r ≤ length (past_byte hyphen (front ++ r)) → rest ≡ past_byte hyphen (front ++ r)
           → begins_name edition (chars (front ++ (q ∷ more))) ≡ false
-          → (length (past_byte 45 (front ++ r)) < length r) ⊎ Diverge r (q ∷ more)
-          (past_byte 45 (front ++ r)) (past_byte 45 (front ++ (q ∷ more)))
+          → (length (past_byte hyphen (front ++ r)) < length r) ⊎ Diverge r (q ∷ more)
+          (past_byte hyphen (front ++ r)) (past_byte hyphen (front ++ (q ∷ more)))
           → NamesAlike edition r (q ∷ more) (front ++ r) (front ++ (q ∷ more))
       by l is begins (inl k) = absurd (omega arith)
       by l is begins (inr diverge) =
-          none fault (no_name (front ++ (q ∷ more))) rest (past_byte 45 (front ++ (q ∷ more))) e
+          none fault (no_name (front ++ (q ∷ more))) rest (past_byte hyphen (front ++ (q ∷ more))) e
           (name-none_begins edition (front ++ (q ∷ more)) begins)
-          (subst (λ (x : List ℕ). Diverge r (q ∷ more) x (past_byte 45 (front ++ (q ∷ more))))
+          (subst (λ (x : List ℕ). Diverge r (q ∷ more) x (past_byte hyphen (front ++ (q ∷ more))))
           (sym is)
           diverge)
 
@@ -215,13 +216,13 @@ names-seam : {edition : Edition} (c : Bool) (t u : List ℕ) → Seam edition c 
     → IsUtf8 r → Diverge t u r s
     → (length (left_after (name edition r)) < length t) ⊎ NamesAlike edition t u r s
 names-seam {edition = edition} c t u (at_brace x y) r s v h =
-    name-alike edition 125 x (quiet-brace edition) (125 ∷ (x ++ y))
-    (utf8-from (x ++ y) (125 ∷ x) 125 r s (omega arith) v h) r s v h
+    name-alike edition close_brace x (quiet-brace edition) (close_brace ∷ (x ++ y))
+    (utf8-from (x ++ y) (close_brace ∷ x) close_brace r s (omega arith) v h) r s v h
 names-seam {edition = edition} c t u (at_quiet _ q more w tail) r s v h =
     name-alike edition q more w t tail r s v h
 
 -- where the first text is no lone hyphen
-name-by : (edition : Edition) (c : Bool) (t u r s : List ℕ) → (t ≡ [] → r ≡ 45 ∷ [] → ⊥)
+name-by : (edition : Edition) (c : Bool) (t u r s : List ℕ) → (t ≡ [] → r ≡ hyphen ∷ [] → ⊥)
     → (length (left_after (name edition r)) < length t) ⊎ NamesAlike edition t u r s
     → Guard Equal c t u (name edition r) (name edition s)
 name-by edition c t u r s some (inl l) =
@@ -231,7 +232,7 @@ name-by edition c t u r s some (inr (lone n fault e f k m)) = absurd (some k m)
 name-by edition c t u r s some (inr (none fault other rest left e f k)) = rw (e, f) (inr k)
 
 pub name-seam : {edition : Edition} (c : Bool) (t u : List ℕ) → Seam edition c t u → (r s : List ℕ)
-    → (t ≡ [] → r ≡ 45 ∷ [] → ⊥) → IsUtf8 r → Diverge t u r s
+    → (t ≡ [] → r ≡ hyphen ∷ [] → ⊥) → IsUtf8 r → Diverge t u r s
     → Guard Equal c t u (name edition r) (name edition s)
 name-seam {edition = edition} c t u seam r s some v h =
     name-by edition c t u r s some (names-seam c t u seam r s v h)

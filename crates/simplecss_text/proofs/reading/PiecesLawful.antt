@@ -4,6 +4,7 @@
 use Rattle.std.proofs.Common.{◌≡◌, ◌≤◌, Bool, List, [], ap, arith, bytes_eq, codes, false, if◌then◌else◌, inl, inr, length, not, refl, subst, true, ℕ, ◌++◌, ◌==◌, ◌∷◌, ◌<◌, eqb-true}
 use Rattle.std.specs.List.{list_any}
 use Rattle.std.specs.Str.{trim}
+use Rattle.simplecss_text.specs.AsciiBytes.{close_brace, close_bracket, close_parenthesis, equals_sign, open_parenthesis, tilde, vertical_bar}
 use Rattle.simplecss_text.specs.Reading.{Ends, Reading, before, each, ended, fails, follow, got, left_after, no_attribute_form, no_comment, no_language, no_selector}
 use Rattle.simplecss_text.specs.Bytes.{all_before, past, past_one}
 use Rattle.simplecss_text.specs.declared.next_kind.NextKind.{NextKind}
@@ -45,7 +46,7 @@ named_token-lawful token r s = owes-follow _ _ (name-lawful r s) (λ n. owes-giv
 equated-lawful : (operator : List ℕ → Operator)
     → Lawful true (λ edition. equated edition operator) (λ edition. equated edition operator)
 equated-lawful operator r s =
-    owes-follow _ _ (byte-lawful 61 (omega arith) r s) (λ u r s.
+    owes-follow _ _ (byte-lawful equals_sign (omega arith) r s) (λ u r s.
     owes-follow _ _ (string_or_name-lawful r s) (λ value. owes-give (operator value)))
 
 pub attribute_operator-lawful : Lawful true attribute_operator attribute_operator
@@ -53,12 +54,12 @@ unfolding attribute_operator
 attribute_operator-lawful =
     lawful-cases attribute_operator attribute_operator (λ e. absurd (cc))
     (owes-fails ended ended [] []) (λ b r s.
-    owes-if (b == 93) (owes-give exists (b ∷ r) (b ∷ s))
-    (owes-if (b == 61) (equated-lawful equals (b ∷ r) (b ∷ s))
-    (owes-so (b == 126) _ _
-    (λ e. owes-past b (omega (arith, eqb-true b 126 e)) (equated-lawful has_word r s)) (λ f.
-    owes-so (b == 124) _ _
-    (λ e. owes-past b (omega (arith, eqb-true b 124 e)) (equated-lawful begins_with r s)) (λ g.
+    owes-if (b == close_bracket) (owes-give exists (b ∷ r) (b ∷ s))
+    (owes-if (b == equals_sign) (equated-lawful equals (b ∷ r) (b ∷ s))
+    (owes-so (b == tilde) _ _
+    (λ e. owes-past b (omega (arith, eqb-true b tilde e)) (equated-lawful has_word r s)) (λ f.
+    owes-so (b == vertical_bar) _ _
+    (λ e. owes-past b (omega (arith, eqb-true b vertical_bar e)) (equated-lawful begins_with r s)) (λ g.
     owes-fails no_attribute_form no_attribute_form (b ∷ r) (b ∷ s))))))
 
 attribute_after-lawful : Lawful true attribute_after attribute_after
@@ -66,7 +67,7 @@ unfolding attribute_after
 attribute_after-lawful r s =
     owes-follow _ _ (name-lawful r s) (λ n r s.
     owes-follow _ _ (attribute_operator-lawful r s) (λ operator r s.
-    owes-follow _ _ (byte-lawful 93 (omega arith) r s)
+    owes-follow _ _ (byte-lawful close_bracket (omega arith) r s)
     (λ u. owes-give (attribute_selector n operator))))
 
 -- ---- pseudo-classes
@@ -80,14 +81,14 @@ all_before-lawful c low r s = record {
       λ edition t u m w h. at-brace (λ t u. Diverge t u r s
       → Guard Equal true t u (all_before c r) (all_before c s))
       (λ u v h. by u v h (past (λ b. not (b == c)) r) (past (λ b. not (b == c)) s)
-      (past-both 125 (u ++ v) u (λ b. not (b == c)) r s h)) t u m h;
+      (past-both close_brace (u ++ v) u (λ b. not (b == c)) r s h)) t u m h;
 }
   where
-    by : (u v : List ℕ) → Diverge (125 ∷ (u ++ v)) (125 ∷ u) r s → (x y : List ℕ)
-        → To true (125 ∷ (u ++ v)) (125 ∷ u) x y
-        → Guard Equal true (125 ∷ (u ++ v)) (125 ∷ u) (got (before r x) x) (got (before s y) y)
+    by : (u v : List ℕ) → Diverge (close_brace ∷ (u ++ v)) (close_brace ∷ u) r s → (x y : List ℕ)
+        → To true (close_brace ∷ (u ++ v)) (close_brace ∷ u) x y
+        → Guard Equal true (close_brace ∷ (u ++ v)) (close_brace ∷ u) (got (before r x) x) (got (before s y) y)
     by u v h x y (inl l) = inl l
-    by u v h x y (inr k) = inr (before-diverge (125 ∷ (u ++ v)) (125 ∷ u) r s x y h k, k)
+    by u v h x y (inr k) = inr (before-diverge (close_brace ∷ (u ++ v)) (close_brace ∷ u) r s x y h k, k)
 
 lang_of-lawful : (value : List ℕ)
     → Lawful true (λ edition. lang_of value) (λ edition. lang_of value)
@@ -98,9 +99,9 @@ lang_of-lawful value r s =
 lang_after-lawful : Lawful true (λ edition. lang_after) (λ edition. lang_after)
 unfolding lang_after
 lang_after-lawful r s =
-    owes-follow _ _ (byte-lawful 40 (omega arith) r s) (λ u r s.
-    owes-follow _ _ (all_before-lawful 41 (omega arith) r s) (λ value r s.
-    owes-follow _ _ (byte-lawful 41 (omega arith) r s) (λ u. lang_of-lawful (trim value))))
+    owes-follow _ _ (byte-lawful open_parenthesis (omega arith) r s) (λ u r s.
+    owes-follow _ _ (all_before-lawful close_parenthesis (omega arith) r s) (λ value r s.
+    owes-follow _ _ (byte-lawful close_parenthesis (omega arith) r s) (λ u. lang_of-lawful (trim value))))
 
 pseudo_class_after-lawful : Lawful true pseudo_class_after pseudo_class_after
 unfolding pseudo_class_after
@@ -153,7 +154,7 @@ solid-lawful r s =
     owes-alike
     (λ edition t u m h. ap (λ k. solid_as edition k s)
     (at-brace (λ t u. Diverge t u r s → next_kind r ≡ next_kind s)
-    (λ u v. next_kind-diverge 125 (u ++ v) u r s) t u m h))
+    (λ u v. next_kind-diverge close_brace (u ++ v) u r s) t u m h))
     (solid_as-lawful r s (next_kind r) refl)
 
 -- ---- gaps
@@ -163,8 +164,8 @@ gap_of a =
     follow (if opens_comment a.1 then fails (no_comment a.1) [] else got (tt {0}) a.1)
     (λ x. got (list_any (λ is_space_byte. is_space_byte) a.0))
 
-gap_of-to : (t u : List ℕ) (a b : List Bool × List ℕ) → Repeats Equal Never 125 t u a b
-    → Guard Equal true (125 ∷ t) (125 ∷ u) (gap_of a) (gap_of b)
+gap_of-to : (t u : List ℕ) (a b : List Bool × List ℕ) → Repeats Equal Never close_brace t u a b
+    → Guard Equal true (close_brace ∷ t) (close_brace ∷ u) (gap_of a) (gap_of b)
 gap_of-to t u a b (inl l) = inl (by (opens_comment a.1))
   where
     by : (k : Bool)
@@ -175,7 +176,7 @@ gap_of-to t u a b (inl l) = inl (by (opens_comment a.1))
     by false = l
 gap_of-to t u a b (inr (inl k)) = absurd k
 gap_of-to t u a b (inr (inr k)) =
-    by (opens_comment a.1) (opens_comment b.1) (opens_comment-diverge 125 t u brace_plain a.1 b.1 k.1)
+    by (opens_comment a.1) (opens_comment b.1) (opens_comment-diverge close_brace t u brace_plain a.1 b.1 k.1)
   where
     spaces : list_any (λ is_space_byte. is_space_byte) a.0 ≡ list_any
         (λ is_space_byte. is_space_byte) b.0
@@ -184,7 +185,7 @@ gap_of-to t u a b (inr (inr k)) =
         (pairs-equal a.0 b.0 k.0)
 
     by : (i j : Bool) → i ≡ j
-        → Guard Equal true (125 ∷ t) (125 ∷ u)
+        → Guard Equal true (close_brace ∷ t) (close_brace ∷ u)
         (follow (if i then fails (no_comment a.1) [] else got (tt {0}) a.1)
         (λ x. got (list_any (λ is_space_byte. is_space_byte) a.0)))
         (follow (if j then fails (no_comment b.1) [] else got (tt {0}) b.1)
@@ -194,12 +195,12 @@ gap_of-to t u a b (inr (inr k)) =
     by false true e = absurd (cc)
     by false false e = inr (spaces, k.1)
 
-pub gap-guarded : (u v r s : List ℕ) → Diverge (125 ∷ (u ++ v)) (125 ∷ u) r s
-    → Guard Equal true (125 ∷ (u ++ v)) (125 ∷ u) (gap r) (gap s)
+pub gap-guarded : (u v r s : List ℕ) → Diverge (close_brace ∷ (u ++ v)) (close_brace ∷ u) r s
+    → Guard Equal true (close_brace ∷ (u ++ v)) (close_brace ∷ u) (gap r) (gap s)
 unfolding gap blank
 gap-guarded u v r s h =
     gap_of-to (u ++ v) u (each blank_part r) (each blank_part s)
-    (blank-repeats 125 u v brace_plain r s h)
+    (blank-repeats close_brace u v brace_plain r s h)
 
 -- ---- pieces consume a byte or more
 

@@ -12,6 +12,7 @@ use Rattle.simplecss_text.proofs.bytes.RunLemmas.{take_while-append}
 use Rattle.simplecss_text.proofs.bytes.Utf8Lemmas.{chars-byte}
 use Rattle.simplecss_text.proofs.reading.EditionLaws.{in_either}
 use Rattle.simplecss_text.proofs.reading.EndsLemmas.{before-append}
+use Rattle.simplecss_text.specs.AsciiBytes.{hyphen}
 use Rattle.simplecss_text.specs.Reading.{got}
 use Rattle.simplecss_text.specs.Bytes.{starts_by}
 use Rattle.simplecss_text.specs.Characters.{Edition, first_edition, second_edition, is_name_start, is_name_char}
@@ -22,7 +23,7 @@ abbrev pub begins_any_name : Edition → List ℕ → Bool
 begins_any_name edition [] = false
 begins_any_name edition (c ∷ []) = is_name_start edition c
 begins_any_name edition (c ∷ d ∷ cs) = is_name_start edition c ||
-    (c == 45 && is_name_start edition d)
+    (c == hyphen && is_name_start edition d)
 
 -- A name that is no lone hyphen, by its characters.
 pub record IsName (edition : Edition) (n : List ℕ) : Type 0 where
@@ -41,9 +42,9 @@ module _ (edition : Edition) where
   begins_name-append : (cs ds : List ℕ) → begins_any_name edition cs ≡ true
       → begins_name edition (cs ++ ds) ≡ true
   begins_name-append [] ds h = absurd (cc)
-  begins_name-append (c ∷ []) [] h = or_left (is_name_start edition c) (c == 45) h
+  begins_name-append (c ∷ []) [] h = or_left (is_name_start edition c) (c == hyphen) h
   begins_name-append (c ∷ []) (d ∷ ds) h = or_left (is_name_start edition c)
-      (c == 45 && is_name_start edition d) h
+      (c == hyphen && is_name_start edition d) h
   begins_name-append (c ∷ d ∷ cs) ds h = h
 
   -- the characters of a name and of what follows it

@@ -7,6 +7,7 @@ use Rattle.std.specs.List.{list_all}
 use Rattle.std.proofs.Math.Seq.{drop-append_seam}
 use lib.Utf8.{encode}
 use Rattle.simplecss_text.proofs.reading.EndsLemmas.{before-append}
+use Rattle.simplecss_text.specs.AsciiBytes.{backslash, close_bracket, close_parenthesis, colon, equals_sign, open_bracket, open_parenthesis, single_quote, tilde, vertical_bar}
 use Rattle.simplecss_text.specs.Reading.{Reading, got, follow, before}
 use Rattle.simplecss_text.specs.Bytes.{all_before, byte}
 use Rattle.simplecss_text.specs.Characters.{Edition, first_edition, second_edition, is_name_char}
@@ -33,20 +34,20 @@ last_after previous (b ∷ text) = last_after b text
 
 -- a value that ends with no backslash
 abbrev pub IsValue : List ℕ → Type 0
-IsValue value = (last_after 0 value == 92) ≡ false
+IsValue value = (last_after 0 value == backslash) ≡ false
 
 -- in a clean value no apostrophe closes the string
 from_quote-clean : (previous : ℕ) (v tail : List ℕ) → escaped_after previous v ≡ true
-    → (last_after previous v == 92) ≡ false
-    → from_quote 39 previous (v ++ (39 ∷ tail)) ≡ Some (39 ∷ tail)
+    → (last_after previous v == backslash) ≡ false
+    → from_quote single_quote previous (v ++ (single_quote ∷ tail)) ≡ Some (single_quote ∷ tail)
 from_quote-clean previous [] tail c l = rw l refl
 from_quote-clean previous (b ∷ v) tail c l =
-    by (b == 39) (previous == 92) refl refl c (λ h. from_quote-clean b v tail h l)
+    by (b == single_quote) (previous == backslash) refl refl c (λ h. from_quote-clean b v tail h l)
   where
-    by : (q p : Bool) → (b == 39) ≡ q → (previous == 92) ≡ p
+    by : (q p : Bool) → (b == single_quote) ≡ q → (previous == backslash) ≡ p
         → ((not q || p) && escaped_after b v) ≡ true
-        → (escaped_after b v ≡ true → from_quote 39 b (v ++ (39 ∷ tail)) ≡ Some (39 ∷ tail))
-        → from_quote 39 previous (b ∷ (v ++ (39 ∷ tail))) ≡ Some (39 ∷ tail)
+        → (escaped_after b v ≡ true → from_quote single_quote b (v ++ (single_quote ∷ tail)) ≡ Some (single_quote ∷ tail))
+        → from_quote single_quote previous (b ∷ (v ++ (single_quote ∷ tail))) ≡ Some (single_quote ∷ tail)
     by true true eq ep h more = rw (eq, ep) (more h)
     by true false eq ep h more = absurd (cc)
     by false p eq ep h more = rw eq (more h)
@@ -55,11 +56,11 @@ from_quote-clean previous (b ∷ v) tail c l =
 record CutShort (previous : ℕ) (v tail : List ℕ) : Type 0 where
   pub front : List ℕ
   pub more : List ℕ
-  pub is : v ≡ front ++ (39 ∷ more)
-  pub closes : from_quote 39 previous (v ++ tail) ≡ Some (39 ∷ (more ++ tail))
+  pub is : v ≡ front ++ (single_quote ∷ more)
+  pub closes : from_quote single_quote previous (v ++ tail) ≡ Some (single_quote ∷ (more ++ tail))
 
 cut_later : (previous b : ℕ) (v tail : List ℕ)
-    → from_quote 39 previous (b ∷ (v ++ tail)) ≡ from_quote 39 b (v ++ tail) → CutShort b v tail
+    → from_quote single_quote previous (b ∷ (v ++ tail)) ≡ from_quote single_quote b (v ++ tail) → CutShort b v tail
     → CutShort previous (b ∷ v) tail
 cut_later previous b v tail e s =
     record { front = b ∷ s.front; more = s.more; is = ap (λ l. b ∷ l) s.is; closes = e ∙ s.closes }
@@ -69,14 +70,14 @@ from_quote-unclean : (previous : ℕ) (v tail : List ℕ) → escaped_after prev
     → CutShort previous v tail
 from_quote-unclean previous [] tail c = absurd (cc)
 from_quote-unclean previous (b ∷ v) tail c =
-    by (b == 39) (previous == 92) refl refl c (λ h. from_quote-unclean b v tail h)
+    by (b == single_quote) (previous == backslash) refl refl c (λ h. from_quote-unclean b v tail h)
   where
-    by : (q p : Bool) → (b == 39) ≡ q → (previous == 92) ≡ p
+    by : (q p : Bool) → (b == single_quote) ≡ q → (previous == backslash) ≡ p
         → ((not q || p) && escaped_after b v) ≡ false
         → (escaped_after b v ≡ false → CutShort b v tail) → CutShort previous (b ∷ v) tail
     by true true eq ep h more = cut_later previous b v tail (rw (eq, ep) refl) (more h)
     by true false eq ep h more =
-        let e : b ≡ 39 = grind arith in
+        let e : b ≡ single_quote = grind arith in
         record {
           front = [];
           more = v;
@@ -87,12 +88,12 @@ from_quote-unclean previous (b ∷ v) tail c =
     by false p eq ep h more = cut_later previous b v tail (rw eq refl) (more h)
 
 -- the opening quote is no backslash
-escaped-start : (v : List ℕ) → escaped_after 39 v ≡ escaped_after 0 v
+escaped-start : (v : List ℕ) → escaped_after single_quote v ≡ escaped_after 0 v
 escaped-start [] = refl
 escaped-start (b ∷ v) = refl
 
 -- nor does it end an empty value
-last-start : (v : List ℕ) → IsValue v → (last_after 39 v == 92) ≡ false
+last-start : (v : List ℕ) → IsValue v → (last_after single_quote v == backslash) ≡ false
 last-start [] h = refl
 last-start (b ∷ v) h = h
 
@@ -104,39 +105,39 @@ IsOperator (has_word value) = IsValue value
 IsOperator (begins_with value) = IsValue value
 
 -- the closing quote and the closing bracket
-pub quoted : (v tail : List ℕ) → (v ++ (39 ∷ [])) ++ (93 ∷ tail) ≡ v ++ (39 ∷ (93 ∷ tail))
-quoted v tail = append_assoc v (39 ∷ []) (93 ∷ tail)
+pub quoted : (v tail : List ℕ) → (v ++ (single_quote ∷ [])) ++ (close_bracket ∷ tail) ≡ v ++ (single_quote ∷ (close_bracket ∷ tail))
+quoted v tail = append_assoc v (single_quote ∷ []) (close_bracket ∷ tail)
 
 -- no name continues with it
 pub operator-ends : (edition : Edition) (o : Operator) (tail : List ℕ)
-    → ends_names edition (operator_text o ++ (93 ∷ tail)) ≡ false
-operator-ends edition exists tail = ends_names-byte edition 93 _ (omega arith) refl refl
-operator-ends edition (equals v) tail = ends_names-byte edition 61 _ (omega arith) refl refl
-operator-ends edition (has_word v) tail = ends_names-byte edition 126 _ (omega arith) refl refl
-operator-ends edition (begins_with v) tail = ends_names-byte edition 124 _ (omega arith) refl refl
+    → ends_names edition (operator_text o ++ (close_bracket ∷ tail)) ≡ false
+operator-ends edition exists tail = ends_names-byte edition close_bracket _ (omega arith) refl refl
+operator-ends edition (equals v) tail = ends_names-byte edition equals_sign _ (omega arith) refl refl
+operator-ends edition (has_word v) tail = ends_names-byte edition tilde _ (omega arith) refl refl
+operator-ends edition (begins_with v) tail = ends_names-byte edition vertical_bar _ (omega arith) refl refl
 
 -- a language, without white space round it and without a closing parenthesis
 pub record IsLanguage (v : List ℕ) : Type 0 where
   pub trimmed : trim v ≡ v
   pub some : (length v == 0) ≡ false
-  pub within : list_all (λ b. not (b == 41)) v ≡ true
+  pub within : list_all (λ b. not (b == close_parenthesis)) v ≡ true
 
 -- all up to the first closing parenthesis
-all_before-reads : (v tail : List ℕ) → list_all (λ b. not (b == 41)) v ≡ true
-    → all_before 41 (v ++ (41 ∷ tail)) ≡ got v (41 ∷ tail)
+all_before-reads : (v tail : List ℕ) → list_all (λ b. not (b == close_parenthesis)) v ≡ true
+    → all_before close_parenthesis (v ++ (close_parenthesis ∷ tail)) ≡ got v (close_parenthesis ∷ tail)
 all_before-reads v tail h =
-    let n = prefix_len-append (λ b. not (b == 41)) v (41 ∷ tail) h refl in
-    let left : drop (length v) (v ++ (41 ∷ tail)) ≡ 41 ∷ tail = drop-append_seam v (41 ∷ tail) in
-    let value = before-append v (41 ∷ tail) in
+    let n = prefix_len-append (λ b. not (b == close_parenthesis)) v (close_parenthesis ∷ tail) h refl in
+    let left : drop (length v) (v ++ (close_parenthesis ∷ tail)) ≡ close_parenthesis ∷ tail = drop-append_seam v (close_parenthesis ∷ tail) in
+    let value = before-append v (close_parenthesis ∷ tail) in
     rw (n, left, value) refl
 
 -- a language is read back
 lang-reads : (v tail : List ℕ) → IsLanguage v
-    → lang_after (40 ∷ (v ++ (41 ∷ tail))) ≡ got (lang_pseudo_class v) tail
+    → lang_after (open_parenthesis ∷ (v ++ (close_parenthesis ∷ tail))) ≡ got (lang_pseudo_class v) tail
 unfolding lang_after
 lang-reads v tail w =
     let next : List ℕ → List ℕ → Reading Token =
-    λ value text. follow (byte 41 text) (λ u. lang_of (trim value)) in
+    λ value text. follow (byte close_parenthesis text) (λ u. lang_of (trim value)) in
     let some = w.some in
     ap (λ r. follow r next) (all_before-reads v tail w.within) ∙ ap (λ t. lang_of t tail) w.trimmed
     ∙ rw some refl
@@ -174,11 +175,11 @@ class_token active = named_pseudo_class (codes "active")
 class_token focus = named_pseudo_class (codes "focus")
 class_token (lang v) = lang_pseudo_class v
 
-open_ends : (edition : Edition) (text : List ℕ) → ends_names edition (40 ∷ text) ≡ false
-open_ends edition text = ends_names-byte edition 40 text (omega arith) refl refl
+open_ends : (edition : Edition) (text : List ℕ) → ends_names edition (open_parenthesis ∷ text) ≡ false
+open_ends edition text = ends_names-byte edition open_parenthesis text (omega arith) refl refl
 
 closed : (v tail : List ℕ)
-    → (codes "lang(" ++ (v ++ codes ")")) ++ tail ≡ codes "lang" ++ (40 ∷ (v ++ (41 ∷ tail)))
+    → (codes "lang(" ++ (v ++ codes ")")) ++ tail ≡ codes "lang" ++ (open_parenthesis ∷ (v ++ (close_parenthesis ∷ tail)))
 closed v tail = ap (λ l. codes "lang(" ++ l) (append_assoc v (codes ")") tail)
 
 -- what a subselector that was read satisfies
@@ -207,44 +208,44 @@ printed_token-role (attribute n o) = refl
 printed_token-role (pseudo_class class) = class-role class
 
 -- a printed attribute, part by part
-pub bracketed : (n o tail : List ℕ) → ((n ++ o) ++ (93 ∷ [])) ++ tail ≡ n ++ (o ++ (93 ∷ tail))
-bracketed n o tail = append_assoc (n ++ o) (93 ∷ []) tail ∙ append_assoc n o (93 ∷ tail)
+pub bracketed : (n o tail : List ℕ) → ((n ++ o) ++ (close_bracket ∷ [])) ++ tail ≡ n ++ (o ++ (close_bracket ∷ tail))
+bracketed n o tail = append_assoc (n ++ o) (close_bracket ∷ []) tail ∙ append_assoc n o (close_bracket ∷ tail)
 
 module _ (edition : Edition) where
   -- a clean value is read back between apostrophes
   string-reads : (v tail : List ℕ) → IsValue v → escaped_after 0 v ≡ true
-      → string_or_name edition (39 ∷ (v ++ (39 ∷ tail))) ≡ got v tail
+      → string_or_name edition (single_quote ∷ (v ++ (single_quote ∷ tail))) ≡ got v tail
   unfolding string_or_name
   string-reads v tail l c =
-      let closes = from_quote-clean 39 v tail (escaped-start v ∙ c) (last-start v l) in
-      let value = before-append v (39 ∷ tail) in
+      let closes = from_quote-clean single_quote v tail (escaped-start v ∙ c) (last-start v l) in
+      let value = before-append v (single_quote ∷ tail) in
       rw (closes, value) refl
 
   -- one that is not clean is cut short
   pub string-cut : (v tail : List ℕ) → escaped_after 0 v ≡ false
-      → (front more : List ℕ) × (v ≡ front ++ (39 ∷ more))
-      × (string_or_name edition (39 ∷ (v ++ tail)) ≡ got front (more ++ tail))
+      → (front more : List ℕ) × (v ≡ front ++ (single_quote ∷ more))
+      × (string_or_name edition (single_quote ∷ (v ++ tail)) ≡ got front (more ++ tail))
   unfolding string_or_name
   string-cut v tail c =
-      let s = from_quote-unclean 39 v tail (escaped-start v ∙ c) in
-      let closing = 39 ∷ (s.more ++ tail) in
-      let text : v ++ tail ≡ s.front ++ (39 ∷ (s.more ++ tail)) =
-      ap (λ l. l ++ tail) s.is ∙ append_assoc s.front (39 ∷ s.more) tail in
-      let value : before (v ++ tail) (39 ∷ (s.more ++ tail)) ≡ s.front =
-      ap (λ l. before l (39 ∷ (s.more ++ tail))) text
-      ∙ before-append s.front (39 ∷ (s.more ++ tail)) in
+      let s = from_quote-unclean single_quote v tail (escaped-start v ∙ c) in
+      let closing = single_quote ∷ (s.more ++ tail) in
+      let text : v ++ tail ≡ s.front ++ (single_quote ∷ (s.more ++ tail)) =
+      ap (λ l. l ++ tail) s.is ∙ append_assoc s.front (single_quote ∷ s.more) tail in
+      let value : before (v ++ tail) (single_quote ∷ (s.more ++ tail)) ≡ s.front =
+      ap (λ l. before l (single_quote ∷ (s.more ++ tail))) text
+      ∙ before-append s.front (single_quote ∷ (s.more ++ tail)) in
       (s.front, s.more, s.is, rw (s.closes, value) refl)
 
   -- an equals sign and a clean value are read back
   equated-reads : (operator : List ℕ → Operator) (v tail : List ℕ) → IsValue v
       → escaped_after 0 v ≡ true → equated edition operator
-      (61 ∷ (39 ∷ ((v ++ (39 ∷ [])) ++ (93 ∷ tail)))) ≡ got (operator v) (93 ∷ tail)
+      (equals_sign ∷ (single_quote ∷ ((v ++ (single_quote ∷ [])) ++ (close_bracket ∷ tail)))) ≡ got (operator v) (close_bracket ∷ tail)
   equated-reads operator v tail l c =
-      let s = string-reads v (93 ∷ tail) l c in rw (quoted v tail, s) refl
+      let s = string-reads v (close_bracket ∷ tail) l c in rw (quoted v tail, s) refl
 
   -- so is what is required of an attribute
   operator-reads : (o : Operator) (tail : List ℕ) → IsOperator o → is_clean_operator o ≡ true
-      → attribute_operator edition (operator_text o ++ (93 ∷ tail)) ≡ got o (93 ∷ tail)
+      → attribute_operator edition (operator_text o ++ (close_bracket ∷ tail)) ≡ got o (close_bracket ∷ tail)
   unfolding attribute_operator
   operator-reads exists tail w c = refl
   operator-reads (equals v) tail w c = equated-reads equals v tail w c
@@ -253,12 +254,12 @@ module _ (edition : Edition) where
 
   -- so is a clean attribute after its bracket
   attribute-reads : (n : List ℕ) (o : Operator) (tail : List ℕ) → IsName edition n → IsOperator o
-      → is_clean_operator o ≡ true → attribute_after edition (n ++ (operator_text o ++ (93 ∷ tail)))
+      → is_clean_operator o ≡ true → attribute_after edition (n ++ (operator_text o ++ (close_bracket ∷ tail)))
       ≡ got (attribute_selector n o) tail
   unfolding attribute_after
   attribute-reads n o tail w x c =
       let first =
-      name-reads edition n (operator_text o ++ (93 ∷ tail)) w (operator-ends edition o tail) in
+      name-reads edition n (operator_text o ++ (close_bracket ∷ tail)) w (operator-ends edition o tail) in
       let second = operator-reads o tail x c in
       rw (first, second) refl
 
@@ -270,13 +271,13 @@ module _ (edition : Edition) where
       ap (λ r. follow r pseudo_class_named) (name-reads edition n tail w s) ∙ rw l refl
 
   lang_class-reads : (v tail : List ℕ) → IsLanguage v
-      → pseudo_class_after edition (codes "lang" ++ (40 ∷ (v ++ (41 ∷ tail))))
+      → pseudo_class_after edition (codes "lang" ++ (open_parenthesis ∷ (v ++ (close_parenthesis ∷ tail))))
       ≡ got (lang_pseudo_class v) tail
   unfolding pseudo_class_after
   lang_class-reads v tail w =
       ap (λ r. follow r pseudo_class_named)
-      (name-reads edition (codes "lang") (40 ∷ (v ++ (41 ∷ tail))) (lang_name edition)
-      (open_ends edition (v ++ (41 ∷ tail)))) ∙ lang-reads v tail w
+      (name-reads edition (codes "lang") (open_parenthesis ∷ (v ++ (close_parenthesis ∷ tail))) (lang_name edition)
+      (open_ends edition (v ++ (close_parenthesis ∷ tail)))) ∙ lang-reads v tail w
 
   -- a pseudo-class is read back
   class-reads : (class : KnownPseudoClass) (tail : List ℕ) → IsClass class
@@ -299,11 +300,11 @@ module _ (edition : Edition) where
       ap (pseudo_class_after edition) (closed v tail) ∙ lang_class-reads v tail w
 
   -- a bracket begins an attribute, and a colon a pseudo-class
-  pub solid-attribute : (text : List ℕ) → solid edition (91 ∷ text) ≡ attribute_after edition text
+  pub solid-attribute : (text : List ℕ) → solid edition (open_bracket ∷ text) ≡ attribute_after edition text
   unfolding solid next_kind
   solid-attribute text = refl
 
-  solid-pseudo_class : (text : List ℕ) → solid edition (58 ∷ text) ≡ pseudo_class_after edition text
+  solid-pseudo_class : (text : List ℕ) → solid edition (colon ∷ text) ≡ pseudo_class_after edition text
   unfolding solid next_kind
   solid-pseudo_class text = refl
 
@@ -312,7 +313,7 @@ module _ (edition : Edition) where
       → is_clean_subselector s ≡ true → ends_names edition tail ≡ false
       → solid edition (subselector_text s ++ tail) ≡ got (printed_token s) tail
   subselector-reads (attribute n o) tail w c e =
-      solid-attribute (((n ++ operator_text o) ++ (93 ∷ [])) ++ tail)
+      solid-attribute (((n ++ operator_text o) ++ (close_bracket ∷ [])) ++ tail)
       ∙ ap (attribute_after edition) (bracketed n (operator_text o) tail)
       ∙ attribute-reads n o tail w.0 w.1 c
   subselector-reads (pseudo_class class) tail w c e =

@@ -10,6 +10,7 @@ use Rattle.std.proofs.lemmas.List.Sums.{take_while-cons}
 use Rattle.std.proofs.Math.Seq.{drop-append_seam}
 use lib.Utf8.{encode}
 use Rattle.simplecss_text.proofs.reading.EndsLemmas.{before-append}
+use Rattle.simplecss_text.specs.AsciiBytes.{hyphen}
 use Rattle.simplecss_text.specs.Reading.{Fault, Reading, no_name, got, fails, before}
 use Rattle.simplecss_text.specs.Bytes.{past_byte, starts_by}
 use Rattle.simplecss_text.specs.Characters.{Edition, is_name_start, is_name_char, first_edition, second_edition}
@@ -49,7 +50,7 @@ taken p c cs e = take_while-cons p c cs ∙ ap (λ t. cond t (c ∷ take_while p
 -- A name that was read: it is one wherever it is, or the hyphen that ends the text. What is
 -- left is a text.
 pub record ReadName (edition : Edition) (text n rest : List ℕ) : Type 0 where
-  pub is : IsName edition n ⊎ ((n ≡ 45 ∷ []) × (rest ≡ []))
+  pub is : IsName edition n ⊎ ((n ≡ hyphen ∷ []) × (rest ≡ []))
   pub rest_is : IsUtf8 rest
   pub joined : text ≡ n ++ rest
   pub ends : ends_names edition rest ≡ false
@@ -59,8 +60,8 @@ got_both : (n m rest left : List ℕ) → Path (Reading (List ℕ)) (got n rest)
 got_both n m rest left e = (cc, cc)
 
 hyphen_bytes : (edition : Edition)
-    → (encode_utf8_all (take_while (is_name_char edition) (45 ∷ [])) ≡ 45 ∷ [])
-    × (encode_utf8_all (drop (prefix_len (is_name_char edition) (45 ∷ [])) (45 ∷ [])) ≡ [])
+    → (encode_utf8_all (take_while (is_name_char edition) (hyphen ∷ [])) ≡ hyphen ∷ [])
+    × (encode_utf8_all (drop (prefix_len (is_name_char edition) (hyphen ∷ [])) (hyphen ∷ [])) ≡ [])
 unfolding encode
 hyphen_bytes first_edition = (refl, refl)
 hyphen_bytes second_edition = (refl, refl)
@@ -76,30 +77,30 @@ module _ (edition : Edition) where
 
   -- the name characters of what begins a name begin one, but for a hyphen that ends the text
   taken_begins : (cs : List ℕ) → begins_name edition cs ≡ true
-      → (begins_any_name edition (take_while (is_name_char edition) cs) ≡ true) ⊎ (cs ≡ 45 ∷ [])
+      → (begins_any_name edition (take_while (is_name_char edition) cs) ≡ true) ⊎ (cs ≡ hyphen ∷ [])
   taken_begins [] h = absurd (cc)
   taken_begins (c ∷ []) h = by (is_name_start edition c) refl
     where
       by : (t : Bool) → is_name_start edition c ≡ t
           → (begins_any_name edition (take_while (is_name_char edition) (c ∷ [])) ≡ true)
-          ⊎ (c ∷ [] ≡ 45 ∷ [])
+          ⊎ (c ∷ [] ≡ hyphen ∷ [])
       by true e =
           inl (ap (begins_any_name edition)
           (taken (is_name_char edition) c [] (start_char c e)) ∙ e)
       by false e =
-          inr (ap (λ k. k ∷ []) (eqb-true c 45 (only_hyphen (is_name_start edition c)
-          (c == 45) e h)))
+          inr (ap (λ k. k ∷ []) (eqb-true c hyphen (only_hyphen (is_name_start edition c)
+          (c == hyphen) e h)))
   taken_begins (c ∷ d ∷ cs) h = by (is_name_start edition c) refl
     where
       by : (t : Bool) → is_name_start edition c ≡ t
           → (begins_any_name edition (take_while (is_name_char edition) (c ∷ d ∷ cs)) ≡ true)
-          ⊎ (c ∷ d ∷ cs ≡ 45 ∷ [])
+          ⊎ (c ∷ d ∷ cs ≡ hyphen ∷ [])
       by true e =
           inl (ap (begins_any_name edition)
           (taken (is_name_char edition) c (d ∷ cs) (start_char c e))
           ∙ begins_start c (take_while (is_name_char edition) (d ∷ cs)) e)
       by false e =
-          let both = hyphen_start (is_name_start edition c) (c == 45)
+          let both = hyphen_start (is_name_start edition c) (c == hyphen)
           (is_name_start edition d) e h in
           let two : take_while (is_name_char edition) (c ∷ d ∷ cs) ≡ c ∷ d ∷ take_while
           (is_name_char edition) cs =
@@ -107,11 +108,11 @@ module _ (edition : Edition) where
           ∙ ap (λ l. c ∷ l) (taken (is_name_char edition) d cs (start_char d both.1)) in
           inl (ap (begins_any_name edition) two ∙ h)
 
-  lone_hyphen : (cs : List ℕ) → cs ≡ 45 ∷ []
-      → (encode_utf8_all (take_while (is_name_char edition) cs) ≡ 45 ∷ [])
+  lone_hyphen : (cs : List ℕ) → cs ≡ hyphen ∷ []
+      → (encode_utf8_all (take_while (is_name_char edition) cs) ≡ hyphen ∷ [])
       × (encode_utf8_all (drop (prefix_len (is_name_char edition) cs) cs) ≡ [])
   lone_hyphen cs e =
-      subst (λ (l : List ℕ). (encode_utf8_all (take_while (is_name_char edition) l) ≡ 45 ∷ [])
+      subst (λ (l : List ℕ). (encode_utf8_all (take_while (is_name_char edition) l) ≡ hyphen ∷ [])
       × (encode_utf8_all (drop (prefix_len (is_name_char edition) l) l) ≡ [])) (sym e)
       (hyphen_bytes edition)
 
@@ -164,7 +165,7 @@ module _ (edition : Edition) where
 
   name-none : (cs : List ℕ) → all_scalars cs ≡ true → begins_name edition cs ≡ false
       → name edition (encode_utf8_all cs)
-      ≡ fails (no_name (encode_utf8_all cs)) (past_byte 45 (encode_utf8_all cs))
+      ≡ fails (no_name (encode_utf8_all cs)) (past_byte hyphen (encode_utf8_all cs))
   unfolding name
   name-none cs s h = let decoded = chars-encodes cs s in rw (decoded, h) refl
 
@@ -188,20 +189,20 @@ module _ (edition : Edition) where
 
   -- where no name was read, none begins there, and a hyphen was consumed
   pub name-fails : (text rest : List ℕ) (fault : Fault) → name edition text ≡ fails fault rest
-      → (begins_name edition (chars text) ≡ false) × (rest ≡ past_byte 45 text)
+      → (begins_name edition (chars text) ≡ false) × (rest ≡ past_byte hyphen text)
   unfolding name
   name-fails text rest fault e = by (begins_name edition (chars text)) refl e
     where
       by : (t : Bool) → begins_name edition (chars text) ≡ t
           → Path (Reading (List ℕ))
           (if t then got (before text (past_name_chars edition text)) (past_name_chars edition text)
-          else fails (no_name text) (past_byte 45 text)) (fails fault rest)
-          → (begins_name edition (chars text) ≡ false) × (rest ≡ past_byte 45 text)
+          else fails (no_name text) (past_byte hyphen text)) (fails fault rest)
+          → (begins_name edition (chars text) ≡ false) × (rest ≡ past_byte hyphen text)
       by true b h = absurd (cc)
       by false b h = (b, cc)
 
   -- where no name begins, none is read
   pub name-none_begins : (text : List ℕ) → begins_name edition (chars text) ≡ false
-      → name edition text ≡ fails (no_name text) (past_byte 45 text)
+      → name edition text ≡ fails (no_name text) (past_byte hyphen text)
   unfolding name
   name-none_begins text b = rw b refl

@@ -3,6 +3,7 @@
 -- again).
 use Rattle.std.proofs.Common.{◌≡◌, ℕ, List, [], ◌∷◌, ◌++◌, Bool, true, false, if◌then◌else◌, ◌&&◌, not, ◌==◌, refl, sym, ap, ◌∙◌, Option, Some, None, eqb-true}
 use Rattle.simplecss_text.proofs.reading.EndsLemmas.{before-append}
+use Rattle.simplecss_text.specs.AsciiBytes.{backslash}
 use Rattle.simplecss_text.specs.Reading.{before}
 use Rattle.simplecss_text.specs.Strings.{from_quote, string_up_to, string_after}
 use Rattle.simplecss_text.proofs.reading.PrintedPieces.{last_after, IsValue}
@@ -14,7 +15,7 @@ pub record Closes (quote previous : ℕ) (text closing : List ℕ) : Type 0 wher
   pub following : List ℕ
   pub closing_is : closing ≡ quote ∷ following
   pub is : text ≡ front ++ (quote ∷ following)
-  pub open_end : (last_after previous front == 92) ≡ false
+  pub open_end : (last_after previous front == backslash) ≡ false
 
 both_parts : (a b : Bool) → (a && not b) ≡ true → (a ≡ true) × (b ≡ false)
 both_parts true true h = absurd (cc)
@@ -44,19 +45,19 @@ pub from_quote-closes : (quote previous : ℕ) (text : List ℕ)
     → IfCloses quote previous text (from_quote quote previous text)
 from_quote-closes quote previous [] = tt
 from_quote-closes quote previous (b ∷ text) =
-    by (b == quote && not (previous == 92)) refl (from_quote-closes quote b text)
+    by (b == quote && not (previous == backslash)) refl (from_quote-closes quote b text)
   where
-    by : (t : Bool) → (b == quote && not (previous == 92)) ≡ t
+    by : (t : Bool) → (b == quote && not (previous == backslash)) ≡ t
         → IfCloses quote b text (from_quote quote b text)
         → IfCloses quote previous (b ∷ text)
         (if t then Some (b ∷ text) else from_quote quote b text)
     by true h more =
-        let known = both_parts (b == quote) (previous == 92) h in
+        let known = both_parts (b == quote) (previous == backslash) h in
         let same = ap (λ k. k ∷ text) (eqb-true b quote known.0) in
         record { front = []; following = text; closing_is = same; is = same; open_end = known.1 }
     by false h more = closes-later quote previous b text (from_quote quote b text) more
 
-quote_start : (quote : ℕ) (front : List ℕ) → (last_after quote front == 92) ≡ false → IsValue front
+quote_start : (quote : ℕ) (front : List ℕ) → (last_after quote front == backslash) ≡ false → IsValue front
 quote_start quote [] h = refl
 quote_start quote (b ∷ front) h = h
 

@@ -4,6 +4,7 @@
 use Rattle.std.proofs.Common.{◌≡◌, ℕ, ◌≤◌, List, [], ◌∷◌, ◌++◌, Bool, true, false, if◌then◌else◌, ◌==◌, ◌&&◌, not, length, length-append, Option, Some, None, arith, refl, sym, ap, ◌∙◌, ◌<◌, ◌⊎◌, inl, inr}
 use Rattle.std.proofs.lemmas.Bool.{and_parts}
 use Rattle.std.specs.Option.{option_map}
+use Rattle.simplecss_text.specs.AsciiBytes.{asterisk, backslash, close_brace, slash as slash_byte}
 use Rattle.simplecss_text.specs.Reading.{Fault, no_comment, got, fails, each, left_after, before}
 use Rattle.simplecss_text.specs.Bytes.{past_one, starts, starts_two, after_byte, closed_or}
 use Rattle.simplecss_text.specs.Characters.{is_space}
@@ -19,24 +20,24 @@ abbrev pub FindsAlike : List ℕ → List ℕ → Option (List ℕ) → Option (
 FindsAlike t u None p = Unit {0}
 FindsAlike t u (Some a) p = (length a < length t) ⊎ ((b : List ℕ) × (p ≡ Some b) × Diverge t u a b)
 
-finds-within : (t u : List ℕ) (o p : Option (List ℕ)) → IfAfter 47 t o → FindsAlike t u o p
+finds-within : (t u : List ℕ) (o p : Option (List ℕ)) → IfAfter slash_byte t o → FindsAlike t u o p
 finds-within t u None p h = tt
-finds-within t u (Some a) p h = inl (omega (arith, ap length h.1, length-append h.0 (47 ∷ a)))
+finds-within t u (Some a) p h = inl (omega (arith, ap length h.1, length-append h.0 (slash_byte ∷ a)))
 
 -- the end of a comment
 pub close-diverge : (t u r s : List ℕ) → Diverge t u r s
     → FindsAlike t u (after_close r) (after_close s)
 close-diverge t u r s at = finds-within t u (after_close t) (after_close u) (after_close-after t)
-close-diverge t u r s (on b r1 s1 at) = by (starts_two 42 47 (b ∷ t)) refl
+close-diverge t u r s (on b r1 s1 at) = by (starts_two asterisk slash_byte (b ∷ t)) refl
   where
-    by : (k : Bool) → starts_two 42 47 (b ∷ t) ≡ k
+    by : (k : Bool) → starts_two asterisk slash_byte (b ∷ t) ≡ k
         → FindsAlike t u (if k then Some (past_one t) else after_close t) (after_close (b ∷ u))
     by true e =
-        inl (let there = starts-cons 47 t (and_parts (b == 42) (starts 47 t) e).1 in omega
+        inl (let there = starts-cons slash_byte t (and_parts (b == asterisk) (starts slash_byte t) e).1 in omega
         (arith, ap length there))
     by false e = finds-within t u (after_close t) (after_close (b ∷ u)) (after_close-after t)
 close-diverge t u r s (on b r1 s1 (on c r2 s2 h)) =
-    by (b == 42 && c == 47) (close-diverge t u (c ∷ r2) (c ∷ s2) (on c r2 s2 h))
+    by (b == asterisk && c == slash_byte) (close-diverge t u (c ∷ r2) (c ∷ s2) (on c r2 s2 h))
   where
     by : (k : Bool) → FindsAlike t u (after_close (c ∷ r2)) (after_close (c ∷ s2))
         → FindsAlike t u (if k then Some r2 else after_close (c ∷ r2))
@@ -55,25 +56,25 @@ and_front false b c h e = refl
 -- what is not closed in a text is not closed in its front
 close_front : (u v : List ℕ) → after_close (u ++ v) ≡ None → after_close u ≡ None
 close_front [] v e = refl
-close_front (b ∷ u) v e = by (starts_two 42 47 (b ∷ (u ++ v))) (close_front u v) refl e
+close_front (b ∷ u) v e = by (starts_two asterisk slash_byte (b ∷ (u ++ v))) (close_front u v) refl e
   where
     by : (k : Bool) → (after_close (u ++ v) ≡ None → after_close u ≡ None)
-        → starts_two 42 47 (b ∷ (u ++ v)) ≡ k
+        → starts_two asterisk slash_byte (b ∷ (u ++ v)) ≡ k
         → (if k then Some (past_one (u ++ v)) else after_close (u ++ v)) ≡ None
         → after_close (b ∷ u) ≡ None
     by true ih f h = absurd (cc)
     by false ih f h =
-        let here : starts_two 42 47 (b ∷ u) ≡ false =
-        and_front (b == 42) (starts 47 (u ++ v)) (starts 47 u) (starts_front 47 u v) f in
+        let here : starts_two asterisk slash_byte (b ∷ u) ≡ false =
+        and_front (b == asterisk) (starts slash_byte (u ++ v)) (starts slash_byte u) (starts_front slash_byte u v) f in
         rw here (ih h)
 
 -- a byte that is no part of a blank
 pub record Plain (g : ℕ) : Type 0 where
   pub space : is_space g ≡ false
-  pub slash : (g == 47) ≡ false
-  pub star : (g == 42) ≡ false
+  pub slash : (g == slash_byte) ≡ false
+  pub star : (g == asterisk) ≡ false
 
-pub brace_plain : Plain 125
+pub brace_plain : Plain close_brace
 brace_plain = record { space = refl; slash = refl; star = refl }
 
 blank_part-step : (g : ℕ) (u v : List ℕ) → Plain g → (r s : List ℕ)
@@ -81,7 +82,7 @@ blank_part-step : (g : ℕ) (u v : List ℕ) → Plain g → (r s : List ℕ)
     → Step Equal Never g (u ++ v) u r (blank_part r) (blank_part s)
 blank_part-step g u v p r s at =
     let e : is_space g ≡ false = p.space in
-    let f : (g == 47) ≡ false = p.slash in
+    let f : (g == slash_byte) ≡ false = p.slash in
     rw (e, f) tt
 blank_part-step g u v p r s (on b r1 s1 h) = by (is_space b)
   where
@@ -100,7 +101,7 @@ blank_part-step g u v p r s (on b r1 s1 h) = by (is_space b)
         (after_comment (b ∷ r2)) else None)
         (if opens_comment (b ∷ s2) then option_map (λ (rest : List ℕ). (false, rest))
         (after_comment (b ∷ s2)) else None)
-    opens r2 s2 at = let e : (g == 42) ≡ false = p.star in rw e (neither (b == 47))
+    opens r2 s2 at = let e : (g == asterisk) ≡ false = p.star in rw e (neither (b == slash_byte))
       where
         neither : (k : Bool)
             → Step Equal Never g (u ++ v) u (b ∷ r1)
@@ -110,7 +111,7 @@ blank_part-step g u v p r s (on b r1 s1 h) = by (is_space b)
             (after_comment (b ∷ s2)) else None)
         neither true = tt
         neither false = tt
-    opens r2 s2 (on c r3 s3 k) = both (b == 47 && c == 42)
+    opens r2 s2 (on c r3 s3 k) = both (b == slash_byte && c == asterisk)
       where
         both : (j : Bool)
             → Step Equal Never g (u ++ v) u (b ∷ r1)
@@ -158,14 +159,14 @@ past_blank-to g u v p r s h =
 
 pub opens_comment-diverge : (g : ℕ) (t u : List ℕ) → Plain g → (r s : List ℕ)
     → Diverge (g ∷ t) (g ∷ u) r s → opens_comment r ≡ opens_comment s
-opens_comment-diverge g t u p r s at = let f : (g == 47) ≡ false = p.slash in rw f refl
+opens_comment-diverge g t u p r s at = let f : (g == slash_byte) ≡ false = p.slash in rw f refl
 opens_comment-diverge g t u p r s (on b r1 s1 h) =
-    ap (λ (k : Bool). b == 47 && k) (starts-diverge g t u 42 r1 s1 h)
+    ap (λ (k : Bool). b == slash_byte && k) (starts-diverge g t u asterisk r1 s1 h)
 
-pub blank-guarded : (u v r s : List ℕ) → Diverge (125 ∷ (u ++ v)) (125 ∷ u) r s
-    → Guard Equal true (125 ∷ (u ++ v)) (125 ∷ u) (blank r) (blank s)
+pub blank-guarded : (u v r s : List ℕ) → Diverge (close_brace ∷ (u ++ v)) (close_brace ∷ u) r s
+    → Guard Equal true (close_brace ∷ (u ++ v)) (close_brace ∷ u) (blank r) (blank s)
 unfolding blank
-blank-guarded u v r s h = by (past_blank r) (past_blank s) (past_blank-to 125 u v brace_plain r s h)
+blank-guarded u v r s h = by (past_blank r) (past_blank s) (past_blank-to close_brace u v brace_plain r s h)
   where
     either : (k : Bool) (a : List ℕ) → length a ≤ length (u ++ v)
         → length (left_after {A = Unit {0}} (if k then fails (no_comment a) [] else got tt a)) ≤
@@ -173,14 +174,14 @@ blank-guarded u v r s h = by (past_blank r) (past_blank s) (past_blank-to 125 u 
     either true a l = omega arith
     either false a l = l
 
-    by : (a b : List ℕ) → To true (125 ∷ (u ++ v)) (125 ∷ u) a b
-        → Guard {A = Unit {0}} Equal true (125 ∷ (u ++ v)) (125 ∷ u)
+    by : (a b : List ℕ) → To true (close_brace ∷ (u ++ v)) (close_brace ∷ u) a b
+        → Guard {A = Unit {0}} Equal true (close_brace ∷ (u ++ v)) (close_brace ∷ u)
         (if opens_comment a then fails (no_comment a) [] else got tt a)
         (if opens_comment b then fails (no_comment b) [] else got tt b)
     by a b (inl k) = inl (either (opens_comment a) a k)
     by a b (inr k) =
-        guard-if Equal true (125 ∷ (u ++ v)) (125 ∷ u) (opens_comment a) (opens_comment b) _ _ _ _
-        (opens_comment-diverge 125 (u ++ v) u brace_plain a b k) (inl (omega arith)) (inr (refl, k))
+        guard-if Equal true (close_brace ∷ (u ++ v)) (close_brace ∷ u) (opens_comment a) (opens_comment b) _ _ _ _
+        (opens_comment-diverge close_brace (u ++ v) u brace_plain a b k) (inl (omega arith)) (inr (refl, k))
 
 -- ---- what a byte closes
 
@@ -225,7 +226,7 @@ string-diverge c t u whole other w quote previous r s at =
     inl (string-passed c t whole quote previous (from_quote quote previous t)
     (from_quote-closes quote previous t))
 string-diverge c t u whole other w quote previous r s (on b r1 s1 h) =
-    by (b == quote && not (previous == 92)) (string-diverge c t u whole other w quote b r1 s1 h)
+    by (b == quote && not (previous == backslash)) (string-diverge c t u whole other w quote b r1 s1 h)
   where
     by : (j : Bool)
         → Guard Equal c t u (string_up_to whole (from_quote quote b r1))

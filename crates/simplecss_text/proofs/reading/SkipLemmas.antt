@@ -5,6 +5,7 @@ use Rattle.std.specs.Prelude.{Result, Ok, Err}
 use Rattle.std.specs.Result.{OnOk}
 use Rattle.std.specs.Option.{option_map}
 use Rattle.std.specs.List.{flat_map}
+use Rattle.simplecss_text.specs.AsciiBytes.{at_sign, comma}
 use Rattle.simplecss_text.specs.Reading.{each}
 use Rattle.std.proofs.lemmas.Grind.{flat_map-append}
 use Rattle.simplecss_text.specs.Bytes.{past_one, past_byte, starts}
@@ -83,11 +84,11 @@ skips_of_each-none {A = A} tell last read text e =
 -- ---- parts
 
 abbrev with_comma : Option (List Component) × List ℕ → Option (Option (List Component) × List ℕ)
-with_comma p = if starts 44 p.1 then Some (p.0, past_one p.1) else None
+with_comma p = if starts comma p.1 then Some (p.0, past_one p.1) else None
 
 -- a part with a comma after it
 pub parts_skips-some : (edition : Edition) (here rest : List ℕ) → (part edition here).1 ≡ rest
-    → starts 44 rest ≡ true → parts_skips edition here ≡ part_skips edition here ++ parts_skips
+    → starts comma rest ≡ true → parts_skips edition here ≡ part_skips edition here ++ parts_skips
     edition (past_one rest)
 unfolding parts_skips
 parts_skips-some edition here rest p e =
@@ -98,7 +99,7 @@ parts_skips-some edition here rest p e =
 
 -- the last part
 pub parts_skips-last : (edition : Edition) (here rest : List ℕ) → (part edition here).1 ≡ rest
-    → starts 44 rest ≡ false → parts_skips edition here ≡ part_skips edition here
+    → starts comma rest ≡ false → parts_skips edition here ≡ part_skips edition here
 unfolding parts_skips
 parts_skips-last edition here rest p e =
     let read : part_and_comma edition here ≡ None = rw (p, e) refl in
@@ -174,7 +175,7 @@ add-part {S = S} add edition text rest o s0 s1 s2 a p r b =
 
 -- by a rule set: first a comma, then its parts, then its block
 pub add-rule_set : {S : Type 0} (add : S → Skip → S) (edition : Edition) (text head left : List ℕ)
-    (s0 s1 s2 s3 : S) → head ≡ past_byte 44 text → left ≡ (parts edition head).1
+    (s0 s1 s2 s3 : S) → head ≡ past_byte comma text → left ≡ (parts edition head).1
     → s1 ≡ add_each add s0 (comma_skips text) → s2 ≡ add_each add s1 (parts_skips edition head)
     → s3 ≡ add_each add s2 (next_block_skips edition left)
     → s3 ≡ add_each add s0 (rule_set_skips edition text)
@@ -191,14 +192,14 @@ add-rule_set {S = S} add edition text head left s0 s1 s2 s3 h l a b c =
 
 -- what an at-rule skips
 pub skips-at_rule : (edition : Edition) (text from begun rest : List ℕ) (n : Option (List ℕ))
-    → starts 64 text ≡ true → from ≡ text → begun ≡ past_one text
+    → starts at_sign text ≡ true → from ≡ text → begun ≡ past_one text
     → rest ≡ at_rule_rest edition begun → n ≡ name_of (name edition begun)
     → record { from = from; after = rest; why = at_rule n } ∷ [] ≡ statement_skips edition text
 unfolding statement_skips
 skips-at_rule edition text from begun rest n e f a b c = rw (e, c, b, a, f) refl
 
 -- what another statement skips
-pub skips-rule_set : (edition : Edition) (text : List ℕ) → starts 64 text ≡ false
+pub skips-rule_set : (edition : Edition) (text : List ℕ) → starts at_sign text ≡ false
     → rule_set_skips edition text ≡ statement_skips edition text
 unfolding statement_skips
 skips-rule_set edition text e = rw e refl

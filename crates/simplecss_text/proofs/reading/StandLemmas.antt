@@ -9,6 +9,7 @@ use Rattle.std.proofs.lemmas.Str.{encodes-append, encodes-chars, scalars-chars, 
 use Rattle.std.proofs.lemmas.List.Sums.{prefix_len-le-length}
 use Rattle.std.proofs.lemmas.Bool.{eqb-true}
 use Rattle.std.proofs.lemmas.Slice.Eq.{bytes_eq-Decides}
+use Rattle.simplecss_text.specs.AsciiBytes.{backslash, close_bracket, close_parenthesis, equals_sign, hyphen, open_parenthesis, tilde, vertical_bar}
 use Rattle.simplecss_text.specs.Reading.{no_name, wrong_byte, Reading, got, fails, before, Ends}
 use Rattle.simplecss_text.specs.Bytes.{past, past_one, past_byte, byte}
 use Rattle.simplecss_text.specs.declared.next_kind.NextKind.{NextKind}
@@ -54,13 +55,13 @@ name-stands edition text =
     (record {
       at = stand-before text (past_name_chars edition text)
           (ends-past_name_chars edition text);
-    }) (record { at = ends-past_byte 45 text })
+    }) (record { at = ends-past_byte hyphen text })
 
 pub from_quote-ends : (quote previous : ℕ) (text : List ℕ)
     → EndsSome text (from_quote quote previous text)
 from_quote-ends quote previous [] = tt
 from_quote-ends quote previous (b ∷ text) =
-    ends_some-if (b ∷ text) (b == quote && not (previous == 92)) (Some (b ∷ text))
+    ends_some-if (b ∷ text) (b == quote && not (previous == backslash)) (Some (b ∷ text))
     (from_quote quote b text) (ends-same (b ∷ text))
     (ends_some-ends (b ∷ text) text (from_quote quote b text) (ends-tail b text)
     (from_quote-ends quote b text))
@@ -90,7 +91,7 @@ equated-stands : (edition : Edition) (operator : List ℕ → Operator)
     → ((value : List ℕ) → operator_texts (operator value) ≡ itself value) → (text : List ℕ)
     → Stands text operator_texts (equated edition operator text)
 equated-stands edition operator is text =
-    stands-follow text no_texts operator_texts (byte 61 text) _ (byte-stands 61 text) (λ u rest e h.
+    stands-follow text no_texts operator_texts (byte equals_sign text) _ (byte-stands equals_sign text) (λ u rest e h.
     stands-from text rest operator_texts _ h
     (stands-follow rest itself operator_texts (string_or_name edition rest)
     (λ value. got (operator value)) (string_or_name-stands edition rest) (λ value last f k.
@@ -101,13 +102,13 @@ attribute_operator-stands : (edition : Edition) (text : List ℕ)
 unfolding attribute_operator
 attribute_operator-stands edition [] = record { at = ends-same [] }
 attribute_operator-stands edition (b ∷ text) =
-    stands-if (b == 93) (record { at = ends-same (b ∷ text) })
-    (stands-if (b == 61)
+    stands-if (b == close_bracket) (record { at = ends-same (b ∷ text) })
+    (stands-if (b == equals_sign)
     (equated-stands edition equals (λ v. refl) (b ∷ text))
-    (stands-if (b == 126)
+    (stands-if (b == tilde)
     (stands-from (b ∷ text) text operator_texts (equated edition has_word text)
     (ends-tail b text) (equated-stands edition has_word (λ v. refl) text))
-    (stands-if (b == 124)
+    (stands-if (b == vertical_bar)
     (stands-from (b ∷ text) text operator_texts (equated edition begins_with text)
     (ends-tail b text) (equated-stands edition begins_with (λ v. refl) text))
     (record { at = ends-same (b ∷ text) }))))
@@ -120,8 +121,8 @@ attribute_after-stands edition text =
     (λ n rest e h.
     stands-then text rest (itself n) operator_texts token_texts (attribute_operator edition rest) _
     h (attribute_operator-stands edition rest) (λ operator next f k.
-    stands-then text next (n ∷ operator_texts operator) no_texts token_texts (byte 93 next)
-    (λ u. got (attribute_selector n operator)) k (byte-stands 93 next) (λ u last g l.
+    stands-then text next (n ∷ operator_texts operator) no_texts token_texts (byte close_bracket next)
+    (λ u. got (attribute_selector n operator)) k (byte-stands close_bracket next) (λ u last g l.
     record { at = subst (StandBetween text last) (append-nil (n ∷ operator_texts operator)) l })))
 
 -- ---- languages
@@ -200,15 +201,15 @@ stand-trim text rest e u =
 
 -- the language in the parentheses of a `:lang`, up to the closing one
 language-stands : (text : List ℕ) → IsUtf8 text
-    → StandBetween text (past (λ b. not (b == 41)) text)
-    (trim (before text (past (λ b. not (b == 41)) text)) ∷ [])
+    → StandBetween text (past (λ b. not (b == close_parenthesis)) text)
+    (trim (before text (past (λ b. not (b == close_parenthesis)) text)) ∷ [])
 language-stands text u =
-    let k = prefix_len (λ b. not (b == 41)) text in
-    let same : before text (past (λ b. not (b == 41)) text) ≡ take k text =
+    let k = prefix_len (λ b. not (b == close_parenthesis)) text in
+    let same : before text (past (λ b. not (b == close_parenthesis)) text) ≡ take k text =
     ap (λ n. take n text)
-    (omega (arith, length-drop k text, prefix_len-le-length (λ b. not (b == 41)) text)) in
-    stand-trim text (past (λ b. not (b == 41)) text) (ends-past (λ b. not (b == 41)) text)
-    (subst IsUtf8 (sym same) (utf8-before text 41 (omega arith) u))
+    (omega (arith, length-drop k text, prefix_len-le-length (λ b. not (b == close_parenthesis)) text)) in
+    stand-trim text (past (λ b. not (b == close_parenthesis)) text) (ends-past (λ b. not (b == close_parenthesis)) text)
+    (subst IsUtf8 (sym same) (utf8-before text close_parenthesis (omega arith) u))
 
 -- ---- pieces
 
@@ -219,8 +220,8 @@ pub record Sees (Good : List ℕ → Type 0) (texts : Token → List (List ℕ))
       → Good rest
   pub seen : (text : List ℕ) (r : Reading Token) → Stands text token_texts r → Stands text texts r
   pub language : (text : List ℕ) → Good text
-      → StandBetween text (past (λ b. not (b == 41)) text)
-      (texts (lang_pseudo_class (trim (before text (past (λ b. not (b == 41)) text)))))
+      → StandBetween text (past (λ b. not (b == close_parenthesis)) text)
+      (texts (lang_pseudo_class (trim (before text (past (λ b. not (b == close_parenthesis)) text)))))
 
 -- any text
 abbrev pub Any : List ℕ → Type 0
@@ -230,7 +231,7 @@ pub sees_nothing : Sees Any no_texts
 sees_nothing = record {
   following = λ text rest b a g e. tt;
   seen = λ text r h. stands-unseen text token_texts r h;
-  language = λ text g. ends-past (λ b. not (b == 41)) text;
+  language = λ text g. ends-past (λ b. not (b == close_parenthesis)) text;
 }
 
 pub sees_texts : Sees IsUtf8 token_texts
@@ -254,17 +255,17 @@ lang_after-stands : {Good : List ℕ → Type 0} {texts : Token → List (List �
     → (text : List ℕ) → Good text → Stands text texts (lang_after text)
 unfolding lang_after
 lang_after-stands {Good = Good} {texts = texts} sees text good =
-    stands-follow text no_texts texts (byte 40 text) _ (byte-stands 40 text) (λ u rest e h.
-    let end = past (λ b. not (b == 41)) rest in
+    stands-follow text no_texts texts (byte open_parenthesis text) _ (byte-stands open_parenthesis text) (λ u rest e h.
+    let end = past (λ b. not (b == close_parenthesis)) rest in
     let value = trim (before rest end) in
-    let opened : Ends text (40 ∷ rest) =
-    subst (λ (t : List ℕ). Ends t (40 ∷ rest)) (sym (byte-is 40 text rest u e))
-    (ends-same (40 ∷ rest)) in
+    let opened : Ends text (open_parenthesis ∷ rest) =
+    subst (λ (t : List ℕ). Ends t (open_parenthesis ∷ rest)) (sym (byte-is open_parenthesis text rest u e))
+    (ends-same (open_parenthesis ∷ rest)) in
     let front : StandBetween text end (texts (lang_pseudo_class value)) =
     stand-from text rest end _ h
-    (sees.language rest (sees.following text rest 40 (omega arith) good opened)) in
-    stands-then text end (texts (lang_pseudo_class value)) no_texts texts (byte 41 end)
-    (λ u. lang_of value) front (byte-stands 41 end) (λ u last f k.
+    (sees.language rest (sees.following text rest open_parenthesis (omega arith) good opened)) in
+    stands-then text end (texts (lang_pseudo_class value)) no_texts texts (byte close_parenthesis end)
+    (λ u. lang_of value) front (byte-stands close_parenthesis end) (λ u last f k.
     let k : StandBetween text last (texts (lang_pseudo_class value)) =
     subst (StandBetween text last) (append-nil (texts (lang_pseudo_class value))) k in
     stands-if (length value == 0) (record { at = stand-ends text last _ k })
@@ -278,7 +279,7 @@ name-got edition text rest n = by (begins_name edition (chars text))
   where
     by : (t : Bool)
         → (if t then got (before text (past_name_chars edition text)) (past_name_chars edition text)
-        else fails (no_name text) (past_byte 45 text)) ≡ got n rest → n ≡ before text rest
+        else fails (no_name text) (past_byte hyphen text)) ≡ got n rest → n ≡ before text rest
     by true e =
         let left : past_name_chars edition text ≡ rest = cc in
         let read : before text (past_name_chars edition text) ≡ n = cc in

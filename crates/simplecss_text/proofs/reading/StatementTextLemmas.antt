@@ -2,6 +2,7 @@
 -- a byte or more. Serves `consume_parts` and `read_rules` (their loops end), and
 -- `laws::cutting_law`.
 use Rattle.std.proofs.Common.{ℕ, ◌<◌, ◌≤◌, List, [], ◌∷◌, Bool, true, false, if◌then◌else◌, ◌==◌, not, length, Some, None, arith}
+use Rattle.simplecss_text.specs.AsciiBytes.{at_sign, close_brace, comma, open_brace, semicolon}
 use Rattle.simplecss_text.specs.Reading.{Reading, got, fails, each}
 use Rattle.simplecss_text.specs.Bytes.{past, past_one, past_byte, starts, is_neither}
 use Rattle.simplecss_text.specs.Characters.{Edition, is_space}
@@ -18,25 +19,25 @@ use Rattle.simplecss_text.proofs.reading.WithinLemmas.{length-reads}
 -- what is left after a semicolon or a block
 length-past_semicolon_or_block : (text : List ℕ)
     → length (past_semicolon_or_block text) ≤ length text
-length-past_semicolon_or_block text = by (starts 123 text)
+length-past_semicolon_or_block text = by (starts open_brace text)
   where
-    by : (t : Bool) → length (if t then past_byte 125 (from_block_end (past_one text)) else
-        past_byte 59 text) ≤ length text
+    by : (t : Bool) → length (if t then past_byte close_brace (from_block_end (past_one text)) else
+        past_byte semicolon text) ≤ length text
     by true = omega (
       arith,
-      length-past_byte 125 (from_block_end (past_one text)),
+      length-past_byte close_brace (from_block_end (past_one text)),
       length-from_block_end (past_one text),
       length-past_one text,
     )
-    by false = length-past_byte 59 text
+    by false = length-past_byte semicolon text
 
 length-at_rule_rest_by_name : (text : List ℕ) (r : Reading (List ℕ)) → Keeps text r
     → length (at_rule_rest_by_name r) ≤ length text
 length-at_rule_rest_by_name text (got n rest) h = omega (
   arith,
-  length-past_semicolon_or_block (past (is_neither 59 123) rest),
+  length-past_semicolon_or_block (past (is_neither semicolon open_brace) rest),
   length-past
-      (is_neither 59 123) rest,
+      (is_neither semicolon open_brace) rest,
 )
 length-at_rule_rest_by_name text (fails fault rest) h = h
 
@@ -50,13 +51,13 @@ module _ (edition : Edition) where
   next_block-less : (text : List ℕ) (bound : ℕ) → length text ≤ bound → 0 < bound
       → length (next_block edition text).1 < bound
   unfolding next_block
-  next_block-less text bound l p = by (past (λ b. not (b == 123)) text) (length-past (λ b. not
-      (b == 123)) text)
+  next_block-less text bound l p = by (past (λ b. not (b == open_brace)) text) (length-past (λ b. not
+      (b == open_brace)) text)
     where
       by : (opened : List ℕ) → length opened ≤ length text → length
-          (if starts 123 opened then block edition (past_one opened) else ([], [])).1 < bound
+          (if starts open_brace opened then block edition (past_one opened) else ([], [])).1 < bound
       by [] h = p
-      by (b ∷ opened) h = with_brace (b == 123)
+      by (b ∷ opened) h = with_brace (b == open_brace)
         where
           with_brace : (t : Bool) → length (if t then block edition opened else ([], [])).1 < bound
           with_brace true = omega (arith, length-block edition opened, h, l)
@@ -74,10 +75,10 @@ module _ (edition : Edition) where
   pub part_and_comma-takes : Takes (part_and_comma edition)
   part_and_comma-takes text = by (part edition text).1 (length-part text)
     where
-      by : (rest : List ℕ) → length rest ≤ length text → Shrinks text (if starts 44 rest then Some
+      by : (rest : List ℕ) → length rest ≤ length text → Shrinks text (if starts comma rest then Some
           ((part edition text).0, past_one rest) else None)
       by [] h = tt
-      by (b ∷ rest) h = with_comma (b == 44)
+      by (b ∷ rest) h = with_comma (b == comma)
         where
           with_comma : (t : Bool) → Shrinks text (if t then Some
               ((part edition text).0, rest) else None)
@@ -98,15 +99,15 @@ module _ (edition : Edition) where
   length-rule_set : (text : List ℕ) → 0 < length text
       → length (rule_set edition text).1 < length text
   unfolding rule_set
-  length-rule_set text p = next_block-less (parts edition (past_byte 44 text)).1 (length text)
-      (omega (arith, length-parts (past_byte 44 text), length-past_byte 44 text)) p
+  length-rule_set text p = next_block-less (parts edition (past_byte comma text)).1 (length text)
+      (omega (arith, length-parts (past_byte comma text), length-past_byte comma text)) p
 
   -- a statement consumes a byte or more
   length-statement : (text : List ℕ) → 0 < length text
       → length (statement edition text).1 < length text
   unfolding statement
   length-statement [] p = absurd (omega (arith, p))
-  length-statement (b ∷ text) p = by (b == 64)
+  length-statement (b ∷ text) p = by (b == at_sign)
     where
       by : (t : Bool) → length (if t then ([], at_rule_rest edition text) else rule_set edition
           (b ∷ text)).1 < length (b ∷ text)

@@ -7,6 +7,7 @@ use Rattle.std.specs.Str.{chars}
 use Rattle.std.specs.Option.{option_map}
 use Rattle.std.specs.List.{prefix_len, take_while}
 use Rattle.std.proofs.lemmas.Str.{length-encode, len_utf8_bounds, chars-nil}
+use Rattle.simplecss_text.specs.AsciiBytes.{asterisk, hyphen, slash}
 use Rattle.simplecss_text.specs.Reading.{no_name, Reading, got, fails, Reader, follow, found, and_then, up_to, each, before, left_after}
 use Rattle.simplecss_text.specs.Bytes.{past, past_one, past_byte, is_digit, starts_two}
 use Rattle.simplecss_text.specs.Characters.{Edition, is_name_start, is_name_char, is_space}
@@ -92,7 +93,7 @@ leaves-longer text longer (Some rest) l h = omega arith
 pub after_close-leaves : (text : List ℕ) → Leaves text (after_close text)
 after_close-leaves [] = tt
 after_close-leaves (b ∷ text) =
-    leaves-if (b ∷ text) (starts_two 42 47 (b ∷ text)) (Some (past_one text)) (after_close text)
+    leaves-if (b ∷ text) (starts_two asterisk slash (b ∷ text)) (Some (past_one text)) (after_close text)
     (omega (arith, length-past_one text))
     (leaves-longer text (b ∷ text) (after_close text) (omega arith) (after_close-leaves text))
 
@@ -149,9 +150,9 @@ either_way_and false false false x e = e
 -- a name's first character is one of a name
 pub first_of_name : (edition : Edition) (c : ℕ) (cs : List ℕ) → begins_name edition (c ∷ cs) ≡ true
     → is_name_char edition c ≡ true
-first_of_name edition c [] h = either_way (is_name_start edition c) (is_digit c) (c == 45) h
+first_of_name edition c [] h = either_way (is_name_start edition c) (is_digit c) (c == hyphen) h
 first_of_name edition c (d ∷ cs) h =
-    either_way_and (is_name_start edition c) (is_digit c) (c == 45) (is_name_start edition d) h
+    either_way_and (is_name_start edition c) (is_digit c) (c == hyphen) (is_name_start edition d) h
 
 name_bytes : (edition : Edition) (cs : List ℕ) → begins_name edition cs ≡ true
     → 0 < length (encode_utf8_all (take_while (is_name_char edition) cs))
@@ -182,7 +183,7 @@ name-cuts edition text = by (begins_name edition (chars text)) refl
     by : (t : Bool) → begins_name edition (chars text) ≡ t
         → Cuts text
         (if t then got (before text (past_name_chars edition text)) (past_name_chars edition text)
-        else fails (no_name text) (past_byte 45 text))
+        else fails (no_name text) (past_byte hyphen text))
     by true e =
         omega (
           arith,
@@ -191,7 +192,7 @@ name-cuts edition text = by (begins_name edition (chars text)) refl
           length-drop
               (length (encode_utf8_all (take_while (is_name_char edition) (chars text)))) text,
         )
-    by false e = length-past_byte 45 text
+    by false e = length-past_byte hyphen text
 
 -- a reading that reports no fault consumes what the reading consumes
 pub found-shrinks : {A : Type 0} (text : List ℕ) (r : Reading A) → Cuts text r

@@ -5,6 +5,7 @@ use Rattle.std.specs.List.{prefix_len, take_while}
 use Rattle.std.specs.Option.{option_map}
 use Rattle.std.specs.Str.{chars}
 use Rattle.std.proofs.lemmas.Str.{IsUtf8-nil, IsUtf8-drop}
+use Rattle.simplecss_text.specs.AsciiBytes.{hyphen, slash}
 use Rattle.simplecss_text.specs.Reading.{Fault, Ends, Reading, and_then, before, each, fails, follow, got, left_after, no_comment, no_name, up_to, wrong_byte}
 use Rattle.simplecss_text.specs.Bytes.{byte, closed_or, past, past_byte, past_one, starts}
 use Rattle.simplecss_text.specs.Characters.{Edition, is_name_char, is_space}
@@ -122,12 +123,12 @@ blank_part-well : (text : List ℕ) → WellFound text (blank_part text)
 blank_part-well [] = tt
 blank_part-well (b ∷ text) = by (is_space b) (opens_comment (b ∷ text)) refl
   where
-    closed : (c : ℕ) (text : List ℕ) (o : Option (List ℕ)) → IfAfter 47 text o
+    closed : (c : ℕ) (text : List ℕ) (o : Option (List ℕ)) → IfAfter slash text o
         → WellFound (b ∷ c ∷ text) (option_map (λ rest. (false, rest)) o)
     closed c text None h = tt
     closed c text (Some rest) h =
-        well-after 47 (b ∷ c ∷ text) rest (omega arith)
-        (ends-by (b ∷ c ∷ text) (b ∷ c ∷ h.0) (47 ∷ rest) (sym (ap (λ l. b ∷ c ∷ l) h.1)))
+        well-after slash (b ∷ c ∷ text) rest (omega arith)
+        (ends-by (b ∷ c ∷ text) (b ∷ c ∷ h.0) (slash ∷ rest) (sym (ap (λ l. b ∷ c ∷ l) h.1)))
 
     comment : (text : List ℕ)
         → WellFound (b ∷ text) (option_map (λ rest. (false, rest)) (after_comment (b ∷ text)))
@@ -179,9 +180,9 @@ ends-name edition text = by (begins_name edition (chars text))
         → Ends text
         (left_after
         (if k then got (before text (past_name_chars edition text)) (past_name_chars edition text)
-        else fails (no_name text) (past_byte 45 text)))
+        else fails (no_name text) (past_byte hyphen text)))
     by true = ends-past_name_chars edition text
-    by false = ends-past_byte 45 text
+    by false = ends-past_byte hyphen text
 
 pub well-name : (edition : Edition) (text : List ℕ) → EndsWell text (left_after (name edition text))
 well-name edition text = (ends-name edition text, λ u. by u (name edition text) refl)
@@ -190,7 +191,7 @@ well-name edition text = (ends-name edition text, λ u. by u (name edition text)
     by u (got n rest) e = (name-is edition text n rest u e).rest_is
     by u (fails fault rest) e =
         subst IsUtf8 (sym (name-fails edition text rest fault e).1)
-        (utf8-past_byte_if 45 text (omega arith) u)
+        (utf8-past_byte_if hyphen text (omega arith) u)
 
 pub well-string : (quote : ℕ) (text : List ℕ) → quote < 128
     → EndsWell text (left_after (string_after quote text))

@@ -3,6 +3,7 @@
 -- again).
 use Rattle.std.proofs.Common.{◌≡◌, ℕ, zero, suc, ◌<◌, List, ◌∷◌, Bool, true, false, if◌then◌else◌, ◌&&◌, ◌==◌, length, Option, Some, None, arith, refl, sym, ap, ◌∙◌, subst, inl, inr}
 use Rattle.std.specs.Option.{option_map}
+use Rattle.simplecss_text.specs.AsciiBytes.{asterisk, slash}
 use Rattle.simplecss_text.specs.Bytes.{starts}
 use Rattle.simplecss_text.specs.Characters.{is_space}
 use Rattle.simplecss_text.specs.Comments.{opens_comment, after_close, after_comment, blank_part, past_blank}
@@ -97,7 +98,7 @@ comment-again t u b r s e f (on c r1 s1 h) again l o =
         (again rest k.0 (omega arith) k.2 (omega (arith, l, ap length first))
         (ap opens_comment (sym first) ∙ o))
 
-blank-within : (n : ℕ) (t u : List ℕ) → starts 42 u ≡ false → (r s : List ℕ) → length r < n
+blank-within : (n : ℕ) (t u : List ℕ) → starts asterisk u ≡ false → (r s : List ℕ) → length r < n
     → Diverge t u r s → BlankAgain t u r s
 blank-within zero t u star r s less h l o = absurd (omega arith)
 blank-within (suc n) t u star r s less at l o = absurd (omega (arith, l, length-past_blank t))
@@ -106,7 +107,7 @@ blank-within (suc n) t u star r s less (on b r1 s1 h) l o =
   where
     closed : (x y : List ℕ) → Diverge t u x y → opens_comment (b ∷ x) ≡ false
         → opens_comment (b ∷ y) ≡ false
-    closed x y at k = rw star (no_second (b == 47))
+    closed x y at k = rw star (no_second (b == slash))
       where
         no_second : (t : Bool) → (t && false) ≡ false
         no_second true = refl
@@ -130,7 +131,7 @@ blank-within (suc n) t u star r s less (on b r1 s1 h) l o =
         rw (first, second) (on b r1 s1 h)
 
 -- a blank is read alike where more than the tail is left
-pub past_blank-alike : (t u : List ℕ) → starts 42 u ≡ false → (r s : List ℕ) → Diverge t u r s
+pub past_blank-alike : (t u : List ℕ) → starts asterisk u ≡ false → (r s : List ℕ) → Diverge t u r s
     → length t < length (past_blank r) → opens_comment (past_blank r) ≡ false
     → Diverge t u (past_blank r) (past_blank s)
 past_blank-alike t u star r s h l o = blank-within (suc (length r)) t u star r s (omega arith) h l o

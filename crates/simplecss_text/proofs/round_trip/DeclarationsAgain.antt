@@ -5,6 +5,7 @@ use Rattle.std.proofs.Common.{◌≡◌, ℕ, inl, inr, List, [], ◌∷◌, ◌
 use Rattle.std.proofs.lemmas.Bool.Decides.{nat_tests}
 use Rattle.std.specs.Str.{chars, trim, trim_start, trim_end}
 use Rattle.std.proofs.lemmas.Str.{IsUtf8-append}
+use Rattle.simplecss_text.specs.AsciiBytes.{asterisk, colon, exclamation_mark, semicolon as semicolon_byte, space}
 use Rattle.simplecss_text.specs.Reading.{no_name, Reading, got, fails, Reader, follow, before, each, left_after, Ends}
 use Rattle.simplecss_text.specs.Bytes.{past_byte, byte, starts}
 use Rattle.simplecss_text.specs.Characters.{Edition, first_edition, second_edition, is_space}
@@ -95,7 +96,7 @@ stated-is edition name start important text w n = by (terms-end edition start)
 abbrev after_name : Edition → List ℕ → Reader StyleDeclaration
 after_name edition name c =
     follow (blank c)
-    (λ x d. follow (byte 58 d)
+    (λ x d. follow (byte colon d)
     (λ x e. follow (blank e)
     (λ x start. follow (trailing (value edition start).1)
     (stated_as edition name start (value edition start).0))))
@@ -106,7 +107,7 @@ named-is edition name c w n =
     let P : StyleDeclaration → List ℕ → Type 0 = λ p rest. IsDeclaration edition p in
     let Q : Unit {0} → List ℕ → Type 0 = λ x rest. IsNarrow rest in
     if_got-follow Q P _ _ (narrow-got c (blank c) n (well-blank c)) (λ x d nd.
-    if_got-follow Q P _ _ (narrow-got d (byte 58 d) nd (well-byte 58 d (omega arith)))
+    if_got-follow Q P _ _ (narrow-got d (byte colon d) nd (well-byte colon d (omega arith)))
     (λ x e ne.
     if_got-follow Q P _ _ (narrow-got e (blank e) ne (well-blank e)) (λ x start ns.
     if_got-follow (λ important rest. Unit {0}) P _ _
@@ -130,8 +131,8 @@ declaration-is edition text n =
     subst (IfGot P) (sym (declaration-steps edition text))
     (if_got-follow (λ x rest. IsNarrow rest) P _ _
     (narrow-got text (blank text) n (well-blank text)) (λ x a na.
-    let b = past_byte 42 a in
-    let nb = narrow-end a b na (ends-past_byte 42 a) (utf8-past_byte_if 42 a (omega arith) na.0) in
+    let b = past_byte asterisk a in
+    let nb = narrow-end a b na (ends-past_byte asterisk a) (utf8-past_byte_if asterisk a (omega arith) na.0) in
     if_got-follow (λ m rest. ReadName edition b m rest × IsNarrow rest) P _ _
     (name-narrow edition b nb) (λ m c w.
     elim (w.0.is) [ inl i ↦ named-is edition m c i w.1 | inr h ↦ ended-is edition m c h.1 ])))
@@ -152,16 +153,16 @@ unfolding word
 no_word edition q text quiet = ap (λ y. follow y (λ n. arguments)) (name-quiet edition q text quiet)
 
 semicolon_term : (edition : Edition) (text : List ℕ)
-    → term edition (59 ∷ text) ≡ fails (no_name (59 ∷ text)) (59 ∷ text)
+    → term edition (semicolon_byte ∷ text) ≡ fails (no_name (semicolon_byte ∷ text)) (semicolon_byte ∷ text)
 unfolding term
-semicolon_term first_edition text = no_word first_edition 59 text (quiet-semicolon first_edition)
-semicolon_term second_edition text = no_word second_edition 59 text (quiet-semicolon second_edition)
+semicolon_term first_edition text = no_word first_edition semicolon_byte text (quiet-semicolon first_edition)
+semicolon_term second_edition text = no_word second_edition semicolon_byte text (quiet-semicolon second_edition)
 
 mark_term : (edition : Edition) (text : List ℕ)
-    → term edition (33 ∷ text) ≡ fails (no_name (33 ∷ text)) (33 ∷ text)
+    → term edition (exclamation_mark ∷ text) ≡ fails (no_name (exclamation_mark ∷ text)) (exclamation_mark ∷ text)
 unfolding term
-mark_term first_edition text = no_word first_edition 33 text (quiet-mark first_edition)
-mark_term second_edition text = no_word second_edition 33 text (quiet-mark second_edition)
+mark_term first_edition text = no_word first_edition exclamation_mark text (quiet-mark first_edition)
+mark_term second_edition text = no_word second_edition exclamation_mark text (quiet-mark second_edition)
 
 -- the part after the importance
 abbrev semicolons_then : Bool → Reader Bool
@@ -169,45 +170,45 @@ semicolons_then important text =
     follow (blank text)
     (λ x c. follow (semicolons c) (λ x d. follow (blank d) (λ x. got important)))
 
-one_semicolon : (text : List ℕ) → starts 59 (past_blank text) ≡ false
-    → (each semicolon (59 ∷ text)).1 ≡ past_blank text
+one_semicolon : (text : List ℕ) → starts semicolon_byte (past_blank text) ≡ false
+    → (each semicolon (semicolon_byte ∷ text)).1 ≡ past_blank text
 one_semicolon text e =
-    let first = each-some semicolon semicolon-takes (59 ∷ text) (past_blank text) tt refl in
+    let first = each-some semicolon semicolon-takes (semicolon_byte ∷ text) (past_blank text) tt refl in
     let part : semicolon (past_blank text) ≡ None = rw e refl in
     let second = each-none semicolon (past_blank text) part in
     ap (λ r. r.1) first ∙ ap (λ r. r.1) second
 
 semicolons-read : (important : Bool) (text : List ℕ) → opens_comment (past_blank text) ≡ false
-    → starts 59 (past_blank text) ≡ false
-    → semicolons_then important (59 ∷ text) ≡ got important (past_blank text)
+    → starts semicolon_byte (past_blank text) ≡ false
+    → semicolons_then important (semicolon_byte ∷ text) ≡ got important (past_blank text)
 semicolons-read important text o e =
     let following : List ℕ → Reading Bool = λ d. follow (blank d) (λ x. got important) in
-    follow-got (blank (59 ∷ text)) tt (59 ∷ text) (λ x c. follow (semicolons c) (λ x. following))
-    (blank-none (59 ∷ text) (no_gap-byte 59 text refl refl))
+    follow-got (blank (semicolon_byte ∷ text)) tt (semicolon_byte ∷ text) (λ x c. follow (semicolons c) (λ x. following))
+    (blank-none (semicolon_byte ∷ text) (no_gap-byte semicolon_byte text refl refl))
     ∙ ap following (one_semicolon text e)
     ∙ follow-got (blank (past_blank text)) tt (past_blank text) (λ x. got important)
     (blank-at (past_blank text) (past_blank text) (past_blank-again text) o)
 
 trailing-plain : (text : List ℕ) → opens_comment (past_blank text) ≡ false
-    → starts 59 (past_blank text) ≡ false → trailing (59 ∷ text) ≡ got false (past_blank text)
+    → starts semicolon_byte (past_blank text) ≡ false → trailing (semicolon_byte ∷ text) ≡ got false (past_blank text)
 unfolding trailing importance
 trailing-plain text o e =
-    follow-got (blank (59 ∷ text)) tt (59 ∷ text) (λ x a. follow (importance a) semicolons_then)
-    (blank-none (59 ∷ text) (no_gap-byte 59 text refl refl))
+    follow-got (blank (semicolon_byte ∷ text)) tt (semicolon_byte ∷ text) (λ x a. follow (importance a) semicolons_then)
+    (blank-none (semicolon_byte ∷ text) (no_gap-byte semicolon_byte text refl refl))
     ∙ semicolons-read false text o e
 
 trailing-important : (text : List ℕ) → opens_comment (past_blank text) ≡ false
-    → starts 59 (past_blank text) ≡ false
-    → trailing (codes "!important" ++ (59 ∷ text)) ≡ got true (past_blank text)
+    → starts semicolon_byte (past_blank text) ≡ false
+    → trailing (codes "!important" ++ (semicolon_byte ∷ text)) ≡ got true (past_blank text)
 unfolding trailing importance
 trailing-important text o e =
-    let word_there = codes "important" ++ (59 ∷ text) in
-    follow-got (blank (33 ∷ word_there)) tt (33 ∷ word_there)
+    let word_there = codes "important" ++ (semicolon_byte ∷ text) in
+    follow-got (blank (exclamation_mark ∷ word_there)) tt (exclamation_mark ∷ word_there)
     (λ x a. follow (importance a) semicolons_then)
-    (blank-none (33 ∷ word_there) (no_gap-byte 33 word_there refl refl))
+    (blank-none (exclamation_mark ∷ word_there) (no_gap-byte exclamation_mark word_there refl refl))
     ∙ ap (λ r. follow r semicolons_then)
     (follow-got (blank word_there) tt word_there (λ x. important_word)
-    (blank-none word_there (no_gap-byte 105 (codes "mportant" ++ (59 ∷ text)) refl refl)))
+    (blank-none word_there (no_gap-byte 105 (codes "mportant" ++ (semicolon_byte ∷ text)) refl refl)))
     ∙ semicolons-read true text o e
 
 -- a value, and what follows it
@@ -240,67 +241,67 @@ value-no_gap edition v q tail w quiet = by v w.first closed
 record StatedAgain (edition : Edition) (v : List ℕ) (important : Bool)
     (text following : List ℕ) : Type 0 where
   pub left : List ℕ
-  pub calm : NoGap (v ++ (important_text important ++ (59 ∷ text)))
-  pub stated : value edition (v ++ (important_text important ++ (59 ∷ text))) ≡ (v, left)
+  pub calm : NoGap (v ++ (important_text important ++ (semicolon_byte ∷ text)))
+  pub stated : value edition (v ++ (important_text important ++ (semicolon_byte ∷ text))) ≡ (v, left)
   pub trails : trailing left ≡ got important following
 
 stated-again : (edition : Edition) (v : List ℕ) (important : Bool) (text : List ℕ)
     → IsValueText edition v → opens_comment (past_blank text) ≡ false
-    → starts 59 (past_blank text) ≡ false → StatedAgain edition v important text (past_blank text)
+    → starts semicolon_byte (past_blank text) ≡ false → StatedAgain edition v important text (past_blank text)
 stated-again edition v false text w o e =
-    let left = 59 ∷ text in
-    let none_there : past_blank left ≡ left = ap (λ r. r.1) (no_gap-byte 59 text refl refl).none in
+    let left = semicolon_byte ∷ text in
+    let none_there : past_blank left ≡ left = ap (λ r. r.1) (no_gap-byte semicolon_byte text refl refl).none in
     record {
       left = left;
-      calm = value-no_gap edition v 59 text w (quiet-semicolon edition);
+      calm = value-no_gap edition v semicolon_byte text w (quiet-semicolon edition);
       stated =
-          value-reads edition v 59 text left (no_name left) w (quiet-semicolon edition)
+          value-reads edition v semicolon_byte text left (no_name left) w (quiet-semicolon edition)
           (ap (term edition) none_there ∙ semicolon_term edition text);
       trails = trailing-plain text o e;
     }
 stated-again edition v true text w o e =
-    let left = codes "!important" ++ (59 ∷ text) in
-    let none_there : past_blank (32 ∷ left) ≡ left =
-    past_blank-space 32 left refl
-    ∙ ap (λ r. r.1) (no_gap-byte 33 (codes "important" ++ (59 ∷ text)) refl refl).none in
+    let left = codes "!important" ++ (semicolon_byte ∷ text) in
+    let none_there : past_blank (space ∷ left) ≡ left =
+    past_blank-space space left refl
+    ∙ ap (λ r. r.1) (no_gap-byte exclamation_mark (codes "important" ++ (semicolon_byte ∷ text)) refl refl).none in
     record {
       left = left;
-      calm = value-no_gap edition v 32 left w (quiet-space edition);
+      calm = value-no_gap edition v space left w (quiet-space edition);
       stated =
-          value-reads edition v 32 left left (no_name left) w (quiet-space edition)
-          (ap (term edition) none_there ∙ mark_term edition (codes "important" ++ (59 ∷ text)));
+          value-reads edition v space left left (no_name left) w (quiet-space edition)
+          (ap (term edition) none_there ∙ mark_term edition (codes "important" ++ (semicolon_byte ∷ text)));
       trails = trailing-important text o e;
     }
 
 -- a printed declaration, part by part
 pub declaration_text-assoc : (p : StyleDeclaration) (text : List ℕ)
     → declaration_text p ++ text ≡ p.name ++
-    (58 ∷ (p.value ++ (important_text p.important ++ (59 ∷ text))))
+    (colon ∷ (p.value ++ (important_text p.important ++ (semicolon_byte ∷ text))))
 declaration_text-assoc p text = by p.name p.value (important_text p.important)
   where
     by : (n v i : List ℕ)
-        → ((((n ++ (58 ∷ [])) ++ v) ++ i) ++ (59 ∷ [])) ++ text
-        ≡ n ++ (58 ∷ (v ++ (i ++ (59 ∷ text))))
+        → ((((n ++ (colon ∷ [])) ++ v) ++ i) ++ (semicolon_byte ∷ [])) ++ text
+        ≡ n ++ (colon ∷ (v ++ (i ++ (semicolon_byte ∷ text))))
     by n v i =
-        append_assoc (((n ++ (58 ∷ [])) ++ v) ++ i) (59 ∷ []) text
-        ∙ append_assoc ((n ++ (58 ∷ [])) ++ v) i (59 ∷ text)
-        ∙ append_assoc (n ++ (58 ∷ [])) v (i ++ (59 ∷ text))
-        ∙ append_assoc n (58 ∷ []) (v ++ (i ++ (59 ∷ text)))
+        append_assoc (((n ++ (colon ∷ [])) ++ v) ++ i) (semicolon_byte ∷ []) text
+        ∙ append_assoc ((n ++ (colon ∷ [])) ++ v) i (semicolon_byte ∷ text)
+        ∙ append_assoc (n ++ (colon ∷ [])) v (i ++ (semicolon_byte ∷ text))
+        ∙ append_assoc n (colon ∷ []) (v ++ (i ++ (semicolon_byte ∷ text)))
 
 after_name-reads : (edition : Edition) (p : StyleDeclaration) (text following : List ℕ)
     → (length p.value == 0) ≡ false → StatedAgain edition p.value p.important text following
-    → after_name edition p.name (58 ∷ (p.value ++ (important_text p.important ++ (59 ∷ text))))
+    → after_name edition p.name (colon ∷ (p.value ++ (important_text p.important ++ (semicolon_byte ∷ text))))
     ≡ got p following
 after_name-reads edition p text following some w =
-    let start = p.value ++ (important_text p.important ++ (59 ∷ text)) in
+    let start = p.value ++ (important_text p.important ++ (semicolon_byte ∷ text)) in
     let from_value : List ℕ → Reading StyleDeclaration =
     λ s. follow (trailing (value edition s).1) (stated_as edition p.name s (value edition s).0)
     in
     let value_is = w.stated in
     let left_is = w.trails in
-    follow-got (blank (58 ∷ start)) tt (58 ∷ start)
-    (λ x d. follow (byte 58 d) (λ x e. follow (blank e) (λ x. from_value)))
-    (blank-none (58 ∷ start) (no_gap-byte 58 start refl refl))
+    follow-got (blank (colon ∷ start)) tt (colon ∷ start)
+    (λ x d. follow (byte colon d) (λ x e. follow (blank e) (λ x. from_value)))
+    (blank-none (colon ∷ start) (no_gap-byte colon start refl refl))
     ∙ follow-got (blank start) tt start (λ x. from_value) (blank-none start w.calm)
     ∙ ap (λ (r : List ℕ × List ℕ). follow (trailing r.1) (stated_as edition p.name start r.0))
     w.stated
@@ -308,33 +309,33 @@ after_name-reads edition p text following some w =
     w.trails
     ∙ rw some refl
 
-colon_ends : (edition : Edition) (text : List ℕ) → ends_names edition (58 ∷ text) ≡ false
-colon_ends edition text = ends_names-byte edition 58 text (omega arith) refl refl
+colon_ends : (edition : Edition) (text : List ℕ) → ends_names edition (colon ∷ text) ≡ false
+colon_ends edition text = ends_names-byte edition colon text (omega arith) refl refl
 
 no_star : (edition : Edition) (b : ℕ) (text : List ℕ) → IsNameByte edition b
-    → past_byte 42 (b ∷ text) ≡ b ∷ text
-no_star edition b text w = let e = other_byte edition 42 b (omega arith) refl refl w in rw e refl
+    → past_byte asterisk (b ∷ text) ≡ b ∷ text
+no_star edition b text w = let e = other_byte edition asterisk b (omega arith) refl refl w in rw e refl
 
 -- A declaration that was read from a text without white space past ASCII reads back.
 pub printed_declaration-reads_back : (edition : Edition) (p : StyleDeclaration)
     → IsDeclaration edition p → DeclarationReadsBack edition p
 printed_declaration-reads_back edition p w text o e =
-    let following = 58 ∷ (p.value ++ (important_text p.important ++ (59 ∷ text))) in
+    let following = colon ∷ (p.value ++ (important_text p.important ++ (semicolon_byte ∷ text))) in
     let f = name-first edition p.name w.name_is in
     let whole = p.name ++ following in
     let begins : whole ≡ f.first ∷ (f.others ++ following) = ap (λ l. l ++ following) f.is in
     let calm : NoGap whole =
     subst NoGap (sym begins) (no_gap-name edition f.first (f.others ++ following) f.fit) in
-    let star : past_byte 42 whole ≡ whole =
-    ap (past_byte 42) begins ∙ no_star edition f.first (f.others ++ following) f.fit
+    let star : past_byte asterisk whole ≡ whole =
+    ap (past_byte asterisk) begins ∙ no_star edition f.first (f.others ++ following) f.fit
     ∙ sym begins in
     let from_name : List ℕ → Reading StyleDeclaration =
     λ b. follow (name edition b) (λ m. after_name edition m) in
     ap (declaration edition) (declaration_text-assoc p text) ∙ declaration-steps edition whole
-    ∙ follow-got (blank whole) tt whole (λ x a. from_name (past_byte 42 a)) (blank-none whole calm)
+    ∙ follow-got (blank whole) tt whole (λ x a. from_name (past_byte asterisk a)) (blank-none whole calm)
     ∙ ap from_name star
     ∙ follow-got (name edition whole) p.name following (λ m. after_name edition m)
     (name-reads edition p.name following w.name_is
-    (colon_ends edition (p.value ++ (important_text p.important ++ (59 ∷ text)))))
+    (colon_ends edition (p.value ++ (important_text p.important ++ (semicolon_byte ∷ text)))))
     ∙ after_name-reads edition p text (past_blank text) w.some
     (stated-again edition p.value p.important text w.value_is o e)

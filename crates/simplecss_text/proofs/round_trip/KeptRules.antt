@@ -4,6 +4,7 @@
 use Rattle.std.proofs.Common.{◌≡◌, ℕ, ◌+◌, List, [], ◌∷◌, ◌++◌, Bool, true, false, cond, if◌then◌else◌, not, ◌==◌, length, map, filter, Option, Some, None, IfSome, arith, refl, sym, ap, ◌∙◌, IsUtf8}
 use Rattle.std.specs.List.{flat_map, filter_map, find, cons_option, enumerate_from, range_with_len, AllByRecursion}
 use Rattle.std.specs.Option.{option_map}
+use Rattle.simplecss_text.specs.AsciiBytes.{at_sign, comma, open_brace}
 use Rattle.simplecss_text.specs.Reading.{Reading, got, fails, each, found, left_after, Ends}
 use Rattle.simplecss_text.specs.Bytes.{past, past_one, past_byte, starts}
 use Rattle.simplecss_text.specs.Characters.{Edition, is_space}
@@ -39,7 +40,7 @@ pub record Known (edition : Edition) (Q : List ℕ → Type 0) (R : StyleDeclara
 -- a selector before a block, and its declarations
 pub record IsRule (edition : Edition) (R : StyleDeclaration → Type 0) (rule : StyleRule) : Type 0
   where
-    pub selector : IsSelector edition rule.components (123 ∷ [])
+    pub selector : IsSelector edition rule.components (open_brace ∷ [])
     pub declarations : AllByRecursion R rule.declarations
 
 -- a rule that has a declaration
@@ -50,7 +51,7 @@ IfKept edition R rule = has_declaration rule ≡ true → IsRule edition R rule
 
 -- a selector that a block can follow
 abbrev IsBeforeBlock : Edition → List Component → Type 0
-IsBeforeBlock edition s = IsSelector edition s (123 ∷ [])
+IsBeforeBlock edition s = IsSelector edition s (open_brace ∷ [])
 
 some_starts : (c : ℕ) (text : List ℕ) → starts c text ≡ true → text ≡ [] → ⊥
 some_starts c [] s e = cc
@@ -131,20 +132,20 @@ module _ (edition : Edition) where
       by (Some s) [] e f = absurd (some (ap (past is_space) f))
       by (Some s) (b ∷ rest) e f =
           let read : reads edition text ≡ (Some s, b ∷ rest) = rw (← e, ← f) refl in
-          selector-after edition s (b ∷ rest) (123 ∷ []) (λ none_there. absurd (cc))
+          selector-after edition s (b ∷ rest) (open_brace ∷ []) (λ none_there. absurd (cc))
           (reads-is edition text (b ∷ rest) s u read)
 
   part_and_comma-is : (text : List ℕ) → IsUtf8 text
       → IfTaken (λ o. IfSome o (IsBeforeBlock edition)) IsUtf8 (part_and_comma edition text)
-  part_and_comma-is text u = by (starts 44 (part edition text).1) refl
+  part_and_comma-is text u = by (starts comma (part edition text).1) refl
     where
-      by : (t : Bool) → starts 44 (part edition text).1 ≡ t
+      by : (t : Bool) → starts comma (part edition text).1 ≡ t
           → IfTaken (λ o. IfSome o (IsBeforeBlock edition)) IsUtf8
           (if t then Some ((part edition text).0, past_one (part edition text).1) else None)
       by true s = (
-        part-is text u (some_starts 44 (part edition text).1 s),
+        part-is text u (some_starts comma (part edition text).1 s),
         utf8-past_one text
-            (part edition text).1 44 (omega arith) u (part-ends edition text) s,
+            (part edition text).1 comma (omega arith) u (part-ends edition text) s,
       )
       by false s = tt
 
@@ -226,18 +227,18 @@ module _ (edition : Edition) where
     next_block-declares : (whole text : List ℕ) → Q whole → Ends whole text
         → AllByRecursion R (next_block edition text).0
     unfolding next_block
-    next_block-declares whole text q e = by (starts 123 opened) refl
+    next_block-declares whole text q e = by (starts open_brace opened) refl
       where
         opened : List ℕ
-        opened = past (λ b. not (b == 123)) text
+        opened = past (λ b. not (b == open_brace)) text
 
         end : Ends whole opened
-        end = ends-ends whole text opened e (ends-past (λ b. not (b == 123)) text)
+        end = ends-ends whole text opened e (ends-past (λ b. not (b == open_brace)) text)
 
-        by : (t : Bool) → starts 123 opened ≡ t
+        by : (t : Bool) → starts open_brace opened ≡ t
             → AllByRecursion R (if t then block edition (past_one opened) else ([], [])).0
         by true s =
-            let u = utf8-past_one whole opened 123 (omega arith) (known.is_text whole q) end s in
+            let u = utf8-past_one whole opened open_brace (omega arith) (known.is_text whole q) end s in
             block-declares (past_one opened) (known.of_end whole (past_one opened) q
             (ends-ends whole opened (past_one opened) end (ends-past_one opened)) u)
         by false s = tt
@@ -248,13 +249,13 @@ module _ (edition : Edition) where
     rule_set-are text q = by (parts edition start).1 refl
       where
         start : List ℕ
-        start = past_byte 44 text
+        start = past_byte comma text
 
         declarations : List StyleDeclaration
         declarations = (next_block edition (parts edition start).1).0
 
         u : IsUtf8 start
-        u = utf8-past_byte_if 44 text (omega arith) (known.is_text text q)
+        u = utf8-past_byte_if comma text (omega arith) (known.is_text text q)
 
         by : (rest : List ℕ) → (parts edition start).1 ≡ rest
             → AllByRecursion (IfKept edition R)
@@ -266,14 +267,14 @@ module _ (edition : Edition) where
         by (b ∷ rest) e =
             rules-are R declarations (parts edition start).0
             (next_block-declares text (parts edition start).1 q
-            (ends-ends text start (parts edition start).1 (ends-past_byte 44 text)
+            (ends-ends text start (parts edition start).1 (ends-past_byte comma text)
             (parts-ends edition start)))
             (parts-are start u (λ none_left. let both = sym e ∙ none_left in cc))
 
     statement-are : (text : List ℕ) → Q text
         → AllByRecursion (IfKept edition R) (statement edition text).0
     unfolding statement
-    statement-are text q = by (starts 64 text)
+    statement-are text q = by (starts at_sign text)
       where
         by : (t : Bool)
             → AllByRecursion (IfKept edition R)

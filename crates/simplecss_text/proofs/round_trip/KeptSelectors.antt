@@ -4,6 +4,7 @@
 use Rattle.std.proofs.Common.{false, ℕ, ◌≡◌, List, [], ◌∷◌, ◌++◌, false, filter, IsUtf8}
 use Rattle.std.specs.List.{AllByRecursion, All}
 use Rattle.std.proofs.lemmas.List.Elements.{All-append, All-weaker, All-filter, All-from_recursion, recursion_from_All}
+use Rattle.simplecss_text.specs.AsciiBytes.{open_brace}
 use Rattle.simplecss_text.specs.Characters.{Edition}
 use Rattle.simplecss_text.specs.Declarations.{StyleDeclaration, declaration}
 use Rattle.simplecss_text.specs.Statements.{StyleRule, has_declaration, kept}
@@ -32,9 +33,9 @@ module _ (edition : Edition) where
   kept-both R [] h = tt
   kept-both R (rule ∷ rules) h = (
     (
-      selector-reads_back_both edition rule.components 123 [] h.0.0.selector,
+      selector-reads_back_both edition rule.components open_brace [] h.0.0.selector,
       selector-no_hyphen
-          edition rule.components 123 [] h.0.0.selector,
+          edition rule.components open_brace [] h.0.0.selector,
     ),
     kept-both R rules h.1,
   )

@@ -4,6 +4,7 @@
 use Rattle.std.proofs.Common.{◌≡◌, ℕ, ◌<◌, ◌⊎◌, inl, inr, List, [], ◌∷◌, ◌++◌, false, ◌==◌, arith, refl, sym, ap, ◌∙◌, subst, Option, Some, None}
 use Rattle.std.specs.Str.{chars}
 use lib.Utf8.{encode}
+use Rattle.simplecss_text.specs.AsciiBytes.{asterisk, carriage_return, colon, comma, form_feed, full_stop, greater_than_sign, hyphen, newline, number_sign, open_brace, open_bracket, plus_sign, slash, space, tab}
 use Rattle.simplecss_text.specs.Reading.{got}
 use Rattle.simplecss_text.specs.Characters.{Edition, first_edition, second_edition, is_name_char}
 use Rattle.simplecss_text.specs.Names.{past_name_chars, name}
@@ -22,13 +23,13 @@ pub no_gap-name : (edition : Edition) (b : ℕ) (text : List ℕ) → IsNameByte
 no_gap-name edition b text w =
     no_gap-byte b text
     (rw (
-      no 32 (omega arith) refl refl,
-      no 9 (omega arith) refl refl,
-      no 10 (omega arith) refl refl,
-      no 13 (omega arith) refl refl,
-      no 12 (omega arith) refl refl,
+      no space (omega arith) refl refl,
+      no tab (omega arith) refl refl,
+      no newline (omega arith) refl refl,
+      no carriage_return (omega arith) refl refl,
+      no form_feed (omega arith) refl refl,
     ) refl)
-    (no 47 (omega arith) refl refl)
+    (no slash (omega arith) refl refl)
   where
     no : (k : ℕ) → k < 128 → is_name_char first_edition k ≡ false
         → is_name_char second_edition k ≡ false → (b == k) ≡ false
@@ -46,17 +47,17 @@ solid-name_byte : (edition : Edition) (b : ℕ) (text : List ℕ) → IsNameByte
 unfolding solid next_kind
 solid-name_byte edition b text w =
     rw (
-      no 44 (omega arith) refl refl,
-      no 123 (omega arith) refl refl,
-      no 47 (omega arith) refl
+      no comma (omega arith) refl refl,
+      no open_brace (omega arith) refl refl,
+      no slash (omega arith) refl
           refl,
-      no 62 (omega arith) refl refl,
-      no 43 (omega arith) refl refl,
-      no 42 (omega arith) refl refl,
-      no 35 (omega arith) refl refl,
-      no 46 (omega arith) refl refl,
-      no 91 (omega arith) refl refl,
-      no 58 (omega arith) refl refl,
+      no greater_than_sign (omega arith) refl refl,
+      no plus_sign (omega arith) refl refl,
+      no asterisk (omega arith) refl refl,
+      no number_sign (omega arith) refl refl,
+      no full_stop (omega arith) refl refl,
+      no open_bracket (omega arith) refl refl,
+      no colon (omega arith) refl refl,
     ) refl
   where
     no : (k : ℕ) → k < 128 → is_name_char first_edition k ≡ false
@@ -67,9 +68,9 @@ solid-name_byte edition b text w =
 -- alone is a type only where it ends the text.
 abbrev pub IsTypeName : Edition → Option (List ℕ) → List ℕ → Type 0
 IsTypeName edition None following = Unit {0}
-IsTypeName edition (Some n) following = IsName edition n ⊎ ((n ≡ 45 ∷ []) × (following ≡ []))
+IsTypeName edition (Some n) following = IsName edition n ⊎ ((n ≡ hyphen ∷ []) × (following ≡ []))
 
-hyphen-reads : (edition : Edition) → solid edition (45 ∷ []) ≡ got (type_selector (45 ∷ [])) []
+hyphen-reads : (edition : Edition) → solid edition (hyphen ∷ []) ≡ got (type_selector (hyphen ∷ [])) []
 unfolding solid next_kind named_token name past_name_chars chars encode
 hyphen-reads first_edition = refl
 hyphen-reads second_edition = refl
@@ -85,7 +86,7 @@ head_part None = any_type
 head_part (Some n) = of_type n
 
 solid-star : (edition : Edition) (text : List ℕ)
-    → solid edition (42 ∷ text) ≡ got universal_selector text
+    → solid edition (asterisk ∷ text) ≡ got universal_selector text
 unfolding solid next_kind
 solid-star edition text = refl
 
@@ -95,7 +96,7 @@ pub head-reads : (edition : Edition) (o : Option (List ℕ)) (tail : List ℕ)
     → solid edition (type_text o ++ tail) ≡ got (head_token o) tail
 head-reads edition None tail w e = solid-star edition tail
 head-reads edition (Some n) tail (inr h) e =
-    ap (solid edition) (ap (λ l. l ++ tail) h.0 ∙ ap (λ l. 45 ∷ l) h.1) ∙ hyphen-reads edition
+    ap (solid edition) (ap (λ l. l ++ tail) h.0 ∙ ap (λ l. hyphen ∷ l) h.1) ∙ hyphen-reads edition
     ∙ ap (λ m. got (type_selector m) []) (sym h.0) ∙ ap (got (type_selector n)) (sym h.1)
 head-reads edition (Some n) tail (inl w) e =
     let f = name-first edition n w in
@@ -106,9 +107,9 @@ head-reads edition (Some n) tail (inl w) e =
 -- no gap is before a printed head
 pub head-no_gap : (edition : Edition) (o : Option (List ℕ)) (tail : List ℕ)
     → IsTypeName edition o tail → NoGap (type_text o ++ tail)
-head-no_gap edition None tail w = no_gap-byte 42 tail refl refl
+head-no_gap edition None tail w = no_gap-byte asterisk tail refl refl
 head-no_gap edition (Some n) tail (inr h) =
-    subst NoGap (ap (λ l. l ++ tail) (sym h.0)) (no_gap-byte 45 tail refl refl)
+    subst NoGap (ap (λ l. l ++ tail) (sym h.0)) (no_gap-byte hyphen tail refl refl)
 head-no_gap edition (Some n) tail (inl w) =
     let f = name-first edition n w in
     subst NoGap (ap (λ l. l ++ tail) (sym f.is))

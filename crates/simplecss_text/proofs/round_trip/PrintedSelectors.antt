@@ -4,6 +4,7 @@
 use Rattle.std.proofs.Common.{◌≡◌, ℕ, List, [], ◌∷◌, ◌++◌, Bool, true, false, map, refl, sym, ap, ◌∙◌, subst, append_assoc, append-nil, arith, Option, Some, None}
 use Rattle.std.proofs.lemmas.Bool.{and_parts}
 use Rattle.std.specs.List.{list_all, flat_map}
+use Rattle.simplecss_text.specs.AsciiBytes.{colon, greater_than_sign, open_brace, open_bracket, plus_sign, space}
 use Rattle.simplecss_text.specs.Reading.{no_selector, got, fails}
 use Rattle.simplecss_text.specs.declared.next_kind.NextKind.TheVariants.{Stop}
 use Rattle.simplecss_text.specs.Characters.{Edition}
@@ -39,8 +40,8 @@ pub record Goes (edition : Edition) (text : List ℕ) (roles : List Role) (left 
 
 -- no gap is before a subselector
 pub subselector-no_gap : (s : Subselector) (tail : List ℕ) → NoGap (subselector_text s ++ tail)
-subselector-no_gap (attribute n o) tail = no_gap-byte 91 _ refl refl
-subselector-no_gap (pseudo_class class) tail = no_gap-byte 58 _ refl refl
+subselector-no_gap (attribute n o) tail = no_gap-byte open_bracket _ refl refl
+subselector-no_gap (pseudo_class class) tail = no_gap-byte colon _ refl refl
 
 -- subselectors that were read
 abbrev pub EachIs : Edition → List Subselector → Type 0
@@ -107,9 +108,9 @@ compound-assoc c tail = append_assoc (type_text c.name) (flat_map subselector_te
 -- the text of a component, by its combinator and its compound
 abbrev pub joined_text : Combinator → List ℕ → List ℕ
 joined_text none text = text
-joined_text descendant text = 32 ∷ text
-joined_text child text = 32 ∷ 62 ∷ 32 ∷ text
-joined_text adjacent text = 32 ∷ 43 ∷ 32 ∷ text
+joined_text descendant text = space ∷ text
+joined_text child text = space ∷ greater_than_sign ∷ space ∷ text
+joined_text adjacent text = space ∷ plus_sign ∷ space ∷ text
 
 -- a printed component, part by part
 pub component-assoc : (c : Component) (tail : List ℕ)
@@ -212,8 +213,8 @@ module _ (edition : Edition) where
   -- no name continues with a subselector
   pub subselector-ends : (s : Subselector) (tail : List ℕ)
       → ends_names edition (subselector_text s ++ tail) ≡ false
-  subselector-ends (attribute n o) tail = ends_names-byte edition 91 _ (omega arith) refl refl
-  subselector-ends (pseudo_class class) tail = ends_names-byte edition 58 _ (omega arith) refl refl
+  subselector-ends (attribute n o) tail = ends_names-byte edition open_bracket _ (omega arith) refl refl
+  subselector-ends (pseudo_class class) tail = ends_names-byte edition colon _ (omega arith) refl refl
 
   subselector-goes_on : (s : Subselector) (token : Token) (tail : List ℕ)
       → solid_sequence edition closed_side false (next_kind (subselector_text s ++ tail))
@@ -291,27 +292,27 @@ module _ (edition : Edition) where
       (head-reads edition c.name following w.head (subselectors-end c.subselectors tail e)))
       ∙ head-outcome c.name spaced start following (λ l. sequence_from edition l following)
 
-  solid-child : (text : List ℕ) → solid edition (62 ∷ text) ≡ got child_combinator text
+  solid-child : (text : List ℕ) → solid edition (greater_than_sign ∷ text) ≡ got child_combinator text
   unfolding solid next_kind
   solid-child text = refl
 
-  solid-adjacent : (text : List ℕ) → solid edition (43 ∷ text) ≡ got adjacent_combinator text
+  solid-adjacent : (text : List ℕ) → solid edition (plus_sign ∷ text) ≡ got adjacent_combinator text
   unfolding solid next_kind
   solid-adjacent text = refl
 
   -- a child combinator between spaces
-  child-sequence : (text : List ℕ) → sequence_from edition closed_side (32 ∷ 62 ∷ text)
+  child-sequence : (text : List ℕ) → sequence_from edition closed_side (space ∷ greater_than_sign ∷ text)
       ≡ token_then child_combinator text (sequence_from edition open_side text)
-  child-sequence text = sequence_from-token edition closed_side (32 ∷ 62 ∷ text)
-      (62 ∷ text) text true child_combinator (gap-space (62 ∷ text) (no_gap-byte 62 text refl refl))
+  child-sequence text = sequence_from-token edition closed_side (space ∷ greater_than_sign ∷ text)
+      (greater_than_sign ∷ text) text true child_combinator (gap-space (greater_than_sign ∷ text) (no_gap-byte greater_than_sign text refl refl))
       (solid-child text)
 
   -- an adjacent combinator between spaces
-  adjacent-sequence : (text : List ℕ) → sequence_from edition closed_side (32 ∷ 43 ∷ text)
+  adjacent-sequence : (text : List ℕ) → sequence_from edition closed_side (space ∷ plus_sign ∷ text)
       ≡ token_then adjacent_combinator text (sequence_from edition open_side text)
-  adjacent-sequence text = sequence_from-token edition closed_side (32 ∷ 43 ∷ text)
-      (43 ∷ text) text true adjacent_combinator (gap-space (43 ∷ text)
-      (no_gap-byte 43 text refl refl)) (solid-adjacent text)
+  adjacent-sequence text = sequence_from-token edition closed_side (space ∷ plus_sign ∷ text)
+      (plus_sign ∷ text) text true adjacent_combinator (gap-space (plus_sign ∷ text)
+      (no_gap-byte plus_sign text refl refl)) (solid-adjacent text)
 
   -- after a simple piece: a combinator, and then a compound
   pub joined-outcome : (j : Combinator) (c : Compound) (tail : List ℕ) → Joins j
@@ -325,7 +326,7 @@ module _ (edition : Edition) where
       let text = compound_text c ++ tail in
       let following = flat_map subselector_text c.subselectors ++ tail in
       let calm = compound-no_gap c tail w in
-      ap outcome (descends-token edition (32 ∷ text) text following (head_token c.name)
+      ap outcome (descends-token edition (space ∷ text) text following (head_token c.name)
       (gap-space text calm) (ap (solid edition) (compound-assoc c tail)
       ∙ head-reads edition c.name following w.head (subselectors-end c.subselectors tail e))
       (head-simple c.name))
@@ -333,20 +334,20 @@ module _ (edition : Edition) where
       (compound-outcome c text tail false w (gap-none text calm) e)
   joined-outcome child c tail n w e =
       let text = compound_text c ++ tail in
-      ap outcome (child-sequence (32 ∷ text)) ∙ ap (with_role (joined_by child))
-      (compound-outcome c (32 ∷ text) tail true w (gap-space text (compound-no_gap c tail w)) e)
+      ap outcome (child-sequence (space ∷ text)) ∙ ap (with_role (joined_by child))
+      (compound-outcome c (space ∷ text) tail true w (gap-space text (compound-no_gap c tail w)) e)
   joined-outcome adjacent c tail n w e =
       let text = compound_text c ++ tail in
-      ap outcome (adjacent-sequence (32 ∷ text)) ∙ ap (with_role (joined_by adjacent))
-      (compound-outcome c (32 ∷ text) tail true w (gap-space text (compound-no_gap c tail w)) e)
+      ap outcome (adjacent-sequence (space ∷ text)) ∙ ap (with_role (joined_by adjacent))
+      (compound-outcome c (space ∷ text) tail true w (gap-space text (compound-no_gap c tail w)) e)
 
   -- no name continues with a combinator
   pub joined-ends : (j : Combinator) (text : List ℕ) → Joins j
       → ends_names edition (joined_text j text) ≡ false
   joined-ends none text n = absurd n
-  joined-ends descendant text n = ends_names-byte edition 32 _ (omega arith) refl refl
-  joined-ends child text n = ends_names-byte edition 32 _ (omega arith) refl refl
-  joined-ends adjacent text n = ends_names-byte edition 32 _ (omega arith) refl refl
+  joined-ends descendant text n = ends_names-byte edition space _ (omega arith) refl refl
+  joined-ends child text n = ends_names-byte edition space _ (omega arith) refl refl
+  joined-ends adjacent text n = ends_names-byte edition space _ (omega arith) refl refl
 
   -- a printed component after a simple piece
   component-goes : (c : Component) (tail left : List ℕ) (roles : List Role)
@@ -438,10 +439,10 @@ module _ (edition : Edition) where
   }
 
   -- a space and an opening brace
-  pub goes-space_brace : (text : List ℕ) → Goes edition (32 ∷ 123 ∷ text) [] (123 ∷ text)
+  pub goes-space_brace : (text : List ℕ) → Goes edition (space ∷ open_brace ∷ text) [] (open_brace ∷ text)
   unfolding next_kind
   goes-space_brace text = record {
-    ends = ends_names-byte edition 32 (123 ∷ text) (omega arith) refl refl;
-    runs = stop-outcome (32 ∷ 123 ∷ text) (123 ∷ text) true (gap-space (123 ∷ text)
-        (no_gap-byte 123 text refl refl)) refl;
+    ends = ends_names-byte edition space (open_brace ∷ text) (omega arith) refl refl;
+    runs = stop-outcome (space ∷ open_brace ∷ text) (open_brace ∷ text) true (gap-space (open_brace ∷ text)
+        (no_gap-byte open_brace text refl refl)) refl;
   }

@@ -2,6 +2,7 @@
 -- Serves `Selector::{parse, parse_front}` and `StyleSheet::parse` (a selector printed and read
 -- again).
 use Rattle.std.proofs.Common.{◌≡◌, ℕ, List, [], ◌∷◌, ◌==◌, arith, subst, IsUtf8}
+use Rattle.simplecss_text.specs.AsciiBytes.{close_bracket, equals_sign, tilde, vertical_bar}
 use Rattle.simplecss_text.specs.Characters.{Edition}
 use Rattle.simplecss_text.specs.Components.{Operator}
 use Rattle.simplecss_text.specs.Components.Operator.{equals, has_word, begins_with}
@@ -19,11 +20,11 @@ equated-gives : (edition : Edition) (operator : List ℕ → Operator) (text : L
     → ((v : List ℕ) → IsValue v → IsOperator (operator v)) → IsUtf8 text
     → IfGot GoodOperator (equated edition operator text)
 equated-gives edition operator text each u =
-    if_got-follow (λ x rest. text ≡ 61 ∷ rest) GoodOperator _ _ (byte-is 61 text)
+    if_got-follow (λ x rest. text ≡ equals_sign ∷ rest) GoodOperator _ _ (byte-is equals_sign text)
     (λ x rest e.
     if_got-follow (λ v last. IsValue v) GoodOperator _ _
     (string_or_name-gives edition rest
-    (utf8-past_byte 61 rest (omega arith) (subst IsUtf8 e u)))
+    (utf8-past_byte equals_sign rest (omega arith) (subst IsUtf8 e u)))
     (λ v last w. each v w))
 
 -- what is required of an attribute that was read from a text
@@ -32,12 +33,12 @@ pub attribute_operator-gives : (edition : Edition) (text : List ℕ) → IsUtf8 
 unfolding attribute_operator
 attribute_operator-gives edition [] u = tt
 attribute_operator-gives edition (b ∷ text) u =
-    if_got-if GoodOperator (b == 93) _ _ (λ e. tt) (λ e.
-    if_got-if GoodOperator (b == 61) _ _
+    if_got-if GoodOperator (b == close_bracket) _ _ (λ e. tt) (λ e.
+    if_got-if GoodOperator (b == equals_sign) _ _
     (λ f. equated-gives edition equals (b ∷ text) (λ v w. w) u) (λ f.
-    if_got-if GoodOperator (b == 126) _ _
+    if_got-if GoodOperator (b == tilde) _ _
     (λ g. equated-gives edition has_word text (λ v w. w)
-    (utf8-past_byte 126 text (omega arith) (same_begins b 126 text g u))) (λ g.
-    if_got-if GoodOperator (b == 124) _ _
+    (utf8-past_byte tilde text (omega arith) (same_begins b tilde text g u))) (λ g.
+    if_got-if GoodOperator (b == vertical_bar) _ _
     (λ h. equated-gives edition begins_with text (λ v w. w)
-    (utf8-past_byte 124 text (omega arith) (same_begins b 124 text h u))) (λ h. tt))))
+    (utf8-past_byte vertical_bar text (omega arith) (same_begins b vertical_bar text h u))) (λ h. tt))))

@@ -6,6 +6,7 @@ use Rattle.std.specs.Str.{trim}
 use Rattle.std.specs.List.{list_all, prefix_len, take_while}
 use Rattle.std.proofs.lemmas.List.{take-append-drop}
 use Rattle.simplecss_text.proofs.reading.EndsLemmas.{before-append}
+use Rattle.simplecss_text.specs.AsciiBytes.{close_bracket, close_parenthesis, hyphen, open_parenthesis}
 use Rattle.simplecss_text.specs.Reading.{Reading, ended, got, fails, before}
 use Rattle.simplecss_text.specs.Bytes.{past_one, past, all_before}
 use Rattle.simplecss_text.specs.declared.next_kind.NextKind.{NextKind}
@@ -30,7 +31,7 @@ use Rattle.simplecss_text.proofs.round_trip.ReadOperators.{GoodOperator, attribu
 -- what a token satisfies that was read as a solid piece, where this is left after it
 abbrev pub GoodToken : Edition → Token → List ℕ → Type 0
 GoodToken edition universal_selector rest = Unit {0}
-GoodToken edition (type_selector n) rest = IsName edition n ⊎ ((n ≡ 45 ∷ []) × (rest ≡ []))
+GoodToken edition (type_selector n) rest = IsName edition n ⊎ ((n ≡ hyphen ∷ []) × (rest ≡ []))
 GoodToken edition (id_selector n) rest = IsValue n
 GoodToken edition (class_selector n) rest = IsValue n
 GoodToken edition (attribute_selector n o) rest = IsName edition n × IsOperator o
@@ -47,11 +48,11 @@ both_got P Q (fails fault rest) p q = tt
 
 -- what is before a byte, and the text from there on
 abbrev StandsBefore : List ℕ → List ℕ → List ℕ → Type 0
-StandsBefore text value rest = (text ≡ value ++ rest) × (list_all (λ b. not (b == 41)) value ≡ true)
+StandsBefore text value rest = (text ≡ value ++ rest) × (list_all (λ b. not (b == close_parenthesis)) value ≡ true)
 
-all_before-is : (text : List ℕ) → IfGot (StandsBefore text) (all_before 41 text)
+all_before-is : (text : List ℕ) → IfGot (StandsBefore text) (all_before close_parenthesis text)
 all_before-is text =
-    let test = λ (b : ℕ). not (b == 41) in
+    let test = λ (b : ℕ). not (b == close_parenthesis) in
     let front = take_while test text in
     let rest = past test text in
     let is : text ≡ front ++ rest = sym (take-append-drop (prefix_len test text) text) in
@@ -121,30 +122,30 @@ module _ (edition : Edition) where
       _ _
       (both_got GoodOperator (λ o next. rest ≡ [] → ⊥) (attribute_operator edition rest)
       (attribute_operator-gives edition rest w.rest_is) (operator_text_is rest)) (λ o next x.
-      if_got-follow (λ y last. next ≡ 93 ∷ last) (GoodToken edition) _ _ (byte-is 93 next)
+      if_got-follow (λ y last. next ≡ close_bracket ∷ last) (GoodToken edition) _ _ (byte-is close_bracket next)
       (λ y last e.
       (name_before text n rest w x.1, x.0))))
 
-  lang_of-gives : (v text : List ℕ) → IsUtf8 v → list_all (λ b. not (b == 41)) v ≡ true
+  lang_of-gives : (v text : List ℕ) → IsUtf8 v → list_all (λ b. not (b == close_parenthesis)) v ≡ true
       → IfGot (GoodToken edition) (lang_of (trim v) text)
   lang_of-gives v text u h =
       let w = trim-is v u in
       if_got-if (GoodToken edition) (length (trim v) == 0) _ _ (λ e. tt) (λ e. record
-      { trimmed = w.again; some = e; within = inside_all (λ b. not (b == 41)) v (trim v) w h })
+      { trimmed = w.again; some = e; within = inside_all (λ b. not (b == close_parenthesis)) v (trim v) w h })
 
   lang_after-gives : (text : List ℕ) → IsUtf8 text → IfGot (GoodToken edition) (lang_after text)
   unfolding lang_after
   lang_after-gives text u =
-      if_got-follow (λ x rest. text ≡ 40 ∷ rest) (GoodToken edition) _ _
-      (byte-is 40 text) (λ x rest e.
-      if_got-follow (StandsBefore rest) (GoodToken edition) (all_before 41 rest) _
+      if_got-follow (λ x rest. text ≡ open_parenthesis ∷ rest) (GoodToken edition) _ _
+      (byte-is open_parenthesis text) (λ x rest e.
+      if_got-follow (StandsBefore rest) (GoodToken edition) (all_before close_parenthesis rest) _
       (all_before-is rest) (λ value next w.
-      if_got-follow (λ y last. next ≡ 41 ∷ last) (GoodToken edition) _ _
-      (byte-is 41 next) (λ y last f.
-      let all : IsUtf8 (value ++ (41 ∷ last)) =
+      if_got-follow (λ y last. next ≡ close_parenthesis ∷ last) (GoodToken edition) _ _
+      (byte-is close_parenthesis next) (λ y last f.
+      let all : IsUtf8 (value ++ (close_parenthesis ∷ last)) =
       subst IsUtf8 (w.0 ∙ ap (λ l. value ++ l) f)
-      (utf8-past_byte 40 rest (omega arith) (subst IsUtf8 e u)) in
-      lang_of-gives value last (utf8-before_byte value 41 last (omega arith) all) w.1)))
+      (utf8-past_byte open_parenthesis rest (omega arith) (subst IsUtf8 e u)) in
+      lang_of-gives value last (utf8-before_byte value close_parenthesis last (omega arith) all) w.1)))
 
   pseudo_class_after-gives : (text : List ℕ) → IsUtf8 text
       → IfGot (GoodToken edition) (pseudo_class_after edition text)

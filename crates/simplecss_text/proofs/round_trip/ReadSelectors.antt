@@ -6,6 +6,7 @@ use Rattle.std.specs.List.{flat_map}
 use Rattle.std.proofs.lemmas.Str.{encodes_same}
 use Rattle.std.proofs.lemmas.Slice.Eq.{bytes_eq-Decides}
 use lib.Utf8.{encode}
+use Rattle.simplecss_text.specs.AsciiBytes.{hyphen, open_brace, space}
 use Rattle.simplecss_text.specs.Characters.{Edition, first_edition, second_edition}
 use Rattle.simplecss_text.specs.Components.{Subselector, Combinator, Compound, Component}
 use Rattle.simplecss_text.specs.Components.Subselector.{attribute, pseudo_class}
@@ -54,11 +55,11 @@ later_hyphen c (d ∷ cs) h = h
 
 -- before more text a selector ends in no lone hyphen
 
-hyphen_begins : (edition : Edition) → begins_any_name edition (45 ∷ []) ≡ true → ⊥
+hyphen_begins : (edition : Edition) → begins_any_name edition (hyphen ∷ []) ≡ true → ⊥
 hyphen_begins first_edition e = cc
 hyphen_begins second_edition e = cc
 
-hyphen_encodes : encode_utf8_all (45 ∷ []) ≡ 45 ∷ []
+hyphen_encodes : encode_utf8_all (hyphen ∷ []) ≡ hyphen ∷ []
 unfolding encode
 hyphen_encodes = refl
 
@@ -131,7 +132,7 @@ module _ (edition : Edition) where
 
   -- where what follows a component is empty, it is the last one, and only a type
   hyphen_last : (c : Component) (cs : List Component) (following : List ℕ) (n : List ℕ)
-      → c.compound.name ≡ Some n → n ≡ 45 ∷ [] → EachJoined edition cs following
+      → c.compound.name ≡ Some n → n ≡ hyphen ∷ [] → EachJoined edition cs following
       → flat_map subselector_text c.compound.subselectors ++ (selector_text cs ++ following) ≡ []
       → ends_in_hyphen (c ∷ cs) ≡ true
   hyphen_last c cs following n named h w e =
@@ -140,7 +141,7 @@ module _ (edition : Edition) where
       let second = front_nil (selector_text cs) following first.1 in
       let none_after = no_components cs following w second.0 in
       let alone = no_subselectors c.compound.subselectors first.0 in
-      let name : c.compound.name ≡ Some (45 ∷ []) = named ∙ ap (λ (m : List ℕ). Some m) h in
+      let name : c.compound.name ≡ Some (hyphen ∷ []) = named ∙ ap (λ (m : List ℕ). Some m) h in
       ap (λ (l : List Component). ends_in_hyphen (c ∷ l)) none_after
       ∙ ap (λ (l : List Subselector). is_hyphen_name c.compound.name && length l == 0) alone
       ∙ ap (λ (o : Option (List ℕ)). is_hyphen_name o && true) name
@@ -180,9 +181,9 @@ module _ (edition : Edition) where
         cs a b (later_hyphen c cs h) w.2,
   )
 
-  pub hyphen_no_name : (n : List ℕ) → IsName edition n → n ≡ 45 ∷ [] → ⊥
+  pub hyphen_no_name : (n : List ℕ) → IsName edition n → n ≡ hyphen ∷ [] → ⊥
   hyphen_no_name n w e =
-      let letters : w.letters ≡ 45 ∷ [] = encodes_same w.letters (45 ∷ []) (w.spell ∙ e
+      let letters : w.letters ≡ hyphen ∷ [] = encodes_same w.letters (hyphen ∷ []) (w.spell ∙ e
       ∙ sym hyphen_encodes) in
       hyphen_begins edition (ap (begins_any_name edition) (sym letters) ∙ w.begins)
 
@@ -234,15 +235,15 @@ module _ (edition : Edition) where
       → reads edition text ≡ (Some s, left) → ends_in_hyphen s ≡ false
       → ReadsBackBeforeBlock edition s
   reads-back_before text left s u e h tail =
-      printing-law edition s (32 ∷ 123 ∷ tail) (123 ∷ tail) (selector-anywhere s left
-      (32 ∷ 123 ∷ tail) h (reads-is text left s u e)) (goes-space_brace edition tail)
+      printing-law edition s (space ∷ open_brace ∷ tail) (open_brace ∷ tail) (selector-anywhere s left
+      (space ∷ open_brace ∷ tail) h (reads-is text left s u e)) (goes-space_brace edition tail)
 
   -- Each that was read with more text after it reads back, also before a block.
   pub selector-reads_back_before : (s : List Component) (b : ℕ) (left : List ℕ)
       → IsSelector edition s (b ∷ left) → ReadsBackBeforeBlock edition s
   selector-reads_back_before s b left w tail =
-      printing-law edition s (32 ∷ 123 ∷ tail) (123 ∷ tail) (selector-after s (b ∷ left)
-      (32 ∷ 123 ∷ tail) (λ none_there. absurd (cc)) w) (goes-space_brace edition tail)
+      printing-law edition s (space ∷ open_brace ∷ tail) (open_brace ∷ tail) (selector-after s (b ∷ left)
+      (space ∷ open_brace ∷ tail) (λ none_there. absurd (cc)) w) (goes-space_brace edition tail)
 
   -- both at once
   pub selector-reads_back_both : (s : List Component) (b : ℕ) (left : List ℕ)

@@ -4,6 +4,7 @@
 use Rattle.std.proofs.Common.{◌≡◌, ℕ, zero, suc, ◌<◌, inl, inr, List, [], ◌∷◌, ◌++◌, Bool, true, false, if◌then◌else◌, map, length, codes, bytes_eq, arith, refl, sym, ap, ◌∙◌, subst, Option, Some, None, IsUtf8}
 use Rattle.std.specs.Option.{option_map}
 use lib.Utf8.{encode}
+use Rattle.simplecss_text.specs.AsciiBytes.{hyphen}
 use Rattle.simplecss_text.specs.Reading.{left_after, Reading, got, fails}
 use Rattle.simplecss_text.specs.Characters.{Edition}
 use Rattle.simplecss_text.specs.Comments.{gap}
@@ -166,7 +167,7 @@ module _ (edition : Edition) where
   }
 
   -- a lone hyphen, and the end of the text
-  begins-hyphen : (n : List ℕ) (o : Outcome) → n ≡ 45 ∷ [] → o ≡ accepted [] []
+  begins-hyphen : (n : List ℕ) (o : Outcome) → n ≡ hyphen ∷ [] → o ≡ accepted [] []
       → IfBegins edition (with_role (part (of_type n)) o)
   begins-hyphen n o h e =
       let P : Outcome → Type 0 = λ o. IfBegins edition (with_role (part (of_type n)) o) in

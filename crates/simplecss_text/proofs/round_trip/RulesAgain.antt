@@ -3,6 +3,7 @@
 -- again).
 use Rattle.std.proofs.Common.{◌≡◌, ℕ, ◌<◌, ◌⊎◌, inl, inr, List, [], ◌∷◌, ◌++◌, Bool, true, false, if◌then◌else◌, not, ◌==◌, length, refl, sym, ap, ◌∙◌, subst, append_assoc, arith, Option, Some, None}
 use Rattle.std.specs.List.{flat_map, AllByRecursion}
+use Rattle.simplecss_text.specs.AsciiBytes.{asterisk, at_sign, close_brace, comma, open_brace, semicolon, space}
 use Rattle.simplecss_text.specs.Reading.{found, followed_by, each}
 use Rattle.simplecss_text.specs.Bytes.{past, past_byte, starts}
 use Rattle.simplecss_text.specs.Characters.{Edition, first_edition, second_edition, is_name_char, is_space}
@@ -31,12 +32,12 @@ pub record BeginsPart (edition : Edition) (text : List ℕ) : Type 0 where
   pub first : ℕ
   pub others : List ℕ
   pub is : text ≡ first ∷ others
-  pub fit : (first ≡ 42) ⊎ IsNameByte edition first
+  pub fit : (first ≡ asterisk) ⊎ IsNameByte edition first
 
 -- it begins with no byte that neither is
-part_other : (edition : Edition) (k b : ℕ) → k < 128 → (42 == k) ≡ false
+part_other : (edition : Edition) (k b : ℕ) → k < 128 → (asterisk == k) ≡ false
     → is_name_char first_edition k ≡ false → is_name_char second_edition k ≡ false
-    → (b ≡ 42) ⊎ IsNameByte edition b → (b == k) ≡ false
+    → (b ≡ asterisk) ⊎ IsNameByte edition b → (b == k) ≡ false
 part_other edition k b low star e f (inl same) = ap (λ c. c == k) same ∙ star
 part_other edition k b low star e f (inr w) = other_byte edition k b low e f w
 
@@ -48,30 +49,30 @@ calm-blank text w = ap (λ r. r.1) w.none
 abbrev in_list : Edition → Bool → List ℕ → Option (StyleDeclaration × List ℕ)
 in_list edition t text = if t then None else found (declaration edition text)
 
-closing-blank : (text : List ℕ) → past_blank (32 ∷ 125 ∷ text) ≡ 125 ∷ text
+closing-blank : (text : List ℕ) → past_blank (space ∷ close_brace ∷ text) ≡ close_brace ∷ text
 closing-blank text =
-    past_blank-space 32 (125 ∷ text) refl ∙ calm-blank (125 ∷ text) (no_gap-byte 125 text refl refl)
+    past_blank-space space (close_brace ∷ text) refl ∙ calm-blank (close_brace ∷ text) (no_gap-byte close_brace text refl refl)
 
 -- a space before a declaration changes nothing
 
-blank-space : (text : List ℕ) → blank (32 ∷ text) ≡ blank text
+blank-space : (text : List ℕ) → blank (space ∷ text) ≡ blank text
 unfolding blank
-blank-space text = let same = past_blank-space 32 text refl in rw same refl
+blank-space text = let same = past_blank-space space text refl in rw same refl
 
 -- the rule
 
 pub rule-assoc : (rule : StyleRule) (text : List ℕ)
     → rule_text rule ++ text ≡ selector_text rule.components ++
-    (32 ∷ 123 ∷ 32 ∷ (flat_map declaration_text rule.declarations ++ (32 ∷ 125 ∷ text)))
+    (space ∷ open_brace ∷ space ∷ (flat_map declaration_text rule.declarations ++ (space ∷ close_brace ∷ text)))
 rule-assoc rule text =
     by (selector_text rule.components) (flat_map declaration_text rule.declarations)
   where
-    by : (s p : List ℕ) → (((s ++ (32 ∷ 123 ∷ 32 ∷ [])) ++ p) ++ (32 ∷ 125 ∷ [])) ++ text
-        ≡ s ++ (32 ∷ 123 ∷ 32 ∷ (p ++ (32 ∷ 125 ∷ text)))
+    by : (s p : List ℕ) → (((s ++ (space ∷ open_brace ∷ space ∷ [])) ++ p) ++ (space ∷ close_brace ∷ [])) ++ text
+        ≡ s ++ (space ∷ open_brace ∷ space ∷ (p ++ (space ∷ close_brace ∷ text)))
     by s p =
-        append_assoc ((s ++ (32 ∷ 123 ∷ 32 ∷ [])) ++ p) (32 ∷ 125 ∷ []) text
-        ∙ append_assoc (s ++ (32 ∷ 123 ∷ 32 ∷ [])) p (32 ∷ 125 ∷ text)
-        ∙ append_assoc s (32 ∷ 123 ∷ 32 ∷ []) (p ++ (32 ∷ 125 ∷ text))
+        append_assoc ((s ++ (space ∷ open_brace ∷ space ∷ [])) ++ p) (space ∷ close_brace ∷ []) text
+        ∙ append_assoc (s ++ (space ∷ open_brace ∷ space ∷ [])) p (space ∷ close_brace ∷ text)
+        ∙ append_assoc s (space ∷ open_brace ∷ space ∷ []) (p ++ (space ∷ close_brace ∷ text))
 
 module _ (edition : Edition) where
   pub begins-append : (text tail : List ℕ) → BeginsPart edition text → BeginsPart edition (text ++ tail)
@@ -88,13 +89,13 @@ module _ (edition : Edition) where
       let f = name-first edition n w in record
       { first = f.first; others = f.others; is = f.is; fit = inr f.fit }
 
-  pub part_starts : (k : ℕ) (text : List ℕ) → k < 128 → (42 == k) ≡ false
+  pub part_starts : (k : ℕ) (text : List ℕ) → k < 128 → (asterisk == k) ≡ false
       → is_name_char first_edition k ≡ false → is_name_char second_edition k ≡ false
       → BeginsPart edition text → starts k text ≡ false
   part_starts k text low star e f w =
       ap (starts k) w.is ∙ part_other edition k w.first low star e f w.fit
 
-  pub part_byte : (k : ℕ) (text : List ℕ) → k < 128 → (42 == k) ≡ false
+  pub part_byte : (k : ℕ) (text : List ℕ) → k < 128 → (asterisk == k) ≡ false
       → is_name_char first_edition k ≡ false → is_name_char second_edition k ≡ false
       → BeginsPart edition text → past_byte k text ≡ text
   part_byte k text low star e f w =
@@ -109,9 +110,9 @@ module _ (edition : Edition) where
   pub part_calm : (text : List ℕ) → BeginsPart edition text → NoGap text
   part_calm text w = subst NoGap (sym w.is) (by w.first w.fit)
     where
-      by : (b : ℕ) → (b ≡ 42) ⊎ IsNameByte edition b → NoGap (b ∷ w.others)
+      by : (b : ℕ) → (b ≡ asterisk) ⊎ IsNameByte edition b → NoGap (b ∷ w.others)
       by b (inl same) =
-          subst (λ (c : ℕ). NoGap (c ∷ w.others)) (sym same) (no_gap-byte 42 w.others refl refl)
+          subst (λ (c : ℕ). NoGap (c ∷ w.others)) (sym same) (no_gap-byte asterisk w.others refl refl)
       by b (inr fit) = no_gap-name edition b w.others fit
 
   -- a selector that is before a block
@@ -129,7 +130,7 @@ module _ (edition : Edition) where
           → IsTypeName edition o
           (flat_map subselector_text c.compound.subselectors ++ (selector_text cs ++ (b ∷ tail)))
           → BeginsPart edition (type_text o)
-      by None h = record { first = 42; others = []; is = refl; fit = inl refl }
+      by None h = record { first = asterisk; others = []; is = refl; fit = inl refl }
       by (Some n) (inl h) = begins-name n h
       by (Some n) (inr h) =
           absurd (some_after (flat_map subselector_text c.compound.subselectors) (selector_text cs)
@@ -150,67 +151,67 @@ module _ (edition : Edition) where
 
   pub list_goes_on : (text : List ℕ) → BeginsPart edition text → ends_list text ≡ false
   list_goes_on text w =
-      let no = part_other edition 125 w.first (omega arith) refl refl refl w.fit in
+      let no = part_other edition close_brace w.first (omega arith) refl refl refl w.fit in
       let some = not_empty w.first w.others in
       ap ends_list w.is ∙ rw (some, no) refl
 
   one-declaration : (p : StyleDeclaration) (text : List ℕ) → IsDeclaration edition p
-      → opens_comment (past_blank text) ≡ false → starts 59 (past_blank text) ≡ false
+      → opens_comment (past_blank text) ≡ false → starts semicolon (past_blank text) ≡ false
       → declaration_in_block edition (declaration_text p ++ text) ≡ Some (p, past_blank text)
   one-declaration p text w o e =
       let whole = declaration_text p ++ text in
       ap (λ t. in_list edition t whole) (list_goes_on whole (declaration-begins p text w))
       ∙ ap found (printed_declaration-reads_back edition p w text o e)
 
-  closing-none : (text : List ℕ) → declaration_in_block edition (125 ∷ text) ≡ None
-  closing-none text = let some = not_empty 125 text in rw some refl
+  closing-none : (text : List ℕ) → declaration_in_block edition (close_brace ∷ text) ≡ None
+  closing-none text = let some = not_empty close_brace text in rw some refl
 
   -- the declarations of a printed block, and what is left at its closing brace
   pub declarations-again : (p : StyleDeclaration) (ps : List StyleDeclaration) (text : List ℕ)
       → IsDeclaration edition p → AllByRecursion (IsDeclaration edition) ps
       → each (declaration_in_block edition)
-      (declaration_text p ++ (flat_map declaration_text ps ++ (32 ∷ 125 ∷ text)))
-      ≡ (p ∷ ps, 125 ∷ text)
+      (declaration_text p ++ (flat_map declaration_text ps ++ (space ∷ close_brace ∷ text)))
+      ≡ (p ∷ ps, close_brace ∷ text)
   declarations-again p [] text w ws =
-      let tail = 32 ∷ 125 ∷ text in
+      let tail = space ∷ close_brace ∷ text in
       let following = closing-blank text in
       each-some (declaration_in_block edition) (declaration_in_block-takes edition)
       (declaration_text p ++ tail) (past_blank tail) p
-      (one-declaration p tail w (ap opens_comment following) (ap (starts 59) following))
+      (one-declaration p tail w (ap opens_comment following) (ap (starts semicolon) following))
       ∙ ap (λ t. followed_by p (each (declaration_in_block edition) t)) following
       ∙ ap (followed_by p)
-      (each-none (declaration_in_block edition) (125 ∷ text) (closing-none text))
+      (each-none (declaration_in_block edition) (close_brace ∷ text) (closing-none text))
   declarations-again p (q ∷ ps) text w ws =
-      let next = declaration_text q ++ (flat_map declaration_text ps ++ (32 ∷ 125 ∷ text)) in
-      let tail = flat_map declaration_text (q ∷ ps) ++ (32 ∷ 125 ∷ text) in
+      let next = declaration_text q ++ (flat_map declaration_text ps ++ (space ∷ close_brace ∷ text)) in
+      let tail = flat_map declaration_text (q ∷ ps) ++ (space ∷ close_brace ∷ text) in
       let same : tail ≡ next =
-      append_assoc (declaration_text q) (flat_map declaration_text ps) (32 ∷ 125 ∷ text) in
+      append_assoc (declaration_text q) (flat_map declaration_text ps) (space ∷ close_brace ∷ text) in
       let begins =
-      declaration-begins q (flat_map declaration_text ps ++ (32 ∷ 125 ∷ text)) ws.0 in
+      declaration-begins q (flat_map declaration_text ps ++ (space ∷ close_brace ∷ text)) ws.0 in
       let calm = part_calm next begins in
       let following : past_blank tail ≡ next = ap past_blank same ∙ calm-blank next calm in
       each-some (declaration_in_block edition) (declaration_in_block-takes edition)
       (declaration_text p ++ tail) (past_blank tail) p
-      (one-declaration p tail w (ap opens_comment following ∙ calm.closed) (ap (starts 59) following
-      ∙ part_starts 59 next (omega arith) refl refl refl begins))
+      (one-declaration p tail w (ap opens_comment following ∙ calm.closed) (ap (starts semicolon) following
+      ∙ part_starts semicolon next (omega arith) refl refl refl begins))
       ∙ ap (λ t. followed_by p (each (declaration_in_block edition) t)) following
       ∙ ap (followed_by p) (declarations-again q ps text ws.0 ws.1)
 
-  declaration-space : (text : List ℕ) → declaration edition (32 ∷ text) ≡ declaration edition text
+  declaration-space : (text : List ℕ) → declaration edition (space ∷ text) ≡ declaration edition text
   unfolding declaration stated_name
   declaration-space text = let same = blank-space text in rw same refl
 
   pub spaced-list : (text rest : List ℕ) (p : StyleDeclaration)
       → declaration_in_block edition text ≡ Some (p, rest) → ends_list text ≡ false
-      → each (declaration_in_block edition) (32 ∷ text) ≡ each (declaration_in_block edition) text
+      → each (declaration_in_block edition) (space ∷ text) ≡ each (declaration_in_block edition) text
   spaced-list text rest p e goes =
-      let some = not_empty 32 text in
-      let open_list : ends_list (32 ∷ text) ≡ false = rw some refl in
-      let same : declaration_in_block edition (32 ∷ text) ≡ declaration_in_block edition text =
-      ap (λ t. in_list edition t (32 ∷ text)) open_list ∙ ap found (declaration-space text)
+      let some = not_empty space text in
+      let open_list : ends_list (space ∷ text) ≡ false = rw some refl in
+      let same : declaration_in_block edition (space ∷ text) ≡ declaration_in_block edition text =
+      ap (λ t. in_list edition t (space ∷ text)) open_list ∙ ap found (declaration-space text)
       ∙ ap (λ t. in_list edition t text) (sym goes) in
       each-some (declaration_in_block edition) (declaration_in_block-takes edition)
-      (32 ∷ text) rest p
+      (space ∷ text) rest p
       (same ∙ e)
       ∙ sym (each-some (declaration_in_block edition) (declaration_in_block-takes edition) text rest
       p
@@ -232,35 +233,35 @@ module _ (edition : Edition) where
   -- it is left
   block-again : (p : StyleDeclaration) (ps : List StyleDeclaration) (text : List ℕ)
       → IsDeclaration edition p → AllByRecursion (IsDeclaration edition) ps
-      → block edition (32 ∷ (flat_map declaration_text (p ∷ ps) ++ (32 ∷ 125 ∷ text)))
+      → block edition (space ∷ (flat_map declaration_text (p ∷ ps) ++ (space ∷ close_brace ∷ text)))
       ≡ (p ∷ ps, text)
   unfolding block
   block-again p ps text w ws =
-      let inside = declaration_text p ++ (flat_map declaration_text ps ++ (32 ∷ 125 ∷ text)) in
-      let same : flat_map declaration_text (p ∷ ps) ++ (32 ∷ 125 ∷ text) ≡ inside =
-      append_assoc (declaration_text p) (flat_map declaration_text ps) (32 ∷ 125 ∷ text) in
+      let inside = declaration_text p ++ (flat_map declaration_text ps ++ (space ∷ close_brace ∷ text)) in
+      let same : flat_map declaration_text (p ∷ ps) ++ (space ∷ close_brace ∷ text) ≡ inside =
+      append_assoc (declaration_text p) (flat_map declaration_text ps) (space ∷ close_brace ∷ text) in
       let listed = declarations-again p ps text w ws in
       let there =
-      first-found inside p ps (125 ∷ text) listed (declaration_in_block edition inside) refl in
+      first-found inside p ps (close_brace ∷ text) listed (declaration_in_block edition inside) refl in
       let spaced =
       spaced-list inside there.1 there.0 there.2 (list_goes_on inside
-      (declaration-begins p (flat_map declaration_text ps ++ (32 ∷ 125 ∷ text)) w)) in
+      (declaration-begins p (flat_map declaration_text ps ++ (space ∷ close_brace ∷ text)) w)) in
       let all : each (declaration_in_block edition)
-      (32 ∷ (flat_map declaration_text (p ∷ ps) ++ (32 ∷ 125 ∷ text))) ≡ (p ∷ ps, 125 ∷ text) = ap
-      (λ t. each (declaration_in_block edition) (32 ∷ t)) same ∙ spaced ∙ listed in
-      let some = not_empty 125 text in
-      ap (λ (r : List StyleDeclaration × List ℕ). (r.0, past_byte 125 (past_list edition r.1))) all
+      (space ∷ (flat_map declaration_text (p ∷ ps) ++ (space ∷ close_brace ∷ text))) ≡ (p ∷ ps, close_brace ∷ text) = ap
+      (λ t. each (declaration_in_block edition) (space ∷ t)) same ∙ spaced ∙ listed in
+      let some = not_empty close_brace text in
+      ap (λ (r : List StyleDeclaration × List ℕ). (r.0, past_byte close_brace (past_list edition r.1))) all
       ∙ rw some refl
 
   -- a part that reads before a block
   pub part-again : (s : List Component) (text inside : List ℕ)
-      → reads edition text ≡ (Some s, 123 ∷ inside) → part edition text ≡ (Some s, 123 ∷ inside)
+      → reads edition text ≡ (Some s, open_brace ∷ inside) → part edition text ≡ (Some s, open_brace ∷ inside)
   unfolding part
   part-again s text inside e =
       ap (λ (r : Option (List Component) × List ℕ). (r.0, past is_space r.1)) e ∙ refl
 
   pub parts-again : (s : List Component) (text inside : List ℕ)
-      → part edition text ≡ (Some s, 123 ∷ inside) → parts edition text ≡ (s ∷ [], 123 ∷ inside)
+      → part edition text ≡ (Some s, open_brace ∷ inside) → parts edition text ≡ (s ∷ [], open_brace ∷ inside)
   unfolding parts
   parts-again s text inside e =
       let no_comma : part_and_comma edition text ≡ None = rw e refl in
@@ -268,44 +269,44 @@ module _ (edition : Edition) where
       each-none (part_and_comma edition) text no_comma in
       rw (listed, e) refl
 
-  next_block-again : (inside : List ℕ) → next_block edition (123 ∷ inside) ≡ block edition inside
+  next_block-again : (inside : List ℕ) → next_block edition (open_brace ∷ inside) ≡ block edition inside
   unfolding next_block
   next_block-again inside = refl
 
   rule_set-again : (s : List Component) (p : StyleDeclaration) (ps : List StyleDeclaration)
-      (text inside following : List ℕ) → past_byte 44 text ≡ text
-      → reads edition text ≡ (Some s, 123 ∷ inside) → block edition inside ≡ (p ∷ ps, following)
+      (text inside following : List ℕ) → past_byte comma text ≡ text
+      → reads edition text ≡ (Some s, open_brace ∷ inside) → block edition inside ≡ (p ∷ ps, following)
       → rule_set edition text ≡ (record { components = s; declarations = p ∷ ps } ∷ [], following)
   unfolding rule_set
   rule_set-again s p ps text inside following start e b =
-      let head : parts edition (past_byte 44 text) ≡ (s ∷ [], 123 ∷ inside) =
+      let head : parts edition (past_byte comma text) ≡ (s ∷ [], open_brace ∷ inside) =
       ap (parts edition) start
       ∙ parts-again s text inside (part-again s text inside e) in
-      let body : next_block edition (123 ∷ inside) ≡ (p ∷ ps, following) =
+      let body : next_block edition (open_brace ∷ inside) ≡ (p ∷ ps, following) =
       next_block-again inside ∙ b in
       rw (head, body) refl
 
-  statement-again : (text : List ℕ) → starts 64 text ≡ false
+  statement-again : (text : List ℕ) → starts at_sign text ≡ false
       → statement edition text ≡ rule_set edition text
   unfolding statement
   statement-again text e = rw e refl
 
   printed-rule : (s : List Component) (p : StyleDeclaration) (ps : List StyleDeclaration)
-      → IsSelector edition s (123 ∷ []) → is_clean s ≡ true → IsDeclaration edition p
+      → IsSelector edition s (open_brace ∷ []) → is_clean s ≡ true → IsDeclaration edition p
       → AllByRecursion (IsDeclaration edition) ps
       → RuleReadsBack edition (record { components = s; declarations = p ∷ ps })
   printed-rule s p ps w clean wp ws text =
       let rule : StyleRule = record { components = s; declarations = p ∷ ps } in
-      let inside = 32 ∷ (flat_map declaration_text (p ∷ ps) ++ (32 ∷ 125 ∷ text)) in
-      let whole = selector_text s ++ (32 ∷ 123 ∷ inside) in
+      let inside = space ∷ (flat_map declaration_text (p ∷ ps) ++ (space ∷ close_brace ∷ text)) in
+      let whole = selector_text s ++ (space ∷ open_brace ∷ inside) in
       let begins =
-      begins-append (selector_text s) (32 ∷ 123 ∷ inside) (selector-begins s 123 [] w) in
-      let read : reads edition whole ≡ (Some s, 123 ∷ inside) =
-      (selector-reads_back_before edition s 123 [] w inside).1 clean in
+      begins-append (selector_text s) (space ∷ open_brace ∷ inside) (selector-begins s open_brace [] w) in
+      let read : reads edition whole ≡ (Some s, open_brace ∷ inside) =
+      (selector-reads_back_before edition s open_brace [] w inside).1 clean in
       ap (statement edition) (rule-assoc rule text)
-      ∙ statement-again whole (part_starts 64 whole (omega arith) refl refl refl begins)
+      ∙ statement-again whole (part_starts at_sign whole (omega arith) refl refl refl begins)
       ∙ rule_set-again s p ps whole inside text
-      (part_byte 44 whole (omega arith) refl refl refl begins) read (block-again p ps text wp ws)
+      (part_byte comma whole (omega arith) refl refl refl begins) read (block-again p ps text wp ws)
 
   -- A rule that was read from a text without white space past ASCII, and whose selector is clean,
   -- reads back.
@@ -321,7 +322,7 @@ module _ (edition : Edition) where
 
   -- a printed rule begins as a part does
   pub rule-begins : (rule : StyleRule) (text : List ℕ)
-      → IsSelector edition rule.components (123 ∷ []) → BeginsPart edition (rule_text rule ++ text)
+      → IsSelector edition rule.components (open_brace ∷ []) → BeginsPart edition (rule_text rule ++ text)
   rule-begins rule text w =
       subst (BeginsPart edition) (sym (rule-assoc rule text))
-      (begins-append (selector_text rule.components) _ (selector-begins rule.components 123 [] w))
+      (begins-append (selector_text rule.components) _ (selector-begins rule.components open_brace [] w))

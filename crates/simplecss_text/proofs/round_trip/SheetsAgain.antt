@@ -5,6 +5,7 @@ use Rattle.std.proofs.Common.{subst, ◌≡◌, ℕ, List, [], ◌∷◌, ◌++�
 use Rattle.std.proofs.lemmas.Bool.{and_parts}
 use Rattle.std.specs.List.{flat_map, AllByRecursion, All}
 use Rattle.std.proofs.lemmas.List.Elements.{All-push, All-from_recursion, recursion_from_All}
+use Rattle.simplecss_text.specs.AsciiBytes.{newline}
 use Rattle.simplecss_text.specs.Reading.{each, followed_by}
 use Rattle.simplecss_text.specs.Characters.{Edition}
 use Rattle.simplecss_text.specs.Declarations.{StyleDeclaration}
@@ -75,9 +76,9 @@ module _ (edition : Edition) where
       statement-there (rule_text rule ++ text) (rule-begins edition rule text w.0.0.selector)
       ∙ ap (λ (r : List StyleRule × List ℕ). Some r) (rule-reads_back edition rule w.0 w.1 text)
 
-  pub newline-there : (text : List ℕ) → next_statement edition (10 ∷ text) ≡ next_statement edition text
+  pub newline-there : (text : List ℕ) → next_statement edition (newline ∷ text) ≡ next_statement edition text
   newline-there text =
-      ap (λ t. goes_on edition (ends_statements t) t) (past_blank-space 10 text refl)
+      ap (λ t. goes_on edition (ends_statements t) t) (past_blank-space newline text refl)
 
   pub nothing_left : next_statement edition [] ≡ None
   unfolding each
@@ -95,7 +96,7 @@ module _ (edition : Edition) where
       each-some (next_statement edition) (next_statement-takes edition) start [] (rule ∷ []) there
       ∙ ap (followed_by (rule ∷ [])) (each-none (next_statement edition) [] nothing_left)
   statements-again rule (next ∷ rules) start w e =
-      let following = 10 ∷ sheet_text (next ∷ rules) in
+      let following = newline ∷ sheet_text (next ∷ rules) in
       let there : next_statement edition start ≡ Some (rule ∷ [], following) =
       e ∙ rule-there rule following w.0 in
       each-some (next_statement edition) (next_statement-takes edition) start following

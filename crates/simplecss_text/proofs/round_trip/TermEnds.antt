@@ -7,6 +7,7 @@ use Rattle.std.proofs.lemmas.Str.{inside_one, encode_ascii, length-encode, len_u
 use Rattle.std.proofs.lemmas.Bool.{cases_lt, and_parts}
 use Rattle.std.proofs.lemmas.Bool.Decides.{nat_tests}
 use Rattle.std.proofs.lemmas.List.Folds.{list_all-append}
+use Rattle.simplecss_text.specs.AsciiBytes.{asterisk, close_parenthesis, comma, full_stop, hyphen, number_sign, open_parenthesis, percent_sign, slash, space}
 use Rattle.simplecss_text.specs.Reading.{Fault, ended, Reading, got, fails, follow, left_after}
 use Rattle.simplecss_text.specs.Bytes.{past, past_byte, starts, is_digit, after_byte, closed_or}
 use Rattle.simplecss_text.specs.Characters.{Edition, first_edition, second_edition, is_name_char}
@@ -24,7 +25,7 @@ use Rattle.simplecss_text.proofs.bytes.RunLemmas.{past-yes, past-no}
 
 -- a byte that is no white space of ASCII
 abbrev pub is_bare : ℕ → Bool
-is_bare b = not ((nat_lt 8 b && nat_lt b 14) || b == 32)
+is_bare b = not ((nat_lt 8 b && nat_lt b 14) || b == space)
 
 -- Nothing was consumed, or what was consumed ends with such a byte.
 data EndsBare (text rest : List ℕ) : Type 0 where
@@ -103,12 +104,12 @@ quote_bare b e = grind (arith, nat_tests)
 
 bare-decimals : (text : List ℕ) → EndsBare text (past_decimals text)
 bare-decimals [] = nothing refl
-bare-decimals (b ∷ text) = by (b == 46) refl
+bare-decimals (b ∷ text) = by (b == full_stop) refl
   where
-    by : (t : Bool) → (b == 46) ≡ t
+    by : (t : Bool) → (b == full_stop) ≡ t
         → EndsBare (b ∷ text) (if t then past is_digit text else b ∷ text)
     by true e =
-        bare-cons b text (past is_digit text) (ap is_bare (eqb-true b 46 e))
+        bare-cons b text (past is_digit text) (ap is_bare (eqb-true b full_stop e))
         (bare-past is_digit text digit_bare)
     by false e = nothing refl
 
@@ -119,8 +120,8 @@ bare-closed c text fault (Some rest) e h = some h.0 c h.1 e
 
 bare-arguments : (text : List ℕ) → IfGot (λ x rest. EndsBare text rest) (arguments text)
 bare-arguments text =
-    if_got-if (λ x rest. EndsBare text rest) (starts 40 text) _ _
-    (λ e. bare-closed 41 text ended (after_byte 41 text) refl (after_byte-after 41 text))
+    if_got-if (λ x rest. EndsBare text rest) (starts open_parenthesis text) _ _
+    (λ e. bare-closed close_parenthesis text ended (after_byte close_parenthesis text) refl (after_byte-after close_parenthesis text))
     (λ e. nothing refl)
 
 bare-quoted : (quote : ℕ) (text : List ℕ) → is_bare quote ≡ true
@@ -134,14 +135,14 @@ bare-quoted quote text e = by (from_quote quote quote text) (from_quote-closes q
     by (Some closing) c = rw c.closing_is (some c.front quote c.is e)
 
 single_bare : (edition : Edition) (b : ℕ) (text : List ℕ)
-    → (b == 44 || is_slash_term edition b text) ≡ true → is_bare b ≡ true
+    → (b == comma || is_slash_term edition b text) ≡ true → is_bare b ≡ true
 single_bare first_edition b text e = grind (arith, nat_tests)
-single_bare second_edition b text e = by (b == 44) (b == 47) refl refl e
+single_bare second_edition b text e = by (b == comma) (b == slash) refl refl e
   where
-    by : (x y : Bool) → (b == 44) ≡ x → (b == 47) ≡ y → (x || (y && not (starts 42 text))) ≡ true
+    by : (x y : Bool) → (b == comma) ≡ x → (b == slash) ≡ y → (x || (y && not (starts asterisk text))) ≡ true
         → is_bare b ≡ true
-    by true y h k e = ap is_bare (eqb-true b 44 h)
-    by false true h k e = ap is_bare (eqb-true b 47 k)
+    by true y h k e = ap is_bare (eqb-true b comma h)
+    by false true h k e = ap is_bare (eqb-true b slash k)
     by false false h k e = absurd (cc)
 
 -- the byte that begins one
@@ -196,15 +197,15 @@ module _ (edition : Edition) where
       (bare-all n rest (name-bare text n rest read))
   bare-name text u (fails fault rest) e =
       subst (EndsBare text) (sym (name-fails edition text rest fault e).1)
-      (bare-past_byte 45 text refl)
+      (bare-past_byte hyphen text refl)
 
   bare-unit : (text : List ℕ) → IsUtf8 text → EndsBare text (past_unit edition text)
   bare-unit [] u = bare-name [] u (name edition []) refl
-  bare-unit (b ∷ text) u = by (b == 37) refl
+  bare-unit (b ∷ text) u = by (b == percent_sign) refl
     where
-      by : (t : Bool) → (b == 37) ≡ t
+      by : (t : Bool) → (b == percent_sign) ≡ t
           → EndsBare (b ∷ text) (if t then text else left_after (name edition (b ∷ text)))
-      by true e = bare-cons b text text (ap is_bare (eqb-true b 37 e)) (nothing refl)
+      by true e = bare-cons b text text (ap is_bare (eqb-true b percent_sign e)) (nothing refl)
       by false e = bare-name (b ∷ text) u (name edition (b ∷ text)) refl
 
   bare-number : (text : List ℕ) → IsUtf8 text → EndsBare text (past_number edition text)
@@ -240,9 +241,9 @@ module _ (edition : Edition) where
   bare-term [] u = tt
   bare-term (b ∷ text) u =
       let P : Unit {0} → List ℕ → Type 0 = λ x rest. EndsBare (b ∷ text) rest in
-      if_got-if P (b == 35) _ _
-      (λ e. bare-cons b text _ (ap is_bare (eqb-true b 35 e)) (bare-hash text
-      (utf8-past_byte b text (let hash = eqb-true b 35 e in omega arith) u) (name edition text)
+      if_got-if P (b == number_sign) _ _
+      (λ e. bare-cons b text _ (ap is_bare (eqb-true b number_sign e)) (bare-hash text
+      (utf8-past_byte b text (let hash = eqb-true b number_sign e in omega arith) u) (name edition text)
       refl))
       (λ e0. if_got-if P (begins_number b) _ _
       (λ e. bare-cons b text _ (number_bare b e)
@@ -250,7 +251,7 @@ module _ (edition : Edition) where
       (λ e1. if_got-if P (is_quote b) _ _
       (λ e. if_got-weaker (λ x rest. EndsBare text rest) P _
       (λ x rest h. bare-cons b text rest (quote_bare b e) h) (bare-quoted b text (quote_bare b e)))
-      (λ e2. if_got-if P (b == 44 || is_slash_term edition b text) _ _
+      (λ e2. if_got-if P (b == comma || is_slash_term edition b text) _ _
       (λ e. bare-cons b text text (single_bare edition b text e) (nothing refl))
       (λ e3. bare-word (b ∷ text) u))))
 
@@ -312,10 +313,10 @@ module _ (edition : Edition) where
   term-begins_bare [] u = tt
   term-begins_bare (b ∷ text) u =
       let P : Unit {0} → List ℕ → Type 0 = λ x rest. is_bare b ≡ true in
-      if_got-if P (b == 35) _ _ (λ e. ap is_bare (eqb-true b 35 e))
+      if_got-if P (b == number_sign) _ _ (λ e. ap is_bare (eqb-true b number_sign e))
       (λ e0. if_got-if P (begins_number b) _ _ (λ e. number_bare b e)
       (λ e1. if_got-if P (is_quote b) _ _
       (λ e. if_got P (quoted b text) (λ x rest f. quote_bare b e))
-      (λ e2. if_got-if P (b == 44 || is_slash_term edition b text) _ _
+      (λ e2. if_got-if P (b == comma || is_slash_term edition b text) _ _
       (λ e. single_bare edition b text e)
       (λ e3. word-begins_bare (b ∷ text) u))))

@@ -3,6 +3,7 @@
 -- again).
 use Rattle.std.proofs.Common.{◌≡◌, ℕ, List, Bool, true, codes, bytes_eq, ◌==◌, length, ap, ◌∙◌, refl}
 use Rattle.std.specs.Str.{trim}
+use Rattle.simplecss_text.specs.AsciiBytes.{close_bracket, close_parenthesis, open_parenthesis}
 use Rattle.simplecss_text.specs.Reading.{Reading, Reader, got, follow}
 use Rattle.simplecss_text.specs.Bytes.{byte, all_before, past_one}
 use Rattle.simplecss_text.specs.Characters.{Edition}
@@ -44,9 +45,9 @@ following kind r next h = if_got-follow (λ x rest. Unit {0}) (OfKind kind) _ _
 lang_after-kind : (text : List ℕ) → IfGot (OfKind Colon) (lang_after text)
 unfolding lang_after
 lang_after-kind text =
-    following Colon (byte 40 text) _ (λ u rest.
-    following Colon (all_before 41 rest) _ (λ value next.
-    following Colon (byte 41 next) (λ u. lang_of (trim value)) (λ u last.
+    following Colon (byte open_parenthesis text) _ (λ u rest.
+    following Colon (all_before close_parenthesis rest) _ (λ value next.
+    following Colon (byte close_parenthesis next) (λ u. lang_of (trim value)) (λ u last.
     if_got-if (OfKind Colon) (length (trim value) == 0) _ _ (λ e. tt) (λ e. refl))))
 
 module _ (edition : Edition) where
@@ -62,7 +63,7 @@ module _ (edition : Edition) where
   attribute_after-kind text =
       following Attribute (name edition text) _ (λ n rest.
       following Attribute (attribute_operator edition rest) _ (λ operator next.
-      following Attribute (byte 93 next) (λ u. got (attribute_selector n operator))
+      following Attribute (byte close_bracket next) (λ u. got (attribute_selector n operator))
       (λ u last. refl)))
 
   pseudo_class_after-kind : (text : List ℕ) → IfGot (OfKind Colon) (pseudo_class_after edition text)

@@ -4,6 +4,7 @@
 use Rattle.std.proofs.Common.{◌≡◌, ℕ, ◌⊎◌, inl, inr, List, [], ◌∷◌, ◌++◌, Bool, true, false, ◌&&◌, map, length, length-append, refl, sym, ap, ◌∙◌, subst, append_assoc, arith, Option, Some, None}
 use Rattle.std.proofs.lemmas.Bool.{and_cases}
 use Rattle.std.specs.List.{list_all, flat_map}
+use Rattle.simplecss_text.specs.AsciiBytes.{close_bracket, equals_sign, open_bracket, single_quote}
 use Rattle.simplecss_text.specs.Reading.{Reading, got, fails, follow}
 use Rattle.simplecss_text.specs.Bytes.{byte}
 use Rattle.simplecss_text.specs.declared.next_kind.NextKind.TheVariants.{Attribute}
@@ -30,13 +31,13 @@ use Rattle.simplecss_text.proofs.bytes.GapLemmas.{gap-none}
 use Rattle.simplecss_text.proofs.round_trip.PrintedHeads.{head_part}
 use Rattle.simplecss_text.proofs.round_trip.PrintedSelectors.{subselector-no_gap, subselector-sequence, EachIs, compound-no_gap, compound-outcome, joined-ends, joined-outcome, subselectors-end, compound_text, is_clean_compound, joined_text, component-assoc, EachJoined, IsSelector}
 
-longer : (v front more : List ℕ) → v ≡ front ++ (39 ∷ more) → front ≡ v → ⊥
+longer : (v front more : List ℕ) → v ≡ front ++ (single_quote ∷ more) → front ≡ v → ⊥
 longer v front more e same = omega (
   arith,
   ap length e,
   ap length same,
   length-append front
-      (39 ∷ more),
+      (single_quote ∷ more),
 )
 
 value_of : Operator → List ℕ
@@ -50,7 +51,7 @@ record OtherOperator (edition : Edition) (o : Operator) (tail : List ℕ) : Type
   pub other : Operator
   pub rest : List ℕ
   pub differs : other ≡ o → ⊥
-  pub reads : attribute_operator edition (operator_text o ++ (93 ∷ tail)) ≡ got other rest
+  pub reads : attribute_operator edition (operator_text o ++ (close_bracket ∷ tail)) ≡ got other rest
 
 -- The outcome after a simple piece has other subselectors or other components than these, or
 -- none.
@@ -94,7 +95,7 @@ differs-joined_by (accepted roles left) j None ss c cs h = λ e f. h (ap (first_
 differs-joined_by (accepted roles left) j (Some n) ss c cs h = λ e f. h (ap (first_subselectors []) f)
     (ap tail_of f)
 
-attribute-kind : (text more : List ℕ) → text ≡ 91 ∷ more → next_kind text ≡ Attribute
+attribute-kind : (text more : List ℕ) → text ≡ open_bracket ∷ more → next_kind text ≡ Attribute
 unfolding next_kind
 attribute-kind text more is = ap next_kind is
 
@@ -126,9 +127,9 @@ differs-selector (accepted roles left) (Some n) c cs d e = d
 
 module _ (edition : Edition) where
   equated-cut : (operator : List ℕ → Operator) (v front more tail : List ℕ)
-      → string_or_name edition (39 ∷ (v ++ (39 ∷ 93 ∷ tail))) ≡ got front (more ++ (39 ∷ 93 ∷ tail))
-      → equated edition operator (61 ∷ (39 ∷ ((v ++ (39 ∷ [])) ++ (93 ∷ tail))))
-      ≡ got (operator front) (more ++ (39 ∷ 93 ∷ tail))
+      → string_or_name edition (single_quote ∷ (v ++ (single_quote ∷ close_bracket ∷ tail))) ≡ got front (more ++ (single_quote ∷ close_bracket ∷ tail))
+      → equated edition operator (equals_sign ∷ (single_quote ∷ ((v ++ (single_quote ∷ [])) ++ (close_bracket ∷ tail))))
+      ≡ got (operator front) (more ++ (single_quote ∷ close_bracket ∷ tail))
   equated-cut operator v front more tail e = rw (quoted v tail, e) refl
 
   -- one that is not clean is cut short
@@ -137,28 +138,28 @@ module _ (edition : Edition) where
   unfolding attribute_operator value_of
   operator-cut exists tail c = absurd (cc)
   operator-cut (equals v) tail c =
-      let s = string-cut edition v (39 ∷ 93 ∷ tail) c in
+      let s = string-cut edition v (single_quote ∷ close_bracket ∷ tail) c in
       record {
         other = equals s.0;
-        rest = s.1 ++ (39 ∷ 93 ∷ tail);
+        rest = s.1 ++ (single_quote ∷ close_bracket ∷ tail);
         differs = λ e. longer v s.0 s.1
             s.2 (ap value_of e);
         reads = equated-cut equals v s.0 s.1 tail s.3;
       }
   operator-cut (has_word v) tail c =
-      let s = string-cut edition v (39 ∷ 93 ∷ tail) c in
+      let s = string-cut edition v (single_quote ∷ close_bracket ∷ tail) c in
       record {
         other = has_word s.0;
-        rest = s.1 ++ (39 ∷ 93 ∷ tail);
+        rest = s.1 ++ (single_quote ∷ close_bracket ∷ tail);
         differs = λ e. longer v s.0 s.1
             s.2 (ap value_of e);
         reads = equated-cut has_word v s.0 s.1 tail s.3;
       }
   operator-cut (begins_with v) tail c =
-      let s = string-cut edition v (39 ∷ 93 ∷ tail) c in
+      let s = string-cut edition v (single_quote ∷ close_bracket ∷ tail) c in
       record {
         other = begins_with s.0;
-        rest = s.1 ++ (39 ∷ 93 ∷ tail);
+        rest = s.1 ++ (single_quote ∷ close_bracket ∷ tail);
         differs = λ e. longer v s.0
             s.1 s.2 (ap value_of e);
         reads = equated-cut begins_with v s.0 s.1 tail s.3;
@@ -166,21 +167,21 @@ module _ (edition : Edition) where
 
   attribute-cut : (n : List ℕ) (o : Operator) (tail : List ℕ) → IsName edition n
       → (x : OtherOperator edition o tail)
-      → attribute_after edition (n ++ (operator_text o ++ (93 ∷ tail)))
-      ≡ follow (byte 93 x.rest) (λ u. got (attribute_selector n x.other))
+      → attribute_after edition (n ++ (operator_text o ++ (close_bracket ∷ tail)))
+      ≡ follow (byte close_bracket x.rest) (λ u. got (attribute_selector n x.other))
   unfolding attribute_after
   attribute-cut n o tail w x =
-      let first = name-reads edition n (operator_text o ++ (93 ∷ tail)) w
+      let first = name-reads edition n (operator_text o ++ (close_bracket ∷ tail)) w
       (operator-ends edition o tail) in
       let second = x.reads in
       rw (first, second) refl
 
   -- an attribute that is not clean
   other-sequence : (n : List ℕ) (p o : Operator) (rest text more : List ℕ) (ss : List Subselector)
-      (cs : List Component) → (p ≡ o → ⊥) → text ≡ 91 ∷ more → gap text ≡ got false text
-      → solid edition text ≡ follow (byte 93 rest) (λ u. got (attribute_selector n p))
+      (cs : List Component) → (p ≡ o → ⊥) → text ≡ open_bracket ∷ more → gap text ≡ got false text
+      → solid edition text ≡ follow (byte close_bracket rest) (λ u. got (attribute_selector n p))
       → Differs (outcome (sequence_from edition closed_side text)) (attribute n o ∷ ss) cs
-  other-sequence n p o rest text more ss cs differs is g s = by (byte 93 rest) s
+  other-sequence n p o rest text more ss cs differs is g s = by (byte close_bracket rest) s
     where
       operator_in : Subselector → Operator
       operator_in (attribute m q) = q
@@ -209,7 +210,7 @@ module _ (edition : Edition) where
       cs
   unclean-differs (attribute n o) ss tail cs w c =
       let x = operator-cut o tail c in
-      let more = ((n ++ operator_text o) ++ (93 ∷ [])) ++ tail in
+      let more = ((n ++ operator_text o) ++ (close_bracket ∷ [])) ++ tail in
       other-sequence n x.other o x.rest (subselector_text (attribute n o) ++ tail) more ss cs
       x.differs refl (gap-none (subselector_text (attribute n o) ++ tail) (subselector-no_gap
       (attribute n o) tail))

@@ -6,6 +6,7 @@ use Rattle.std.proofs.lemmas.Bool.{or_parts}
 use Rattle.std.specs.Str.{chars, trim}
 use Rattle.std.specs.List.{list_any}
 use Rattle.std.proofs.lemmas.Str.{IsUtf8-append, chars-append}
+use Rattle.simplecss_text.specs.AsciiBytes.{asterisk, slash}
 use Rattle.simplecss_text.specs.Reading.{Fault, Reading, got, fails, left_after, before, followed_by, Ends}
 use Rattle.simplecss_text.specs.Bytes.{past_one, starts}
 use Rattle.simplecss_text.specs.Characters.{Edition, first_edition, second_edition}
@@ -37,12 +38,12 @@ pub data Valued (edition : Edition) (r : List ℕ) : List ℕ → Type 0 where
       → Valued edition r (past_blank rest) → Valued edition r text
 
 comment_term : (edition : Edition) (text rest : List ℕ) (x : Unit {0})
-    → term edition (47 ∷ 42 ∷ text) ≡ got x rest → ⊥
+    → term edition (slash ∷ asterisk ∷ text) ≡ got x rest → ⊥
 unfolding term
 comment_term first_edition text rest x e =
-    absurd (let none_there = sym (slash_word first_edition (42 ∷ text)) ∙ e in cc)
+    absurd (let none_there = sym (slash_word first_edition (asterisk ∷ text)) ∙ e in cc)
 comment_term second_edition text rest x e =
-    absurd (let none_there = sym (slash_word second_edition (42 ∷ text)) ∙ e in cc)
+    absurd (let none_there = sym (slash_word second_edition (asterisk ∷ text)) ∙ e in cc)
 
 -- the terms that were read end somewhere
 abbrev pub TermsEnd : Edition → List ℕ → Type 0
@@ -106,8 +107,8 @@ module _ (edition : Edition) where
       by false h = refl
       by true h =
           let two = opens_comment-two b text h in
-          let whole : b ∷ text ≡ 47 ∷ 42 ∷ past_one text =
-          ap (λ k. k ∷ text) two.0 ∙ ap (λ l. 47 ∷ l) two.1 in
+          let whole : b ∷ text ≡ slash ∷ asterisk ∷ past_one text =
+          ap (λ k. k ∷ text) two.0 ∙ ap (λ l. slash ∷ l) two.1 in
           absurd (comment_term edition (past_one text) rest x (ap (term edition) (sym whole) ∙ e))
 
   -- no comment opens where terms begin
@@ -148,7 +149,7 @@ module _ (edition : Edition) where
       let found =
       term-again r q tail text other rest x quiet v u h e
       (omega (arith, less, length-past_blank rest)) in
-      let star : starts 42 (q ∷ tail) ≡ false = quiet.no_star in
+      let star : starts asterisk (q ∷ tail) ≡ false = quiet.no_star in
       let following =
       past_blank-alike r (q ∷ tail) star rest found.0 found.2 less
       (valued-closed r (past_blank rest) w) in

@@ -1,6 +1,7 @@
 -- Every byte of a text is accounted for.
 -- Serves `laws::nothing_is_lost`.
 use Rattle.std.proofs.Common.{◌≡◌, ◌≤◌, ◌<◌, ◌⊎◌, ℕ, zero, suc, Bool, true, false, if◌then◌else◌, List, [], ◌∷◌, ap, arith, length, refl, sym, Option, Some, None, inl, inr}
+use Rattle.simplecss_text.specs.AsciiBytes.{at_sign, comma}
 use Rattle.simplecss_text.specs.Bytes.{past_byte, past_one, starts}
 use Rattle.simplecss_text.specs.Characters.{Edition}
 use Rattle.simplecss_text.specs.Comments.{opens_comment, past_blank}
@@ -29,12 +30,12 @@ record StatementCut (edition : Edition) (text : List ℕ) : Type 0 where
 
 statement-cut : (edition : Edition) (text : List ℕ) → StatementCut edition text
 unfolding statement statement_skips rule_set
-statement-cut edition text = by (starts 64 text) refl
+statement-cut edition text = by (starts at_sign text) refl
   where
     after : List ℕ
     after = at_rule_rest edition (past_one text)
 
-    by : (k : Bool) → starts 64 text ≡ k → StatementCut edition text
+    by : (k : Bool) → starts at_sign text ≡ k → StatementCut edition text
     by true e = record {
       selectors = [];
       declared = [];
@@ -45,8 +46,8 @@ statement-cut edition text = by (starts 64 text) refl
       explained = rw e tt;
     }
     by false e = record {
-      selectors = (parts edition (past_byte 44 text)).0;
-      declared = (next_block edition (parts edition (past_byte 44 text)).1).0;
+      selectors = (parts edition (past_byte comma text)).0;
+      declared = (next_block edition (parts edition (past_byte comma text)).1).0;
       cut = rw e (rule_set-cut edition text);
       rules = rw e refl;
       explained = rw e (rule_set-explained edition text);

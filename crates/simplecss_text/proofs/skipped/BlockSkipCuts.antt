@@ -2,6 +2,7 @@
 -- Serves `laws::skips_are_cut` (what is skipped of a text in pieces).
 use Rattle.std.proofs.Common.{◌≡◌, ◌≤◌, ◌<◌, ◌⊎◌, ℕ, Bool, true, false, if◌then◌else◌, ◌==◌, List, [], ◌∷◌, ◌++◌, ap, ◌∙◌, arith, inl, inr, length, map, refl, sym, IsUtf8, None}
 use Rattle.std.proofs.lemmas.List.{map-append}
+use Rattle.simplecss_text.specs.AsciiBytes.{close_brace}
 use Rattle.simplecss_text.specs.Reading.{Reading, got, fails, each, found, left_after}
 use Rattle.simplecss_text.specs.Bytes.{past_byte, starts}
 use Rattle.simplecss_text.specs.Characters.{Edition}
@@ -43,12 +44,12 @@ declaration-after_blank edition text = by (opens_comment (past_blank text)) refl
         rw same less
 
 -- a further brace
-brace_skips-same : (u v r s : List ℕ) → Exact 125 (u ++ v) u r s
-    → (length (past_byte 125 r) < length (u ++ v))
+brace_skips-same : (u v r s : List ℕ) → Exact close_brace (u ++ v) u r s
+    → (length (past_byte close_brace r) < length (u ++ v))
     ⊎ (brace_skips r ≡ map (skip_before v) (brace_skips s))
 brace_skips-same u v r s (before_it a b at) = inr refl
 brace_skips-same u v r s (before_it a b (on c x y h)) =
-    inr (by (c == 125) (diverge-append 125 u v x y h))
+    inr (by (c == close_brace) (diverge-append close_brace u v x y h))
   where
     by : (k : Bool) → x ≡ y ++ v
         → (if k then record { from = c ∷ x; after = x; why = extra_brace } ∷ [] else [])
@@ -56,21 +57,21 @@ brace_skips-same u v r s (before_it a b (on c x y h)) =
         (if k then record { from = c ∷ y; after = y; why = extra_brace } ∷ [] else [])
     by true e = rw e refl
     by false e = refl
-brace_skips-same u v r s after_it = by (starts 125 (u ++ v)) refl
+brace_skips-same u v r s after_it = by (starts close_brace (u ++ v)) refl
   where
-    none : (u : List ℕ) → starts 125 (u ++ v) ≡ false → brace_skips u ≡ []
+    none : (u : List ℕ) → starts close_brace (u ++ v) ≡ false → brace_skips u ≡ []
     none [] e = refl
     none (b ∷ u) e = rw e refl
 
-    by : (k : Bool) → starts 125 (u ++ v) ≡ k
-        → (length (past_byte 125 (u ++ v)) < length (u ++ v))
+    by : (k : Bool) → starts close_brace (u ++ v) ≡ k
+        → (length (past_byte close_brace (u ++ v)) < length (u ++ v))
         ⊎ (brace_skips (u ++ v) ≡ map (skip_before v) (brace_skips u))
     by true e = inl (less_of_brace (u ++ v) e)
     by false e = inr (rw (e, none u e) refl)
 
 -- what is in place of a declaration
-list_end_skips-same : (u v p q x y : List ℕ) → Diverge (125 ∷ (u ++ v)) (125 ∷ u) p q
-    → Diverge (125 ∷ (u ++ v)) (125 ∷ u) x y
+list_end_skips-same : (u v p q x y : List ℕ) → Diverge (close_brace ∷ (u ++ v)) (close_brace ∷ u) p q
+    → Diverge (close_brace ∷ (u ++ v)) (close_brace ∷ u) x y
     → (if ends_list p then [] else record {
       from = p;
       after = x;
@@ -82,8 +83,8 @@ list_end_skips-same : (u v p q x y : List ℕ) → Diverge (125 ∷ (u ++ v)) (1
     } ∷ [])
 list_end_skips-same u v p q x y h k =
     by (ends_list p) (ends_list q) (opens_comment p) (opens_comment q)
-    (ends_list-diverge (u ++ v) u p q h) (opens_comment-diverge 125 (u ++ v) u brace_plain p q h)
-    (diverge-append 125 u v p q h) (diverge-append 125 u v x y k)
+    (ends_list-diverge (u ++ v) u p q h) (opens_comment-diverge close_brace (u ++ v) u brace_plain p q h)
+    (diverge-append close_brace u v p q h) (diverge-append close_brace u v x y k)
   where
     by : (i j c d : Bool) → i ≡ j → c ≡ d → p ≡ q ++ v → x ≡ y ++ v
         → (if i then [] else record {
@@ -105,10 +106,10 @@ list_end_skips-same u v p q x y h k =
 
 -- a broken declaration in the text a, and in b
 broken-same : (u v a b : List ℕ) (d e : Reading StyleDeclaration) → found d ≡ None
-    → Guard Equal true (125 ∷ (u ++ v)) (125 ∷ u) d e
+    → Guard Equal true (close_brace ∷ (u ++ v)) (close_brace ∷ u) d e
     → length (left_after d) ≤ length (past_blank a)
-    → Diverge (125 ∷ (u ++ v)) (125 ∷ u) a b
-    → Lost (u ++ v) (past_byte 125 (past_broken d))
+    → Diverge (close_brace ∷ (u ++ v)) (close_brace ∷ u) a b
+    → Lost (u ++ v) (past_byte close_brace (past_broken d))
     ⊎ (if_broken a d ≡ map (skip_before v) (if_broken b e))
 broken-same u v a b d e n (inl l) less h =
     inl (brace-lost (u ++ v) (past_broken d) (stuck-lost (u ++ v) d n l))
@@ -124,42 +125,42 @@ broken-same u v a b (fails f r) (fails g s) n (inr k) less h = by (from_block_en
 
     Same : Type 0
     Same =
-        Lost (u ++ v) (past_byte 125 (past_byte 125 x))
-        ⊎ (list_end_skips a x ++ brace_skips (past_byte 125 x)
-        ≡ map (skip_before v) (list_end_skips b y ++ brace_skips (past_byte 125 y)))
+        Lost (u ++ v) (past_byte close_brace (past_byte close_brace x))
+        ⊎ (list_end_skips a x ++ brace_skips (past_byte close_brace x)
+        ≡ map (skip_before v) (list_end_skips b y ++ brace_skips (past_byte close_brace y)))
 
     both : list_end_skips a x ≡ map (skip_before v) (list_end_skips b y)
-        → (length (past_byte 125 (past_byte 125 x)) < length (u ++ v))
-        ⊎ (brace_skips (past_byte 125 x) ≡ map (skip_before v) (brace_skips (past_byte 125 y)))
+        → (length (past_byte close_brace (past_byte close_brace x)) < length (u ++ v))
+        ⊎ (brace_skips (past_byte close_brace x) ≡ map (skip_before v) (brace_skips (past_byte close_brace y)))
         → Same
     both one (inl l) = inl (inl l)
     both one (inr two) =
         inr (rw (one, two)
-        (sym (map-append (skip_before v) (list_end_skips b y) (brace_skips (past_byte 125 y)))))
+        (sym (map-append (skip_before v) (list_end_skips b y) (brace_skips (past_byte close_brace y)))))
 
-    ended : Diverge (125 ∷ (u ++ v)) (125 ∷ u) x y
-        → To true (125 ∷ (u ++ v)) (125 ∷ u) (past_blank a) (past_blank b)
+    ended : Diverge (close_brace ∷ (u ++ v)) (close_brace ∷ u) x y
+        → To true (close_brace ∷ (u ++ v)) (close_brace ∷ u) (past_blank a) (past_blank b)
         → list_end_skips a x ≡ map (skip_before v) (list_end_skips b y)
     ended i (inl l) =
         absurd (omega (arith, l, less, length-from_block_end r, longer-diverge _ _ x y i))
     ended i (inr j) = list_end_skips-same u v (past_blank a) (past_blank b) x y j i
 
-    by : To true (125 ∷ (u ++ v)) (125 ∷ u) x y → Same
+    by : To true (close_brace ∷ (u ++ v)) (close_brace ∷ u) x y → Same
     by (inl l) =
-        inl (brace-lost (u ++ v) (past_byte 125 x) (taken-lost (u ++ v) x (at_brace r) l))
+        inl (brace-lost (u ++ v) (past_byte close_brace x) (taken-lost (u ++ v) x (at_brace r) l))
     by (inr i) =
-        both (ended i (past_blank-to 125 u v brace_plain a b h))
-        (brace_skips-same u v (past_byte 125 x) (past_byte 125 y)
+        both (ended i (past_blank-to close_brace u v brace_plain a b h))
+        (brace_skips-same u v (past_byte close_brace x) (past_byte close_brace y)
         (past_brace-exact (u ++ v) u x y i))
 
 -- some text is left on both sides
-diverge-some : (t u r s : List ℕ) → Diverge (125 ∷ t) (125 ∷ u) r s
+diverge-some : (t u r s : List ℕ) → Diverge (close_brace ∷ t) (close_brace ∷ u) r s
     → (0 < length r) × (0 < length s)
 diverge-some t u r s at = (omega arith, omega arith)
 diverge-some t u r s (on b r1 s1 h) = (omega arith, omega arith)
 
 pub block_skips-same : (edition : Edition) (u v r s : List ℕ) → IsUtf8 r
-    → Diverge (125 ∷ (u ++ v)) (125 ∷ u) r s
+    → Diverge (close_brace ∷ (u ++ v)) (close_brace ∷ u) r s
     → Lost (u ++ v) (block edition r).1
     ⊎ (block_skips edition r ≡ map (skip_before v) (block_skips edition s))
 unfolding block
@@ -172,13 +173,13 @@ block_skips-same edition u v r s w h =
   where
     Same : List ℕ → Type 0
     Same a =
-        Lost (u ++ v) (past_byte 125 (past_list edition a))
+        Lost (u ++ v) (past_byte close_brace (past_list edition a))
         ⊎ (block_skips edition r ≡ map (skip_before v) (block_skips edition s))
 
     ends : (a b : List ℕ) → declaration_in_block edition a ≡ None → IsUtf8 a
-        → Diverge (125 ∷ (u ++ v)) (125 ∷ u) a b → (i j : Bool) → ends_list a ≡ i → i ≡ j
+        → Diverge (close_brace ∷ (u ++ v)) (close_brace ∷ u) a b → (i j : Bool) → ends_list a ≡ i → i ≡ j
         → Lost (u ++ v)
-        (past_byte 125 (if i then a else past_broken (declaration edition a)))
+        (past_byte close_brace (if i then a else past_broken (declaration edition a)))
         ⊎ ((if i then [] else if_broken a (declaration edition a))
         ≡ map (skip_before v) (if j then [] else if_broken b (declaration edition b)))
     ends a b n z k true true e f = inr refl
@@ -192,7 +193,7 @@ block_skips-same edition u v r s w h =
 
     both : (a b : List ℕ) → block_skips edition r ≡ list_skips edition a
         → block_skips edition s ≡ list_skips edition b
-        → Lost (u ++ v) (past_byte 125 (past_list edition a))
+        → Lost (u ++ v) (past_byte close_brace (past_list edition a))
         ⊎ (list_skips edition a ≡ map (skip_before v) (list_skips edition b)) → Same a
     both a b x y (inl lost) = inl lost
     both a b x y (inr same) = inr (x ∙ same ∙ ap (map (skip_before v)) (sym y))
@@ -200,7 +201,7 @@ block_skips-same edition u v r s w h =
     by : (a b : List StyleDeclaration × List ℕ) → declaration_in_block edition a.1 ≡ None
         → IsUtf8 a.1 → (0 < length a.1 → block_skips edition r ≡ list_skips edition a.1)
         → (0 < length b.1 → block_skips edition s ≡ list_skips edition b.1)
-        → Repeats Equal (DeclarationPasses edition (u ++ v)) 125 (u ++ v) u a b → Same a.1
+        → Repeats Equal (DeclarationPasses edition (u ++ v)) close_brace (u ++ v) u a b → Same a.1
     by a b n z x y (inl l) = inl (list-lost edition (u ++ v) a.1 l)
     by a b n z x y (inr (inl (passes e l))) =
         inl (rw e

@@ -3,6 +3,7 @@
 use Rattle.std.proofs.Common.{◌≡◌, ◌⊎◌, ◌≤◌, ◌<◌, ℕ, zero, suc, Bool, true, false, not, if◌then◌else◌, ◌==◌, List, [], ◌∷◌, ◌++◌, ap, append-nil, arith, drop, eqb-true, inl, inr, length, refl, subst, sym, ◌∙◌, Option, Some, None}
 use Rattle.std.specs.List.{filter_map}
 use Rattle.std.specs.Str.{chars}
+use Rattle.simplecss_text.specs.AsciiBytes.{close_brace, comma, open_brace}
 use Rattle.simplecss_text.specs.Reading.{Ends, Fault, Reading, before, got, fails, each, found, left_after, no_name}
 use Rattle.simplecss_text.specs.Bytes.{past, past_byte, past_one, starts}
 use Rattle.simplecss_text.specs.Characters.{Edition, is_space}
@@ -41,7 +42,7 @@ chosen-cons : (o : Option (List Component)) (l : List (Option (List Component)))
 chosen-cons None l = refl
 chosen-cons (Some s) l = refl
 
-parts-chosen : (edition : Edition) (text : List ℕ) → starts 44 (part edition text).1 ≡ true
+parts-chosen : (edition : Edition) (text : List ℕ) → starts comma (part edition text).1 ≡ true
     → (parts edition text).0
     ≡ listed (part edition text).0 ++ (parts edition (past_one (part edition text).1)).0
 unfolding parts
@@ -55,7 +56,7 @@ parts-chosen edition text e =
     (part edition text).0 read)
     ∙ chosen-cons (part edition text).0 (more.0 ++ (part edition more.1).0 ∷ [])
 
-parts-chosen_last : (edition : Edition) (text : List ℕ) → starts 44 (part edition text).1 ≡ false
+parts-chosen_last : (edition : Edition) (text : List ℕ) → starts comma (part edition text).1 ≡ false
     → (parts edition text).0 ≡ listed (part edition text).0
 unfolding parts
 parts-chosen_last edition text e =
@@ -72,9 +73,9 @@ PartsCut edition text =
     (parts_skips edition text)
 
 parts-step : (edition : Edition) (text : List ℕ)
-    → (starts 44 (part edition text).1 ≡ true → PartsCut edition (past_one (part edition text).1))
+    → (starts comma (part edition text).1 ≡ true → PartsCut edition (past_one (part edition text).1))
     → PartsCut edition text
-parts-step edition text more = by (starts 44 x) refl
+parts-step edition text more = by (starts comma x) refl
   where
     x : List ℕ
     x = (part edition text).1
@@ -82,20 +83,20 @@ parts-step edition text more = by (starts 44 x) refl
     rest : List ℕ
     rest = past_one x
 
-    first : (k : Bool) → starts 44 x ≡ k
+    first : (k : Bool) → starts comma x ≡ k
         → IsCutUp edition (if k then x else from_brace x) text (listed (part edition text).0) []
         (part_skips edition text)
     first k e =
         subst (λ (k : Bool). IsCutUp edition (if k then x else from_brace x) text
         (listed (part edition text).0) [] (part_skips edition text)) e (part-cut edition text)
 
-    by : (k : Bool) → starts 44 x ≡ k → PartsCut edition text
+    by : (k : Bool) → starts comma x ≡ k → PartsCut edition text
     by true e =
         let marked : IsCutUp edition (from_brace (parts edition rest).1) x (parts edition rest).0
         [] (parts_skips edition rest) =
         subst (λ (t : List ℕ). IsCutUp edition (from_brace (parts edition rest).1) t
-        (parts edition rest).0 [] (parts_skips edition rest)) (sym (starts-cons 44 x e))
-        (mark_then 44 rest (parts edition rest).0 [] (parts_skips edition rest) refl (more e)) in
+        (parts edition rest).0 [] (parts_skips edition rest)) (sym (starts-cons comma x e))
+        (mark_then comma rest (parts edition rest).0 [] (parts_skips edition rest) refl (more e)) in
         rw (
           parts-some edition text e,
           parts-chosen edition text e,
@@ -110,7 +111,7 @@ parts-step edition text more = by (starts 44 x) refl
           parts_skips-last edition text x refl e,
         ) (first false e)
 
-comma-less : (edition : Edition) (text : List ℕ) → starts 44 (part edition text).1 ≡ true
+comma-less : (edition : Edition) (text : List ℕ) → starts comma (part edition text).1 ≡ true
     → length (past_one (part edition text).1) < length text
 comma-less edition text e =
     took (part_and_comma edition) (part_and_comma-takes edition) text
@@ -127,11 +128,11 @@ parts-cut edition (suc n) text l =
 -- ---- blocks
 
 -- the text ends, or its first byte is a closing brace: so does the block
-block_end-here : (t : List ℕ) → from_block_end (125 ∷ t) ≡ 125 ∷ t
+block_end-here : (t : List ℕ) → from_block_end (close_brace ∷ t) ≡ close_brace ∷ t
 unfolding block_end
 block_end-here t =
-    ap (λ (n : ℕ). drop n (125 ∷ t))
-    (least-is (closes_block (125 ∷ t)) (length (125 ∷ t)) 0 (omega arith) refl
+    ap (λ (n : ℕ). drop n (close_brace ∷ t))
+    (least-is (closes_block (close_brace ∷ t)) (length (close_brace ∷ t)) 0 (omega arith) refl
     (λ j l. absurd (omega arith)))
 
 block_end-nil : from_block_end [] ≡ []
@@ -143,9 +144,9 @@ at_end : (start : List ℕ) → ends_list start ≡ true → from_block_end star
 at_end [] e = block_end-nil
 at_end (b ∷ t) e = by b (rw (not_empty b t) at e)
   where
-    by : (b : ℕ) → (b == 125) ≡ true → from_block_end (b ∷ t) ≡ b ∷ t
+    by : (b : ℕ) → (b == close_brace) ≡ true → from_block_end (b ∷ t) ≡ b ∷ t
     by b f =
-        let is : b ≡ 125 = eqb-true b 125 f in
+        let is : b ≡ close_brace = eqb-true b close_brace f in
         subst (λ (c : ℕ). from_block_end (c ∷ t) ≡ c ∷ t) (sym is) (block_end-here t)
 
 -- where the list of declarations ends after a blank, none is read
@@ -157,13 +158,13 @@ declaration-ended edition text [] e ends =
     rw (e, none) refl
 declaration-ended edition text (b ∷ t) e ends = by b (rw (not_empty b t) at ends) e
   where
-    by : (b : ℕ) → (b == 125) ≡ true → past_blank text ≡ b ∷ t
+    by : (b : ℕ) → (b == close_brace) ≡ true → past_blank text ≡ b ∷ t
         → left_after (declaration edition text) ≡ b ∷ t
     by b f e =
-        let is : b ≡ 125 = eqb-true b 125 f in
-        let start : past_blank text ≡ 125 ∷ t = e ∙ ap (λ (c : ℕ). c ∷ t) is in
-        let none : name edition (125 ∷ t) ≡ fails (no_name (125 ∷ t)) (125 ∷ t) =
-        name-quiet edition 125 t (quiet-brace edition) in
+        let is : b ≡ close_brace = eqb-true b close_brace f in
+        let start : past_blank text ≡ close_brace ∷ t = e ∙ ap (λ (c : ℕ). c ∷ t) is in
+        let none : name edition (close_brace ∷ t) ≡ fails (no_name (close_brace ∷ t)) (close_brace ∷ t) =
+        name-quiet edition close_brace t (quiet-brace edition) in
         rw (start, none) (ap (λ (c : ℕ). c ∷ t) (sym is))
 
 -- what is in place of a declaration, up to the end of the block
@@ -215,23 +216,23 @@ list_end-cut edition a rest fault e =
 
 -- after the declarations of a block
 list-cut : (edition : Edition) (a : List ℕ) → declaration_in_block edition a ≡ None
-    → IsCutUp edition (past_byte 125 (past_list edition a)) a [] [] (list_skips edition a)
+    → IsCutUp edition (past_byte close_brace (past_list edition a)) a [] [] (list_skips edition a)
 list-cut edition a none = by (ends_list a) (declaration edition a) refl refl
   where
     broken : (fault : Fault) (rest : List ℕ) → declaration edition a ≡ fails fault rest
-        → IsCutUp edition (past_byte 125 (past_byte 125 (from_block_end rest))) a [] []
+        → IsCutUp edition (past_byte close_brace (past_byte close_brace (from_block_end rest))) a [] []
         (list_end_skips a (from_block_end rest)
-        ++ brace_skips (past_byte 125 (from_block_end rest)))
+        ++ brace_skips (past_byte close_brace (from_block_end rest)))
     broken fault rest e =
         let after : List ℕ = from_block_end rest in
-        joined edition after (past_byte 125 (past_byte 125 after)) [] []
-        (brace_skips (past_byte 125 after)) (list_end-cut edition a rest fault e)
-        (joined edition (past_byte 125 after) (past_byte 125 (past_byte 125 after)) [] []
-        (brace_skips (past_byte 125 after)) (closing edition after)
-        (further edition (past_byte 125 after)))
+        joined edition after (past_byte close_brace (past_byte close_brace after)) [] []
+        (brace_skips (past_byte close_brace after)) (list_end-cut edition a rest fault e)
+        (joined edition (past_byte close_brace after) (past_byte close_brace (past_byte close_brace after)) [] []
+        (brace_skips (past_byte close_brace after)) (closing edition after)
+        (further edition (past_byte close_brace after)))
 
     by : (k : Bool) (r : Reading StyleDeclaration) → ends_list a ≡ k → declaration edition a ≡ r
-        → IsCutUp edition (past_byte 125 (if k then a else past_broken r)) a [] []
+        → IsCutUp edition (past_byte close_brace (if k then a else past_broken r)) a [] []
         (if k then [] else if_broken a r)
     by true r e f = closing edition a
     by false (fails fault rest) e f = broken fault rest f
@@ -243,7 +244,7 @@ list-cut edition a none = by (ends_list a) (declaration edition a) refl refl
 abbrev BlockCut : Edition → List ℕ → Type 0
 BlockCut edition text =
     IsCutUp edition
-    (past_byte 125 (past_list edition (each (declaration_in_block edition) text).1)) text []
+    (past_byte close_brace (past_list edition (each (declaration_in_block edition) text).1)) text []
     (each (declaration_in_block edition) text).0 (block_skips edition text)
 
 block-step : (edition : Edition) (text : List ℕ)
@@ -276,7 +277,7 @@ block-step edition text more =
             (stands-ends text no_texts (declaration edition text) (declaration-stands edition text))
 
         end : List ℕ
-        end = past_byte 125 (past_list edition (each (declaration_in_block edition) rest).1)
+        end = past_byte close_brace (past_list edition (each (declaration_in_block edition) rest).1)
 
         ds : List StyleDeclaration
         ds = (each (declaration_in_block edition) rest).0
@@ -330,19 +331,19 @@ unfolding block
 block-cut edition text = block-cut_up_to edition (length text) text (omega arith)
 
 -- without an opening brace nothing is left
-no_brace-left : (text : List ℕ) → starts 123 (from_brace text) ≡ false → from_brace text ≡ []
+no_brace-left : (text : List ℕ) → starts open_brace (from_brace text) ≡ false → from_brace text ≡ []
 no_brace-left text e = by (from_brace text) refl e
   where
-    by : (x : List ℕ) → from_brace text ≡ x → starts 123 x ≡ false → x ≡ []
+    by : (x : List ℕ) → from_brace text ≡ x → starts open_brace x ≡ false → x ≡ []
     by [] f g = refl
     by (b ∷ x) f g =
-        let stops = past-stops (λ b. not (b == 123)) text b x f in absurd (cc (rw g at stops))
+        let stops = past-stops (λ b. not (b == open_brace)) text b x f in absurd (cc (rw g at stops))
 
 next_block-cut : (edition : Edition) (text : List ℕ)
     → IsCutUp edition (next_block edition text).1 (from_brace text) []
     (next_block edition text).0 (next_block_skips edition text)
 unfolding next_block next_block_skips
-next_block-cut edition text = by (starts 123 opened) refl
+next_block-cut edition text = by (starts open_brace opened) refl
   where
     opened : List ℕ
     opened = from_brace text
@@ -350,14 +351,14 @@ next_block-cut edition text = by (starts 123 opened) refl
     inner : List ℕ
     inner = past_one opened
 
-    by : (k : Bool) → starts 123 opened ≡ k
+    by : (k : Bool) → starts open_brace opened ≡ k
         → IsCutUp edition (if k then block edition inner else ([], [])).1 opened []
         (if k then block edition inner else ([], [])).0
         (if k then block_skips edition inner else [])
     by true e =
         subst (λ (t : List ℕ). IsCutUp edition (block edition inner).1 t []
-        (block edition inner).0 (block_skips edition inner)) (sym (starts-cons 123 opened e))
-        (mark_then 123 inner [] (block edition inner).0 (block_skips edition inner) refl
+        (block edition inner).0 (block_skips edition inner)) (sym (starts-cons open_brace opened e))
+        (mark_then open_brace inner [] (block edition inner).0 (block_skips edition inner) refl
         (block-cut edition inner))
     by false e =
         subst (λ (t : List ℕ). IsCutUp edition [] t [] [] []) (sym (no_brace-left text e)) cut_ends
@@ -365,9 +366,9 @@ next_block-cut edition text = by (starts 123 opened) refl
 -- ---- rule sets
 
 comma-cut : (edition : Edition) (text : List ℕ)
-    → IsCutUp edition (past_byte 44 text) text [] [] (comma_skips text)
+    → IsCutUp edition (past_byte comma text) text [] [] (comma_skips text)
 comma-cut edition [] = cut_ends
-comma-cut edition (b ∷ text) = by (b == 44)
+comma-cut edition (b ∷ text) = by (b == comma)
   where
     by : (k : Bool)
         → IsCutUp edition (if k then text else b ∷ text) (b ∷ text) [] []
@@ -376,11 +377,11 @@ comma-cut edition (b ∷ text) = by (b == 44)
     by false = cut_ends
 
 pub rule_set-cut : (edition : Edition) (text : List ℕ)
-    → IsCutUp edition (rule_set edition text).1 text (parts edition (past_byte 44 text)).0
-    (next_block edition (parts edition (past_byte 44 text)).1).0 (rule_set_skips edition text)
+    → IsCutUp edition (rule_set edition text).1 text (parts edition (past_byte comma text)).0
+    (next_block edition (parts edition (past_byte comma text)).1).0 (rule_set_skips edition text)
 unfolding rule_set rule_set_skips
 rule_set-cut edition text =
-    let x : List ℕ = past_byte 44 text in
+    let x : List ℕ = past_byte comma text in
     let head = parts edition x in
     let body = next_block edition head.1 in
     subst (λ (ss : List (List Component)). IsCutUp edition body.1 text ss body.0
@@ -425,12 +426,12 @@ part-explained edition text =
 
 parts-explained : (edition : Edition) (text : List ℕ)
     → IsExplained (parts edition text).0 (parts_skips edition text)
-parts-explained edition text = by (starts 44 x) refl
+parts-explained edition text = by (starts comma x) refl
   where
     x : List ℕ
     x = (part edition text).1
 
-    by : (k : Bool) → starts 44 x ≡ k
+    by : (k : Bool) → starts comma x ≡ k
         → IsExplained (parts edition text).0 (parts_skips edition text)
     by true e =
         rw (parts-chosen edition text e, parts_skips-some edition text x refl e)
@@ -441,10 +442,10 @@ parts-explained edition text = by (starts 44 x) refl
         (part-explained edition text)
 
 pub rule_set-explained : (edition : Edition) (text : List ℕ)
-    → IsExplained (parts edition (past_byte 44 text)).0 (rule_set_skips edition text)
+    → IsExplained (parts edition (past_byte comma text)).0 (rule_set_skips edition text)
 unfolding rule_set_skips
 rule_set-explained edition text =
-    let x : List ℕ = past_byte 44 text in
+    let x : List ℕ = past_byte comma text in
     let ss = (parts edition x).0 in
     let later = next_block_skips edition (parts edition x).1 in
     explained-before ss (comma_skips text) (parts_skips edition x ++ later)

@@ -2,6 +2,7 @@
 -- Serves `laws::nothing_is_lost`.
 use Rattle.std.proofs.Common.{◌≡◌, ◌≤◌, ℕ, Bool, true, false, not, if◌then◌else◌, ◌==◌, ◌||◌, List, [], ◌∷◌, ◌++◌, ap, eqb-true, length, one-add, refl, subst, sym, ◌∙◌, Option, Some, None, Ok, Err}
 use Rattle.std.specs.List.{prefix_len}
+use Rattle.simplecss_text.specs.AsciiBytes.{close_brace, comma, open_brace}
 use Rattle.simplecss_text.specs.Reading.{Ends, got, before}
 use Rattle.simplecss_text.specs.Bytes.{past, past_byte, starts}
 use Rattle.simplecss_text.specs.Characters.{Edition, is_space}
@@ -95,20 +96,20 @@ declaration_to edition end text after p ss ds xs e r k =
 
 -- a closing brace, if it is next
 pub closing : (edition : Edition) (text : List ℕ)
-    → IsCutUp edition (past_byte 125 text) text [] [] []
+    → IsCutUp edition (past_byte close_brace text) text [] [] []
 closing edition [] = cut_ends
-closing edition (b ∷ text) = by (b == 125) refl
+closing edition (b ∷ text) = by (b == close_brace) refl
   where
-    by : (k : Bool) → (b == 125) ≡ k
+    by : (k : Bool) → (b == close_brace) ≡ k
         → IsCutUp edition (if k then text else b ∷ text) (b ∷ text) [] [] []
-    by true e = mark_then b text [] [] [] (ap is_mark (eqb-true b 125 e)) cut_ends
+    by true e = mark_then b text [] [] [] (ap is_mark (eqb-true b close_brace e)) cut_ends
     by false e = cut_ends
 
 -- a further one, which is skipped
 pub further : (edition : Edition) (text : List ℕ)
-    → IsCutUp edition (past_byte 125 text) text [] [] (brace_skips text)
+    → IsCutUp edition (past_byte close_brace text) text [] [] (brace_skips text)
 further edition [] = cut_ends
-further edition (b ∷ text) = by (b == 125)
+further edition (b ∷ text) = by (b == close_brace)
   where
     by : (k : Bool)
         → IsCutUp edition (if k then text else b ∷ text) (b ∷ text) [] []
@@ -162,16 +163,16 @@ unfolding reads refusal
 selector-decided edition text = sequence-decided text (sequence_of edition text)
 
 -- the next opening brace, where it is at the start
-from_brace-here : (text : List ℕ) → starts 123 text ≡ true → from_brace text ≡ text
+from_brace-here : (text : List ℕ) → starts open_brace text ≡ true → from_brace text ≡ text
 from_brace-here [] e = absurd (cc)
 from_brace-here (b ∷ text) e = rw e refl
 
 -- what an accepted selector leaves
 after_selector-cut : (edition : Edition) (x : List ℕ)
     → IsCutUp edition (past_refused x) x [] [] (skips_after x)
-after_selector-cut edition x = by (starts 44 x) (starts 123 x) refl
+after_selector-cut edition x = by (starts comma x) (starts open_brace x) refl
   where
-    by : (i j : Bool) → starts 123 x ≡ j
+    by : (i j : Bool) → starts open_brace x ≡ j
         → IsCutUp edition (if i then x else from_brace x) x [] []
         (if i || j then []
         else record { from = x; after = from_brace x; why = why_after (from_brace x) } ∷ [])
@@ -180,7 +181,7 @@ after_selector-cut edition x = by (starts 44 x) (starts 123 x) refl
         subst (λ (t : List ℕ). IsCutUp edition t x [] [] []) (sym (from_brace-here x e)) cut_ends
     by false false e =
         skip_to edition (from_brace x) x (from_brace x) (why_after (from_brace x)) [] [] []
-        (ends-past (λ b. not (b == 123)) x) cut_ends
+        (ends-past (λ b. not (b == open_brace)) x) cut_ends
 
 -- the selector of a part, if it has one
 abbrev pub listed : Option (List Component) → List (List Component)
@@ -195,11 +196,11 @@ ends-shorter text long short e f l =
     ends-by long parts.0 short (sym parts.2)
 
 past_refused-ends : (x : List ℕ) → Ends x (past_refused x)
-past_refused-ends x = by (starts 44 x)
+past_refused-ends x = by (starts comma x)
   where
     by : (k : Bool) → Ends x (if k then x else from_brace x)
     by true = ends-same x
-    by false = ends-past (λ b. not (b == 123)) x
+    by false = ends-past (λ b. not (b == open_brace)) x
 
 pub part-cut : (edition : Edition) (text : List ℕ)
     → IsCutUp edition (past_refused (part edition text).1) text (listed (part edition text).0) []

@@ -3,6 +3,7 @@
 -- Serves `laws::skips_are_cut` (what is skipped of a text in pieces).
 use Rattle.std.proofs.Common.{◌≡◌, ◌≤◌, ◌⊎◌, ℕ, Bool, true, false, if◌then◌else◌, ◌==◌, List, ◌∷◌, ◌++◌, arith, bytes_eq, codes, inl, inr, length, refl, subst, IsUtf8, eqb-true, ◌<◌, Option, Some, None}
 use Rattle.std.specs.Str.{trim, chars}
+use Rattle.simplecss_text.specs.AsciiBytes.{close_brace, close_bracket, close_parenthesis, equals_sign, open_parenthesis, tilde, vertical_bar}
 use Rattle.simplecss_text.specs.Reading.{Ends, Fault, wrong_byte, no_name, no_comment, no_attribute_form, no_language, no_selector, Reading, got, fails, follow, Reader, give, left_after}
 use Rattle.simplecss_text.specs.Bytes.{byte, all_before, past_one}
 use Rattle.simplecss_text.specs.Errors.{error_of}
@@ -28,11 +29,11 @@ use Rattle.simplecss_text.proofs.reading.PiecesLawful.{string_or_name-lawful, at
 pub data FaultsAlike (t u : List ℕ) : Fault → Fault → Type 0 where
   no_place : (f : Fault) → ((text other : List ℕ) → error_of text f ≡ error_of other f)
       → FaultsAlike t u f f
-  byte_place : (expected : ℕ) (r s : List ℕ) → Diverge (125 ∷ t) (125 ∷ u) r s
+  byte_place : (expected : ℕ) (r s : List ℕ) → Diverge (close_brace ∷ t) (close_brace ∷ u) r s
       → FaultsAlike t u (wrong_byte expected r) (wrong_byte expected s)
-  name_place : (r s : List ℕ) → Diverge (125 ∷ t) (125 ∷ u) r s
+  name_place : (r s : List ℕ) → Diverge (close_brace ∷ t) (close_brace ∷ u) r s
       → FaultsAlike t u (no_name r) (no_name s)
-  comment_place : (r s : List ℕ) → Diverge (125 ∷ t) (125 ∷ u) r s
+  comment_place : (r s : List ℕ) → Diverge (close_brace ∷ t) (close_brace ∷ u) r s
       → FaultsAlike t u (no_comment r) (no_comment s)
 
 -- where both fail, the faults are alike
@@ -49,7 +50,7 @@ FaultGuard t u a b = (length (left_after a) ≤ length t) ⊎ Reports t u a b
 pub record Heard {A : Type 0} (m : Edition → Reader A) : Type 0 where
   pub lawful : Lawful true m m
   pub reports : (edition : Edition) (u v r s : List ℕ) → IsUtf8 r
-      → Diverge (125 ∷ (u ++ v)) (125 ∷ u) r s
+      → Diverge (close_brace ∷ (u ++ v)) (close_brace ∷ u) r s
       → FaultGuard (u ++ v) u (m edition r) (m edition s)
 
 heard-give : {A : Type 0} (x : A) → Heard (λ edition. give x)
@@ -65,7 +66,7 @@ heard-follow {A = A} {B = B} m n p q = record {
 }
   where
     by : (edition : Edition) (u v : List ℕ) (a b : Reading A) → IsUtf8 (left_after a)
-        → Guard Equal true (125 ∷ (u ++ v)) (125 ∷ u) a b → FaultGuard (u ++ v) u a b
+        → Guard Equal true (close_brace ∷ (u ++ v)) (close_brace ∷ u) a b → FaultGuard (u ++ v) u a b
         → FaultGuard (u ++ v) u (follow a (λ x. n x edition)) (follow b (λ x. n x edition))
     by edition u v (got x i) b z (inl l) k =
         inl (omega (arith, l, lawful-keeps (n x) (n x) (q x).lawful edition i))
@@ -95,7 +96,7 @@ heard-byte : (c : ℕ) → c < 128 → Heard (λ edition. byte c)
 heard-byte c low =
     record { lawful = byte-lawful c low; reports = λ edition u v r s w h. by (u ++ v) u r s h }
   where
-    one : (t u : List ℕ) (b : ℕ) (r s : List ℕ) → Diverge (125 ∷ t) (125 ∷ u) (b ∷ r) (b ∷ s)
+    one : (t u : List ℕ) (b : ℕ) (r s : List ℕ) → Diverge (close_brace ∷ t) (close_brace ∷ u) (b ∷ r) (b ∷ s)
         → (k : Bool)
         → FaultGuard t u
         (if k then got (tt {0}) r else fails (wrong_byte c (b ∷ r)) (b ∷ r))
@@ -103,8 +104,8 @@ heard-byte c low =
     one t u b r s h true = inr tt
     one t u b r s h false = inr (byte_place c (b ∷ r) (b ∷ s) h)
 
-    by : (t u r s : List ℕ) → Diverge (125 ∷ t) (125 ∷ u) r s → FaultGuard t u (byte c r) (byte c s)
-    by t u r s at = one t u 125 t u at (125 == c)
+    by : (t u r s : List ℕ) → Diverge (close_brace ∷ t) (close_brace ∷ u) r s → FaultGuard t u (byte c r) (byte c s)
+    by t u r s at = one t u close_brace t u at (close_brace == c)
     by t u r s (on b r1 s1 h) = one t u b r1 s1 (on b r1 s1 h) (b == c)
 
 name-fault : (edition : Edition) (text left : List ℕ) (f : Fault) → name edition text ≡ fails f left
@@ -124,7 +125,7 @@ heard-name = record {
   reports = λ edition u v r s w h. by edition u v r s h (name edition r) (name edition s) refl refl;
 }
   where
-    by : (edition : Edition) (u v r s : List ℕ) → Diverge (125 ∷ (u ++ v)) (125 ∷ u) r s
+    by : (edition : Edition) (u v r s : List ℕ) → Diverge (close_brace ∷ (u ++ v)) (close_brace ∷ u) r s
         → (a b : Reading (List ℕ)) → name edition r ≡ a → name edition s ≡ b
         → FaultGuard (u ++ v) u a b
     by edition u v r s h (got x i) b e k = inr tt
@@ -153,9 +154,9 @@ heard-string_or_name = record {
     quoted edition u v b r s false h = h
 
     by : (edition : Edition) (u v r s : List ℕ) → IsUtf8 r
-        → Diverge (125 ∷ (u ++ v)) (125 ∷ u) r s
+        → Diverge (close_brace ∷ (u ++ v)) (close_brace ∷ u) r s
         → FaultGuard (u ++ v) u (string_or_name edition r) (string_or_name edition s)
-    by edition u v r s w at = heard-name.reports edition u v (125 ∷ (u ++ v)) (125 ∷ u) w at
+    by edition u v r s w at = heard-name.reports edition u v (close_brace ∷ (u ++ v)) (close_brace ∷ u) w at
     by edition u v r s w (on b r1 s1 h) =
         quoted edition u v b r1 s1 (is_quote b)
         (heard-name.reports edition u v (b ∷ r1) (b ∷ s1) w (on b r1 s1 h))
@@ -168,9 +169,9 @@ named token = heard-follow name (λ n edition. give (token n)) heard-name (λ n.
 
 heard-equated : (operator : List ℕ → Operator) → Heard (λ edition. equated edition operator)
 heard-equated operator =
-    heard-follow (λ edition. byte 61)
+    heard-follow (λ edition. byte equals_sign)
     (λ u edition text. follow (string_or_name edition text) (λ value. give (operator value)))
-    (heard-byte 61 (omega arith))
+    (heard-byte equals_sign (omega arith))
     (λ u. heard-follow string_or_name (λ value edition. give (operator value)) heard-string_or_name
     (λ value. heard-give (operator value)))
 
@@ -191,19 +192,19 @@ heard-attribute_operator = record {
     following b r low w = utf8-after (b ∷ r) r b low w (ends-same (b ∷ r))
 
     by : (edition : Edition) (u v r s : List ℕ) → IsUtf8 r
-        → Diverge (125 ∷ (u ++ v)) (125 ∷ u) r s
+        → Diverge (close_brace ∷ (u ++ v)) (close_brace ∷ u) r s
         → FaultGuard (u ++ v) u (attribute_operator edition r) (attribute_operator edition s)
     by edition u v r s w at = inr (no_place no_attribute_form (λ text other. refl))
     by edition u v r s w (on b r1 s1 h) =
-        choose (u ++ v) u (b == 93) _ _ _ _ (λ e. inr tt) (λ e1.
-        choose (u ++ v) u (b == 61) _ _ _ _
+        choose (u ++ v) u (b == close_bracket) _ _ _ _ (λ e. inr tt) (λ e1.
+        choose (u ++ v) u (b == equals_sign) _ _ _ _
         (λ e. (heard-equated equals).reports edition u v (b ∷ r1) (b ∷ s1) w (on b r1 s1 h)) (λ e2.
-        choose (u ++ v) u (b == 126) _ _ _ _
+        choose (u ++ v) u (b == tilde) _ _ _ _
         (λ e. (heard-equated has_word).reports edition u v r1 s1
-        (following b r1 (omega (arith, eqb-true b 126 e)) w) h) (λ e3.
-        choose (u ++ v) u (b == 124) _ _ _ _
+        (following b r1 (omega (arith, eqb-true b tilde e)) w) h) (λ e3.
+        choose (u ++ v) u (b == vertical_bar) _ _ _ _
         (λ e. (heard-equated begins_with).reports edition u v r1 s1
-        (following b r1 (omega (arith, eqb-true b 124 e)) w) h)
+        (following b r1 (omega (arith, eqb-true b vertical_bar e)) w) h)
         (λ e4. inr (no_place no_attribute_form (λ text other. refl))))))
 
 heard-attribute_after : Heard attribute_after
@@ -211,13 +212,13 @@ unfolding attribute_after
 heard-attribute_after =
     heard-follow name
     (λ n edition text. follow (attribute_operator edition text)
-    (λ operator text. follow (byte 93 text) (λ u. give (attribute_selector n operator))))
+    (λ operator text. follow (byte close_bracket text) (λ u. give (attribute_selector n operator))))
     heard-name
     (λ n. heard-follow attribute_operator
-    (λ operator edition text. follow (byte 93 text) (λ u. give (attribute_selector n operator)))
+    (λ operator edition text. follow (byte close_bracket text) (λ u. give (attribute_selector n operator)))
     heard-attribute_operator
-    (λ operator. heard-follow (λ edition. byte 93)
-    (λ u edition. give (attribute_selector n operator)) (heard-byte 93 (omega arith))
+    (λ operator. heard-follow (λ edition. byte close_bracket)
+    (λ u edition. give (attribute_selector n operator)) (heard-byte close_bracket (omega arith))
     (λ u. heard-give (attribute_selector n operator))))
 
 heard-all_before : (c : ℕ) → c < 128 → Heard (λ edition. all_before c)
@@ -239,15 +240,15 @@ heard-lang_of value =
 heard-lang_after : Heard (λ edition. lang_after)
 unfolding lang_after
 heard-lang_after =
-    heard-follow (λ edition. byte 40)
-    (λ u edition text. follow (all_before 41 text)
-    (λ value text. follow (byte 41 text) (λ u. lang_of (trim value))))
-    (heard-byte 40 (omega arith))
-    (λ u. heard-follow (λ edition. all_before 41)
-    (λ value edition text. follow (byte 41 text) (λ u. lang_of (trim value)))
-    (heard-all_before 41 (omega arith))
-    (λ value. heard-follow (λ edition. byte 41) (λ u edition. lang_of (trim value))
-    (heard-byte 41 (omega arith)) (λ u. heard-lang_of (trim value))))
+    heard-follow (λ edition. byte open_parenthesis)
+    (λ u edition text. follow (all_before close_parenthesis text)
+    (λ value text. follow (byte close_parenthesis text) (λ u. lang_of (trim value))))
+    (heard-byte open_parenthesis (omega arith))
+    (λ u. heard-follow (λ edition. all_before close_parenthesis)
+    (λ value edition text. follow (byte close_parenthesis text) (λ u. lang_of (trim value)))
+    (heard-all_before close_parenthesis (omega arith))
+    (λ value. heard-follow (λ edition. byte close_parenthesis) (λ u edition. lang_of (trim value))
+    (heard-byte close_parenthesis (omega arith)) (λ u. heard-lang_of (trim value))))
 
 heard-pseudo_class_after : Heard pseudo_class_after
 unfolding pseudo_class_after
@@ -260,10 +261,10 @@ heard-pseudo_class_after =
 
 -- what follows the sign that a kind begins with
 after-sign : {A : Type 0} (m : Edition → Reader A) → Heard m → (edition : Edition)
-    (kind : NextKind) (u v r s : List ℕ) → IsUtf8 r → Diverge (125 ∷ (u ++ v)) (125 ∷ u) r s
+    (kind : NextKind) (u v r s : List ℕ) → IsUtf8 r → Diverge (close_brace ∷ (u ++ v)) (close_brace ∷ u) r s
     → HasSign kind → next_kind r ≡ kind
     → FaultGuard (u ++ v) u (m edition (past_one r)) (m edition (past_one s))
-after-sign m p edition kind u v r s w h sign k = by (past_one-diverge 125 (u ++ v) u r s h)
+after-sign m p edition kind u v r s w h sign k = by (past_one-diverge close_brace (u ++ v) u r s h)
   where
     text : IsUtf8 (past_one r)
     text =
@@ -271,13 +272,13 @@ after-sign m p edition kind u v r s w h sign k = by (past_one-diverge 125 (u ++ 
         (well-after begins.byte r (past_one r) begins.ascii
         (subst (λ (x : List ℕ). Ends r x) begins.is (ends-same r))).1 w
 
-    by : (length (past_one r) ≤ length (u ++ v)) ⊎ Diverge (125 ∷ (u ++ v)) (125 ∷ u) (past_one r)
+    by : (length (past_one r) ≤ length (u ++ v)) ⊎ Diverge (close_brace ∷ (u ++ v)) (close_brace ∷ u) (past_one r)
         (past_one s) → FaultGuard (u ++ v) u (m edition (past_one r)) (m edition (past_one s))
     by (inl l) = inl (omega (arith, l, lawful-keeps m m p.lawful edition (past_one r)))
     by (inr diverge) = p.reports edition u v (past_one r) (past_one s) text diverge
 
 pub solid_as-reported : (edition : Edition) (u v r s : List ℕ) → IsUtf8 r
-    → Diverge (125 ∷ (u ++ v)) (125 ∷ u) r s → (kind : NextKind) → next_kind r ≡ kind
+    → Diverge (close_brace ∷ (u ++ v)) (close_brace ∷ u) r s → (kind : NextKind) → next_kind r ≡ kind
     → FaultGuard (u ++ v) u (solid_as edition kind r) (solid_as edition kind s)
 solid_as-reported edition u v r s w h Stop k = inr (no_place no_selector (λ text other. refl))
 solid_as-reported edition u v r s w h Slash k = inr (no_place no_selector (λ text other. refl))

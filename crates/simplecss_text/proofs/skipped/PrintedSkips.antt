@@ -3,6 +3,7 @@
 use Rattle.std.proofs.Common.{◌≡◌, ◌==◌, ℕ, true, false, not, List, [], ◌∷◌, ◌++◌, ap, append-nil, append_assoc, arith, length, refl, subst, sym, ◌∙◌, Option, Some, None}
 use Rattle.std.specs.List.{AllByRecursion, All, flat_map}
 use Rattle.std.proofs.lemmas.List.Elements.{recursion_from_All}
+use Rattle.simplecss_text.specs.AsciiBytes.{at_sign, close_brace, comma, newline, open_brace, space}
 use Rattle.simplecss_text.specs.Reading.{each}
 use Rattle.simplecss_text.specs.Bytes.{past, past_byte, starts}
 use Rattle.simplecss_text.specs.Characters.{Edition, is_space}
@@ -44,7 +45,7 @@ read-refusal edition text s e =
 
 -- a part that reads before a block skips nothing
 part_skips-none : (edition : Edition) (text inside : List ℕ) (s : List Component)
-    → reads edition text ≡ (Some s, 123 ∷ inside) → part_skips edition text ≡ []
+    → reads edition text ≡ (Some s, open_brace ∷ inside) → part_skips edition text ≡ []
 unfolding part_skips selector_skips part
 part_skips-none edition text inside s e =
     let fine : refusal edition text ≡ None =
@@ -55,81 +56,81 @@ part_skips-none edition text inside s e =
 -- after the brace and the space, nothing of a printed block is skipped
 block_skips-none : (edition : Edition) (p : StyleDeclaration) (ps : List StyleDeclaration)
     (text : List ℕ) → IsDeclaration edition p → AllByRecursion (IsDeclaration edition) ps
-    → block_skips edition (32 ∷ (flat_map declaration_text (p ∷ ps) ++ (32 ∷ 125 ∷ text))) ≡ []
+    → block_skips edition (space ∷ (flat_map declaration_text (p ∷ ps) ++ (space ∷ close_brace ∷ text))) ≡ []
 block_skips-none edition p ps text w ws =
-    let inside = declaration_text p ++ (flat_map declaration_text ps ++ (32 ∷ 125 ∷ text)) in
-    let same : flat_map declaration_text (p ∷ ps) ++ (32 ∷ 125 ∷ text) ≡ inside =
-    append_assoc (declaration_text p) (flat_map declaration_text ps) (32 ∷ 125 ∷ text) in
+    let inside = declaration_text p ++ (flat_map declaration_text ps ++ (space ∷ close_brace ∷ text)) in
+    let same : flat_map declaration_text (p ∷ ps) ++ (space ∷ close_brace ∷ text) ≡ inside =
+    append_assoc (declaration_text p) (flat_map declaration_text ps) (space ∷ close_brace ∷ text) in
     let listed = declarations-again edition p ps text w ws in
     let there =
-    first-found edition inside p ps (125 ∷ text) listed (declaration_in_block edition inside)
+    first-found edition inside p ps (close_brace ∷ text) listed (declaration_in_block edition inside)
     refl in
     let spaced =
     spaced-list edition inside there.1 there.0 there.2
     (list_goes_on edition inside
-    (declaration-begins edition p (flat_map declaration_text ps ++ (32 ∷ 125 ∷ text)) w)) in
+    (declaration-begins edition p (flat_map declaration_text ps ++ (space ∷ close_brace ∷ text)) w)) in
     let all : each (declaration_in_block edition)
-    (32 ∷ (flat_map declaration_text (p ∷ ps) ++ (32 ∷ 125 ∷ text))) ≡ (p ∷ ps, 125 ∷ text) = ap
-    (λ t. each (declaration_in_block edition) (32 ∷ t)) same ∙ spaced ∙ listed in
-    let some = not_empty 125 text in
-    block_skips-left edition (32 ∷ (flat_map declaration_text (p ∷ ps) ++ (32 ∷ 125 ∷ text)))
+    (space ∷ (flat_map declaration_text (p ∷ ps) ++ (space ∷ close_brace ∷ text))) ≡ (p ∷ ps, close_brace ∷ text) = ap
+    (λ t. each (declaration_in_block edition) (space ∷ t)) same ∙ spaced ∙ listed in
+    let some = not_empty close_brace text in
+    block_skips-left edition (space ∷ (flat_map declaration_text (p ∷ ps) ++ (space ∷ close_brace ∷ text)))
     (omega (arith, ap (λ (r : List StyleDeclaration × List ℕ). length r.1) all))
     ∙ ap (λ (r : List StyleDeclaration × List ℕ). list_skips edition r.1) all ∙ rw some refl
 
 next_block_skips-again : (edition : Edition) (inside : List ℕ)
-    → next_block_skips edition (123 ∷ inside) ≡ block_skips edition inside
+    → next_block_skips edition (open_brace ∷ inside) ≡ block_skips edition inside
 unfolding next_block_skips
 next_block_skips-again edition inside = refl
 
-comma_skips-none : (text : List ℕ) → starts 44 text ≡ false → comma_skips text ≡ []
+comma_skips-none : (text : List ℕ) → starts comma text ≡ false → comma_skips text ≡ []
 comma_skips-none text e = rw e refl
 
 rule_set_skips-none : (edition : Edition) (s : List Component) (text inside : List ℕ)
-    → starts 44 text ≡ false → past_byte 44 text ≡ text
-    → reads edition text ≡ (Some s, 123 ∷ inside) → block_skips edition inside ≡ []
+    → starts comma text ≡ false → past_byte comma text ≡ text
+    → reads edition text ≡ (Some s, open_brace ∷ inside) → block_skips edition inside ≡ []
     → rule_set_skips edition text ≡ []
 unfolding rule_set_skips
 rule_set_skips-none edition s text inside other start e b =
-    let one : part edition text ≡ (Some s, 123 ∷ inside) = part-again edition s text inside e in
-    let left : (parts edition text).1 ≡ 123 ∷ inside =
+    let one : part edition text ≡ (Some s, open_brace ∷ inside) = part-again edition s text inside e in
+    let left : (parts edition text).1 ≡ open_brace ∷ inside =
     ap (λ (r : List (List Component) × List ℕ). r.1) (parts-again edition s text inside one) in
-    let after : (part edition text).1 ≡ 123 ∷ inside =
+    let after : (part edition text).1 ≡ open_brace ∷ inside =
     ap (λ (r : Option (List Component) × List ℕ). r.1) one in
     let commas : comma_skips text ≡ [] = comma_skips-none text other in
     let selectors : parts_skips edition text ≡ [] =
-    parts_skips-last edition text (123 ∷ inside) after refl
+    parts_skips-last edition text (open_brace ∷ inside) after refl
     ∙ part_skips-none edition text inside s e in
-    let body : next_block_skips edition (123 ∷ inside) ≡ [] =
+    let body : next_block_skips edition (open_brace ∷ inside) ≡ [] =
     next_block_skips-again edition inside ∙ b in
     ap (λ (t : List ℕ). comma_skips text
     ++ (parts_skips edition t ++ next_block_skips edition (parts edition t).1)) start
     ∙ rw (commas, selectors, left, body) refl
 
-statement_skips-again : (edition : Edition) (text : List ℕ) → starts 64 text ≡ false
+statement_skips-again : (edition : Edition) (text : List ℕ) → starts at_sign text ≡ false
     → statement_skips edition text ≡ rule_set_skips edition text
 unfolding statement_skips
 statement_skips-again edition text e = rw e refl
 
 printed_rule-skips : (edition : Edition) (s : List Component) (p : StyleDeclaration)
-    (ps : List StyleDeclaration) (text : List ℕ) → IsSelector edition s (123 ∷ [])
+    (ps : List StyleDeclaration) (text : List ℕ) → IsSelector edition s (open_brace ∷ [])
     → is_clean s ≡ true → IsDeclaration edition p → AllByRecursion (IsDeclaration edition) ps
     → statement_skips edition
     (rule_text (record { components = s; declarations = p ∷ ps }) ++ text) ≡ []
 printed_rule-skips edition s p ps text w clean wp ws =
     let rule : StyleRule = record { components = s; declarations = p ∷ ps } in
-    let inside = 32 ∷ (flat_map declaration_text (p ∷ ps) ++ (32 ∷ 125 ∷ text)) in
-    let whole = selector_text s ++ (32 ∷ 123 ∷ inside) in
+    let inside = space ∷ (flat_map declaration_text (p ∷ ps) ++ (space ∷ close_brace ∷ text)) in
+    let whole = selector_text s ++ (space ∷ open_brace ∷ inside) in
     let begins =
-    begins-append edition (selector_text s) (32 ∷ 123 ∷ inside)
-    (selector-begins edition s 123 [] w) in
-    let read : reads edition whole ≡ (Some s, 123 ∷ inside) =
-    (selector-reads_back_before edition s 123 [] w inside).1 clean in
+    begins-append edition (selector_text s) (space ∷ open_brace ∷ inside)
+    (selector-begins edition s open_brace [] w) in
+    let read : reads edition whole ≡ (Some s, open_brace ∷ inside) =
+    (selector-reads_back_before edition s open_brace [] w inside).1 clean in
     ap (statement_skips edition) (rule-assoc rule text)
     ∙ statement_skips-again edition whole
-    (part_starts edition 64 whole (omega arith) refl refl refl begins)
+    (part_starts edition at_sign whole (omega arith) refl refl refl begins)
     ∙ rule_set_skips-none edition s whole inside
-    (part_starts edition 44 whole (omega arith) refl refl refl begins)
-    (part_byte edition 44 whole (omega arith) refl refl refl begins) read
+    (part_starts edition comma whole (omega arith) refl refl refl begins)
+    (part_byte edition comma whole (omega arith) refl refl refl begins) read
     (block_skips-none edition p ps text wp ws)
 
 -- a rule that reads back, printed before any text, skips nothing
@@ -157,10 +158,10 @@ rule-skipped edition rule text w =
 
 -- a newline before statements is a blank
 newline-skipped : (edition : Edition) (text : List ℕ)
-    → skipped edition (10 ∷ text) ≡ skipped edition text
+    → skipped edition (newline ∷ text) ≡ skipped edition text
 newline-skipped edition text =
-    sym (skipped-blank edition (10 ∷ text))
-    ∙ ap (skipped edition) (past_blank-space 10 text refl) ∙ skipped-blank edition text
+    sym (skipped-blank edition (newline ∷ text))
+    ∙ ap (skipped edition) (past_blank-space newline text refl) ∙ skipped-blank edition text
 
 nothing-skipped : (edition : Edition) → skipped edition [] ≡ []
 unfolding each
@@ -173,7 +174,7 @@ printed-skipped edition (rule ∷ []) w =
     ap (skipped edition) (sym (append-nil (rule_text rule)))
     ∙ rule-skipped edition rule [] w.0 ∙ nothing-skipped edition
 printed-skipped edition (rule ∷ next ∷ rules) w =
-    rule-skipped edition rule (10 ∷ sheet_text (next ∷ rules)) w.0
+    rule-skipped edition rule (newline ∷ sheet_text (next ∷ rules)) w.0
     ∙ newline-skipped edition (sheet_text (next ∷ rules))
     ∙ printed-skipped edition (next ∷ rules) w.1
 

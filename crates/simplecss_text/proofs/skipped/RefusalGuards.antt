@@ -7,6 +7,7 @@ use Rattle.simplecss_text.specs.declared.error.Error.{Error}
 use Rattle.simplecss_text.specs.declared.error.Error.TheVariants.{InvalidIdent, InvalidComment, InvalidByte}
 use Rattle.simplecss_text.specs.declared.next_kind.NextKind.{NextKind}
 use Rattle.simplecss_text.specs.declared.next_kind.NextKind.TheVariants.{Stop, Slash, Child, Adjacent, Universal, Id, Class, Attribute, Colon, Other}
+use Rattle.simplecss_text.specs.AsciiBytes.{close_brace}
 use Rattle.simplecss_text.specs.Reading.{Fault, no_comment, no_selector, unexpected_selector, unexpected_combinator, Reading, got, fails, follow, left_after}
 use Rattle.simplecss_text.specs.Bytes.{past_one}
 use Rattle.simplecss_text.specs.Positions.{position}
@@ -56,16 +57,16 @@ error-alike : (u v text : List ℕ) (f e : Fault) → FaultsAlike (u ++ v) u f e
     → error_of (text ++ v) f ≡ error_of text e
 error-alike u v text f e (no_place _ h) = h (text ++ v) text
 error-alike u v text f e (name_place r s h) =
-    ap (λ (x : List ℕ). InvalidIdent (position_of (text ++ v) x)) (diverge-append 125 u v r s h)
+    ap (λ (x : List ℕ). InvalidIdent (position_of (text ++ v) x)) (diverge-append close_brace u v r s h)
     ∙ ap InvalidIdent (offset-alike text v s)
 error-alike u v text f e (comment_place r s h) =
-    ap (λ (x : List ℕ). InvalidComment (position_of (text ++ v) x)) (diverge-append 125 u v r s h)
+    ap (λ (x : List ℕ). InvalidComment (position_of (text ++ v) x)) (diverge-append close_brace u v r s h)
     ∙ ap InvalidComment (offset-alike text v s)
 error-alike u v text f e (byte_place c r s at) =
-    ap (InvalidByte c 125) (offset-alike text v (125 ∷ u))
+    ap (InvalidByte c close_brace) (offset-alike text v (close_brace ∷ u))
 error-alike u v text f e (byte_place c r s (on b r1 s1 h)) =
     ap (λ (x : List ℕ). InvalidByte c b (position_of (text ++ v) (b ∷ x)))
-    (diverge-append 125 u v r1 s1 h)
+    (diverge-append close_brace u v r1 s1 h)
     ∙ ap (InvalidByte c b) (offset-alike text v (b ∷ s1))
 
 -- ---- sequences
@@ -140,7 +141,7 @@ between-alike P closed_side true Colon a x b y n d s c = d
 between-alike P closed_side true Other a x b y n d s c = d
 
 answered-refused : (text u v : List ℕ) (side : Side) (spaced : Bool) (kind : NextKind)
-    (a x b y : List ℕ) (p q : TokenSequence) → Diverge (125 ∷ (u ++ v)) (125 ∷ u) a b
+    (a x b y : List ℕ) (p q : TokenSequence) → Diverge (close_brace ∷ (u ++ v)) (close_brace ∷ u) a b
     → RefusalGuard text u v p q
     → RefusalGuard text u v (answered (between side spaced kind a x) a p)
     (answered (between side spaced kind b y) b q)
@@ -183,16 +184,16 @@ fault_ending-refused whole side kind spaced start fault after w =
 -- the sequence after every shorter text is refused alike
 abbrev SequencesRefused : Edition → (text : List ℕ) → ℕ → (u v : List ℕ) → Type 0
 SequencesRefused edition text n u v =
-    (side : Side) (r s : List ℕ) → length r ≤ n → IsUtf8 r → Diverge (125 ∷ (u ++ v)) (125 ∷ u) r s
+    (side : Side) (r s : List ℕ) → length r ≤ n → IsUtf8 r → Diverge (close_brace ∷ (u ++ v)) (close_brace ∷ u) r s
     → RefusalGuard text u v (sequence_from edition side r) (sequence_from edition side s)
 
 -- where a solid piece is read, or its fault
 piece-refused : (edition : Edition) (text : List ℕ) (n : ℕ) (u v : List ℕ)
     → SequencesRefused edition text n u v → (side : Side) (spaced : Bool) (kind : NextKind)
     (r s : List ℕ) (x y : Reading Token)
-    → IsSolid kind → length r ≤ suc n → Diverge (125 ∷ (u ++ v)) (125 ∷ u) r s → Cuts r x
+    → IsSolid kind → length r ≤ suc n → Diverge (close_brace ∷ (u ++ v)) (close_brace ∷ u) r s → Cuts r x
     → IsUtf8 (left_after x) → Passed (length (u ++ v)) kind r x
-    → Guard Equal true (125 ∷ (u ++ v)) (125 ∷ u) x y → FaultGuard (u ++ v) u x y
+    → Guard Equal true (close_brace ∷ (u ++ v)) (close_brace ∷ u) x y → FaultGuard (u ++ v) u x y
     → RefusalGuard text u v (solid_sequence edition side spaced kind r x)
     (solid_sequence edition side spaced kind s y)
 piece-refused edition text n u v runs side spaced kind r s (fails f p) y w l h c z k g (inl less) =
@@ -232,14 +233,14 @@ piece-refused edition text n u v runs side spaced kind r s (got x p) (got y q) w
 
 solid_sequence-refused : (edition : Edition) (text : List ℕ) (n : ℕ) (u v : List ℕ)
     → SequencesRefused edition text n u v → (side : Side) (spaced : Bool) (r s : List ℕ)
-    → length r ≤ suc n → IsUtf8 r → Diverge (125 ∷ (u ++ v)) (125 ∷ u) r s
+    → length r ≤ suc n → IsUtf8 r → Diverge (close_brace ∷ (u ++ v)) (close_brace ∷ u) r s
     → RefusalGuard text u v (solid_sequence edition side spaced (next_kind r) r (solid edition r))
     (solid_sequence edition side spaced (next_kind s) s (solid edition s))
 solid_sequence-refused edition text n u v runs side spaced r s l z h =
     rw (sym same) (by (next_kind r) refl)
   where
     same : next_kind r ≡ next_kind s
-    same = next_kind-diverge 125 (u ++ v) u r s h
+    same = next_kind-diverge close_brace (u ++ v) u r s h
 
     -- both texts, where this kind is next
     Both : NextKind → Type 0
@@ -300,7 +301,7 @@ gap_sequence-refused : (edition : Edition) (text : List ℕ) (n : ℕ) (u v : Li
     → SequencesRefused edition text n u v → (side : Side) (x y : Reading Bool)
     → length (left_after x) ≤ suc n → IsUtf8 (left_after x)
     → ((f : Fault) (left : List ℕ) → x ≡ fails f left → left ≡ [])
-    → Guard Equal true (125 ∷ (u ++ v)) (125 ∷ u) x y
+    → Guard Equal true (close_brace ∷ (u ++ v)) (close_brace ∷ u) x y
     → RefusalGuard text u v (gap_sequence edition side x) (gap_sequence edition side y)
 gap_sequence-refused edition text n u v runs side x y l z none (inl less) =
     inl (gap_sequence-within edition (length (u ++ v)) side x less)
@@ -318,7 +319,7 @@ gap_sequence-refused edition text n u v runs side (got x p) (got y q) l z none (
 sequence_from-refused : (edition : Edition) (text u v : List ℕ) (n : ℕ)
     → SequencesRefused edition text n u v
 sequence_from-refused edition text u v zero left r s l z h =
-    absurd (omega (arith, l, longer-diverge (125 ∷ (u ++ v)) (125 ∷ u) r s h))
+    absurd (omega (arith, l, longer-diverge (close_brace ∷ (u ++ v)) (close_brace ∷ u) r s h))
 sequence_from-refused edition text u v (suc n) left r s l z h =
     rw (sequence_from-by edition left r, sequence_from-by edition left s)
     (gap_sequence-refused edition text n u v (sequence_from-refused edition text u v n) left (gap r)
@@ -328,7 +329,7 @@ sequence_from-refused edition text u v (suc n) left r s l z h =
 
 -- a selector passes the brace, or is refused for the same reason
 pub refusal-alike : (edition : Edition) (u v r s : List ℕ) → IsUtf8 r
-    → Diverge (125 ∷ (u ++ v)) (125 ∷ u) r s
+    → Diverge (close_brace ∷ (u ++ v)) (close_brace ∷ u) r s
     → (length (reads edition r).1 ≤ length (u ++ v))
     ⊎ (refusal edition r ≡ option_map (refusal_before v) (refusal edition s))
 unfolding reads refusal
@@ -346,5 +347,5 @@ refusal-alike edition u v r s z h =
     by (inl l) = inl (rw (left (outcome (sequence_of edition r))) l)
     by (inr e) =
         inr (ap (λ (whole : List ℕ). refusal_in whole (sequence_of edition r))
-        (diverge-append 125 u v r s h)
+        (diverge-append close_brace u v r s h)
         ∙ e)

@@ -3,6 +3,7 @@
 use Rattle.std.proofs.Common.{◌≡◌, ◌≤◌, ◌<◌, ◌⊎◌, ℕ, zero, suc, Bool, true, false, not, if◌then◌else◌, ◌==◌, ◌||◌, List, [], ◌∷◌, ◌++◌, ap, arith, inl, inr, length, map, refl, subst, sym, ◌∙◌, IsUtf8, Option, Some, None, eqb-true}
 use Rattle.std.proofs.lemmas.List.{map-append}
 use Rattle.std.specs.Option.{option_map}
+use Rattle.simplecss_text.specs.AsciiBytes.{close_brace, comma as comma_byte, open_brace}
 use Rattle.simplecss_text.specs.Reading.{Ends, got, fails, follow, left_after, no_comment}
 use Rattle.simplecss_text.specs.Bytes.{past, past_byte, past_one, starts}
 use Rattle.simplecss_text.specs.Characters.{Edition, is_space}
@@ -69,29 +70,29 @@ refused_part-same v p q x y r s (Some refusal) e f = rw (e, f) refl
 
 -- what an accepted selector leaves
 after_read-same : (u v x y : List ℕ) (o : Option (List Component))
-    → Diverge (125 ∷ (u ++ v)) (125 ∷ u) x y
-    → (starts 44 x ≡ true) ⊎ Diverge (125 ∷ (u ++ v)) (125 ∷ u) (from_brace x) (from_brace y)
+    → Diverge (close_brace ∷ (u ++ v)) (close_brace ∷ u) x y
+    → (starts comma_byte x ≡ true) ⊎ Diverge (close_brace ∷ (u ++ v)) (close_brace ∷ u) (from_brace x) (from_brace y)
     → skips_after_read o x ≡ map (skip_before v) (skips_after_read o y)
 after_read-same u v x y None h c = refl
 after_read-same u v x y (Some selector) h c =
-    by (starts 44 x) (starts 44 y) (starts 123 x) (starts 123 y) refl
-    (starts-diverge 125 (u ++ v) u 44 x y h) (starts-diverge 125 (u ++ v) u 123 x y h) c
+    by (starts comma_byte x) (starts comma_byte y) (starts open_brace x) (starts open_brace y) refl
+    (starts-diverge close_brace (u ++ v) u comma_byte x y h) (starts-diverge close_brace (u ++ v) u open_brace x y h) c
   where
-    later : (a b : List ℕ) → Diverge (125 ∷ (u ++ v)) (125 ∷ u) a b
+    later : (a b : List ℕ) → Diverge (close_brace ∷ (u ++ v)) (close_brace ∷ u) a b
         → record { from = x; after = a; why = why_after a } ∷ []
         ≡ map (skip_before v) (record { from = y; after = b; why = why_after b } ∷ [])
     later a b at =
-        rw (not_empty 125 (u ++ v), not_empty 125 u, diverge-append 125 u v x y h) refl
+        rw (not_empty close_brace (u ++ v), not_empty close_brace u, diverge-append close_brace u v x y h) refl
     later a b (on c a1 b1 k) =
         rw (
           not_empty c a1,
           not_empty c b1,
-          diverge-append 125 u v x y h,
-          diverge-append 125 u v a1 b1 k,
+          diverge-append close_brace u v x y h,
+          diverge-append close_brace u v a1 b1 k,
         ) refl
 
-    by : (i j k l : Bool) → starts 44 x ≡ i → i ≡ j → k ≡ l
-        → (starts 44 x ≡ true) ⊎ Diverge (125 ∷ (u ++ v)) (125 ∷ u) (from_brace x) (from_brace y)
+    by : (i j k l : Bool) → starts comma_byte x ≡ i → i ≡ j → k ≡ l
+        → (starts comma_byte x ≡ true) ⊎ Diverge (close_brace ∷ (u ++ v)) (close_brace ∷ u) (from_brace x) (from_brace y)
         → (if i || k then []
         else record { from = x; after = from_brace x; why = why_after (from_brace x) } ∷ [])
         ≡ map (skip_before v) (if j || l then []
@@ -110,16 +111,16 @@ after_read-same u v x y (Some selector) h c =
 abbrev PartSkipsSame : Edition → (u v r s : List ℕ) → Type 0
 PartSkipsSame edition u v r s =
     (length (part edition r).1 ≤ length (u ++ v))
-    ⊎ (((starts 44 (part edition r).1 ≡ false)
+    ⊎ (((starts comma_byte (part edition r).1 ≡ false)
     × (length (from_brace (part edition r).1) ≤ length (u ++ v)))
     ⊎ (part_skips edition r ≡ map (skip_before v) (part_skips edition s)))
 
 part_skips-same : (edition : Edition) (u v r s : List ℕ) → IsUtf8 r
-    → Diverge (125 ∷ (u ++ v)) (125 ∷ u) r s → PartSkipsSame edition u v r s
+    → Diverge (close_brace ∷ (u ++ v)) (close_brace ∷ u) r s → PartSkipsSame edition u v r s
 unfolding part_skips selector_skips part
 part_skips-same edition u v r s w h =
     by (part-same edition u v r s w h) (refusal-alike edition u v r s w h)
-    (past_blank-to 125 u v brace_plain r s h)
+    (past_blank-to close_brace u v brace_plain r s h)
   where
     x : List ℕ
     x = past is_space (reads edition r).1
@@ -127,11 +128,11 @@ part_skips-same edition u v r s w h =
     y : List ℕ
     y = past is_space (reads edition s).1
 
-    both : Diverge (125 ∷ (u ++ v)) (125 ∷ u) x y → (reads edition r).0 ≡ (reads edition s).0
+    both : Diverge (close_brace ∷ (u ++ v)) (close_brace ∷ u) x y → (reads edition r).0 ≡ (reads edition s).0
         → refusal edition r ≡ option_map (refusal_before v) (refusal edition s)
         → past_blank r ≡ past_blank s ++ v
         → past_refused x ≡ past_refused y ++ v
-        → (starts 44 x ≡ true) ⊎ Diverge (125 ∷ (u ++ v)) (125 ∷ u) (from_brace x) (from_brace y)
+        → (starts comma_byte x ≡ true) ⊎ Diverge (close_brace ∷ (u ++ v)) (close_brace ∷ u) (from_brace x) (from_brace y)
         → refused_part r x (refusal edition r) ++ skips_after_read (reads edition r).0 x
         ≡ map (skip_before v)
         (refused_part s y (refusal edition s) ++ skips_after_read (reads edition s).0 y)
@@ -159,29 +160,29 @@ part_skips-same edition u v r s w h =
     comma true false e f g = absurd (cc)
     comma false j e f g = absurd (cc)
 
-    go : Diverge (125 ∷ (u ++ v)) (125 ∷ u) x y → (reads edition r).0 ≡ (reads edition s).0
+    go : Diverge (close_brace ∷ (u ++ v)) (close_brace ∷ u) x y → (reads edition r).0 ≡ (reads edition s).0
         → refusal edition r ≡ option_map (refusal_before v) (refusal edition s)
-        → past_blank r ≡ past_blank s ++ v → (i : Bool) → starts 44 x ≡ i
+        → past_blank r ≡ past_blank s ++ v → (i : Bool) → starts comma_byte x ≡ i
         → PartSkipsSame edition u v r s
     go k e q b true c =
         inr (inr (both k e q b
-        (comma (starts 44 x) (starts 44 y) c (starts-diverge 125 (u ++ v) u 44 x y k)
-        (diverge-append 125 u v x y k)) (inl c)))
-    go k e q b false c = brace (past-both 125 (u ++ v) u (λ b. not (b == 123)) x y k)
+        (comma (starts comma_byte x) (starts comma_byte y) c (starts-diverge close_brace (u ++ v) u comma_byte x y k)
+        (diverge-append close_brace u v x y k)) (inl c)))
+    go k e q b false c = brace (past-both close_brace (u ++ v) u (λ b. not (b == open_brace)) x y k)
       where
-        brace : To true (125 ∷ (u ++ v)) (125 ∷ u) (from_brace x) (from_brace y)
+        brace : To true (close_brace ∷ (u ++ v)) (close_brace ∷ u) (from_brace x) (from_brace y)
             → PartSkipsSame edition u v r s
         brace (inl l) = inr (inl (c, l))
         brace (inr d) =
             inr (inr (both k e q b
-            (refused_at (starts 44 x) (starts 44 y) (starts-diverge 125 (u ++ v) u 44 x y k)
-            (diverge-append 125 u v x y k)
-            (diverge-append 125 u v (from_brace x) (from_brace y) d)) (inr d)))
+            (refused_at (starts comma_byte x) (starts comma_byte y) (starts-diverge close_brace (u ++ v) u comma_byte x y k)
+            (diverge-append close_brace u v x y k)
+            (diverge-append close_brace u v (from_brace x) (from_brace y) d)) (inr d)))
 
     by : Same (u ++ v) u ((reads edition r).0, x) ((reads edition s).0, y)
         → (length (reads edition r).1 ≤ length (u ++ v))
         ⊎ (refusal edition r ≡ option_map (refusal_before v) (refusal edition s))
-        → To true (125 ∷ (u ++ v)) (125 ∷ u) (past_blank r) (past_blank s)
+        → To true (close_brace ∷ (u ++ v)) (close_brace ∷ u) (past_blank r) (past_blank s)
         → PartSkipsSame edition u v r s
     by (inl l) q b = inl l
     by (inr k) (inl l) b = inl (omega (arith, l, length-past is_space (reads edition r).1))
@@ -189,12 +190,12 @@ part_skips-same edition u v r s w h =
         inl (omega
         (arith, l, length-past is_space (reads edition r).1, reads-after_blank edition r))
     by (inr k) (inr q) (inr b) =
-        go k.1 k.0 q (diverge-append 125 u v (past_blank r) (past_blank s) b) (starts 44 x) refl
+        go k.1 k.0 q (diverge-append close_brace u v (past_blank r) (past_blank s) b) (starts comma_byte x) refl
 
 -- ---- parts
 
 -- where the parts of a text end
-pub parts-some : (edition : Edition) (text : List ℕ) → starts 44 (part edition text).1 ≡ true
+pub parts-some : (edition : Edition) (text : List ℕ) → starts comma_byte (part edition text).1 ≡ true
     → (parts edition text).1 ≡ (parts edition (past_one (part edition text).1)).1
 unfolding parts
 parts-some edition text e =
@@ -204,7 +205,7 @@ parts-some edition text e =
     (each-some (part_and_comma edition) (part_and_comma-takes edition) text
     (past_one (part edition text).1) (part edition text).0 read)
 
-pub parts-last : (edition : Edition) (text : List ℕ) → starts 44 (part edition text).1 ≡ false
+pub parts-last : (edition : Edition) (text : List ℕ) → starts comma_byte (part edition text).1 ≡ false
     → (parts edition text).1 ≡ (part edition text).1
 unfolding parts
 parts-last edition text e =
@@ -220,14 +221,14 @@ PartsSkipsSame edition u v r s =
 
 passed-brace : (t x y : List ℕ) → length x ≤ length y → length y ≤ length t
     → length (from_brace x) ≤ length t
-passed-brace t x y l m = omega (arith, l, m, length-past (λ b. not (b == 123)) x)
+passed-brace t x y l m = omega (arith, l, m, length-past (λ b. not (b == open_brace)) x)
 
 parts_skips-step : (edition : Edition) (n : ℕ) (u v : List ℕ)
-    → ((r s : List ℕ) → length r ≤ n → IsUtf8 r → Diverge (125 ∷ (u ++ v)) (125 ∷ u) r s
+    → ((r s : List ℕ) → length r ≤ n → IsUtf8 r → Diverge (close_brace ∷ (u ++ v)) (close_brace ∷ u) r s
     → PartsSkipsSame edition u v r s)
-    → (r s : List ℕ) → length r ≤ suc n → IsUtf8 r → Diverge (125 ∷ (u ++ v)) (125 ∷ u) r s
+    → (r s : List ℕ) → length r ≤ suc n → IsUtf8 r → Diverge (close_brace ∷ (u ++ v)) (close_brace ∷ u) r s
     → PartsSkipsSame edition u v r s
-parts_skips-step edition n u v more r s l w h = by (starts 44 x) refl
+parts_skips-step edition n u v more r s l w h = by (starts comma_byte x) refl
   where
     x : List ℕ
     x = (part edition r).1
@@ -236,7 +237,7 @@ parts_skips-step edition n u v more r s l w h = by (starts 44 x) refl
     y = (part edition s).1
 
     -- a comma follows the first part
-    commas : starts 44 x ≡ true → Same (u ++ v) u (part edition r) (part edition s)
+    commas : starts comma_byte x ≡ true → Same (u ++ v) u (part edition r) (part edition s)
         → PartSkipsSame edition u v r s → PartsSkipsSame edition u v r s
     commas e (inl passed) skips =
         inl (passed-brace (u ++ v) (parts edition r).1 x
@@ -256,7 +257,7 @@ parts_skips-step edition n u v more r s l w h = by (starts 44 x) refl
         )) passed)
     commas e (inr k) (inr (inl none)) = absurd (cc (e, none.0))
     commas e (inr k) (inr (inr same)) =
-        go (past_one-diverge 125 (u ++ v) u x y k.1)
+        go (past_one-diverge close_brace (u ++ v) u x y k.1)
       where
         text : IsUtf8 (past_one x)
         text =
@@ -268,8 +269,8 @@ parts_skips-step edition n u v more r s l w h = by (starts 44 x) refl
             took (part_and_comma edition) (part_and_comma-takes edition) r (past_one x)
             (part edition r).0 (rw e refl)
 
-        after : starts 44 y ≡ true
-        after = sym (starts-diverge 125 (u ++ v) u 44 x y k.1) ∙ e
+        after : starts comma_byte y ≡ true
+        after = sym (starts-diverge close_brace (u ++ v) u comma_byte x y k.1) ∙ e
 
         joined : PartsSkipsSame edition u v (past_one x) (past_one y)
             → PartsSkipsSame edition u v r s
@@ -284,7 +285,7 @@ parts_skips-step edition n u v more r s l w h = by (starts 44 x) refl
             (parts_skips edition (past_one y)))
             ∙ ap (map (skip_before v)) (sym (parts_skips-some edition s y refl after)))
 
-        go : To true (125 ∷ (u ++ v)) (125 ∷ u) (past_one x) (past_one y)
+        go : To true (close_brace ∷ (u ++ v)) (close_brace ∷ u) (past_one x) (past_one y)
             → PartsSkipsSame edition u v r s
         go (inl passed) =
             inl (passed-brace (u ++ v) (parts edition r).1 (past_one x)
@@ -293,7 +294,7 @@ parts_skips-step edition n u v more r s l w h = by (starts 44 x) refl
         go (inr diverge) = joined (more (past_one x) (past_one y) (omega (arith, less)) text diverge)
 
     -- no comma follows it
-    last : starts 44 x ≡ false → Same (u ++ v) u (part edition r) (part edition s)
+    last : starts comma_byte x ≡ false → Same (u ++ v) u (part edition r) (part edition s)
         → PartSkipsSame edition u v r s → PartsSkipsSame edition u v r s
     last e (inl passed) skips =
         inl (passed-brace (u ++ v) (parts edition r).1 x
@@ -305,56 +306,56 @@ parts_skips-step edition n u v more r s l w h = by (starts 44 x) refl
         inl (subst (λ (z : List ℕ). length (from_brace z) ≤ length (u ++ v))
         (sym (parts-last edition r e)) none.1)
     last e (inr k) (inr (inr same)) =
-        let after : starts 44 y ≡ false =
-        sym (starts-diverge 125 (u ++ v) u 44 x y k.1) ∙ e in
+        let after : starts comma_byte y ≡ false =
+        sym (starts-diverge close_brace (u ++ v) u comma_byte x y k.1) ∙ e in
         inr (parts_skips-last edition r x refl e ∙ same
         ∙ ap (map (skip_before v)) (sym (parts_skips-last edition s y refl after)))
 
-    by : (k : Bool) → starts 44 x ≡ k → PartsSkipsSame edition u v r s
+    by : (k : Bool) → starts comma_byte x ≡ k → PartsSkipsSame edition u v r s
     by true e =
         commas e (part-same edition u v r s w h)
         (part_skips-same edition u v r s w h)
     by false e = last e (part-same edition u v r s w h) (part_skips-same edition u v r s w h)
 
 parts_skips-same : (edition : Edition) (u v : List ℕ) (n : ℕ) (r s : List ℕ) → length r ≤ n
-    → IsUtf8 r → Diverge (125 ∷ (u ++ v)) (125 ∷ u) r s → PartsSkipsSame edition u v r s
+    → IsUtf8 r → Diverge (close_brace ∷ (u ++ v)) (close_brace ∷ u) r s → PartsSkipsSame edition u v r s
 parts_skips-same edition u v zero r s l w h =
-    absurd (omega (arith, l, longer-diverge (125 ∷ (u ++ v)) (125 ∷ u) r s h))
+    absurd (omega (arith, l, longer-diverge (close_brace ∷ (u ++ v)) (close_brace ∷ u) r s h))
 parts_skips-same edition u v (suc n) r s l w h =
     parts_skips-step edition n u v (parts_skips-same edition u v n) r s l w h
 
 -- ---- rule sets
 
 next_block_skips-same : (edition : Edition) (u v whole r s : List ℕ) → IsUtf8 whole → Ends whole r
-    → Diverge (125 ∷ (u ++ v)) (125 ∷ u) r s
+    → Diverge (close_brace ∷ (u ++ v)) (close_brace ∷ u) r s
     → Lost (u ++ v) (next_block edition r).1
     ⊎ (next_block_skips edition r ≡ map (skip_before v) (next_block_skips edition s))
 unfolding next_block next_block_skips
 next_block_skips-same edition u v whole r s w e h =
     by (from_brace r) (from_brace s)
-    (ends-ends whole r (from_brace r) e (ends-past (λ b. not (b == 123)) r))
-    (past-both 125 (u ++ v) u (λ b. not (b == 123)) r s h)
+    (ends-ends whole r (from_brace r) e (ends-past (λ b. not (b == open_brace)) r))
+    (past-both close_brace (u ++ v) u (λ b. not (b == open_brace)) r s h)
   where
     Both : List ℕ → List ℕ → Type 0
     Both x y =
-        Lost (u ++ v) (if starts 123 x then block edition (past_one x) else ([], [])).1
-        ⊎ ((if starts 123 x then block_skips edition (past_one x) else [])
-        ≡ map (skip_before v) (if starts 123 y then block_skips edition (past_one y) else []))
+        Lost (u ++ v) (if starts open_brace x then block edition (past_one x) else ([], [])).1
+        ⊎ ((if starts open_brace x then block_skips edition (past_one x) else [])
+        ≡ map (skip_before v) (if starts open_brace y then block_skips edition (past_one y) else []))
 
-    opened : (x y : List ℕ) → Ends whole x → Diverge (125 ∷ (u ++ v)) (125 ∷ u) x y → Both x y
+    opened : (x y : List ℕ) → Ends whole x → Diverge (close_brace ∷ (u ++ v)) (close_brace ∷ u) x y → Both x y
     opened x y f at = inl (inr refl)
-    opened x y f (on b x1 y1 k) = one (b == 123) refl
+    opened x y f (on b x1 y1 k) = one (b == open_brace) refl
       where
-        one : (i : Bool) → (b == 123) ≡ i
+        one : (i : Bool) → (b == open_brace) ≡ i
             → Lost (u ++ v) (if i then block edition x1 else ([], [])).1
             ⊎ ((if i then block_skips edition x1 else [])
             ≡ map (skip_before v) (if i then block_skips edition y1 else []))
         one true g =
             block_skips-same edition u v x1 y1
-            (utf8-after whole x1 b (omega (arith, eqb-true b 123 g)) w f) k
+            (utf8-after whole x1 b (omega (arith, eqb-true b open_brace g)) w f) k
         one false g = inl (inr refl)
 
-    by : (x y : List ℕ) → Ends whole x → To true (125 ∷ (u ++ v)) (125 ∷ u) x y → Both x y
+    by : (x y : List ℕ) → Ends whole x → To true (close_brace ∷ (u ++ v)) (close_brace ∷ u) x y → Both x y
     by x y f (inl l) = inl (opened-lost edition (u ++ v) x l)
     by x y f (inr k) = opened x y f k
 
@@ -364,10 +365,10 @@ next_block-opened : (edition : Edition) (t x : List ℕ) → length (from_brace 
 unfolding next_block
 next_block-opened edition t x l = opened-lost edition t (from_brace x) l
 
-comma_skips-same : (u v r s : List ℕ) → Diverge (125 ∷ (u ++ v)) (125 ∷ u) r s
+comma_skips-same : (u v r s : List ℕ) → Diverge (close_brace ∷ (u ++ v)) (close_brace ∷ u) r s
     → comma_skips r ≡ map (skip_before v) (comma_skips s)
 comma_skips-same u v r s at = refl
-comma_skips-same u v r s (on b r1 s1 h) = by (b == 44) (diverge-append 125 u v r1 s1 h)
+comma_skips-same u v r s (on b r1 s1 h) = by (b == comma_byte) (diverge-append close_brace u v r1 s1 h)
   where
     by : (k : Bool) → r1 ≡ s1 ++ v
         → (if k then record { from = b ∷ r1; after = r1; why = leading_comma } ∷ [] else [])
@@ -378,19 +379,19 @@ comma_skips-same u v r s (on b r1 s1 h) = by (b == 44) (diverge-append 125 u v r
 
 -- a rule set, up to its block's end
 pub rule_set_skips-same : (edition : Edition) (u v r s : List ℕ) → IsUtf8 r
-    → Diverge (125 ∷ (u ++ v)) (125 ∷ u) r s
+    → Diverge (close_brace ∷ (u ++ v)) (close_brace ∷ u) r s
     → Lost (u ++ v) (rule_set edition r).1
     ⊎ (rule_set_skips edition r ≡ map (skip_before v) (rule_set_skips edition s))
 unfolding rule_set rule_set_skips
 rule_set_skips-same edition u v r s w h =
-    comma (utf8-past_byte_if 44 r (omega arith) w)
-    (past_byte-to (125 ∷ (u ++ v)) (125 ∷ u) 44 refl r s h)
+    comma (utf8-past_byte_if comma_byte r (omega arith) w)
+    (past_byte-to (close_brace ∷ (u ++ v)) (close_brace ∷ u) comma_byte refl r s h)
   where
     x : List ℕ
-    x = past_byte 44 r
+    x = past_byte comma_byte r
 
     y : List ℕ
-    y = past_byte 44 s
+    y = past_byte comma_byte s
 
     a : List ℕ
     a = (parts edition x).1
@@ -435,7 +436,7 @@ rule_set_skips-same edition u v r s w h =
         body (next_block_skips-same edition u v x a b z (parts-ends edition x) k.1) e
 
     comma : IsUtf8 x
-        → (length x < length (125 ∷ (u ++ v))) ⊎ Diverge (125 ∷ (u ++ v)) (125 ∷ u) x y → Both
+        → (length x < length (close_brace ∷ (u ++ v))) ⊎ Diverge (close_brace ∷ (u ++ v)) (close_brace ∷ u) x y → Both
     comma z (inl l) =
         inl (next_block-lost edition (u ++ v) a (omega (arith, length-parts edition x)))
     comma z (inr k) =

@@ -4,6 +4,7 @@ use Rattle.std.proofs.Common.{◌≡◌, ◌<◌, ◌⊎◌, ℕ, Bool, true, fa
 use Rattle.std.proofs.lemmas.Slice.Eq.{bytes_eq-Decides}
 use Rattle.std.specs.Str.{chars}
 use lib.Utf8.{encode}
+use Rattle.simplecss_text.specs.AsciiBytes.{at_sign as at_sign_byte, close_brace, hyphen, open_brace, semicolon}
 use Rattle.simplecss_text.specs.Reading.{Ends, Fault, Reading, got, fails, before}
 use Rattle.simplecss_text.specs.Bytes.{is_neither, past, past_one, starts}
 use Rattle.simplecss_text.specs.Characters.{Edition, first_edition, second_edition}
@@ -73,7 +74,7 @@ name-no_hyphen edition text n rest u e some = by (name-is edition text n rest u 
     decided w true h = absurd (hyphen_no_name edition n w ((bytes_eq-Decides n (codes "-")).0 h))
     decided w false h = refl
 
-    by : IsName edition n ⊎ ((n ≡ 45 ∷ []) × (rest ≡ [])) → bytes_eq n (codes "-") ≡ false
+    by : IsName edition n ⊎ ((n ≡ hyphen ∷ []) × (rest ≡ [])) → bytes_eq n (codes "-") ≡ false
     by (inl w) = decided w (bytes_eq n (codes "-")) refl
     by (inr h) = absurd (some h.1)
 
@@ -106,7 +107,7 @@ name-alike edition g s v w n x quiet u h e less =
         ap (λ (n : List ℕ). Some n) first ∙ kept
         ∙ ap (λ (n : List ℕ). name_before v (Some n)) (sym first ∙ same)
 
-hyphen-name : (edition : Edition) → name edition (45 ∷ []) ≡ got (45 ∷ []) []
+hyphen-name : (edition : Edition) → name edition (hyphen ∷ []) ≡ got (hyphen ∷ []) []
 unfolding name past_name_chars chars encode
 hyphen-name first_edition = refl
 hyphen-name second_edition = refl
@@ -120,7 +121,7 @@ name-missing edition s v rest b f u e =
     ∙ by (no_name-front edition s (b ∷ v) u
     (name-fails edition (s ++ (b ∷ v)) rest f e).0)
   where
-    by : (begins_name edition (chars s) ≡ false) ⊎ (s ≡ 45 ∷ [])
+    by : (begins_name edition (chars s) ≡ false) ⊎ (s ≡ hyphen ∷ [])
         → None ≡ name_before (b ∷ v) (name_of (name edition s))
     by (inl none) = rw (name-none_begins edition s none) refl
     by (inr is) = rw (is, hyphen-name edition) refl
@@ -139,29 +140,29 @@ name-cut edition s (b ∷ v) w whole cut ends = by (w ++ (b ∷ v)) refl ends
     by rest e (at_fault f left g) =
         inr (name-missing edition s v left b f (utf8-first s (b ∷ v) whole cut) g)
     by rest e (at_semicolon n x left f g) =
-        let following : past (is_neither 59 123) x ≡ 59 ∷ (w ++ (b ∷ v)) =
-        g ∙ ap (λ (t : List ℕ). 59 ∷ t) e in
-        inr (name-alike edition 59 s (b ∷ v) w n x (quiet-semicolon edition) whole
-        (diverge-of 59 s (b ∷ v) w
+        let following : past (is_neither semicolon open_brace) x ≡ semicolon ∷ (w ++ (b ∷ v)) =
+        g ∙ ap (λ (t : List ℕ). semicolon ∷ t) e in
+        inr (name-alike edition semicolon s (b ∷ v) w n x (quiet-semicolon edition) whole
+        (diverge-of semicolon s (b ∷ v) w
         (semicolon-front edition (s ++ (b ∷ v)) n x (w ++ (b ∷ v)) f following)) f
-        (omega (arith, ap length following, length-past (is_neither 59 123) x)))
+        (omega (arith, ap length following, length-past (is_neither semicolon open_brace) x)))
     by rest e (at_block n x inner left f g h) =
-        let following : from_block_end inner ≡ 125 ∷ (w ++ (b ∷ v)) =
-        h ∙ ap (λ (t : List ℕ). 125 ∷ t) e in
-        inr (name-alike edition 125 s (b ∷ v) w n x (quiet-brace edition) whole
-        (diverge-of 125 s (b ∷ v) w
+        let following : from_block_end inner ≡ close_brace ∷ (w ++ (b ∷ v)) =
+        h ∙ ap (λ (t : List ℕ). close_brace ∷ t) e in
+        inr (name-alike edition close_brace s (b ∷ v) w n x (quiet-brace edition) whole
+        (diverge-of close_brace s (b ∷ v) w
         (block-front edition (s ++ (b ∷ v)) n x inner (w ++ (b ∷ v)) f g following)) f
         (omega (
           arith,
           ap length following,
           length-from_block_end inner,
           ap length g,
-          length-past (is_neither 59 123) x,
+          length-past (is_neither semicolon open_brace) x,
         )))
 
 -- where a text begins with an at-rule
 at_rule-left : (edition : Edition) (text t rest : List ℕ) (rules : List StyleRule)
-    → next_statement edition text ≡ Some (rules, rest) → past_blank text ≡ 64 ∷ t
+    → next_statement edition text ≡ Some (rules, rest) → past_blank text ≡ at_sign_byte ∷ t
     → at_rule_rest edition t ≡ rest
 unfolding statement
 at_rule-left edition text t rest rules e is =
@@ -169,10 +170,10 @@ at_rule-left edition text t rest rules e is =
   where
     read : List ℕ → List StyleRule × List ℕ
     read start =
-        if starts 64 start then ([], at_rule_rest edition (past_one start))
+        if starts at_sign_byte start then ([], at_rule_rest edition (past_one start))
         else rule_set edition start
 
-    by : (start : List ℕ) → start ≡ 64 ∷ t → (k : Bool)
+    by : (start : List ℕ) → start ≡ at_sign_byte ∷ t → (k : Bool)
         → (if k then None else Some (read start)) ≡ Some (rules, rest)
         → at_rule_rest edition t ≡ rest
     by start is true f = absurd (cc)
@@ -208,8 +209,8 @@ statement_skips-cut edition u v w rules whole cut e =
     none : w ++ v ≡ [] → Cut
     none n = nil v (none-after w v n)
 
-    ruled : Diverge (125 ∷ (w ++ v)) (125 ∷ w) (past_blank (u ++ v)) (past_blank u)
-        → starts 64 (past_blank (u ++ v)) ≡ false
+    ruled : Diverge (close_brace ∷ (w ++ v)) (close_brace ∷ w) (past_blank (u ++ v)) (past_blank u)
+        → starts at_sign_byte (past_blank (u ++ v)) ≡ false
         → rule_set edition (past_blank (u ++ v)) ≡ (rules, w ++ v)
         → Lost (w ++ v) (rule_set edition (past_blank (u ++ v))).1
         ⊎ (rule_set_skips edition (past_blank (u ++ v))
@@ -219,12 +220,12 @@ statement_skips-cut edition u v w rules whole cut e =
     ruled diverge other r (inl (inr k)) =
         none (sym (ap (λ (c : List StyleRule × List ℕ). c.1) r) ∙ k)
     ruled diverge other r (inr same) =
-        let sign : starts 64 (past_blank u) ≡ false =
-        sym (starts-diverge 125 (w ++ v) w 64 (past_blank (u ++ v)) (past_blank u) diverge)
+        let sign : starts at_sign_byte (past_blank u) ≡ false =
+        sym (starts-diverge close_brace (w ++ v) w at_sign_byte (past_blank (u ++ v)) (past_blank u) diverge)
         ∙ other in
         rw (other, sign) same
 
-    at_sign : (s : List ℕ) → past_blank (u ++ v) ≡ 64 ∷ (s ++ v) → past_blank u ≡ 64 ∷ s
+    at_sign : (s : List ℕ) → past_blank (u ++ v) ≡ at_sign_byte ∷ (s ++ v) → past_blank u ≡ at_sign_byte ∷ s
         → (w ++ v ≡ [])
         ⊎ (name_of (name edition (s ++ v)) ≡ name_before v (name_of (name edition s)))
         → at_rule_rest edition (s ++ v) ≡ w ++ v
@@ -239,15 +240,15 @@ statement_skips-cut edition u v w rules whole cut e =
         at_rule-skip : (s : List ℕ)
             → name_of (name edition (s ++ v)) ≡ name_before v (name_of (name edition s))
             → at_rule_rest edition (s ++ v) ≡ w ++ v → at_rule_rest edition s ≡ w
-            → statement_skips edition (64 ∷ (s ++ v))
-            ≡ map (skip_before v) (statement_skips edition (64 ∷ s))
+            → statement_skips edition (at_sign_byte ∷ (s ++ v))
+            ≡ map (skip_before v) (statement_skips edition (at_sign_byte ∷ s))
         at_rule-skip s n left rest = rw (n, left, rest) refl
 
     by : NextEnds edition (past_blank (u ++ v)) rules (w ++ v) → Cut
     by (text_ends n) = none n
     by (rules_end other r h) =
-        let diverge : Diverge (125 ∷ (w ++ v)) (125 ∷ w) (past_blank (u ++ v)) (past_blank u) =
-        past_blank-diverge 125 u v w brace_plain h in
+        let diverge : Diverge (close_brace ∷ (w ++ v)) (close_brace ∷ w) (past_blank (u ++ v)) (past_blank u) =
+        past_blank-diverge close_brace u v w brace_plain h in
         ruled diverge other r
         (rule_set_skips-same edition w v (past_blank (u ++ v)) (past_blank u)
         ((well-past_blank (u ++ v)).1 whole) diverge)
@@ -256,19 +257,19 @@ statement_skips-cut edition u v w rules whole cut e =
         let parts : after ≡ s ++ v =
         sym (append_assoc (before after (w ++ v)) w v
         ∙ (at_rule-well edition after (w ++ v) h).0) in
-        let start : past_blank (u ++ v) ≡ 64 ∷ (s ++ v) = is ∙ ap (λ (t : List ℕ). 64 ∷ t) parts in
-        let following : Ends (past_blank (u ++ v)) (64 ∷ (s ++ v)) =
+        let start : past_blank (u ++ v) ≡ at_sign_byte ∷ (s ++ v) = is ∙ ap (λ (t : List ℕ). at_sign_byte ∷ t) parts in
+        let following : Ends (past_blank (u ++ v)) (at_sign_byte ∷ (s ++ v)) =
         subst (Ends (past_blank (u ++ v))) start (ends-same (past_blank (u ++ v))) in
-        let diverge : Diverge (64 ∷ (s ++ v)) (64 ∷ s) (past_blank (u ++ v)) (past_blank u) =
-        past_blank-diverge 64 u v s sign_plain following in
+        let diverge : Diverge (at_sign_byte ∷ (s ++ v)) (at_sign_byte ∷ s) (past_blank (u ++ v)) (past_blank u) =
+        past_blank-diverge at_sign_byte u v s sign_plain following in
         let whole_after : IsUtf8 (s ++ v) =
-        utf8-after (u ++ v) (s ++ v) 64 (omega arith) whole
-        (ends-ends (u ++ v) (past_blank (u ++ v)) (64 ∷ (s ++ v)) (ends-past_blank (u ++ v))
+        utf8-after (u ++ v) (s ++ v) at_sign_byte (omega arith) whole
+        (ends-ends (u ++ v) (past_blank (u ++ v)) (at_sign_byte ∷ (s ++ v)) (ends-past_blank (u ++ v))
         following) in
         let ends : AtRuleEnds edition (s ++ v) (w ++ v) =
         subst (λ (t : List ℕ). AtRuleEnds edition t (w ++ v)) parts h in
         at_sign s start
-        (diverge-at 64 (s ++ v) s (past_blank (u ++ v)) (past_blank u) diverge start)
+        (diverge-at at_sign_byte (s ++ v) s (past_blank (u ++ v)) (past_blank u) diverge start)
         (name-cut edition s v w whole_after cut ends)
         (at_rule-left edition (u ++ v) (s ++ v) (w ++ v) rules e start)
         (at_rule-cut edition s v w (w ++ v) whole_after cut refl ends)

@@ -3,6 +3,7 @@
 use Rattle.std.specs.Prelude.{◌≡◌, refl, [], ◌∷◌, codes, true, false}
 use Rattle.std.specs.Str.{trim_start, trim_end, chars}
 use lib.Utf8.{encode}
+use Rattle.simplecss_text.specs.AsciiBytes.{colon}
 use Rattle.simplecss_text.specs.Reading.{each, fails, no_name, no_comment, no_value, wrong_byte, ended, got}
 use Rattle.simplecss_text.specs.Comments.{comment, blank, gap}
 use Rattle.simplecss_text.specs.Names.{past_name_chars, name}
@@ -107,7 +108,7 @@ slashes-editions = (refl, refl)
 pub first_faults : (edition : Edition) →
     (declaration edition (codes "{a") ≡ fails (no_name (codes "{a")) (codes "{a"))
     × (declaration edition (codes "--x") ≡ fails (no_name (codes "--x")) (codes "-x"))
-    × (declaration edition (codes "color;") ≡ fails (wrong_byte 58 (codes ";")) (codes ";"))
+    × (declaration edition (codes "color;") ≡ fails (wrong_byte colon (codes ";")) (codes ";"))
     × (declaration edition (codes "color") ≡ fails ended [])
     × (declaration edition (codes "a: ;x") ≡ fails (no_value (codes ";x")) (codes "x"))
     × (declaration edition (codes "a:;/*") ≡ fails (no_comment (codes "/*")) [])
@@ -187,8 +188,8 @@ pub more_faults : (edition : Edition) →
     × (declaration edition (codes "*-a") ≡ fails ended [])
     × (declaration edition (codes "*") ≡ fails (no_name []) [])
     × (declaration edition (codes "-:b") ≡ fails (no_name (codes "-:b")) (codes ":b"))
-    × (declaration edition (codes "a;b") ≡ fails (wrong_byte 58 (codes ";b")) (codes ";b"))
-    × (declaration edition (codes "a /**/ ;b") ≡ fails (wrong_byte 58 (codes ";b")) (codes ";b"))
+    × (declaration edition (codes "a;b") ≡ fails (wrong_byte colon (codes ";b")) (codes ";b"))
+    × (declaration edition (codes "a /**/ ;b") ≡ fails (wrong_byte colon (codes ";b")) (codes ";b"))
     × (declaration edition (codes "a:") ≡ fails (no_value []) [])
     × (declaration edition (codes "a: ! important ;; }") ≡ fails (no_value (codes "! important ;; }")) (codes "}"))
     × (declaration edition (codes "a:'x;b:c") ≡ fails (no_value (codes "'x;b:c")) [])

@@ -3,6 +3,7 @@
 use Rattle.std.proofs.Common.{◌++◌, ◌⊎◌, inl, inr, ap, sym, ◌∙◌, refl, ◌≡◌, ℕ, List, [], ◌∷◌, codes, false, true, Some, None}
 use Rattle.std.specs.Str.{trim_start, trim_end, chars}
 use lib.Utf8.{encode}
+use Rattle.simplecss_text.specs.AsciiBytes.{close_brace, open_brace, slash}
 use Rattle.simplecss_text.specs.Reading.{each, fails, no_name}
 use Rattle.simplecss_text.specs.Bytes.{starts}
 use Rattle.simplecss_text.specs.Characters.{Edition, first_edition, second_edition, is_space}
@@ -45,17 +46,17 @@ unfolding each comment blank gap past_name_chars name string_or_name attribute_o
 account_of_text first_edition =
     statement_then (codes "a{b:c;d}") [] (just_a ∷ []) (b_is_c ∷ []) _ [] []
     (selector_then (codes "a") (codes "{b:c;d}") just_a [] (b_is_c ∷ []) _ refl
-    (mark_then 123 (codes "b:c;d}") [] (b_is_c ∷ []) _ refl
+    (mark_then open_brace (codes "b:c;d}") [] (b_is_c ∷ []) _ refl
     (declaration_then (codes "b:c;") (codes "d}") b_is_c [] [] _ refl
     (skip_then (codes "d") (codes "}") broken_declaration [] [] []
-    (mark_then 125 [] [] [] [] refl cut_ends))))) tt (statements_end [] [] cut_ends)
+    (mark_then close_brace [] [] [] [] refl cut_ends))))) tt (statements_end [] [] cut_ends)
 account_of_text second_edition =
     statement_then (codes "a{b:c;d}") [] (just_a ∷ []) (b_is_c ∷ []) _ [] []
     (selector_then (codes "a") (codes "{b:c;d}") just_a [] (b_is_c ∷ []) _ refl
-    (mark_then 123 (codes "b:c;d}") [] (b_is_c ∷ []) _ refl
+    (mark_then open_brace (codes "b:c;d}") [] (b_is_c ∷ []) _ refl
     (declaration_then (codes "b:c;") (codes "d}") b_is_c [] [] _ refl
     (skip_then (codes "d") (codes "}") broken_declaration [] [] []
-    (mark_then 125 [] [] [] [] refl cut_ends))))) tt (statements_end [] [] cut_ends)
+    (mark_then close_brace [] [] [] [] refl cut_ends))))) tt (statements_end [] [] cut_ends)
 
 -- a text whose last value has a string that is not closed
 pub account_of_open_value : (edition : Edition) → IsAccountedFor edition (codes "a{b:c 'd}")
@@ -68,13 +69,13 @@ unfolding each comment blank gap past_name_chars name string_or_name attribute_o
 account_of_open_value first_edition =
     statement_then (codes "a{b:c 'd}") [] (just_a ∷ []) (b_is_c ∷ []) _ [] []
     (selector_then (codes "a") (codes "{b:c 'd}") just_a [] (b_is_c ∷ []) _ refl
-    (mark_then 123 (codes "b:c 'd}") [] (b_is_c ∷ []) _ refl
+    (mark_then open_brace (codes "b:c 'd}") [] (b_is_c ∷ []) _ refl
     (open_declaration_then (codes "b:c ") (codes "'d}") b_is_c [] [] [] refl cut_ends))) tt
     (statements_end [] [] cut_ends)
 account_of_open_value second_edition =
     statement_then (codes "a{b:c 'd}") [] (just_a ∷ []) (b_is_c ∷ []) _ [] []
     (selector_then (codes "a") (codes "{b:c 'd}") just_a [] (b_is_c ∷ []) _ refl
-    (mark_then 123 (codes "b:c 'd}") [] (b_is_c ∷ []) _ refl
+    (mark_then open_brace (codes "b:c 'd}") [] (b_is_c ∷ []) _ refl
     (open_declaration_then (codes "b:c ") (codes "'d}") b_is_c [] [] [] refl cut_ends))) tt
     (statements_end [] [] cut_ends)
 
@@ -98,7 +99,7 @@ less_is_no_blank more (space_then b rest s h) e =
 less_is_no_blank more (comment_then c rest i h) e =
     let begins : (47 ∷ 42 ∷ (i.inside ++ (42 ∷ 47 ∷ []))) ++ rest ≡ 60 ∷ more =
     sym (ap (λ (t : List ℕ). t ++ rest) i.is) ∙ e in
-    let differs : true ≡ false = ap (starts 47) begins in
+    let differs : true ≡ false = ap (starts slash) begins in
     cc
 
 -- the front of a text of one byte

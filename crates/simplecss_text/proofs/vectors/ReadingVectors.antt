@@ -5,6 +5,7 @@ use Rattle.std.specs.Prelude.{◌≡◌, refl, [], ◌∷◌, ◌++◌, codes, t
 use Rattle.std.specs.Str.{chars}
 use lib.Utf8.{encode}
 use Rattle.simplecss_text.specs.declared.error.Error.TheVariants.{UnexpectedEndOfStream, InvalidIdent, InvalidComment, InvalidByte, InvalidValue, SelectorMissing, UnexpectedSelector, UnexpectedCombinator, InvalidAttributeSelector, InvalidLanguagePseudoClass}
+use Rattle.simplecss_text.specs.AsciiBytes.{close_bracket, colon, equals_sign, open_parenthesis, space}
 use Rattle.simplecss_text.specs.Reading.{each, got, fails, no_name, no_comment, ended, wrong_byte}
 use Rattle.simplecss_text.specs.Positions.{position}
 use Rattle.simplecss_text.specs.Errors.{error_of, error_text, position_text}
@@ -111,10 +112,10 @@ block_ends = (refl, refl, refl, refl)
 -- the errors that report faults
 pub errors :
     (error_of (codes "a\nbc <") (no_name (codes "<")) ≡ InvalidIdent (record { row = 2; col = 4 }))
-    × (error_of (encode_utf8_all (codes "[a=\"x\"é]")) (wrong_byte 93 (encode_utf8_all (codes "é]"))) ≡ InvalidByte 93 195 (record { row = 1; col = 7 }))
-    × (error_of (codes "a") (wrong_byte 58 []) ≡ UnexpectedEndOfStream)
+    × (error_of (encode_utf8_all (codes "[a=\"x\"é]")) (wrong_byte close_bracket (encode_utf8_all (codes "é]"))) ≡ InvalidByte close_bracket 195 (record { row = 1; col = 7 }))
+    × (error_of (codes "a") (wrong_byte colon []) ≡ UnexpectedEndOfStream)
     × (error_of (encode_utf8_all (codes "é / b")) (no_comment (codes "/ b")) ≡ InvalidComment (record { row = 1; col = 3 }))
-    × (error_text (InvalidByte 93 195 (record { row = 1; col = 7 })) ≡ codes "expected ']' not '" ++ (encode_utf8_all (codes "Ã")) ++ codes "' at " ++ position_text (record { row = 1; col = 7 }))
+    × (error_text (InvalidByte close_bracket 195 (record { row = 1; col = 7 })) ≡ codes "expected ']' not '" ++ (encode_utf8_all (codes "Ã")) ++ codes "' at " ++ position_text (record { row = 1; col = 7 }))
 unfolding each comment blank gap past_name_chars name string_or_name word past_number term position block_end chars encode
 errors = (refl, refl, refl, refl, refl)
 
@@ -269,10 +270,10 @@ pub printed_errors :
     × (error_text (InvalidIdent (record { row = 1; col = 3 })) ≡ (codes "invalid ident at 1:3"))
     × (error_text (InvalidComment (record { row = 2; col = 40 })) ≡ (codes "invalid comment at 2:40"))
     × (error_text (InvalidValue (record { row = 10; col = 1 })) ≡ (codes "invalid value at 10:1"))
-    × (error_text (InvalidByte 93 98 (record { row = 1; col = 8 })) ≡ (codes "expected ']' not 'b' at 1:8"))
-    × (error_text (InvalidByte 61 98 (record { row = 1; col = 4 })) ≡ (codes "expected '=' not 'b' at 1:4"))
-    × (error_text (InvalidByte 40 32 (record { row = 1; col = 6 })) ≡ (codes "expected '(' not ' ' at 1:6"))
-    × (error_text (InvalidByte 93 195 (record { row = 1; col = 7 })) ≡ (encode_utf8_all (codes "expected ']' not 'Ã' at 1:7")))
+    × (error_text (InvalidByte close_bracket 98 (record { row = 1; col = 8 })) ≡ (codes "expected ']' not 'b' at 1:8"))
+    × (error_text (InvalidByte equals_sign 98 (record { row = 1; col = 4 })) ≡ (codes "expected '=' not 'b' at 1:4"))
+    × (error_text (InvalidByte open_parenthesis space (record { row = 1; col = 6 })) ≡ (codes "expected '(' not ' ' at 1:6"))
+    × (error_text (InvalidByte close_bracket 195 (record { row = 1; col = 7 })) ≡ (encode_utf8_all (codes "expected ']' not 'Ã' at 1:7")))
     × (error_text SelectorMissing ≡ (codes "selector missing"))
     × (error_text UnexpectedSelector ≡ (codes "unexpected selector"))
     × (error_text UnexpectedCombinator ≡ (codes "unexpected combinator"))

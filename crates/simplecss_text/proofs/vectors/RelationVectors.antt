@@ -1,6 +1,7 @@
 -- Worked slices and blanks.
 -- Computes `StandBetween` of `specs/Slices` and `IsBlank` of `specs/Blanks`.
 use Rattle.std.proofs.Common.{◌≡◌, refl, ap, [], ◌∷◌, codes, length, arith, length-append}
+use Rattle.simplecss_text.specs.AsciiBytes.{space}
 use Rattle.simplecss_text.specs.Slices.{StandBetween}
 use Rattle.simplecss_text.specs.Blanks.{IsComment, IsBlank, IsComments}
 use Rattle.simplecss_text.specs.Blanks.IsBlank.{empty, space_then, comment_then}
@@ -32,7 +33,7 @@ pub empty_blank : IsBlank []
 empty_blank = empty
 
 pub space_and_comment : IsBlank (codes " /**/")
-space_and_comment = space_then 32 (codes "/**/") refl (comment_then (codes "/**/") [] shortest_comment empty)
+space_and_comment = space_then space (codes "/**/") refl (comment_then (codes "/**/") [] shortest_comment empty)
 
 -- the marks of a comment have no byte in common
 marks_apart : ¬ IsComment (codes "/*/")

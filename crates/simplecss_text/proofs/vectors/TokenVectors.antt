@@ -4,6 +4,7 @@ use Rattle.std.specs.Prelude.{◌≡◌, refl, [], ◌∷◌, codes, Ok, Err, en
 use Rattle.std.specs.Str.{trim_start, trim_end, chars}
 use lib.Utf8.{encode}
 use Rattle.simplecss_text.specs.declared.error.Error.TheVariants.{InvalidIdent, InvalidComment, InvalidByte, SelectorMissing, UnexpectedSelector, UnexpectedCombinator, InvalidAttributeSelector, InvalidLanguagePseudoClass, UnexpectedEndOfStream}
+use Rattle.simplecss_text.specs.AsciiBytes.{close_bracket, equals_sign, open_parenthesis, space}
 use Rattle.simplecss_text.specs.Reading.{each, ended, wrong_byte, no_name, no_comment, no_selector, unexpected_selector, unexpected_combinator, no_attribute_form, no_language}
 use Rattle.simplecss_text.specs.Positions.{position}
 use Rattle.simplecss_text.specs.Comments.{comment, blank, gap}
@@ -160,8 +161,8 @@ gaps second_edition = (refl, refl, refl, refl, refl, refl, refl, refl, refl, ref
 -- rows and columns count newlines and characters
 pub positions : (edition : Edition) →
     (tokens_of edition (codes "a\nbc <") ≡ Ok (type_selector (codes "a")) ∷ Ok descendant_combinator ∷ Ok (type_selector (codes "bc")) ∷ Ok descendant_combinator ∷ Err (InvalidIdent (record { row = 2; col = 4 })) ∷ Err SelectorMissing ∷ [])
-    × (tokens_of edition (encode_utf8_all (codes "[a=\"x\"é]")) ≡ Err (InvalidByte 93 195 (record { row = 1; col = 7 })) ∷ [])
-    × (tokens_of edition (codes "*[x='a'b']") ≡ Ok universal_selector ∷ Err (InvalidByte 93 98 (record { row = 1; col = 8 })) ∷ [])
+    × (tokens_of edition (encode_utf8_all (codes "[a=\"x\"é]")) ≡ Err (InvalidByte close_bracket 195 (record { row = 1; col = 7 })) ∷ [])
+    × (tokens_of edition (codes "*[x='a'b']") ≡ Ok universal_selector ∷ Err (InvalidByte close_bracket 98 (record { row = 1; col = 8 })) ∷ [])
 unfolding each comment blank gap past_name_chars name string_or_name attribute_operator attribute_after lang_after pseudo_class_after named_token next_kind solid piece ending sequence_from position chars encode trim_start trim_end
 positions first_edition = (refl, refl, refl)
 positions second_edition = (refl, refl, refl)
@@ -189,8 +190,8 @@ pub unfinished_pieces : (edition : Edition) →
     × (tokens_of edition (codes "#-]") ≡ Err (InvalidIdent (record { row = 1; col = 2 })) ∷ [])
     × (tokens_of edition (codes "a>[") ≡ Ok (type_selector (codes "a")) ∷ Ok child_combinator ∷ Err (InvalidIdent (record { row = 1; col = 4 })) ∷ [])
     × (tokens_of edition (codes "[a=b") ≡ Err UnexpectedEndOfStream ∷ [])
-    × (tokens_of edition (codes "[a~b]") ≡ Err (InvalidByte 61 98 (record { row = 1; col = 4 })) ∷ [])
-    × (tokens_of edition (codes ":lang en") ≡ Err (InvalidByte 40 32 (record { row = 1; col = 6 })) ∷ [])
+    × (tokens_of edition (codes "[a~b]") ≡ Err (InvalidByte equals_sign 98 (record { row = 1; col = 4 })) ∷ [])
+    × (tokens_of edition (codes ":lang en") ≡ Err (InvalidByte open_parenthesis space (record { row = 1; col = 6 })) ∷ [])
     × (tokens_of edition (codes ":lang(en") ≡ Err UnexpectedEndOfStream ∷ [])
 unfolding each comment blank gap past_name_chars name string_or_name attribute_operator attribute_after lang_after pseudo_class_after named_token next_kind solid piece ending sequence_from position chars encode trim_start trim_end
 unfinished_pieces first_edition = (refl, refl, refl, refl, refl, refl, refl, refl, refl)
@@ -270,14 +271,14 @@ pub places_within_attributes : (edition : Edition) →
     (sequence_of edition (codes "[a") ≡ item (Err ended) [] (sequence_end []))
     × (sequence_of edition (codes "[a,b") ≡ item (Err no_attribute_form) (codes ",b") (sequence_end (codes ",b")))
     × (sequence_of edition (codes "[a ]") ≡ item (Err no_attribute_form) (codes " ]") (sequence_end (codes " ]")))
-    × (sequence_of edition (codes "[a~,b") ≡ item (Err (wrong_byte 61 (codes ",b"))) (codes ",b") (sequence_end (codes ",b")))
-    × (sequence_of edition (codes "[a|,b") ≡ item (Err (wrong_byte 61 (codes ",b"))) (codes ",b") (sequence_end (codes ",b")))
+    × (sequence_of edition (codes "[a~,b") ≡ item (Err (wrong_byte equals_sign (codes ",b"))) (codes ",b") (sequence_end (codes ",b")))
+    × (sequence_of edition (codes "[a|,b") ≡ item (Err (wrong_byte equals_sign (codes ",b"))) (codes ",b") (sequence_end (codes ",b")))
     × (sequence_of edition (codes "[a|") ≡ item (Err ended) [] (sequence_end []))
     × (sequence_of edition (codes "[a=") ≡ item (Err ended) [] (sequence_end []))
     × (sequence_of edition (codes "[a='x,b") ≡ item (Err ended) [] (sequence_end []))
-    × (sequence_of edition (codes "[a=b,c") ≡ item (Err (wrong_byte 93 (codes ",c"))) (codes ",c") (sequence_end (codes ",c")))
-    × (sequence_of edition (codes "[a='b'c]") ≡ item (Err (wrong_byte 93 (codes "c]"))) (codes "c]") (sequence_end (codes "c]")))
-    × (sequence_of edition (codes ":lang,b") ≡ item (Err (wrong_byte 40 (codes ",b"))) (codes ",b") (sequence_end (codes ",b")))
+    × (sequence_of edition (codes "[a=b,c") ≡ item (Err (wrong_byte close_bracket (codes ",c"))) (codes ",c") (sequence_end (codes ",c")))
+    × (sequence_of edition (codes "[a='b'c]") ≡ item (Err (wrong_byte close_bracket (codes "c]"))) (codes "c]") (sequence_end (codes "c]")))
+    × (sequence_of edition (codes ":lang,b") ≡ item (Err (wrong_byte open_parenthesis (codes ",b"))) (codes ",b") (sequence_end (codes ",b")))
     × (sequence_of edition (codes ":lang") ≡ item (Err ended) [] (sequence_end []))
     × (sequence_of edition (codes ":lang(a,b") ≡ item (Err ended) [] (sequence_end []))
     × (sequence_of edition (codes ":lang(),b") ≡ item (Err no_language) (codes ",b") (sequence_end (codes ",b")))

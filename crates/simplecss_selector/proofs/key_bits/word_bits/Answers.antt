@@ -5,6 +5,7 @@ use Rattle.std.specs.Str.Iter.{split_text, split_has_more, split_pattern}
 use Rattle.std.proofs.lemmas.Iterator.Consumers.{YieldsList-end}
 use Rattle.std.proofs.lemmas.Iterator.Splits.{YieldsList-from_str_split}
 use Rattle.std.proofs.lemmas.List.{map-append}
+use Rattle.simplecss_text.specs.AsciiBytes.{space}
 use Rattle.simplecss_selector.specs.Keys.Key.{by_class}
 use Rattle.simplecss_selector.specs.KeyBits.{key_bits, Covers}
 use Rattle.simplecss_selector.proofs.KeyBitLemmas.{covers_no_word, covers_word_more, covers_words}
@@ -23,6 +24,6 @@ pub returns : goal.returns
 returns c =
     let start = c.into_iter-word-iterator.ensures.into_iter_gives in
     let split = c.split-word-items.ensures in
-    let yields = YieldsList-from_str_split {s = c.into_iter-word-iterator.result} 32 c.args.value.now (lit< tt) (ap split_text start ∙ split.text) (ap split_has_more start ∙ split.has_more) (ap split_pattern start ∙ split.pattern) in
+    let yields = YieldsList-from_str_split {s = c.into_iter-word-iterator.result} space c.args.value.now (lit< tt) (ap split_text start ∙ split.text) (ap split_has_more start ∙ split.has_more) (ap split_pattern start ∙ split.pattern) in
     let whole = YieldsList-end yields c.loop-word.yielded _ c.loop-word.yielded_by _ _ c.in-None.is c.next.ensures.steps in
     λ word. covers_words c.loop-word.bits (map (λ word. word.now) c.loop-word.yielded) c.args.value.now word whole.0 c.loop-word.invariant

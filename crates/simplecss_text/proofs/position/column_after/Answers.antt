@@ -1,6 +1,7 @@
 use Rattle.std.proofs.Common.{List, ℕ, lit<, ap, ◌∙◌, ◌≡◌, ◌+◌, ◌==◌, min, length, chars, Bor}
 use Rattle.std.specs.List.{after_last}
 use Rattle.std.proofs.lemmas.Str.Pattern.{rfind_char}
+use Rattle.simplecss_text.specs.AsciiBytes.{newline}
 use Rattle.simplecss_text.proofs.bytes.PositionLemmas.{after_newline, one_line}
 use Rattle.simplecss_text.proofs.position.column_after.Goals as goal
 use Rattle.simplecss_text.proofs.position.column_after.Goals.{in-Some, in-None}
@@ -8,8 +9,8 @@ use Rattle.simplecss_text.proofs.position.column_after.Goals.{in-Some, in-None}
 -- the line is what follows the last newline, wherever that is
 pub returns : goal.returns
 returns c =
-    let last = rfind_char 10 c.args.before.now _ c.rfind.ensures.cases (lit< tt) in
-    let line : c.match-rfind.line.now ≡ after_last (λ b. b == 10) c.args.before.now
+    let last = rfind_char newline c.args.before.now _ c.rfind.ensures.cases (lit< tt) in
+    let line : c.match-rfind.line.now ≡ after_last (λ b. b == newline) c.args.before.now
     = elim c.match-rfind.branch [
       | in-Some w ↦
           let found = rw w.in-Some.is at last in

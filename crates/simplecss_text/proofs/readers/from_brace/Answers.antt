@@ -1,4 +1,5 @@
 use Rattle.std.proofs.Common.{◌≡◌, ◌==◌, not, drop, ap, ◌∙◌, rules}
+use Rattle.simplecss_text.specs.AsciiBytes.{open_brace}
 use Rattle.simplecss_text.specs.Bytes.{past}
 use Rattle.simplecss_text.specs.Cursor.{text_of, offset_of, rest_of}
 use Rattle.simplecss_text.proofs.bytes.ByteLemmas.{past_run}
@@ -7,7 +8,7 @@ use Rattle.simplecss_text.proofs.readers.from_brace.Goals as goal
 pub returns : goal.returns
 returns c =
     let start : rest_of c.new-s.result ≡ c.args.text.now = ap (λ n. drop n c.new-s.result.text.now) c.new-s.ensures.offset ∙ c.new-s.ensures.text in
-    let run : rest_of c.skip_bytes.new.self ≡ past (λ b. not (b == 123)) (rest_of c.new-s.result) =
+    let run : rest_of c.skip_bytes.new.self ≡ past (λ b. not (b == open_brace)) (rest_of c.new-s.result) =
     ap (drop (offset_of c.skip_bytes.new.self)) c.skip_bytes.ensures.text
-    ∙ past_run (λ b. not (b == 123)) (text_of c.new-s.result) (offset_of c.new-s.result) (offset_of c.skip_bytes.new.self) (λ b x answered. search rules) c.skip_bytes.ensures.run in
-    c.slice_tail.ensures ∙ run ∙ ap (past (λ b. not (b == 123))) start
+    ∙ past_run (λ b. not (b == open_brace)) (text_of c.new-s.result) (offset_of c.new-s.result) (offset_of c.skip_bytes.new.self) (λ b x answered. search rules) c.skip_bytes.ensures.run in
+    c.slice_tail.ensures ∙ run ∙ ap (past (λ b. not (b == open_brace))) start

@@ -1,4 +1,5 @@
 use Rattle.std.proofs.Common.{◌||◌, ◌==◌, refl, arith}
+use Rattle.simplecss_text.specs.AsciiBytes.{slash}
 use Rattle.simplecss_text.specs.Characters.{is_space}
 use Rattle.simplecss_text.specs.declared.scan.TheConstants.{BYTES}
 use Rattle.simplecss_text.proofs.bytes.ByteTable.{agree_below, from_table}
@@ -6,4 +7,4 @@ use Rattle.simplecss_text.proofs.scan.is_gap_start.Goals as goal
 
 pub returns : goal.returns
 unfolding agree_below
-returns c = rw c.from.ensures (from_table BYTES 4 (λ b. is_space b || b == 47) c.args.byte (omega arith) refl)
+returns c = rw c.from.ensures (from_table BYTES 4 (λ b. is_space b || b == slash) c.args.byte (omega arith) refl)

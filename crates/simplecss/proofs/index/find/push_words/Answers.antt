@@ -3,6 +3,7 @@ use Rattle.std.specs.Str.Iter.{split_text, split_has_more, split_pattern}
 use Rattle.std.proofs.lemmas.Iterator.Consumers.{YieldsList-end}
 use Rattle.std.proofs.lemmas.Iterator.Splits.{YieldsList-from_str_split}
 use Rattle.std.proofs.lemmas.List.{map-append}
+use Rattle.simplecss_text.specs.AsciiBytes.{space}
 use Rattle.simplecss.specs.SelectorIndices.{Adds}
 use Rattle.simplecss.proofs.LastIndices.{OfClasses, no_classes, class_more, all_classes}
 use Rattle.simplecss.proofs.index.find.push_words.Goals as goal
@@ -22,6 +23,6 @@ pub returns : goal.returns
 returns c =
     let start = c.into_iter-word-iterator.ensures.into_iter_gives in
     let split = c.split-word-items.ensures in
-    let yields = YieldsList-from_str_split {s = c.into_iter-word-iterator.result} 32 c.args.value.now (lit< tt) (ap split_text start ∙ split.text) (ap split_has_more start ∙ split.has_more) (ap split_pattern start ∙ split.pattern) in
+    let yields = YieldsList-from_str_split {s = c.into_iter-word-iterator.result} space c.args.value.now (lit< tt) (ap split_text start ∙ split.text) (ap split_has_more start ∙ split.has_more) (ap split_pattern start ∙ split.pattern) in
     let whole = YieldsList-end yields c.loop-word.yielded _ c.loop-word.yielded_by _ _ c.in-None.is c.next.ensures.steps in
     all_classes c.args.lasts.now (map (λ word. word.now) c.loop-word.yielded) c.args.value.now c.args.indices.now.items c.loop-word.indices.items whole.0 c.loop-word.invariant

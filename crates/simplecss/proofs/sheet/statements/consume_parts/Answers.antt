@@ -1,4 +1,5 @@
 use Rattle.std.proofs.Common.{◌≡◌, ◌++◌, ◌<◌, List, ℕ, Option, length, option_to_list, refl, sym, ◌∙◌, ap, subst, append_assoc}
+use Rattle.simplecss_text.specs.AsciiBytes.{comma as comma_byte}
 use Rattle.simplecss_text.specs.Bytes.{past_one}
 use Rattle.simplecss_text.specs.Components.{Component}
 use Rattle.simplecss_text.specs.Statements.{part, parts}
@@ -15,7 +16,7 @@ parts-smaller g c =
     let comma = sym c.skip_byte.ensures.stands ∙ c.if-not-skip_byte.false in
     let read : Option (List Component) × List ℕ = part this_edition (rest_of c.parts.s) in
     let is : read ≡ (read.0, rest_of c.consume_part.new.s) = pair-of {r = read} refl c.in_ok-consume_part.ensures.rest in
-    let after : rest_of c.skip_byte.new.s ≡ past_one (rest_of c.consume_part.new.s) = c.skip_byte.ensures.rest ∙ past_byte_there 44 (rest_of c.consume_part.new.s) comma in
+    let after : rest_of c.skip_byte.new.s ≡ past_one (rest_of c.consume_part.new.s) = c.skip_byte.ensures.rest ∙ past_byte_there comma_byte (rest_of c.consume_part.new.s) comma in
     subst (λ (t : List ℕ). length t < length (rest_of c.parts.s)) (sym after) (parts-less this_edition (rest_of c.parts.s) (rest_of c.consume_part.new.s) read.0 is comma)
 
 pub parts-preserved : goal.parts-preserved
@@ -23,7 +24,7 @@ parts-preserved g c =
     let comma = sym c.skip_byte.ensures.stands ∙ c.if-not-skip_byte.false in
     let read : Option (List Component) × List ℕ = part this_edition (rest_of c.parts.s) in
     let is : read ≡ (read.0, rest_of c.consume_part.new.s) = pair-of {r = read} refl c.in_ok-consume_part.ensures.rest in
-    let after : rest_of c.skip_byte.new.s ≡ past_one (rest_of c.consume_part.new.s) = c.skip_byte.ensures.rest ∙ past_byte_there 44 (rest_of c.consume_part.new.s) comma in
+    let after : rest_of c.skip_byte.new.s ≡ past_one (rest_of c.consume_part.new.s) = c.skip_byte.ensures.rest ∙ past_byte_there comma_byte (rest_of c.consume_part.new.s) comma in
     let step = parts-some this_edition (rest_of c.parts.s) (rest_of c.consume_part.new.s) read.0 is comma in
     let more = parts this_edition (past_one (rest_of c.consume_part.new.s)) in
     let here = rest_of c.parts.s in
@@ -47,7 +48,7 @@ returns-then-not-skip_byte-clause-reads g c =
     let last = parts-last this_edition (rest_of c.parts.s) (rest_of c.consume_part.new.s) read.0 is none in
     let all : List (List Component) × List ℕ = parts this_edition (rest_of c.args.s.now) in
     let selectors : c.consume_part.new.selectors.items ≡ all.0 = c.in_ok-consume_part.ensures.selectors ∙ ap (λ r. c.parts.selectors.items ++ r.0) (sym last) ∙ c.parts.invariant.read in
-    let rest : rest_of c.skip_byte.new.s ≡ all.1 = c.skip_byte.ensures.rest ∙ past_byte_not 44 (rest_of c.consume_part.new.s) none ∙ ap (λ r. r.1) (sym last) ∙ c.parts.invariant.rest in
+    let rest : rest_of c.skip_byte.new.s ≡ all.1 = c.skip_byte.ensures.rest ∙ past_byte_not comma_byte (rest_of c.consume_part.new.s) none ∙ ap (λ r. r.1) (sym last) ∙ c.parts.invariant.rest in
     pair-of {A = List (List Component)} {B = List ℕ} selectors rest
 
 pub returns-then-not-skip_byte-clause-reported : goal.returns-then-not-skip_byte-clause-reported

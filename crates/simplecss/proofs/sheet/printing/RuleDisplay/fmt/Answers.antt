@@ -2,6 +2,7 @@ use Rattle.std.proofs.Common.{◌≡◌, ℕ, List, [], ◌∷◌, ◌++◌, ref
 use Rattle.std.specs.Fmt.{HasWrittenStyled, IsFlush}
 use Rattle.std.specs.List.{flat_map}
 use Rattle.std.specs.Result.{IsOk}
+use Rattle.simplecss_text.specs.AsciiBytes.{close_brace, open_brace, space}
 use Rattle.simplecss_text.specs.Printing.{declaration_text, rule_text, selector_text}
 use Rattle.simplecss_text.proofs.round_trip.StyledWrites.{plain_of_styled, styled_four}
 use Rattle.simplecss_declaration.specs.DeclarationViews.{declarations_of}
@@ -17,7 +18,7 @@ written g c flush ok =
     let close = c.write_str-2.ensures.styled block.flush ok in
     let front : List ℕ = selector_text c.args.self.now.selector in
     let inner : List ℕ = flat_map declaration_text (declarations_of c.args.self.now.declarations.items) in
-    let whole : ((front ++ 32 ∷ 123 ∷ 32 ∷ []) ++ inner) ++ 32 ∷ 125 ∷ [] ≡ rule_text (rule_of c.args.self.now) = search rules in
+    let whole : ((front ++ space ∷ open_brace ∷ space ∷ []) ++ inner) ++ space ∷ close_brace ∷ [] ≡ rule_text (rule_of c.args.self.now) = search rules in
     styled_four _ _ _ _ _ _ _ _ _ _ _ selector brace block close whole
 
 pub returns-clause-writes : goal.returns-clause-writes
