@@ -17,7 +17,8 @@ Takes rule element = HasPlacement page_tree rule.components element
 
 -- for each rule, whether it matches the element
 abbrev pub AreAnswers : List Bool → List StyleRule → Spot → Type 0
-AreAnswers answers rules element = AllZip (λ answer rule. (answer ≡ true) ↔ Takes rule element) answers rules
+AreAnswers answers rules element =
+    AllZip (λ answer rule. (answer ≡ true) ↔ Takes rule element) answers rules
 
 -- the numbers of the rules that match; the first rule has the number 1
 abbrev pub numbers_of : List Bool → List ℕ

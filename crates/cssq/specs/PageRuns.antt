@@ -14,7 +14,8 @@ IsElementLine Rules = IsLineOf
 IsElementLine (Winner name) = IsStyleLineOf name.now
 
 -- the line of the element at an index was appended to a text
-abbrev pub AppendsElementLine : LineContent → List StyleRule → List Row → ℕ → List ℕ → List ℕ → Type 0
+abbrev pub AppendsElementLine : LineContent → List StyleRule → List Row → ℕ → List ℕ → List ℕ
+    → Type 0
 AppendsElementLine content rules rows index old new =
     (line : List ℕ) × IsElementLine content rules rows index line × (new ≡ old ++ line)
 

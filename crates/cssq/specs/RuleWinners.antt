@@ -46,11 +46,13 @@ index_for_name indices name = get_by (λ key. slice_cmp nat_cmp name key.now) in
 -- name
 abbrev pub IsBestIndex : List StyleDeclaration → List ℕ → Option ℕ → Type 0
 IsBestIndex declarations name None = HasNone (InRule 0 declarations) name
-IsBestIndex declarations name (Some k) = (p : StyleDeclaration) × WinsAt (InRule 0 declarations) name 0 k p
+IsBestIndex declarations name (Some k) =
+    (p : StyleDeclaration) × WinsAt (InRule 0 declarations) name 0 k p
 
 -- the map has for each name the index of what wins for it
 abbrev pub HasBestIndices : BTreeMap (Bor (List ℕ)) ℕ → List StyleDeclaration → Type 0
-HasBestIndices indices declarations = (name : List ℕ) → IsBestIndex declarations name (index_for_name indices name)
+HasBestIndices indices declarations =
+    (name : List ℕ) → IsBestIndex declarations name (index_for_name indices name)
 
 -- whether the later replaces the one at the known index, if one is known: it is at least as
 -- important

@@ -35,10 +35,12 @@ pub data Beats (x : StyleDeclaration) (i j : ℕ) (y : StyleDeclaration) (k l : 
 
 -- The declaration of the name is in the set at this index, and no other of the name in the set
 -- beats it.
-pub record WinsAt (has : DeclarationSet) (name : List ℕ) (i j : ℕ) (p : StyleDeclaration) : Type 0 where
+pub record WinsAt (has : DeclarationSet) (name : List ℕ) (i j : ℕ)
+    (p : StyleDeclaration) : Type 0 where
   pub stated : has i j p
   pub named : p.name ≡ name
-  pub unbeaten : (k l : ℕ) (q : StyleDeclaration) → has k l q → q.name ≡ name → Beats q k l p i j → ⊥
+  pub unbeaten : (k l : ℕ) (q : StyleDeclaration) → has k l q → q.name ≡ name → Beats q k l p i j
+      → ⊥
 
 -- none of the name is in the set
 abbrev pub HasNone : DeclarationSet → List ℕ → Type 0
@@ -51,7 +53,8 @@ Wins has name (Some p) = (i : ℕ) × (j : ℕ) × WinsAt has name i j p
 
 -- Among the declarations of a name in the rules that have a placement on the node, a winner is one
 -- that no other beats.
-abbrev pub IsWinner : {Node : Type 0} → Tree Node → Node → List ℕ → List StyleRule → StyleDeclaration → Type 0
+abbrev pub IsWinner : {Node : Type 0} → Tree Node → Node → List ℕ → List StyleRule
+    → StyleDeclaration → Type 0
 IsWinner tree n name rules p = Wins (IsStated tree n rules) name (Some p)
 
 -- no rule that has a placement on the node has a declaration of the name
@@ -77,8 +80,10 @@ IsEarlier i k j l = (i < j) ⊎ ((i ≡ j) × (k < l))
 pub record ListsInOrder (has : DeclarationSet) (declarations : List StyleDeclaration) : Type 0 where
   pub indexed : List Indexed
   pub are : map (λ a. a.declaration) indexed ≡ declarations
-  pub member : (k : ℕ) (a : Indexed) → slice_get indexed k ≡ Some a → has a.rule a.index a.declaration
-  pub rise : (k l : ℕ) (a b : Indexed) → k < l → slice_get indexed k ≡ Some a → slice_get indexed l ≡ Some b
+  pub member : (k : ℕ) (a : Indexed) → slice_get indexed k ≡ Some a
+      → has a.rule a.index a.declaration
+  pub rise : (k l : ℕ) (a b : Indexed) → k < l → slice_get indexed k ≡ Some a
+      → slice_get indexed l ≡ Some b
       → IsEarlier a.rule a.index b.rule b.index
   pub all : (i j : ℕ) (p : StyleDeclaration) → has i j p
       → (k : ℕ) × (slice_get indexed k ≡ Some (record { rule = i; index = j; declaration = p }))

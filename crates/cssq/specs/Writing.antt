@@ -12,10 +12,12 @@ AppendsProperPrefix old new bytes =
 
 -- A run must write bytes, or return a fault. It did write them; or the writer failed after a
 -- prefix; or nothing was written, because an allocation failed or because of the fault.
-abbrev pub Writes : (Result (List ℕ) RunFault → Type 0) → Result (Unit {0}) RunFault → Option (List ℕ)
+abbrev pub Writes : (Result (List ℕ) RunFault → Type 0) → Result (Unit {0}) RunFault
+    → Option (List ℕ)
     → Option (List ℕ) → Type 0
 Writes IsDue (Ok x) old new = (bytes : List ℕ) × IsDue (Ok bytes) × Appends old new bytes
-Writes IsDue (Err Output) old new = (bytes : List ℕ) × IsDue (Ok bytes) × AppendsProperPrefix old new bytes
+Writes IsDue (Err Output) old new =
+    (bytes : List ℕ) × IsDue (Ok bytes) × AppendsProperPrefix old new bytes
 Writes IsDue (Err Memory) old new = Keeps old new
 Writes IsDue (Err Refused) old new = IsDue (Err Refused) × Keeps old new
 Writes IsDue (Err (Tree fault)) old new = IsDue (Err (Tree fault)) × Keeps old new

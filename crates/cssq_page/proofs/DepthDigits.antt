@@ -15,7 +15,9 @@ all_digits : (bs : List ℕ) → list_all is_ascii_digit bs ≡ all_ascii_digits
 all_digits [] = refl
 all_digits (c ∷ cs) = ap (λ b. is_ascii_digit c && b) (all_digits cs)
 
-digits_from : (c : ℕ) (cs : List ℕ) → (first : Bool) → (c == digit_zero) ≡ first → cond first (length cs == 0) (list_all is_ascii_digit (c ∷ cs)) ≡ true → all_ascii_digits (c ∷ cs) ≡ true
+digits_from : (c : ℕ) (cs : List ℕ) → (first : Bool) → (c == digit_zero) ≡ first
+    → cond first (length cs == 0) (list_all is_ascii_digit (c ∷ cs)) ≡ true
+    → all_ascii_digits (c ∷ cs) ≡ true
 digits_from c [] true zero ok = grind arith
 digits_from c (d ∷ cs) true zero ok = grind arith
 digits_from c cs false other ok = sym (all_digits (c ∷ cs)) ∙ ok
@@ -27,17 +29,23 @@ digits (c ∷ cs) ok = (digits_from c cs (c == digit_zero) refl ok, omega arith)
 own : IsNumeralModel (λ ds. all_ascii_digits ds ≡ true) (digits_value 10)
 own = numerals_by_value _ tells_all_ascii_digits
 
-reads : {E : Type 0} (bs : List ℕ) (r : Result ℕ E) → ParsesUnsigned 64 10 bs r → is_depth bs ≡ true → OkIff r ((0 < length bs) × (digits_value 10 bs < 2 ^ 64)) (digits_value 10 bs)
+reads : {E : Type 0} (bs : List ℕ) (r : Result ℕ E) → ParsesUnsigned 64 10 bs r → is_depth bs ≡ true
+    → OkIff r ((0 < length bs) × (digits_value 10 bs < 2 ^ 64)) (digits_value 10 bs)
 reads bs r parsed ok = parse_digits own 64 bs r parsed (digits bs ok).0
 
 pub depth_other : (limit : ℕ) (bs : List ℕ) → is_depth bs ≡ false → None ≡ spelled_depth limit bs
 depth_other limit bs other = grind arith
 
-pub depth_unparsed : {E : Type 0} (limit : ℕ) (bs : List ℕ) (r : Result ℕ E) (e : E) → ParsesUnsigned 64 10 bs r → is_depth bs ≡ true → r ≡ Err e → limit < 2 ^ 64 → None ≡ spelled_depth limit bs
+pub depth_unparsed : {E : Type 0} (limit : ℕ) (bs : List ℕ) (r : Result ℕ E) (e : E)
+    → ParsesUnsigned 64 10 bs r → is_depth bs ≡ true → r ≡ Err e → limit < 2 ^ 64
+    → None ≡ spelled_depth limit bs
 depth_unparsed {E} limit bs r e parsed ok was fits =
-    let refused = subst (λ r. OkIff r ((0 < length bs) × (digits_value 10 bs < 2 ^ 64)) (digits_value 10 bs)) was (reads bs r parsed ok) in
+    let refused =
+    subst (λ r. OkIff r ((0 < length bs) × (digits_value 10 bs < 2 ^ 64)) (digits_value 10 bs)) was
+    (reads bs r parsed ok) in
     grind arith
 
-pub depth_digits : (bs : List ℕ) → 0 < length bs → (get_or bs 0 0 ≡ digit_zero → ⊥) → list_all is_ascii_digit bs ≡ is_depth bs
+pub depth_digits : (bs : List ℕ) → 0 < length bs → (get_or bs 0 0 ≡ digit_zero → ⊥)
+    → list_all is_ascii_digit bs ≡ is_depth bs
 depth_digits [] some other = absurd (omega arith)
 depth_digits (c ∷ cs) some other = grind arith

@@ -22,7 +22,11 @@ module _ (text : List ℕ) (byte n : ℕ) (is : n ≡ position_or_len (λ b. b =
   byte_there : byte < 128 → n < length text → get_or text n 0 < 128
   byte_there ascii lt =
       let found = passes_at_first (λ b. b == byte) text 0 (omega (arith, is)) in
-      omega (arith, eqb-true (get_or text (position_or_len (λ b. b == byte) text) 0) byte found, ap (λ k. get_or text k 0) is)
+      omega (
+        arith,
+        eqb-true (get_or text (position_or_len (λ b. b == byte) text) 0) byte found,
+        ap (λ k. get_or text k 0) is,
+      )
 
   pub offset_boundary : byte < 128 → IsCharBoundary text n
   offset_boundary ascii = (offset_within, λ lt wide. absurd (omega (arith, byte_there ascii lt)))
@@ -34,42 +38,56 @@ range_front : (text : List ℕ) (n : ℕ) → slice_range text 0 n ≡ take n te
 range_front text n = grind (arith, common_steps)
 
 -- a text cut at that byte
-pub cut_at : (text : List ℕ) (byte n : ℕ) → n ≡ position_or_len (λ b. b == byte) text → (front others : List ℕ) → front ≡ slice_range text 0 n → others ≡ drop (n + 1) text → n < length text
-    → (front ≡ before_first (λ b. b == byte) text) × (others ≡ after_first (λ b. b == byte) text) × (position_or_len (λ b. b == byte) text < length text)
+pub cut_at : (text : List ℕ) (byte n : ℕ) → n ≡ position_or_len (λ b. b == byte) text
+    → (front others : List ℕ) → front ≡ slice_range text 0 n → others ≡ drop (n + 1) text
+    → n < length text
+    → (front ≡ before_first (λ b. b == byte) text) × (others ≡ after_first (λ b. b == byte) text)
+    × (position_or_len (λ b. b == byte) text < length text)
 cut_at text byte n is front others front_is others_is lt = (
   front_is ∙ range_front text n ∙ ap (λ k. take k text) is,
   others_is ∙ ap (λ k. drop (k + 1) text) is,
   omega (arith, is),
 )
 
-first_kept : (line : List ℕ) (lines : List (List ℕ)) → 0 < length lines → without_empty_last (line ∷ lines) ≡ line ∷ without_empty_last lines
+first_kept : (line : List ℕ) (lines : List (List ℕ)) → 0 < length lines
+    → without_empty_last (line ∷ lines) ≡ line ∷ without_empty_last lines
 first_kept line [] some = absurd (omega arith)
 first_kept [] (next ∷ lines) some = refl
 first_kept (b ∷ line) (next ∷ lines) some = refl
 
-pub split_whole : (p : ℕ → Bool) (text : List ℕ) → position_or_len p text ≡ length text → slice_split p text ≡ text ∷ []
-split_whole p text none = slice_split_none p text (All-from_get_or (λ b. p b ≡ false) text 0 (λ i lt. fails_before_first p text i 0 (omega arith)))
+pub split_whole : (p : ℕ → Bool) (text : List ℕ) → position_or_len p text ≡ length text
+    → slice_split p text ≡ text ∷ []
+split_whole p text none = slice_split_none p text (All-from_get_or (λ b. p b ≡ false) text 0
+    (λ i lt. fails_before_first p text i 0 (omega arith)))
 
 -- the first line and the text after its newline
-module _ (text line others : List ℕ) (cut : (line ≡ before_first is_newline text) × (others ≡ after_first is_newline text) × (position_or_len is_newline text < length text)) where
+module _ (text line others : List ℕ)
+    (cut : (line ≡ before_first is_newline text) × (others ≡ after_first is_newline text)
+    × (position_or_len is_newline text < length text)) where
   pub line_cut : lines_of text ≡ line ∷ lines_of others
   line_cut =
       ap without_empty_last (slice_split_first is_newline text 0 cut.2)
-      ∙ first_kept (before_first is_newline text) (slice_split is_newline (after_first is_newline text)) (omega (arith, length-slice_split is_newline (after_first is_newline text)))
+      ∙ first_kept (before_first is_newline text)
+      (slice_split is_newline (after_first is_newline text))
+      (omega (arith, length-slice_split is_newline (after_first is_newline text)))
       ∙ (λ k. sym cut.0 k ∷ lines_of (sym cut.1 k))
 
   pub lines_shorter : length others < length text
-  lines_shorter = omega (arith, ap length cut.1, length-drop (position_or_len is_newline text + 1) text, cut.2)
+  lines_shorter =
+      omega (arith, ap length cut.1, length-drop (position_or_len is_newline text + 1) text, cut.2)
 
 whole_kept : (line : List ℕ) → 0 < length line → without_empty_last (line ∷ []) ≡ line ∷ []
 whole_kept [] some = absurd (omega arith)
 whole_kept (b ∷ line) some = refl
 
-pub lines_whole : (text : List ℕ) → 0 < length text → position_or_len is_newline text ≡ length text → lines_of text ≡ text ∷ []
-lines_whole text some none = ap without_empty_last (split_whole is_newline text none) ∙ whole_kept text some
+pub lines_whole : (text : List ℕ) → 0 < length text → position_or_len is_newline text ≡ length text
+    → lines_of text ≡ text ∷ []
+lines_whole text some none =
+    ap without_empty_last (split_whole is_newline text none) ∙ whole_kept text some
 
 -- the first field and the text of the others
-module _ (text field others : List ℕ) (cut : (field ≡ before_first is_tab text) × (others ≡ after_first is_tab text) × (position_or_len is_tab text < length text)) where
+module _ (text field others : List ℕ) (cut : (field ≡ before_first is_tab text)
+    × (others ≡ after_first is_tab text) × (position_or_len is_tab text < length text)) where
   pub field_cut : fields_of text ≡ field ∷ fields_of others
   field_cut = slice_split_first is_tab text 0 cut.2 ∙ (λ k. sym cut.0 k ∷ fields_of (sym cut.1 k))
 
@@ -77,19 +95,23 @@ module _ (text field others : List ℕ) (cut : (field ≡ before_first is_tab te
   field_within = omega (arith, ap length cut.0, length-take (position_or_len is_tab text) text)
 
   pub others_shorter : length others < length text
-  others_shorter = omega (arith, ap length cut.1, length-drop (position_or_len is_tab text + 1) text, cut.2)
+  others_shorter =
+      omega (arith, ap length cut.1, length-drop (position_or_len is_tab text + 1) text, cut.2)
 
-pub fields_whole : (text : List ℕ) → position_or_len is_tab text ≡ length text → fields_of text ≡ text ∷ []
+pub fields_whole : (text : List ℕ) → position_or_len is_tab text ≡ length text
+    → fields_of text ≡ text ∷ []
 fields_whole text none = split_whole is_tab text none
 
 -- ---- the text from the name on, cut where the name ends
 
 module _ (text : List ℕ) (n : ℕ) (is : n ≡ position_or_len is_tab text) where
   cut_fields : n < length text → fields_of text ≡ take n text ∷ fields_of (drop (n + 1) text)
-  cut_fields lt = field_cut text (take n text) (drop (n + 1) text) (ap (λ k. take k text) is, ap (λ k. drop (k + 1) text) is, omega (arith, is))
+  cut_fields lt = field_cut text (take n text) (drop (n + 1) text)
+      (ap (λ k. take k text) is, ap (λ k. drop (k + 1) text) is, omega (arith, is))
 
   whole_fields : length text ≤ n → fields_of text ≡ text ∷ []
-  whole_fields le = fields_whole text (omega (arith, is, le, prefix_len-le-length (λ b. not (is_tab b)) text))
+  whole_fields le =
+      fields_whole text (omega (arith, is, le, prefix_len-le-length (λ b. not (is_tab b)) text))
 
   pub name_front : slice_range text 0 n ≡ name_in text
   name_front =

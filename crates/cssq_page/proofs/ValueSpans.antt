@@ -22,7 +22,9 @@ take_of_drop len n m xs is =
     let whole : m ≡ n + len = omega (arith, is) in
     sym (ap (λ k. drop n (take k xs)) whole ∙ drop-take n len xs)
 
-module _ (all t field : List ℕ) (shorter : length t ≤ length all) (end : drop (length all - length t) all ≡ t) (cut : field ≡ before_first is_tab t) (some : has_equals field ≡ true) where
+module _ (all t field : List ℕ) (shorter : length t ≤ length all)
+    (end : drop (length all - length t) all ≡ t) (cut : field ≡ before_first is_tab t)
+    (some : has_equals field ≡ true) where
   abbrev tab : ℕ
   tab = position_or_len is_tab t
 
@@ -39,7 +41,9 @@ module _ (all t field : List ℕ) (shorter : length t ≤ length all) (end : dro
   equals_within = ltb-true equals (length field) some
 
   key_len : length (key_of field) ≡ equals
-  key_len = let le : equals ≤ length field = omega (arith, equals_within) in length-take-le equals field le
+  key_len =
+      let le : equals ≤ length field = omega (arith, equals_within) in
+      length-take-le equals field le
 
   index : length all - length t + length (key_of field) + 1 ≡ length all - length t + (equals + 1)
   index = omega (arith, key_len)
@@ -61,14 +65,19 @@ module _ (all t field : List ℕ) (shorter : length t ≤ length all) (end : dro
   equals_there : get_or all (length all - length t + equals) 0 < 128
   equals_there =
       let found = passes_at_first is_equals field 0 equals_within in
-      let byte : get_or field equals 0 ≡ equals_sign = eqb-true (get_or field equals 0) equals_sign found in
+      let byte : get_or field equals 0 ≡ equals_sign =
+      eqb-true (get_or field equals 0) equals_sign found in
       let inside : equals < tab = omega (arith, equals_within, field_len) in
-      let front : get_or field equals 0 ≡ get_or t equals 0 = ap (λ f. get_or f equals 0) cut ∙ get_or-take tab t equals 0 inside in
-      let whole : get_or t equals 0 ≡ get_or all (length all - length t + equals) 0 = ap (λ l. get_or l equals 0) (sym end) ∙ get_or_drop (length all - length t) equals all in
+      let front : get_or field equals 0 ≡ get_or t equals 0 =
+      ap (λ f. get_or f equals 0) cut ∙ get_or-take tab t equals 0 inside in
+      let whole : get_or t equals 0 ≡ get_or all (length all - length t + equals) 0 =
+      ap (λ l. get_or l equals 0) (sym end) ∙ get_or_drop (length all - length t) equals all in
       omega (arith, byte, front, whole)
 
   starts : IsUtf8 all → IsCharBoundary all (length all - length t + length (key_of field) + 1)
-  starts u = subst (λ k. IsCharBoundary all (length all - length t + k + 1)) (sym key_len) (IsCharBoundary-after_ascii all (length all - length t + equals) u (omega (arith, shorter, equals_within, field_len, tab_within)) equals_there)
+  starts u = subst (λ k. IsCharBoundary all (length all - length t + k + 1)) (sym key_len)
+      (IsCharBoundary-after_ascii all (length all - length t + equals) u
+      (omega (arith, shorter, equals_within, field_len, tab_within)) equals_there)
 
   tab_there : (n : ℕ) → n ≡ tab → n < length t → get_or t n 0 < 128
   tab_there n is lt =
@@ -78,32 +87,57 @@ module _ (all t field : List ℕ) (shorter : length t ≤ length all) (end : dro
   ends : IsCharBoundary (drop (equals + 1) t) (length (value_of field))
   ends = (
     omega (arith, length-drop (equals + 1) t, value_len, tab_within),
-    λ lt wide. absurd (omega (arith, wide, get_or_drop (equals + 1) (length (value_of field)) t, tab_there (equals + 1 + length (value_of field)) (omega (arith, value_len)) (omega (arith, lt, length-drop (equals + 1) t)))),
+    λ lt wide. absurd (omega (
+      arith,
+      wide,
+      get_or_drop (equals + 1) (length (value_of field)) t,
+      tab_there (equals + 1 + length (value_of field)) (omega (arith, value_len))
+          (omega (arith, lt, length-drop (equals + 1) t)),
+    )),
   )
 
-  pub value_at_offset : IsUtf8 all → IsAt all (length all - length t + length (key_of field) + 1) (length (value_of field)) (Some (value_of field))
+  pub value_at_offset : IsUtf8 all
+      → IsAt all (length all - length t + length (key_of field) + 1) (length (value_of field))
+      (Some (value_of field))
   value_at_offset u = record {
     starts = starts u;
     ends = subst (λ r. IsCharBoundary r (length (value_of field))) (sym rest_is) ends;
     is = ap Some (value_is ∙ ap (take (length (value_of field))) (sym rest_is));
   }
 
-pub value_here : (all t field : List ℕ) → length t ≤ length all → drop (length all - length t) all ≡ t → field ≡ before_first is_tab t → has_equals field ≡ true → (key value : List ℕ) → key ≡ key_of field → value ≡ value_of field → IsUtf8 all
+pub value_here : (all t field : List ℕ) → length t ≤ length all
+    → drop (length all - length t) all ≡ t → field ≡ before_first is_tab t → has_equals field ≡ true
+    → (key value : List ℕ) → key ≡ key_of field → value ≡ value_of field → IsUtf8 all
     → IsAt all (length all - length t + length key + 1) (length value) (Some value)
 value_here all t field shorter end cut some key value key_is value_is u =
-    subst (λ k. IsAt all (length all - length t + length k + 1) (length value) (Some value)) (sym key_is)
-    (subst (λ v. IsAt all (length all - length t + length (key_of field) + 1) (length v) (Some v)) (sym value_is) (value_at_offset all t field shorter end cut some u))
+    subst (λ k. IsAt all (length all - length t + length k + 1) (length value) (Some value))
+    (sym key_is)
+    (subst (λ v. IsAt all (length all - length t + length (key_of field) + 1) (length v) (Some v))
+    (sym value_is) (value_at_offset all t field shorter end cut some u))
 
 -- what is left of a text is its end
-pub end_all : (all : List ℕ) → (length all ≤ length all) × (drop (length all - length all) all ≡ all)
-end_all all = (omega arith, ap (λ n. drop n all) (let none : length all - length all ≡ 0 = omega arith in none))
+pub end_all : (all : List ℕ)
+    → (length all ≤ length all) × (drop (length all - length all) all ≡ all)
+end_all all = (
+  omega arith,
+  ap (λ n. drop n all) (let none : length all - length all ≡ 0 = omega arith in none),
+)
 
-pub end_more : (all : List ℕ) (t : Bor (List ℕ)) (others : Option (Bor (List ℕ))) (field : List ℕ) → length t.now ≤ length all → drop (length all - length t.now) all ≡ t.now → IsCut t.now field others → IsEnd all others
+pub end_more : (all : List ℕ) (t : Bor (List ℕ)) (others : Option (Bor (List ℕ))) (field : List ℕ)
+    → length t.now ≤ length all → drop (length all - length t.now) all ≡ t.now
+    → IsCut t.now field others → IsEnd all others
 end_more all t None field shorter end cut = tt
 end_more all t (Some o) field shorter end cut =
-    let len : length o.now + (position_or_len is_tab t.now + 1) ≡ length t.now = omega (arith, ap length cut.after.0, length-drop (position_or_len is_tab t.now + 1) t.now, cut.after.1) in
-    let from : length all - length o.now ≡ length all - length t.now + (position_or_len is_tab t.now + 1) = omega (arith, len, shorter) in (
+    let len : length o.now + (position_or_len is_tab t.now + 1) ≡ length t.now = omega (
+      arith,
+      ap length cut.after.0,
+      length-drop (position_or_len is_tab t.now + 1) t.now,
+      cut.after.1,
+    ) in
+    let from : length all - length o.now ≡ length all - length t.now
+    + (position_or_len is_tab t.now + 1) = omega (arith, len, shorter) in (
       omega (arith, len, shorter),
-      ap (λ n. drop n all) from ∙ sym (drop_add (length all - length t.now) (position_or_len is_tab t.now + 1) all)
+      ap (λ n. drop n all) from
+          ∙ sym (drop_add (length all - length t.now) (position_or_len is_tab t.now + 1) all)
           ∙ ap (drop (position_or_len is_tab t.now + 1)) end ∙ sym cut.after.0,
     )

@@ -22,7 +22,8 @@ above steps depths None = 0
 above steps depths (Some parent) = ancestors_within steps depths parent + 1
 
 above_by : (steps : ℕ) (depths : List ℕ) (r : Option ℕ)
-    → elim r [ None ↦ 0 | Some parent ↦ ancestors_within steps depths parent + 1 ] ≡ above steps depths r
+    → elim r [ None ↦ 0 | Some parent ↦ ancestors_within steps depths parent + 1 ]
+    ≡ above steps depths r
 above_by steps depths None = refl
 above_by steps depths (Some parent) = refl
 
@@ -49,10 +50,12 @@ enough (suc m) (suc n) depths index lt lt' =
     ∙ sym (above_at n depths index (parent_index depths index) refl)
 
 counted : (x : Spot) (r : Option ℕ) → parent_index (depths_of x.rows) x.index ≡ r
-    → MatchOption (option_map (spot x.rows) r) (ancestor_count x ≡ 0) (λ p. ancestor_count x ≡ ancestor_count p + 1)
+    → MatchOption (option_map (spot x.rows) r) (ancestor_count x ≡ 0)
+    (λ p. ancestor_count x ≡ ancestor_count p + 1)
 counted x None is = above_at x.index (depths_of x.rows) x.index None is
 counted x (Some j) is =
-    let before : j < x.index = subst (λ r. IfSome r (λ j. j < x.index)) is (parent_within (depths_of x.rows) x.index) in
+    let before : j < x.index =
+    subst (λ r. IfSome r (λ j. j < x.index)) is (parent_within (depths_of x.rows) x.index) in
     above_at x.index (depths_of x.rows) x.index (Some j) is
     ∙ ap (λ k. k + 1) (enough x.index (suc j) (depths_of x.rows) j before (omega arith))
 
@@ -66,23 +69,28 @@ found_at depths depth i j true e is =
     let same : i ≡ j = cc in
     (is, ap (λ k. get_or depths k 0) (sym same) ∙ grind (arith, nat_tests, e))
 
-found_equal : (depths : List ℕ) (depth : ℕ) (r : Option ℕ) (j : ℕ) → equal_at depths depth r ≡ Some j
+found_equal : (depths : List ℕ) (depth : ℕ) (r : Option ℕ) (j : ℕ)
+    → equal_at depths depth r ≡ Some j
     → (r ≡ Some j) × (get_or depths j 0 ≡ depth)
 found_equal depths depth None j is = absurd (cc)
-found_equal depths depth (Some i) j is = found_at depths depth i j (get_or depths i 0 == depth) refl is
+found_equal depths depth (Some i) j is =
+    found_at depths depth i j (get_or depths i 0 == depth) refl is
 
 same_parent : (depths : List ℕ) (i j : ℕ) → previous_index depths i ≡ Some j
     → parent_index depths j ≡ parent_index depths i
 same_parent depths i j is =
-    let found = found_equal depths (get_or depths i 0) (nearest_index depths i) j (sym (previous_is depths i) ∙ is) in
+    let found = found_equal depths (get_or depths i 0) (nearest_index depths i) j
+    (sym (previous_is depths i) ∙ is) in
     let before : j < i = subst (λ r. IfSome r (λ j. j < i)) found.0 (nearest_before depths i) in
     let at : get_or (take i depths) j 0 ≡ get_or depths j 0 = get_or-take i depths j 0 before in
-    let front : take j (take i depths) ≡ take j depths = let le : j ≤ i = omega arith in grind (arith, common_steps) in
+    let front : take j (take i depths) ≡ take j depths = let le : j ≤ i = omega arith in
+    grind (arith, common_steps) in
     let under = sym at in
     let list = sym front in
     let parent : parent_index depths j ≡ parent_index (take i depths) j =
     (λ k. last_index (λ d. nat_lt d (under k)) (list k)) in
-    (equal_near (take i depths) (get_or depths i 0) j (parent_index depths j) (sym found.0) (at ∙ found.1) parent).0
+    (equal_near (take i depths) (get_or depths i 0) j (parent_index depths j) (sym found.0)
+    (at ∙ found.1) parent).0
 
 shared : (x : Spot) (r : Option ℕ) → previous_index (depths_of x.rows) x.index ≡ r
     → IfSome (option_map (spot x.rows) r) (λ s. parent_of s ≡ parent_of x)
@@ -93,7 +101,8 @@ pub siblings_share_parents : SiblingsShareParent page_tree
 siblings_share_parents x = shared x (previous_index (depths_of x.rows) x.index) refl
 
 -- there is a value that satisfies the operator
-value_there : (r : Option (List ℕ)) (o : Operator) → IsTrue (option_map_or (is_satisfied o) r false) → IsTrue (is_some r)
+value_there : (r : Option (List ℕ)) (o : Operator) → IsTrue (option_map_or (is_satisfied o) r false)
+    → IsTrue (is_some r)
 value_there None o h = absurd (cc)
 value_there (Some v) o h = refl
 

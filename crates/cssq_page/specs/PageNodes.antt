@@ -31,7 +31,8 @@ previous_of s = option_map (spot s.rows) (previous_index (depths_of s.rows) s.in
 abbrev pub ancestors_within : ℕ → List ℕ → ℕ → ℕ
 ancestors_within zero depths index = 0
 ancestors_within (suc steps) depths index =
-    elim (parent_index depths index) [ None ↦ 0 | Some parent ↦ ancestors_within steps depths parent + 1 ]
+    elim (parent_index depths index)
+    [ None ↦ 0 | Some parent ↦ ancestors_within steps depths parent + 1 ]
 
 -- the number of the ancestors
 abbrev pub ancestor_count : Spot → ℕ
@@ -49,7 +50,8 @@ value_in (attribute ∷ attributes) key =
 
 -- the value of an attribute of the element at an index, if it has the attribute
 abbrev pub attribute_at : List Row → ℕ → List ℕ → Option (List ℕ)
-attribute_at rows index key = option_map_or (λ row. value_in row.attributes key) (slice_get rows index) None
+attribute_at rows index key =
+    option_map_or (λ row. value_in row.attributes key) (slice_get rows index) None
 
 -- names are equal byte by byte
 abbrev pub has_name : Spot → List ℕ → Bool
@@ -57,7 +59,8 @@ has_name s name = bytes_eq (name_at s.rows s.index) name
 
 -- an attribute that the element has satisfies the operator
 abbrev pub meets_operator : Spot → List ℕ → Operator → Bool
-meets_operator s key operator = option_map_or (is_satisfied operator) (attribute_at s.rows s.index key) false
+meets_operator s key operator =
+    option_map_or (is_satisfied operator) (attribute_at s.rows s.index key) false
 
 -- the first child has no previous sibling; an element is in no other state
 abbrev pub is_in : Spot → KnownPseudoClass → Bool

@@ -122,11 +122,13 @@ field_fault number earlier field =
 
 -- the fault of the attribute field at an index
 abbrev pub fault_of_field : ℕ → List (List ℕ) → ℕ → Option TreeFault
-fault_of_field number fields index = field_fault number (take index fields) (slice_index_or fields index [])
+fault_of_field number fields index =
+    field_fault number (take index fields) (slice_index_or fields index [])
 
 -- the faults of the attribute fields, from the left
 abbrev pub field_faults : ℕ → List (List ℕ) → List TreeFault
-field_faults number fields = filter_map (fault_of_field number fields) (range_with_len 0 (length fields))
+field_faults number fields =
+    filter_map (fault_of_field number fields) (range_with_len 0 (length fields))
 
 -- every fault of a line whose depth may be at most the limit: of the depth, of the name, and of the
 -- fields from the left
@@ -149,7 +151,8 @@ limits_of first lines = first ∷ map (λ fields. depth_in fields + 1) lines
 -- the faults of each line, from the number and the limit of the first
 abbrev pub line_faults : ℕ → ℕ → List (List (List ℕ)) → List (List TreeFault)
 line_faults number limit lines =
-    map (λ p. faults_of_line p.0 p.1.0 p.1.1) (enumerate_from number (zip (limits_of limit lines) lines))
+    map (λ p. faults_of_line p.0 p.1.0 p.1.1)
+    (enumerate_from number (zip (limits_of limit lines) lines))
 
 -- the faults of each line of a text: the first line has the number 1 and the depth 0
 abbrev pub faults_in : List ℕ → List (List TreeFault)
@@ -162,7 +165,8 @@ first_or_rows (fault ∷ faults) rows = Err fault
 
 -- the rows of a text, or the first fault of its first faulty line
 abbrev pub tree_of : List ℕ → Result (List Row) TreeFault
-tree_of text = first_or_rows (flat_map (λ faults. faults) (faults_in text)) (map row_of (lines_in text))
+tree_of text =
+    first_or_rows (flat_map (λ faults. faults) (faults_in text)) (map row_of (lines_in text))
 
 -- the number is that of a line, and no line up to it is faulty
 abbrev pub IsSoundTo : ℕ → List ℕ → Type 0

@@ -51,7 +51,8 @@ entry_list = record {
   previous_sibling = named_previous;
   is_named = λ entries i name. bytes_eq (name_at entries i) name;
   has_attribute =
-      λ entries i name operator. option_map_or (is_satisfied operator) (value_at entries i name) false;
+      λ entries i name operator.
+      option_map_or (is_satisfied operator) (value_at entries i name) false;
   is_in_pseudo_class = is_in;
 }
 

@@ -28,94 +28,146 @@ use Rattle.simplecss.proofs.Ascending.{indices_are, sum_of_values, values_at}
 use Rattle.simplecss.proofs.Following.{After}
 
 -- each key leads to the last of all selectors with it
-lasts_lead : (lasts : LastByWanted) (links : List Link) (selectors : List (List Component)) → AreChained lasts links → selectors_of links ≡ selectors → (key : Wanted) → IsLastBefore selectors (length selectors) key (last_wanted lasts key)
+lasts_lead : (lasts : LastByWanted) (links : List Link) (selectors : List (List Component))
+    → AreChained lasts links → selectors_of links ≡ selectors → (key : Wanted)
+    → IsLastBefore selectors (length selectors) key (last_wanted lasts key)
 lasts_lead lasts links selectors chained is key =
-    let n : length links ≡ length selectors = sym (length-map links (λ l. l.selector.value)) ∙ ap length is in
-    subst (λ ss. IsLastBefore ss (length selectors) key (last_wanted lasts key)) is (subst (λ m. IsLastBefore (selectors_of links) m key (last_wanted lasts key)) n (chained.last key))
+    let n : length links ≡ length selectors =
+    sym (length-map links (λ l. l.selector.value)) ∙ ap length is in
+    subst (λ ss. IsLastBefore ss (length selectors) key (last_wanted lasts key)) is (subst
+    (λ m. IsLastBefore (selectors_of links) m key (last_wanted lasts key)) n (chained.last key))
 
-module _ (is_wanted : Wanted → Bool) (lasts : LastByWanted) (links : List Link) (selectors : List (List Component)) (chained : AreChained lasts links) (is : selectors_of links ≡ selectors) where
+module _ (is_wanted : Wanted → Bool) (lasts : LastByWanted) (links : List Link)
+    (selectors : List (List Component)) (chained : AreChained lasts links)
+    (is : selectors_of links ≡ selectors) where
   abbrev Has : ℕ → Type 0
   Has index = IsTrue (is_wanted (key_at selectors index))
 
   -- where a key leads, there is a selector with it
   led_to : (index : ℕ) → Leads is_wanted lasts index → (index < length selectors) × Has index
   led_to index h =
-      let at : IsLastBefore selectors (length selectors) h.0 (Some index) = subst (IsLastBefore selectors (length selectors) h.0) h.2 (lasts_lead lasts links selectors chained is h.0) in
+      let at : IsLastBefore selectors (length selectors) h.0 (Some index) =
+      subst (IsLastBefore selectors (length selectors) h.0) h.2
+      (lasts_lead lasts links selectors chained is h.0) in
       (at.0, subst (λ key. IsTrue (is_wanted key)) (sym at.1) h.1)
 
   -- a selector with a wanted key is the last with it, or before that
-  led_from : (index : ℕ) → index < length selectors → Has index → (last : ℕ) × Leads is_wanted lasts last × (index ≤ last) × (key_at selectors index ≡ key_at selectors last)
-  led_from index lt has = at (last_wanted lasts (key_at selectors index)) refl (lasts_lead lasts links selectors chained is (key_at selectors index))
+  led_from : (index : ℕ) → index < length selectors → Has index
+      → (last : ℕ) × Leads is_wanted lasts last × (index ≤ last)
+      × (key_at selectors index ≡ key_at selectors last)
+  led_from index lt has = at (last_wanted lasts (key_at selectors index)) refl
+      (lasts_lead lasts links selectors chained is (key_at selectors index))
     where
       order : (last : ℕ) → (index ≤ last) ⊎ (last < index)
       order last = grind arith
 
-      at : (last : Option ℕ) → last_wanted lasts (key_at selectors index) ≡ last → IsLastBefore selectors (length selectors) (key_at selectors index) last → (last : ℕ) × Leads is_wanted lasts last × (index ≤ last) × (key_at selectors index ≡ key_at selectors last)
+      at : (last : Option ℕ) → last_wanted lasts (key_at selectors index) ≡ last
+          → IsLastBefore selectors (length selectors) (key_at selectors index) last
+          → (last : ℕ) × Leads is_wanted lasts last × (index ≤ last)
+          × (key_at selectors index ≡ key_at selectors last)
       at None e h = absurd (h index lt refl)
       at (Some last) e h = of_order (order last)
         where
-          of_order : (index ≤ last) ⊎ (last < index) → (last : ℕ) × Leads is_wanted lasts last × (index ≤ last) × (key_at selectors index ≡ key_at selectors last)
+          of_order : (index ≤ last) ⊎ (last < index)
+              → (last : ℕ) × Leads is_wanted lasts last × (index ≤ last)
+              × (key_at selectors index ≡ key_at selectors last)
           of_order (inl l) = (last, (key_at selectors index, has, e), l, sym h.1)
           of_order (inr l) = absurd (h.2 index l lt refl)
 
   -- where the keys lead are starts
-  pub starts_led : (cleared indices : List ℕ) → cleared ≡ [] → Adds cleared indices (Leads is_wanted lasts) → AreStarts is_wanted selectors indices
+  pub starts_led : (cleared indices : List ℕ) → cleared ≡ []
+      → Adds cleared indices (Leads is_wanted lasts) → AreStarts is_wanted selectors indices
   starts_led cleared indices none leads = record {
     within = λ index c. led_to index (only index c);
-    reached = λ index lt has. let last = led_from index lt has in (last.0, (added cleared indices leads last.0).1 (inr last.1), last.2, last.3);
+    reached = λ index lt has. let last = led_from index lt has in
+        (last.0, (added cleared indices leads last.0).1 (inr last.1), last.2, last.3);
   }
     where
       only : (index : ℕ) → Contains indices index → Leads is_wanted lasts index
-      only index c = elim ((added cleared indices leads index).0 c) [ inl x ↦ absurd (contains_none index (subst (λ xs. Contains xs index) none x)) | inr y ↦ y ]
+      only index c = elim ((added cleared indices leads index).0 c) [
+        | inl x ↦ absurd (contains_none index (subst (λ xs. Contains xs index) none x))
+        | inr y ↦ y
+      ]
 
   -- starts, and where other keys lead, are starts of all these keys
-  pub starts_more : (is_other is_one : Wanted → Bool) (old indices : List ℕ) → ((key : Wanted) → IsTrue (is_one key) → IsTrue (is_other key) ⊎ IsTrue (is_wanted key)) → ((key : Wanted) → IsTrue (is_other key) → IsTrue (is_one key)) → ((key : Wanted) → IsTrue (is_wanted key) → IsTrue (is_one key))
-      → AreStarts is_other selectors old → Adds old indices (Leads is_wanted lasts) → AreStarts is_one selectors indices
+  pub starts_more : (is_other is_one : Wanted → Bool) (old indices : List ℕ)
+      → ((key : Wanted) → IsTrue (is_one key) → IsTrue (is_other key) ⊎ IsTrue (is_wanted key))
+      → ((key : Wanted) → IsTrue (is_other key) → IsTrue (is_one key))
+      → ((key : Wanted) → IsTrue (is_wanted key) → IsTrue (is_one key))
+      → AreStarts is_other selectors old → Adds old indices (Leads is_wanted lasts)
+      → AreStarts is_one selectors indices
   starts_more is_other is_one old indices splits from_other from_wanted starts leads = record {
     within = λ index c. elim ((added old indices leads index).0 c) [
       | inl x ↦ let h = starts.within index x in (h.0, from_other (key_at selectors index) h.1)
       | inr y ↦ let h = led_to index y in (h.0, from_wanted (key_at selectors index) h.1)
     ];
     reached = λ index lt has. elim (splits (key_at selectors index) has) [
-      | inl x ↦ let last = starts.reached index lt x in (last.0, (added old indices leads last.0).1 (inl last.1), last.2, last.3)
-      | inr y ↦ let last = led_from index lt y in (last.0, (added old indices leads last.0).1 (inr last.1), last.2, last.3)
+      | inl x ↦
+          let last = starts.reached index lt x in
+          (last.0, (added old indices leads last.0).1 (inl last.1), last.2, last.3)
+      | inr y ↦
+          let last = led_from index lt y in
+          (last.0, (added old indices leads last.0).1 (inr last.1), last.2, last.3)
     ];
   }
 
-  pub led_within : (old indices sorted : List ℕ) → ((index : ℕ) → Contains old index → index < length selectors) → Adds old indices (Leads is_wanted lasts) → ((index : ℕ) → Contains sorted index ↔ Contains indices index) → (index : ℕ) → Contains sorted index → index < length selectors
-  led_within old indices sorted within leads same index c = elim ((added old indices leads index).0 ((same index).0 c)) [ inl x ↦ within index x | inr y ↦ (led_to index y).0 ]
+  pub led_within : (old indices sorted : List ℕ)
+      → ((index : ℕ) → Contains old index → index < length selectors)
+      → Adds old indices (Leads is_wanted lasts)
+      → ((index : ℕ) → Contains sorted index ↔ Contains indices index) → (index : ℕ)
+      → Contains sorted index → index < length selectors
+  led_within old indices sorted within leads same index c = elim ((added old indices leads index).0
+      ((same index).0 c)) [ inl x ↦ within index x | inr y ↦ (led_to index y).0 ]
 
 -- the starts, and what is before them in their chains, are all selectors whose key is reported
-pub are_keyed : (reported : Near) (selectors : List (List Component)) (starts sorted all final : List ℕ) → AreStarts (reports_wanted reported) selectors starts → ((index : ℕ) → Contains sorted index ↔ Contains starts index)
-    → Adds sorted all (After selectors sorted) → IsStrictlyIncreasing final → ((index : ℕ) → Contains final index ↔ Contains all index) → AreKeyed reported selectors final
+pub are_keyed : (reported : Near) (selectors : List (List Component))
+    (starts sorted all final : List ℕ) → AreStarts (reports_wanted reported) selectors starts
+    → ((index : ℕ) → Contains sorted index ↔ Contains starts index)
+    → Adds sorted all (After selectors sorted) → IsStrictlyIncreasing final
+    → ((index : ℕ) → Contains final index ↔ Contains all index) → AreKeyed reported selectors final
 are_keyed reported selectors starts sorted all final are same after up same_again = record {
   ascending = up;
-  exactly = λ index. (λ c. there index ((added sorted all after index).0 ((same_again index).0 c)), λ h. (same_again index).1 ((added sorted all after index).1 (back index (are.reached index h.0 h.1))));
+  exactly = λ index. (
+    λ c. there index ((added sorted all after index).0 ((same_again index).0 c)),
+    λ h. (same_again index).1
+        ((added sorted all after index).1 (back index (are.reached index h.0 h.1))),
+  );
 }
   where
-    there : (index : ℕ) → Contains sorted index ⊎ After selectors sorted index → (index < length selectors) × IsTrue (reports_wanted reported (key_at selectors index))
+    there : (index : ℕ) → Contains sorted index ⊎ After selectors sorted index
+        → (index < length selectors) × IsTrue (reports_wanted reported (key_at selectors index))
     there index (inl c) = are.within index ((same index).0 c)
     there index (inr h) =
-        let last = are.within h.0 ((same h.0).0 h.1) in
-        (omega (arith, h.2, last.0), subst (λ key. IsTrue (reports_wanted reported key)) (sym h.3) last.1)
+        let last = are.within h.0 ((same h.0).0 h.1) in (
+          omega (arith, h.2, last.0),
+          subst (λ key. IsTrue (reports_wanted reported key)) (sym h.3) last.1,
+        )
 
     order : (index last : ℕ) → index ≤ last → (last ≡ index) ⊎ (index < last)
     order index last le = grind arith
 
-    back : (index : ℕ) → (last : ℕ) × Contains starts last × (index ≤ last) × (key_at selectors index ≡ key_at selectors last) → Contains sorted index ⊎ After selectors sorted index
+    back : (index : ℕ)
+        → (last : ℕ) × Contains starts last × (index ≤ last)
+        × (key_at selectors index ≡ key_at selectors last)
+        → Contains sorted index ⊎ After selectors sorted index
     back index h = elim (order index h.0 h.2) [
       | inl e ↦ inl (subst (λ p. Contains sorted p) e ((same h.0).1 h.1))
       | inr l ↦ inr (h.0, (same h.0).1 h.1, l, h.3)
     ]
 
-filter_contains : (p : ℕ → Bool) (xs : List ℕ) (x : ℕ) → Contains (filter p xs) x ↔ (Contains xs x × IsTrue (p x))
+filter_contains : (p : ℕ → Bool) (xs : List ℕ) (x : ℕ)
+    → Contains (filter p xs) x ↔ (Contains xs x × IsTrue (p x))
 filter_contains p [] x = (λ c. absurd (contains_none x c), λ h. absurd (contains_none x h.0))
 filter_contains p (y ∷ ys) x = at (filter_contains p ys x) (p y) refl
   where
-    at : Contains (filter p ys) x ↔ (Contains ys x × IsTrue (p x)) → (b : Bool) → p y ≡ b → Contains (cond b (y ∷ filter p ys) (filter p ys)) x ↔ (Contains (y ∷ ys) x × IsTrue (p x))
+    at : Contains (filter p ys) x ↔ (Contains ys x × IsTrue (p x)) → (b : Bool) → p y ≡ b
+        → Contains (cond b (y ∷ filter p ys) (filter p ys)) x ↔ (Contains (y ∷ ys) x × IsTrue (p x))
     at later true e = (
       λ c. elim (Contains-append_cases (y ∷ []) (filter p ys) x c) [
-        | inl h ↦ (Contains-append_left (y ∷ []) ys x h, subst (λ v. IsTrue (p v)) ((contains_one y x).0 h) e)
+        | inl h ↦ (
+          Contains-append_left (y ∷ []) ys x h,
+          subst (λ v. IsTrue (p v)) ((contains_one y x).0 h) e,
+        )
         | inr h ↦ let r = later.0 h in (Contains-append_right (y ∷ []) ys x r.0, r.1)
       ],
       λ h. elim (Contains-append_cases (y ∷ []) ys x h.0) [
@@ -126,7 +178,8 @@ filter_contains p (y ∷ ys) x = at (filter_contains p ys x) (p y) refl
     at later false e = (
       λ c. let r = later.0 c in (Contains-append_right (y ∷ []) ys x r.0, r.1),
       λ h. elim (Contains-append_cases (y ∷ []) ys x h.0) [
-        | inl c ↦ absurd (false≢true (sym e ∙ subst (λ v. IsTrue (p v)) (sym ((contains_one y x).0 c)) h.1))
+        | inl c ↦ absurd
+            (false≢true (sym e ∙ subst (λ v. IsTrue (p v)) (sym ((contains_one y x).0 c)) h.1))
         | inr c ↦ later.1 (c, h.1)
       ],
     )
@@ -136,50 +189,96 @@ both_true true b = (λ h. (refl, h), λ h. h.1)
 both_true false b = (λ h. absurd (false≢true h), λ h. h.0)
 
 -- of the selectors whose key is reported those are kept whose ancestors' keys are covered
-pub covered_only : (reported : Near) (above : ℕ) (selectors : List (List Component)) (keyed final : List ℕ) → AreKeyed reported selectors keyed → final ≡ filter (λ index. is_covered above (selector_at selectors index)) keyed → AreCandidates reported above selectors final
-covered_only reported above selectors keyed final are e = subst (AreCandidates reported above selectors) (sym e) (record {
-  ascending = IsStrictlyIncreasing-filter (λ index. is_covered above (selector_at selectors index)) keyed are.ascending;
-  exactly = λ index.
-      let kept = filter_contains (λ p. is_covered above (selector_at selectors p)) keyed index in
-      let both = both_true (reports_wanted reported (key_at selectors index)) (is_covered above (selector_at selectors index)) in (
-        λ c. let h = kept.0 c in let k = (are.exactly index).0 h.0 in (k.0, both.1 (k.1, h.1)),
-        λ h. let x = both.0 h.1 in kept.1 ((are.exactly index).1 (h.0, x.0), x.1),
-      );
-})
+pub covered_only : (reported : Near) (above : ℕ) (selectors : List (List Component))
+    (keyed final : List ℕ) → AreKeyed reported selectors keyed
+    → final ≡ filter (λ index. is_covered above (selector_at selectors index)) keyed
+    → AreCandidates reported above selectors final
+covered_only reported above selectors keyed final are e =
+    subst (AreCandidates reported above selectors) (sym e) (record {
+      ascending =
+          IsStrictlyIncreasing-filter (λ index. is_covered above (selector_at selectors index))
+          keyed are.ascending;
+      exactly = λ index.
+          let kept =
+          filter_contains (λ p. is_covered above (selector_at selectors p)) keyed index in
+          let both = both_true (reports_wanted reported (key_at selectors index))
+          (is_covered above (selector_at selectors index)) in (
+            λ c. let h = kept.0 c in let k = (are.exactly index).0 h.0 in (k.0, both.1 (k.1, h.1)),
+            λ h. let x = both.0 h.1 in kept.1 ((are.exactly index).1 (h.0, x.0), x.1),
+          );
+    })
 
 -- of the candidates those are kept that match, and no other selector does
-pub are_matches : {Node : Type 0} (tree : Tree Node) (n : Node) (reported : Near) (above : ℕ) (selectors : List (List Component)) (candidates final : List ℕ) → SiblingsShareParent tree → ReportsWanted tree n reported → CoversAncestors tree n above → AreCandidates reported above selectors candidates → IsStrictlyIncreasing final
-    → ((index : ℕ) → Contains final index ↔ (Contains candidates index × HasPlacement tree (selector_at selectors index) n)) → AreMatches tree n selectors final
-are_matches tree n reported above selectors candidates final shared reports covered are up kept = record {
-  ascending = up;
-  exactly = λ index. (
-    λ c. let h = (kept index).0 c in (((are.exactly index).0 h.0).0, h.1),
-    λ h. (kept index).1 ((are.exactly index).1 (h.0, (both_true (reports_wanted reported (key_at selectors index)) (is_covered above (selector_at selectors index))).1 (reports (key_at selectors index) (wanted_needed tree (selector_at selectors index) n h.1), ancestors_needed tree shared (selector_at selectors index) n above covered h.1)), h.1),
-  );
-}
+pub are_matches : {Node : Type 0} (tree : Tree Node) (n : Node) (reported : Near) (above : ℕ)
+    (selectors : List (List Component)) (candidates final : List ℕ) → SiblingsShareParent tree
+    → ReportsWanted tree n reported → CoversAncestors tree n above
+    → AreCandidates reported above selectors candidates → IsStrictlyIncreasing final
+    → ((index : ℕ) → Contains final index
+    ↔ (Contains candidates index × HasPlacement tree (selector_at selectors index) n))
+    → AreMatches tree n selectors final
+are_matches tree n reported above selectors candidates final shared reports covered are up kept =
+    record {
+      ascending = up;
+      exactly = λ index. (
+        λ c. let h = (kept index).0 c in (((are.exactly index).0 h.0).0, h.1),
+        λ h. (kept index).1 (
+          (are.exactly index).1 (
+            h.0,
+            (both_true (reports_wanted reported (key_at selectors index))
+                (is_covered above (selector_at selectors index))).1 (
+                  reports (key_at selectors index)
+                      (wanted_needed tree (selector_at selectors index) n h.1),
+                  ancestors_needed tree shared (selector_at selectors index) n above covered h.1,
+                ),
+          ),
+          h.1,
+        ),
+      );
+    }
 
-pub candidate_within : (reported : Near) (above : ℕ) (selectors : List (List Component)) (candidates : List ℕ) → AreCandidates reported above selectors candidates → All (λ index. index < length selectors) candidates
-candidate_within reported above selectors candidates are k d lt = ((are.exactly (get_or candidates k d)).0 (Contains-get_or candidates k d lt)).0
+pub candidate_within : (reported : Near) (above : ℕ) (selectors : List (List Component))
+    (candidates : List ℕ) → AreCandidates reported above selectors candidates
+    → All (λ index. index < length selectors) candidates
+candidate_within reported above selectors candidates are k d lt =
+    ((are.exactly (get_or candidates k d)).0 (Contains-get_or candidates k d lt)).0
 
 -- a sum over the candidates is one over the selectors that are tested
-pub sum_of_candidates : (reported : Near) (above : ℕ) (selectors : List (List Component)) (candidates : List ℕ) (cost : List Component → ℕ) → AreCandidates reported above selectors candidates → sum_by (λ index. cost (selector_at selectors index)) candidates ≡ sum_by cost (tested_for reported above selectors)
+pub sum_of_candidates : (reported : Near) (above : ℕ) (selectors : List (List Component))
+    (candidates : List ℕ) (cost : List Component → ℕ)
+    → AreCandidates reported above selectors candidates
+    → sum_by (λ index. cost (selector_at selectors index)) candidates
+    ≡ sum_by cost (tested_for reported above selectors)
 sum_of_candidates reported above selectors candidates cost are =
     let all = range_with_len 0 (length selectors) in
-    ap (sum_by (λ index. cost (selector_at selectors index))) (indices_are (λ index. is_tested reported above (selector_at selectors index)) (length selectors) candidates are) ∙ sum_of_values (selector_at selectors) (is_tested reported above) cost all ∙ ap (λ ss. sum_by cost (tested_for reported above ss)) (values_at selectors [])
+    ap (sum_by (λ index. cost (selector_at selectors index))) (indices_are (λ index.
+    is_tested reported above (selector_at selectors index)) (length selectors) candidates are)
+    ∙ sum_of_values (selector_at selectors) (is_tested reported above) cost all
+    ∙ ap (λ ss. sum_by cost (tested_for reported above ss)) (values_at selectors [])
 
 ones : {X : Type 0} (xs : List X) → sum_by (λ x. 1) xs ≡ length xs
 ones [] = refl
-ones (x ∷ xs) = let first = sum_by-cons (λ x. 1) x xs in let others = ones xs in omega (arith, first, others)
+ones (x ∷ xs) =
+    let first = sum_by-cons (λ x. 1) x xs in
+    let others = ones xs in
+    omega (arith, first, others)
 
 -- there are as many candidates as selectors that are tested
-pub number_of_candidates : (reported : Near) (above : ℕ) (selectors : List (List Component)) (candidates : List ℕ) → AreCandidates reported above selectors candidates → length candidates ≡ length (tested_for reported above selectors)
+pub number_of_candidates : (reported : Near) (above : ℕ) (selectors : List (List Component))
+    (candidates : List ℕ) → AreCandidates reported above selectors candidates
+    → length candidates ≡ length (tested_for reported above selectors)
 number_of_candidates reported above selectors candidates are =
-    sym (ones candidates) ∙ sum_of_candidates reported above selectors candidates (λ selector. 1) are ∙ ones (tested_for reported above selectors)
+    sym (ones candidates)
+    ∙ sum_of_candidates reported above selectors candidates (λ selector. 1) are
+    ∙ ones (tested_for reported above selectors)
 
 -- an index after the last has no selector, and nothing is wanted of ancestors there
-pub none_covered : (links : List Link) (selectors : List (List Component)) (index above : ℕ) → selectors_of links ≡ selectors → length links ≤ index → true ≡ is_covered above (selector_at selectors index)
+pub none_covered : (links : List Link) (selectors : List (List Component)) (index above : ℕ)
+    → selectors_of links ≡ selectors → length links ≤ index
+    → true ≡ is_covered above (selector_at selectors index)
 none_covered links selectors index above is past =
-    let number : length selectors ≡ length links = sym (ap length is) ∙ length-map links (λ l. l.selector.value) in
-    let none : selector_at selectors index ≡ [] = get_or_past selectors index [] (omega (arith, number, past)) in
+    let number : length selectors ≡ length links =
+    sym (ap length is) ∙ length-map links (λ l. l.selector.value) in
+    let none : selector_at selectors index ≡ [] =
+    get_or_past selectors index [] (omega (arith, number, past)) in
     let nothing : IsTrue (is_covered above []) = covers_test above 0 (covers_none above) in
     sym (ap (is_covered above) none ∙ nothing)

@@ -14,60 +14,93 @@ use Rattle.simplecss.specs.declared.index.link.Link.{Link}
 use Rattle.simplecss.specs.declared.index.last_by_wanted.LastByWanted.{LastByWanted}
 
 module _ (selectors : List (List Component)) (s : List Component) where
-  key_before : (index : ℕ) → index < length selectors → key_at (selectors ++ s ∷ []) index ≡ key_at selectors index
+  key_before : (index : ℕ) → index < length selectors
+      → key_at (selectors ++ s ∷ []) index ≡ key_at selectors index
   key_before index lt = ap wanted_of (get_or_append_left selectors (s ∷ []) [] index lt)
 
   key_last : key_at (selectors ++ s ∷ []) (length selectors) ≡ wanted_of s
   key_last = ap wanted_of (get_or-append_seam selectors s [] [])
 
   -- what is the last before an end still is
-  last_same : (end : ℕ) (key : Wanted) (left : Option ℕ) → end ≤ length selectors → IsLastBefore selectors end key left → IsLastBefore (selectors ++ s ∷ []) end key left
-  last_same end key None le h = λ index lt e. h index lt (sym (key_before index (omega (arith, le, lt))) ∙ e)
-  last_same end key (Some last) le h = (h.0, key_before last (omega (arith, le, h.0)) ∙ h.1, λ index from lt e. h.2 index from lt (sym (key_before index (omega (arith, le, lt))) ∙ e))
+  last_same : (end : ℕ) (key : Wanted) (left : Option ℕ) → end ≤ length selectors
+      → IsLastBefore selectors end key left → IsLastBefore (selectors ++ s ∷ []) end key left
+  last_same end key None le h =
+      λ index lt e. h index lt (sym (key_before index (omega (arith, le, lt))) ∙ e)
+  last_same end key (Some last) le h = (
+    h.0,
+    key_before last (omega (arith, le, h.0)) ∙ h.1,
+    λ index from lt e. h.2 index from lt (sym (key_before index (omega (arith, le, lt))) ∙ e),
+  )
 
   order : (index end : ℕ) → index < end + 1 → (index < end) ⊎ (end ≡ index)
   order index end lt = grind arith
 
   -- and it is the last before the new end, too, where the new selector has another key
-  last_more : (key : Wanted) (left : Option ℕ) → (wanted_of s ≡ key → ⊥) → IsLastBefore (selectors ++ s ∷ []) (length selectors) key left → IsLastBefore (selectors ++ s ∷ []) (length selectors + 1) key left
+  last_more : (key : Wanted) (left : Option ℕ) → (wanted_of s ≡ key → ⊥)
+      → IsLastBefore (selectors ++ s ∷ []) (length selectors) key left
+      → IsLastBefore (selectors ++ s ∷ []) (length selectors + 1) key left
   last_more key None apart h = λ index lt e. elim (order index (length selectors) lt) [
     | inl before ↦ h index before e
-    | inr same ↦ apart (sym key_last ∙ subst (λ p. key_at (selectors ++ s ∷ []) p ≡ key) (sym same) e)
+    | inr same ↦
+        apart (sym key_last ∙ subst (λ p. key_at (selectors ++ s ∷ []) p ≡ key) (sym same) e)
   ]
   last_more key (Some last) apart h = (
     omega (arith, h.0),
     h.1,
     λ index from lt e. elim (order index (length selectors) lt) [
       | inl before ↦ h.2 index from before e
-      | inr same ↦ apart (sym key_last ∙ subst (λ p. key_at (selectors ++ s ∷ []) p ≡ key) (sym same) e)
+      | inr same ↦
+          apart (sym key_last ∙ subst (λ p. key_at (selectors ++ s ∷ []) p ≡ key) (sym same) e)
     ],
   )
 
-  last_here : (key : Wanted) → wanted_of s ≡ key → IsLastBefore (selectors ++ s ∷ []) (length selectors + 1) key (Some (length selectors))
+  last_here : (key : Wanted) → wanted_of s ≡ key
+      → IsLastBefore (selectors ++ s ∷ []) (length selectors + 1) key (Some (length selectors))
   last_here key e = (omega arith, key_last ∙ e, λ index from lt h. absurd (omega (arith, from, lt)))
 
   -- each key has its last index, once the new index is put under the key of the new selector
-  lasts_more : (old new : LastByWanted) → ((key : Wanted) → IsLastBefore selectors (length selectors) key (last_wanted old key)) → TakesWanted old new (wanted_of s) (length selectors) → (key : Wanted) → IsLastBefore (selectors ++ s ∷ []) (length selectors + 1) key (last_wanted new key)
+  lasts_more : (old new : LastByWanted)
+      → ((key : Wanted) → IsLastBefore selectors (length selectors) key (last_wanted old key))
+      → TakesWanted old new (wanted_of s) (length selectors) → (key : Wanted)
+      → IsLastBefore (selectors ++ s ∷ []) (length selectors + 1) key (last_wanted new key)
   lasts_more old new last takes key = elim (takes key) [
-    | inl h ↦ subst (IsLastBefore (selectors ++ s ∷ []) (length selectors + 1) key) (sym h.1) (last_here key h.0)
-    | inr h ↦ subst (IsLastBefore (selectors ++ s ∷ []) (length selectors + 1) key) (sym h.1) (last_more key (last_wanted old key) h.0 (last_same (length selectors) key (last_wanted old key) (omega arith) (last key)))
+    | inl h ↦ subst (IsLastBefore (selectors ++ s ∷ []) (length selectors + 1) key) (sym h.1)
+        (last_here key h.0)
+    | inr h ↦ subst (IsLastBefore (selectors ++ s ∷ []) (length selectors + 1) key) (sym h.1)
+        (last_more key (last_wanted old key) h.0
+        (last_same (length selectors) key (last_wanted old key) (omega arith) (last key)))
   ]
 
-earlier_before : (links : List Link) (link : Link) (index : ℕ) → index < length links → earlier_at (links ++ link ∷ []) index ≡ earlier_at links index
+earlier_before : (links : List Link) (link : Link) (index : ℕ) → index < length links
+    → earlier_at (links ++ link ∷ []) index ≡ earlier_at links index
 earlier_before links link index lt =
-    let longer : index < length (links ++ link ∷ []) = omega (arith, lt, length-append links (link ∷ [])) in
-    ap (λ r. option_map_or (λ l. l.earlier) r None) (slice_get-get_or (links ++ link ∷ []) index link longer ∙ ap Some (get_or_append_left links (link ∷ []) link index lt) ∙ sym (slice_get-get_or links index link lt))
+    let longer : index < length (links ++ link ∷ []) =
+    omega (arith, lt, length-append links (link ∷ [])) in
+    ap (λ r. option_map_or (λ l. l.earlier) r None) (slice_get-get_or (links ++ link ∷ []) index
+    link longer ∙ ap Some (get_or_append_left links (link ∷ []) link index lt)
+    ∙ sym (slice_get-get_or links index link lt))
 
-earlier_last : (links : List Link) (link : Link) → earlier_at (links ++ link ∷ []) (length links) ≡ link.earlier
+earlier_last : (links : List Link) (link : Link)
+    → earlier_at (links ++ link ∷ []) (length links) ≡ link.earlier
 earlier_last links link =
-    let longer : length links < length (links ++ link ∷ []) = omega (arith, length-append links (link ∷ [])) in
-    ap (λ r. option_map_or (λ l. l.earlier) r None) (slice_get-get_or (links ++ link ∷ []) (length links) link longer ∙ ap Some (get_or-append_seam links link [] link))
+    let longer : length links < length (links ++ link ∷ []) =
+    omega (arith, length-append links (link ∷ [])) in
+    ap (λ r. option_map_or (λ l. l.earlier) r None) (slice_get-get_or (links ++ link ∷ [])
+    (length links) link longer ∙ ap Some (get_or-append_seam links link [] link))
 
 -- a link of a selector is appended
-pub chain_push : (old new : LastByWanted) (links : List Link) (link : Link) → AreChained old links → link.earlier ≡ last_wanted old (wanted_of link.selector.value) → TakesWanted old new (wanted_of link.selector.value) (length links) → AreChained new (links ++ link ∷ [])
+pub chain_push : (old new : LastByWanted) (links : List Link) (link : Link) → AreChained old links
+    → link.earlier ≡ last_wanted old (wanted_of link.selector.value)
+    → TakesWanted old new (wanted_of link.selector.value) (length links)
+    → AreChained new (links ++ link ∷ [])
 chain_push old new links link chained leads takes = record {
-  last = λ key. subst (λ ss. IsLastBefore ss (length (links ++ link ∷ [])) key (last_wanted new key)) (sym more) (subst (λ n. IsLastBefore (ss ++ s ∷ []) n key (last_wanted new key)) (sym number) (lasts_more ss s old new last_of (subst (TakesWanted old new (wanted_of s)) (sym same) takes) key));
-  earlier = λ index lt. subst (λ ss. IsLastBefore ss index (key_at ss index) (earlier_at (links ++ link ∷ []) index)) (sym more) (at index (order ss s index (length links) (omega (arith, lt, length-append links (link ∷ [])))));
+  last = λ key. subst
+      (λ ss. IsLastBefore ss (length (links ++ link ∷ [])) key (last_wanted new key)) (sym more)
+      (subst (λ n. IsLastBefore (ss ++ s ∷ []) n key (last_wanted new key)) (sym number) (lasts_more
+      ss s old new last_of (subst (TakesWanted old new (wanted_of s)) (sym same) takes) key));
+  earlier = λ index lt. subst (λ ss. IsLastBefore ss index (key_at ss index)
+      (earlier_at (links ++ link ∷ []) index)) (sym more) (at index
+      (order ss s index (length links) (omega (arith, lt, length-append links (link ∷ [])))));
 }
   where
     ss : List (List Component)
@@ -86,24 +119,41 @@ chain_push old new links link chained leads takes = record {
     number = length-append links (link ∷ []) ∙ ap (λ n. n + 1) (sym same)
 
     last_of : (key : Wanted) → IsLastBefore ss (length ss) key (last_wanted old key)
-    last_of key = subst (λ n. IsLastBefore ss n key (last_wanted old key)) (sym same) (chained.last key)
+    last_of key =
+        subst (λ n. IsLastBefore ss n key (last_wanted old key)) (sym same) (chained.last key)
 
-    at : (index : ℕ) → (index < length links) ⊎ (length links ≡ index) → IsLastBefore (ss ++ s ∷ []) index (key_at (ss ++ s ∷ []) index) (earlier_at (links ++ link ∷ []) index)
+    at : (index : ℕ) → (index < length links) ⊎ (length links ≡ index)
+        → IsLastBefore (ss ++ s ∷ []) index (key_at (ss ++ s ∷ []) index)
+        (earlier_at (links ++ link ∷ []) index)
     at index (inl before) =
-        subst (λ key. IsLastBefore (ss ++ s ∷ []) index key (earlier_at (links ++ link ∷ []) index)) (sym (key_before ss s index (omega (arith, before, same))))
-        (subst (IsLastBefore (ss ++ s ∷ []) index (key_at ss index)) (sym (earlier_before links link index before))
-        (last_same ss s index (key_at ss index) (earlier_at links index) (omega (arith, before, same)) (chained.earlier index before)))
+        subst (λ key. IsLastBefore (ss ++ s ∷ []) index key (earlier_at (links ++ link ∷ []) index))
+        (sym (key_before ss s index (omega (arith, before, same))))
+        (subst (IsLastBefore (ss ++ s ∷ []) index (key_at ss index))
+        (sym (earlier_before links link index before))
+        (last_same ss s index (key_at ss index) (earlier_at links index)
+        (omega (arith, before, same)) (chained.earlier index before)))
     at index (inr here) =
-        subst (λ p. IsLastBefore (ss ++ s ∷ []) p (key_at (ss ++ s ∷ []) p) (earlier_at (links ++ link ∷ []) p)) (same ∙ here)
-        (subst (λ key. IsLastBefore (ss ++ s ∷ []) (length ss) key (earlier_at (links ++ link ∷ []) (length ss))) (sym (key_last ss s))
-        (subst (IsLastBefore (ss ++ s ∷ []) (length ss) (wanted_of s)) (sym (ap (earlier_at (links ++ link ∷ [])) same ∙ earlier_last links link ∙ leads))
-        (last_same ss s (length ss) (wanted_of s) (last_wanted old (wanted_of s)) (omega arith) (last_of (wanted_of s)))))
+        subst (λ p. IsLastBefore (ss ++ s ∷ []) p (key_at (ss ++ s ∷ []) p)
+        (earlier_at (links ++ link ∷ []) p)) (same ∙ here)
+        (subst (λ key. IsLastBefore (ss ++ s ∷ []) (length ss) key
+        (earlier_at (links ++ link ∷ []) (length ss))) (sym (key_last ss s))
+        (subst (IsLastBefore (ss ++ s ∷ []) (length ss) (wanted_of s))
+        (sym (ap (earlier_at (links ++ link ∷ [])) same ∙ earlier_last links link ∙ leads))
+        (last_same ss s (length ss) (wanted_of s) (last_wanted old (wanted_of s)) (omega arith)
+        (last_of (wanted_of s)))))
 
 -- a link that leads to the last selector with its key is appended
-pub link_more : (old new : LastByWanted) (links more : List Link) (link : Link) (index : ℕ) (known : Option ℕ) (s : List Component) (key : Wanted) → AreChained old links → index ≡ length links → key ≡ wanted_of s → known ≡ last_wanted old key → TakesWanted old new key index → link.earlier ≡ known → link.selector.value ≡ s → more ≡ links ++ link ∷ []
+pub link_more : (old new : LastByWanted) (links more : List Link) (link : Link) (index : ℕ)
+    (known : Option ℕ) (s : List Component) (key : Wanted) → AreChained old links
+    → index ≡ length links → key ≡ wanted_of s → known ≡ last_wanted old key
+    → TakesWanted old new key index → link.earlier ≡ known → link.selector.value ≡ s
+    → more ≡ links ++ link ∷ []
     → AreChained new more × (selectors_of more ≡ selectors_of links ++ s ∷ [])
 link_more old new links more link index known s key chained index_is key_is is takes leads value e =
     let own : key ≡ wanted_of link.selector.value = key_is ∙ ap wanted_of (sym value) in (
-      subst (AreChained new) (sym e) (chain_push old new links link chained (leads ∙ is ∙ ap (last_wanted old) own) (subst (TakesWanted old new (wanted_of link.selector.value)) index_is (subst (λ k. TakesWanted old new k index) own takes))),
-      ap selectors_of e ∙ map-append (λ l. l.selector.value) links (link ∷ []) ∙ ap (λ v. selectors_of links ++ v ∷ []) value,
+      subst (AreChained new) (sym e) (chain_push old new links link chained (leads ∙ is
+          ∙ ap (last_wanted old) own) (subst (TakesWanted old new (wanted_of link.selector.value))
+          index_is (subst (λ k. TakesWanted old new k index) own takes))),
+      ap selectors_of e ∙ map-append (λ l. l.selector.value) links (link ∷ [])
+          ∙ ap (λ v. selectors_of links ++ v ∷ []) value,
     )

@@ -33,30 +33,39 @@ module _ (selectors : List (List Component)) where
     pub before : IsBefore start (key_at selectors start) left
     pub adds : Adds old new (Between (end_of left) start (key_at selectors start))
 
-  last_before : (end : ℕ) (key : Wanted) (left : Option ℕ) → IsLastBefore selectors end key left → IsBefore end key left
+  last_before : (end : ℕ) (key : Wanted) (left : Option ℕ) → IsLastBefore selectors end key left
+      → IsBefore end key left
   last_before end key None h = tt
   last_before end key (Some index) h = (h.0, h.1)
 
-  none_after : (end : ℕ) (key : Wanted) (left : Option ℕ) → IsLastBefore selectors end key left → (index : ℕ) → Between (end_of left) end key index → ⊥
+  none_after : (end : ℕ) (key : Wanted) (left : Option ℕ) → IsLastBefore selectors end key left
+      → (index : ℕ) → Between (end_of left) end key index → ⊥
   none_after end key None h index b = h index b.1 b.2
   none_after end key (Some last) h index b = h.2 index (omega (arith, b.0)) b.1 b.2
 
-  pub chain_start : (start : ℕ) (old : List ℕ) (left : Option ℕ) → IsLastBefore selectors start (key_at selectors start) left → Follows start old old left
+  pub chain_start : (start : ℕ) (old : List ℕ) (left : Option ℕ)
+      → IsLastBefore selectors start (key_at selectors start) left → Follows start old old left
   chain_start start old left h = record {
     before = last_before start (key_at selectors start) left h;
-    adds = adds_none old (Between (end_of left) start (key_at selectors start)) (none_after start (key_at selectors start) left h);
+    adds = adds_none old (Between (end_of left) start (key_at selectors start))
+        (none_after start (key_at selectors start) left h);
   }
 
-  pub chain_more : (start : ℕ) (old new more : List ℕ) (index : ℕ) (left : Option ℕ) → Follows start old new (Some index) → IsLastBefore selectors index (key_at selectors index) left → more ≡ new ++ index ∷ [] → Follows start old more left
+  pub chain_more : (start : ℕ) (old new more : List ℕ) (index : ℕ) (left : Option ℕ)
+      → Follows start old new (Some index)
+      → IsLastBefore selectors index (key_at selectors index) left → more ≡ new ++ index ∷ []
+      → Follows start old more left
   chain_more start old new more index left f h e = record {
     before = further left (last_before index (key_at selectors index) left h);
-    adds = adds_as old more (λ p. (there p, back p)) (adds_then old new more f.adds (adds_one new more index e));
+    adds = adds_as old more (λ p. (there p, back p))
+        (adds_then old new more f.adds (adds_one new more index e));
   }
     where
       same : key_at selectors index ≡ key_at selectors start
       same = f.before.1
 
-      further : (left : Option ℕ) → IsBefore index (key_at selectors index) left → IsBefore start (key_at selectors start) left
+      further : (left : Option ℕ) → IsBefore index (key_at selectors index) left
+          → IsBefore start (key_at selectors start) left
       further None s = tt
       further (Some p) s = let lt = f.before.0 in (omega (arith, s.0, lt), s.1 ∙ same)
 
@@ -64,71 +73,112 @@ module _ (selectors : List (List Component)) where
       le None s = omega arith
       le (Some p) s = omega (arith, s.0)
 
-      there : (p : ℕ) → Between (index + 1) start (key_at selectors start) p ⊎ (index ≡ p) → Between (end_of left) start (key_at selectors start) p
-      there p (inl b) = let l = le left (last_before index (key_at selectors index) left h) in (omega (arith, b.0, l), b.1, b.2)
-      there p (inr e) = subst (Between (end_of left) start (key_at selectors start)) e (le left (last_before index (key_at selectors index) left h), f.before.0, same)
+      there : (p : ℕ) → Between (index + 1) start (key_at selectors start) p ⊎ (index ≡ p)
+          → Between (end_of left) start (key_at selectors start) p
+      there p (inl b) =
+          let l = le left (last_before index (key_at selectors index) left h) in
+          (omega (arith, b.0, l), b.1, b.2)
+      there p (inr e) = subst (Between (end_of left) start (key_at selectors start)) e
+          (le left (last_before index (key_at selectors index) left h), f.before.0, same)
 
       order : (p : ℕ) → (index + 1 ≤ p) ⊎ ((index ≡ p) ⊎ (p < index))
       order p = grind arith
 
-      back : (p : ℕ) → Between (end_of left) start (key_at selectors start) p → Between (index + 1) start (key_at selectors start) p ⊎ (index ≡ p)
+      back : (p : ℕ) → Between (end_of left) start (key_at selectors start) p
+          → Between (index + 1) start (key_at selectors start) p ⊎ (index ≡ p)
       back p b = at (order p)
         where
-          at : (index + 1 ≤ p) ⊎ ((index ≡ p) ⊎ (p < index)) → Between (index + 1) start (key_at selectors start) p ⊎ (index ≡ p)
+          at : (index + 1 ≤ p) ⊎ ((index ≡ p) ⊎ (p < index))
+              → Between (index + 1) start (key_at selectors start) p ⊎ (index ≡ p)
           at (inl l) = inl (l, b.1, b.2)
           at (inr (inl e)) = inr e
-          at (inr (inr l)) = absurd (none_after index (key_at selectors index) left h p (b.0, l, b.2 ∙ sym same))
+          at (inr (inr l)) =
+              absurd (none_after index (key_at selectors index) left h p (b.0, l, b.2 ∙ sym same))
 
   -- a chain continues at an index that is known
-  pub chain_at : (start : ℕ) (old new : List ℕ) (left : Option ℕ) (index : ℕ) → left ≡ Some index → Follows start old new left → Follows start old new (Some index)
+  pub chain_at : (start : ℕ) (old new : List ℕ) (left : Option ℕ) (index : ℕ) → left ≡ Some index
+      → Follows start old new left → Follows start old new (Some index)
   chain_at start old new left index is f = subst (Follows start old new) is f
 
-  pub chain_end : (start : ℕ) (old new : List ℕ) → Follows start old new None → Adds old new (λ other. (other < start) × (key_at selectors other ≡ key_at selectors start))
-  chain_end start old new f = adds_as old new (λ p. (λ b. (b.1, b.2), λ h. (omega arith, h.0, h.1))) f.adds
+  pub chain_end : (start : ℕ) (old new : List ℕ) → Follows start old new None
+      → Adds old new (λ other. (other < start) × (key_at selectors other ≡ key_at selectors start))
+  chain_end start old new f =
+      adds_as old new (λ p. (λ b. (b.1, b.2), λ h. (omega arith, h.0, h.1))) f.adds
 
   -- the indices before one of the starts, with its key
   abbrev pub After : List ℕ → ℕ → Type 0
-  After starts other = (index : ℕ) × Contains starts index × (other < index) × (key_at selectors other ≡ key_at selectors index)
+  After starts other = (index : ℕ) × Contains starts index × (other < index)
+      × (key_at selectors other ≡ key_at selectors index)
 
-  pub one_chain : (starts old new more : List ℕ) (index : ℕ) → Adds old new (After starts) → Adds new more (λ other. (other < index) × (key_at selectors other ≡ key_at selectors index)) → Adds old more (After (starts ++ index ∷ []))
-  one_chain starts old new more index before next = adds_as old more (λ other. (there other, back other)) (adds_then old new more before next)
+  pub one_chain : (starts old new more : List ℕ) (index : ℕ) → Adds old new (After starts)
+      → Adds new more (λ other. (other < index) × (key_at selectors other ≡ key_at selectors index))
+      → Adds old more (After (starts ++ index ∷ []))
+  one_chain starts old new more index before next =
+      adds_as old more (λ other. (there other, back other)) (adds_then old new more before next)
     where
-      there : (other : ℕ) → After starts other ⊎ ((other < index) × (key_at selectors other ≡ key_at selectors index)) → After (starts ++ index ∷ []) other
+      there : (other : ℕ)
+          → After starts other
+          ⊎ ((other < index) × (key_at selectors other ≡ key_at selectors index))
+          → After (starts ++ index ∷ []) other
       there other (inl h) = (h.0, Contains-append_left starts (index ∷ []) h.0 h.1, h.2, h.3)
       there other (inr h) = (index, Contains-push starts index, h.0, h.1)
 
-      at : (other p : ℕ) → (other < p) × (key_at selectors other ≡ key_at selectors p) → Contains starts p ⊎ (index ≡ p) → After starts other ⊎ ((other < index) × (key_at selectors other ≡ key_at selectors index))
+      at : (other p : ℕ) → (other < p) × (key_at selectors other ≡ key_at selectors p)
+          → Contains starts p ⊎ (index ≡ p)
+          → After starts other
+          ⊎ ((other < index) × (key_at selectors other ≡ key_at selectors index))
       at other p h (inl c) = inl (p, c, h.0, h.1)
-      at other p h (inr e) = inr (subst (λ x. (other < x) × (key_at selectors other ≡ key_at selectors x)) (sym e) h)
+      at other p h (inr e) =
+          inr (subst (λ x. (other < x) × (key_at selectors other ≡ key_at selectors x)) (sym e) h)
 
-      back : (other : ℕ) → After (starts ++ index ∷ []) other → After starts other ⊎ ((other < index) × (key_at selectors other ≡ key_at selectors index))
+      back : (other : ℕ) → After (starts ++ index ∷ []) other
+          → After starts other
+          ⊎ ((other < index) × (key_at selectors other ≡ key_at selectors index))
       back other h = at other h.0 (h.2, h.3) (Contains-push_cases starts index h.0 h.1)
 
 -- a selector has a link
-pub link_there : (links : List Link) (selectors : List (List Component)) (index : ℕ) → selectors_of links ≡ selectors → index < length selectors → index < length links
-link_there links selectors index is lt = omega (arith, lt, ap length is, length-map links (λ l. l.selector.value))
+pub link_there : (links : List Link) (selectors : List (List Component)) (index : ℕ)
+    → selectors_of links ≡ selectors → index < length selectors → index < length links
+link_there links selectors index is lt =
+    omega (arith, lt, ap length is, length-map links (λ l. l.selector.value))
 
 -- where a link that was read leads
-pub leads : (lasts : LastByWanted) (links : List Link) (selectors : List (List Component)) (index : ℕ) (link : Link) → AreChained lasts links → selectors_of links ≡ selectors → index < length selectors → link ≡ get_or links index link → IsLastBefore selectors index (key_at selectors index) link.earlier
+pub leads : (lasts : LastByWanted) (links : List Link) (selectors : List (List Component))
+    (index : ℕ) (link : Link) → AreChained lasts links → selectors_of links ≡ selectors
+    → index < length selectors → link ≡ get_or links index link
+    → IsLastBefore selectors index (key_at selectors index) link.earlier
 leads lasts links selectors index link chained is lt read =
     let within = link_there links selectors index is lt in
-    let leads_to : link.earlier ≡ earlier_at links index = ap (λ l. l.earlier) read ∙ sym (ap (λ r. option_map_or (λ l. l.earlier) r None) (slice_get-get_or links index link within)) in
+    let leads_to : link.earlier ≡ earlier_at links index = ap (λ l. l.earlier) read ∙ sym
+    (ap (λ r. option_map_or (λ l. l.earlier) r None) (slice_get-get_or links index link within)) in
     subst (λ ss. IsLastBefore ss index (key_at ss index) link.earlier) is
-    (subst (IsLastBefore (selectors_of links) index (key_at (selectors_of links) index)) (sym leads_to) (chained.earlier index within))
+    (subst (IsLastBefore (selectors_of links) index (key_at (selectors_of links) index))
+    (sym leads_to) (chained.earlier index within))
 
-pub leads_back : (selectors : List (List Component)) (end : ℕ) (key : Wanted) (left : Option ℕ) → IsLastBefore selectors end key left → end_of left < end + 1
+pub leads_back : (selectors : List (List Component)) (end : ℕ) (key : Wanted) (left : Option ℕ)
+    → IsLastBefore selectors end key left → end_of left < end + 1
 leads_back selectors end key None h = omega arith
 leads_back selectors end key (Some index) h = omega (arith, h.0)
 
 -- a start that is read where indices were added after the starts
-pub start_read : {P : ℕ → Type 0} (starts indices : List ℕ) (i index : ℕ) → Adds starts indices P → i < length starts → index ≡ get_or indices i index → index ≡ get_or starts i index
+pub start_read : {P : ℕ → Type 0} (starts indices : List ℕ) (i index : ℕ) → Adds starts indices P
+    → i < length starts → index ≡ get_or indices i index → index ≡ get_or starts i index
 start_read starts indices i index adds lt read =
     read ∙ ap (λ xs. get_or xs i index) adds.1 ∙ get_or_append_left starts adds.0 index i lt
 
-pub start_there : (starts : List ℕ) (i index : ℕ) → i < length starts → index ≡ get_or starts i index → Contains starts index
-start_there starts i index lt read = subst (Contains starts) (sym read) (Contains-get_or starts i index lt)
+pub start_there : (starts : List ℕ) (i index : ℕ) → i < length starts
+    → index ≡ get_or starts i index → Contains starts index
+start_there starts i index lt read =
+    subst (Contains starts) (sym read) (Contains-get_or starts i index lt)
 
-pub start_more : (selectors : List (List Component)) (starts indices more : List ℕ) (i index : ℕ) → i < length starts → index ≡ get_or starts i index → Adds starts indices (After selectors (take i starts)) → Adds indices more (λ other. (other < index) × (key_at selectors other ≡ key_at selectors index)) → Adds starts more (After selectors (take (i + 1) starts))
+pub start_more : (selectors : List (List Component)) (starts indices more : List ℕ) (i index : ℕ)
+    → i < length starts → index ≡ get_or starts i index
+    → Adds starts indices (After selectors (take i starts))
+    → Adds indices more
+    (λ other. (other < index) × (key_at selectors other ≡ key_at selectors index))
+    → Adds starts more (After selectors (take (i + 1) starts))
 start_more selectors starts indices more i index lt read before next =
-    let taken : take (i + 1) starts ≡ take i starts ++ index ∷ [] = take_more starts i index lt ∙ ap (λ p. take i starts ++ p ∷ []) (sym read) in
-    subst (λ xs. Adds starts more (After selectors xs)) (sym taken) (one_chain selectors (take i starts) starts indices more index before next)
+    let taken : take (i + 1) starts ≡ take i starts ++ index ∷ [] =
+    take_more starts i index lt ∙ ap (λ p. take i starts ++ p ∷ []) (sym read) in
+    subst (λ xs. Adds starts more (After selectors xs)) (sym taken)
+    (one_chain selectors (take i starts) starts indices more index before next)

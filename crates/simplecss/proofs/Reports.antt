@@ -12,7 +12,10 @@ on_ok (Ok x) p = p
 on_ok (Err e) p = tt
 
 -- by one more text
-pub add-more : {S : Type 0} (tell : S → Skip → S) (edition : Edition) (texts : List (List ℕ)) (text : List ℕ) (s0 s1 s2 : S) → s1 ≡ add_each tell s0 (flat_map (skipped edition) texts) → s2 ≡ add_each tell s1 (skipped edition text) → s2 ≡ add_each tell s0 (flat_map (skipped edition) (texts ++ text ∷ []))
+pub add-more : {S : Type 0} (tell : S → Skip → S) (edition : Edition) (texts : List (List ℕ))
+    (text : List ℕ) (s0 s1 s2 : S) → s1 ≡ add_each tell s0 (flat_map (skipped edition) texts)
+    → s2 ≡ add_each tell s1 (skipped edition text)
+    → s2 ≡ add_each tell s0 (flat_map (skipped edition) (texts ++ text ∷ []))
 add-more {S = S} tell edition texts text s0 s1 s2 a b =
     b
     ∙ ap (λ (s : S). add_each tell s (skipped edition text)) a

@@ -18,15 +18,19 @@ use Rattle.simplecss.specs.declared.sheet.rules.Rule.{Rule}
 
 -- the same name, the same value, and both important or neither
 abbrev pub declaration_eq : StyleDeclaration → StyleDeclaration → Bool
-declaration_eq a b = text_eq a.name b.name && (text_eq a.value b.value && beq a.important b.important)
+declaration_eq a b =
+    text_eq a.name b.name && (text_eq a.value b.value && beq a.important b.important)
 
 declaration_decides : (a b : StyleDeclaration) → Decides (declaration_eq a b) (a ≡ b)
 declaration_decides a b =
     Decides-like (declaration_eq a b)
-    (λ (p : (a.name ≡ b.name) × ((a.value ≡ b.value) × (a.important ≡ b.important))). λ t. record { name = p.0 t; value = p.1.0 t; important = p.1.1 t })
+    (λ (p : (a.name ≡ b.name) × ((a.value ≡ b.value) × (a.important ≡ b.important))).
+    λ t. record { name = p.0 t; value = p.1.0 t; important = p.1.1 t })
     (λ e. ((λ t. (e t).name), ((λ t. (e t).value), (λ t. (e t).important))))
-    (Decides-and (text_eq a.name b.name) (text_eq a.value b.value && beq a.important b.important) (bytes_decides a.name b.name)
-    (Decides-and (text_eq a.value b.value) (beq a.important b.important) (bytes_decides a.value b.value) (booleans_Decides a.important b.important)))
+    (Decides-and (text_eq a.name b.name) (text_eq a.value b.value && beq a.important b.important)
+    (bytes_decides a.name b.name)
+    (Decides-and (text_eq a.value b.value) (beq a.important b.important)
+    (bytes_decides a.value b.value) (booleans_Decides a.important b.important)))
 
 -- the same components, and the same declarations one by one
 abbrev pub style_rule_eq : StyleRule → StyleRule → Bool
@@ -38,7 +42,8 @@ style_rule_decides a b =
     let selectors = selector_eq a.components b.components in
     let lists = pointwise declaration_eq a.declarations b.declarations in
     Decides-like (style_rule_eq a b)
-    (λ (p : (a.components ≡ b.components) × (a.declarations ≡ b.declarations)). λ t. record { components = p.0 t; declarations = p.1 t })
+    (λ (p : (a.components ≡ b.components) × (a.declarations ≡ b.declarations)).
+    λ t. record { components = p.0 t; declarations = p.1 t })
     (λ e. ((λ t. (e t).components), (λ t. (e t).declarations)))
     (Decides-and selectors lists (selector_decides a.components b.components)
     (pointwise_decides declaration_decides a.declarations b.declarations))
@@ -46,18 +51,22 @@ style_rule_decides a b =
 -- as the code compares rules: their selectors, and their declarations one by one
 abbrev pub rule_eq : Rule → Rule → Bool
 rule_eq a b = selector_eq a.selector b.selector
-    && pointwise (λ x y. declaration_eq (declaration_of x) (declaration_of y)) a.declarations.items b.declarations.items
+    && pointwise (λ x y. declaration_eq (declaration_of x) (declaration_of y)) a.declarations.items
+    b.declarations.items
 
 style_rule_eq-rule_of : (a b : Rule) → style_rule_eq (rule_of a) (rule_of b) ≡ rule_eq a b
 style_rule_eq-rule_of a b =
-    ap (λ lists. selector_eq a.selector b.selector && lists) (pointwise-map declaration_of declaration_eq a.declarations.items b.declarations.items)
+    ap (λ lists. selector_eq a.selector b.selector && lists)
+    (pointwise-map declaration_of declaration_eq a.declarations.items b.declarations.items)
 
 pub rule_decides : (a b : Rule) → Decides (rule_eq a b) (rule_of a ≡ rule_of b)
 rule_decides a b =
-    subst (λ t. Decides t (rule_of a ≡ rule_of b)) (style_rule_eq-rule_of a b) (style_rule_decides (rule_of a) (rule_of b))
+    subst (λ t. Decides t (rule_of a ≡ rule_of b)) (style_rule_eq-rule_of a b)
+    (style_rule_decides (rule_of a) (rule_of b))
 
 pub rules_decide : (a b : List Rule) → Decides (pointwise rule_eq a b) (rules_of a ≡ rules_of b)
 rules_decide a b =
     subst (λ t. Decides t (rules_of a ≡ rules_of b))
-    (pointwise-map rule_of style_rule_eq a b ∙ (λ t. pointwise (λ x y. style_rule_eq-rule_of x y t) a b))
+    (pointwise-map rule_of style_rule_eq a b
+    ∙ (λ t. pointwise (λ x y. style_rule_eq-rule_of x y t) a b))
     (pointwise_decides style_rule_decides (rules_of a) (rules_of b))

@@ -49,11 +49,13 @@ Leads is_wanted lasts index =
 
 -- each index is of a selector whose key is one of these, and for each selector with such a key the
 -- list has the index, or a later one of a selector with the same key
-pub record AreStarts (is_wanted : Wanted → Bool) (selectors : List (List Component)) (indices : List ℕ) : Type 0 where
+pub record AreStarts (is_wanted : Wanted → Bool) (selectors : List (List Component))
+    (indices : List ℕ) : Type 0 where
   pub within : (index : ℕ) → Contains indices index
       → (index < length selectors) × IsTrue (is_wanted (key_at selectors index))
   pub reached : (index : ℕ) → index < length selectors → IsTrue (is_wanted (key_at selectors index))
-      → (last : ℕ) × Contains indices last × (index ≤ last) × (key_at selectors index ≡ key_at selectors last)
+      → (last : ℕ) × Contains indices last × (index ≤ last)
+      × (key_at selectors index ≡ key_at selectors last)
 
 -- the indices are those of the selectors whose key is reported, for every element with the name and
 -- the class value, if no selector's key is reported otherwise
@@ -65,4 +67,5 @@ IsFound selectors name class indices = (near : Near) → near.own.name ≡ name 
 abbrev pub IsSlotOf : List (List Component) → Option Slot → Type 0
 IsSlotOf selectors None = Unit {0}
 IsSlotOf selectors (Some slot) =
-    IsFound selectors (string_bytes slot.name) (option_map string_bytes slot.class) slot.indices.items
+    IsFound selectors (string_bytes slot.name)
+    (option_map string_bytes slot.class) slot.indices.items

@@ -13,6 +13,7 @@ pub record StandsNext (text : List ℕ) (offset : ℕ) (statement : Statement) :
   pub start : drop statement.start text ≡ past_blank (drop offset text)
   pub reads : next_statement this_edition (drop offset text)
       ≡ Some (rules_of statement.rules.items, drop statement.end text)
-  pub rising : (offset ≤ statement.start) × (statement.start < statement.end) × (statement.end ≤ length text)
+  pub rising : (offset ≤ statement.start) × (statement.start < statement.end)
+      × (statement.end ≤ length text)
   pub starts_at : IsCharBoundary text statement.start
   pub ends_at : IsCharBoundary text statement.end

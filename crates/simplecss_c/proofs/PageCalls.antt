@@ -22,10 +22,12 @@ use Rattle.simplecss_c.specs.AnswerLines.{AreLinesOf}
 use Rattle.simplecss_c.specs.SelectorLists.{selectors_in}
 
 -- the text that is due, or a refused allocation
-pub page_due : {Z : Type 0} (IsText : List StyleRule → List Row → List ℕ → Type 0) (buffer ends : List ℕ) (passed : Passed) (texts : List (List ℕ)) (rows : List Row)
+pub page_due : {Z : Type 0} (IsText : List StyleRule → List Row → List ℕ → Type 0)
+    (buffer ends : List ℕ) (passed : Passed) (texts : List (List ℕ)) (rows : List Row)
     → HasTexts buffer ends texts → IsUtf8 passed.strings → passed_tree passed ≡ Ok rows
     → (rules : List StyleRule) → rules ≡ sheet this_edition texts
-    → (r : Result (String Z) Failure) → MatchResult r (λ text. IsText rules rows (string_bytes text)) (λ failure. failure ≡ Memory)
+    → (r : Result (String Z) Failure)
+    → MatchResult r (λ text. IsText rules rows (string_bytes text)) (λ failure. failure ≡ Memory)
     → IsPageCall IsText buffer ends passed (outcome_of r)
 page_due IsText buffer ends passed texts rows has utf8 tree rules are (Ok text) due =
     (texts, rows, has, utf8, tree, subst (λ rules. IsText rules rows (string_bytes text)) are due)
@@ -33,19 +35,31 @@ page_due IsText buffer ends passed texts rows has utf8 tree rules are (Err failu
     subst (λ failure. IsPageCall IsText buffer ends passed (Err failure)) (sym due) tt
 
 -- what wins, or that none does
-pub wins_or_none : {Node D : Type 0} (tree : Tree Node) (n : Node) (rules : List StyleRule) (name : List ℕ) (f : D → StyleDeclaration) (r : Option D)
+pub wins_or_none : {Node D : Type 0} (tree : Tree Node) (n : Node) (rules : List StyleRule)
+    (name : List ℕ) (f : D → StyleDeclaration) (r : Option D)
     → IfSome r (λ d. IsWinner tree n name rules (f d)) → (IsNone r ↔ HasNoWinner tree n name rules)
     → Wins (IsStated tree n rules) name (option_map f r)
 wins_or_none tree n rules name f None some none = none.0 refl
 wins_or_none tree n rules name f (Some d) some none = some
 
 -- the text that is due for a list of selectors, or a refused allocation
-pub select_due : {Z : Type 0} (text : List ℕ) (passed : Passed) (selectors : List (List Component)) (rows : List Row)
-    → IsUtf8 text → selectors_in text ≡ Some selectors → IsUtf8 passed.strings → passed_tree passed ≡ Ok rows
+pub select_due : {Z : Type 0} (text : List ℕ) (passed : Passed) (selectors : List (List Component))
+    (rows : List Row)
+    → IsUtf8 text → selectors_in text ≡ Some selectors → IsUtf8 passed.strings
+    → passed_tree passed ≡ Ok rows
     → (matched : List (List Component)) → matched ≡ selectors
-    → (r : Result (String Z) Failure) → MatchResult r (λ text. AreLinesOf Selected matched rows (string_bytes text)) (λ failure. failure ≡ Memory)
+    → (r : Result (String Z) Failure)
+    → MatchResult r (λ text. AreLinesOf Selected matched rows (string_bytes text))
+    (λ failure. failure ≡ Memory)
     → IsSelectCall text passed (outcome_of r)
-select_due text passed selectors rows utf8 is strings tree matched are (Ok lines) due =
-    (selectors, rows, utf8, is, strings, tree, subst (λ ss. AreLinesOf Selected ss rows (string_bytes lines)) are due)
+select_due text passed selectors rows utf8 is strings tree matched are (Ok lines) due = (
+  selectors,
+  rows,
+  utf8,
+  is,
+  strings,
+  tree,
+  subst (λ ss. AreLinesOf Selected ss rows (string_bytes lines)) are due,
+)
 select_due text passed selectors rows utf8 is strings tree matched are (Err failure) due =
     subst (λ failure. IsSelectCall text passed (Err failure)) (sym due) tt

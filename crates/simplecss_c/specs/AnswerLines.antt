@@ -54,8 +54,8 @@ IsWinnerLine name rules rows index line =
 abbrev pub AreWinnerLines : List ℕ → List StyleRule → List Row → List ℕ → Type 0
 AreWinnerLines name rules rows = AreLines (IsWinnerLine name rules rows) (length rows)
 
--- the line of all that wins on the element at an index: for each name what wins for it, in the order of
--- rules and of declarations in them
+-- the line of all that wins on the element at an index: for each name what wins for it, in the
+-- order of rules and of declarations in them
 abbrev pub IsWinnersLine : List StyleRule → List Row → ℕ → List ℕ → Type 0
 IsWinnersLine rules rows index text =
     (winners : List StyleDeclaration)

@@ -1,5 +1,6 @@
--- A tree as a caller passes it: its elements in document order, and all their strings in one buffer,
--- by where each ends. An element's strings are its name, and a key and a value for each attribute.
+-- A tree as a caller passes it: its elements in document order, and all their strings in one
+-- buffer, by where each ends. An element's strings are its name, and a key and a value for each
+-- attribute.
 use Rattle.std.specs.Prelude.{◌≡◌, ℕ, zero, suc, ◌+◌, ◌*◌, ◌<◌, Bool, false, ◌&&◌, ◌||◌, ◌==◌, nat_le, nat_lt, if◌then◌else◌, bytes_eq, List, [], ◌∷◌, ◌++◌, length, map, drop, slice_index, Option, None, Some, Result, Ok, Err}
 use Rattle.std.specs.List.{slice_range, slice_index_or, list_any, range_with_len}
 use Rattle.simplecss_tree.specs.Rows.{Row, last_child, no_states}
@@ -92,7 +93,8 @@ keys_in fields count = map (key_in fields) (range_with_len 0 count)
 
 -- the first attributes, each a key and a value
 abbrev pub attributes_in : List (List ℕ) → ℕ → List (List ℕ × List ℕ)
-attributes_in fields count = map (λ i. (key_in fields i, value_in fields i)) (range_with_len 0 count)
+attributes_in fields count =
+    map (λ i. (key_in fields i, value_in fields i)) (range_with_len 0 count)
 
 -- whether one of the keys is this one
 abbrev pub has_key : List (List ℕ) → List ℕ → Bool
@@ -135,9 +137,10 @@ with_element rows depths element strings =
     (fields_in strings) element.attributes ∷ []
 
 -- The tree whose first elements have these rows and depths, and whose other elements have the
--- strings that are left; or the fault of its first faulty element. Strings that no element has are a
--- fault of one more element.
-abbrev pub tree_from : List Row → List ℕ → Strings → List TreeElement → Result (List Row) ElementFault
+-- strings that are left; or the fault of its first faulty element. Strings that no element has are
+-- a fault of one more element.
+abbrev pub tree_from : List Row → List ℕ → Strings → List TreeElement
+    → Result (List Row) ElementFault
 tree_from rows depths left [] =
     if length left.strings == 0 && left.are_all then Ok rows else Err (BadStrings (length rows + 1))
 tree_from rows depths left (element ∷ elements) =

@@ -9,7 +9,8 @@ use Rattle.simplecss_c.specs.declared.lists.Listed.{Listed}
 use Rattle.simplecss_c.specs.declared.lists.Listed.TheVariants.{Selectors, Refused, NoComma}
 
 -- The list after a selector that was read: at the end of the text that selector only, and after a
--- comma also the list that follows. Where no selector was read, and before anything else, it is none.
+-- comma also the list that follows. Where no selector was read, and before anything else, it is
+-- none.
 abbrev pub list_after : (List ℕ → Option (List (List Component))) → Option (List Component)
     → List ℕ → Option (List (List Component))
 list_after list None left = None
@@ -23,7 +24,8 @@ list_within zero text = None
 list_within (suc n) text =
     list_after (list_within n) (reads this_edition text).0 (reads this_edition text).1
 
--- The selectors of a text, if it is a list of selectors: there are at most as many as bytes, and one.
+-- The selectors of a text, if it is a list of selectors: there are at most as many as bytes, and
+-- one.
 abbrev pub selectors_in : List ℕ → Option (List (List Component))
 selectors_in text = list_within (length text + 1) text
 

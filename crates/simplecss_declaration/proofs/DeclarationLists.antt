@@ -8,18 +8,23 @@ use Rattle.simplecss_text.proofs.reading.EachLemmas.{each-none, each-some}
 use Rattle.simplecss_text.proofs.reading.DeclarationLemmas.{next_declaration-takes}
 use Rattle.simplecss_declaration.specs.internal.UnreportedFaults.{FailsAt}
 
-pub declarations-some : (edition : Edition) (text rest : List ℕ) (p : StyleDeclaration) → declaration edition text ≡ got p rest → declarations edition text ≡ p ∷ declarations edition rest
+pub declarations-some : (edition : Edition) (text rest : List ℕ) (p : StyleDeclaration)
+    → declaration edition text ≡ got p rest
+    → declarations edition text ≡ p ∷ declarations edition rest
 unfolding declarations
-declarations-some edition text rest p e = ap (λ r. r.0) (each-some (next_declaration edition) (next_declaration-takes edition) text rest p (ap found e))
+declarations-some edition text rest p e = ap (λ r. r.0)
+    (each-some (next_declaration edition) (next_declaration-takes edition) text rest p (ap found e))
 
 -- no value is found where a reading fails
 pub found-none : {A : Type 0} (r : Reading A) (left : List ℕ) → FailsAt r left → found r ≡ None
 found-none (got x rest) left h = absurd h
 found-none (fails fault rest) left h = refl
 
-pub declarations-none : (edition : Edition) (text left : List ℕ) → FailsAt (declaration edition text) left → declarations edition text ≡ []
+pub declarations-none : (edition : Edition) (text left : List ℕ)
+    → FailsAt (declaration edition text) left → declarations edition text ≡ []
 unfolding declarations
-declarations-none edition text left h = ap (λ r. r.0) (each-none (next_declaration edition) text (found-none (declaration edition text) left h))
+declarations-none edition text left h = ap (λ r. r.0)
+    (each-none (next_declaration edition) text (found-none (declaration edition text) left h))
 
 pub declarations-nil : (edition : Edition) → declarations edition [] ≡ []
 unfolding declarations each

@@ -17,46 +17,68 @@ use Rattle.simplecss_text.proofs.reading.StandLemmas.{blank-stands, byte-stands,
 use Rattle.simplecss_text.proofs.reading.DeclarationsLawful.{semicolon-takes, term_in_value-takes, trailing-stands}
 use Rattle.simplecss_text.proofs.reading.EachLemmas.{took, each-none, each-some}
 
-pub terms-some : (edition : Edition) (text rest : List ℕ) → term edition text ≡ got tt rest → each (term_in_value edition) text ≡ followed_by rest (each (term_in_value edition) (past_blank rest))
-terms-some edition text rest e = each-some (term_in_value edition) (term_in_value-takes edition) text (past_blank rest) rest (ap after_term e)
+pub terms-some : (edition : Edition) (text rest : List ℕ) → term edition text ≡ got tt rest
+    → each (term_in_value edition) text
+    ≡ followed_by rest (each (term_in_value edition) (past_blank rest))
+terms-some edition text rest e = each-some (term_in_value edition)
+    (term_in_value-takes edition) text (past_blank rest) rest (ap after_term e)
 
-pub terms-none : (edition : Edition) (text rest : List ℕ) (fault : Fault) → term edition text ≡ fails fault rest → each (term_in_value edition) text ≡ ([], text)
+pub terms-none : (edition : Edition) (text rest : List ℕ) (fault : Fault)
+    → term edition text ≡ fails fault rest → each (term_in_value edition) text ≡ ([], text)
 terms-none edition text rest fault e = each-none (term_in_value edition) text (ap after_term e)
 
 -- a term and the blank after it consume a byte or more
-pub term-takes : (edition : Edition) (text rest : List ℕ) → term edition text ≡ got tt rest → length (past_blank rest) < length text
-term-takes edition text rest e = took (term_in_value edition) (term_in_value-takes edition) text (past_blank rest) rest (ap after_term e)
+pub term-takes : (edition : Edition) (text rest : List ℕ) → term edition text ≡ got tt rest
+    → length (past_blank rest) < length text
+term-takes edition text rest e = took (term_in_value edition) (term_in_value-takes edition) text
+    (past_blank rest) rest (ap after_term e)
 
 -- the value, where the terms from here on end it as those of the whole do, and none begins here
-pub value-done : (edition : Edition) (text end here rest : List ℕ) (fault : Fault) → last_or end (each (term_in_value edition) here).0 ≡ last_or text (each (term_in_value edition) text).0
-    → (each (term_in_value edition) here).1 ≡ (each (term_in_value edition) text).1 → term edition here ≡ fails fault rest → value edition text ≡ (trim (before text end), rest)
+pub value-done : (edition : Edition) (text end here rest : List ℕ) (fault : Fault)
+    → last_or end (each (term_in_value edition) here).0
+    ≡ last_or text (each (term_in_value edition) text).0
+    → (each (term_in_value edition) here).1 ≡ (each (term_in_value edition) text).1
+    → term edition here ≡ fails fault rest → value edition text ≡ (trim (before text end), rest)
 unfolding value
 value-done edition text end here rest fault last left e =
-    let none : each (term_in_value edition) here ≡ ([], here) = terms-none edition here rest fault e in
-    let ended : last_or text (each (term_in_value edition) text).0 ≡ end = sym last ∙ ap (λ r. last_or end r.0) none in
+    let none : each (term_in_value edition) here ≡ ([], here) =
+    terms-none edition here rest fault e in
+    let ended : last_or text (each (term_in_value edition) text).0 ≡ end =
+    sym last ∙ ap (λ r. last_or end r.0) none in
     let at : (each (term_in_value edition) text).1 ≡ here = sym left ∙ ap (λ r. r.1) none in
     rw (ended, at, e) refl
 
-pub semicolons-some : (text : List ℕ) → starts semicolon_byte text ≡ true → (each semicolon text).1 ≡ (each semicolon (past_blank (past_one text))).1
-semicolons-some text e = ap (λ r. r.1) (each-some semicolon semicolon-takes text (past_blank (past_one text)) tt (rw e refl))
+pub semicolons-some : (text : List ℕ) → starts semicolon_byte text ≡ true
+    → (each semicolon text).1 ≡ (each semicolon (past_blank (past_one text))).1
+semicolons-some text e = ap (λ r. r.1)
+    (each-some semicolon semicolon-takes text (past_blank (past_one text)) tt (rw e refl))
 
-pub semicolons-none : (text : List ℕ) → starts semicolon_byte text ≡ false → (each semicolon text).1 ≡ text
+pub semicolons-none : (text : List ℕ) → starts semicolon_byte text ≡ false
+    → (each semicolon text).1 ≡ text
 semicolons-none text e = ap (λ r. r.1) (each-none semicolon text (rw e refl))
 
-pub semicolon-less : (text : List ℕ) → starts semicolon_byte text ≡ true → length (past_blank (past_one text)) < length text
-semicolon-less text e = took semicolon semicolon-takes text (past_blank (past_one text)) tt (rw e refl)
+pub semicolon-less : (text : List ℕ) → starts semicolon_byte text ≡ true
+    → length (past_blank (past_one text)) < length text
+semicolon-less text e =
+    took semicolon semicolon-takes text (past_blank (past_one text)) tt (rw e refl)
 
 -- a text may be cut where an end of it begins
-pub boundary_at_end : (text rest : List ℕ) → Ends text rest → IsUtf8 rest → IsCharBoundary text (length text - length rest)
+pub boundary_at_end : (text rest : List ℕ) → Ends text rest → IsUtf8 rest
+    → IsCharBoundary text (length text - length rest)
 boundary_at_end text rest e u =
-    let n : length (before text rest) ≡ length text - length rest = length-take-le _ text (omega arith) in
-    subst (λ (i : ℕ). IsCharBoundary text i) n (IsCharBoundary-at_seam text (before text rest) rest (sym e) u)
+    let n : length (before text rest) ≡ length text - length rest =
+    length-take-le _ text (omega arith) in
+    subst (λ (i : ℕ). IsCharBoundary text i) n
+    (IsCharBoundary-at_seam text (before text rest) rest (sym e) u)
 
-pub before-range : (text rest : List ℕ) → slice_range text 0 (length text - length rest) ≡ before text rest
+pub before-range : (text rest : List ℕ)
+    → slice_range text 0 (length text - length rest) ≡ before text rest
 before-range text rest = ap (λ n. take n text) (omega arith)
 
 -- what is trimmed is before the end
-pub trimmed : (text rest ranged result : List ℕ) → ranged ≡ slice_range text 0 (length text - length rest) → result ≡ trim ranged → result ≡ trim (before text rest)
+pub trimmed : (text rest ranged result : List ℕ)
+    → ranged ≡ slice_range text 0 (length text - length rest) → result ≡ trim ranged
+    → result ≡ trim (before text rest)
 trimmed text rest ranged result r t = t ∙ ap (λ (v : List ℕ). trim v) (r ∙ before-range text rest)
 
 -- The name of a declaration is before what follows its colon, if each was read from what the one

@@ -55,7 +55,8 @@ pub record GivesDeclaration (before : DeclarationTokenizer) (result : Option Dec
 -- What calls of `next` return, from any tokenizer on, is a prefix of the declarations that are
 -- still to come there, and all of them if the calls continued to `None`.
 abbrev pub GivesInTurn : Type 0
-GivesInTurn = EveryRun GivesDeclaration (λ calls. ItemsMapTo calls declaration_of (still_to_come calls.from))
+GivesInTurn =
+    EveryRun GivesDeclaration (λ calls. ItemsMapTo calls declaration_of (still_to_come calls.from))
 
 -- a tokenizer at the start of a text
 pub record Begins (text : List ℕ) (t : DeclarationTokenizer) : Type 0 where

@@ -18,7 +18,8 @@ abbrev pub error_in_whole : TextPos → Error → Error
 error_in_whole start (InvalidIdent pos) = InvalidIdent (in_whole start pos)
 error_in_whole start (InvalidComment pos) = InvalidComment (in_whole start pos)
 error_in_whole start (InvalidValue pos) = InvalidValue (in_whole start pos)
-error_in_whole start (InvalidByte expected actual pos) = InvalidByte expected actual (in_whole start pos)
+error_in_whole start (InvalidByte expected actual pos) =
+    InvalidByte expected actual (in_whole start pos)
 error_in_whole start UnexpectedEndOfStream = UnexpectedEndOfStream
 error_in_whole start SelectorMissing = SelectorMissing
 error_in_whole start UnexpectedSelector = UnexpectedSelector
@@ -29,7 +30,8 @@ error_in_whole start InvalidLanguagePseudoClass = InvalidLanguagePseudoClass
 -- why something is skipped, with positions in the whole text
 abbrev pub reason_in : (text : List ℕ) → Why → Reason
 reason_in text leading_comma = LeadingComma
-reason_in text (refused_selector (faulty within error)) = Selector (error_in_whole (position_of text within) error)
+reason_in text (refused_selector (faulty within error)) =
+    Selector (error_in_whole (position_of text within) error)
 reason_in text (refused_selector (unknown_class name)) = PseudoClass
 reason_in text after_selector = AfterSelector
 reason_in text missing_block = MissingBlock

@@ -17,8 +17,8 @@ before_byte byte text = before_first (λ b. b == byte) text
 abbrev pub first_line : List ℕ → List ℕ
 first_line text = trim_end (before_byte carriage_return (before_byte newline (trim text)))
 
--- An at-rule up to its block or semicolon, a declaration up to its semicolon or the end of its block,
--- and anything else as it is.
+-- An at-rule up to its block or semicolon, a declaration up to its semicolon or the end of its
+-- block, and anything else as it is.
 abbrev pub quoted_part : Reason → List ℕ → List ℕ
 quoted_part AtRule text = before_byte semicolon (before_byte open_brace text)
 quoted_part Declaration text = before_byte close_brace (before_byte semicolon text)

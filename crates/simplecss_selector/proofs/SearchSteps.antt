@@ -13,25 +13,32 @@ use Rattle.simplecss_selector.specs.internal.StretchFits.{TestsPlaced}
 use Rattle.simplecss_selector.specs.PlacementSearch.{step_from}
 use Rattle.simplecss_text.specs.Components.Combinator.{descendant}
 
-taken : {T Node : Type 0} (node : T → Node) (r : Option (Bor T)) (top : Option T) (low : Bor T) → option_copied r ≡ top → node (unwrap_or r low).now ≡ option_map_or node top (node low.now)
+taken : {T Node : Type 0} (node : T → Node) (r : Option (Bor T)) (top : Option T) (low : Bor T)
+    → option_copied r ≡ top → node (unwrap_or r low).now ≡ option_map_or node top (node low.now)
 taken node None top low e = ap (λ (o : Option _). option_map_or node o (node low.now)) e
 taken node (Some x) top low e = ap (λ (o : Option _). option_map_or node o (node low.now)) e
 
 -- the node that is borrowed is the top, or the lowest where there is no top yet
-pub borrowed : {T Node : Type 0} (node : T → Node) (r : Option (Bor T)) (top : Option T) (low b : Bor T) → option_copied r ≡ top → b ≡ unwrap_or r low → node b.now ≡ option_map_or node top (node low.now)
+pub borrowed : {T Node : Type 0} (node : T → Node) (r : Option (Bor T)) (top : Option T)
+    (low b : Bor T) → option_copied r ≡ top → b ≡ unwrap_or r low
+    → node b.now ≡ option_map_or node top (node low.now)
 borrowed node r top low b e f = ap (λ (x : Bor _). node x.now) f ∙ taken node r top low e
 
-pub step_at : {Node : Type 0} (tree : Tree Node) (c d : Seen) (x u : Node) (o : Option Node) → c ≡ d → x ≡ u → o ≡ step_from tree c x → step_from tree d u ≡ o
+pub step_at : {Node : Type 0} (tree : Tree Node) (c d : Seen) (x u : Node) (o : Option Node) → c ≡ d
+    → x ≡ u → o ≡ step_from tree c x → step_from tree d u ≡ o
 step_at tree c d x u o e f s = cc
 
-pub parent_at : {Node : Type 0} (tree : Tree Node) (x u : Node) (o : Option Node) → x ≡ u → o ≡ tree.parent x → tree.parent u ≡ o
+pub parent_at : {Node : Type 0} (tree : Tree Node) (x u : Node) (o : Option Node) → x ≡ u
+    → o ≡ tree.parent x → tree.parent u ≡ o
 parent_at tree x u o e p = cc
 
 pub step_not : (c : Seen) → IsTrue (is_step c) → c ≡ descendant → ⊥
 step_not c s e = false≢true (ap is_step (sym e) ∙ s)
 
 -- the tests, with one made before
-pub tests_before : {E : Type 0} (first last before begun after : ℕ) (fit : Fit E) → begun ≡ before + 1 → TestsPlaced first last begun (after + 1) fit → TestsPlaced first last before after fit
+pub tests_before : {E : Type 0} (first last before begun after : ℕ) (fit : Fit E)
+    → begun ≡ before + 1 → TestsPlaced first last begun (after + 1) fit
+    → TestsPlaced first last before after fit
 tests_before first last before begun after Mismatch e h = tt
 tests_before first last before begun after NoNodeLeft e h = tt
 tests_before first last before begun after Complete e h = omega arith
@@ -44,17 +51,21 @@ pub placed_once : (begun last after : ℕ) → begun + last < after + 1 → begu
 placed_once begun last after t = omega arith
 
 -- the first stretch is placed, and another ends before it
-pub placed_first : (begun last after first end : ℕ) → begun + last < after + 1 + first → end ≡ first → begun + last ≤ after + end
+pub placed_first : (begun last after first end : ℕ) → begun + last < after + 1 + first → end ≡ first
+    → begun + last ≤ after + end
 placed_first begun last after first end t e = omega arith
 
 -- nothing more is placed
-pub placed_same : (begun last now after end : ℕ) → begun + last ≤ now + end → now < after → begun + last ≤ after + end
+pub placed_same : (begun last now after end : ℕ) → begun + last ≤ now + end → now < after
+    → begun + last ≤ after + end
 placed_same begun last now after end h t = omega arith
 
 -- one more stretch is placed, and another ends before it
-pub placed_more : (begun last now index after first end : ℕ) → begun + last ≤ now + (index + 1) → now + index < after + first → end ≡ first → begun + last ≤ after + end
+pub placed_more : (begun last now index after first end : ℕ) → begun + last ≤ now + (index + 1)
+    → now + index < after + first → end ≡ first → begun + last ≤ after + end
 placed_more begun last now index after first end h t e = omega arith
 
 -- the last stretch is placed
-pub placed_last : (begun last now index after : ℕ) → begun + last ≤ now + (index + 1) → now + index < after → begun + last ≤ after
+pub placed_last : (begun last now index after : ℕ) → begun + last ≤ now + (index + 1)
+    → now + index < after → begun + last ≤ after
 placed_last begun last now index after h t = omega arith

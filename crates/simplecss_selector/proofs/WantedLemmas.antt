@@ -17,54 +17,73 @@ use Rattle.simplecss_selector.proofs.KeyLemmas.{met_has_key}
 use Rattle.simplecss_selector.proofs.Reaching.{first_of-suc}
 use Rattle.simplecss_selector.proofs.Greedy.{placement_of}
 
-some_has : {Node : Type 0} (tree : Tree Node) (m : Node) (r : Option Node) (key : Key) → r ≡ Some m → HasKey tree m key → SomeHas tree r key
+some_has : {Node : Type 0} (tree : Tree Node) (m : Node) (r : Option Node) (key : Key) → r ≡ Some m
+    → HasKey tree m key → SomeHas tree r key
 some_has tree m r key is h = subst (λ o. SomeHas tree o key) (sym is) h
 
-beside_held : {Node : Type 0} (tree : Tree Node) (c : Combinator) (m n : Node) (before : Key) → Relates tree c m n → HasKey tree m before → HasWanted tree n (beside c before)
+beside_held : {Node : Type 0} (tree : Tree Node) (c : Combinator) (m n : Node) (before : Key)
+    → Relates tree c m n → HasKey tree m before → HasWanted tree n (beside c before)
 beside_held tree none m n before r h = refl
 beside_held tree descendant m n before r h = refl
 beside_held tree child m n before r h = some_has tree m (tree.parent n) before r h
 beside_held tree adjacent m n before r h = some_has tree m (tree.previous_sibling n) before r h
 
-by_held : {Node : Type 0} (tree : Tree Node) (key : Key) (c : Combinator) (m n : Node) (before : Key) → HasKey tree n key → Relates tree c m n → HasKey tree m before → HasWanted tree n (wanted_by key c before)
+by_held : {Node : Type 0} (tree : Tree Node) (key : Key) (c : Combinator) (m n : Node)
+    (before : Key) → HasKey tree n key → Relates tree c m n → HasKey tree m before
+    → HasWanted tree n (wanted_by key c before)
 by_held tree (by_id text) c m n before own r h = own
 by_held tree (by_class word) c m n before own r h = own
 by_held tree (by_name name) c m n before own r h = own
 by_held tree (by_attribute name) c m n before own r h = own
 by_held tree by_nothing c m n before own r h = beside_held tree c m n before r h
 
-among_held : {Node : Type 0} (tree : Tree Node) (cs : List Component) (n : Node) → Reaches tree cs n → HasWanted tree n (wanted_among cs)
+among_held : {Node : Type 0} (tree : Tree Node) (cs : List Component) (n : Node) → Reaches tree cs n
+    → HasWanted tree n (wanted_among cs)
 among_held tree [] n r = absurd r
 among_held tree (c ∷ []) n r = met_has_key tree n c.compound r.0
 among_held tree (c ∷ b ∷ cs) n (met, (m, related, reached)) =
-    by_held tree (compound_key c.compound) c.combinator m n (compound_key b.compound) (met_has_key tree n c.compound met) related (met_has_key tree m b.compound reached.0)
+    by_held tree (compound_key c.compound) c.combinator m n (compound_key b.compound)
+    (met_has_key tree n c.compound met) related (met_has_key tree m b.compound reached.0)
 
 -- a placement needs what an index finds the selector by
-pub wanted_needed : {Node : Type 0} (tree : Tree Node) (cs : List Component) (n : Node) → HasPlacement tree cs n → HasWanted tree n (wanted_of cs)
-wanted_needed tree cs n h = among_held tree (first_of cs (length cs)) n ((placement_of tree cs (length cs) n refl).0 h)
+pub wanted_needed : {Node : Type 0} (tree : Tree Node) (cs : List Component) (n : Node)
+    → HasPlacement tree cs n → HasWanted tree n (wanted_of cs)
+wanted_needed tree cs n h =
+    among_held tree (first_of cs (length cs)) n ((placement_of tree cs (length cs) n refl).0 h)
 
 -- what the nodes near the element report includes the wanted key
-module _ {Node Self : Type 0} (tree : Tree Node) (node : Self → Node) (reported : Self → Reported) (law : (e : Self) → ReportsKeys tree (node e) (reported e)) where
-  some_reported : (r : Option Node) (t : Option Reported) (key : Key) → IsReportedFor node reported r t → SomeHas tree r key → IsTrue (option_map_or (λ reported. reports_key reported key) t false)
+module _ {Node Self : Type 0} (tree : Tree Node) (node : Self → Node) (reported : Self → Reported)
+    (law : (e : Self) → ReportsKeys tree (node e) (reported e)) where
+  some_reported : (r : Option Node) (t : Option Reported) (key : Key)
+      → IsReportedFor node reported r t → SomeHas tree r key
+      → IsTrue (option_map_or (λ reported. reports_key reported key) t false)
   some_reported None t key is h = absurd h
   some_reported (Some m) None key is h = absurd is
   some_reported (Some m) (Some t) key (e, same, reports) h =
-      subst (λ t. IsTrue (reports_key t key)) reports (law e key (subst (λ m. HasKey tree m key) (sym same) h))
+      subst (λ t. IsTrue (reports_key t key)) reports
+      (law e key (subst (λ m. HasKey tree m key) (sym same) h))
 
-  pub near_reports : (element : Self) (near : Near) → IsNear tree node reported element near → ReportsWanted tree (node element) near
-  near_reports element near is (of_element key) h = subst (λ t. IsTrue (reports_key t key)) (sym is.own) (law element key h)
-  near_reports element near is (of_parent key) h = some_reported (tree.parent (node element)) near.parent key is.parent h
-  near_reports element near is (of_previous key) h = some_reported (tree.previous_sibling (node element)) near.previous key is.previous h
+  pub near_reports : (element : Self) (near : Near) → IsNear tree node reported element near
+      → ReportsWanted tree (node element) near
+  near_reports element near is (of_element key) h =
+      subst (λ t. IsTrue (reports_key t key)) (sym is.own) (law element key h)
+  near_reports element near is (of_parent key) h =
+      some_reported (tree.parent (node element)) near.parent key is.parent h
+  near_reports element near is (of_previous key) h =
+      some_reported (tree.previous_sibling (node element)) near.previous key is.previous h
 
 -- what is wanted, by the last components
-pub wanted_one : (cs : List Component) (last : ℕ) → last + 1 ≡ length cs → last ≡ 0 → wanted_of cs ≡ of_element (compound_key (component_at cs last).compound)
+pub wanted_one : (cs : List Component) (last : ℕ) → last + 1 ≡ length cs → last ≡ 0
+    → wanted_of cs ≡ of_element (compound_key (component_at cs last).compound)
 wanted_one cs last n z =
     let within : 0 < length cs = omega (arith, n) in
     let one : length cs ≡ 1 = omega (arith, n, z) in
-    ap (λ k. wanted_among (first_of cs k)) one ∙ ap wanted_among (first_of-suc cs 0 within) ∙ ap (λ k. of_element (compound_key (component_at cs k).compound)) (sym z)
+    ap (λ k. wanted_among (first_of cs k)) one ∙ ap wanted_among (first_of-suc cs 0 within)
+    ∙ ap (λ k. of_element (compound_key (component_at cs k).compound)) (sym z)
 
 pub wanted_two : (cs : List Component) (last before : ℕ) → last + 1 ≡ length cs → last ≡ before + 1
-    → wanted_of cs ≡ wanted_by (compound_key (component_at cs last).compound) (component_at cs last).combinator (compound_key (component_at cs before).compound)
+    → wanted_of cs ≡ wanted_by (compound_key (component_at cs last).compound)
+    (component_at cs last).combinator (compound_key (component_at cs before).compound)
 wanted_two cs last before n b =
     let all : length cs ≡ suc last = omega (arith, n) in
     let some : last ≡ suc before = omega (arith, b) in
@@ -76,11 +95,15 @@ wanted_two cs last before n b =
     ∙ ap (λ xs. wanted_among (component_at cs last ∷ xs)) (first_of-suc cs before before_within)
 
 -- the same, of what was read of the last two components
-pub wanted_is : (cs : List Component) (last : ℕ) (key before : Key) (c : Combinator) → last + 1 ≡ length cs → (last ≡ 0 → ⊥)
-    → key ≡ compound_key (component_at cs last).compound → c ≡ (component_at cs last).combinator → before ≡ compound_key (component_at cs (last - 1)).compound
+pub wanted_is : (cs : List Component) (last : ℕ) (key before : Key) (c : Combinator)
+    → last + 1 ≡ length cs → (last ≡ 0 → ⊥)
+    → key ≡ compound_key (component_at cs last).compound → c ≡ (component_at cs last).combinator
+    → before ≡ compound_key (component_at cs (last - 1)).compound
     → wanted_by key c before ≡ wanted_of cs
 wanted_is cs last key before c n some k j b =
     let after : last ≡ (last - 1) + 1 = omega (arith, some) in
-    ap (λ x. wanted_by x c before) k ∙ ap (λ x. wanted_by (compound_key (component_at cs last).compound) x before) j
-    ∙ ap (wanted_by (compound_key (component_at cs last).compound) (component_at cs last).combinator) b
+    ap (λ x. wanted_by x c before) k
+    ∙ ap (λ x. wanted_by (compound_key (component_at cs last).compound) x before) j
+    ∙ ap
+    (wanted_by (compound_key (component_at cs last).compound) (component_at cs last).combinator) b
     ∙ sym (wanted_two cs last (last - 1) n after)

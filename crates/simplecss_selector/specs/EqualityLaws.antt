@@ -137,8 +137,10 @@ subselector_decides (pseudo_class c) (attribute n o) = ((λ h. absurd (cc)), (λ
 
 pub name_decides : (a b : Option (List ℕ)) → Decides (option_eq text_eq a b) (a ≡ b)
 name_decides None None = ((λ h. refl), (λ e. refl))
-name_decides (Some a) (Some b) =
-    ((λ h. λ i. Some ((bytes_decides a b).0 h i)), (λ e. let same : a ≡ b = cc in (bytes_decides a b).1 same))
+name_decides (Some a) (Some b) = (
+  (λ h. λ i. Some ((bytes_decides a b).0 h i)),
+  (λ e. let same : a ≡ b = cc in (bytes_decides a b).1 same),
+)
 name_decides None (Some b) = ((λ h. absurd (cc)), (λ e. absurd (cc)))
 name_decides (Some a) None = ((λ h. absurd (cc)), (λ e. absurd (cc)))
 
@@ -149,11 +151,13 @@ component_decides a b =
     let z = pointwise subselector_eq a.compound.subselectors b.compound.subselectors in
     let c = combinator_decides a.combinator b.combinator in
     let n = name_decides a.compound.name b.compound.name in
-    let s = pointwise_decides subselector_decides a.compound.subselectors b.compound.subselectors in (
+    let s =
+    pointwise_decides subselector_decides a.compound.subselectors b.compound.subselectors in (
       (λ h.
           let p : a.combinator ≡ b.combinator = c.0 (and_left x (y && z) h) in
           let q : a.compound.name ≡ b.compound.name = n.0 (and_left y z (and_right x (y && z) h)) in
-          let r : a.compound.subselectors ≡ b.compound.subselectors = s.0 (and_right y z (and_right x (y && z) h)) in
+          let r : a.compound.subselectors ≡ b.compound.subselectors =
+          s.0 (and_right y z (and_right x (y && z) h)) in
           λ i. record { combinator = p i; compound = record { name = q i; subselectors = r i } }),
       (λ e. and_both x (y && z) (c.1 (λ i. (e i).combinator))
           (and_both y z (n.1 (λ i. (e i).compound.name)) (s.1 (λ i. (e i).compound.subselectors)))),

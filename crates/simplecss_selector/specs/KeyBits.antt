@@ -38,7 +38,8 @@ covers bits others = bit_or bits others == bits
 
 -- the bits include those of each reported key
 abbrev pub CoversReported : ℕ → Reported → Type 0
-CoversReported bits reported = (key : Key) → IsTrue (reports_key reported key) → Covers bits (key_bits key)
+CoversReported bits reported =
+    (key : Key) → IsTrue (reports_key reported key) → Covers bits (key_bits key)
 
 -- the bits include those of each key of each ancestor of the node
 abbrev pub CoversAncestors : {Node : Type 0} → Tree Node → Node → ℕ → Type 0

@@ -33,12 +33,14 @@ wanted_word (begins_with start) = None
 
 -- the id that a subselector requires: the text that an attribute `id` must equal
 abbrev pub required_id : Subselector → Option (List ℕ)
-required_id (attribute name operator) = if bytes_eq name (codes "id") then equal_text operator else None
+required_id (attribute name operator) =
+    if bytes_eq name (codes "id") then equal_text operator else None
 required_id (pseudo_class class) = None
 
 -- the class that a subselector requires: the word that an attribute `class` must have
 abbrev pub required_class : Subselector → Option (List ℕ)
-required_class (attribute name operator) = if bytes_eq name (codes "class") then wanted_word operator else None
+required_class (attribute name operator) =
+    if bytes_eq name (codes "class") then wanted_word operator else None
 required_class (pseudo_class class) = None
 
 -- the name of the attribute that a subselector tests, whatever its value must be
@@ -78,7 +80,8 @@ abbrev pub HasKey : {Node : Type 0} → Tree Node → Node → Key → Type 0
 HasKey tree n (by_id text) = IsTrue (tree.has_attribute n (codes "id") (equals text))
 HasKey tree n (by_class word) = IsTrue (tree.has_attribute n (codes "class") (has_word word))
 HasKey tree n (by_name name) = IsTrue (tree.is_named n name)
-HasKey tree n (by_attribute name) = (operator : Operator) × IsTrue (tree.has_attribute n name operator)
+HasKey tree n (by_attribute name) =
+    (operator : Operator) × IsTrue (tree.has_attribute n name operator)
 HasKey tree n by_nothing = IsTrue true
 
 -- whether there is a value, and it satisfies the operator

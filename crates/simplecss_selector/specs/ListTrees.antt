@@ -34,7 +34,8 @@ parent_index list rows i = parent_by (list.parent rows) i
 -- an index, if its parent is this one
 abbrev pub with_parent : (ℕ → Option ℕ) → Option ℕ → Option ℕ → Option ℕ
 with_parent named parent None = None
-with_parent named parent (Some s) = if option_eq nat_eq (parent_by named s) parent then Some s else None
+with_parent named parent (Some s) =
+    if option_eq nat_eq (parent_by named s) parent then Some s else None
 
 -- The previous sibling of an index: the one that is named, if it is less and has the same parent.
 abbrev pub sibling_by : (ℕ → Option ℕ) → (ℕ → Option ℕ) → ℕ → Option ℕ
@@ -85,7 +86,8 @@ earlier_before i (Some p) = kept_before p i (nat_lt p i) refl
 module _ (parent : ℕ → Option ℕ) (before : (i : ℕ) → IfSome (parent i) (λ p. p < i)) where
   above_same : (m n i : ℕ) (r : Option ℕ) → IfSome r (λ p. p < i)
       → ((j : ℕ) → j < i → ancestors_within parent m j ≡ ancestors_within parent n j)
-      → with_those_above (ancestors_within parent m) r ≡ with_those_above (ancestors_within parent n) r
+      → with_those_above (ancestors_within parent m) r
+      ≡ with_those_above (ancestors_within parent n) r
   above_same m n i None lt same = refl
   above_same m n i (Some p) lt same = ap (λ ps. p ∷ ps) (same p lt)
 
@@ -106,7 +108,8 @@ module _ (parent : ℕ → Option ℕ) (before : (i : ℕ) → IfSome (parent i)
 pub ancestors_step : (named : ℕ → Option ℕ) (i : ℕ)
     → ancestors named i ≡ with_those_above (ancestors named) (parent_by named i)
 ancestors_step named i =
-    climbed (parent_by named) (λ j. earlier_before j (named j)) i (parent_by named i) (earlier_before i (named i))
+    climbed (parent_by named) (λ j. earlier_before j (named j)) i (parent_by named i)
+    (earlier_before i (named i))
 
 module _ {Rows : Type 0} (list : ListOf Rows) where
   counted : (rows : Rows) (i : ℕ) (r : Option ℕ)
@@ -118,7 +121,8 @@ module _ {Rows : Type 0} (list : ListOf Rows) where
 
   -- The depth in a tree of lists counts the ancestors.
   pub list_counts_ancestors : DepthCountsAncestors (list_tree list)
-  list_counts_ancestors n = counted n.0 n.1 (parent_index list n.0 n.1) (ancestors_step (list.parent n.0) n.1)
+  list_counts_ancestors n =
+      counted n.0 n.1 (parent_index list n.0 n.1) (ancestors_step (list.parent n.0) n.1)
 
   same_index : (r s : Option ℕ) → option_eq nat_eq r s ≡ true → r ≡ s
   same_index None None is = refl

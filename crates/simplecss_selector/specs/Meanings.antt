@@ -15,11 +15,14 @@ AreNoneOrRelated related (Some m) (Some n) = related m n
 -- nodes return the same answers, and their parents and their previous siblings, if there are any,
 -- are related. It says nothing of nodes that are not related: so descendants and later siblings may
 -- differ.
-pub record RelatesMeanings {M N : Type 0} (tree : Tree M) (other : Tree N) (related : M → N → Type 0) : Type 0 where
-  pub parents : (m : M) (n : N) → related m n → AreNoneOrRelated related (tree.parent m) (other.parent n)
+pub record RelatesMeanings {M N : Type 0} (tree : Tree M) (other : Tree N)
+    (related : M → N → Type 0) : Type 0 where
+  pub parents : (m : M) (n : N) → related m n
+      → AreNoneOrRelated related (tree.parent m) (other.parent n)
   pub siblings : (m : M) (n : N) → related m n
       → AreNoneOrRelated related (tree.previous_sibling m) (other.previous_sibling n)
-  pub names : (m : M) (n : N) → related m n → (name : List ℕ) → tree.is_named m name ≡ other.is_named n name
+  pub names : (m : M) (n : N) → related m n → (name : List ℕ)
+      → tree.is_named m name ≡ other.is_named n name
   pub attributes : (m : M) (n : N) → related m n → (name : List ℕ) (operator : Operator)
       → tree.has_attribute m name operator ≡ other.has_attribute n name operator
   pub pseudo_classes : (m : M) (n : N) → related m n → (class : KnownPseudoClass)
@@ -28,9 +31,11 @@ pub record RelatesMeanings {M N : Type 0} (tree : Tree M) (other : Tree N) (rela
 -- A map from the nodes of one tree to those of another that keeps everything a selector can test:
 -- the image of a node has the images of its parent and of its previous sibling as its own, and
 -- returns the same answers.
-pub record KeepsMeanings {M N : Type 0} (tree : Tree M) (other : Tree N) (image : M → N) : Type 0 where
+pub record KeepsMeanings {M N : Type 0} (tree : Tree M) (other : Tree N)
+    (image : M → N) : Type 0 where
   pub parents : (n : M) → other.parent (image n) ≡ option_map image (tree.parent n)
-  pub siblings : (n : M) → other.previous_sibling (image n) ≡ option_map image (tree.previous_sibling n)
+  pub siblings : (n : M)
+      → other.previous_sibling (image n) ≡ option_map image (tree.previous_sibling n)
   pub names : (n : M) (name : List ℕ) → other.is_named (image n) name ≡ tree.is_named n name
   pub attributes : (n : M) (name : List ℕ) (operator : Operator)
       → other.has_attribute (image n) name operator ≡ tree.has_attribute n name operator

@@ -7,7 +7,8 @@ use Rattle.simplecss_text.specs.Components.Operator.{exists, equals, has_word, b
 
 -- whether the word is one of those that single spaces separate in the value
 abbrev pub is_word_of : List ℕ → List ℕ → Bool
-is_word_of word value = list_any (λ entry. bytes_eq entry word) (slice_split (λ b. b == space) value)
+is_word_of word value =
+    list_any (λ entry. bytes_eq entry word) (slice_split (λ b. b == space) value)
 
 -- whether the value satisfies the operator: any value; the same bytes; the word is one of its
 -- words; the same bytes, or these and then a hyphen at its start

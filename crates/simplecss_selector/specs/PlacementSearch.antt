@@ -24,7 +24,8 @@ IfMore (c ∷ cs) P = P
 abbrev pub Reaches : {Node : Type 0} → Tree Node → List Component → Node → Type 0
 Reaches tree [] n = ⊥
 Reaches {Node} tree (c ∷ cs) n =
-    Meets tree n c.compound × IfMore cs ((m : Node) × Relates tree c.combinator m n × Reaches tree cs m)
+    Meets tree n c.compound
+    × IfMore cs ((m : Node) × Relates tree c.combinator m n × Reaches tree cs m)
 
 -- they can be placed with that last one at or above the node
 abbrev pub CanPlace : {Node : Type 0} → Tree Node → List Component → Node → Type 0

@@ -34,23 +34,27 @@ Relates tree adjacent m n = tree.previous_sibling n ≡ Some m
 
 -- nodes that continue a placement from one node: each meets its component and is related to the
 -- node before it, and the last is `end`
-abbrev pub ContinuesPlacement : {Node : Type 0} → Tree Node → Node → List Component → List Node → Node → Type 0
+abbrev pub ContinuesPlacement : {Node : Type 0} → Tree Node → Node → List Component → List Node
+    → Node → Type 0
 ContinuesPlacement tree before [] [] end = before ≡ end
 ContinuesPlacement tree before [] (n ∷ ns) end = ⊥
 ContinuesPlacement tree before (c ∷ cs) [] end = ⊥
 ContinuesPlacement tree before (c ∷ cs) (n ∷ ns) end =
-    Relates tree c.combinator before n × Meets tree n c.compound × ContinuesPlacement tree n cs ns end
+    Relates tree c.combinator before n × Meets tree n c.compound
+    × ContinuesPlacement tree n cs ns end
 
 -- one node for each component, each meeting it and related to the node before it, the last being
 -- `end`
 abbrev pub IsPlacement : {Node : Type 0} → Tree Node → List Component → List Node → Node → Type 0
 IsPlacement tree [] nodes end = ⊥
 IsPlacement tree (c ∷ cs) [] end = ⊥
-IsPlacement tree (c ∷ cs) (n ∷ ns) end = Meets tree n c.compound × ContinuesPlacement tree n cs ns end
+IsPlacement tree (c ∷ cs) (n ∷ ns) end =
+    Meets tree n c.compound × ContinuesPlacement tree n cs ns end
 
 -- there is a placement: some nodes, one for each component, of which the last is `end`
 abbrev pub HasPlacement : {Node : Type 0} → Tree Node → List Component → Node → Type 0
-HasPlacement {Node} tree components end = (nodes : List Node) × IsPlacement tree components nodes end
+HasPlacement {Node} tree components end =
+    (nodes : List Node) × IsPlacement tree components nodes end
 
 -- whether the combinator leads back to at most one node: to the parent, or to the previous sibling
 abbrev pub is_step : Combinator → Bool

@@ -41,12 +41,14 @@ still_to_come t = sequence_in t.stage (left_of t)
 
 -- A call on a text returned the first item of a sequence, left `left` to read, and the sequence
 -- `after` to come; or nothing was to come.
-abbrev pub GivesFirst : List ℕ → TokenSequence → Option (Result SelectorToken Error) → (left : List ℕ)
+abbrev pub GivesFirst : List ℕ → TokenSequence → Option (Result SelectorToken Error)
+    → (left : List ℕ)
     → (after : TokenSequence)
     → Type 0
 GivesFirst text before None left after = (before ≡ sequence_end left) × (after ≡ sequence_end left)
 GivesFirst text before (Some x) left after =
-    (reported : Result Token Fault) × (item_view x ≡ reported_in text reported) × (before ≡ item reported left after)
+    (reported : Result Token Fault) × (item_view x ≡ reported_in text reported)
+    × (before ≡ item reported left after)
 
 -- the items that are still to come
 unfoldable pub items_left : SelectorTokenizer → List (Result Token Error)
@@ -62,7 +64,8 @@ pub record GivesItem (before : SelectorTokenizer) (result : Option (Result Selec
   pub text : whole_text after ≡ whole_text before
   -- it is the first of the sequence, which says what is left to read after it
   pub first :
-      GivesFirst (whole_text before) (still_to_come before) result (left_of after) (still_to_come after)
+      GivesFirst (whole_text before) (still_to_come before) result (left_of after)
+      (still_to_come after)
   -- its names and values occur in order in what was consumed
   pub slices : StandBetween (left_of before) (left_of after) (given_texts result)
   -- the offset does not fall

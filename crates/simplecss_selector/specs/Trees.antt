@@ -16,7 +16,8 @@ pub record Tree (Node : Type 0) : Type 0 where
 -- a node has depth 0 exactly if it has no parent, and else one more than its parent
 abbrev pub DepthCountsAncestors : {Node : Type 0} → Tree Node → Type 0
 DepthCountsAncestors {Node} tree =
-    (n : Node) → MatchOption (tree.parent n) (tree.depth n ≡ 0) (λ p. tree.depth n ≡ tree.depth p + 1)
+    (n : Node)
+    → MatchOption (tree.parent n) (tree.depth n ≡ 0) (λ p. tree.depth n ≡ tree.depth p + 1)
 
 -- a previous sibling has the same parent
 abbrev pub SiblingsShareParent : {Node : Type 0} → Tree Node → Type 0

@@ -35,7 +35,8 @@ wanted_by by_nothing combinator before = beside combinator before
 abbrev pub wanted_among : List Component → Wanted
 wanted_among [] = of_element by_nothing
 wanted_among (c ∷ []) = of_element (compound_key c.compound)
-wanted_among (c ∷ b ∷ cs) = wanted_by (compound_key c.compound) c.combinator (compound_key b.compound)
+wanted_among (c ∷ b ∷ cs) =
+    wanted_by (compound_key c.compound) c.combinator (compound_key b.compound)
 
 -- the key by which an index finds a selector
 abbrev pub wanted_of : List Component → Wanted
@@ -61,19 +62,24 @@ pub record Near : Type 0 where
 -- whether what is reported includes the wanted key
 abbrev pub reports_wanted : Near → Wanted → Bool
 reports_wanted near (of_element key) = reports_key near.own key
-reports_wanted near (of_parent key) = option_map_or (λ reported. reports_key reported key) near.parent false
-reports_wanted near (of_previous key) = option_map_or (λ reported. reports_key reported key) near.previous false
+reports_wanted near (of_parent key) =
+    option_map_or (λ reported. reports_key reported key) near.parent false
+reports_wanted near (of_previous key) =
+    option_map_or (λ reported. reports_key reported key) near.previous false
 
 -- whatever the node and its neighbours have is reported; more may be reported
 abbrev pub ReportsWanted : {Node : Type 0} → Tree Node → Node → Near → Type 0
-ReportsWanted tree n near = (wanted : Wanted) → HasWanted tree n wanted → IsTrue (reports_wanted near wanted)
+ReportsWanted tree n near =
+    (wanted : Wanted) → HasWanted tree n wanted → IsTrue (reports_wanted near wanted)
 
 -- what an element that denotes the node, if there is one, reports
-abbrev pub IsReportedFor : {Node Self : Type 0} → (Self → Node) → (Self → Reported) → Option Node → Option Reported → Type 0
+abbrev pub IsReportedFor : {Node Self : Type 0} → (Self → Node) → (Self → Reported) → Option Node
+    → Option Reported → Type 0
 IsReportedFor node reported None None = Unit {0}
 IsReportedFor node reported None (Some t) = ⊥
 IsReportedFor node reported (Some m) None = ⊥
-IsReportedFor {Self = Self} node reported (Some m) (Some t) = (e : Self) × (node e ≡ m) × (reported e ≡ t)
+IsReportedFor {Self = Self} node reported (Some m) (Some t) =
+    (e : Self) × (node e ≡ m) × (reported e ≡ t)
 
 -- what is reported near an element: by the element, and by elements that denote its parent and its
 -- previous sibling

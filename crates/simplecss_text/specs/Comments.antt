@@ -35,7 +35,8 @@ abbrev pub blank_part : List ℕ → Option (Bool × List ℕ)
 blank_part [] = None
 blank_part (b ∷ text) =
     if is_space b then Some (true, text)
-    else (if opens_comment (b ∷ text) then option_map (λ rest. (false, rest)) (after_comment (b ∷ text)) else None)
+    else (if opens_comment (b ∷ text)
+    then option_map (λ rest. (false, rest)) (after_comment (b ∷ text)) else None)
 
 -- the rest after the blank at the start: the longest prefix made of space bytes and closed comments
 abbrev pub past_blank : List ℕ → List ℕ

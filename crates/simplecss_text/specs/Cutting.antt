@@ -35,7 +35,8 @@ KeepsAcross edition text offset =
 -- rules of some texts and of a prefix of a further one up to the end of one of its statements, and
 -- `text` is the rest of that one, then `new` are the rules of those texts and of the whole further
 -- one.
-abbrev pub ContinuesReading : Edition → (old : List StyleRule) → (text : List ℕ) → (new : List StyleRule) → Type 0
+abbrev pub ContinuesReading : Edition → (old : List StyleRule) → (text : List ℕ)
+    → (new : List StyleRule) → Type 0
 ContinuesReading edition old text new =
     (texts : List (List ℕ)) (whole : List ℕ) (offset : ℕ)
     → IsUtf8 whole

@@ -40,8 +40,10 @@ terms edition text = each (term_in_value edition) text
 -- either end. The rest is what is left after the term that could not be read: if no term begins it
 -- is unchanged, and after a string or a function that is not closed nothing is left.
 unfoldable pub value : Edition → List ℕ → List ℕ × List ℕ
-value edition text =
-    (trim (before text (last_or text (terms edition text).0)), left_after (term edition (terms edition text).1))
+value edition text = (
+  trim (before text (last_or text (terms edition text).0)),
+  left_after (term edition (terms edition text).1),
+)
 
 -- whether the text begins with the word `important`, which is then consumed; more letters may
 -- follow it

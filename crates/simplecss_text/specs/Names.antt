@@ -11,7 +11,8 @@ use Rattle.simplecss_text.specs.Characters.{Edition, is_name_start, is_name_char
 abbrev pub begins_name : Edition → List ℕ → Bool
 begins_name edition [] = false
 begins_name edition (c ∷ []) = is_name_start edition c || c == hyphen
-begins_name edition (c ∷ d ∷ characters) = is_name_start edition c || (c == hyphen && is_name_start edition d)
+begins_name edition (c ∷ d ∷ characters) =
+    is_name_start edition c || (c == hyphen && is_name_start edition d)
 
 -- the rest after the longest run of name characters at the start of a text
 unfoldable pub past_name_chars : Edition → List ℕ → List ℕ

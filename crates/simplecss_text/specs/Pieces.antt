@@ -48,7 +48,8 @@ attribute_after edition = do
 
 -- the language, unless it is empty
 abbrev pub lang_of : List ℕ → Reader Token
-lang_of value text = if length value == 0 then fails no_language text else got (lang_pseudo_class value) text
+lang_of value text =
+    if length value == 0 then fails no_language text else got (lang_pseudo_class value) text
 
 -- what follows `:lang`: a language in parentheses, without the white space of Unicode at its ends
 unfoldable pub lang_after : Reader Token

@@ -25,7 +25,8 @@ operator_text (begins_with value) = codes "|='" ++ value ++ codes "'"
 
 -- an attribute in brackets, or a pseudo-class after its colon
 abbrev pub subselector_text : Subselector → List ℕ
-subselector_text (attribute name operator) = codes "[" ++ name ++ operator_text operator ++ codes "]"
+subselector_text (attribute name operator) =
+    codes "[" ++ name ++ operator_text operator ++ codes "]"
 subselector_text (pseudo_class class) = codes ":" ++ pseudo_class_text class
 
 -- what is printed before a component
@@ -72,7 +73,8 @@ sheet_text rules = join_with_byte newline (map rule_text rules)
 -- `previous`
 abbrev pub escaped_after : ℕ → List ℕ → Bool
 escaped_after previous [] = true
-escaped_after previous (b ∷ text) = (not (b == single_quote) || previous == backslash) && escaped_after b text
+escaped_after previous (b ∷ text) =
+    (not (b == single_quote) || previous == backslash) && escaped_after b text
 
 -- The value of an operator has no bare apostrophe. (It is printed after an apostrophe, which is no
 -- backslash, as 0 is none.)
@@ -89,4 +91,5 @@ is_clean_subselector (pseudo_class class) = true
 
 -- every apostrophe in an attribute value of the selector directly follows a backslash of that value
 abbrev pub is_clean : List Component → Bool
-is_clean components = list_all (λ c. list_all is_clean_subselector c.compound.subselectors) components
+is_clean components =
+    list_all (λ c. list_all is_clean_subselector c.compound.subselectors) components

@@ -82,7 +82,8 @@ DeclarationReadsBack edition p =
 -- Printed before any text, the rule is one statement, which has this rule only and leaves that
 -- text.
 abbrev pub RuleReadsBack : Edition → StyleRule → Type 0
-RuleReadsBack edition rule = (text : List ℕ) → statement edition (rule_text rule ++ text) ≡ (rule ∷ [], text)
+RuleReadsBack edition rule =
+    (text : List ℕ) → statement edition (rule_text rule ++ text) ≡ (rule ∷ [], text)
 
 -- the selectors of all the rules are clean
 abbrev pub are_clean : List StyleRule → Bool

@@ -135,18 +135,21 @@ part_skips edition text =
 -- ---- one thing after another
 
 -- the skips of a text, if `read` finds something at its start
-abbrev pub skips_with : {A B : Type 0} → (List ℕ → B) → (List ℕ → Option (A × List ℕ)) → List ℕ → Option (B × List ℕ)
+abbrev pub skips_with : {A B : Type 0} → (List ℕ → B) → (List ℕ → Option (A × List ℕ)) → List ℕ
+    → Option (B × List ℕ)
 skips_with skips read text = option_map (λ x. (skips text, x.1)) (read text)
 
 -- What is skipped wherever `read` finds something, one after another, and then in the rest.
-unfoldable pub skips_of_each : {A : Type 0} → (skips last : List ℕ → List Skip) → (List ℕ → Option (A × List ℕ)) → List ℕ → List Skip
+unfoldable pub skips_of_each : {A : Type 0} → (skips last : List ℕ → List Skip)
+    → (List ℕ → Option (A × List ℕ)) → List ℕ → List Skip
 skips_of_each skips last read text =
     let found = each (skips_with skips read) text in
     flat_map (λ skips. skips) found.0 ++ last found.1
 
 -- what the parts of a rule set skip
 unfoldable pub parts_skips : Edition → List ℕ → List Skip
-parts_skips edition text = skips_of_each (part_skips edition) (part_skips edition) (part_and_comma edition) text
+parts_skips edition text =
+    skips_of_each (part_skips edition) (part_skips edition) (part_and_comma edition) text
 
 -- ---- values
 
@@ -181,7 +184,8 @@ declaration_skips edition text = skips_after_name edition (stated_name edition t
 -- a closing brace that follows a block
 abbrev pub brace_skips : List ℕ → List Skip
 brace_skips text =
-    if starts close_brace text then record { from = text; after = past_one text; why = extra_brace } ∷ []
+    if starts close_brace text
+    then record { from = text; after = past_one text; why = extra_brace } ∷ []
     else []
 
 -- What follows a blank in place of a declaration, with the rest of its block up to the closing
@@ -208,11 +212,13 @@ if_broken text (fails fault rest) = broken_part text (from_block_end rest)
 abbrev pub list_skips : Edition → List ℕ → List Skip
 list_skips edition text = if ends_list text then [] else if_broken text (declaration edition text)
 
--- What a block skips, after its opening brace: a string or a function of a value that is not closed;
--- or at most one declaration with what follows it, and a closing brace after the block's own.
+-- What a block skips, after its opening brace: a string or a function of a value that is not
+-- closed; or at most one declaration with what follows it, and a closing brace after the block's
+-- own.
 unfoldable pub block_skips : Edition → List ℕ → List Skip
 block_skips edition text =
-    skips_of_each (declaration_skips edition) (list_skips edition) (declaration_in_block edition) text
+    skips_of_each (declaration_skips edition) (list_skips edition)
+    (declaration_in_block edition) text
 
 -- the same of the block that the next opening brace begins
 unfoldable pub next_block_skips : Edition → List ℕ → List Skip
@@ -225,7 +231,8 @@ next_block_skips edition text =
 -- a comma before the first selector
 abbrev pub comma_skips : List ℕ → List Skip
 comma_skips text =
-    if starts comma text then record { from = text; after = past_one text; why = leading_comma } ∷ []
+    if starts comma text
+    then record { from = text; after = past_one text; why = leading_comma } ∷ []
     else []
 
 -- what a rule set skips: a comma, selectors, and then of its block
@@ -264,7 +271,8 @@ end_skips text =
 -- What reading a style sheet skips, in order.
 unfoldable pub skipped : Edition → List ℕ → List Skip
 skipped edition text =
-    skips_of_each (λ t. statement_skips edition (past_blank t)) end_skips (next_statement edition) text
+    skips_of_each (λ t. statement_skips edition (past_blank t)) end_skips
+    (next_statement edition) text
 
 -- ---- one statement
 

@@ -7,4 +7,5 @@ use Rattle.simplecss_text.specs.Reading.{before, Ends}
 abbrev pub StandBetween : (from to : List ℕ) → List (List ℕ) → Type 0
 StandBetween from to [] = Ends from to
 StandBetween from to (s ∷ ss) =
-    (start : List ℕ) × (end : List ℕ) × Ends from start × Ends start end × (s ≡ before start end) × StandBetween end to ss
+    (start : List ℕ) × (end : List ℕ) × Ends from start × Ends start end × (s ≡ before start end)
+    × StandBetween end to ss

@@ -25,7 +25,8 @@ part edition text = ((reads edition text).0, past is_space (reads edition text).
 -- a part before a comma, and the rest after the comma
 abbrev pub part_and_comma : Edition → List ℕ → Option (Option (List Component) × List ℕ)
 part_and_comma edition text =
-    if starts comma (part edition text).1 then Some ((part edition text).0, past_one (part edition text).1)
+    if starts comma (part edition text).1
+    then Some ((part edition text).0, past_one (part edition text).1)
     else None
 
 -- The selectors of the parts, with a comma after each but the last, and the rest after it.
@@ -59,7 +60,8 @@ past_semicolon_or_block text =
 -- After the name of an at-rule everything is skipped up to a semicolon or a block. Without a name
 -- the at-rule ends where the fault leaves reading.
 abbrev pub at_rule_rest_by_name : Reading (List ℕ) → List ℕ
-at_rule_rest_by_name (got n rest) = past_semicolon_or_block (past (is_neither semicolon open_brace) rest)
+at_rule_rest_by_name (got n rest) =
+    past_semicolon_or_block (past (is_neither semicolon open_brace) rest)
 at_rule_rest_by_name (fails fault rest) = rest
 
 -- the rest after an at-rule, from after its sign

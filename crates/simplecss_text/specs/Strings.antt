@@ -31,4 +31,5 @@ string_after quote text = string_up_to text (from_quote quote quote text)
 -- A string if a quote is next, else a name. At the end of the text the fault is that it ended.
 unfoldable pub string_or_name : Edition → Reader (List ℕ)
 string_or_name edition [] = fails ended []
-string_or_name edition (b ∷ text) = if is_quote b then string_after b text else name edition (b ∷ text)
+string_or_name edition (b ∷ text) =
+    if is_quote b then string_after b text else name edition (b ∷ text)

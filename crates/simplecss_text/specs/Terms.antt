@@ -26,7 +26,8 @@ past_decimals text = if starts full_stop text then past is_digit (past_one text)
 -- The rest after a percent sign, or else after a name. If neither is there, it is the rest after a
 -- hyphen, if there is one: a missing name consumes it.
 abbrev pub past_unit : Edition → List ℕ → List ℕ
-past_unit edition text = if starts percent_sign text then past_one text else left_after (name edition text)
+past_unit edition text =
+    if starts percent_sign text then past_one text else left_after (name edition text)
 
 -- The rest after a number, from after its first byte, which is a digit, a sign or a full stop:
 -- after digits, a full stop and digits, and a unit, each of which may be absent.

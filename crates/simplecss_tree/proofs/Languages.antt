@@ -7,7 +7,9 @@ use Rattle.simplecss.specs.ListTrees.{parent_by, with_those_above, ancestors, an
 use Rattle.simplecss_tree.specs.Rows.{Row}
 use Rattle.simplecss_tree.specs.TreeNodes.{named_parent, attribute_at, first_value, language_at}
 
-pub language_at-parent : (rows : List Row) (i p : ℕ) → attribute_at rows i (codes "lang") ≡ None → parent_by (named_parent rows) i ≡ Some p → language_at rows i ≡ language_at rows p
+pub language_at-parent : (rows : List Row) (i p : ℕ) → attribute_at rows i (codes "lang") ≡ None
+    → parent_by (named_parent rows) i ≡ Some p → language_at rows i ≡ language_at rows p
 language_at-parent rows i p none up =
     ap (λ r. option_or r (first_value rows (codes "lang") (ancestors (named_parent rows) i))) none
-    ∙ ap (first_value rows (codes "lang")) (ancestors_step (named_parent rows) i ∙ ap (with_those_above (ancestors (named_parent rows))) up)
+    ∙ ap (first_value rows (codes "lang")) (ancestors_step (named_parent rows) i
+    ∙ ap (with_those_above (ancestors (named_parent rows))) up)

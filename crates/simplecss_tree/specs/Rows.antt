@@ -71,7 +71,8 @@ row_with row name value = record {
 -- The elements, of which the last has one more attribute.
 abbrev pub with_attribute : List Row → List ℕ → List ℕ → List Row
 with_attribute rows name value =
-    slice_set rows (length rows - 1) (row_with (slice_index_or rows (length rows - 1) nobody) name value)
+    slice_set rows (length rows - 1)
+    (row_with (slice_index_or rows (length rows - 1) nobody) name value)
 
 -- the element in these states
 abbrev pub row_in : Row → States → Row
@@ -85,7 +86,8 @@ row_in row states = record {
 
 -- The elements, of which the one at the index is in these states.
 abbrev pub with_states : List Row → ℕ → States → List Row
-with_states rows index states = slice_set rows index (row_in (slice_index_or rows index nobody) states)
+with_states rows index states =
+    slice_set rows index (row_in (slice_index_or rows index nobody) states)
 
 -- an index is named, and there is no such element
 abbrev pub IsMissing : Option ℕ → ℕ → Type 0
@@ -97,4 +99,5 @@ IsMissing (Some index) count = count ≤ index
 pub record KnowsLast (entries : List Entry) (last_root : Option ℕ) : Type 0 where
   pub root : last_root ≡ last_child (map row_of entries) None
   pub each : (i : ℕ)
-      → slice_index_or (map (λ e. e.last_child) entries) i None ≡ last_child (map row_of entries) (Some i)
+      → slice_index_or (map (λ e. e.last_child) entries) i None
+      ≡ last_child (map row_of entries) (Some i)

@@ -60,7 +60,8 @@ ends_subtag (b ∷ bs) = b == hyphen
 -- whatever the case of ASCII letters (CSS 2.1 section 5.11.4).
 abbrev pub is_in_language : List ℕ → List ℕ → Bool
 is_in_language tag language =
-    str_eq_ignore_ascii_case (take (length tag) language) tag && ends_subtag (drop (length tag) language)
+    str_eq_ignore_ascii_case (take (length tag) language) tag
+    && ends_subtag (drop (length tag) language)
 
 -- The first child has no previous sibling; the other pseudo-classes are decided by the states and
 -- by the language.
@@ -80,7 +81,8 @@ elements = record {
   previous_sibling = named_previous;
   is_named = λ rows i name. bytes_eq (name_at rows i) name;
   has_attribute =
-      λ rows i name operator. option_map_or (is_satisfied operator) (attribute_at rows i name) false;
+      λ rows i name operator.
+      option_map_or (is_satisfied operator) (attribute_at rows i name) false;
   is_in_pseudo_class = is_in;
 }
 
@@ -99,7 +101,8 @@ reported_at (rows, i) = record {
 }
 
 -- there is a value that satisfies the operator
-value_there : (r : Option (List ℕ)) (o : Operator) → IsTrue (option_map_or (is_satisfied o) r false) → IsTrue (is_some r)
+value_there : (r : Option (List ℕ)) (o : Operator) → IsTrue (option_map_or (is_satisfied o) r false)
+    → IsTrue (is_some r)
 value_there None o h = absurd (cc)
 value_there (Some v) o h = refl
 

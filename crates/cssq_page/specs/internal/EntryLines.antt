@@ -14,7 +14,8 @@ use Rattle.cssq_page.specs.ParentsAndSiblings.{parent_index, previous_index}
 
 -- what contracts see of a line
 abbrev pub row : Entry → Row
-row e = record { depth = e.depth; name = name_in e.fields.now; attributes = attributes_in e.fields.now }
+row e =
+    record { depth = e.depth; name = name_in e.fields.now; attributes = attributes_in e.fields.now }
 
 -- what contracts see of all lines
 abbrev pub rows : List Line → List Row
@@ -29,20 +30,23 @@ abbrev pub CoversElement : ℕ → Entry → Type 0
 CoversElement bits e =
     (reported : Reported) → reported.name ≡ name_in e.fields.now
     → reported.id ≡ value_in (attributes_in e.fields.now) (codes "id")
-    → reported.class ≡ value_in (attributes_in e.fields.now) (codes "class") → CoversReported bits reported
+    → reported.class ≡ value_in (attributes_in e.fields.now) (codes "class")
+    → CoversReported bits reported
 
--- the bits that a line keeps for its ancestors cover those of its parent's ancestors, and the keys of
--- the parent
+-- the bits that a line keeps for its ancestors cover those of its parent's ancestors, and the keys
+-- of the parent
 abbrev pub CoversParent : List Line → Line → Type 0
 CoversParent lines l = (parent : ℕ) → l.parent ≡ Some parent
-    → (p : Line) × (slice_get lines parent ≡ Some p) × Covers l.above p.above × CoversElement l.above p.entry
+    → (p : Line) × (slice_get lines parent ≡ Some p) × Covers l.above p.above
+    × CoversElement l.above p.entry
 
 -- each line keeps the indices of its parent and of its previous sibling, and the bits of its
 -- ancestors
 abbrev pub AreLinked : List Line → Type 0
 AreLinked lines =
     (i : ℕ) (l : Line) → slice_get lines i ≡ Some l
-    → (l.parent ≡ parent_index (depths lines) i) × (l.previous ≡ previous_index (depths lines) i) × CoversParent lines l
+    → (l.parent ≡ parent_index (depths lines) i) × (l.previous ≡ previous_index (depths lines) i)
+    × CoversParent lines l
 
 -- ---- what the reader of a line reports
 

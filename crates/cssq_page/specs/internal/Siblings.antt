@@ -23,13 +23,15 @@ module _ (ds : List ℕ) (d : ℕ) where
   take_new = take_old (length ds) (omega arith) ∙ take_all (length ds) ds (omega arith)
 
   pub parent_old : (i : ℕ) → i < length ds → parent_index (ds ++ d ∷ []) i ≡ parent_index ds i
-  parent_old i within = λ k. last_index (λ x. nat_lt x (at_old i within k)) (take_old i (omega arith) k)
+  parent_old i within =
+      λ k. last_index (λ x. nat_lt x (at_old i within k)) (take_old i (omega arith) k)
 
   pub parent_new : parent_index (ds ++ d ∷ []) (length ds) ≡ last_index (λ x. nat_lt x d) ds
   parent_new = λ k. last_index (λ x. nat_lt x (at_new k)) (take_new k)
 
   nearest_old : (i : ℕ) → i < length ds → nearest_index (ds ++ d ∷ []) i ≡ nearest_index ds i
-  nearest_old i within = λ k. last_index (λ x. nat_le x (at_old i within k)) (take_old i (omega arith) k)
+  nearest_old i within =
+      λ k. last_index (λ x. nat_le x (at_old i within k)) (take_old i (omega arith) k)
 
   nearest_new : nearest_index (ds ++ d ∷ []) (length ds) ≡ last_index (λ x. nat_le x d) ds
   nearest_new = λ k. last_index (λ x. nat_le x (at_new k)) (take_new k)
@@ -54,13 +56,15 @@ last_within : (test : ℕ → Bool) (xs : List ℕ) (r : Option ℕ) → IsLast 
 last_within test xs None last = tt
 last_within test xs (Some i) last = last.0
 
-pub nearest_within : (test : ℕ → Bool) (xs : List ℕ) → IfSome (last_index test xs) (λ i. i < length xs)
+pub nearest_within : (test : ℕ → Bool) (xs : List ℕ)
+    → IfSome (last_index test xs) (λ i. i < length xs)
 nearest_within test xs = last_within test xs (last_index test xs) (last_index_is test xs)
 
 equal_old : (ds : List ℕ) (d depth : ℕ) (r : Option ℕ) → IfSome r (λ j. j < length ds)
     → equal_at (ds ++ d ∷ []) depth r ≡ equal_at ds depth r
 equal_old ds d depth None within = refl
-equal_old ds d depth (Some j) within = ap (λ x. cond (x == depth) (Some j) None) (at_old ds d j within)
+equal_old ds d depth (Some j) within =
+    ap (λ x. cond (x == depth) (Some j) None) (at_old ds d j within)
 
 pub within_longer : (r : Option ℕ) (m n : ℕ) → m ≤ n → IfSome r (λ j. j < m) → IfSome r (λ j. j < n)
 within_longer None m n le within = tt
@@ -71,7 +75,8 @@ module _ (ds : List ℕ) (d : ℕ) where
   previous_old i within =
       let le : i ≤ length ds = omega arith in
       let few : IfSome (nearest_index ds i) (λ j. j < length ds) =
-      within_longer (nearest_index ds i) (length (take i ds)) (length ds) (rw (length-take-le i ds) le)
+      within_longer (nearest_index ds i) (length (take i ds)) (length ds)
+      (rw (length-take-le i ds) le)
       (nearest_within (λ x. nat_le x (get_or ds i 0)) (take i ds)) in
       previous_is (ds ++ d ∷ []) i
       ∙ (λ k. equal_at (ds ++ d ∷ []) (at_old ds d i within k) (nearest_old ds d i within k))
@@ -105,29 +110,40 @@ moved {x} {y} {a} {b} p q h =
     let back : y ≡ x = sym p in let under : b ≡ a = sym q in (λ k. nat_lt (back k) (under k)) ∙ h
 
 inside_front : (ds : List ℕ) (i k : ℕ) → i < length ds → k < i → k < length (take i ds)
-inside_front ds i k within before = let le : i ≤ length ds = omega arith in rw (length-take-le i ds) before
+inside_front ds i k within before =
+    let le : i ≤ length ds = omega arith in
+    rw (length-take-le i ds) before
 
 front_inside : (ds : List ℕ) (i k : ℕ) → i < length ds → k < length (take i ds) → k < i
-front_inside ds i k within before = let le : i ≤ length ds = omega arith in rw (length-take-le i ds) at before
+front_inside ds i k within before =
+    let le : i ≤ length ds = omega arith in
+    rw (length-take-le i ds) at before
 
 -- the parent and the previous sibling of an element after the list, by the nearest element
 module _ (ds : List ℕ) (d : ℕ) where
   pub none_near : None ≡ last_index (λ x. nat_le x d) ds
-      → (None ≡ last_index (λ x. nat_lt x d) ds) × (None ≡ equal_at ds d (last_index (λ x. nat_le x d) ds))
+      → (None ≡ last_index (λ x. nat_lt x d) ds)
+      × (None ≡ equal_at ds d (last_index (λ x. nat_le x d) ds))
   none_near is =
       let none = subst (IsLast (λ x. nat_le x d) ds) (sym is) (last_index_is _ ds) in
       (last_index_of _ ds None (λ k lt. not_lt_from _ d (none k lt)), ap (equal_at ds d) is)
 
   pub lesser_near : (i : ℕ) → Some i ≡ last_index (λ x. nat_le x d) ds → (get_or ds i 0 ≡ d → ⊥)
-      → (Some i ≡ last_index (λ x. nat_lt x d) ds) × (None ≡ equal_at ds d (last_index (λ x. nat_le x d) ds))
+      → (Some i ≡ last_index (λ x. nat_lt x d) ds)
+      × (None ≡ equal_at ds d (last_index (λ x. nat_le x d) ds))
   lesser_near i is ne =
-      let last : IsLast (λ x. nat_le x d) ds (Some i) = subst (IsLast (λ x. nat_le x d) ds) (sym is) (last_index_is _ ds) in (
-        last_index_of _ ds (Some i)
-            (last.0, is_lt_from _ d last.1 ne, λ k after within. not_lt_from _ d (last.2 k after within)),
+      let last : IsLast (λ x. nat_le x d) ds (Some i) =
+      subst (IsLast (λ x. nat_le x d) ds) (sym is) (last_index_is _ ds) in (
+        last_index_of _ ds (Some i) (
+          last.0,
+          is_lt_from _ d last.1 ne,
+          λ k after within. not_lt_from _ d (last.2 k after within),
+        ),
         sym (ap (λ b. cond b (Some i) None) (ne_test _ d ne)) ∙ ap (equal_at ds d) is,
       )
 
-  parent_of_equal : (i : ℕ) (r : Option ℕ) → IsLast (λ x. nat_le x d) ds (Some i) → get_or ds i 0 ≡ d
+  parent_of_equal : (i : ℕ) (r : Option ℕ) → IsLast (λ x. nat_le x d) ds (Some i)
+      → get_or ds i 0 ≡ d
       → IsLast (λ x. nat_lt x (get_or ds i 0)) (take i ds) r → IsLast (λ x. nat_lt x d) ds r
   parent_of_equal i None last e none =
       λ k within. ⊎_elim
@@ -143,16 +159,20 @@ module _ (ds : List ℕ) (d : ℕ) where
         λ k above within. ⊎_elim
             (λ same. not_lt_self _ d (ap (λ k. get_or ds k 0) same ∙ e))
             (⊎_elim
-            (λ under. moved (get_or-take i ds k 0 under) e (found.2 k above (inside_front ds i k last.0 under)))
+            (λ under. moved (get_or-take i ds k 0 under) e
+            (found.2 k above (inside_front ds i k last.0 under)))
             (λ after. not_lt_from _ d (last.2 k after within)))
             (cases_order k i),
       )
 
-  pub equal_near : (i : ℕ) (r : Option ℕ) → Some i ≡ last_index (λ x. nat_le x d) ds → get_or ds i 0 ≡ d
+  pub equal_near : (i : ℕ) (r : Option ℕ) → Some i ≡ last_index (λ x. nat_le x d) ds
+      → get_or ds i 0 ≡ d
       → r ≡ parent_index ds i
-      → (r ≡ last_index (λ x. nat_lt x d) ds) × (Some i ≡ equal_at ds d (last_index (λ x. nat_le x d) ds))
+      → (r ≡ last_index (λ x. nat_lt x d) ds)
+      × (Some i ≡ equal_at ds d (last_index (λ x. nat_le x d) ds))
   equal_near i r is e parent =
-      let last : IsLast (λ x. nat_le x d) ds (Some i) = subst (IsLast (λ x. nat_le x d) ds) (sym is) (last_index_is _ ds) in
+      let last : IsLast (λ x. nat_le x d) ds (Some i) =
+      subst (IsLast (λ x. nat_le x d) ds) (sym is) (last_index_is _ ds) in
       let found : IsLast (λ x. nat_lt x (get_or ds i 0)) (take i ds) r =
       subst (IsLast (λ x. nat_lt x (get_or ds i 0)) (take i ds)) (sym parent)
       (last_index_is _ (take i ds)) in (

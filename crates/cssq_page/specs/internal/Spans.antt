@@ -51,8 +51,8 @@ abbrev pub value_after : Option (List ℕ) → List ℕ → List ℕ → List �
 value_after (Some earlier) wanted key value = Some earlier
 value_after None wanted key value = if bytes_eq key wanted then Some value else None
 
--- the next field has this key, and its value is at the offset: it counts if the key is the wanted one
--- and no earlier field has it
+-- the next field has this key, and its value is at the offset: it counts if the key is the wanted
+-- one and no earlier field has it
 pub record IsAfter (old new : Span) (wanted key : List ℕ) (at len : ℕ) : Type 0 where
   pub other : bytes_eq key wanted ≡ false → new ≡ old
   pub mine : bytes_eq key wanted ≡ true → IsOr old new at len
@@ -65,7 +65,8 @@ is_other key = not (bytes_eq key (codes "class") || bytes_eq key (codes "id"))
 pub record AreValues (text : List ℕ) (fields : List (List ℕ)) (v : Values) : Type 0 where
   pub class : IsSpanOf text v.class (value_in (map attribute_of fields) (codes "class"))
   pub id : IsSpanOf text v.id (value_in (map attribute_of fields) (codes "id"))
-  pub others : (key : List ℕ) → v.others ≡ false → (key ≡ codes "class" → ⊥) → (key ≡ codes "id" → ⊥)
+  pub others : (key : List ℕ) → v.others ≡ false → (key ≡ codes "class" → ⊥)
+      → (key ≡ codes "id" → ⊥)
       → value_in (map attribute_of fields) key ≡ None
 
 -- the first field of a text and the rest after its TAB, if it has one
@@ -81,4 +82,5 @@ text_in (Some text) = text.now
 
 -- the rest is the end of the text
 abbrev pub IsEnd : List ℕ → Option (Bor (List ℕ)) → Type 0
-IsEnd all rest = IfSome rest (λ t. (length t.now ≤ length all) × (drop (length all - length t.now) all ≡ t.now))
+IsEnd all rest =
+    IfSome rest (λ t. (length t.now ≤ length all) × (drop (length all - length t.now) all ≡ t.now))

@@ -18,7 +18,8 @@ selectors_of links = map (λ link. link.selector.value) links
 abbrev pub IsLastBefore : List (List Component) → ℕ → Wanted → Option ℕ → Type 0
 IsLastBefore selectors end key None = (index : ℕ) → index < end → key_at selectors index ≡ key → ⊥
 IsLastBefore selectors end key (Some last) =
-    (last < end) × (key_at selectors last ≡ key) × ((index : ℕ) → last < index → index < end → key_at selectors index ≡ key → ⊥)
+    (last < end) × (key_at selectors last ≡ key)
+    × ((index : ℕ) → last < index → index < end → key_at selectors index ≡ key → ⊥)
 
 -- the link before the one at an index
 abbrev pub earlier_at : List Link → ℕ → Option ℕ
@@ -27,6 +28,8 @@ earlier_at links index = option_map_or (λ link. link.earlier) (slice_get links 
 -- Each key leads to the last selector with it, and each link leads to the last earlier selector
 -- with the key of its own.
 pub record AreChained (lasts : LastByWanted) (links : List Link) : Type 0 where
-  pub last : (key : Wanted) → IsLastBefore (selectors_of links) (length links) key (last_wanted lasts key)
+  pub last : (key : Wanted)
+      → IsLastBefore (selectors_of links) (length links) key (last_wanted lasts key)
   pub earlier : (index : ℕ) → index < length links
-      → IsLastBefore (selectors_of links) index (key_at (selectors_of links) index) (earlier_at links index)
+      → IsLastBefore (selectors_of links) index (key_at (selectors_of links) index)
+      (earlier_at links index)

@@ -38,4 +38,5 @@ AttributeLeads lasts has index =
 
 -- a reported key leads to the index
 abbrev pub KeyLeads : Reported → LastByKey → ℕ → Type 0
-KeyLeads reported lasts index = (key : Key) × IsTrue (reports_key reported key) × (last_for lasts key ≡ Some index)
+KeyLeads reported lasts index =
+    (key : Key) × IsTrue (reports_key reported key) × (last_for lasts key ≡ Some index)

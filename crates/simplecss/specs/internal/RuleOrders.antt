@@ -29,4 +29,5 @@ pub record OrdersRules (rules : List StyleRule) (indices : List ℕ) : Type 0 wh
 -- at each index is the element from the index that the order names
 abbrev pub IsMovedBy : {X : Type 0} → List ℕ → List X → List X → Type 0
 IsMovedBy {X} indices old new =
-    (k : ℕ) (d : X) → k < length old → slice_index_or new k d ≡ slice_index_or old (slice_index indices k) d
+    (k : ℕ) (d : X) → k < length old
+    → slice_index_or new k d ≡ slice_index_or old (slice_index indices k) d

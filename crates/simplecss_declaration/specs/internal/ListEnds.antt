@@ -8,6 +8,8 @@ use Rattle.simplecss_declaration.specs.internal.UnreportedFaults.{FailsAt}
 -- A list of declarations was read up to `here`. It ends there, at a brace or with the text, and
 -- reading stopped there; or it ends at the broken declaration that begins there, of which this is
 -- left to read.
-abbrev pub EndsAt : Edition → (here : List ℕ) → (broken : Option (List ℕ)) → (left : List ℕ) → Type 0
+abbrev pub EndsAt : Edition → (here : List ℕ) → (broken : Option (List ℕ)) → (left : List ℕ)
+    → Type 0
 EndsAt edition here None left = (ends_list here ≡ true) × (left ≡ here)
-EndsAt edition here (Some text) left = (ends_list here ≡ false) × (text ≡ here) × FailsAt (declaration edition here) left
+EndsAt edition here (Some text) left =
+    (ends_list here ≡ false) × (text ≡ here) × FailsAt (declaration edition here) left

@@ -14,7 +14,8 @@ pub record Drafted : Type 0 where
 
 -- any type, with no further condition
 abbrev pub bare : Combinator → Component
-bare combinator = record { combinator = combinator; compound = record { name = None; subselectors = [] } }
+bare combinator =
+    record { combinator = combinator; compound = record { name = None; subselectors = [] } }
 
 -- the component with a type name
 abbrev pub component_named : List ℕ → Component → Component
@@ -30,7 +31,10 @@ narrowed subselector c =
     record {
       combinator = c.combinator;
       compound =
-          record { name = c.compound.name; subselectors = c.compound.subselectors ++ subselector ∷ [] };
+          record {
+            name = c.compound.name;
+            subselectors = c.compound.subselectors ++ subselector ∷ [];
+          };
     }
 
 abbrev pub empty_draft : Drafted

@@ -22,14 +22,18 @@ component_of_flat p subselectors =
     record {
       combinator = combinator_of p.combinator;
       compound =
-          record { name = option_map (λ n. n.now) p.name; subselectors = map subselector_of subselectors };
+          record {
+            name = option_map (λ n. n.now) p.name;
+            subselectors = map subselector_of subselectors;
+          };
     }
 
 -- the components, whose subselectors follow one another in the one list from index `start` on
 abbrev pub components_from : ℕ → List FlatComponent → List SubSelector → List Component
 components_from start [] subselectors = []
 components_from start (p ∷ ps) subselectors =
-    component_of_flat p (slice_range subselectors start p.end) ∷ components_from p.end ps subselectors
+    component_of_flat p (slice_range subselectors start p.end)
+    ∷ components_from p.end ps subselectors
 
 -- the ends never fall from `start` on, and the last of them is `n`
 abbrev pub Tile : ℕ → List FlatComponent → ℕ → Type 0
@@ -50,7 +54,9 @@ drafted ps ss unfinished = record {
 
 -- The flat lists of a selector: its components, whose subselectors tile the `n` of the one list,
 -- and the ends of its stretches but the last.
-pub record IsFlat (ps : List FlatComponent) (ss : List SubSelector) (n : ℕ) (kept : List ℕ) : Type 0 where
+pub record IsFlat (ps : List FlatComponent) (ss : List SubSelector) (n : ℕ)
+    (kept : List ℕ) : Type 0 where
   pub selector : IsSelector (components_from 0 ps ss)
   pub tiled : Tile 0 ps n
-  pub stretches : AreStretchEnds (components_from 0 ps ss) (all_stretch_ends (components_from 0 ps ss) kept)
+  pub stretches : AreStretchEnds (components_from 0 ps ss)
+      (all_stretch_ends (components_from 0 ps ss) kept)

@@ -8,7 +8,8 @@ use Rattle.simplecss_selector.specs.declared.matching.Fit.TheVariants.{Mismatch,
 
 -- the components before `rest` are to be placed at or above `node`: no node whose ancestors are
 -- ancestors of `n` does better
-pub record LeavesRest {Node : Type 0} (tree : Tree Node) (cs : List Component) (left rest : ℕ) (n node : Node) : Type 0 where
+pub record LeavesRest {Node : Type 0} (tree : Tree Node) (cs : List Component) (left rest : ℕ)
+    (n node : Node) : Type 0 where
   pub some : 0 < rest
   pub fewer : rest < left
   pub higher : tree.depth node < tree.depth n
@@ -18,7 +19,8 @@ pub record LeavesRest {Node : Type 0} (tree : Tree Node) (cs : List Component) (
 
 -- what the result says of the components up to index `last`, tried with that one on `n`, where the
 -- stretch begins at index `first`
-abbrev pub Finds : {Node E : Type 0} → Tree Node → (E → Node) → List Component → (first last : ℕ) → Node
+abbrev pub Finds : {Node E : Type 0} → Tree Node → (E → Node) → List Component → (first last : ℕ)
+    → Node
     → Fit E → Type 0
 Finds tree node cs first last n Mismatch = Reaches tree (first_of cs (last + 1)) n → ⊥
 Finds {Node} tree node cs first last n NoNodeLeft =

@@ -34,7 +34,8 @@ starts_two-reports one two (b ∷ c ∷ text) e =
 
 -- before a `*/` that follows it none begins
 abbrev IsInside : List ℕ → Type 0
-IsInside inside = (k : ℕ) → k < length inside → starts_two asterisk slash (drop k (inside ++ (asterisk ∷ slash ∷ [])))
+IsInside inside = (k : ℕ) → k < length inside
+    → starts_two asterisk slash (drop k (inside ++ (asterisk ∷ slash ∷ [])))
     ≡ false
 
 -- whether a `*/` begins with a byte does not depend on what follows a later one
@@ -58,7 +59,8 @@ record IsClosed (text rest : List ℕ) : Type 0 where
   is : text ≡ inside ++ (asterisk ∷ slash ∷ rest)
   first : IsInside inside
 
-inside-cons : (b : ℕ) (inside : List ℕ) → starts_two asterisk slash (b ∷ (inside ++ (asterisk ∷ slash ∷ []))) ≡ false
+inside-cons : (b : ℕ) (inside : List ℕ)
+    → starts_two asterisk slash (b ∷ (inside ++ (asterisk ∷ slash ∷ []))) ≡ false
     → IsInside inside → IsInside (b ∷ inside)
 inside-cons b inside here h zero l = here
 inside-cons b inside here h (suc k) l = h k (omega arith)
@@ -81,7 +83,8 @@ after_close-reports (b ∷ text) rest e = by (starts_two asterisk slash (b ∷ t
         → (if t then Some (past_one text) else after_close text) ≡ Some rest
         → (after_close text ≡ Some rest → IsClosed text rest) → IsClosed (b ∷ text) rest
     by true here f more =
-        let cut : b ∷ text ≡ asterisk ∷ slash ∷ drop 1 text = starts_two-reports asterisk slash (b ∷ text) here in
+        let cut : b ∷ text ≡ asterisk ∷ slash ∷ drop 1 text =
+        starts_two-reports asterisk slash (b ∷ text) here in
         let tail : text ≡ slash ∷ drop 1 text = cc in
         let left : past_one text ≡ rest = cc in
         record {
@@ -123,17 +126,20 @@ after_comment-front text rest o e =
     let c = after_close-reports (drop 2 text) rest e in
     record {
       front = slash ∷ asterisk ∷ (c.inside ++ (asterisk ∷ slash ∷ []));
-      cut = ap (λ t. slash ∷ asterisk ∷ t) (append_assoc c.inside (asterisk ∷ slash ∷ []) rest ∙ sym c.is)
+      cut = ap (λ t. slash ∷ asterisk ∷ t)
+          (append_assoc c.inside (asterisk ∷ slash ∷ []) rest ∙ sym c.is)
           ∙ sym (starts_two-reports slash asterisk text o);
       is = record { inside = c.inside; is = refl; first = c.first };
     }
 
-comment-reports : (text rest : List ℕ) → comment text ≡ got (tt {0}) rest → Front IsComment text rest
+comment-reports : (text rest : List ℕ) → comment text ≡ got (tt {0}) rest
+    → Front IsComment text rest
 unfolding comment
 comment-reports text rest e = by (opens_comment text) (after_comment text) refl refl e
   where
     by : (t : Bool) (o : Option (List ℕ)) → opens_comment text ≡ t → after_comment text ≡ o
-        → (if t then closed_or (no_comment text) o else fails (no_comment text) (past_byte slash text))
+        → (if t then closed_or (no_comment text) o
+        else fails (no_comment text) (past_byte slash text))
         ≡ got tt rest → Front IsComment text rest
     by true (Some left) f g h = let same : left
         ≡ rest = cc in after_comment-front text rest f (g ∙ ap Some same)
@@ -302,7 +308,8 @@ pub blank-open : (text : List ℕ) → opens_comment (past_blank text) ≡ true
     → blank text ≡ comment (past_blank text)
 unfolding blank comment
 blank-open text o = rw o (by (past_blank text) (after_comment (past_blank text))
-    (starts_two-reports slash asterisk (past_blank text) o) refl (each-stops blank_part blank_part-takes text))
+    (starts_two-reports slash asterisk (past_blank text) o) refl
+    (each-stops blank_part blank_part-takes text))
   where
     by : (rest : List ℕ) (c : Option (List ℕ)) → rest ≡ slash ∷ asterisk ∷ drop 2 rest
         → after_comment rest ≡ c → blank_part rest ≡ None

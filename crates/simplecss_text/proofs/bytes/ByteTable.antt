@@ -21,7 +21,8 @@ unfolding agree_below
 agree_at f g zero h b lt = absurd (omega arith)
 agree_at f g (suc n) h b lt =
     let both = both_of (f n) (g n) (agree_below f g n) h in
-    elim (cases_eq b n) [ inl same ↦ rw same both.0 | inr other ↦ agree_at f g n both.1 b (omega arith) ]
+    elim (cases_eq b n)
+    [ inl same ↦ rw same both.0 | inr other ↦ agree_at f g n both.1 b (omega arith) ]
 
 -- the byte's entry has the flag
 abbrev pub has_flag : List ℕ → ℕ → ℕ → Bool
@@ -29,5 +30,6 @@ has_flag table flag b = not (nat_eq (bit_and (get_or table b 0) flag) 0)
 
 -- A flag agrees with a test at this byte, where it does at each. The table is a variable here, so
 -- that its entries are not written out in what is shown.
-pub from_table : (table : List ℕ) (flag : ℕ) (test : ℕ → Bool) (b : ℕ) → b < 256 → agree_below (has_flag table flag) test 256 ≡ true → has_flag table flag b ≡ test b
+pub from_table : (table : List ℕ) (flag : ℕ) (test : ℕ → Bool) (b : ℕ) → b < 256
+    → agree_below (has_flag table flag) test 256 ≡ true → has_flag table flag b ≡ test b
 from_table table flag test b lt h = agree_at _ _ 256 h b lt

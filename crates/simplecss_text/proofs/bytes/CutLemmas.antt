@@ -69,7 +69,8 @@ IsCharBoundary-after_space (b ∷ text) u e =
     IsCharBoundary-after_ascii (b ∷ text) 0 u (omega arith) (is_space-ascii b (sym e))
 
 -- after an ASCII byte that is at an offset of a text
-pub boundary_past_ascii : (text : List ℕ) (offset : ℕ) → ∥ IsUtf8 text ∥₁ → IsCharBoundary text offset
+pub boundary_past_ascii : (text : List ℕ) (offset : ℕ) → ∥ IsUtf8 text ∥₁
+    → IsCharBoundary text offset
     → starts_by is_ascii (drop offset text) ≡ true → IsCharBoundary (drop offset text) 1
 boundary_past_ascii text offset u at e =
     front (drop offset text) (IsUtf8-drop text offset (IsUtf8-had text u) at) e
@@ -89,7 +90,8 @@ IsCharBoundary-after_found text byte (Some n) u l h =
     IsCharBoundary-after_ascii text n u h.0 small
 
 -- after two ASCII bytes at the front
-pub IsCharBoundary-after_comment : (text : List ℕ) → IsUtf8 text → starts_two slash asterisk text ≡ true
+pub IsCharBoundary-after_comment : (text : List ℕ) → IsUtf8 text
+    → starts_two slash asterisk text ≡ true
     → IsCharBoundary text 2
 IsCharBoundary-after_comment [] u e = absurd (cc)
 IsCharBoundary-after_comment (a ∷ []) u e = absurd (false_and (a == slash) e)

@@ -1,6 +1,6 @@
 -- No blank follows a blank, and gaps by what is in them.
--- Serves `readers::consume_gap`, `Stream::skip_spaces_and_comments`, `SelectorTokenizer` (a blank is
--- consumed once) and `Selector::parse` (gaps that are printed).
+-- Serves `readers::consume_gap`, `Stream::skip_spaces_and_comments`, `SelectorTokenizer` (a blank
+-- is consumed once) and `Selector::parse` (gaps that are printed).
 use Rattle.std.proofs.Common.{◌≡◌, ℕ, List, [], ◌∷◌, Bool, true, false, if◌then◌else◌, ◌==◌, None, refl, ap, subst, ◌∙◌}
 use Rattle.std.specs.List.{list_any}
 use Rattle.simplecss_text.specs.AsciiBytes.{slash, space}

@@ -1,5 +1,6 @@
 -- The position of an offset, from that of an earlier one.
--- Serves `find_faults` of simplecss_faults (positions that are counted from one offset to the next).
+-- Serves `find_faults` of simplecss_faults (positions that are counted from one offset to the
+-- next).
 use Rattle.std.proofs.Common.{◌≡◌, ℕ, ◌+◌, ◌-◌, ◌<◌, List, [], ◌∷◌, ◌++◌, Bool, true, false, cond, not, ◌==◌, length, take, drop, reverse, min, refl, sym, ap, ◌∙◌, subst, arith, take-add, inl, inr, ◌⊎◌, IsUtf8, eqb, eqb-true, eq-eqb}
 use Rattle.std.specs.Prelude.{chars, count_by}
 use Rattle.std.specs.List.{after_last, prefix_len, suffix_len}
@@ -36,7 +37,8 @@ split (x ∷ xs) = by (x == newline) refl (split xs)
   where
     by : (k : Bool) → (x == newline) ≡ k → Split xs → Split (x ∷ xs)
     by true e h =
-        inr (rw e (omega arith), rw (sum_by-cons (λ b. cond (b == newline) 1 0) x xs, e) (omega arith))
+        inr
+        (rw e (omega arith), rw (sum_by-cons (λ b. cond (b == newline) 1 0) x xs, e) (omega arith))
     by false e (inl h) =
         inl (
           rw e (omega (arith, h.0)),
@@ -124,7 +126,8 @@ line-some : (xs : List ℕ) → 0 < newlines xs → Ends xs (newline ∷ line xs
 line-some [] h = absurd (omega (arith, h))
 line-some (x ∷ xs) h = by (split xs) (λ more. line-some xs more)
   where
-    by : Split xs → (0 < newlines xs → Ends xs (newline ∷ line xs)) → Ends (x ∷ xs) (newline ∷ line (x ∷ xs))
+    by : Split xs → (0 < newlines xs → Ends xs (newline ∷ line xs))
+        → Ends (x ∷ xs) (newline ∷ line (x ∷ xs))
     by (inl s) more = first (x == newline) refl
       where
         first : (k : Bool) → (x == newline) ≡ k → Ends (x ∷ xs) (newline ∷ line (x ∷ xs))

@@ -29,20 +29,23 @@ pub after_close-none : (text : List ℕ) → ((i : ℕ) → i ≤ length text �
     → drop i text ≢ asterisk ∷ slash ∷ rest) → after_close text ≡ None
 after_close-none [] h = refl
 after_close-none (b ∷ text) h =
-    let here : starts_two asterisk slash (b ∷ text) ≡ false = starts_two-lacks asterisk slash (b ∷ text)
+    let here : starts_two asterisk slash (b ∷ text) ≡ false =
+    starts_two-lacks asterisk slash (b ∷ text)
     (h 0 (omega arith)) in
     rw here (after_close-none text (λ i l rest. h (suc i) (omega arith) rest))
 
 -- a text whose first `*/` is at i
 pub after_close-at : (text rest : List ℕ) (i : ℕ)
-    → ((k : ℕ) → k < i → (r : List ℕ) → drop k text ≢ asterisk ∷ slash ∷ r) → drop i text ≡ asterisk ∷ slash ∷ rest
+    → ((k : ℕ) → k < i → (r : List ℕ) → drop k text ≢ asterisk ∷ slash ∷ r)
+    → drop i text ≡ asterisk ∷ slash ∷ rest
     → after_close text ≡ Some rest
 after_close-at [] rest zero h e = absurd (cc)
 after_close-at [] rest (suc i) h e = absurd (cc)
 after_close-at (b ∷ text) rest zero h e = subst (λ (t : List ℕ). after_close t ≡ Some rest) (sym e)
     refl
 after_close-at (b ∷ text) rest (suc i) h e =
-    let here : starts_two asterisk slash (b ∷ text) ≡ false = starts_two-lacks asterisk slash (b ∷ text)
+    let here : starts_two asterisk slash (b ∷ text) ≡ false =
+    starts_two-lacks asterisk slash (b ∷ text)
     (h 0 (omega arith)) in
     rw here (after_close-at text rest i (λ k l r. h (suc k) (omega arith) r) e)
 

@@ -28,13 +28,16 @@ diverge-at g t u r s (on b r1 s1 h) e =
     absurd (omega (arith, longer-diverge (g ∷ t) (g ∷ u) r1 s1 h, ap length e))
 
 -- where a byte is before it in the first text, that byte is in the second
-diverge-next : (g : ℕ) (t u : List ℕ) (c : ℕ) (x r s : List ℕ) → Diverge (g ∷ t) (g ∷ u) r s → r ≡ c ∷ x
+diverge-next : (g : ℕ) (t u : List ℕ) (c : ℕ) (x r s : List ℕ) → Diverge (g ∷ t) (g ∷ u) r s
+    → r ≡ c ∷ x
     → length t < length x → (y : List ℕ) × ((s ≡ c ∷ y) × Diverge (g ∷ t) (g ∷ u) x y)
 diverge-next g t u c x r s at e l = absurd (omega (arith, ap length e, l))
 diverge-next g t u c x r s (on b r1 s1 h) e l =
     let first : b ≡ c = cc in
-    let rest : r1 ≡ x = cc in
-    (s1, (ap (λ (d : ℕ). d ∷ s1) first, subst (λ (z : List ℕ). Diverge (g ∷ t) (g ∷ u) z s1) rest h))
+    let rest : r1 ≡ x = cc in (
+      s1,
+      (ap (λ (d : ℕ). d ∷ s1) first, subst (λ (z : List ℕ). Diverge (g ∷ t) (g ∷ u) z s1) rest h),
+    )
 
 -- an at-rule that ends after a semicolon
 pub at_rule-semicolon : (edition : Edition) (t u r s n rest : List ℕ) → IsUtf8 r
@@ -45,18 +48,22 @@ at_rule-semicolon edition t u r s n rest w h e f =
     by (name edition r) (name edition s) e
     (name-same edition semicolon t u (quiet-semicolon edition) r s w h)
   where
-    by : (a b : Reading (List ℕ)) → a ≡ got n rest → Guard Equal true (semicolon ∷ t) (semicolon ∷ u) a b
+    by : (a b : Reading (List ℕ)) → a ≡ got n rest
+        → Guard Equal true (semicolon ∷ t) (semicolon ∷ u) a b
         → at_rule_rest_by_name b ≡ u
     by (fails q x) b g k = absurd (cc)
     by (got m x) b g (inl l) =
         let same : x ≡ rest = cc in
-        absurd (omega (arith, l, ap length same, ap length f, length-past (is_neither semicolon open_brace) rest))
+        absurd (omega
+        (arith, l, ap length same, ap length f, length-past (is_neither semicolon open_brace) rest))
     by (got m x) (fails q y) g (inr k) = absurd k
     by (got m x) (got o y) g (inr k) =
         let same : x ≡ rest = cc in
-        let there : past (is_neither semicolon open_brace) x ≡ semicolon ∷ t = ap (past (is_neither semicolon open_brace)) same ∙ f in
+        let there : past (is_neither semicolon open_brace) x ≡ semicolon ∷ t =
+        ap (past (is_neither semicolon open_brace)) same ∙ f in
         ap past_semicolon_or_block
-        (diverge-at semicolon t u (past (is_neither semicolon open_brace) x) (past (is_neither semicolon open_brace) y)
+        (diverge-at semicolon t u (past (is_neither semicolon open_brace) x)
+        (past (is_neither semicolon open_brace) y)
         (past-diverge semicolon t u (is_neither semicolon open_brace) refl x y k.1) there)
 
 -- a block that ends after the brace
@@ -64,16 +71,19 @@ block_end-at : (u v inner y : List ℕ) → Diverge (close_brace ∷ (u ++ v)) (
     → from_block_end inner ≡ close_brace ∷ (u ++ v) → past_byte close_brace (from_block_end y) ≡ u
 block_end-at u v inner y h e = by (from_block_end-to u v inner y h)
   where
-    by : To true (close_brace ∷ (u ++ v)) (close_brace ∷ u) (from_block_end inner) (from_block_end y)
+    by : To true (close_brace ∷ (u ++ v)) (close_brace ∷ u) (from_block_end inner)
+        (from_block_end y)
         → past_byte close_brace (from_block_end y) ≡ u
     by (inl l) = absurd (omega (arith, l, ap length e))
     by (inr k) =
-        ap (past_byte close_brace) (diverge-at close_brace (u ++ v) u (from_block_end inner) (from_block_end y) k e)
+        ap (past_byte close_brace)
+        (diverge-at close_brace (u ++ v) u (from_block_end inner) (from_block_end y) k e)
 
 -- an at-rule that ends after a block
 pub at_rule-block : (edition : Edition) (u v r s n rest inner : List ℕ) → IsUtf8 r
     → Diverge (close_brace ∷ (u ++ v)) (close_brace ∷ u) r s → name edition r ≡ got n rest
-    → past (is_neither semicolon open_brace) rest ≡ open_brace ∷ inner → from_block_end inner ≡ close_brace ∷ (u ++ v)
+    → past (is_neither semicolon open_brace) rest ≡ open_brace ∷ inner
+    → from_block_end inner ≡ close_brace ∷ (u ++ v)
     → at_rule_rest edition s ≡ u
 unfolding at_rule_rest
 at_rule-block edition u v r s n rest inner w h e f g =
@@ -83,20 +93,28 @@ at_rule-block edition u v r s n rest inner w h e f g =
     long : length (u ++ v) < length inner
     long = omega (arith, ap length g, length-from_block_end inner)
 
-    opened : (x y : List ℕ) → x ≡ open_brace ∷ inner → To true (close_brace ∷ (u ++ v)) (close_brace ∷ u) x y
+    opened : (x y : List ℕ) → x ≡ open_brace ∷ inner
+        → To true (close_brace ∷ (u ++ v)) (close_brace ∷ u) x y
         → past_semicolon_or_block y ≡ u
     opened x y k (inl l) = absurd (omega (arith, l, ap length k, long))
     opened x y k (inr diverge) =
         let found = diverge-next close_brace (u ++ v) u open_brace inner x y diverge k long in
         ap past_semicolon_or_block found.1.0 ∙ block_end-at u v inner found.0 found.1.1 g
 
-    by : (a b : Reading (List ℕ)) → a ≡ got n rest → Guard Equal true (close_brace ∷ (u ++ v)) (close_brace ∷ u) a b
+    by : (a b : Reading (List ℕ)) → a ≡ got n rest
+        → Guard Equal true (close_brace ∷ (u ++ v)) (close_brace ∷ u) a b
         → at_rule_rest_by_name b ≡ u
     by (fails q x) b k diverge = absurd (cc)
     by (got m x) b k (inl l) =
         let same : x ≡ rest = cc in
-        absurd (omega
-        (arith, l, ap length same, ap length f, length-past (is_neither semicolon open_brace) rest, long))
+        absurd (omega (
+          arith,
+          l,
+          ap length same,
+          ap length f,
+          length-past (is_neither semicolon open_brace) rest,
+          long,
+        ))
     by (got m x) (fails q y) k (inr diverge) = absurd diverge
     by (got m x) (got o y) k (inr diverge) =
         let same : x ≡ rest = cc in
@@ -136,7 +154,8 @@ no_name-front edition s v u e =
     by [] f h = inl refl
     by (c ∷ []) f h = one (c == hyphen) refl
       where
-        one : (k : Bool) → (c == hyphen) ≡ k → (begins_name edition (c ∷ []) ≡ false) ⊎ (s ≡ hyphen ∷ [])
+        one : (k : Bool) → (c == hyphen) ≡ k
+            → (begins_name edition (c ∷ []) ≡ false) ⊎ (s ≡ hyphen ∷ [])
         one true k = inr (sym f ∙ ap (λ d. encode_utf8_all (d ∷ [])) (eqb-true c hyphen k))
         one false k = let none_there = start c (chars v) h in inl (rw (none_there, k) refl)
     by (c ∷ d ∷ cs) f h = inl h

@@ -30,7 +30,8 @@ starts-drop c zero (b ∷ x) h = refl
 starts-drop c (suc n) (b ∷ x) h = starts-drop c n x (omega arith)
 
 -- a block's end is the text's end or a closing brace
-pub at_brace : (x : List ℕ) → (from_block_end x ≡ []) ⊎ (starts close_brace (from_block_end x) ≡ true)
+pub at_brace : (x : List ℕ)
+    → (from_block_end x ≡ []) ⊎ (starts close_brace (from_block_end x) ≡ true)
 unfolding block_end
 at_brace x = by (cases_lt (block_end x) (length x))
   where
@@ -61,7 +62,8 @@ pub list-lost : (edition : Edition) (t a : List ℕ) → length a ≤ length t
     → Lost t (past_byte close_brace (past_list edition a))
 list-lost edition t a l = by (ends_list a) refl
   where
-    ended : (x : List ℕ) → length x ≤ length t → ends_list x ≡ true → Lost t (past_byte close_brace x)
+    ended : (x : List ℕ) → length x ≤ length t → ends_list x ≡ true
+        → Lost t (past_byte close_brace x)
     ended [] m e = inr refl
     ended (b ∷ x) m e = brace (b == close_brace) (rw (not_empty b x) at e)
       where
@@ -109,17 +111,21 @@ broken-same u v (got p r) e n (inr h) = absurd (cc)
 broken-same u v (fails f r) (got q s) n (inr h) = absurd h
 broken-same u v (fails f r) (fails g s) n (inr h) = by (from_block_end-to u v r s h)
   where
-    further : (length (past_byte close_brace (past_byte close_brace (from_block_end r))) < length (u ++ v))
-        ⊎ Exact close_brace (u ++ v) u (past_byte close_brace (past_byte close_brace (from_block_end r)))
+    further : (length (past_byte close_brace (past_byte close_brace (from_block_end r)))
+        < length (u ++ v))
+        ⊎ Exact close_brace (u ++ v) u
+        (past_byte close_brace (past_byte close_brace (from_block_end r)))
         (past_byte close_brace (past_byte close_brace (from_block_end s)))
-        → Lost (u ++ v) (past_byte close_brace (past_byte close_brace (from_block_end r))) ⊎ Exact close_brace (u ++ v) u
+        → Lost (u ++ v) (past_byte close_brace (past_byte close_brace (from_block_end r)))
+        ⊎ Exact close_brace (u ++ v) u
         (past_byte close_brace (past_byte close_brace (from_block_end r)))
         (past_byte close_brace (past_byte close_brace (from_block_end s)))
     further (inl l) = inl (inl l)
     further (inr x) = inr x
 
     by : To true (close_brace ∷ (u ++ v)) (close_brace ∷ u) (from_block_end r) (from_block_end s)
-        → Lost (u ++ v) (past_byte close_brace (past_byte close_brace (from_block_end r))) ⊎ Exact close_brace (u ++ v) u
+        → Lost (u ++ v) (past_byte close_brace (past_byte close_brace (from_block_end r)))
+        ⊎ Exact close_brace (u ++ v) u
         (past_byte close_brace (past_byte close_brace (from_block_end r)))
         (past_byte close_brace (past_byte close_brace (from_block_end s)))
     by (inl l) =
@@ -151,10 +157,12 @@ block-same edition u v r s w h =
     by a b n z (inr (inr k)) =
         ends (ends_list a.1) (ends_list b.1) refl (ends_list-diverge (u ++ v) u a.1 b.1 k.1)
       where
-        same : Lost (u ++ v) (past_byte close_brace (past_broken (declaration edition a.1))) ⊎ Exact close_brace
+        same : Lost (u ++ v) (past_byte close_brace (past_broken (declaration edition a.1)))
+            ⊎ Exact close_brace
             (u ++ v) u (past_byte close_brace (past_broken (declaration edition a.1)))
             (past_byte close_brace (past_broken (declaration edition b.1)))
-            → BlockSame (u ++ v) u (a.0, past_byte close_brace (past_broken (declaration edition a.1)))
+            → BlockSame (u ++ v) u
+            (a.0, past_byte close_brace (past_broken (declaration edition a.1)))
             (b.0, past_byte close_brace (past_broken (declaration edition b.1)))
         same (inl l) = inl l
         same (inr x) = inr (pairs-equal a.0 b.0 k.0, x)

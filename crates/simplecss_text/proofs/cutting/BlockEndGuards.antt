@@ -77,13 +77,15 @@ pub no_brace : (u : List ℕ) → starts close_brace u ≡ false → past_byte c
 no_brace [] e = refl
 no_brace (b ∷ u) e = rw e refl
 
-pub less_of_brace : (t : List ℕ) → starts close_brace t ≡ true → length (past_byte close_brace t) < length t
+pub less_of_brace : (t : List ℕ) → starts close_brace t ≡ true
+    → length (past_byte close_brace t) < length t
 less_of_brace [] e = absurd (cc)
 less_of_brace (b ∷ t) e = rw e (omega arith)
 
 -- one that follows is consumed too, and then less is left than after the first
 pub past_further-exact : (u v r s : List ℕ) → Exact close_brace (u ++ v) u r s
-    → (length (past_byte close_brace r) < length (u ++ v)) ⊎ Exact close_brace (u ++ v) u (past_byte close_brace r)
+    → (length (past_byte close_brace r) < length (u ++ v))
+    ⊎ Exact close_brace (u ++ v) u (past_byte close_brace r)
     (past_byte close_brace s)
 past_further-exact u v r s (before_it r1 s1 h) = inr (past_brace-exact (u ++ v) u r s h)
 past_further-exact u v r s after_it = by (starts close_brace (u ++ v)) refl

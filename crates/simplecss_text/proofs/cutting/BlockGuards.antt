@@ -18,7 +18,8 @@ pub data DeclarationPasses (edition : Edition) (t a : List ℕ) : Type 0 where
   passes : ends_list a ≡ false → length (left_after (declaration edition a)) ≤ length t
       → DeclarationPasses edition t a
 
-pub ends_list-diverge : (t u r s : List ℕ) → Diverge (close_brace ∷ t) (close_brace ∷ u) r s → ends_list r ≡ ends_list s
+pub ends_list-diverge : (t u r s : List ℕ) → Diverge (close_brace ∷ t) (close_brace ∷ u) r s
+    → ends_list r ≡ ends_list s
 ends_list-diverge t u r s at = rw (not_empty close_brace t, not_empty close_brace u) refl
 ends_list-diverge t u r s (on b r1 s1 h) = rw (not_empty b r1, not_empty b s1) refl
 

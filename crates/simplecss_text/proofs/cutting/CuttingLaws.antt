@@ -160,7 +160,8 @@ module _ (edition : Edition) where
 
   -- The rules of a text that is cut where one of its statements ends are those of the front and
   -- then those of the rest.
-  pub keeps_across : (text : List ℕ) (offset : ℕ) → IsUtf8 text → StatementEndsAt edition text offset
+  pub keeps_across : (text : List ℕ) (offset : ℕ) → IsUtf8 text
+      → StatementEndsAt edition text offset
       → KeepsAcross edition text offset
   keeps_across text offset i (k, l, is) =
       let within : k < length (rests_after edition text) =
@@ -193,7 +194,8 @@ module _ (edition : Edition) where
   -- of the pieces
   sheet-across : (texts : List (List ℕ)) (text : List ℕ) (offset : ℕ)
       → KeepsAcross edition text offset → sheet edition
-      ((texts ++ take offset text ∷ []) ++ drop offset text ∷ []) ≡ sheet edition (texts ++ text ∷ [])
+      ((texts ++ take offset text ∷ []) ++ drop offset text ∷ [])
+      ≡ sheet edition (texts ++ text ∷ [])
   sheet-across texts text offset e =
       let front : List ℕ = take offset text in
       let rest : List ℕ = drop offset text in

@@ -70,16 +70,19 @@ module _ (edition : Edition) where
   unfolding next_block
   next_block-same u v whole r s w e h =
       by (past (λ b. not (b == open_brace)) r) (past (λ b. not (b == open_brace)) s)
-      (ends-ends whole r (past (λ b. not (b == open_brace)) r) e (ends-past (λ b. not (b == open_brace)) r))
+      (ends-ends whole r (past (λ b. not (b == open_brace)) r) e
+      (ends-past (λ b. not (b == open_brace)) r))
       (past-both close_brace (u ++ v) u (λ b. not (b == open_brace)) r s h)
     where
       by : (x y : List ℕ) → Ends whole x → To true (close_brace ∷ (u ++ v)) (close_brace ∷ u) x y
-          → BlockSame (u ++ v) u (if starts open_brace x then block edition (past_one x) else ([], []))
+          → BlockSame (u ++ v) u
+          (if starts open_brace x then block edition (past_one x) else ([], []))
           (if starts open_brace y then block edition (past_one y) else ([], []))
       by x y f (inl l) = inl (opened-lost (u ++ v) x l)
       by x y f (inr k) = opened-same u v whole x y w f k
 
-  pub part-same : (u v r s : List ℕ) → IsUtf8 r → Diverge (close_brace ∷ (u ++ v)) (close_brace ∷ u) r s
+  pub part-same : (u v r s : List ℕ) → IsUtf8 r
+      → Diverge (close_brace ∷ (u ++ v)) (close_brace ∷ u) r s
       → Same (u ++ v) u (part edition r) (part edition s)
   unfolding part
   part-same u v r s w h =
@@ -102,7 +105,8 @@ module _ (edition : Edition) where
       shorter (c ∷ z) = omega arith
 
       by : (j k : Bool)
-          → Step Equal (PartPasses edition t) close_brace t u r (if j then Some (a, past_one x) else None)
+          → Step Equal (PartPasses edition t) close_brace t u r
+          (if j then Some (a, past_one x) else None)
           (if k then Some (b, past_one y) else None)
       by true true = inl (omega (arith, shorter x))
       by true false = omega (arith, shorter x)
@@ -118,12 +122,14 @@ module _ (edition : Edition) where
       one c d (on z c1 d1 h) = by (z == comma)
         where
           by : (j : Bool)
-              → Step Equal (PartPasses edition t) close_brace t u r (if j then Some (a, c1) else None)
+              → Step Equal (PartPasses edition t) close_brace t u r
+              (if j then Some (a, c1) else None)
               (if j then Some (b, d1) else None)
           by true = inr (e, h)
           by false = tt
 
-  pub parts-same : (u v r s : List ℕ) → IsUtf8 r → Diverge (close_brace ∷ (u ++ v)) (close_brace ∷ u) r s
+  pub parts-same : (u v r s : List ℕ) → IsUtf8 r
+      → Diverge (close_brace ∷ (u ++ v)) (close_brace ∷ u) r s
       → Same (u ++ v) u (parts edition r) (parts edition s)
   unfolding parts
   parts-same u v r s w h =
@@ -147,7 +153,8 @@ module _ (edition : Edition) where
       last xs ys c d e (inr (f, k)) = inr (rw (e, f) refl, k)
 
       by : (a b : List (Option (List Component)) × List ℕ) → IsUtf8 a.1
-          → Repeats Equal (PartPasses edition (u ++ v)) close_brace (u ++ v) u a b → Same (u ++ v) u (
+          → Repeats Equal (PartPasses edition (u ++ v)) close_brace (u ++ v) u a b
+          → Same (u ++ v) u (
             filter_map (λ selector. selector) (a.0 ++ (part edition a.1).0 ∷ []),
             (part edition a.1).1,
           ) (
@@ -160,11 +167,13 @@ module _ (edition : Edition) where
           last a.0 b.0 (part edition a.1) (part edition b.1) (pairs-equal a.0 b.0 k.0)
           (part-same u v a.1 b.1 z k.1)
 
-  pub rule_set-same : (u v r s : List ℕ) → IsUtf8 r → Diverge (close_brace ∷ (u ++ v)) (close_brace ∷ u) r s
+  pub rule_set-same : (u v r s : List ℕ) → IsUtf8 r
+      → Diverge (close_brace ∷ (u ++ v)) (close_brace ∷ u) r s
       → RulesSame (u ++ v) u (rule_set edition r) (rule_set edition s)
   unfolding rule_set
   rule_set-same u v r s w h =
-      after_comma (past_byte comma r) (past_byte comma s) (utf8-past_byte_if comma r (omega arith) w)
+      after_comma (past_byte comma r) (past_byte comma s)
+      (utf8-past_byte_if comma r (omega arith) w)
       (past_byte-to (close_brace ∷ (u ++ v)) (close_brace ∷ u) comma refl r s h)
     where
       body : (xs ys : List (List Component)) (c d : List StyleDeclaration × List ℕ) → xs ≡ ys
@@ -190,7 +199,8 @@ module _ (edition : Edition) where
           (next_block-same u v x a.1 b.1 z f k)
 
       after_comma : (x y : List ℕ) → IsUtf8 x
-          → (length x < length (close_brace ∷ (u ++ v))) ⊎ Diverge (close_brace ∷ (u ++ v)) (close_brace ∷ u) x y
+          → (length x < length (close_brace ∷ (u ++ v)))
+          ⊎ Diverge (close_brace ∷ (u ++ v)) (close_brace ∷ u) x y
           → RulesSame (u ++ v) u (
             map (λ selector. record {
               components = selector;

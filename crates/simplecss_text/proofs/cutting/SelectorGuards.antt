@@ -37,7 +37,8 @@ passed-unnamed n kind start (got token after) unnamed = λ k l. absurd (unnamed 
 passed-unnamed n kind start (fails fault after) unnamed = tt
 
 -- a piece of one byte does not begin with the brace
-one_byte : (t u r s : List ℕ) → Diverge (close_brace ∷ t) (close_brace ∷ u) r s → (next_kind r ≡ Other → ⊥)
+one_byte : (t u r s : List ℕ) → Diverge (close_brace ∷ t) (close_brace ∷ u) r s
+    → (next_kind r ≡ Other → ⊥)
     → length (past_one r) ≤ length t → length r ≤ length t
 unfolding next_kind
 one_byte t u r s at other l = absurd (other refl)
@@ -47,7 +48,8 @@ one_byte t u r s (on b r1 s1 h) other l =
 -- the sequence after every shorter text is guarded
 abbrev SequencesGuarded : Edition → ℕ → List ℕ → List ℕ → Type 0
 SequencesGuarded edition n t u =
-    (side : Side) (r s : List ℕ) → length r ≤ n → IsUtf8 r → Diverge (close_brace ∷ t) (close_brace ∷ u) r s
+    (side : Side) (r s : List ℕ) → length r ≤ n → IsUtf8 r
+    → Diverge (close_brace ∷ t) (close_brace ∷ u) r s
     → OutcomeGuard close_brace t u (outcome (sequence_from edition side r))
     (outcome (sequence_from edition side s))
 
@@ -59,7 +61,8 @@ selector_of-same t u (refused x) b (inl l) = inl l
 selector_of-same t u (accepted roles x) b (inl l) = inl l
 
 module _ (edition : Edition) where
-  pub solid_as-passed : (t u r s : List ℕ) → Diverge (close_brace ∷ t) (close_brace ∷ u) r s → (kind : NextKind)
+  pub solid_as-passed : (t u r s : List ℕ) → Diverge (close_brace ∷ t) (close_brace ∷ u) r s
+      → (kind : NextKind)
       → next_kind r ≡ kind → Passed (length t) kind r (solid_as edition kind r)
   solid_as-passed t u r s h Stop k = tt
   solid_as-passed t u r s h Slash k = tt
@@ -157,7 +160,8 @@ module _ (edition : Edition) where
           (inr h) ended)
       by Slash k =
           as_read Slash k
-          (answered-guard close_brace (u ++ v) u side spaced Slash r (past_one r) s (past_one s) _ _ h
+          (answered-guard close_brace (u ++ v) u side spaced Slash r (past_one r) s
+          (past_one s) _ _ h
           (past_one-diverge close_brace (u ++ v) u r s h) ended)
       by Child k = piece Child tt k
       by Adjacent k = piece Adjacent tt k
@@ -213,7 +217,8 @@ module _ (edition : Edition) where
       (omega (arith, l, length-ends r (left_after (gap r)) (well-gap r).0)) ((well-gap r).1 z)
       (gap-guarded u v r s h))
 
-  pub selectors-guarded : (u v r s : List ℕ) → IsUtf8 r → Diverge (close_brace ∷ (u ++ v)) (close_brace ∷ u) r s
+  pub selectors-guarded : (u v r s : List ℕ) → IsUtf8 r
+      → Diverge (close_brace ∷ (u ++ v)) (close_brace ∷ u) r s
       → Same (u ++ v) u (reads edition r) (reads edition s)
   unfolding reads
   selectors-guarded u v r s z h =

@@ -166,8 +166,14 @@ selector_skips-within edition text = by (refusal_in text (sequence_of edition te
 skips_after-within : (text : List ℕ) → AllWithin text (skips_after text)
 skips_after-within text =
     within-if text (starts comma_byte text || starts open_brace text) []
-    (record { from = text; after = from_brace text; why = why_after (from_brace text) } ∷ []) tt
-    ((ends-same text, ends-past (λ b. not (b == open_brace)) text, by (length (from_brace text) == 0)), tt)
+    (record { from = text; after = from_brace text; why = why_after (from_brace text) } ∷ []) tt (
+      (
+        ends-same text,
+        ends-past (λ b. not (b == open_brace)) text,
+        by (length (from_brace text) == 0),
+      ),
+      tt,
+    )
   where
     by : (k : Bool) → IsWhyWithin text (if k then Why.missing_block else Why.after_selector)
     by true = tt
@@ -287,7 +293,8 @@ ends-past_semicolon_or_block text = by (starts open_brace text)
     inner = past_one text
 
     by : (k : Bool)
-        → Ends text (if k then past_byte close_brace (from_block_end inner) else past_byte semicolon text)
+        → Ends text
+        (if k then past_byte close_brace (from_block_end inner) else past_byte semicolon text)
     by true =
         ends-ends text inner (past_byte close_brace (from_block_end inner)) (ends-past_one text)
         (ends-ends inner (from_block_end inner) (past_byte close_brace (from_block_end inner))
@@ -301,7 +308,8 @@ ends-at_rule_rest edition text =
   where
     by : (r : Reading (List ℕ)) → Ends text (left_after r) → Ends text (at_rule_rest_by_name r)
     by (got n rest) h =
-        ends-ends text rest (past_semicolon_or_block (past (is_neither semicolon open_brace) rest)) h
+        ends-ends text rest
+        (past_semicolon_or_block (past (is_neither semicolon open_brace) rest)) h
         (ends-ends rest (past (is_neither semicolon open_brace) rest)
         (past_semicolon_or_block (past (is_neither semicolon open_brace) rest))
         (ends-past (is_neither semicolon open_brace) rest)
@@ -312,7 +320,8 @@ statement_skips-within : (edition : Edition) (text : List ℕ)
     → AllWithin text (statement_skips edition text)
 unfolding statement_skips
 statement_skips-within edition text =
-    within-if text (starts at_sign text) (at_rule_skip edition text ∷ []) (rule_set_skips edition text) (
+    within-if text (starts at_sign text) (at_rule_skip edition text ∷ [])
+    (rule_set_skips edition text) (
       (
         ends-same text,
         ends-ends text (past_one text) (at_rule_rest edition (past_one text))

@@ -29,12 +29,14 @@ use Rattle.simplecss_text.proofs.bytes.Utf8Lemmas.{utf8-first}
 
 -- How a statement ends after a blank: the text is used up, or it is a rule set that ends after a
 -- brace, or an at-rule.
-pub data NextEnds (edition : Edition) (text : List ℕ) (rules : List StyleRule) (rest : List ℕ) : Type 0
+pub data NextEnds (edition : Edition) (text : List ℕ) (rules : List StyleRule)
+    (rest : List ℕ) : Type 0
   where
     text_ends : rest ≡ [] → NextEnds edition text rules rest
     rules_end : starts at_sign text ≡ false → rule_set edition text ≡ (rules, rest)
         → Ends text (close_brace ∷ rest) → NextEnds edition text rules rest
-    at_rule_ends : (after : List ℕ) → text ≡ at_sign ∷ after → rules ≡ [] → AtRuleEnds edition after rest
+    at_rule_ends : (after : List ℕ) → text ≡ at_sign ∷ after → rules ≡ []
+        → AtRuleEnds edition after rest
         → NextEnds edition text rules rest
 
 -- ---- the texts before and after a cut
@@ -53,7 +55,8 @@ diverge-of g u v w e =
     (subst (λ (r : List ℕ). Diverge (g ∷ (w ++ v)) (g ∷ w) r (front ++ g ∷ w)) parts diverge)
 
 -- after the blanks at their fronts
-pub past_blank-diverge : (g : ℕ) (u v w : List ℕ) → Plain g → Ends (past_blank (u ++ v)) (g ∷ (w ++ v))
+pub past_blank-diverge : (g : ℕ) (u v w : List ℕ) → Plain g
+    → Ends (past_blank (u ++ v)) (g ∷ (w ++ v))
     → Diverge (g ∷ (w ++ v)) (g ∷ w) (past_blank (u ++ v)) (past_blank u)
 past_blank-diverge g u v w plain e =
     by (past_blank-to g w v plain (u ++ v) u
@@ -99,13 +102,15 @@ module _ (edition : Edition) where
           → NextEnds edition (b ∷ text) rules rest
       of_rules f g (inl h) = text_ends (sym (ap (λ r. r.1) g) ∙ h)
       of_rules f g (inr h) =
-          rules_end f g (subst (λ (x : List ℕ). Ends (b ∷ text) (close_brace ∷ x)) (ap (λ r. r.1) g) h)
+          rules_end f g
+          (subst (λ (x : List ℕ). Ends (b ∷ text) (close_brace ∷ x)) (ap (λ r. r.1) g) h)
 
       by : (k : Bool) → (b == at_sign) ≡ k
           → (if k then ([], at_rule_rest edition text) else rule_set edition (b ∷ text))
           ≡ (rules, rest) → NextEnds edition (b ∷ text) rules rest
       by true f g =
-          at_rule_ends text (ap (λ (c : ℕ). c ∷ text) (eqb-true b at_sign f)) (sym (ap (λ r. r.0) g))
+          at_rule_ends text (ap (λ (c : ℕ). c ∷ text) (eqb-true b at_sign f))
+          (sym (ap (λ r. r.0) g))
           (subst (AtRuleEnds edition text) (ap (λ r. r.1) g) (at_rule-ends edition text))
       by false f g = of_rules f g (rule_set-after edition (b ∷ text))
 
@@ -128,14 +133,16 @@ module _ (edition : Edition) where
 
   -- an at-rule that ends after a semicolon or a block ends after that byte
   pub semicolon-front : (text n rest left : List ℕ) → name edition text ≡ got n rest
-      → past (is_neither semicolon open_brace) rest ≡ semicolon ∷ left → Ends text (semicolon ∷ left)
+      → past (is_neither semicolon open_brace) rest ≡ semicolon ∷ left
+      → Ends text (semicolon ∷ left)
   semicolon-front text n rest left e f =
       ends-ends text rest (semicolon ∷ left)
       (ends-got _ _ _ _ _ (name-stands edition text) e)
       (subst (Ends rest) f (ends-past (is_neither semicolon open_brace) rest))
 
   pub block-front : (text n rest inner left : List ℕ) → name edition text ≡ got n rest
-      → past (is_neither semicolon open_brace) rest ≡ open_brace ∷ inner → from_block_end inner ≡ close_brace ∷ left
+      → past (is_neither semicolon open_brace) rest ≡ open_brace ∷ inner
+      → from_block_end inner ≡ close_brace ∷ left
       → Ends text (close_brace ∷ left)
   block-front text n rest inner left e f g =
       let opened : Ends text (open_brace ∷ inner) =
@@ -163,7 +170,8 @@ module _ (edition : Edition) where
   next-well text start rules rest b (rules_end e f h) =
       well-after close_brace text rest (omega arith) (ends-ends text start (close_brace ∷ rest) b h)
   next-well text start rules rest b (at_rule_ends after e f h) =
-      well-then text after rest (well-after at_sign text after (omega arith) (subst (Ends text) e b))
+      well-then text after rest
+      (well-after at_sign text after (omega arith) (subst (Ends text) e b))
       (at_rule-well after rest h)
 
   pub next_statement-well : (text rest : List ℕ) (rules : List StyleRule)
@@ -174,7 +182,8 @@ module _ (edition : Edition) where
 
   -- a rule set that ends after a brace
   rule_set-cut : (w v r s : List ℕ) (rules : List StyleRule) → IsUtf8 r
-      → Diverge (close_brace ∷ (w ++ v)) (close_brace ∷ w) r s → rule_set edition r ≡ (rules, w ++ v)
+      → Diverge (close_brace ∷ (w ++ v)) (close_brace ∷ w) r s
+      → rule_set edition r ≡ (rules, w ++ v)
       → (w ++ v ≡ []) ⊎ (rule_set edition s ≡ (rules, w))
   rule_set-cut w v r s rules z h e =
       by (rule_set edition r) (rule_set edition s) e (rule_set-same edition w v r s z h)
@@ -202,9 +211,11 @@ module _ (edition : Edition) where
       inr (at_rule-semicolon edition (w ++ v) w (s ++ v) s n x whole
       (diverge-of semicolon s v w (semicolon-front (s ++ v) n x (w ++ v) f following)) f following)
   at_rule-cut s v w rest whole cut e (at_block n x inner left f g h) =
-      let following : from_block_end inner ≡ close_brace ∷ (w ++ v) = h ∙ ap (λ (t : List ℕ). close_brace ∷ t) e in
+      let following : from_block_end inner ≡ close_brace ∷ (w ++ v) =
+      h ∙ ap (λ (t : List ℕ). close_brace ∷ t) e in
       inr (at_rule-block edition w v (s ++ v) s n x inner whole
-      (diverge-of close_brace s v w (block-front (s ++ v) n x inner (w ++ v) f g following)) f g following)
+      (diverge-of close_brace s v w (block-front (s ++ v) n x inner (w ++ v) f g following)) f g
+      following)
 
   -- ---- the next statement
 
@@ -234,14 +245,17 @@ module _ (edition : Edition) where
       nil : w ++ v ≡ [] → next_statement edition u ≡ Some (rules, w)
       nil n = next-nil u v w rules n e
 
-      ruled : Diverge (close_brace ∷ (w ++ v)) (close_brace ∷ w) (past_blank (u ++ v)) (past_blank u)
-          → ends_statements (past_blank (u ++ v)) ≡ false → starts at_sign (past_blank (u ++ v)) ≡ false
+      ruled : Diverge (close_brace ∷ (w ++ v)) (close_brace ∷ w) (past_blank (u ++ v))
+          (past_blank u)
+          → ends_statements (past_blank (u ++ v)) ≡ false
+          → starts at_sign (past_blank (u ++ v)) ≡ false
           → (w ++ v ≡ []) ⊎ (rule_set edition (past_blank u) ≡ (rules, w))
           → next_statement edition u ≡ Some (rules, w)
       ruled diverge more other (inl n) = nil n
       ruled diverge more other (inr r) =
           let sign : starts at_sign (past_blank u) ≡ false =
-          sym (starts-diverge close_brace (w ++ v) w at_sign (past_blank (u ++ v)) (past_blank u) diverge)
+          sym (starts-diverge close_brace (w ++ v) w at_sign (past_blank (u ++ v))
+          (past_blank u) diverge)
           ∙ other in
           let goes : ends_statements (past_blank u) ≡ false =
           sym (ends_statements-diverge (w ++ v) w (past_blank (u ++ v)) (past_blank u) diverge)
@@ -264,7 +278,8 @@ module _ (edition : Edition) where
           → next_statement edition u ≡ Some (rules, w)
       by more (text_ends n) = nil n
       by more (rules_end other r h) =
-          let diverge : Diverge (close_brace ∷ (w ++ v)) (close_brace ∷ w) (past_blank (u ++ v)) (past_blank u) =
+          let diverge : Diverge (close_brace ∷ (w ++ v)) (close_brace ∷ w) (past_blank (u ++ v))
+          (past_blank u) =
           past_blank-diverge close_brace u v w brace_plain h in
           ruled diverge more other (rule_set-cut w v (past_blank (u ++ v)) (past_blank u) rules
           ((well-past_blank (u ++ v)).1 whole) diverge r)
@@ -277,12 +292,14 @@ module _ (edition : Edition) where
           (t : List ℕ). at_sign ∷ t) parts in
           let following : Ends (past_blank (u ++ v)) (at_sign ∷ (s ++ v)) =
           subst (Ends (past_blank (u ++ v))) start (ends-same (past_blank (u ++ v))) in
-          let diverge : Diverge (at_sign ∷ (s ++ v)) (at_sign ∷ s) (past_blank (u ++ v)) (past_blank u) =
+          let diverge : Diverge (at_sign ∷ (s ++ v)) (at_sign ∷ s) (past_blank (u ++ v))
+          (past_blank u) =
           past_blank-diverge at_sign u v s sign_plain following in
           let whole_after : IsUtf8 (s ++ v) =
           utf8-after (u ++ v) (s ++ v) at_sign (omega arith) whole
           (ends-ends (u ++ v) (past_blank (u ++ v)) (at_sign ∷ (s ++ v)) (ends-past_blank (u ++ v))
           following) in
-          from_sign s (diverge-at at_sign (s ++ v) s (past_blank (u ++ v)) (past_blank u) diverge start) none
+          from_sign s
+          (diverge-at at_sign (s ++ v) s (past_blank (u ++ v)) (past_blank u) diverge start) none
           (at_rule-cut s v w (w ++ v) whole_after cut refl
           (subst (λ (t : List ℕ). AtRuleEnds edition t (w ++ v)) parts h))

@@ -24,7 +24,8 @@ use Rattle.simplecss_text.proofs.cutting.BlockEndGuards.{no_brace}
 use Rattle.simplecss_text.proofs.cutting.BlockCuts.{at_brace, none_broken}
 
 -- a run of bytes that pass ends at one that does not
-pub past-stops : (test : ℕ → Bool) (text : List ℕ) (b : ℕ) (rest : List ℕ) → past test text ≡ b ∷ rest
+pub past-stops : (test : ℕ → Bool) (text : List ℕ) (b : ℕ) (rest : List ℕ)
+    → past test text ≡ b ∷ rest
     → test b ≡ false
 past-stops test [] b rest e = absurd (cc)
 past-stops test (c ∷ text) b rest e = by (test c) refl (past-stops test text b rest) e
@@ -79,12 +80,15 @@ pub data AtRuleEnds (edition : Edition) (text : List ℕ) : List ℕ → Type 0 
   at_fault : (fault : Fault) (left : List ℕ) → name edition text ≡ fails fault left
       → AtRuleEnds edition text left
   at_semicolon : (n rest left : List ℕ) → name edition text ≡ got n rest
-      → past (is_neither semicolon open_brace) rest ≡ semicolon ∷ left → AtRuleEnds edition text left
+      → past (is_neither semicolon open_brace) rest ≡ semicolon ∷ left
+      → AtRuleEnds edition text left
   at_block : (n rest inner left : List ℕ) → name edition text ≡ got n rest
-      → past (is_neither semicolon open_brace) rest ≡ open_brace ∷ inner → from_block_end inner ≡ close_brace ∷ left
+      → past (is_neither semicolon open_brace) rest ≡ open_brace ∷ inner
+      → from_block_end inner ≡ close_brace ∷ left
       → AtRuleEnds edition text left
 
-neither_one : (b : ℕ) → is_neither semicolon open_brace b ≡ false → (b == open_brace) ≡ false → (b == semicolon) ≡ true
+neither_one : (b : ℕ) → is_neither semicolon open_brace b ≡ false → (b == open_brace) ≡ false
+    → (b == semicolon) ≡ true
 neither_one b e f = by (b == semicolon) (rw f at e)
   where
     by : (k : Bool) → (not k && true) ≡ false → k ≡ true
@@ -117,7 +121,8 @@ module _ (edition : Edition) where
       left = each-ends (declaration_in_block edition) (declaration_in_block-ends edition) text
 
       by : (k : Bool) → ends_list a ≡ k
-          → AfterBrace text (past_byte close_brace (if k then a else past_broken (declaration edition a)))
+          → AfterBrace text
+          (past_byte close_brace (if k then a else past_broken (declaration edition a)))
       by true e = after-brace text a left (list_end a e)
       by false e =
           after-from text a _ left (broken-after a (none_broken edition a e
@@ -192,14 +197,17 @@ module _ (edition : Edition) where
           (starts-is close_brace (from_block_end inner) h)
 
   at_end-ends : (text n rest : List ℕ) → name edition text ≡ got n rest → (x : List ℕ)
-      → past (is_neither semicolon open_brace) rest ≡ x → AtRuleEnds edition text (past_semicolon_or_block x)
+      → past (is_neither semicolon open_brace) rest ≡ x
+      → AtRuleEnds edition text (past_semicolon_or_block x)
   at_end-ends text n rest e [] f = uses_up
   at_end-ends text n rest e (b ∷ x) f = by (b == open_brace) refl
     where
       by : (j : Bool) → (b == open_brace) ≡ j
           → AtRuleEnds edition text
-          (if j then past_byte close_brace (from_block_end x) else (if b == semicolon then x else b ∷ x))
-      by true g = at_block-ends text n rest x e (f ∙ ap (λ (c : ℕ). c ∷ x) (eqb-true b open_brace g))
+          (if j then past_byte close_brace (from_block_end x)
+          else (if b == semicolon then x else b ∷ x))
+      by true g =
+          at_block-ends text n rest x e (f ∙ ap (λ (c : ℕ). c ∷ x) (eqb-true b open_brace g))
       by false g =
           let is_semicolon : (b == semicolon) ≡ true =
           neither_one b (past-stops (is_neither semicolon open_brace) rest b x f) g in
@@ -213,4 +221,5 @@ module _ (edition : Edition) where
       by : (r : Reading (List ℕ)) → name edition text ≡ r
           → AtRuleEnds edition text (at_rule_rest_by_name r)
       by (fails fault left) e = at_fault fault left e
-      by (got n rest) e = at_end-ends text n rest e (past (is_neither semicolon open_brace) rest) refl
+      by (got n rest) e =
+          at_end-ends text n rest e (past (is_neither semicolon open_brace) rest) refl

@@ -143,7 +143,8 @@ part-editions text h = ap (λ (r : Option (List Component) × List ℕ). (r.0, p
 
 part_and_comma-editions : (text : List ℕ) → Shared text
     → part_and_comma first_edition text ≡ part_and_comma second_edition text
-part_and_comma-editions text h = ap (λ (r : Option (List Component) × List ℕ). if starts comma r.1 then
+part_and_comma-editions text h =
+    ap (λ (r : Option (List Component) × List ℕ). if starts comma r.1 then
     Some (r.0, past_one r.1) else None) (part-editions text h)
 
 parts-editions : (text : List ℕ) → Shared text

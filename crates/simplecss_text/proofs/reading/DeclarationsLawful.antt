@@ -53,7 +53,8 @@ pub single-low : (edition : Edition) (b : ℕ) (text : List ℕ)
 single-low first_edition b text e = grind (arith, nat_tests)
 single-low second_edition b text e = by (b == comma) (b == slash) refl refl e
   where
-    by : (x y : Bool) → (b == comma) ≡ x → (b == slash) ≡ y → (x || (y && not (starts asterisk text))) ≡ true
+    by : (x y : Bool) → (b == comma) ≡ x → (b == slash) ≡ y
+        → (x || (y && not (starts asterisk text))) ≡ true
         → b < 128
     by true y h k e = let same = eqb-true b comma h in omega arith
     by false true h k e = let same = eqb-true b slash k in omega arith
@@ -62,20 +63,24 @@ single-low second_edition b text e = by (b == comma) (b == slash) refl refl e
 arguments-lawful : (c : Bool) → Lawful c (λ edition. arguments) (λ edition. arguments)
 arguments-lawful c r s =
     owes-starts open_parenthesis (λ edition q e w. w.no_opening)
-    (λ e edition. shorter (after_byte close_parenthesis r) (after_byte-after close_parenthesis r) (starts-cons open_parenthesis r e))
+    (λ e edition. shorter (after_byte close_parenthesis r) (after_byte-after close_parenthesis r)
+    (starts-cons open_parenthesis r e))
     (λ e. record {
       left =
-          λ edition. well-closed close_parenthesis r ended (after_byte close_parenthesis r) (omega arith)
+          λ edition.
+          well-closed close_parenthesis r ended (after_byte close_parenthesis r) (omega arith)
           (after_byte-after close_parenthesis r);
       same = λ h. refl;
       guard = λ edition t u m v h. closed-diverge c t u close_parenthesis ended ended r s h;
     })
     (owes-give tt r s)
   where
-    shorter : (o : Option (List ℕ)) → IfAfter close_parenthesis r o → r ≡ open_parenthesis ∷ past_one r
+    shorter : (o : Option (List ℕ)) → IfAfter close_parenthesis r o
+        → r ≡ open_parenthesis ∷ past_one r
         → length (left_after (closed_or ended o)) < length r
     shorter None h e = omega (arith, ap length e)
-    shorter (Some rest) h e = omega (arith, ap length h.1, length-append h.0 (close_parenthesis ∷ rest))
+    shorter (Some rest) h e =
+        omega (arith, ap length h.1, length-append h.0 (close_parenthesis ∷ rest))
 
 past_hash-lawful : (c : Bool)
     → Lawful c (λ edition text. got (tt {0}) (past_hash (name edition text)))
@@ -144,7 +149,8 @@ pub term-cuts : (edition : Edition) (text : List ℕ) → Cuts text (term editio
 unfolding term
 term-cuts edition [] = omega arith
 term-cuts edition (b ∷ text) =
-    cuts-if (b ∷ text) (b == number_sign) _ _ (owes-cuts b (past_hash-lawful true text text) edition)
+    cuts-if (b ∷ text) (b == number_sign) _ _
+    (owes-cuts b (past_hash-lawful true text text) edition)
     (cuts-if (b ∷ text) (begins_number b) _ _
     (owes-cuts b (past_number-lawful true text text) edition)
     (cuts-so (b ∷ text) (is_quote b) _ _
@@ -270,7 +276,8 @@ TermPasses edition t a = length (left_after (term edition a)) ≤ length t
 after_term-step : (u v r : List ℕ) (Stuck : List ℕ → Type 0) (a b : Reading (Unit {0}))
     → Guard Equal true (close_brace ∷ (u ++ v)) (close_brace ∷ u) a b
     → (length (left_after a) ≤ length (u ++ v) → Stuck r)
-    → Step (Diverge (close_brace ∷ (u ++ v)) (close_brace ∷ u)) Stuck close_brace (u ++ v) u r (after_term a) (after_term b)
+    → Step (Diverge (close_brace ∷ (u ++ v)) (close_brace ∷ u)) Stuck close_brace (u ++ v) u r
+    (after_term a) (after_term b)
 after_term-step u v r Stuck (got x p) (got y q) (inl h) stuck =
     inl (omega (arith, length-past_blank p))
 after_term-step u v r Stuck (got x p) (fails f q) (inl h) stuck = omega (arith, length-past_blank p)
@@ -281,7 +288,8 @@ after_term-step u v r Stuck (got x p) (got y q) (inr h) stuck =
   where
     by : (c d : List ℕ) → To true (close_brace ∷ (u ++ v)) (close_brace ∷ u) c d
         → (length c ≤ length (u ++ v))
-        ⊎ (Diverge (close_brace ∷ (u ++ v)) (close_brace ∷ u) p q × Diverge (close_brace ∷ (u ++ v)) (close_brace ∷ u) c d)
+        ⊎ (Diverge (close_brace ∷ (u ++ v)) (close_brace ∷ u) p q
+        × Diverge (close_brace ∷ (u ++ v)) (close_brace ∷ u) c d)
     by c d (inl k) = inl k
     by c d (inr k) = inr (h.1, k)
 after_term-step u v r Stuck (got x p) (fails f q) (inr h) stuck = absurd h
@@ -290,17 +298,20 @@ after_term-step u v r Stuck (fails f p) (fails e q) (inr h) stuck = tt
 
 terms-repeats : (edition : Edition) (u v r s : List ℕ) → IsUtf8 r
     → Diverge (close_brace ∷ (u ++ v)) (close_brace ∷ u) r s
-    → Repeats (Diverge (close_brace ∷ (u ++ v)) (close_brace ∷ u)) (TermPasses edition (u ++ v)) close_brace (u ++ v) u
+    → Repeats (Diverge (close_brace ∷ (u ++ v)) (close_brace ∷ u))
+    (TermPasses edition (u ++ v)) close_brace (u ++ v) u
     (terms edition r) (terms edition s)
 terms-repeats edition u v r s w h =
-    each-repeats IsUtf8 (Diverge (close_brace ∷ (u ++ v)) (close_brace ∷ u)) (TermPasses edition (u ++ v)) close_brace
+    each-repeats IsUtf8 (Diverge (close_brace ∷ (u ++ v)) (close_brace ∷ u))
+    (TermPasses edition (u ++ v)) close_brace
     (u ++ v) u (term_in_value edition) (term_in_value-takes edition)
     (found-text (term_in_value edition) (term_in_value-well edition))
     (λ a b x k. after_term-step u v a (TermPasses edition (u ++ v)) (term edition a)
     (term edition b) (lawful-guarded term term (term-lawful true) edition u v a b x k) (λ l. l))
     (length r) r s (omega arith) w h
 
-last_or-diverge : (t u r s : List ℕ) (xs ys : List (List ℕ)) → Diverge (close_brace ∷ t) (close_brace ∷ u) r s
+last_or-diverge : (t u r s : List ℕ) (xs ys : List (List ℕ))
+    → Diverge (close_brace ∷ t) (close_brace ∷ u) r s
     → Pairs (Diverge (close_brace ∷ t) (close_brace ∷ u)) xs ys
     → Diverge (close_brace ∷ t) (close_brace ∷ u) (last_or r xs) (last_or s ys)
 last_or-diverge t u r s [] [] h p = h
@@ -336,9 +347,11 @@ value-lawful r s = record {
         (left_after o)) ((term-lawful true rest rest).same shared)
         ∙ ap (value_by second_edition r) (terms-editions r h)
 
-    by : (edition : Edition) (u v : List ℕ) → IsUtf8 r → Diverge (close_brace ∷ (u ++ v)) (close_brace ∷ u) r s
+    by : (edition : Edition) (u v : List ℕ) → IsUtf8 r
+        → Diverge (close_brace ∷ (u ++ v)) (close_brace ∷ u) r s
         → (a b : List (List ℕ) × List ℕ) → IsUtf8 a.1
-        → Repeats (Diverge (close_brace ∷ (u ++ v)) (close_brace ∷ u)) (TermPasses edition (u ++ v)) close_brace (u ++ v) u a
+        → Repeats (Diverge (close_brace ∷ (u ++ v)) (close_brace ∷ u))
+        (TermPasses edition (u ++ v)) close_brace (u ++ v) u a
         b → Guard Equal true (close_brace ∷ (u ++ v)) (close_brace ∷ u) (value_by edition r a)
         (value_by edition s b)
     by edition u v w h a b z (inl k) =
@@ -353,7 +366,8 @@ value-lawful r s = record {
         before-diverge (close_brace ∷ (u ++ v)) (close_brace ∷ u) r s _ _ h
         (last_or-diverge (u ++ v) u r s a.0 b.0 h k.0) in
         guard-got Equal true (close_brace ∷ (u ++ v)) (close_brace ∷ u) _ _ _ _ (ap trim same)
-        (left-to Equal (close_brace ∷ (u ++ v)) (close_brace ∷ u) (term edition a.1) (term edition b.1)
+        (left-to Equal (close_brace ∷ (u ++ v)) (close_brace ∷ u) (term edition a.1)
+        (term edition b.1)
         (lawful-guarded term term (term-lawful true) edition u v a.1 b.1 z k.1))
 
 -- ---- what follows a value
@@ -383,7 +397,8 @@ semicolon-step u v r s at = tt
 semicolon-step u v r s (on b r1 s1 h) = by (b == semicolon_byte)
   where
     inner : (c d : List ℕ) → To true (close_brace ∷ (u ++ v)) (close_brace ∷ u) c d
-        → Step {A = Unit {0}} Equal Never close_brace (u ++ v) u (b ∷ r1) (Some (tt, c)) (Some (tt, d))
+        → Step {A = Unit {0}} Equal Never close_brace (u ++ v) u (b ∷ r1) (Some (tt, c))
+        (Some (tt, d))
     inner c d (inl k) = inl k
     inner c d (inr k) = inr (refl, k)
 
@@ -391,10 +406,12 @@ semicolon-step u v r s (on b r1 s1 h) = by (b == semicolon_byte)
         → Step {A = Unit {0}} Equal Never close_brace (u ++ v) u (b ∷ r1)
         (if k then Some (tt, past_blank r1) else None)
         (if k then Some (tt, past_blank s1) else None)
-    by true = inner (past_blank r1) (past_blank s1) (past_blank-to close_brace u v brace_plain r1 s1 h)
+    by true =
+        inner (past_blank r1) (past_blank s1) (past_blank-to close_brace u v brace_plain r1 s1 h)
     by false = tt
 
-semicolons-guarded : (u v r s : List ℕ) → IsUtf8 r → Diverge (close_brace ∷ (u ++ v)) (close_brace ∷ u) r s
+semicolons-guarded : (u v r s : List ℕ) → IsUtf8 r
+    → Diverge (close_brace ∷ (u ++ v)) (close_brace ∷ u) r s
     → Guard Equal true (close_brace ∷ (u ++ v)) (close_brace ∷ u) (semicolons r) (semicolons s)
 semicolons-guarded u v r s w h =
     by (each semicolon r) (each semicolon s)
@@ -403,7 +420,8 @@ semicolons-guarded u v r s w h =
     (omega arith) w h)
   where
     by : (a b : List (Unit {0}) × List ℕ) → Repeats Equal Never close_brace (u ++ v) u a b
-        → Guard {A = Unit {0}} Equal true (close_brace ∷ (u ++ v)) (close_brace ∷ u) (got tt a.1) (got tt b.1)
+        → Guard {A = Unit {0}} Equal true (close_brace ∷ (u ++ v)) (close_brace ∷ u) (got tt a.1)
+        (got tt b.1)
     by a b (inl k) = inl k
     by a b (inr (inl k)) = absurd k
     by a b (inr (inr k)) = inr (refl, k.1)
@@ -424,7 +442,8 @@ NoBrace [] = Unit {0}
 NoBrace (c ∷ word) = (eqb c close_brace ≡ false) × NoBrace word
 
 -- a word without a brace is at both or at neither
-begins-diverge : (t u word : List ℕ) → NoBrace word → (r s : List ℕ) → Diverge (close_brace ∷ t) (close_brace ∷ u) r s
+begins-diverge : (t u word : List ℕ) → NoBrace word → (r s : List ℕ)
+    → Diverge (close_brace ∷ t) (close_brace ∷ u) r s
     → starts_with eqb r word ≡ starts_with eqb s word
 begins-diverge t u [] n r s h = refl
 begins-diverge t u (c ∷ word) n r s at = let e : eqb c close_brace ≡ false = n.0 in rw e refl

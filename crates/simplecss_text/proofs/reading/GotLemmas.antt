@@ -99,12 +99,16 @@ utf8-past_one whole text c low u e s =
 -- what is left after `*/` follows its `/`
 pub after_close-after : (text : List ℕ) → IfAfter slash text (after_close text)
 after_close-after [] = tt
-after_close-after (b ∷ text) = by (starts_two asterisk slash (b ∷ text)) refl (after_close-after text)
+after_close-after (b ∷ text) =
+    by (starts_two asterisk slash (b ∷ text)) refl (after_close-after text)
   where
-    by : (t : Bool) → starts_two asterisk slash (b ∷ text) ≡ t → IfAfter slash text (after_close text)
+    by : (t : Bool) → starts_two asterisk slash (b ∷ text) ≡ t
+        → IfAfter slash text (after_close text)
         → IfAfter slash (b ∷ text) (if t then Some (past_one text) else after_close text)
-    by true e more =
-        (b ∷ [], ap (λ l. b ∷ l) (starts-cons slash text (and_parts (b == asterisk) (starts slash text) e).1))
+    by true e more = (
+      b ∷ [],
+      ap (λ l. b ∷ l) (starts-cons slash text (and_parts (b == asterisk) (starts slash text) e).1),
+    )
     by false e more = follows-later slash b text (after_close text) more
 
 -- where something was taken off a text, this holds of it, and that of what is left

@@ -39,10 +39,12 @@ reports-if b c one other h k = by (b == c) refl
 
 kind_of_byte-reports : (b : ℕ) → Reports (kind_of_byte b) b
 kind_of_byte-reports b =
-    reports-if b comma Stop _ (λ e. tt) (reports-if b open_brace Stop _ (λ e. tt) (reports-if b slash Slash _ (λ e. e)
+    reports-if b comma Stop _ (λ e. tt)
+    (reports-if b open_brace Stop _ (λ e. tt) (reports-if b slash Slash _ (λ e. e)
     (reports-if b greater_than_sign Child _ (λ e. e) (reports-if b plus_sign Adjacent _ (λ e. e)
     (reports-if b asterisk Universal _ (λ e. e)
-    (reports-if b number_sign Id _ (λ e. e) (reports-if b full_stop Class _ (λ e. e) (reports-if b open_bracket Attribute _ (λ e. e)
+    (reports-if b number_sign Id _ (λ e. e)
+    (reports-if b full_stop Class _ (λ e. e) (reports-if b open_bracket Attribute _ (λ e. e)
     (reports-if b colon Colon Other (λ e. e) tt)))))))))
 
 -- only one byte has this kind

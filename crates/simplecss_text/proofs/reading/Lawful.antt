@@ -179,7 +179,8 @@ owes-past {r = r} {s = s} k low p =
 
 -- a choice by the ASCII byte that is next, which is consumed
 pub owes-sign : {A : Type 0} {k : Bool} {r s : List ℕ} {a b x y : Edition → Reading A} (n : ℕ)
-    → n < 128 → ((edition : Edition) (q : ℕ) → k ≡ false → ContinuesNothing edition q → (q == n) ≡ false)
+    → n < 128
+    → ((edition : Edition) (q : ℕ) → k ≡ false → ContinuesNothing edition q → (q == n) ≡ false)
     → Owes k (past_one r) (past_one s) a b → Owes k r s x y
     → Owes k r s (λ edition. if starts n r then a edition else x edition)
     (λ edition. if starts n s then b edition else y edition)
@@ -290,7 +291,8 @@ lawful-text m n p edition text = ((p text text).left edition).1
 
 -- in texts that part at a closing brace
 pub lawful-guarded : {A : Type 0} (m n : Edition → Reader A) → Lawful true m n
-    → (edition : Edition) (u v r s : List ℕ) → IsUtf8 r → Diverge (close_brace ∷ (u ++ v)) (close_brace ∷ u) r s
+    → (edition : Edition) (u v r s : List ℕ) → IsUtf8 r
+    → Diverge (close_brace ∷ (u ++ v)) (close_brace ∷ u) r s
     → Guard Equal true (close_brace ∷ (u ++ v)) (close_brace ∷ u) (m edition r) (n edition s)
 lawful-guarded m n p edition u v r s w h =
     (p r s).guard edition (close_brace ∷ (u ++ v)) (close_brace ∷ u) (at_brace u v) w h
@@ -331,9 +333,11 @@ past-lawful c test low ends r s =
 optional-guarded : (u v : List ℕ) (c : ℕ) → (close_brace == c) ≡ false → (r s : List ℕ)
     → Diverge (close_brace ∷ (u ++ v)) (close_brace ∷ u) r s
     → Guard Equal true (close_brace ∷ (u ++ v)) (close_brace ∷ u) (optional c r) (optional c s)
-optional-guarded u v c e r s h = by (past_byte-to (close_brace ∷ (u ++ v)) (close_brace ∷ u) c (rw e refl) r s h)
+optional-guarded u v c e r s h =
+    by (past_byte-to (close_brace ∷ (u ++ v)) (close_brace ∷ u) c (rw e refl) r s h)
   where
-    by : (length (past_byte c r) < length (close_brace ∷ (u ++ v))) ⊎ Diverge (close_brace ∷ (u ++ v)) (close_brace ∷ u)
+    by : (length (past_byte c r) < length (close_brace ∷ (u ++ v)))
+        ⊎ Diverge (close_brace ∷ (u ++ v)) (close_brace ∷ u)
         (past_byte c r) (past_byte c s)
         → Guard Equal true (close_brace ∷ (u ++ v)) (close_brace ∷ u) (optional c r) (optional c s)
     by (inl l) = inl (omega arith)

@@ -11,7 +11,8 @@ least-none p (suc n) fails =
     let rest : nat_lt (least p n) n ≡ false = le-ltb _ _ (omega arith) in
     simp (rest, here)
 
-pub least-is : (p : ℕ → Bool) (n k : ℕ) → k < n → p k ≡ true → ((j : ℕ) → j < k → p j ≡ false) → least p n ≡ k
+pub least-is : (p : ℕ → Bool) (n k : ℕ) → k < n → p k ≡ true → ((j : ℕ) → j < k → p j ≡ false)
+    → least p n ≡ k
 least-is p zero k h passes fails = absurd (omega arith)
 least-is p (suc n) k h passes fails =
     elim (split h) [
@@ -42,7 +43,9 @@ pub least-passes : (p : ℕ → Bool) (n : ℕ) → least p n < n → p (least p
 least-passes p zero h = absurd (omega arith)
 least-passes p (suc n) h = by (nat_lt (least p n) n) (p n) refl refl (least-passes p n) h
   where
-    by : (a b : Bool) → nat_lt (least p n) n ≡ a → p n ≡ b → (least p n < n → p (least p n) ≡ true) → (if a then least p n else (if b then n else suc n)) < suc n → p ((if a then least p n else (if b then n else suc n))) ≡ true
+    by : (a b : Bool) → nat_lt (least p n) n ≡ a → p n ≡ b → (least p n < n → p (least p n) ≡ true)
+        → (if a then least p n else (if b then n else suc n)) < suc n
+        → p ((if a then least p n else (if b then n else suc n))) ≡ true
     by true b e f ih h = ih (ltb-true _ _ e)
     by false true e f ih h = f
     by false false e f ih h = absurd (omega arith)
@@ -51,7 +54,8 @@ pub least-before : (p : ℕ → Bool) (n j : ℕ) → j < least p n → p j ≡ 
 least-before p zero j h = absurd (omega arith)
 least-before p (suc n) j h = by (nat_lt (least p n) n) (p n) refl refl (least-before p n j) h
   where
-    by : (a b : Bool) → nat_lt (least p n) n ≡ a → p n ≡ b → (j < least p n → p j ≡ false) → j < (if a then least p n else (if b then n else suc n)) → p j ≡ false
+    by : (a b : Bool) → nat_lt (least p n) n ≡ a → p n ≡ b → (j < least p n → p j ≡ false)
+        → j < (if a then least p n else (if b then n else suc n)) → p j ≡ false
     by true b e f ih h = ih h
     by false true e f ih h = ih (omega (arith, ltb-false (least p n) n e))
     by false false e f ih h =

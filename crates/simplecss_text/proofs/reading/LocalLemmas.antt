@@ -35,7 +35,8 @@ pub record ContinuesNothing (edition : Edition) (q : ℕ) : Type 0 where
 quiet-by : {q : ℕ} → q < 128 → is_name_char first_edition q ≡ false
     → is_name_char second_edition q ≡ false → is_name_start first_edition q ≡ false
     → is_name_start second_edition q ≡ false → is_digit q ≡ false → is_hex_digit q ≡ false
-    → (q == full_stop) ≡ false → (q == percent_sign) ≡ false → (q == open_parenthesis) ≡ false → (q == asterisk) ≡ false
+    → (q == full_stop) ≡ false → (q == percent_sign) ≡ false → (q == open_parenthesis) ≡ false
+    → (q == asterisk) ≡ false
     → (q == hyphen) ≡ false → (edition : Edition) → ContinuesNothing edition q
 quiet-by low c d s e digit hex point percent opening star not_hyphen first_edition = record {
   low = low;
@@ -210,7 +211,8 @@ starts-seam c t u n other (at_quiet _ q more w z) r s at = by (starts n t) refl
 
 -- where both part at a brace
 pub at-brace : {edition : Edition} (P : List ℕ → List ℕ → Type 0)
-    → ((u v : List ℕ) → P (close_brace ∷ (u ++ v)) (close_brace ∷ u)) → (t u : List ℕ) → Seam edition true t u
+    → ((u v : List ℕ) → P (close_brace ∷ (u ++ v)) (close_brace ∷ u)) → (t u : List ℕ)
+    → Seam edition true t u
     → P t u
 at-brace P h t u (at_brace x y) = h x y
 
@@ -265,7 +267,8 @@ past-same g t u test = by (test g) refl
     by true e = rw (e, one-add (prefix_len test t)) (inl (length-past test t))
     by false e = rw e (inr at)
 
-pub past-both : (g : ℕ) (t u : List ℕ) (test : ℕ → Bool) (r s : List ℕ) → Diverge (g ∷ t) (g ∷ u) r s
+pub past-both : (g : ℕ) (t u : List ℕ) (test : ℕ → Bool) (r s : List ℕ)
+    → Diverge (g ∷ t) (g ∷ u) r s
     → To true (g ∷ t) (g ∷ u) (past test r) (past test s)
 past-both g t u test r s h = past-to true (g ∷ t) (g ∷ u) test (past-same g t u test) r s h
 
@@ -307,7 +310,8 @@ drop-to g t u (suc n) r s (on b r1 s1 h) = drop-to g t u n r1 s1 h
 
 -- ---- lengths and fronts
 
-pub length-diverge : (t u r s : List ℕ) → Diverge t u r s → length r + length u ≡ length s + length t
+pub length-diverge : (t u r s : List ℕ) → Diverge t u r s
+    → length r + length u ≡ length s + length t
 length-diverge t u r s at = omega arith
 length-diverge t u r s (on b r1 s1 h) = omega (arith, length-diverge t u r1 s1 h)
 
@@ -361,7 +365,8 @@ diverge-append g u v r s (on b r1 s1 h) = ap (λ (x : List ℕ). b ∷ x) (diver
 
 -- a value with what is left: what is left follows the brace, or both are alike
 abbrev pub Same : {A : Type 0} → List ℕ → List ℕ → A × List ℕ → A × List ℕ → Type 0
-Same t u a b = (length a.1 ≤ length t) ⊎ ((a.0 ≡ b.0) × Diverge (close_brace ∷ t) (close_brace ∷ u) a.1 b.1)
+Same t u a b =
+    (length a.1 ≤ length t) ⊎ ((a.0 ≡ b.0) × Diverge (close_brace ∷ t) (close_brace ∷ u) a.1 b.1)
 
 -- each item of one list with that of the other
 abbrev pub Pairs : {A : Type 0} → (A → A → Type 0) → List A → List A → Type 0

@@ -238,7 +238,8 @@ name-seam {edition = edition} c t u seam r s some v h =
     name-by edition c t u r s some (names-seam c t u seam r s v h)
 
 -- at the same byte
-pub name-same : (edition : Edition) (g : ℕ) (t u : List ℕ) → ContinuesNothing edition g → (r s : List ℕ)
+pub name-same : (edition : Edition) (g : ℕ) (t u : List ℕ) → ContinuesNothing edition g
+    → (r s : List ℕ)
     → IsUtf8 r → Diverge (g ∷ t) (g ∷ u) r s
     → Guard Equal true (g ∷ t) (g ∷ u) (name edition r) (name edition s)
 name-same edition g t u w r s v h =

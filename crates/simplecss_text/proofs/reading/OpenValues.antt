@@ -1,5 +1,6 @@
 -- What a declaration skips of its value, and what a block then skips.
--- Serves `consume_declarations` (what it reports), `laws::skips_are_cut` and `laws::nothing_is_lost`.
+-- Serves `consume_declarations` (what it reports), `laws::skips_are_cut` and
+-- `laws::nothing_is_lost`.
 use Rattle.std.proofs.Common.{◌≡◌, ◌⊎◌, ◌<◌, ◌≤◌, ◌==◌, ◌||◌, ℕ, zero, suc, Bool, true, false, not, List, [], ◌∷◌, ◌++◌, if◌then◌else◌, ap, arith, inl, inr, length, refl, subst, sym, ◌∙◌, Some, None}
 use Rattle.simplecss_text.specs.Reading.{Reading, no_value, got, fails, Ends, each, follow, found, left_after}
 use Rattle.simplecss_text.specs.Characters.{Edition}
@@ -68,7 +69,8 @@ stated_value-ended edition property text rest p =
     by (b ∷ t) e h = absurd (cc)
     by [] e h = is (length (stated false).value == 0) h
       where
-        is : (k : Bool) → (if k then fails (no_value text) [] else got (stated false) []) ≡ got p rest
+        is : (k : Bool)
+            → (if k then fails (no_value text) [] else got (stated false) []) ≡ got p rest
             → rest ≡ []
         is true f = absurd (cc)
         is false f = cc

@@ -59,7 +59,8 @@ attribute_operator-lawful =
     (owes-so (b == tilde) _ _
     (λ e. owes-past b (omega (arith, eqb-true b tilde e)) (equated-lawful has_word r s)) (λ f.
     owes-so (b == vertical_bar) _ _
-    (λ e. owes-past b (omega (arith, eqb-true b vertical_bar e)) (equated-lawful begins_with r s)) (λ g.
+    (λ e. owes-past b (omega (arith, eqb-true b vertical_bar e)) (equated-lawful begins_with r s))
+    (λ g.
     owes-fails no_attribute_form no_attribute_form (b ∷ r) (b ∷ s))))))
 
 attribute_after-lawful : Lawful true attribute_after attribute_after
@@ -86,9 +87,11 @@ all_before-lawful c low r s = record {
   where
     by : (u v : List ℕ) → Diverge (close_brace ∷ (u ++ v)) (close_brace ∷ u) r s → (x y : List ℕ)
         → To true (close_brace ∷ (u ++ v)) (close_brace ∷ u) x y
-        → Guard Equal true (close_brace ∷ (u ++ v)) (close_brace ∷ u) (got (before r x) x) (got (before s y) y)
+        → Guard Equal true (close_brace ∷ (u ++ v)) (close_brace ∷ u) (got (before r x) x)
+        (got (before s y) y)
     by u v h x y (inl l) = inl l
-    by u v h x y (inr k) = inr (before-diverge (close_brace ∷ (u ++ v)) (close_brace ∷ u) r s x y h k, k)
+    by u v h x y (inr k) =
+        inr (before-diverge (close_brace ∷ (u ++ v)) (close_brace ∷ u) r s x y h k, k)
 
 lang_of-lawful : (value : List ℕ)
     → Lawful true (λ edition. lang_of value) (λ edition. lang_of value)
@@ -101,7 +104,8 @@ unfolding lang_after
 lang_after-lawful r s =
     owes-follow _ _ (byte-lawful open_parenthesis (omega arith) r s) (λ u r s.
     owes-follow _ _ (all_before-lawful close_parenthesis (omega arith) r s) (λ value r s.
-    owes-follow _ _ (byte-lawful close_parenthesis (omega arith) r s) (λ u. lang_of-lawful (trim value))))
+    owes-follow _ _ (byte-lawful close_parenthesis (omega arith) r s)
+    (λ u. lang_of-lawful (trim value))))
 
 pseudo_class_after-lawful : Lawful true pseudo_class_after pseudo_class_after
 unfolding pseudo_class_after
@@ -176,7 +180,8 @@ gap_of-to t u a b (inl l) = inl (by (opens_comment a.1))
     by false = l
 gap_of-to t u a b (inr (inl k)) = absurd k
 gap_of-to t u a b (inr (inr k)) =
-    by (opens_comment a.1) (opens_comment b.1) (opens_comment-diverge close_brace t u brace_plain a.1 b.1 k.1)
+    by (opens_comment a.1) (opens_comment b.1)
+    (opens_comment-diverge close_brace t u brace_plain a.1 b.1 k.1)
   where
     spaces : list_any (λ is_space_byte. is_space_byte) a.0 ≡ list_any
         (λ is_space_byte. is_space_byte) b.0

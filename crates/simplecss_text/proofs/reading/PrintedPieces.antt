@@ -46,8 +46,10 @@ from_quote-clean previous (b ∷ v) tail c l =
   where
     by : (q p : Bool) → (b == single_quote) ≡ q → (previous == backslash) ≡ p
         → ((not q || p) && escaped_after b v) ≡ true
-        → (escaped_after b v ≡ true → from_quote single_quote b (v ++ (single_quote ∷ tail)) ≡ Some (single_quote ∷ tail))
-        → from_quote single_quote previous (b ∷ (v ++ (single_quote ∷ tail))) ≡ Some (single_quote ∷ tail)
+        → (escaped_after b v ≡ true
+        → from_quote single_quote b (v ++ (single_quote ∷ tail)) ≡ Some (single_quote ∷ tail))
+        → from_quote single_quote previous (b ∷ (v ++ (single_quote ∷ tail)))
+        ≡ Some (single_quote ∷ tail)
     by true true eq ep h more = rw (eq, ep) (more h)
     by true false eq ep h more = absurd (cc)
     by false p eq ep h more = rw eq (more h)
@@ -60,7 +62,8 @@ record CutShort (previous : ℕ) (v tail : List ℕ) : Type 0 where
   pub closes : from_quote single_quote previous (v ++ tail) ≡ Some (single_quote ∷ (more ++ tail))
 
 cut_later : (previous b : ℕ) (v tail : List ℕ)
-    → from_quote single_quote previous (b ∷ (v ++ tail)) ≡ from_quote single_quote b (v ++ tail) → CutShort b v tail
+    → from_quote single_quote previous (b ∷ (v ++ tail)) ≡ from_quote single_quote b (v ++ tail)
+    → CutShort b v tail
     → CutShort previous (b ∷ v) tail
 cut_later previous b v tail e s =
     record { front = b ∷ s.front; more = s.more; is = ap (λ l. b ∷ l) s.is; closes = e ∙ s.closes }
@@ -105,16 +108,20 @@ IsOperator (has_word value) = IsValue value
 IsOperator (begins_with value) = IsValue value
 
 -- the closing quote and the closing bracket
-pub quoted : (v tail : List ℕ) → (v ++ (single_quote ∷ [])) ++ (close_bracket ∷ tail) ≡ v ++ (single_quote ∷ (close_bracket ∷ tail))
+pub quoted : (v tail : List ℕ)
+    → (v ++ (single_quote ∷ [])) ++ (close_bracket ∷ tail)
+    ≡ v ++ (single_quote ∷ (close_bracket ∷ tail))
 quoted v tail = append_assoc v (single_quote ∷ []) (close_bracket ∷ tail)
 
 -- no name continues with it
 pub operator-ends : (edition : Edition) (o : Operator) (tail : List ℕ)
     → ends_names edition (operator_text o ++ (close_bracket ∷ tail)) ≡ false
 operator-ends edition exists tail = ends_names-byte edition close_bracket _ (omega arith) refl refl
-operator-ends edition (equals v) tail = ends_names-byte edition equals_sign _ (omega arith) refl refl
+operator-ends edition (equals v) tail =
+    ends_names-byte edition equals_sign _ (omega arith) refl refl
 operator-ends edition (has_word v) tail = ends_names-byte edition tilde _ (omega arith) refl refl
-operator-ends edition (begins_with v) tail = ends_names-byte edition vertical_bar _ (omega arith) refl refl
+operator-ends edition (begins_with v) tail =
+    ends_names-byte edition vertical_bar _ (omega arith) refl refl
 
 -- a language, without white space round it and without a closing parenthesis
 pub record IsLanguage (v : List ℕ) : Type 0 where
@@ -124,16 +131,20 @@ pub record IsLanguage (v : List ℕ) : Type 0 where
 
 -- all up to the first closing parenthesis
 all_before-reads : (v tail : List ℕ) → list_all (λ b. not (b == close_parenthesis)) v ≡ true
-    → all_before close_parenthesis (v ++ (close_parenthesis ∷ tail)) ≡ got v (close_parenthesis ∷ tail)
+    → all_before close_parenthesis (v ++ (close_parenthesis ∷ tail))
+    ≡ got v (close_parenthesis ∷ tail)
 all_before-reads v tail h =
-    let n = prefix_len-append (λ b. not (b == close_parenthesis)) v (close_parenthesis ∷ tail) h refl in
-    let left : drop (length v) (v ++ (close_parenthesis ∷ tail)) ≡ close_parenthesis ∷ tail = drop-append_seam v (close_parenthesis ∷ tail) in
+    let n =
+    prefix_len-append (λ b. not (b == close_parenthesis)) v (close_parenthesis ∷ tail) h refl in
+    let left : drop (length v) (v ++ (close_parenthesis ∷ tail)) ≡ close_parenthesis ∷ tail =
+    drop-append_seam v (close_parenthesis ∷ tail) in
     let value = before-append v (close_parenthesis ∷ tail) in
     rw (n, left, value) refl
 
 -- a language is read back
 lang-reads : (v tail : List ℕ) → IsLanguage v
-    → lang_after (open_parenthesis ∷ (v ++ (close_parenthesis ∷ tail))) ≡ got (lang_pseudo_class v) tail
+    → lang_after (open_parenthesis ∷ (v ++ (close_parenthesis ∷ tail)))
+    ≡ got (lang_pseudo_class v) tail
 unfolding lang_after
 lang-reads v tail w =
     let next : List ℕ → List ℕ → Reading Token =
@@ -175,11 +186,13 @@ class_token active = named_pseudo_class (codes "active")
 class_token focus = named_pseudo_class (codes "focus")
 class_token (lang v) = lang_pseudo_class v
 
-open_ends : (edition : Edition) (text : List ℕ) → ends_names edition (open_parenthesis ∷ text) ≡ false
+open_ends : (edition : Edition) (text : List ℕ)
+    → ends_names edition (open_parenthesis ∷ text) ≡ false
 open_ends edition text = ends_names-byte edition open_parenthesis text (omega arith) refl refl
 
 closed : (v tail : List ℕ)
-    → (codes "lang(" ++ (v ++ codes ")")) ++ tail ≡ codes "lang" ++ (open_parenthesis ∷ (v ++ (close_parenthesis ∷ tail)))
+    → (codes "lang(" ++ (v ++ codes ")")) ++ tail
+    ≡ codes "lang" ++ (open_parenthesis ∷ (v ++ (close_parenthesis ∷ tail)))
 closed v tail = ap (λ l. codes "lang(" ++ l) (append_assoc v (codes ")") tail)
 
 -- what a subselector that was read satisfies
@@ -208,8 +221,10 @@ printed_token-role (attribute n o) = refl
 printed_token-role (pseudo_class class) = class-role class
 
 -- a printed attribute, part by part
-pub bracketed : (n o tail : List ℕ) → ((n ++ o) ++ (close_bracket ∷ [])) ++ tail ≡ n ++ (o ++ (close_bracket ∷ tail))
-bracketed n o tail = append_assoc (n ++ o) (close_bracket ∷ []) tail ∙ append_assoc n o (close_bracket ∷ tail)
+pub bracketed : (n o tail : List ℕ)
+    → ((n ++ o) ++ (close_bracket ∷ [])) ++ tail ≡ n ++ (o ++ (close_bracket ∷ tail))
+bracketed n o tail =
+    append_assoc (n ++ o) (close_bracket ∷ []) tail ∙ append_assoc n o (close_bracket ∷ tail)
 
 module _ (edition : Edition) where
   -- a clean value is read back between apostrophes
@@ -239,13 +254,15 @@ module _ (edition : Edition) where
   -- an equals sign and a clean value are read back
   equated-reads : (operator : List ℕ → Operator) (v tail : List ℕ) → IsValue v
       → escaped_after 0 v ≡ true → equated edition operator
-      (equals_sign ∷ (single_quote ∷ ((v ++ (single_quote ∷ [])) ++ (close_bracket ∷ tail)))) ≡ got (operator v) (close_bracket ∷ tail)
+      (equals_sign ∷ (single_quote ∷ ((v ++ (single_quote ∷ [])) ++ (close_bracket ∷ tail))))
+      ≡ got (operator v) (close_bracket ∷ tail)
   equated-reads operator v tail l c =
       let s = string-reads v (close_bracket ∷ tail) l c in rw (quoted v tail, s) refl
 
   -- so is what is required of an attribute
   operator-reads : (o : Operator) (tail : List ℕ) → IsOperator o → is_clean_operator o ≡ true
-      → attribute_operator edition (operator_text o ++ (close_bracket ∷ tail)) ≡ got o (close_bracket ∷ tail)
+      → attribute_operator edition (operator_text o ++ (close_bracket ∷ tail))
+      ≡ got o (close_bracket ∷ tail)
   unfolding attribute_operator
   operator-reads exists tail w c = refl
   operator-reads (equals v) tail w c = equated-reads equals v tail w c
@@ -254,12 +271,14 @@ module _ (edition : Edition) where
 
   -- so is a clean attribute after its bracket
   attribute-reads : (n : List ℕ) (o : Operator) (tail : List ℕ) → IsName edition n → IsOperator o
-      → is_clean_operator o ≡ true → attribute_after edition (n ++ (operator_text o ++ (close_bracket ∷ tail)))
+      → is_clean_operator o ≡ true
+      → attribute_after edition (n ++ (operator_text o ++ (close_bracket ∷ tail)))
       ≡ got (attribute_selector n o) tail
   unfolding attribute_after
   attribute-reads n o tail w x c =
       let first =
-      name-reads edition n (operator_text o ++ (close_bracket ∷ tail)) w (operator-ends edition o tail) in
+      name-reads edition n (operator_text o ++ (close_bracket ∷ tail)) w
+      (operator-ends edition o tail) in
       let second = operator-reads o tail x c in
       rw (first, second) refl
 
@@ -271,12 +290,14 @@ module _ (edition : Edition) where
       ap (λ r. follow r pseudo_class_named) (name-reads edition n tail w s) ∙ rw l refl
 
   lang_class-reads : (v tail : List ℕ) → IsLanguage v
-      → pseudo_class_after edition (codes "lang" ++ (open_parenthesis ∷ (v ++ (close_parenthesis ∷ tail))))
+      → pseudo_class_after edition
+      (codes "lang" ++ (open_parenthesis ∷ (v ++ (close_parenthesis ∷ tail))))
       ≡ got (lang_pseudo_class v) tail
   unfolding pseudo_class_after
   lang_class-reads v tail w =
       ap (λ r. follow r pseudo_class_named)
-      (name-reads edition (codes "lang") (open_parenthesis ∷ (v ++ (close_parenthesis ∷ tail))) (lang_name edition)
+      (name-reads edition (codes "lang") (open_parenthesis ∷ (v ++ (close_parenthesis ∷ tail)))
+      (lang_name edition)
       (open_ends edition (v ++ (close_parenthesis ∷ tail)))) ∙ lang-reads v tail w
 
   -- a pseudo-class is read back
@@ -300,11 +321,13 @@ module _ (edition : Edition) where
       ap (pseudo_class_after edition) (closed v tail) ∙ lang_class-reads v tail w
 
   -- a bracket begins an attribute, and a colon a pseudo-class
-  pub solid-attribute : (text : List ℕ) → solid edition (open_bracket ∷ text) ≡ attribute_after edition text
+  pub solid-attribute : (text : List ℕ)
+      → solid edition (open_bracket ∷ text) ≡ attribute_after edition text
   unfolding solid next_kind
   solid-attribute text = refl
 
-  solid-pseudo_class : (text : List ℕ) → solid edition (colon ∷ text) ≡ pseudo_class_after edition text
+  solid-pseudo_class : (text : List ℕ)
+      → solid edition (colon ∷ text) ≡ pseudo_class_after edition text
   unfolding solid next_kind
   solid-pseudo_class text = refl
 

@@ -57,7 +57,8 @@ from_quote-closes quote previous (b ∷ text) =
         record { front = []; following = text; closing_is = same; is = same; open_end = known.1 }
     by false h more = closes-later quote previous b text (from_quote quote b text) more
 
-quote_start : (quote : ℕ) (front : List ℕ) → (last_after quote front == backslash) ≡ false → IsValue front
+quote_start : (quote : ℕ) (front : List ℕ) → (last_after quote front == backslash) ≡ false
+    → IsValue front
 quote_start quote [] h = refl
 quote_start quote (b ∷ front) h = h
 

@@ -23,7 +23,8 @@ last_split : (b : ℕ) (v : List ℕ) → (last_after b v == backslash) ≡ true
 last_split b [] e = ([], ap (λ k. k ∷ []) (eqb-true b backslash e))
 last_split b (d ∷ v) e = let more = last_split d v e in (b ∷ more.0, ap (λ l. b ∷ l) more.1)
 
-no_backslash : (edition : Edition) (a : Bool) → (a && (is_name_char edition backslash && true)) ≡ true → ⊥
+no_backslash : (edition : Edition) (a : Bool)
+    → (a && (is_name_char edition backslash && true)) ≡ true → ⊥
 no_backslash first_edition true h = absurd (cc)
 no_backslash first_edition false h = absurd (cc)
 no_backslash second_edition true h = absurd (cc)
@@ -41,7 +42,8 @@ module _ (edition : Edition) where
       let letters : w.letters ≡ chars front ++ (backslash ∷ []) =
       sym (chars-encodes w.letters w.scalars) ∙ ap chars w.spell ∙ ap chars e
       ∙ chars-append front (backslash ∷ []) f
-      ∙ ap (λ l. chars front ++ l) (chars-byte backslash [] (omega arith) ∙ ap (λ l. backslash ∷ l) chars-nil) in
+      ∙ ap (λ l. chars front ++ l)
+      (chars-byte backslash [] (omega arith) ∙ ap (λ l. backslash ∷ l) chars-nil) in
       let all =
       sym (list_all-append (is_name_char edition) (chars front) (backslash ∷ []))
       ∙ sym (ap (list_all (is_name_char edition)) letters) ∙ w.pass in

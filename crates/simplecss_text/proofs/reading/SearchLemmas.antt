@@ -22,7 +22,8 @@ FindsAlike t u (Some a) p = (length a < length t) ⊎ ((b : List ℕ) × (p ≡ 
 
 finds-within : (t u : List ℕ) (o p : Option (List ℕ)) → IfAfter slash_byte t o → FindsAlike t u o p
 finds-within t u None p h = tt
-finds-within t u (Some a) p h = inl (omega (arith, ap length h.1, length-append h.0 (slash_byte ∷ a)))
+finds-within t u (Some a) p h =
+    inl (omega (arith, ap length h.1, length-append h.0 (slash_byte ∷ a)))
 
 -- the end of a comment
 pub close-diverge : (t u r s : List ℕ) → Diverge t u r s
@@ -33,7 +34,8 @@ close-diverge t u r s (on b r1 s1 at) = by (starts_two asterisk slash_byte (b �
     by : (k : Bool) → starts_two asterisk slash_byte (b ∷ t) ≡ k
         → FindsAlike t u (if k then Some (past_one t) else after_close t) (after_close (b ∷ u))
     by true e =
-        inl (let there = starts-cons slash_byte t (and_parts (b == asterisk) (starts slash_byte t) e).1 in omega
+        inl (let there =
+        starts-cons slash_byte t (and_parts (b == asterisk) (starts slash_byte t) e).1 in omega
         (arith, ap length there))
     by false e = finds-within t u (after_close t) (after_close (b ∷ u)) (after_close-after t)
 close-diverge t u r s (on b r1 s1 (on c r2 s2 h)) =
@@ -56,7 +58,8 @@ and_front false b c h e = refl
 -- what is not closed in a text is not closed in its front
 close_front : (u v : List ℕ) → after_close (u ++ v) ≡ None → after_close u ≡ None
 close_front [] v e = refl
-close_front (b ∷ u) v e = by (starts_two asterisk slash_byte (b ∷ (u ++ v))) (close_front u v) refl e
+close_front (b ∷ u) v e =
+    by (starts_two asterisk slash_byte (b ∷ (u ++ v))) (close_front u v) refl e
   where
     by : (k : Bool) → (after_close (u ++ v) ≡ None → after_close u ≡ None)
         → starts_two asterisk slash_byte (b ∷ (u ++ v)) ≡ k
@@ -65,7 +68,8 @@ close_front (b ∷ u) v e = by (starts_two asterisk slash_byte (b ∷ (u ++ v)))
     by true ih f h = absurd (cc)
     by false ih f h =
         let here : starts_two asterisk slash_byte (b ∷ u) ≡ false =
-        and_front (b == asterisk) (starts slash_byte (u ++ v)) (starts slash_byte u) (starts_front slash_byte u v) f in
+        and_front (b == asterisk) (starts slash_byte (u ++ v)) (starts slash_byte u)
+        (starts_front slash_byte u v) f in
         rw here (ih h)
 
 -- a byte that is no part of a blank
@@ -166,7 +170,8 @@ opens_comment-diverge g t u p r s (on b r1 s1 h) =
 pub blank-guarded : (u v r s : List ℕ) → Diverge (close_brace ∷ (u ++ v)) (close_brace ∷ u) r s
     → Guard Equal true (close_brace ∷ (u ++ v)) (close_brace ∷ u) (blank r) (blank s)
 unfolding blank
-blank-guarded u v r s h = by (past_blank r) (past_blank s) (past_blank-to close_brace u v brace_plain r s h)
+blank-guarded u v r s h =
+    by (past_blank r) (past_blank s) (past_blank-to close_brace u v brace_plain r s h)
   where
     either : (k : Bool) (a : List ℕ) → length a ≤ length (u ++ v)
         → length (left_after {A = Unit {0}} (if k then fails (no_comment a) [] else got tt a)) ≤
@@ -180,8 +185,10 @@ blank-guarded u v r s h = by (past_blank r) (past_blank s) (past_blank-to close_
         (if opens_comment b then fails (no_comment b) [] else got tt b)
     by a b (inl k) = inl (either (opens_comment a) a k)
     by a b (inr k) =
-        guard-if Equal true (close_brace ∷ (u ++ v)) (close_brace ∷ u) (opens_comment a) (opens_comment b) _ _ _ _
-        (opens_comment-diverge close_brace (u ++ v) u brace_plain a b k) (inl (omega arith)) (inr (refl, k))
+        guard-if Equal true (close_brace ∷ (u ++ v)) (close_brace ∷ u) (opens_comment a)
+        (opens_comment b) _ _ _ _
+        (opens_comment-diverge close_brace (u ++ v) u brace_plain a b k) (inl (omega arith))
+        (inr (refl, k))
 
 -- ---- what a byte closes
 
@@ -194,7 +201,8 @@ closed-passed c t k fault (Some rest) h =
     passed-beyond c t (got tt rest)
     (beyond-less c t rest (omega (arith, ap length h.1, length-append h.0 (k ∷ rest))))
 
-pub closed-diverge : (c : Bool) (t u : List ℕ) (k : ℕ) (f e : Fault) (r s : List ℕ) → Diverge t u r s
+pub closed-diverge : (c : Bool) (t u : List ℕ) (k : ℕ) (f e : Fault) (r s : List ℕ)
+    → Diverge t u r s
     → Guard Equal c t u (closed_or f (after_byte k r)) (closed_or e (after_byte k s))
 closed-diverge c t u k f e r s at =
     inl (closed-passed c t k f (after_byte k t) (after_byte-after k t))
@@ -226,7 +234,8 @@ string-diverge c t u whole other w quote previous r s at =
     inl (string-passed c t whole quote previous (from_quote quote previous t)
     (from_quote-closes quote previous t))
 string-diverge c t u whole other w quote previous r s (on b r1 s1 h) =
-    by (b == quote && not (previous == backslash)) (string-diverge c t u whole other w quote b r1 s1 h)
+    by (b == quote && not (previous == backslash))
+    (string-diverge c t u whole other w quote b r1 s1 h)
   where
     by : (j : Bool)
         → Guard Equal c t u (string_up_to whole (from_quote quote b r1))

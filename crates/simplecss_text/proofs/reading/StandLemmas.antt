@@ -91,7 +91,8 @@ equated-stands : (edition : Edition) (operator : List ℕ → Operator)
     → ((value : List ℕ) → operator_texts (operator value) ≡ itself value) → (text : List ℕ)
     → Stands text operator_texts (equated edition operator text)
 equated-stands edition operator is text =
-    stands-follow text no_texts operator_texts (byte equals_sign text) _ (byte-stands equals_sign text) (λ u rest e h.
+    stands-follow text no_texts operator_texts (byte equals_sign text) _
+    (byte-stands equals_sign text) (λ u rest e h.
     stands-from text rest operator_texts _ h
     (stands-follow rest itself operator_texts (string_or_name edition rest)
     (λ value. got (operator value)) (string_or_name-stands edition rest) (λ value last f k.
@@ -121,7 +122,8 @@ attribute_after-stands edition text =
     (λ n rest e h.
     stands-then text rest (itself n) operator_texts token_texts (attribute_operator edition rest) _
     h (attribute_operator-stands edition rest) (λ operator next f k.
-    stands-then text next (n ∷ operator_texts operator) no_texts token_texts (byte close_bracket next)
+    stands-then text next (n ∷ operator_texts operator) no_texts token_texts
+    (byte close_bracket next)
     (λ u. got (attribute_selector n operator)) k (byte-stands close_bracket next) (λ u last g l.
     record { at = subst (StandBetween text last) (append-nil (n ∷ operator_texts operator)) l })))
 
@@ -207,8 +209,10 @@ language-stands text u =
     let k = prefix_len (λ b. not (b == close_parenthesis)) text in
     let same : before text (past (λ b. not (b == close_parenthesis)) text) ≡ take k text =
     ap (λ n. take n text)
-    (omega (arith, length-drop k text, prefix_len-le-length (λ b. not (b == close_parenthesis)) text)) in
-    stand-trim text (past (λ b. not (b == close_parenthesis)) text) (ends-past (λ b. not (b == close_parenthesis)) text)
+    (omega
+    (arith, length-drop k text, prefix_len-le-length (λ b. not (b == close_parenthesis)) text)) in
+    stand-trim text (past (λ b. not (b == close_parenthesis)) text)
+    (ends-past (λ b. not (b == close_parenthesis)) text)
     (subst IsUtf8 (sym same) (utf8-before text close_parenthesis (omega arith) u))
 
 -- ---- pieces
@@ -221,7 +225,8 @@ pub record Sees (Good : List ℕ → Type 0) (texts : Token → List (List ℕ))
   pub seen : (text : List ℕ) (r : Reading Token) → Stands text token_texts r → Stands text texts r
   pub language : (text : List ℕ) → Good text
       → StandBetween text (past (λ b. not (b == close_parenthesis)) text)
-      (texts (lang_pseudo_class (trim (before text (past (λ b. not (b == close_parenthesis)) text)))))
+      (texts
+      (lang_pseudo_class (trim (before text (past (λ b. not (b == close_parenthesis)) text)))))
 
 -- any text
 abbrev pub Any : List ℕ → Type 0
@@ -255,16 +260,19 @@ lang_after-stands : {Good : List ℕ → Type 0} {texts : Token → List (List �
     → (text : List ℕ) → Good text → Stands text texts (lang_after text)
 unfolding lang_after
 lang_after-stands {Good = Good} {texts = texts} sees text good =
-    stands-follow text no_texts texts (byte open_parenthesis text) _ (byte-stands open_parenthesis text) (λ u rest e h.
+    stands-follow text no_texts texts (byte open_parenthesis text) _
+    (byte-stands open_parenthesis text) (λ u rest e h.
     let end = past (λ b. not (b == close_parenthesis)) rest in
     let value = trim (before rest end) in
     let opened : Ends text (open_parenthesis ∷ rest) =
-    subst (λ (t : List ℕ). Ends t (open_parenthesis ∷ rest)) (sym (byte-is open_parenthesis text rest u e))
+    subst (λ (t : List ℕ). Ends t (open_parenthesis ∷ rest))
+    (sym (byte-is open_parenthesis text rest u e))
     (ends-same (open_parenthesis ∷ rest)) in
     let front : StandBetween text end (texts (lang_pseudo_class value)) =
     stand-from text rest end _ h
     (sees.language rest (sees.following text rest open_parenthesis (omega arith) good opened)) in
-    stands-then text end (texts (lang_pseudo_class value)) no_texts texts (byte close_parenthesis end)
+    stands-then text end (texts (lang_pseudo_class value)) no_texts texts
+    (byte close_parenthesis end)
     (λ u. lang_of value) front (byte-stands close_parenthesis end) (λ u last f k.
     let k : StandBetween text last (texts (lang_pseudo_class value)) =
     subst (StandBetween text last) (append-nil (texts (lang_pseudo_class value))) k in

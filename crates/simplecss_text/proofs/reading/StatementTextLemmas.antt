@@ -51,7 +51,8 @@ module _ (edition : Edition) where
   next_block-less : (text : List ℕ) (bound : ℕ) → length text ≤ bound → 0 < bound
       → length (next_block edition text).1 < bound
   unfolding next_block
-  next_block-less text bound l p = by (past (λ b. not (b == open_brace)) text) (length-past (λ b. not
+  next_block-less text bound l p =
+      by (past (λ b. not (b == open_brace)) text) (length-past (λ b. not
       (b == open_brace)) text)
     where
       by : (opened : List ℕ) → length opened ≤ length text → length
@@ -75,7 +76,8 @@ module _ (edition : Edition) where
   pub part_and_comma-takes : Takes (part_and_comma edition)
   part_and_comma-takes text = by (part edition text).1 (length-part text)
     where
-      by : (rest : List ℕ) → length rest ≤ length text → Shrinks text (if starts comma rest then Some
+      by : (rest : List ℕ) → length rest ≤ length text
+          → Shrinks text (if starts comma rest then Some
           ((part edition text).0, past_one rest) else None)
       by [] h = tt
       by (b ∷ rest) h = with_comma (b == comma)

@@ -93,7 +93,8 @@ leaves-longer text longer (Some rest) l h = omega arith
 pub after_close-leaves : (text : List ℕ) → Leaves text (after_close text)
 after_close-leaves [] = tt
 after_close-leaves (b ∷ text) =
-    leaves-if (b ∷ text) (starts_two asterisk slash (b ∷ text)) (Some (past_one text)) (after_close text)
+    leaves-if (b ∷ text) (starts_two asterisk slash (b ∷ text)) (Some (past_one text))
+    (after_close text)
     (omega (arith, length-past_one text))
     (leaves-longer text (b ∷ text) (after_close text) (omega arith) (after_close-leaves text))
 

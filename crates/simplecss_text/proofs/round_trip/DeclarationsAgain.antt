@@ -132,7 +132,8 @@ declaration-is edition text n =
     (if_got-follow (λ x rest. IsNarrow rest) P _ _
     (narrow-got text (blank text) n (well-blank text)) (λ x a na.
     let b = past_byte asterisk a in
-    let nb = narrow-end a b na (ends-past_byte asterisk a) (utf8-past_byte_if asterisk a (omega arith) na.0) in
+    let nb = narrow-end a b na (ends-past_byte asterisk a)
+    (utf8-past_byte_if asterisk a (omega arith) na.0) in
     if_got-follow (λ m rest. ReadName edition b m rest × IsNarrow rest) P _ _
     (name-narrow edition b nb) (λ m c w.
     elim (w.0.is) [ inl i ↦ named-is edition m c i w.1 | inr h ↦ ended-is edition m c h.1 ])))
@@ -153,16 +154,22 @@ unfolding word
 no_word edition q text quiet = ap (λ y. follow y (λ n. arguments)) (name-quiet edition q text quiet)
 
 semicolon_term : (edition : Edition) (text : List ℕ)
-    → term edition (semicolon_byte ∷ text) ≡ fails (no_name (semicolon_byte ∷ text)) (semicolon_byte ∷ text)
+    → term edition (semicolon_byte ∷ text)
+    ≡ fails (no_name (semicolon_byte ∷ text)) (semicolon_byte ∷ text)
 unfolding term
-semicolon_term first_edition text = no_word first_edition semicolon_byte text (quiet-semicolon first_edition)
-semicolon_term second_edition text = no_word second_edition semicolon_byte text (quiet-semicolon second_edition)
+semicolon_term first_edition text =
+    no_word first_edition semicolon_byte text (quiet-semicolon first_edition)
+semicolon_term second_edition text =
+    no_word second_edition semicolon_byte text (quiet-semicolon second_edition)
 
 mark_term : (edition : Edition) (text : List ℕ)
-    → term edition (exclamation_mark ∷ text) ≡ fails (no_name (exclamation_mark ∷ text)) (exclamation_mark ∷ text)
+    → term edition (exclamation_mark ∷ text)
+    ≡ fails (no_name (exclamation_mark ∷ text)) (exclamation_mark ∷ text)
 unfolding term
-mark_term first_edition text = no_word first_edition exclamation_mark text (quiet-mark first_edition)
-mark_term second_edition text = no_word second_edition exclamation_mark text (quiet-mark second_edition)
+mark_term first_edition text =
+    no_word first_edition exclamation_mark text (quiet-mark first_edition)
+mark_term second_edition text =
+    no_word second_edition exclamation_mark text (quiet-mark second_edition)
 
 -- the part after the importance
 abbrev semicolons_then : Bool → Reader Bool
@@ -173,7 +180,8 @@ semicolons_then important text =
 one_semicolon : (text : List ℕ) → starts semicolon_byte (past_blank text) ≡ false
     → (each semicolon (semicolon_byte ∷ text)).1 ≡ past_blank text
 one_semicolon text e =
-    let first = each-some semicolon semicolon-takes (semicolon_byte ∷ text) (past_blank text) tt refl in
+    let first =
+    each-some semicolon semicolon-takes (semicolon_byte ∷ text) (past_blank text) tt refl in
     let part : semicolon (past_blank text) ≡ None = rw e refl in
     let second = each-none semicolon (past_blank text) part in
     ap (λ r. r.1) first ∙ ap (λ r. r.1) second
@@ -183,17 +191,20 @@ semicolons-read : (important : Bool) (text : List ℕ) → opens_comment (past_b
     → semicolons_then important (semicolon_byte ∷ text) ≡ got important (past_blank text)
 semicolons-read important text o e =
     let following : List ℕ → Reading Bool = λ d. follow (blank d) (λ x. got important) in
-    follow-got (blank (semicolon_byte ∷ text)) tt (semicolon_byte ∷ text) (λ x c. follow (semicolons c) (λ x. following))
+    follow-got (blank (semicolon_byte ∷ text)) tt (semicolon_byte ∷ text)
+    (λ x c. follow (semicolons c) (λ x. following))
     (blank-none (semicolon_byte ∷ text) (no_gap-byte semicolon_byte text refl refl))
     ∙ ap following (one_semicolon text e)
     ∙ follow-got (blank (past_blank text)) tt (past_blank text) (λ x. got important)
     (blank-at (past_blank text) (past_blank text) (past_blank-again text) o)
 
 trailing-plain : (text : List ℕ) → opens_comment (past_blank text) ≡ false
-    → starts semicolon_byte (past_blank text) ≡ false → trailing (semicolon_byte ∷ text) ≡ got false (past_blank text)
+    → starts semicolon_byte (past_blank text) ≡ false
+    → trailing (semicolon_byte ∷ text) ≡ got false (past_blank text)
 unfolding trailing importance
 trailing-plain text o e =
-    follow-got (blank (semicolon_byte ∷ text)) tt (semicolon_byte ∷ text) (λ x a. follow (importance a) semicolons_then)
+    follow-got (blank (semicolon_byte ∷ text)) tt (semicolon_byte ∷ text)
+    (λ x a. follow (importance a) semicolons_then)
     (blank-none (semicolon_byte ∷ text) (no_gap-byte semicolon_byte text refl refl))
     ∙ semicolons-read false text o e
 
@@ -208,7 +219,8 @@ trailing-important text o e =
     (blank-none (exclamation_mark ∷ word_there) (no_gap-byte exclamation_mark word_there refl refl))
     ∙ ap (λ r. follow r semicolons_then)
     (follow-got (blank word_there) tt word_there (λ x. important_word)
-    (blank-none word_there (no_gap-byte 105 (codes "mportant" ++ (semicolon_byte ∷ text)) refl refl)))
+    (blank-none word_there
+    (no_gap-byte 105 (codes "mportant" ++ (semicolon_byte ∷ text)) refl refl)))
     ∙ semicolons-read true text o e
 
 -- a value, and what follows it
@@ -242,15 +254,18 @@ record StatedAgain (edition : Edition) (v : List ℕ) (important : Bool)
     (text following : List ℕ) : Type 0 where
   pub left : List ℕ
   pub calm : NoGap (v ++ (important_text important ++ (semicolon_byte ∷ text)))
-  pub stated : value edition (v ++ (important_text important ++ (semicolon_byte ∷ text))) ≡ (v, left)
+  pub stated : value edition (v ++ (important_text important ++ (semicolon_byte ∷ text)))
+      ≡ (v, left)
   pub trails : trailing left ≡ got important following
 
 stated-again : (edition : Edition) (v : List ℕ) (important : Bool) (text : List ℕ)
     → IsValueText edition v → opens_comment (past_blank text) ≡ false
-    → starts semicolon_byte (past_blank text) ≡ false → StatedAgain edition v important text (past_blank text)
+    → starts semicolon_byte (past_blank text) ≡ false
+    → StatedAgain edition v important text (past_blank text)
 stated-again edition v false text w o e =
     let left = semicolon_byte ∷ text in
-    let none_there : past_blank left ≡ left = ap (λ r. r.1) (no_gap-byte semicolon_byte text refl refl).none in
+    let none_there : past_blank left ≡ left =
+    ap (λ r. r.1) (no_gap-byte semicolon_byte text refl refl).none in
     record {
       left = left;
       calm = value-no_gap edition v semicolon_byte text w (quiet-semicolon edition);
@@ -263,13 +278,15 @@ stated-again edition v true text w o e =
     let left = codes "!important" ++ (semicolon_byte ∷ text) in
     let none_there : past_blank (space ∷ left) ≡ left =
     past_blank-space space left refl
-    ∙ ap (λ r. r.1) (no_gap-byte exclamation_mark (codes "important" ++ (semicolon_byte ∷ text)) refl refl).none in
+    ∙ ap (λ r. r.1)
+    (no_gap-byte exclamation_mark (codes "important" ++ (semicolon_byte ∷ text)) refl refl).none in
     record {
       left = left;
       calm = value-no_gap edition v space left w (quiet-space edition);
       stated =
           value-reads edition v space left left (no_name left) w (quiet-space edition)
-          (ap (term edition) none_there ∙ mark_term edition (codes "important" ++ (semicolon_byte ∷ text)));
+          (ap (term edition) none_there
+          ∙ mark_term edition (codes "important" ++ (semicolon_byte ∷ text)));
       trails = trailing-important text o e;
     }
 
@@ -290,7 +307,8 @@ declaration_text-assoc p text = by p.name p.value (important_text p.important)
 
 after_name-reads : (edition : Edition) (p : StyleDeclaration) (text following : List ℕ)
     → (length p.value == 0) ≡ false → StatedAgain edition p.value p.important text following
-    → after_name edition p.name (colon ∷ (p.value ++ (important_text p.important ++ (semicolon_byte ∷ text))))
+    → after_name edition p.name
+    (colon ∷ (p.value ++ (important_text p.important ++ (semicolon_byte ∷ text))))
     ≡ got p following
 after_name-reads edition p text following some w =
     let start = p.value ++ (important_text p.important ++ (semicolon_byte ∷ text)) in
@@ -314,7 +332,9 @@ colon_ends edition text = ends_names-byte edition colon text (omega arith) refl 
 
 no_star : (edition : Edition) (b : ℕ) (text : List ℕ) → IsNameByte edition b
     → past_byte asterisk (b ∷ text) ≡ b ∷ text
-no_star edition b text w = let e = other_byte edition asterisk b (omega arith) refl refl w in rw e refl
+no_star edition b text w =
+    let e = other_byte edition asterisk b (omega arith) refl refl w in
+    rw e refl
 
 -- A declaration that was read from a text without white space past ASCII reads back.
 pub printed_declaration-reads_back : (edition : Edition) (p : StyleDeclaration)
@@ -332,7 +352,8 @@ printed_declaration-reads_back edition p w text o e =
     let from_name : List ℕ → Reading StyleDeclaration =
     λ b. follow (name edition b) (λ m. after_name edition m) in
     ap (declaration edition) (declaration_text-assoc p text) ∙ declaration-steps edition whole
-    ∙ follow-got (blank whole) tt whole (λ x a. from_name (past_byte asterisk a)) (blank-none whole calm)
+    ∙ follow-got (blank whole) tt whole (λ x a. from_name (past_byte asterisk a))
+    (blank-none whole calm)
     ∙ ap from_name star
     ∙ follow-got (name edition whole) p.name following (λ m. after_name edition m)
     (name-reads edition p.name following w.name_is

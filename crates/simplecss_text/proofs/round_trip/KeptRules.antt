@@ -238,7 +238,8 @@ module _ (edition : Edition) where
         by : (t : Bool) → starts open_brace opened ≡ t
             → AllByRecursion R (if t then block edition (past_one opened) else ([], [])).0
         by true s =
-            let u = utf8-past_one whole opened open_brace (omega arith) (known.is_text whole q) end s in
+            let u =
+            utf8-past_one whole opened open_brace (omega arith) (known.is_text whole q) end s in
             block-declares (past_one opened) (known.of_end whole (past_one opened) q
             (ends-ends whole opened (past_one opened) end (ends-past_one opened)) u)
         by false s = tt

@@ -70,7 +70,8 @@ abbrev pub IsTypeName : Edition → Option (List ℕ) → List ℕ → Type 0
 IsTypeName edition None following = Unit {0}
 IsTypeName edition (Some n) following = IsName edition n ⊎ ((n ≡ hyphen ∷ []) × (following ≡ []))
 
-hyphen-reads : (edition : Edition) → solid edition (hyphen ∷ []) ≡ got (type_selector (hyphen ∷ [])) []
+hyphen-reads : (edition : Edition)
+    → solid edition (hyphen ∷ []) ≡ got (type_selector (hyphen ∷ [])) []
 unfolding solid next_kind named_token name past_name_chars chars encode
 hyphen-reads first_edition = refl
 hyphen-reads second_edition = refl

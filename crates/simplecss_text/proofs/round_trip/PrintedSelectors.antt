@@ -213,8 +213,10 @@ module _ (edition : Edition) where
   -- no name continues with a subselector
   pub subselector-ends : (s : Subselector) (tail : List ℕ)
       → ends_names edition (subselector_text s ++ tail) ≡ false
-  subselector-ends (attribute n o) tail = ends_names-byte edition open_bracket _ (omega arith) refl refl
-  subselector-ends (pseudo_class class) tail = ends_names-byte edition colon _ (omega arith) refl refl
+  subselector-ends (attribute n o) tail =
+      ends_names-byte edition open_bracket _ (omega arith) refl refl
+  subselector-ends (pseudo_class class) tail =
+      ends_names-byte edition colon _ (omega arith) refl refl
 
   subselector-goes_on : (s : Subselector) (token : Token) (tail : List ℕ)
       → solid_sequence edition closed_side false (next_kind (subselector_text s ++ tail))
@@ -292,7 +294,8 @@ module _ (edition : Edition) where
       (head-reads edition c.name following w.head (subselectors-end c.subselectors tail e)))
       ∙ head-outcome c.name spaced start following (λ l. sequence_from edition l following)
 
-  solid-child : (text : List ℕ) → solid edition (greater_than_sign ∷ text) ≡ got child_combinator text
+  solid-child : (text : List ℕ)
+      → solid edition (greater_than_sign ∷ text) ≡ got child_combinator text
   unfolding solid next_kind
   solid-child text = refl
 
@@ -301,10 +304,12 @@ module _ (edition : Edition) where
   solid-adjacent text = refl
 
   -- a child combinator between spaces
-  child-sequence : (text : List ℕ) → sequence_from edition closed_side (space ∷ greater_than_sign ∷ text)
+  child-sequence : (text : List ℕ)
+      → sequence_from edition closed_side (space ∷ greater_than_sign ∷ text)
       ≡ token_then child_combinator text (sequence_from edition open_side text)
   child-sequence text = sequence_from-token edition closed_side (space ∷ greater_than_sign ∷ text)
-      (greater_than_sign ∷ text) text true child_combinator (gap-space (greater_than_sign ∷ text) (no_gap-byte greater_than_sign text refl refl))
+      (greater_than_sign ∷ text) text true child_combinator
+      (gap-space (greater_than_sign ∷ text) (no_gap-byte greater_than_sign text refl refl))
       (solid-child text)
 
   -- an adjacent combinator between spaces
@@ -439,10 +444,12 @@ module _ (edition : Edition) where
   }
 
   -- a space and an opening brace
-  pub goes-space_brace : (text : List ℕ) → Goes edition (space ∷ open_brace ∷ text) [] (open_brace ∷ text)
+  pub goes-space_brace : (text : List ℕ)
+      → Goes edition (space ∷ open_brace ∷ text) [] (open_brace ∷ text)
   unfolding next_kind
   goes-space_brace text = record {
     ends = ends_names-byte edition space (open_brace ∷ text) (omega arith) refl refl;
-    runs = stop-outcome (space ∷ open_brace ∷ text) (open_brace ∷ text) true (gap-space (open_brace ∷ text)
+    runs = stop-outcome (space ∷ open_brace ∷ text) (open_brace ∷ text) true
+        (gap-space (open_brace ∷ text)
         (no_gap-byte open_brace text refl refl)) refl;
   }

@@ -41,4 +41,5 @@ attribute_operator-gives edition (b ∷ text) u =
     (utf8-past_byte tilde text (omega arith) (same_begins b tilde text g u))) (λ g.
     if_got-if GoodOperator (b == vertical_bar) _ _
     (λ h. equated-gives edition begins_with text (λ v w. w)
-    (utf8-past_byte vertical_bar text (omega arith) (same_begins b vertical_bar text h u))) (λ h. tt))))
+    (utf8-past_byte vertical_bar text (omega arith) (same_begins b vertical_bar text h u)))
+    (λ h. tt))))

@@ -48,7 +48,8 @@ both_got P Q (fails fault rest) p q = tt
 
 -- what is before a byte, and the text from there on
 abbrev StandsBefore : List ℕ → List ℕ → List ℕ → Type 0
-StandsBefore text value rest = (text ≡ value ++ rest) × (list_all (λ b. not (b == close_parenthesis)) value ≡ true)
+StandsBefore text value rest =
+    (text ≡ value ++ rest) × (list_all (λ b. not (b == close_parenthesis)) value ≡ true)
 
 all_before-is : (text : List ℕ) → IfGot (StandsBefore text) (all_before close_parenthesis text)
 all_before-is text =
@@ -122,16 +123,21 @@ module _ (edition : Edition) where
       _ _
       (both_got GoodOperator (λ o next. rest ≡ [] → ⊥) (attribute_operator edition rest)
       (attribute_operator-gives edition rest w.rest_is) (operator_text_is rest)) (λ o next x.
-      if_got-follow (λ y last. next ≡ close_bracket ∷ last) (GoodToken edition) _ _ (byte-is close_bracket next)
+      if_got-follow (λ y last. next ≡ close_bracket ∷ last) (GoodToken edition) _ _
+      (byte-is close_bracket next)
       (λ y last e.
       (name_before text n rest w x.1, x.0))))
 
-  lang_of-gives : (v text : List ℕ) → IsUtf8 v → list_all (λ b. not (b == close_parenthesis)) v ≡ true
+  lang_of-gives : (v text : List ℕ) → IsUtf8 v
+      → list_all (λ b. not (b == close_parenthesis)) v ≡ true
       → IfGot (GoodToken edition) (lang_of (trim v) text)
   lang_of-gives v text u h =
       let w = trim-is v u in
-      if_got-if (GoodToken edition) (length (trim v) == 0) _ _ (λ e. tt) (λ e. record
-      { trimmed = w.again; some = e; within = inside_all (λ b. not (b == close_parenthesis)) v (trim v) w h })
+      if_got-if (GoodToken edition) (length (trim v) == 0) _ _ (λ e. tt) (λ e. record {
+        trimmed = w.again;
+        some = e;
+        within = inside_all (λ b. not (b == close_parenthesis)) v (trim v) w h;
+      })
 
   lang_after-gives : (text : List ℕ) → IsUtf8 text → IfGot (GoodToken edition) (lang_after text)
   unfolding lang_after
@@ -145,7 +151,8 @@ module _ (edition : Edition) where
       let all : IsUtf8 (value ++ (close_parenthesis ∷ last)) =
       subst IsUtf8 (w.0 ∙ ap (λ l. value ++ l) f)
       (utf8-past_byte open_parenthesis rest (omega arith) (subst IsUtf8 e u)) in
-      lang_of-gives value last (utf8-before_byte value close_parenthesis last (omega arith) all) w.1)))
+      lang_of-gives value last
+      (utf8-before_byte value close_parenthesis last (omega arith) all) w.1)))
 
   pseudo_class_after-gives : (text : List ℕ) → IsUtf8 text
       → IfGot (GoodToken edition) (pseudo_class_after edition text)

@@ -235,14 +235,16 @@ module _ (edition : Edition) where
       → reads edition text ≡ (Some s, left) → ends_in_hyphen s ≡ false
       → ReadsBackBeforeBlock edition s
   reads-back_before text left s u e h tail =
-      printing-law edition s (space ∷ open_brace ∷ tail) (open_brace ∷ tail) (selector-anywhere s left
+      printing-law edition s (space ∷ open_brace ∷ tail) (open_brace ∷ tail)
+      (selector-anywhere s left
       (space ∷ open_brace ∷ tail) h (reads-is text left s u e)) (goes-space_brace edition tail)
 
   -- Each that was read with more text after it reads back, also before a block.
   pub selector-reads_back_before : (s : List Component) (b : ℕ) (left : List ℕ)
       → IsSelector edition s (b ∷ left) → ReadsBackBeforeBlock edition s
   selector-reads_back_before s b left w tail =
-      printing-law edition s (space ∷ open_brace ∷ tail) (open_brace ∷ tail) (selector-after s (b ∷ left)
+      printing-law edition s (space ∷ open_brace ∷ tail) (open_brace ∷ tail)
+      (selector-after s (b ∷ left)
       (space ∷ open_brace ∷ tail) (λ none_there. absurd (cc)) w) (goes-space_brace edition tail)
 
   -- both at once

@@ -100,7 +100,8 @@ class_role known = option_map (λ class. part (with (pseudo_class class))) known
 -- what the sequence is after a token, by the left side
 abbrev Following : Edition → List ℕ → (Side → TokenSequence) → Type 0
 Following edition after rest =
-    IfContinuesCompound edition (outcome (rest closed_side)) × IfBegins edition (outcome (rest open_side))
+    IfContinuesCompound edition (outcome (rest closed_side))
+    × IfBegins edition (outcome (rest open_side))
     × (after ≡ [] → outcome (rest closed_side) ≡ accepted [] [])
 
 -- the outcome of a piece, and of the sequence after it
@@ -113,12 +114,14 @@ piece_outcome side spaced start token after rest =
 -- what the outcome is of a text after either left side
 abbrev pub SequenceIs : Edition → List ℕ → Type 0
 SequenceIs edition text =
-    IfContinuesCompound edition (outcome (sequence_from edition closed_side text)) × IfBegins edition
+    IfContinuesCompound edition (outcome (sequence_from edition closed_side text))
+    × IfBegins edition
     (outcome (sequence_from edition open_side text))
 
 module _ (edition : Edition) where
   -- a subselector more
-  goes_on-with : (s : Subselector) (o : Outcome) → IsSubselector edition s → IfContinuesCompound edition o
+  goes_on-with : (s : Subselector) (o : Outcome) → IsSubselector edition s
+      → IfContinuesCompound edition o
       → IfContinuesCompound edition (with_role (part (with s)) o)
   goes_on-with s (refused left) w h = tt
   goes_on-with s (accepted roles left) w h =
@@ -142,7 +145,8 @@ module _ (edition : Edition) where
       subst (λ (o : Option (List ℕ)). IsTypeName edition o following) (sym (h.no_type known)) w
 
   -- a compound that begins with a subselector
-  begins-with : (s : Subselector) (o : Outcome) → IsSubselector edition s → IfContinuesCompound edition o
+  begins-with : (s : Subselector) (o : Outcome) → IsSubselector edition s
+      → IfContinuesCompound edition o
       → IfBegins edition (with_role (part (with s)) o)
   begins-with s (refused left) w h = tt
   begins-with s (accepted roles left) w h = record {
@@ -151,7 +155,8 @@ module _ (edition : Edition) where
   }
 
   -- a compound that begins with a head
-  begins-any : (o : Outcome) → IfContinuesCompound edition o → IfBegins edition (with_role (part any_type) o)
+  begins-any : (o : Outcome) → IfContinuesCompound edition o
+      → IfBegins edition (with_role (part any_type) o)
   begins-any (refused left) h = tt
   begins-any (accepted roles left) h = record {
     compound = record { head = headed None roles left _ h tt; others = h.subselectors };
@@ -180,7 +185,8 @@ module _ (edition : Edition) where
   begins-class (Some class) after o w h = begins-with (pseudo_class class) o w h
 
   goes_on-class : (known : Option KnownPseudoClass) (after : List ℕ) (o : Outcome) → IfClass known
-      → IfContinuesCompound edition o → IfContinuesCompound edition (after_role (class_role known) after o)
+      → IfContinuesCompound edition o
+      → IfContinuesCompound edition (after_role (class_role known) after o)
   goes_on-class None after o w h = tt
   goes_on-class (Some class) after o w h = goes_on-with (pseudo_class class) o w h
 
@@ -220,11 +226,14 @@ module _ (edition : Edition) where
   closed_piece true start (class_selector n) after rest w h =
       goes_on-joined_by descendant _ tt (open_piece false start (class_selector n) after rest w h)
   closed_piece true start (attribute_selector n p) after rest w h =
-      goes_on-joined_by descendant _ tt (open_piece false start (attribute_selector n p) after rest w h)
+      goes_on-joined_by descendant _ tt
+      (open_piece false start (attribute_selector n p) after rest w h)
   closed_piece true start (named_pseudo_class n) after rest w h =
-      goes_on-joined_by descendant _ tt (open_piece false start (named_pseudo_class n) after rest w h)
+      goes_on-joined_by descendant _ tt
+      (open_piece false start (named_pseudo_class n) after rest w h)
   closed_piece true start (lang_pseudo_class v) after rest w h =
-      goes_on-joined_by descendant _ tt (open_piece false start (lang_pseudo_class v) after rest w h)
+      goes_on-joined_by descendant _ tt
+      (open_piece false start (lang_pseudo_class v) after rest w h)
   closed_piece spaced start descendant_combinator after rest w h = absurd w
   closed_piece spaced start child_combinator after rest w h = goes_on-joined_by child _ tt h.1
   closed_piece spaced start adjacent_combinator after rest w h = goes_on-joined_by adjacent _ tt h.1
@@ -245,7 +254,8 @@ module _ (edition : Edition) where
   no_more left = record { subselectors = tt; no_type = λ known. refl; others = tt }
 
   -- where there is no further piece
-  closed_ending : (end : Ending) → IfContinuesCompound edition (outcome (ending_sequence closed_side end))
+  closed_ending : (end : Ending)
+      → IfContinuesCompound edition (outcome (ending_sequence closed_side end))
   closed_ending (at_stop true start) = no_more start
   closed_ending (at_stop false start) = no_more start
   closed_ending (at_slash true start) = tt

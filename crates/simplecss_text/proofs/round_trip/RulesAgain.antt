@@ -51,7 +51,8 @@ in_list edition t text = if t then None else found (declaration edition text)
 
 closing-blank : (text : List ℕ) → past_blank (space ∷ close_brace ∷ text) ≡ close_brace ∷ text
 closing-blank text =
-    past_blank-space space (close_brace ∷ text) refl ∙ calm-blank (close_brace ∷ text) (no_gap-byte close_brace text refl refl)
+    past_blank-space space (close_brace ∷ text) refl
+    ∙ calm-blank (close_brace ∷ text) (no_gap-byte close_brace text refl refl)
 
 -- a space before a declaration changes nothing
 
@@ -63,11 +64,13 @@ blank-space text = let same = past_blank-space space text refl in rw same refl
 
 pub rule-assoc : (rule : StyleRule) (text : List ℕ)
     → rule_text rule ++ text ≡ selector_text rule.components ++
-    (space ∷ open_brace ∷ space ∷ (flat_map declaration_text rule.declarations ++ (space ∷ close_brace ∷ text)))
+    (space ∷ open_brace ∷ space
+    ∷ (flat_map declaration_text rule.declarations ++ (space ∷ close_brace ∷ text)))
 rule-assoc rule text =
     by (selector_text rule.components) (flat_map declaration_text rule.declarations)
   where
-    by : (s p : List ℕ) → (((s ++ (space ∷ open_brace ∷ space ∷ [])) ++ p) ++ (space ∷ close_brace ∷ [])) ++ text
+    by : (s p : List ℕ)
+        → (((s ++ (space ∷ open_brace ∷ space ∷ [])) ++ p) ++ (space ∷ close_brace ∷ [])) ++ text
         ≡ s ++ (space ∷ open_brace ∷ space ∷ (p ++ (space ∷ close_brace ∷ text)))
     by s p =
         append_assoc ((s ++ (space ∷ open_brace ∷ space ∷ [])) ++ p) (space ∷ close_brace ∷ []) text
@@ -75,7 +78,8 @@ rule-assoc rule text =
         ∙ append_assoc s (space ∷ open_brace ∷ space ∷ []) (p ++ (space ∷ close_brace ∷ text))
 
 module _ (edition : Edition) where
-  pub begins-append : (text tail : List ℕ) → BeginsPart edition text → BeginsPart edition (text ++ tail)
+  pub begins-append : (text tail : List ℕ) → BeginsPart edition text
+      → BeginsPart edition (text ++ tail)
   begins-append text tail w =
       record {
         first = w.first;
@@ -112,11 +116,13 @@ module _ (edition : Edition) where
     where
       by : (b : ℕ) → (b ≡ asterisk) ⊎ IsNameByte edition b → NoGap (b ∷ w.others)
       by b (inl same) =
-          subst (λ (c : ℕ). NoGap (c ∷ w.others)) (sym same) (no_gap-byte asterisk w.others refl refl)
+          subst (λ (c : ℕ). NoGap (c ∷ w.others)) (sym same)
+          (no_gap-byte asterisk w.others refl refl)
       by b (inr fit) = no_gap-name edition b w.others fit
 
   -- a selector that is before a block
-  pub selector-begins : (s : List Component) (b : ℕ) (tail : List ℕ) → IsSelector edition s (b ∷ tail)
+  pub selector-begins : (s : List Component) (b : ℕ) (tail : List ℕ)
+      → IsSelector edition s (b ∷ tail)
       → BeginsPart edition (selector_text s)
   selector-begins [] b tail w = absurd w
   selector-begins (c ∷ cs) b tail w =
@@ -182,28 +188,33 @@ module _ (edition : Edition) where
       ∙ ap (followed_by p)
       (each-none (declaration_in_block edition) (close_brace ∷ text) (closing-none text))
   declarations-again p (q ∷ ps) text w ws =
-      let next = declaration_text q ++ (flat_map declaration_text ps ++ (space ∷ close_brace ∷ text)) in
+      let next =
+      declaration_text q ++ (flat_map declaration_text ps ++ (space ∷ close_brace ∷ text)) in
       let tail = flat_map declaration_text (q ∷ ps) ++ (space ∷ close_brace ∷ text) in
       let same : tail ≡ next =
-      append_assoc (declaration_text q) (flat_map declaration_text ps) (space ∷ close_brace ∷ text) in
+      append_assoc (declaration_text q) (flat_map declaration_text ps)
+      (space ∷ close_brace ∷ text) in
       let begins =
       declaration-begins q (flat_map declaration_text ps ++ (space ∷ close_brace ∷ text)) ws.0 in
       let calm = part_calm next begins in
       let following : past_blank tail ≡ next = ap past_blank same ∙ calm-blank next calm in
       each-some (declaration_in_block edition) (declaration_in_block-takes edition)
       (declaration_text p ++ tail) (past_blank tail) p
-      (one-declaration p tail w (ap opens_comment following ∙ calm.closed) (ap (starts semicolon) following
+      (one-declaration p tail w (ap opens_comment following ∙ calm.closed)
+      (ap (starts semicolon) following
       ∙ part_starts semicolon next (omega arith) refl refl refl begins))
       ∙ ap (λ t. followed_by p (each (declaration_in_block edition) t)) following
       ∙ ap (followed_by p) (declarations-again q ps text ws.0 ws.1)
 
-  declaration-space : (text : List ℕ) → declaration edition (space ∷ text) ≡ declaration edition text
+  declaration-space : (text : List ℕ)
+      → declaration edition (space ∷ text) ≡ declaration edition text
   unfolding declaration stated_name
   declaration-space text = let same = blank-space text in rw same refl
 
   pub spaced-list : (text rest : List ℕ) (p : StyleDeclaration)
       → declaration_in_block edition text ≡ Some (p, rest) → ends_list text ≡ false
-      → each (declaration_in_block edition) (space ∷ text) ≡ each (declaration_in_block edition) text
+      → each (declaration_in_block edition) (space ∷ text)
+      ≡ each (declaration_in_block edition) text
   spaced-list text rest p e goes =
       let some = not_empty space text in
       let open_list : ends_list (space ∷ text) ≡ false = rw some refl in
@@ -218,7 +229,8 @@ module _ (edition : Edition) where
       e)
 
   -- where something is read first, it is found
-  pub first-found : (text : List ℕ) (p : StyleDeclaration) (ps : List StyleDeclaration) (left : List ℕ)
+  pub first-found : (text : List ℕ) (p : StyleDeclaration) (ps : List StyleDeclaration)
+      (left : List ℕ)
       → each (declaration_in_block edition) text ≡ (p ∷ ps, left)
       → (found_there : Option (StyleDeclaration × List ℕ))
       → declaration_in_block edition text ≡ found_there
@@ -237,31 +249,38 @@ module _ (edition : Edition) where
       ≡ (p ∷ ps, text)
   unfolding block
   block-again p ps text w ws =
-      let inside = declaration_text p ++ (flat_map declaration_text ps ++ (space ∷ close_brace ∷ text)) in
+      let inside =
+      declaration_text p ++ (flat_map declaration_text ps ++ (space ∷ close_brace ∷ text)) in
       let same : flat_map declaration_text (p ∷ ps) ++ (space ∷ close_brace ∷ text) ≡ inside =
-      append_assoc (declaration_text p) (flat_map declaration_text ps) (space ∷ close_brace ∷ text) in
+      append_assoc (declaration_text p) (flat_map declaration_text ps)
+      (space ∷ close_brace ∷ text) in
       let listed = declarations-again p ps text w ws in
       let there =
-      first-found inside p ps (close_brace ∷ text) listed (declaration_in_block edition inside) refl in
+      first-found inside p ps (close_brace ∷ text) listed
+      (declaration_in_block edition inside) refl in
       let spaced =
       spaced-list inside there.1 there.0 there.2 (list_goes_on inside
       (declaration-begins p (flat_map declaration_text ps ++ (space ∷ close_brace ∷ text)) w)) in
       let all : each (declaration_in_block edition)
-      (space ∷ (flat_map declaration_text (p ∷ ps) ++ (space ∷ close_brace ∷ text))) ≡ (p ∷ ps, close_brace ∷ text) = ap
+      (space ∷ (flat_map declaration_text (p ∷ ps) ++ (space ∷ close_brace ∷ text)))
+      ≡ (p ∷ ps, close_brace ∷ text) = ap
       (λ t. each (declaration_in_block edition) (space ∷ t)) same ∙ spaced ∙ listed in
       let some = not_empty close_brace text in
-      ap (λ (r : List StyleDeclaration × List ℕ). (r.0, past_byte close_brace (past_list edition r.1))) all
+      ap (λ (r : List StyleDeclaration × List ℕ).
+      (r.0, past_byte close_brace (past_list edition r.1))) all
       ∙ rw some refl
 
   -- a part that reads before a block
   pub part-again : (s : List Component) (text inside : List ℕ)
-      → reads edition text ≡ (Some s, open_brace ∷ inside) → part edition text ≡ (Some s, open_brace ∷ inside)
+      → reads edition text ≡ (Some s, open_brace ∷ inside)
+      → part edition text ≡ (Some s, open_brace ∷ inside)
   unfolding part
   part-again s text inside e =
       ap (λ (r : Option (List Component) × List ℕ). (r.0, past is_space r.1)) e ∙ refl
 
   pub parts-again : (s : List Component) (text inside : List ℕ)
-      → part edition text ≡ (Some s, open_brace ∷ inside) → parts edition text ≡ (s ∷ [], open_brace ∷ inside)
+      → part edition text ≡ (Some s, open_brace ∷ inside)
+      → parts edition text ≡ (s ∷ [], open_brace ∷ inside)
   unfolding parts
   parts-again s text inside e =
       let no_comma : part_and_comma edition text ≡ None = rw e refl in
@@ -269,13 +288,15 @@ module _ (edition : Edition) where
       each-none (part_and_comma edition) text no_comma in
       rw (listed, e) refl
 
-  next_block-again : (inside : List ℕ) → next_block edition (open_brace ∷ inside) ≡ block edition inside
+  next_block-again : (inside : List ℕ)
+      → next_block edition (open_brace ∷ inside) ≡ block edition inside
   unfolding next_block
   next_block-again inside = refl
 
   rule_set-again : (s : List Component) (p : StyleDeclaration) (ps : List StyleDeclaration)
       (text inside following : List ℕ) → past_byte comma text ≡ text
-      → reads edition text ≡ (Some s, open_brace ∷ inside) → block edition inside ≡ (p ∷ ps, following)
+      → reads edition text ≡ (Some s, open_brace ∷ inside)
+      → block edition inside ≡ (p ∷ ps, following)
       → rule_set edition text ≡ (record { components = s; declarations = p ∷ ps } ∷ [], following)
   unfolding rule_set
   rule_set-again s p ps text inside following start e b =
@@ -300,7 +321,8 @@ module _ (edition : Edition) where
       let inside = space ∷ (flat_map declaration_text (p ∷ ps) ++ (space ∷ close_brace ∷ text)) in
       let whole = selector_text s ++ (space ∷ open_brace ∷ inside) in
       let begins =
-      begins-append (selector_text s) (space ∷ open_brace ∷ inside) (selector-begins s open_brace [] w) in
+      begins-append (selector_text s) (space ∷ open_brace ∷ inside)
+      (selector-begins s open_brace [] w) in
       let read : reads edition whole ≡ (Some s, open_brace ∷ inside) =
       (selector-reads_back_before edition s open_brace [] w inside).1 clean in
       ap (statement edition) (rule-assoc rule text)
@@ -322,7 +344,9 @@ module _ (edition : Edition) where
 
   -- a printed rule begins as a part does
   pub rule-begins : (rule : StyleRule) (text : List ℕ)
-      → IsSelector edition rule.components (open_brace ∷ []) → BeginsPart edition (rule_text rule ++ text)
+      → IsSelector edition rule.components (open_brace ∷ [])
+      → BeginsPart edition (rule_text rule ++ text)
   rule-begins rule text w =
       subst (BeginsPart edition) (sym (rule-assoc rule text))
-      (begins-append (selector_text rule.components) _ (selector-begins rule.components open_brace [] w))
+      (begins-append (selector_text rule.components) _
+      (selector-begins rule.components open_brace [] w))

@@ -76,7 +76,8 @@ module _ (edition : Edition) where
       statement-there (rule_text rule ++ text) (rule-begins edition rule text w.0.0.selector)
       ∙ ap (λ (r : List StyleRule × List ℕ). Some r) (rule-reads_back edition rule w.0 w.1 text)
 
-  pub newline-there : (text : List ℕ) → next_statement edition (newline ∷ text) ≡ next_statement edition text
+  pub newline-there : (text : List ℕ)
+      → next_statement edition (newline ∷ text) ≡ next_statement edition text
   newline-there text =
       ap (λ t. goes_on edition (ends_statements t) t) (past_blank-space newline text refl)
 

@@ -121,7 +121,8 @@ bare-closed c text fault (Some rest) e h = some h.0 c h.1 e
 bare-arguments : (text : List ℕ) → IfGot (λ x rest. EndsBare text rest) (arguments text)
 bare-arguments text =
     if_got-if (λ x rest. EndsBare text rest) (starts open_parenthesis text) _ _
-    (λ e. bare-closed close_parenthesis text ended (after_byte close_parenthesis text) refl (after_byte-after close_parenthesis text))
+    (λ e. bare-closed close_parenthesis text ended (after_byte close_parenthesis text) refl
+    (after_byte-after close_parenthesis text))
     (λ e. nothing refl)
 
 bare-quoted : (quote : ℕ) (text : List ℕ) → is_bare quote ≡ true
@@ -139,7 +140,8 @@ single_bare : (edition : Edition) (b : ℕ) (text : List ℕ)
 single_bare first_edition b text e = grind (arith, nat_tests)
 single_bare second_edition b text e = by (b == comma) (b == slash) refl refl e
   where
-    by : (x y : Bool) → (b == comma) ≡ x → (b == slash) ≡ y → (x || (y && not (starts asterisk text))) ≡ true
+    by : (x y : Bool) → (b == comma) ≡ x → (b == slash) ≡ y
+        → (x || (y && not (starts asterisk text))) ≡ true
         → is_bare b ≡ true
     by true y h k e = ap is_bare (eqb-true b comma h)
     by false true h k e = ap is_bare (eqb-true b slash k)
@@ -243,7 +245,8 @@ module _ (edition : Edition) where
       let P : Unit {0} → List ℕ → Type 0 = λ x rest. EndsBare (b ∷ text) rest in
       if_got-if P (b == number_sign) _ _
       (λ e. bare-cons b text _ (ap is_bare (eqb-true b number_sign e)) (bare-hash text
-      (utf8-past_byte b text (let hash = eqb-true b number_sign e in omega arith) u) (name edition text)
+      (utf8-past_byte b text (let hash = eqb-true b number_sign e in omega arith) u)
+      (name edition text)
       refl))
       (λ e0. if_got-if P (begins_number b) _ _
       (λ e. bare-cons b text _ (number_bare b e)

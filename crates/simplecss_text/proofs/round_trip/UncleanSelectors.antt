@@ -51,7 +51,8 @@ record OtherOperator (edition : Edition) (o : Operator) (tail : List ℕ) : Type
   pub other : Operator
   pub rest : List ℕ
   pub differs : other ≡ o → ⊥
-  pub reads : attribute_operator edition (operator_text o ++ (close_bracket ∷ tail)) ≡ got other rest
+  pub reads : attribute_operator edition (operator_text o ++ (close_bracket ∷ tail))
+      ≡ got other rest
 
 -- The outcome after a simple piece has other subselectors or other components than these, or
 -- none.
@@ -92,7 +93,8 @@ differs-joined_by (refused left) j None ss c cs h = tt
 differs-joined_by (refused left) j (Some n) ss c cs h = tt
 differs-joined_by (accepted roles left) j None ss c cs h = λ e f. h (ap (first_subselectors []) f)
     (ap tail_of f)
-differs-joined_by (accepted roles left) j (Some n) ss c cs h = λ e f. h (ap (first_subselectors []) f)
+differs-joined_by (accepted roles left) j (Some n) ss c cs h =
+    λ e f. h (ap (first_subselectors []) f)
     (ap tail_of f)
 
 attribute-kind : (text more : List ℕ) → text ≡ open_bracket ∷ more → next_kind text ≡ Attribute
@@ -127,8 +129,10 @@ differs-selector (accepted roles left) (Some n) c cs d e = d
 
 module _ (edition : Edition) where
   equated-cut : (operator : List ℕ → Operator) (v front more tail : List ℕ)
-      → string_or_name edition (single_quote ∷ (v ++ (single_quote ∷ close_bracket ∷ tail))) ≡ got front (more ++ (single_quote ∷ close_bracket ∷ tail))
-      → equated edition operator (equals_sign ∷ (single_quote ∷ ((v ++ (single_quote ∷ [])) ++ (close_bracket ∷ tail))))
+      → string_or_name edition (single_quote ∷ (v ++ (single_quote ∷ close_bracket ∷ tail)))
+      ≡ got front (more ++ (single_quote ∷ close_bracket ∷ tail))
+      → equated edition operator
+      (equals_sign ∷ (single_quote ∷ ((v ++ (single_quote ∷ [])) ++ (close_bracket ∷ tail))))
       ≡ got (operator front) (more ++ (single_quote ∷ close_bracket ∷ tail))
   equated-cut operator v front more tail e = rw (quoted v tail, e) refl
 

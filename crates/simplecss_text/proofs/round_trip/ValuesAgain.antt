@@ -118,7 +118,8 @@ module _ (edition : Edition) where
 
   -- before another tail
 
-  term-again : (r : List ℕ) (q : ℕ) (tail text other rest : List ℕ) (x : Unit {0}) → ContinuesNothing edition q
+  term-again : (r : List ℕ) (q : ℕ) (tail text other rest : List ℕ) (x : Unit {0})
+      → ContinuesNothing edition q
       → IsUtf8 r → IsUtf8 text → Diverge r (q ∷ tail) text other → term edition text ≡ got x rest
       → length r ≤ length rest → (left : List ℕ) × (term edition other ≡ got x left)
       × Diverge r (q ∷ tail) rest left
@@ -138,7 +139,8 @@ module _ (edition : Edition) where
       by (fails i p) b f g k = absurd (cc)
 
   -- before another tail the terms end at that tail
-  pub valued-again : (r : List ℕ) (q : ℕ) (tail text other : List ℕ) → ContinuesNothing edition q → IsUtf8 r
+  pub valued-again : (r : List ℕ) (q : ℕ) (tail text other : List ℕ) → ContinuesNothing edition q
+      → IsUtf8 r
       → IsUtf8 text → Valued edition r text → Diverge r (q ∷ tail) text other
       → Valued edition (q ∷ tail) other
   valued-again r q tail text other quiet v u (last _ x e) h =

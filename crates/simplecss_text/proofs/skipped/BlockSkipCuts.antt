@@ -70,7 +70,8 @@ brace_skips-same u v r s after_it = by (starts close_brace (u ++ v)) refl
     by false e = inr (rw (e, none u e) refl)
 
 -- what is in place of a declaration
-list_end_skips-same : (u v p q x y : List ℕ) → Diverge (close_brace ∷ (u ++ v)) (close_brace ∷ u) p q
+list_end_skips-same : (u v p q x y : List ℕ)
+    → Diverge (close_brace ∷ (u ++ v)) (close_brace ∷ u) p q
     → Diverge (close_brace ∷ (u ++ v)) (close_brace ∷ u) x y
     → (if ends_list p then [] else record {
       from = p;
@@ -83,7 +84,8 @@ list_end_skips-same : (u v p q x y : List ℕ) → Diverge (close_brace ∷ (u +
     } ∷ [])
 list_end_skips-same u v p q x y h k =
     by (ends_list p) (ends_list q) (opens_comment p) (opens_comment q)
-    (ends_list-diverge (u ++ v) u p q h) (opens_comment-diverge close_brace (u ++ v) u brace_plain p q h)
+    (ends_list-diverge (u ++ v) u p q h)
+    (opens_comment-diverge close_brace (u ++ v) u brace_plain p q h)
     (diverge-append close_brace u v p q h) (diverge-append close_brace u v x y k)
   where
     by : (i j c d : Bool) → i ≡ j → c ≡ d → p ≡ q ++ v → x ≡ y ++ v
@@ -131,12 +133,14 @@ broken-same u v a b (fails f r) (fails g s) n (inr k) less h = by (from_block_en
 
     both : list_end_skips a x ≡ map (skip_before v) (list_end_skips b y)
         → (length (past_byte close_brace (past_byte close_brace x)) < length (u ++ v))
-        ⊎ (brace_skips (past_byte close_brace x) ≡ map (skip_before v) (brace_skips (past_byte close_brace y)))
+        ⊎ (brace_skips (past_byte close_brace x)
+        ≡ map (skip_before v) (brace_skips (past_byte close_brace y)))
         → Same
     both one (inl l) = inl (inl l)
     both one (inr two) =
         inr (rw (one, two)
-        (sym (map-append (skip_before v) (list_end_skips b y) (brace_skips (past_byte close_brace y)))))
+        (sym
+        (map-append (skip_before v) (list_end_skips b y) (brace_skips (past_byte close_brace y)))))
 
     ended : Diverge (close_brace ∷ (u ++ v)) (close_brace ∷ u) x y
         → To true (close_brace ∷ (u ++ v)) (close_brace ∷ u) (past_blank a) (past_blank b)
@@ -177,7 +181,8 @@ block_skips-same edition u v r s w h =
         ⊎ (block_skips edition r ≡ map (skip_before v) (block_skips edition s))
 
     ends : (a b : List ℕ) → declaration_in_block edition a ≡ None → IsUtf8 a
-        → Diverge (close_brace ∷ (u ++ v)) (close_brace ∷ u) a b → (i j : Bool) → ends_list a ≡ i → i ≡ j
+        → Diverge (close_brace ∷ (u ++ v)) (close_brace ∷ u) a b → (i j : Bool) → ends_list a ≡ i
+        → i ≡ j
         → Lost (u ++ v)
         (past_byte close_brace (if i then a else past_broken (declaration edition a)))
         ⊎ ((if i then [] else if_broken a (declaration edition a))

@@ -73,7 +73,8 @@ PartsCut edition text =
     (parts_skips edition text)
 
 parts-step : (edition : Edition) (text : List ℕ)
-    → (starts comma (part edition text).1 ≡ true → PartsCut edition (past_one (part edition text).1))
+    → (starts comma (part edition text).1 ≡ true
+    → PartsCut edition (past_one (part edition text).1))
     → PartsCut edition text
 parts-step edition text more = by (starts comma x) refl
   where
@@ -163,7 +164,8 @@ declaration-ended edition text (b ∷ t) e ends = by b (rw (not_empty b t) at en
     by b f e =
         let is : b ≡ close_brace = eqb-true b close_brace f in
         let start : past_blank text ≡ close_brace ∷ t = e ∙ ap (λ (c : ℕ). c ∷ t) is in
-        let none : name edition (close_brace ∷ t) ≡ fails (no_name (close_brace ∷ t)) (close_brace ∷ t) =
+        let none : name edition (close_brace ∷ t)
+        ≡ fails (no_name (close_brace ∷ t)) (close_brace ∷ t) =
         name-quiet edition close_brace t (quiet-brace edition) in
         rw (start, none) (ap (λ (c : ℕ). c ∷ t) (sym is))
 
@@ -220,14 +222,16 @@ list-cut : (edition : Edition) (a : List ℕ) → declaration_in_block edition a
 list-cut edition a none = by (ends_list a) (declaration edition a) refl refl
   where
     broken : (fault : Fault) (rest : List ℕ) → declaration edition a ≡ fails fault rest
-        → IsCutUp edition (past_byte close_brace (past_byte close_brace (from_block_end rest))) a [] []
+        → IsCutUp edition
+        (past_byte close_brace (past_byte close_brace (from_block_end rest))) a [] []
         (list_end_skips a (from_block_end rest)
         ++ brace_skips (past_byte close_brace (from_block_end rest)))
     broken fault rest e =
         let after : List ℕ = from_block_end rest in
         joined edition after (past_byte close_brace (past_byte close_brace after)) [] []
         (brace_skips (past_byte close_brace after)) (list_end-cut edition a rest fault e)
-        (joined edition (past_byte close_brace after) (past_byte close_brace (past_byte close_brace after)) [] []
+        (joined edition (past_byte close_brace after)
+        (past_byte close_brace (past_byte close_brace after)) [] []
         (brace_skips (past_byte close_brace after)) (closing edition after)
         (further edition (past_byte close_brace after)))
 
@@ -263,8 +267,11 @@ block-step edition text more =
     next rest p e =
         let less = took (declaration_in_block edition) (declaration_in_block-takes edition) text
         rest p e in
-        rw (each-some (declaration_in_block edition) (declaration_in_block-takes edition) text rest
-        p e, block_skips-some edition text rest p e)
+        rw (
+          each-some (declaration_in_block edition) (declaration_in_block-takes edition) text rest
+              p e,
+          block_skips-some edition text rest p e,
+        )
         (by (declaration_skips-ended edition text rest p read) (declaration_skips-at edition text)
         (more rest less))
       where
@@ -299,7 +306,8 @@ block-step edition text more =
             subst (λ (xs : List Skip). IsCutUp edition end text [] (p ∷ ds)
             (xs ++ block_skips edition rest)) (sym one)
             (subst (λ (t : List ℕ). IsCutUp edition end t [] (p ∷ ds)
-            (record { from = from; after = []; why = open_value } ∷ block_skips edition rest)) inside
+            (record { from = from; after = []; why = open_value } ∷ block_skips edition rest))
+            inside
             (open_declaration_then (before text from) from p [] ds (block_skips edition rest)
             (ap (declaration edition) inside ∙ read ∙ ap (got p) ended)
             (subst (λ (t : List ℕ). IsCutUp edition end t [] ds (block_skips edition rest)) ended
@@ -337,7 +345,8 @@ no_brace-left text e = by (from_brace text) refl e
     by : (x : List ℕ) → from_brace text ≡ x → starts open_brace x ≡ false → x ≡ []
     by [] f g = refl
     by (b ∷ x) f g =
-        let stops = past-stops (λ b. not (b == open_brace)) text b x f in absurd (cc (rw g at stops))
+        let stops = past-stops (λ b. not (b == open_brace)) text b x f in
+        absurd (cc (rw g at stops))
 
 next_block-cut : (edition : Edition) (text : List ℕ)
     → IsCutUp edition (next_block edition text).1 (from_brace text) []

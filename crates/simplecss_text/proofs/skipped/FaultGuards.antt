@@ -66,7 +66,8 @@ heard-follow {A = A} {B = B} m n p q = record {
 }
   where
     by : (edition : Edition) (u v : List ℕ) (a b : Reading A) → IsUtf8 (left_after a)
-        → Guard Equal true (close_brace ∷ (u ++ v)) (close_brace ∷ u) a b → FaultGuard (u ++ v) u a b
+        → Guard Equal true (close_brace ∷ (u ++ v)) (close_brace ∷ u) a b
+        → FaultGuard (u ++ v) u a b
         → FaultGuard (u ++ v) u (follow a (λ x. n x edition)) (follow b (λ x. n x edition))
     by edition u v (got x i) b z (inl l) k =
         inl (omega (arith, l, lawful-keeps (n x) (n x) (q x).lawful edition i))
@@ -96,7 +97,8 @@ heard-byte : (c : ℕ) → c < 128 → Heard (λ edition. byte c)
 heard-byte c low =
     record { lawful = byte-lawful c low; reports = λ edition u v r s w h. by (u ++ v) u r s h }
   where
-    one : (t u : List ℕ) (b : ℕ) (r s : List ℕ) → Diverge (close_brace ∷ t) (close_brace ∷ u) (b ∷ r) (b ∷ s)
+    one : (t u : List ℕ) (b : ℕ) (r s : List ℕ)
+        → Diverge (close_brace ∷ t) (close_brace ∷ u) (b ∷ r) (b ∷ s)
         → (k : Bool)
         → FaultGuard t u
         (if k then got (tt {0}) r else fails (wrong_byte c (b ∷ r)) (b ∷ r))
@@ -104,7 +106,8 @@ heard-byte c low =
     one t u b r s h true = inr tt
     one t u b r s h false = inr (byte_place c (b ∷ r) (b ∷ s) h)
 
-    by : (t u r s : List ℕ) → Diverge (close_brace ∷ t) (close_brace ∷ u) r s → FaultGuard t u (byte c r) (byte c s)
+    by : (t u r s : List ℕ) → Diverge (close_brace ∷ t) (close_brace ∷ u) r s
+        → FaultGuard t u (byte c r) (byte c s)
     by t u r s at = one t u close_brace t u at (close_brace == c)
     by t u r s (on b r1 s1 h) = one t u b r1 s1 (on b r1 s1 h) (b == c)
 
@@ -125,7 +128,8 @@ heard-name = record {
   reports = λ edition u v r s w h. by edition u v r s h (name edition r) (name edition s) refl refl;
 }
   where
-    by : (edition : Edition) (u v r s : List ℕ) → Diverge (close_brace ∷ (u ++ v)) (close_brace ∷ u) r s
+    by : (edition : Edition) (u v r s : List ℕ)
+        → Diverge (close_brace ∷ (u ++ v)) (close_brace ∷ u) r s
         → (a b : Reading (List ℕ)) → name edition r ≡ a → name edition s ≡ b
         → FaultGuard (u ++ v) u a b
     by edition u v r s h (got x i) b e k = inr tt
@@ -156,7 +160,8 @@ heard-string_or_name = record {
     by : (edition : Edition) (u v r s : List ℕ) → IsUtf8 r
         → Diverge (close_brace ∷ (u ++ v)) (close_brace ∷ u) r s
         → FaultGuard (u ++ v) u (string_or_name edition r) (string_or_name edition s)
-    by edition u v r s w at = heard-name.reports edition u v (close_brace ∷ (u ++ v)) (close_brace ∷ u) w at
+    by edition u v r s w at =
+        heard-name.reports edition u v (close_brace ∷ (u ++ v)) (close_brace ∷ u) w at
     by edition u v r s w (on b r1 s1 h) =
         quoted edition u v b r1 s1 (is_quote b)
         (heard-name.reports edition u v (b ∷ r1) (b ∷ s1) w (on b r1 s1 h))
@@ -215,7 +220,8 @@ heard-attribute_after =
     (λ operator text. follow (byte close_bracket text) (λ u. give (attribute_selector n operator))))
     heard-name
     (λ n. heard-follow attribute_operator
-    (λ operator edition text. follow (byte close_bracket text) (λ u. give (attribute_selector n operator)))
+    (λ operator edition text.
+    follow (byte close_bracket text) (λ u. give (attribute_selector n operator)))
     heard-attribute_operator
     (λ operator. heard-follow (λ edition. byte close_bracket)
     (λ u edition. give (attribute_selector n operator)) (heard-byte close_bracket (omega arith))
@@ -261,7 +267,8 @@ heard-pseudo_class_after =
 
 -- what follows the sign that a kind begins with
 after-sign : {A : Type 0} (m : Edition → Reader A) → Heard m → (edition : Edition)
-    (kind : NextKind) (u v r s : List ℕ) → IsUtf8 r → Diverge (close_brace ∷ (u ++ v)) (close_brace ∷ u) r s
+    (kind : NextKind) (u v r s : List ℕ) → IsUtf8 r
+    → Diverge (close_brace ∷ (u ++ v)) (close_brace ∷ u) r s
     → HasSign kind → next_kind r ≡ kind
     → FaultGuard (u ++ v) u (m edition (past_one r)) (m edition (past_one s))
 after-sign m p edition kind u v r s w h sign k = by (past_one-diverge close_brace (u ++ v) u r s h)
@@ -272,13 +279,15 @@ after-sign m p edition kind u v r s w h sign k = by (past_one-diverge close_brac
         (well-after begins.byte r (past_one r) begins.ascii
         (subst (λ (x : List ℕ). Ends r x) begins.is (ends-same r))).1 w
 
-    by : (length (past_one r) ≤ length (u ++ v)) ⊎ Diverge (close_brace ∷ (u ++ v)) (close_brace ∷ u) (past_one r)
+    by : (length (past_one r) ≤ length (u ++ v))
+        ⊎ Diverge (close_brace ∷ (u ++ v)) (close_brace ∷ u) (past_one r)
         (past_one s) → FaultGuard (u ++ v) u (m edition (past_one r)) (m edition (past_one s))
     by (inl l) = inl (omega (arith, l, lawful-keeps m m p.lawful edition (past_one r)))
     by (inr diverge) = p.reports edition u v (past_one r) (past_one s) text diverge
 
 pub solid_as-reported : (edition : Edition) (u v r s : List ℕ) → IsUtf8 r
-    → Diverge (close_brace ∷ (u ++ v)) (close_brace ∷ u) r s → (kind : NextKind) → next_kind r ≡ kind
+    → Diverge (close_brace ∷ (u ++ v)) (close_brace ∷ u) r s → (kind : NextKind)
+    → next_kind r ≡ kind
     → FaultGuard (u ++ v) u (solid_as edition kind r) (solid_as edition kind s)
 solid_as-reported edition u v r s w h Stop k = inr (no_place no_selector (λ text other. refl))
 solid_as-reported edition u v r s w h Slash k = inr (no_place no_selector (λ text other. refl))

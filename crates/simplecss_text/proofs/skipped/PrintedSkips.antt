@@ -56,24 +56,30 @@ part_skips-none edition text inside s e =
 -- after the brace and the space, nothing of a printed block is skipped
 block_skips-none : (edition : Edition) (p : StyleDeclaration) (ps : List StyleDeclaration)
     (text : List ℕ) → IsDeclaration edition p → AllByRecursion (IsDeclaration edition) ps
-    → block_skips edition (space ∷ (flat_map declaration_text (p ∷ ps) ++ (space ∷ close_brace ∷ text))) ≡ []
+    → block_skips edition
+    (space ∷ (flat_map declaration_text (p ∷ ps) ++ (space ∷ close_brace ∷ text))) ≡ []
 block_skips-none edition p ps text w ws =
-    let inside = declaration_text p ++ (flat_map declaration_text ps ++ (space ∷ close_brace ∷ text)) in
+    let inside =
+    declaration_text p ++ (flat_map declaration_text ps ++ (space ∷ close_brace ∷ text)) in
     let same : flat_map declaration_text (p ∷ ps) ++ (space ∷ close_brace ∷ text) ≡ inside =
     append_assoc (declaration_text p) (flat_map declaration_text ps) (space ∷ close_brace ∷ text) in
     let listed = declarations-again edition p ps text w ws in
     let there =
-    first-found edition inside p ps (close_brace ∷ text) listed (declaration_in_block edition inside)
+    first-found edition inside p ps (close_brace ∷ text) listed
+    (declaration_in_block edition inside)
     refl in
     let spaced =
     spaced-list edition inside there.1 there.0 there.2
     (list_goes_on edition inside
-    (declaration-begins edition p (flat_map declaration_text ps ++ (space ∷ close_brace ∷ text)) w)) in
+    (declaration-begins edition p
+    (flat_map declaration_text ps ++ (space ∷ close_brace ∷ text)) w)) in
     let all : each (declaration_in_block edition)
-    (space ∷ (flat_map declaration_text (p ∷ ps) ++ (space ∷ close_brace ∷ text))) ≡ (p ∷ ps, close_brace ∷ text) = ap
+    (space ∷ (flat_map declaration_text (p ∷ ps) ++ (space ∷ close_brace ∷ text)))
+    ≡ (p ∷ ps, close_brace ∷ text) = ap
     (λ t. each (declaration_in_block edition) (space ∷ t)) same ∙ spaced ∙ listed in
     let some = not_empty close_brace text in
-    block_skips-left edition (space ∷ (flat_map declaration_text (p ∷ ps) ++ (space ∷ close_brace ∷ text)))
+    block_skips-left edition
+    (space ∷ (flat_map declaration_text (p ∷ ps) ++ (space ∷ close_brace ∷ text)))
     (omega (arith, ap (λ (r : List StyleDeclaration × List ℕ). length r.1) all))
     ∙ ap (λ (r : List StyleDeclaration × List ℕ). list_skips edition r.1) all ∙ rw some refl
 
@@ -91,7 +97,8 @@ rule_set_skips-none : (edition : Edition) (s : List Component) (text inside : Li
     → rule_set_skips edition text ≡ []
 unfolding rule_set_skips
 rule_set_skips-none edition s text inside other start e b =
-    let one : part edition text ≡ (Some s, open_brace ∷ inside) = part-again edition s text inside e in
+    let one : part edition text ≡ (Some s, open_brace ∷ inside) =
+    part-again edition s text inside e in
     let left : (parts edition text).1 ≡ open_brace ∷ inside =
     ap (λ (r : List (List Component) × List ℕ). r.1) (parts-again edition s text inside one) in
     let after : (part edition text).1 ≡ open_brace ∷ inside =

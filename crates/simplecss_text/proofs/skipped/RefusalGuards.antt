@@ -57,10 +57,12 @@ error-alike : (u v text : List ℕ) (f e : Fault) → FaultsAlike (u ++ v) u f e
     → error_of (text ++ v) f ≡ error_of text e
 error-alike u v text f e (no_place _ h) = h (text ++ v) text
 error-alike u v text f e (name_place r s h) =
-    ap (λ (x : List ℕ). InvalidIdent (position_of (text ++ v) x)) (diverge-append close_brace u v r s h)
+    ap (λ (x : List ℕ). InvalidIdent (position_of (text ++ v) x))
+    (diverge-append close_brace u v r s h)
     ∙ ap InvalidIdent (offset-alike text v s)
 error-alike u v text f e (comment_place r s h) =
-    ap (λ (x : List ℕ). InvalidComment (position_of (text ++ v) x)) (diverge-append close_brace u v r s h)
+    ap (λ (x : List ℕ). InvalidComment (position_of (text ++ v) x))
+    (diverge-append close_brace u v r s h)
     ∙ ap InvalidComment (offset-alike text v s)
 error-alike u v text f e (byte_place c r s at) =
     ap (InvalidByte c close_brace) (offset-alike text v (close_brace ∷ u))
@@ -141,7 +143,8 @@ between-alike P closed_side true Colon a x b y n d s c = d
 between-alike P closed_side true Other a x b y n d s c = d
 
 answered-refused : (text u v : List ℕ) (side : Side) (spaced : Bool) (kind : NextKind)
-    (a x b y : List ℕ) (p q : TokenSequence) → Diverge (close_brace ∷ (u ++ v)) (close_brace ∷ u) a b
+    (a x b y : List ℕ) (p q : TokenSequence)
+    → Diverge (close_brace ∷ (u ++ v)) (close_brace ∷ u) a b
     → RefusalGuard text u v p q
     → RefusalGuard text u v (answered (between side spaced kind a x) a p)
     (answered (between side spaced kind b y) b q)
@@ -184,14 +187,16 @@ fault_ending-refused whole side kind spaced start fault after w =
 -- the sequence after every shorter text is refused alike
 abbrev SequencesRefused : Edition → (text : List ℕ) → ℕ → (u v : List ℕ) → Type 0
 SequencesRefused edition text n u v =
-    (side : Side) (r s : List ℕ) → length r ≤ n → IsUtf8 r → Diverge (close_brace ∷ (u ++ v)) (close_brace ∷ u) r s
+    (side : Side) (r s : List ℕ) → length r ≤ n → IsUtf8 r
+    → Diverge (close_brace ∷ (u ++ v)) (close_brace ∷ u) r s
     → RefusalGuard text u v (sequence_from edition side r) (sequence_from edition side s)
 
 -- where a solid piece is read, or its fault
 piece-refused : (edition : Edition) (text : List ℕ) (n : ℕ) (u v : List ℕ)
     → SequencesRefused edition text n u v → (side : Side) (spaced : Bool) (kind : NextKind)
     (r s : List ℕ) (x y : Reading Token)
-    → IsSolid kind → length r ≤ suc n → Diverge (close_brace ∷ (u ++ v)) (close_brace ∷ u) r s → Cuts r x
+    → IsSolid kind → length r ≤ suc n → Diverge (close_brace ∷ (u ++ v)) (close_brace ∷ u) r s
+    → Cuts r x
     → IsUtf8 (left_after x) → Passed (length (u ++ v)) kind r x
     → Guard Equal true (close_brace ∷ (u ++ v)) (close_brace ∷ u) x y → FaultGuard (u ++ v) u x y
     → RefusalGuard text u v (solid_sequence edition side spaced kind r x)
@@ -210,7 +215,8 @@ piece-refused edition text n u v runs side spaced kind r s (fails f p) (fails e 
     ∙ fault-refused text u v f e p q (sequence_end p) (sequence_end q) reported
     ∙ ap (option_map (refusal_before v))
     (sym (fault_ending-refused text side kind spaced s e q w)))
-piece-refused edition text n u v runs side spaced kind r s (got x p) y w l h c z k (inl less) reported =
+piece-refused edition text n u v runs side spaced kind r s (got x p) y w l h c z k
+    (inl less) reported =
     inl (answered-passed (length (u ++ v)) side spaced kind r p
     (token_then x p (sequence_from edition (side_after kind) p)) (λ m. k m less) less
     (after_role-passed (length (u ++ v)) (role_of x) p

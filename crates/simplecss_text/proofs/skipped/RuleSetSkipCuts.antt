@@ -71,18 +71,24 @@ refused_part-same v p q x y r s (Some refusal) e f = rw (e, f) refl
 -- what an accepted selector leaves
 after_read-same : (u v x y : List ℕ) (o : Option (List Component))
     → Diverge (close_brace ∷ (u ++ v)) (close_brace ∷ u) x y
-    → (starts comma_byte x ≡ true) ⊎ Diverge (close_brace ∷ (u ++ v)) (close_brace ∷ u) (from_brace x) (from_brace y)
+    → (starts comma_byte x ≡ true)
+    ⊎ Diverge (close_brace ∷ (u ++ v)) (close_brace ∷ u) (from_brace x) (from_brace y)
     → skips_after_read o x ≡ map (skip_before v) (skips_after_read o y)
 after_read-same u v x y None h c = refl
 after_read-same u v x y (Some selector) h c =
     by (starts comma_byte x) (starts comma_byte y) (starts open_brace x) (starts open_brace y) refl
-    (starts-diverge close_brace (u ++ v) u comma_byte x y h) (starts-diverge close_brace (u ++ v) u open_brace x y h) c
+    (starts-diverge close_brace (u ++ v) u comma_byte x y h)
+    (starts-diverge close_brace (u ++ v) u open_brace x y h) c
   where
     later : (a b : List ℕ) → Diverge (close_brace ∷ (u ++ v)) (close_brace ∷ u) a b
         → record { from = x; after = a; why = why_after a } ∷ []
         ≡ map (skip_before v) (record { from = y; after = b; why = why_after b } ∷ [])
     later a b at =
-        rw (not_empty close_brace (u ++ v), not_empty close_brace u, diverge-append close_brace u v x y h) refl
+        rw (
+          not_empty close_brace (u ++ v),
+          not_empty close_brace u,
+          diverge-append close_brace u v x y h,
+        ) refl
     later a b (on c a1 b1 k) =
         rw (
           not_empty c a1,
@@ -92,7 +98,8 @@ after_read-same u v x y (Some selector) h c =
         ) refl
 
     by : (i j k l : Bool) → starts comma_byte x ≡ i → i ≡ j → k ≡ l
-        → (starts comma_byte x ≡ true) ⊎ Diverge (close_brace ∷ (u ++ v)) (close_brace ∷ u) (from_brace x) (from_brace y)
+        → (starts comma_byte x ≡ true)
+        ⊎ Diverge (close_brace ∷ (u ++ v)) (close_brace ∷ u) (from_brace x) (from_brace y)
         → (if i || k then []
         else record { from = x; after = from_brace x; why = why_after (from_brace x) } ∷ [])
         ≡ map (skip_before v) (if j || l then []
@@ -128,11 +135,13 @@ part_skips-same edition u v r s w h =
     y : List ℕ
     y = past is_space (reads edition s).1
 
-    both : Diverge (close_brace ∷ (u ++ v)) (close_brace ∷ u) x y → (reads edition r).0 ≡ (reads edition s).0
+    both : Diverge (close_brace ∷ (u ++ v)) (close_brace ∷ u) x y
+        → (reads edition r).0 ≡ (reads edition s).0
         → refusal edition r ≡ option_map (refusal_before v) (refusal edition s)
         → past_blank r ≡ past_blank s ++ v
         → past_refused x ≡ past_refused y ++ v
-        → (starts comma_byte x ≡ true) ⊎ Diverge (close_brace ∷ (u ++ v)) (close_brace ∷ u) (from_brace x) (from_brace y)
+        → (starts comma_byte x ≡ true)
+        ⊎ Diverge (close_brace ∷ (u ++ v)) (close_brace ∷ u) (from_brace x) (from_brace y)
         → refused_part r x (refusal edition r) ++ skips_after_read (reads edition r).0 x
         ≡ map (skip_before v)
         (refused_part s y (refusal edition s) ++ skips_after_read (reads edition s).0 y)
@@ -160,13 +169,15 @@ part_skips-same edition u v r s w h =
     comma true false e f g = absurd (cc)
     comma false j e f g = absurd (cc)
 
-    go : Diverge (close_brace ∷ (u ++ v)) (close_brace ∷ u) x y → (reads edition r).0 ≡ (reads edition s).0
+    go : Diverge (close_brace ∷ (u ++ v)) (close_brace ∷ u) x y
+        → (reads edition r).0 ≡ (reads edition s).0
         → refusal edition r ≡ option_map (refusal_before v) (refusal edition s)
         → past_blank r ≡ past_blank s ++ v → (i : Bool) → starts comma_byte x ≡ i
         → PartSkipsSame edition u v r s
     go k e q b true c =
         inr (inr (both k e q b
-        (comma (starts comma_byte x) (starts comma_byte y) c (starts-diverge close_brace (u ++ v) u comma_byte x y k)
+        (comma (starts comma_byte x) (starts comma_byte y) c
+        (starts-diverge close_brace (u ++ v) u comma_byte x y k)
         (diverge-append close_brace u v x y k)) (inl c)))
     go k e q b false c = brace (past-both close_brace (u ++ v) u (λ b. not (b == open_brace)) x y k)
       where
@@ -175,7 +186,8 @@ part_skips-same edition u v r s w h =
         brace (inl l) = inr (inl (c, l))
         brace (inr d) =
             inr (inr (both k e q b
-            (refused_at (starts comma_byte x) (starts comma_byte y) (starts-diverge close_brace (u ++ v) u comma_byte x y k)
+            (refused_at (starts comma_byte x) (starts comma_byte y)
+            (starts-diverge close_brace (u ++ v) u comma_byte x y k)
             (diverge-append close_brace u v x y k)
             (diverge-append close_brace u v (from_brace x) (from_brace y) d)) (inr d)))
 
@@ -190,12 +202,14 @@ part_skips-same edition u v r s w h =
         inl (omega
         (arith, l, length-past is_space (reads edition r).1, reads-after_blank edition r))
     by (inr k) (inr q) (inr b) =
-        go k.1 k.0 q (diverge-append close_brace u v (past_blank r) (past_blank s) b) (starts comma_byte x) refl
+        go k.1 k.0 q (diverge-append close_brace u v (past_blank r) (past_blank s) b)
+        (starts comma_byte x) refl
 
 -- ---- parts
 
 -- where the parts of a text end
-pub parts-some : (edition : Edition) (text : List ℕ) → starts comma_byte (part edition text).1 ≡ true
+pub parts-some : (edition : Edition) (text : List ℕ)
+    → starts comma_byte (part edition text).1 ≡ true
     → (parts edition text).1 ≡ (parts edition (past_one (part edition text).1)).1
 unfolding parts
 parts-some edition text e =
@@ -205,7 +219,8 @@ parts-some edition text e =
     (each-some (part_and_comma edition) (part_and_comma-takes edition) text
     (past_one (part edition text).1) (part edition text).0 read)
 
-pub parts-last : (edition : Edition) (text : List ℕ) → starts comma_byte (part edition text).1 ≡ false
+pub parts-last : (edition : Edition) (text : List ℕ)
+    → starts comma_byte (part edition text).1 ≡ false
     → (parts edition text).1 ≡ (part edition text).1
 unfolding parts
 parts-last edition text e =
@@ -224,9 +239,11 @@ passed-brace : (t x y : List ℕ) → length x ≤ length y → length y ≤ len
 passed-brace t x y l m = omega (arith, l, m, length-past (λ b. not (b == open_brace)) x)
 
 parts_skips-step : (edition : Edition) (n : ℕ) (u v : List ℕ)
-    → ((r s : List ℕ) → length r ≤ n → IsUtf8 r → Diverge (close_brace ∷ (u ++ v)) (close_brace ∷ u) r s
+    → ((r s : List ℕ) → length r ≤ n → IsUtf8 r
+    → Diverge (close_brace ∷ (u ++ v)) (close_brace ∷ u) r s
     → PartsSkipsSame edition u v r s)
-    → (r s : List ℕ) → length r ≤ suc n → IsUtf8 r → Diverge (close_brace ∷ (u ++ v)) (close_brace ∷ u) r s
+    → (r s : List ℕ) → length r ≤ suc n → IsUtf8 r
+    → Diverge (close_brace ∷ (u ++ v)) (close_brace ∷ u) r s
     → PartsSkipsSame edition u v r s
 parts_skips-step edition n u v more r s l w h = by (starts comma_byte x) refl
   where
@@ -291,7 +308,8 @@ parts_skips-step edition n u v more r s l w h = by (starts comma_byte x) refl
             inl (passed-brace (u ++ v) (parts edition r).1 (past_one x)
             (omega (arith, ap length (parts-some edition r e), length-parts edition (past_one x)))
             passed)
-        go (inr diverge) = joined (more (past_one x) (past_one y) (omega (arith, less)) text diverge)
+        go (inr diverge) =
+            joined (more (past_one x) (past_one y) (omega (arith, less)) text diverge)
 
     -- no comma follows it
     last : starts comma_byte x ≡ false → Same (u ++ v) u (part edition r) (part edition s)
@@ -318,7 +336,8 @@ parts_skips-step edition n u v more r s l w h = by (starts comma_byte x) refl
     by false e = last e (part-same edition u v r s w h) (part_skips-same edition u v r s w h)
 
 parts_skips-same : (edition : Edition) (u v : List ℕ) (n : ℕ) (r s : List ℕ) → length r ≤ n
-    → IsUtf8 r → Diverge (close_brace ∷ (u ++ v)) (close_brace ∷ u) r s → PartsSkipsSame edition u v r s
+    → IsUtf8 r → Diverge (close_brace ∷ (u ++ v)) (close_brace ∷ u) r s
+    → PartsSkipsSame edition u v r s
 parts_skips-same edition u v zero r s l w h =
     absurd (omega (arith, l, longer-diverge (close_brace ∷ (u ++ v)) (close_brace ∷ u) r s h))
 parts_skips-same edition u v (suc n) r s l w h =
@@ -340,9 +359,11 @@ next_block_skips-same edition u v whole r s w e h =
     Both x y =
         Lost (u ++ v) (if starts open_brace x then block edition (past_one x) else ([], [])).1
         ⊎ ((if starts open_brace x then block_skips edition (past_one x) else [])
-        ≡ map (skip_before v) (if starts open_brace y then block_skips edition (past_one y) else []))
+        ≡ map (skip_before v)
+        (if starts open_brace y then block_skips edition (past_one y) else []))
 
-    opened : (x y : List ℕ) → Ends whole x → Diverge (close_brace ∷ (u ++ v)) (close_brace ∷ u) x y → Both x y
+    opened : (x y : List ℕ) → Ends whole x → Diverge (close_brace ∷ (u ++ v)) (close_brace ∷ u) x y
+        → Both x y
     opened x y f at = inl (inr refl)
     opened x y f (on b x1 y1 k) = one (b == open_brace) refl
       where
@@ -355,7 +376,8 @@ next_block_skips-same edition u v whole r s w e h =
             (utf8-after whole x1 b (omega (arith, eqb-true b open_brace g)) w f) k
         one false g = inl (inr refl)
 
-    by : (x y : List ℕ) → Ends whole x → To true (close_brace ∷ (u ++ v)) (close_brace ∷ u) x y → Both x y
+    by : (x y : List ℕ) → Ends whole x → To true (close_brace ∷ (u ++ v)) (close_brace ∷ u) x y
+        → Both x y
     by x y f (inl l) = inl (opened-lost edition (u ++ v) x l)
     by x y f (inr k) = opened x y f k
 
@@ -368,7 +390,8 @@ next_block-opened edition t x l = opened-lost edition t (from_brace x) l
 comma_skips-same : (u v r s : List ℕ) → Diverge (close_brace ∷ (u ++ v)) (close_brace ∷ u) r s
     → comma_skips r ≡ map (skip_before v) (comma_skips s)
 comma_skips-same u v r s at = refl
-comma_skips-same u v r s (on b r1 s1 h) = by (b == comma_byte) (diverge-append close_brace u v r1 s1 h)
+comma_skips-same u v r s (on b r1 s1 h) =
+    by (b == comma_byte) (diverge-append close_brace u v r1 s1 h)
   where
     by : (k : Bool) → r1 ≡ s1 ++ v
         → (if k then record { from = b ∷ r1; after = r1; why = leading_comma } ∷ [] else [])
@@ -436,7 +459,8 @@ rule_set_skips-same edition u v r s w h =
         body (next_block_skips-same edition u v x a b z (parts-ends edition x) k.1) e
 
     comma : IsUtf8 x
-        → (length x < length (close_brace ∷ (u ++ v))) ⊎ Diverge (close_brace ∷ (u ++ v)) (close_brace ∷ u) x y → Both
+        → (length x < length (close_brace ∷ (u ++ v)))
+        ⊎ Diverge (close_brace ∷ (u ++ v)) (close_brace ∷ u) x y → Both
     comma z (inl l) =
         inl (next_block-lost edition (u ++ v) a (omega (arith, length-parts edition x)))
     comma z (inr k) =

@@ -83,7 +83,8 @@ kept-name [] n e = refl
 kept-name (b ∷ v) n e = rw e refl
 
 -- a name that is read alike
-name-alike : (edition : Edition) (g : ℕ) (s v w n x : List ℕ) → ContinuesNothing edition g → IsUtf8 (s ++ v)
+name-alike : (edition : Edition) (g : ℕ) (s v w n x : List ℕ) → ContinuesNothing edition g
+    → IsUtf8 (s ++ v)
     → Diverge (g ∷ (w ++ v)) (g ∷ w) (s ++ v) s → name edition (s ++ v) ≡ got n x
     → length (w ++ v) < length x
     → name_of (name edition (s ++ v)) ≡ name_before v (name_of (name edition s))
@@ -221,11 +222,13 @@ statement_skips-cut edition u v w rules whole cut e =
         none (sym (ap (λ (c : List StyleRule × List ℕ). c.1) r) ∙ k)
     ruled diverge other r (inr same) =
         let sign : starts at_sign_byte (past_blank u) ≡ false =
-        sym (starts-diverge close_brace (w ++ v) w at_sign_byte (past_blank (u ++ v)) (past_blank u) diverge)
+        sym (starts-diverge close_brace (w ++ v) w at_sign_byte (past_blank (u ++ v))
+        (past_blank u) diverge)
         ∙ other in
         rw (other, sign) same
 
-    at_sign : (s : List ℕ) → past_blank (u ++ v) ≡ at_sign_byte ∷ (s ++ v) → past_blank u ≡ at_sign_byte ∷ s
+    at_sign : (s : List ℕ) → past_blank (u ++ v) ≡ at_sign_byte ∷ (s ++ v)
+        → past_blank u ≡ at_sign_byte ∷ s
         → (w ++ v ≡ [])
         ⊎ (name_of (name edition (s ++ v)) ≡ name_before v (name_of (name edition s)))
         → at_rule_rest edition (s ++ v) ≡ w ++ v
@@ -247,7 +250,8 @@ statement_skips-cut edition u v w rules whole cut e =
     by : NextEnds edition (past_blank (u ++ v)) rules (w ++ v) → Cut
     by (text_ends n) = none n
     by (rules_end other r h) =
-        let diverge : Diverge (close_brace ∷ (w ++ v)) (close_brace ∷ w) (past_blank (u ++ v)) (past_blank u) =
+        let diverge : Diverge (close_brace ∷ (w ++ v)) (close_brace ∷ w) (past_blank (u ++ v))
+        (past_blank u) =
         past_blank-diverge close_brace u v w brace_plain h in
         ruled diverge other r
         (rule_set_skips-same edition w v (past_blank (u ++ v)) (past_blank u)
@@ -257,14 +261,17 @@ statement_skips-cut edition u v w rules whole cut e =
         let parts : after ≡ s ++ v =
         sym (append_assoc (before after (w ++ v)) w v
         ∙ (at_rule-well edition after (w ++ v) h).0) in
-        let start : past_blank (u ++ v) ≡ at_sign_byte ∷ (s ++ v) = is ∙ ap (λ (t : List ℕ). at_sign_byte ∷ t) parts in
+        let start : past_blank (u ++ v) ≡ at_sign_byte ∷ (s ++ v) =
+        is ∙ ap (λ (t : List ℕ). at_sign_byte ∷ t) parts in
         let following : Ends (past_blank (u ++ v)) (at_sign_byte ∷ (s ++ v)) =
         subst (Ends (past_blank (u ++ v))) start (ends-same (past_blank (u ++ v))) in
-        let diverge : Diverge (at_sign_byte ∷ (s ++ v)) (at_sign_byte ∷ s) (past_blank (u ++ v)) (past_blank u) =
+        let diverge : Diverge (at_sign_byte ∷ (s ++ v)) (at_sign_byte ∷ s) (past_blank (u ++ v))
+        (past_blank u) =
         past_blank-diverge at_sign_byte u v s sign_plain following in
         let whole_after : IsUtf8 (s ++ v) =
         utf8-after (u ++ v) (s ++ v) at_sign_byte (omega arith) whole
-        (ends-ends (u ++ v) (past_blank (u ++ v)) (at_sign_byte ∷ (s ++ v)) (ends-past_blank (u ++ v))
+        (ends-ends (u ++ v) (past_blank (u ++ v)) (at_sign_byte ∷ (s ++ v))
+        (ends-past_blank (u ++ v))
         following) in
         let ends : AtRuleEnds edition (s ++ v) (w ++ v) =
         subst (λ (t : List ℕ). AtRuleEnds edition t (w ++ v)) parts h in

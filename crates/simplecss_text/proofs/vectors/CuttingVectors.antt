@@ -31,14 +31,20 @@ pub ends_of_statements : (edition : Edition) →
     (statement_ends edition further_brace ≡ 6 ∷ 16 ∷ [])
     × (statement_ends edition (codes "@m x; a{b:c} /**/ @--x{y:z} /* w") ≡ 5 ∷ 12 ∷ 20 ∷ 27 ∷ [])
     × (statement_ends edition (codes " /**/ ") ≡ [])
-unfolding rests_after each comment blank gap past_name_chars name string_or_name attribute_operator attribute_after lang_after pseudo_class_after named_token next_kind solid piece ending sequence_from chars encode trim_start trim_end reads part parts next_block rule_set at_rule_rest statement statements block block_end word past_number term value importance trailing stated_name declaration declarations
+unfolding rests_after each comment blank gap past_name_chars name string_or_name attribute_operator
+    attribute_after lang_after pseudo_class_after named_token next_kind solid piece ending
+    sequence_from chars encode trim_start trim_end reads part parts next_block rule_set at_rule_rest
+    statement statements block block_end word past_number term value importance trailing stated_name
+    declaration declarations
 ends_of_statements first_edition = (refl, refl, refl)
 ends_of_statements second_edition = (refl, refl, refl)
 
 -- the rule `b { c:d; }`
 abbrev rule_b : StyleRule
 rule_b = record {
-  components = record { combinator = none; compound = record { name = Some (codes "b"); subselectors = [] } } ∷ [];
+  components =
+      record { combinator = none; compound = record { name = Some (codes "b"); subselectors = [] } }
+      ∷ [];
   declarations = record { name = codes "c"; value = codes "d"; important = false } ∷ [];
 }
 
@@ -48,7 +54,11 @@ pub cut_at_statement : (edition : Edition) →
     × (take 6 further_brace ≡ codes "a { }}")
     × (kept edition (take 6 further_brace) ≡ [])
     × (kept edition (drop 6 further_brace) ≡ rule_b ∷ [])
-unfolding rests_after each comment blank gap past_name_chars name string_or_name attribute_operator attribute_after lang_after pseudo_class_after named_token next_kind solid piece ending sequence_from chars encode trim_start trim_end reads part parts next_block rule_set at_rule_rest statement statements block block_end word past_number term value importance trailing stated_name declaration declarations
+unfolding rests_after each comment blank gap past_name_chars name string_or_name attribute_operator
+    attribute_after lang_after pseudo_class_after named_token next_kind solid piece ending
+    sequence_from chars encode trim_start trim_end reads part parts next_block rule_set at_rule_rest
+    statement statements block block_end word past_number term value importance trailing stated_name
+    declaration declarations
 cut_at_statement first_edition = (refl, refl, refl, refl)
 cut_at_statement second_edition = (refl, refl, refl, refl)
 
@@ -57,7 +67,9 @@ pub ends_at_six : (edition : Edition) → StatementEndsAt edition further_brace 
 ends_at_six edition = rw (ends_of_statements edition).0 (0, omega arith, refl)
 
 pub across_statement : (edition : Edition) → KeepsAcross edition further_brace 6
-across_statement edition = (cut_at_statement edition).0 ∙ sym (ap (λ (rules : List StyleRule). rules ++ kept edition (drop 6 further_brace)) (cut_at_statement edition).2 ∙ (cut_at_statement edition).3)
+across_statement edition = (cut_at_statement edition).0
+    ∙ sym (ap (λ (rules : List StyleRule). rules ++ kept edition (drop 6 further_brace))
+    (cut_at_statement edition).2 ∙ (cut_at_statement edition).3)
 
 -- cut a byte before, they yield none, since the second piece begins with the further brace
 pub cut_elsewhere : (edition : Edition) →
@@ -66,14 +78,20 @@ pub cut_elsewhere : (edition : Edition) →
     × (kept edition (drop 5 further_brace) ≡ [])
     × (sheet edition (take 5 further_brace ∷ drop 5 further_brace ∷ []) ≡ [])
     × (sheet_text (sheet edition (further_brace ∷ [])) ≡ codes "b { c:d; }")
-unfolding rests_after each comment blank gap past_name_chars name string_or_name attribute_operator attribute_after lang_after pseudo_class_after named_token next_kind solid piece ending sequence_from chars encode trim_start trim_end reads part parts next_block rule_set at_rule_rest statement statements block block_end word past_number term value importance trailing stated_name declaration declarations
+unfolding rests_after each comment blank gap past_name_chars name string_or_name attribute_operator
+    attribute_after lang_after pseudo_class_after named_token next_kind solid piece ending
+    sequence_from chars encode trim_start trim_end reads part parts next_block rule_set at_rule_rest
+    statement statements block block_end word past_number term value importance trailing stated_name
+    declaration declarations
 cut_elsewhere first_edition = (refl, refl, refl, refl, refl)
 cut_elsewhere second_edition = (refl, refl, refl, refl, refl)
 
 -- so there the rules of the whole are not those of the two pieces
 pub not_elsewhere : (edition : Edition) → KeepsAcross edition further_brace 5 → ⊥
 not_elsewhere edition e =
-    let none : kept edition further_brace ≡ [] = e ∙ ap (λ (rules : List StyleRule). rules ++ kept edition (drop 5 further_brace)) (cut_elsewhere edition).1 ∙ (cut_elsewhere edition).2 in
+    let none : kept edition further_brace ≡ [] = e
+    ∙ ap (λ (rules : List StyleRule). rules ++ kept edition (drop 5 further_brace))
+    (cut_elsewhere edition).1 ∙ (cut_elsewhere edition).2 in
     let some : kept edition further_brace ≡ rule_b ∷ [] = (cut_at_statement edition).0 in
     absurd (cc)
 

@@ -21,12 +21,20 @@ use Rattle.simplecss_text.specs.Printing.{sheet_text}
 pub slashes :
     (sheet_text (kept first_edition (codes "a{b:c/d}")) ≡ codes "a { b:c; }")
     × (sheet_text (kept second_edition (codes "a{b:c/d}")) ≡ codes "a { b:c/d; }")
-unfolding each comment blank gap past_name_chars name string_or_name attribute_operator attribute_after lang_after pseudo_class_after named_token next_kind solid piece ending sequence_from chars encode trim_start trim_end reads part parts next_block rule_set at_rule_rest statement statements block block_end word past_number term value importance trailing stated_name declaration declarations
+unfolding each comment blank gap past_name_chars name string_or_name attribute_operator
+    attribute_after lang_after pseudo_class_after named_token next_kind solid piece ending
+    sequence_from chars encode trim_start trim_end reads part parts next_block rule_set at_rule_rest
+    statement statements block block_end word past_number term value importance trailing stated_name
+    declaration declarations
 slashes = (refl, refl)
 
 -- and U+00E9 is a name
 pub names_past_ascii :
     (kept first_edition (195 ∷ 169 ∷ codes "{b:c}") ≡ [])
     × (sheet_text (kept second_edition (195 ∷ 169 ∷ codes "{b:c}")) ≡ 195 ∷ 169 ∷ codes " { b:c; }")
-unfolding each comment blank gap past_name_chars name string_or_name attribute_operator attribute_after lang_after pseudo_class_after named_token next_kind solid piece ending sequence_from chars encode trim_start trim_end reads part parts next_block rule_set at_rule_rest statement statements block block_end word past_number term value importance trailing stated_name declaration declarations
+unfolding each comment blank gap past_name_chars name string_or_name attribute_operator
+    attribute_after lang_after pseudo_class_after named_token next_kind solid piece ending
+    sequence_from chars encode trim_start trim_end reads part parts next_block rule_set at_rule_rest
+    statement statements block block_end word past_number term value importance trailing stated_name
+    declaration declarations
 names_past_ascii = (refl, refl)

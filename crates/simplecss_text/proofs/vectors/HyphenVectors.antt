@@ -16,12 +16,26 @@ use Rattle.simplecss_text.specs.Selectors.{reads}
 use Rattle.simplecss_text.specs.Printing.{selector_text, is_clean}
 
 pub lone_hyphen : (edition : Edition) →
-    (reads edition (codes "-") ≡ (Some (record { combinator = none; compound = record { name = Some (codes "-"); subselectors = [] } } ∷ []), []))
-    × (selector_text (record { combinator = none; compound = record { name = Some (codes "-"); subselectors = [] } } ∷ []) ≡ codes "-")
-    × (is_clean (record { combinator = none; compound = record { name = Some (codes "-"); subselectors = [] } } ∷ []) ≡ true)
+    (reads edition (codes "-") ≡ (
+      Some (record {
+        combinator = none;
+        compound = record { name = Some (codes "-"); subselectors = [] };
+      } ∷ []),
+      [],
+    ))
+    × (selector_text (record {
+      combinator = none;
+      compound = record { name = Some (codes "-"); subselectors = [] };
+    } ∷ []) ≡ codes "-")
+    × (is_clean (record {
+      combinator = none;
+      compound = record { name = Some (codes "-"); subselectors = [] };
+    } ∷ []) ≡ true)
     × ((reads edition (codes "- {")).0 ≡ None)
     × ((reads edition (codes "-,")).0 ≡ None)
     × ((reads edition (codes "-{")).0 ≡ None)
-unfolding each comment blank gap past_name_chars name string_or_name attribute_operator attribute_after lang_after pseudo_class_after named_token next_kind solid piece ending sequence_from chars encode trim_start trim_end reads
+unfolding each comment blank gap past_name_chars name string_or_name attribute_operator
+    attribute_after lang_after pseudo_class_after named_token next_kind solid piece ending
+    sequence_from chars encode trim_start trim_end reads
 lone_hyphen first_edition = (refl, refl, refl, refl, refl, refl)
 lone_hyphen second_edition = (refl, refl, refl, refl, refl, refl)

@@ -23,26 +23,42 @@ use Rattle.simplecss_text.specs.PrintingLaws.{has_wide_space, are_clean}
 -- an apostrophe without a backslash before it ends the printed value
 pub bare_apostrophe : (edition : Edition) →
     (are_clean (sheet edition (codes "[a=\"it's\"] { b:c }" ∷ [])) ≡ false)
-    × (sheet_text (sheet edition (codes "[a=\"it's\"] { b:c }" ∷ [])) ≡ codes "*[a='it's'] { b:c; }")
+    × (sheet_text (sheet edition (codes "[a=\"it's\"] { b:c }" ∷ []))
+    ≡ codes "*[a='it's'] { b:c; }")
     × (sheet edition (codes "*[a='it's'] { b:c; }" ∷ []) ≡ [])
-unfolding each comment blank gap past_name_chars name string_or_name attribute_operator attribute_after lang_after pseudo_class_after named_token next_kind solid piece ending sequence_from chars encode trim_start trim_end reads part parts next_block rule_set at_rule_rest statement statements block block_end word past_number term value importance trailing stated_name declaration declarations
+unfolding each comment blank gap past_name_chars name string_or_name attribute_operator
+    attribute_after lang_after pseudo_class_after named_token next_kind solid piece ending
+    sequence_from chars encode trim_start trim_end reads part parts next_block rule_set at_rule_rest
+    statement statements block block_end word past_number term value importance trailing stated_name
+    declaration declarations
 bare_apostrophe first_edition = (refl, refl, refl)
 bare_apostrophe second_edition = (refl, refl, refl)
 
 -- after a backslash it stays
 pub escaped_apostrophe : (edition : Edition) →
     (are_clean (sheet edition (codes "[a=\"it\\'s\"] { b:c }" ∷ [])) ≡ true)
-    × (sheet_text (sheet edition (codes "[a=\"it\\'s\"] { b:c }" ∷ [])) ≡ codes "*[a='it\\'s'] { b:c; }")
-    × (sheet edition (codes "*[a='it\\'s'] { b:c; }" ∷ []) ≡ sheet edition (codes "[a=\"it\\'s\"] { b:c }" ∷ []))
-unfolding each comment blank gap past_name_chars name string_or_name attribute_operator attribute_after lang_after pseudo_class_after named_token next_kind solid piece ending sequence_from chars encode trim_start trim_end reads part parts next_block rule_set at_rule_rest statement statements block block_end word past_number term value importance trailing stated_name declaration declarations
+    × (sheet_text (sheet edition (codes "[a=\"it\\'s\"] { b:c }" ∷ []))
+    ≡ codes "*[a='it\\'s'] { b:c; }")
+    × (sheet edition (codes "*[a='it\\'s'] { b:c; }" ∷ [])
+    ≡ sheet edition (codes "[a=\"it\\'s\"] { b:c }" ∷ []))
+unfolding each comment blank gap past_name_chars name string_or_name attribute_operator
+    attribute_after lang_after pseudo_class_after named_token next_kind solid piece ending
+    sequence_from chars encode trim_start trim_end reads part parts next_block rule_set at_rule_rest
+    statement statements block block_end word past_number term value importance trailing stated_name
+    declaration declarations
 escaped_apostrophe first_edition = (refl, refl, refl)
 escaped_apostrophe second_edition = (refl, refl, refl)
 
 -- an ideographic space is a name before a parenthesis, and is trimmed off the value
 pub ideographic_space : (edition : Edition) →
     (has_wide_space (codes "a { b:" ++ (227 ∷ 128 ∷ 128 ∷ codes "(c) }")) ≡ true)
-    × (sheet_text (sheet edition ((codes "a { b:" ++ (227 ∷ 128 ∷ 128 ∷ codes "(c) }")) ∷ [])) ≡ codes "a { b:(c); }")
+    × (sheet_text (sheet edition ((codes "a { b:" ++ (227 ∷ 128 ∷ 128 ∷ codes "(c) }")) ∷ []))
+    ≡ codes "a { b:(c); }")
     × (sheet edition (codes "a { b:(c); }" ∷ []) ≡ [])
-unfolding each comment blank gap past_name_chars name string_or_name attribute_operator attribute_after lang_after pseudo_class_after named_token next_kind solid piece ending sequence_from chars encode trim_start trim_end reads part parts next_block rule_set at_rule_rest statement statements block block_end word past_number term value importance trailing stated_name declaration declarations
+unfolding each comment blank gap past_name_chars name string_or_name attribute_operator
+    attribute_after lang_after pseudo_class_after named_token next_kind solid piece ending
+    sequence_from chars encode trim_start trim_end reads part parts next_block rule_set at_rule_rest
+    statement statements block block_end word past_number term value importance trailing stated_name
+    declaration declarations
 ideographic_space first_edition = (refl, refl, refl)
 ideographic_space second_edition = (refl, refl, refl)

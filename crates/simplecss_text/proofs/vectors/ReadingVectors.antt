@@ -25,7 +25,8 @@ pub comments :
     × (comment (codes "/ b") ≡ fails (no_comment (codes "/ b")) (codes " b"))
     × (comment (codes "ab") ≡ fails (no_comment (codes "ab")) (codes "ab"))
     × (comment [] ≡ fails (no_comment []) [])
-unfolding each comment blank gap past_name_chars name string_or_name word past_number term position block_end chars encode
+unfolding each comment blank gap past_name_chars name string_or_name word past_number term position
+    block_end chars encode
 comments = (refl, refl, refl, refl, refl, refl)
 
 -- blanks
@@ -33,7 +34,8 @@ pub blanks :
     (blank (codes "/**/ /* */a") ≡ got tt (codes "a"))
     × (blank (codes "a") ≡ got tt (codes "a"))
     × (blank (codes " /*/") ≡ fails (no_comment (codes "/*/")) [])
-unfolding each comment blank gap past_name_chars name string_or_name word past_number term position block_end chars encode
+unfolding each comment blank gap past_name_chars name string_or_name word past_number term position
+    block_end chars encode
 blanks = (refl, refl, refl)
 
 -- blanks, and whether a space byte is in them
@@ -44,7 +46,8 @@ pub gaps :
     × (gap (11 ∷ 97 ∷ []) ≡ got false (11 ∷ 97 ∷ []))
     × (gap (codes " /* x") ≡ fails (no_comment (codes "/* x")) [])
     × (gap (codes "/ ") ≡ got false (codes "/ "))
-unfolding each comment blank gap past_name_chars name string_or_name word past_number term position block_end chars encode
+unfolding each comment blank gap past_name_chars name string_or_name word past_number term position
+    block_end chars encode
 gaps = (refl, refl, refl, refl, refl, refl)
 
 -- names
@@ -55,16 +58,20 @@ pub names : (edition : Edition) →
     × (name edition (codes "--x") ≡ fails (no_name (codes "--x")) (codes "-x"))
     × (name edition [] ≡ fails (no_name []) [])
     × (name edition (codes "1a") ≡ fails (no_name (codes "1a")) (codes "1a"))
-    × (name edition (97 ∷ 227 ∷ 128 ∷ 128 ∷ 98 ∷ 32 ∷ 99 ∷ []) ≡ got (97 ∷ 227 ∷ 128 ∷ 128 ∷ 98 ∷ []) (codes " c"))
-unfolding each comment blank gap past_name_chars name string_or_name word past_number term position block_end chars encode
+    × (name edition (97 ∷ 227 ∷ 128 ∷ 128 ∷ 98 ∷ 32 ∷ 99 ∷ [])
+    ≡ got (97 ∷ 227 ∷ 128 ∷ 128 ∷ 98 ∷ []) (codes " c"))
+unfolding each comment blank gap past_name_chars name string_or_name word past_number term position
+    block_end chars encode
 names first_edition = (refl, refl, refl, refl, refl, refl, refl)
 names second_edition = (refl, refl, refl, refl, refl, refl, refl)
 
 -- and what the two editions read apart
 pub names-editions :
     (name second_edition (encode_utf8_all (codes "aé")) ≡ got (encode_utf8_all (codes "aé")) [])
-    × (name first_edition (encode_utf8_all (codes "aé")) ≡ got (codes "a") (encode_utf8_all (codes "é")))
-unfolding each comment blank gap past_name_chars name string_or_name word past_number term position block_end chars encode
+    × (name first_edition (encode_utf8_all (codes "aé"))
+    ≡ got (codes "a") (encode_utf8_all (codes "é")))
+unfolding each comment blank gap past_name_chars name string_or_name word past_number term position
+    block_end chars encode
 names-editions = (refl, refl)
 
 -- strings and what may be in their place
@@ -74,7 +81,8 @@ pub strings : (edition : Edition) →
     × (string_or_name edition (codes "'a\\'") ≡ fails ended [])
     × (string_or_name edition (codes "ab]") ≡ got (codes "ab") (codes "]"))
     × (string_or_name edition [] ≡ fails ended [])
-unfolding each comment blank gap past_name_chars name string_or_name word past_number term position block_end chars encode
+unfolding each comment blank gap past_name_chars name string_or_name word past_number term position
+    block_end chars encode
 strings first_edition = (refl, refl, refl, refl, refl)
 strings second_edition = (refl, refl, refl, refl, refl)
 
@@ -89,7 +97,8 @@ pub terms : (edition : Edition) →
     × (term edition (codes "\"a") ≡ fails ended [])
     × (term edition (codes "/* */") ≡ fails (no_name (codes "/* */")) (codes "/* */"))
     × (term edition (codes ",a") ≡ got tt (codes "a"))
-unfolding each comment blank gap past_name_chars name string_or_name word past_number term position block_end chars encode
+unfolding each comment blank gap past_name_chars name string_or_name word past_number term position
+    block_end chars encode
 terms first_edition = (refl, refl, refl, refl, refl, refl, refl, refl, refl)
 terms second_edition = (refl, refl, refl, refl, refl, refl, refl, refl, refl)
 
@@ -97,7 +106,8 @@ terms second_edition = (refl, refl, refl, refl, refl, refl, refl, refl, refl)
 pub terms-editions :
     (term second_edition (codes "/1") ≡ got tt (codes "1"))
     × (term first_edition (codes "/1") ≡ fails (no_name (codes "/1")) (codes "/1"))
-unfolding each comment blank gap past_name_chars name string_or_name word past_number term position block_end chars encode
+unfolding each comment blank gap past_name_chars name string_or_name word past_number term position
+    block_end chars encode
 terms-editions = (refl, refl)
 
 -- where a block ends
@@ -106,17 +116,23 @@ pub block_ends :
     × (block_end (codes "a}b") ≡ 1)
     × (block_end (codes "{ab") ≡ 3)
     × (block_end [] ≡ 0)
-unfolding each comment blank gap past_name_chars name string_or_name word past_number term position block_end chars encode
+unfolding each comment blank gap past_name_chars name string_or_name word past_number term position
+    block_end chars encode
 block_ends = (refl, refl, refl, refl)
 
 -- the errors that report faults
 pub errors :
     (error_of (codes "a\nbc <") (no_name (codes "<")) ≡ InvalidIdent (record { row = 2; col = 4 }))
-    × (error_of (encode_utf8_all (codes "[a=\"x\"é]")) (wrong_byte close_bracket (encode_utf8_all (codes "é]"))) ≡ InvalidByte close_bracket 195 (record { row = 1; col = 7 }))
+    × (error_of (encode_utf8_all (codes "[a=\"x\"é]")) (wrong_byte close_bracket
+    (encode_utf8_all (codes "é]"))) ≡ InvalidByte close_bracket 195 (record { row = 1; col = 7 }))
     × (error_of (codes "a") (wrong_byte colon []) ≡ UnexpectedEndOfStream)
-    × (error_of (encode_utf8_all (codes "é / b")) (no_comment (codes "/ b")) ≡ InvalidComment (record { row = 1; col = 3 }))
-    × (error_text (InvalidByte close_bracket 195 (record { row = 1; col = 7 })) ≡ codes "expected ']' not '" ++ (encode_utf8_all (codes "Ã")) ++ codes "' at " ++ position_text (record { row = 1; col = 7 }))
-unfolding each comment blank gap past_name_chars name string_or_name word past_number term position block_end chars encode
+    × (error_of (encode_utf8_all (codes "é / b")) (no_comment (codes "/ b"))
+    ≡ InvalidComment (record { row = 1; col = 3 }))
+    × (error_text (InvalidByte close_bracket 195 (record { row = 1; col = 7 }))
+    ≡ codes "expected ']' not '" ++ (encode_utf8_all (codes "Ã")) ++ codes "' at "
+    ++ position_text (record { row = 1; col = 7 }))
+unfolding each comment blank gap past_name_chars name string_or_name word past_number term position
+    block_end chars encode
 errors = (refl, refl, refl, refl, refl)
 
 -- the shortest comment, and what is shorter
@@ -128,7 +144,8 @@ pub shortest_comments :
     × (comment (codes "/**") ≡ fails (no_comment (codes "/**")) [])
     × (comment (codes "/") ≡ fails (no_comment (codes "/")) [])
     × (comment (codes "//**/") ≡ fails (no_comment (codes "//**/")) (codes "/**/"))
-unfolding each comment blank gap past_name_chars name string_or_name word past_number term position block_end chars encode
+unfolding each comment blank gap past_name_chars name string_or_name word past_number term position
+    block_end chars encode
 shortest_comments = (refl, refl, refl, refl, refl, refl, refl)
 
 -- blanks up to the end of the text, or up to a comment that is not closed
@@ -139,7 +156,8 @@ pub gaps_at_the_end :
     × (blank (codes "/ a") ≡ got tt (codes "/ a"))
     × (gap (codes "/* */ ") ≡ got true [])
     × (gap (codes "/* *//*") ≡ fails (no_comment (codes "/*")) [])
-unfolding each comment blank gap past_name_chars name string_or_name word past_number term position block_end chars encode
+unfolding each comment blank gap past_name_chars name string_or_name word past_number term position
+    block_end chars encode
 gaps_at_the_end = (refl, refl, refl, refl, refl, refl)
 
 -- names with hyphens
@@ -154,14 +172,16 @@ pub hyphens : (edition : Edition) →
     × (name edition (codes "_") ≡ got (codes "_") [])
     × (name edition (97 ∷ 90 ∷ 57 ∷ 11 ∷ []) ≡ got (codes "aZ9") (11 ∷ []))
     × (name edition (codes "\\a") ≡ fails (no_name (codes "\\a")) (codes "\\a"))
-unfolding each comment blank gap past_name_chars name string_or_name word past_number term position block_end chars encode
+unfolding each comment blank gap past_name_chars name string_or_name word past_number term position
+    block_end chars encode
 hyphens first_edition = (refl, refl, refl, refl, refl, refl, refl, refl, refl, refl)
 hyphens second_edition = (refl, refl, refl, refl, refl, refl, refl, refl, refl, refl)
 
 -- names of wide characters, in both editions
 pub wide_names : (edition : Edition) →
     (name edition (227 ∷ 128 ∷ 128 ∷ []) ≡ got (227 ∷ 128 ∷ 128 ∷ []) [])
-unfolding each comment blank gap past_name_chars name string_or_name word past_number term position block_end chars encode
+unfolding each comment blank gap past_name_chars name string_or_name word past_number term position
+    block_end chars encode
 wide_names first_edition = refl
 wide_names second_edition = refl
 
@@ -171,10 +191,14 @@ pub wide_names-editions :
     × (name second_edition (encode_utf8_all (codes "aîé")) ≡ got (encode_utf8_all (codes "aîé")) [])
     × (name second_edition (encode_utf8_all (codes "í")) ≡ got (encode_utf8_all (codes "í")) [])
     × (name second_edition (194 ∷ 160 ∷ []) ≡ got (194 ∷ 160 ∷ []) [])
-    × (name first_edition (encode_utf8_all (codes "-é")) ≡ fails (no_name (encode_utf8_all (codes "-é"))) (encode_utf8_all (codes "é")))
-    × (name first_edition (encode_utf8_all (codes "aîé")) ≡ got (encode_utf8_all (codes "aî")) (encode_utf8_all (codes "é")))
-    × (name first_edition (encode_utf8_all (codes "í")) ≡ fails (no_name (encode_utf8_all (codes "í"))) (encode_utf8_all (codes "í")))
-unfolding each comment blank gap past_name_chars name string_or_name word past_number term position block_end chars encode
+    × (name first_edition (encode_utf8_all (codes "-é"))
+    ≡ fails (no_name (encode_utf8_all (codes "-é"))) (encode_utf8_all (codes "é")))
+    × (name first_edition (encode_utf8_all (codes "aîé"))
+    ≡ got (encode_utf8_all (codes "aî")) (encode_utf8_all (codes "é")))
+    × (name first_edition (encode_utf8_all (codes "í"))
+    ≡ fails (no_name (encode_utf8_all (codes "í"))) (encode_utf8_all (codes "í")))
+unfolding each comment blank gap past_name_chars name string_or_name word past_number term position
+    block_end chars encode
 wide_names-editions = (refl, refl, refl, refl, refl, refl, refl)
 
 -- strings and the quotes and backslashes in them
@@ -189,7 +213,8 @@ pub quotes : (edition : Edition) →
     × (string_or_name edition (codes "-") ≡ got (codes "-") [])
     × (string_or_name edition (codes "-]") ≡ fails (no_name (codes "-]")) (codes "]"))
     × (string_or_name edition (codes "]") ≡ fails (no_name (codes "]")) (codes "]"))
-unfolding each comment blank gap past_name_chars name string_or_name word past_number term position block_end chars encode
+unfolding each comment blank gap past_name_chars name string_or_name word past_number term position
+    block_end chars encode
 quotes first_edition = (refl, refl, refl, refl, refl, refl, refl, refl, refl, refl)
 quotes second_edition = (refl, refl, refl, refl, refl, refl, refl, refl, refl, refl)
 
@@ -213,9 +238,48 @@ pub numbers : (edition : Edition) →
     × (term edition (codes "#a-g ") ≡ got tt (codes " "))
     × (term edition (codes "#--f") ≡ got tt (codes "-f"))
     × (term edition (codes "#-1g") ≡ got tt (codes "g"))
-unfolding each comment blank gap past_name_chars name string_or_name word past_number term position block_end chars encode
-numbers first_edition = (refl, refl, refl, refl, refl, refl, refl, refl, refl, refl, refl, refl, refl, refl, refl, refl, refl, refl)
-numbers second_edition = (refl, refl, refl, refl, refl, refl, refl, refl, refl, refl, refl, refl, refl, refl, refl, refl, refl, refl)
+unfolding each comment blank gap past_name_chars name string_or_name word past_number term position
+    block_end chars encode
+numbers first_edition = (
+  refl,
+  refl,
+  refl,
+  refl,
+  refl,
+  refl,
+  refl,
+  refl,
+  refl,
+  refl,
+  refl,
+  refl,
+  refl,
+  refl,
+  refl,
+  refl,
+  refl,
+  refl,
+)
+numbers second_edition = (
+  refl,
+  refl,
+  refl,
+  refl,
+  refl,
+  refl,
+  refl,
+  refl,
+  refl,
+  refl,
+  refl,
+  refl,
+  refl,
+  refl,
+  refl,
+  refl,
+  refl,
+  refl,
+)
 
 -- strings, commas, names and functions, and what is no term
 pub other_terms : (edition : Edition) →
@@ -229,7 +293,8 @@ pub other_terms : (edition : Edition) →
     × (term edition (codes "!") ≡ fails (no_name (codes "!")) (codes "!"))
     × (term edition [] ≡ fails ended [])
     × (term edition (codes "/*") ≡ fails (no_name (codes "/*")) (codes "/*"))
-unfolding each comment blank gap past_name_chars name string_or_name word past_number term position block_end chars encode
+unfolding each comment blank gap past_name_chars name string_or_name word past_number term position
+    block_end chars encode
 other_terms first_edition = (refl, refl, refl, refl, refl, refl, refl, refl, refl, refl)
 other_terms second_edition = (refl, refl, refl, refl, refl, refl, refl, refl, refl, refl)
 
@@ -238,8 +303,10 @@ pub other_terms-editions :
     (term second_edition (encode_utf8_all (codes "é")) ≡ got tt [])
     × (term second_edition (codes "/") ≡ got tt [])
     × (term second_edition (codes "//*") ≡ got tt (codes "/*"))
-    × (term first_edition (encode_utf8_all (codes "é")) ≡ fails (no_name (encode_utf8_all (codes "é"))) (encode_utf8_all (codes "é")))
-unfolding each comment blank gap past_name_chars name string_or_name word past_number term position block_end chars encode
+    × (term first_edition (encode_utf8_all (codes "é"))
+    ≡ fails (no_name (encode_utf8_all (codes "é"))) (encode_utf8_all (codes "é")))
+unfolding each comment blank gap past_name_chars name string_or_name word past_number term position
+    block_end chars encode
 other_terms-editions = (refl, refl, refl, refl)
 
 -- quotes and comments do not hide the end of a block
@@ -249,7 +316,8 @@ pub unread_braces :
     × (block_end (codes "{}{}}") ≡ 4)
     × (block_end (codes "}") ≡ 0)
     × (block_end (codes "{{}") ≡ 3)
-unfolding each comment blank gap past_name_chars name string_or_name word past_number term position block_end chars encode
+unfolding each comment blank gap past_name_chars name string_or_name word past_number term position
+    block_end chars encode
 unread_braces = (refl, refl, refl, refl, refl)
 
 -- rows and columns count newlines and characters
@@ -261,24 +329,32 @@ pub positions :
     × (position (codes "\n\nab") 4 ≡ record { row = 3; col = 3 })
     × (position (encode_utf8_all (codes "éa\né")) 3 ≡ record { row = 1; col = 3 })
     × (position (encode_utf8_all (codes "éa\né")) 6 ≡ record { row = 2; col = 2 })
-unfolding each comment blank gap past_name_chars name string_or_name word past_number term position block_end chars encode
+unfolding each comment blank gap past_name_chars name string_or_name word past_number term position
+    block_end chars encode
 positions = (refl, refl, refl, refl, refl, refl, refl)
 
 -- the printed errors
 pub printed_errors :
     (error_text UnexpectedEndOfStream ≡ (codes "unexpected end of stream"))
     × (error_text (InvalidIdent (record { row = 1; col = 3 })) ≡ (codes "invalid ident at 1:3"))
-    × (error_text (InvalidComment (record { row = 2; col = 40 })) ≡ (codes "invalid comment at 2:40"))
+    × (error_text (InvalidComment (record { row = 2; col = 40 }))
+    ≡ (codes "invalid comment at 2:40"))
     × (error_text (InvalidValue (record { row = 10; col = 1 })) ≡ (codes "invalid value at 10:1"))
-    × (error_text (InvalidByte close_bracket 98 (record { row = 1; col = 8 })) ≡ (codes "expected ']' not 'b' at 1:8"))
-    × (error_text (InvalidByte equals_sign 98 (record { row = 1; col = 4 })) ≡ (codes "expected '=' not 'b' at 1:4"))
-    × (error_text (InvalidByte open_parenthesis space (record { row = 1; col = 6 })) ≡ (codes "expected '(' not ' ' at 1:6"))
-    × (error_text (InvalidByte close_bracket 195 (record { row = 1; col = 7 })) ≡ (encode_utf8_all (codes "expected ']' not 'Ã' at 1:7")))
+    × (error_text (InvalidByte close_bracket 98 (record { row = 1; col = 8 }))
+    ≡ (codes "expected ']' not 'b' at 1:8"))
+    × (error_text (InvalidByte equals_sign 98 (record { row = 1; col = 4 }))
+    ≡ (codes "expected '=' not 'b' at 1:4"))
+    × (error_text (InvalidByte open_parenthesis space (record { row = 1; col = 6 }))
+    ≡ (codes "expected '(' not ' ' at 1:6"))
+    × (error_text (InvalidByte close_bracket 195 (record { row = 1; col = 7 }))
+    ≡ (encode_utf8_all (codes "expected ']' not 'Ã' at 1:7")))
     × (error_text SelectorMissing ≡ (codes "selector missing"))
     × (error_text UnexpectedSelector ≡ (codes "unexpected selector"))
     × (error_text UnexpectedCombinator ≡ (codes "unexpected combinator"))
     × (error_text InvalidAttributeSelector ≡ (codes "invalid or unsupported attribute selector"))
     × (error_text InvalidLanguagePseudoClass ≡ (codes "invalid language pseudo-class"))
-    × (error_text (InvalidIdent (record { row = 4294967295; col = 4294967295 })) ≡ (codes "invalid ident at 4294967295:4294967295"))
+    × (error_text (InvalidIdent (record { row = 4294967295; col = 4294967295 }))
+    ≡ (codes "invalid ident at 4294967295:4294967295"))
 unfolding digits encode
-printed_errors = (refl, refl, refl, refl, refl, refl, refl, refl, refl, refl, refl, refl, refl, refl)
+printed_errors =
+    (refl, refl, refl, refl, refl, refl, refl, refl, refl, refl, refl, refl, refl, refl)

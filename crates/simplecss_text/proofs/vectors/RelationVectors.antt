@@ -19,10 +19,13 @@ pub one_between : StandBetween (codes "abc") [] (codes "b" ∷ [])
 one_between = (codes "bc", codes "c", refl, refl, refl, refl)
 
 -- the name and the value of an attribute
-pub two_between : StandBetween (codes "[a=b]") [] (token_texts (attribute_selector (codes "a") (equals (codes "b"))))
-two_between = (codes "a=b]", codes "=b]", refl, refl, refl, (codes "b]", codes "]", refl, refl, refl, refl))
+pub two_between : StandBetween (codes "[a=b]") []
+    (token_texts (attribute_selector (codes "a") (equals (codes "b"))))
+two_between =
+    (codes "a=b]", codes "=b]", refl, refl, refl, (codes "b]", codes "]", refl, refl, refl, refl))
 
-pub texts_of_tokens : (token_texts child_combinator ≡ []) × (token_texts (type_selector (codes "a")) ≡ codes "a" ∷ [])
+pub texts_of_tokens : (token_texts child_combinator ≡ [])
+    × (token_texts (type_selector (codes "a")) ≡ codes "a" ∷ [])
 texts_of_tokens = (refl, refl)
 
 -- the shortest comment
@@ -33,7 +36,8 @@ pub empty_blank : IsBlank []
 empty_blank = empty
 
 pub space_and_comment : IsBlank (codes " /**/")
-space_and_comment = space_then space (codes "/**/") refl (comment_then (codes "/**/") [] shortest_comment empty)
+space_and_comment =
+    space_then space (codes "/**/") refl (comment_then (codes "/**/") [] shortest_comment empty)
 
 -- the marks of a comment have no byte in common
 marks_apart : ¬ IsComment (codes "/*/")

@@ -24,8 +24,23 @@ use Rattle.simplecss_text.specs.Printing.{selector_text, is_clean}
 
 -- the components of a text
 pub components : (edition : Edition) →
-    reads edition (codes "a > .b:first-child, c") ≡ (Some (record { combinator = none; compound = record { name = Some (codes "a"); subselectors = [] } } ∷ record { combinator = child; compound = record { name = None; subselectors = attribute (codes "class") (has_word (codes "b")) ∷ pseudo_class first_child ∷ [] } } ∷ []), codes ", c")
-unfolding each comment blank gap past_name_chars name string_or_name attribute_operator attribute_after lang_after pseudo_class_after named_token next_kind solid piece ending sequence_from chars encode trim_start trim_end reads
+    reads edition (codes "a > .b:first-child, c") ≡ (
+      Some (record {
+        combinator = none;
+        compound = record { name = Some (codes "a"); subselectors = [] };
+      } ∷ record {
+        combinator = child;
+        compound = record {
+          name = None;
+          subselectors =
+              attribute (codes "class") (has_word (codes "b")) ∷ pseudo_class first_child ∷ [];
+        };
+      } ∷ []),
+      codes ", c",
+    )
+unfolding each comment blank gap past_name_chars name string_or_name attribute_operator
+    attribute_after lang_after pseudo_class_after named_token next_kind solid piece ending
+    sequence_from chars encode trim_start trim_end reads
 components first_edition = refl
 components second_edition = refl
 
@@ -41,7 +56,8 @@ pub printed : (edition : Edition) →
     × ((reads edition (codes "a/**/b")).1 ≡ [])
     × (option_map selector_text (reads edition (codes "a/**/.b")).0 ≡ Some (codes "a[class~='b']"))
     × ((reads edition (codes "a/**/.b")).1 ≡ [])
-    × (option_map selector_text (reads edition (codes "a /**/.b")).0 ≡ Some (codes "a *[class~='b']"))
+    × (option_map selector_text (reads edition (codes "a /**/.b")).0
+    ≡ Some (codes "a *[class~='b']"))
     × ((reads edition (codes "a /**/.b")).1 ≡ [])
     × (option_map selector_text (reads edition (codes "a/ b")).0 ≡ Some (codes "a"))
     × ((reads edition (codes "a/ b")).1 ≡ (codes "/ b"))
@@ -55,38 +71,119 @@ pub printed : (edition : Edition) →
     × ((reads edition (codes ":LINK")).1 ≡ [])
     × (option_map selector_text (reads edition (codes ":le, b")).0 ≡ None)
     × ((reads edition (codes ":le, b")).1 ≡ (codes ", b"))
-    × (option_map selector_text (reads edition (codes "h1 + *[rel=up]")).0 ≡ Some (codes "h1 + *[rel='up']"))
+    × (option_map selector_text (reads edition (codes "h1 + *[rel=up]")).0
+    ≡ Some (codes "h1 + *[rel='up']"))
     × ((reads edition (codes "h1 + *[rel=up]")).1 ≡ [])
     × (option_map selector_text (reads edition (codes "a {x")).0 ≡ Some (codes "a"))
     × ((reads edition (codes "a {x")).1 ≡ (codes "{x"))
-    × (option_map selector_text (reads edition (codes "[x=\"a'][y='b\"]")).0 ≡ Some (codes "*[x='a'][y='b']"))
+    × (option_map selector_text (reads edition (codes "[x=\"a'][y='b\"]")).0
+    ≡ Some (codes "*[x='a'][y='b']"))
     × ((reads edition (codes "[x=\"a'][y='b\"]")).1 ≡ [])
     × (option_map selector_text (reads edition (codes "[x='a'b']")).0 ≡ None)
     × ((reads edition (codes "[x='a'b']")).1 ≡ (codes "b']"))
-    × (option_map selector_text (reads edition (codes "[x=\"a\\'b\"]")).0 ≡ Some (codes "*[x='a\\'b']"))
+    × (option_map selector_text (reads edition (codes "[x=\"a\\'b\"]")).0
+    ≡ Some (codes "*[x='a\\'b']"))
     × ((reads edition (codes "[x=\"a\\'b\"]")).1 ≡ [])
-unfolding each comment blank gap past_name_chars name string_or_name attribute_operator attribute_after lang_after pseudo_class_after named_token next_kind solid piece ending sequence_from chars encode trim_start trim_end reads
-printed first_edition = (refl, refl, refl, refl, refl, refl, refl, refl, refl, refl, refl, refl, refl, refl, refl, refl, refl, refl, refl, refl, refl, refl, refl, refl, refl, refl, refl, refl, refl, refl, refl, refl, refl, refl)
-printed second_edition = (refl, refl, refl, refl, refl, refl, refl, refl, refl, refl, refl, refl, refl, refl, refl, refl, refl, refl, refl, refl, refl, refl, refl, refl, refl, refl, refl, refl, refl, refl, refl, refl, refl, refl)
+unfolding each comment blank gap past_name_chars name string_or_name attribute_operator
+    attribute_after lang_after pseudo_class_after named_token next_kind solid piece ending
+    sequence_from chars encode trim_start trim_end reads
+printed first_edition = (
+  refl,
+  refl,
+  refl,
+  refl,
+  refl,
+  refl,
+  refl,
+  refl,
+  refl,
+  refl,
+  refl,
+  refl,
+  refl,
+  refl,
+  refl,
+  refl,
+  refl,
+  refl,
+  refl,
+  refl,
+  refl,
+  refl,
+  refl,
+  refl,
+  refl,
+  refl,
+  refl,
+  refl,
+  refl,
+  refl,
+  refl,
+  refl,
+  refl,
+  refl,
+)
+printed second_edition = (
+  refl,
+  refl,
+  refl,
+  refl,
+  refl,
+  refl,
+  refl,
+  refl,
+  refl,
+  refl,
+  refl,
+  refl,
+  refl,
+  refl,
+  refl,
+  refl,
+  refl,
+  refl,
+  refl,
+  refl,
+  refl,
+  refl,
+  refl,
+  refl,
+  refl,
+  refl,
+  refl,
+  refl,
+  refl,
+  refl,
+  refl,
+  refl,
+  refl,
+  refl,
+)
 
 -- and what the two editions read apart
 pub printed-editions :
-    (option_map selector_text (reads second_edition (encode_utf8_all (codes "é"))).0 ≡ Some (encode_utf8_all (codes "é")))
+    (option_map selector_text (reads second_edition (encode_utf8_all (codes "é"))).0
+    ≡ Some (encode_utf8_all (codes "é")))
     × ((reads second_edition (encode_utf8_all (codes "é"))).1 ≡ [])
     × (option_map selector_text (reads first_edition (encode_utf8_all (codes "é"))).0 ≡ None)
     × ((reads first_edition (encode_utf8_all (codes "é"))).1 ≡ (encode_utf8_all (codes "é")))
-unfolding each comment blank gap past_name_chars name string_or_name attribute_operator attribute_after lang_after pseudo_class_after named_token next_kind solid piece ending sequence_from chars encode trim_start trim_end reads
+unfolding each comment blank gap past_name_chars name string_or_name attribute_operator
+    attribute_after lang_after pseudo_class_after named_token next_kind solid piece ending
+    sequence_from chars encode trim_start trim_end reads
 printed-editions = (refl, refl, refl, refl)
 
 -- ids, other subselectors and type names are counted, up to 255
 pub specificities : (edition : Edition) →
-    (option_map specificity (reads edition (flat_map (λ x. codes ".x") (replicate 300 true))).0 ≡ Some (0 ∷ 255 ∷ 0 ∷ []))
+    (option_map specificity (reads edition (flat_map (λ x. codes ".x") (replicate 300 true))).0
+    ≡ Some (0 ∷ 255 ∷ 0 ∷ []))
     × (option_map specificity (reads edition (codes "[id]")).0 ≡ Some (1 ∷ 0 ∷ 0 ∷ []))
     × (option_map specificity (reads edition (codes "h1 + *[rel=up]")).0 ≡ Some (0 ∷ 1 ∷ 1 ∷ []))
     × (option_map specificity (reads edition (codes "*")).0 ≡ Some (0 ∷ 0 ∷ 0 ∷ []))
     × (option_map specificity (reads edition (codes "a, b")).0 ≡ Some (0 ∷ 0 ∷ 1 ∷ []))
     × (option_map specificity (reads edition (codes "a > .b")).0 ≡ Some (0 ∷ 1 ∷ 1 ∷ []))
-unfolding each comment blank gap past_name_chars name string_or_name attribute_operator attribute_after lang_after pseudo_class_after named_token next_kind solid piece ending sequence_from chars encode trim_start trim_end reads
+unfolding each comment blank gap past_name_chars name string_or_name attribute_operator
+    attribute_after lang_after pseudo_class_after named_token next_kind solid piece ending
+    sequence_from chars encode trim_start trim_end reads
 specificities first_edition = (refl, refl, refl, refl, refl, refl)
 specificities second_edition = (refl, refl, refl, refl, refl, refl)
 
@@ -96,7 +193,9 @@ pub clean : (edition : Edition) →
     × (option_map is_clean (reads edition (codes "[x=\"a\\'b\"]")).0 ≡ Some true)
     × (option_map is_clean (reads edition (codes "[x=\"a'b\"]")).0 ≡ Some false)
     × (option_map is_clean (reads edition (codes "a")).0 ≡ Some true)
-unfolding each comment blank gap past_name_chars name string_or_name attribute_operator attribute_after lang_after pseudo_class_after named_token next_kind solid piece ending sequence_from chars encode trim_start trim_end reads
+unfolding each comment blank gap past_name_chars name string_or_name attribute_operator
+    attribute_after lang_after pseudo_class_after named_token next_kind solid piece ending
+    sequence_from chars encode trim_start trim_end reads
 clean first_edition = (refl, refl, refl, refl)
 clean second_edition = (refl, refl, refl, refl)
 
@@ -106,37 +205,52 @@ pub other_spellings : (edition : Edition) →
     × ((reads edition (codes "a > b")).1 ≡ [])
     × (option_map selector_text (reads edition (codes "a .b")).0 ≡ Some (codes "a *[class~='b']"))
     × ((reads edition (codes "a .b")).1 ≡ [])
-    × (option_map selector_text (reads edition (codes "a *[class~=\"b\"]")).0 ≡ Some (codes "a *[class~='b']"))
+    × (option_map selector_text (reads edition (codes "a *[class~=\"b\"]")).0
+    ≡ Some (codes "a *[class~='b']"))
     × ((reads edition (codes "a *[class~=\"b\"]")).1 ≡ [])
     × (option_map selector_text (reads edition (codes "#x")).0 ≡ Some (codes "*[id='x']"))
     × ((reads edition (codes "#x")).1 ≡ [])
     × (option_map selector_text (reads edition (codes "[id=x]")).0 ≡ Some (codes "*[id='x']"))
     × ((reads edition (codes "[id=x]")).1 ≡ [])
-    × (option_map selector_text (reads edition (codes ".b:lang( en )")).0 ≡ Some (codes "*[class~='b']:lang(en)"))
+    × (option_map selector_text (reads edition (codes ".b:lang( en )")).0
+    ≡ Some (codes "*[class~='b']:lang(en)"))
     × ((reads edition (codes ".b:lang( en )")).1 ≡ [])
     × (option_map selector_text (reads edition (codes ".-")).0 ≡ Some (codes "*[class~='-']"))
     × ((reads edition (codes ".-")).1 ≡ [])
-unfolding each comment blank gap past_name_chars name string_or_name attribute_operator attribute_after lang_after pseudo_class_after named_token next_kind solid piece ending sequence_from chars encode trim_start trim_end reads
-other_spellings first_edition = (refl, refl, refl, refl, refl, refl, refl, refl, refl, refl, refl, refl, refl, refl)
-other_spellings second_edition = (refl, refl, refl, refl, refl, refl, refl, refl, refl, refl, refl, refl, refl, refl)
+unfolding each comment blank gap past_name_chars name string_or_name attribute_operator
+    attribute_after lang_after pseudo_class_after named_token next_kind solid piece ending
+    sequence_from chars encode trim_start trim_end reads
+other_spellings first_edition =
+    (refl, refl, refl, refl, refl, refl, refl, refl, refl, refl, refl, refl, refl, refl)
+other_spellings second_edition =
+    (refl, refl, refl, refl, refl, refl, refl, refl, refl, refl, refl, refl, refl, refl)
 
 -- a printed text is read as itself
 pub printed_again : (edition : Edition) →
-    (option_map selector_text (reads edition (codes "a *[class~='b']")).0 ≡ Some (codes "a *[class~='b']"))
+    (option_map selector_text (reads edition (codes "a *[class~='b']")).0
+    ≡ Some (codes "a *[class~='b']"))
     × ((reads edition (codes "a *[class~='b']")).1 ≡ [])
     × (option_map selector_text (reads edition (codes "*[id='x']")).0 ≡ Some (codes "*[id='x']"))
     × ((reads edition (codes "*[id='x']")).1 ≡ [])
-    × (option_map selector_text (reads edition (codes "*[class~='b']:lang(en)")).0 ≡ Some (codes "*[class~='b']:lang(en)"))
+    × (option_map selector_text (reads edition (codes "*[class~='b']:lang(en)")).0
+    ≡ Some (codes "*[class~='b']:lang(en)"))
     × ((reads edition (codes "*[class~='b']:lang(en)")).1 ≡ [])
-    × (option_map selector_text (reads edition (codes "*[class~='-']")).0 ≡ Some (codes "*[class~='-']"))
+    × (option_map selector_text (reads edition (codes "*[class~='-']")).0
+    ≡ Some (codes "*[class~='-']"))
     × ((reads edition (codes "*[class~='-']")).1 ≡ [])
-    × (option_map selector_text (reads edition (codes "*[x='a'][y='b']")).0 ≡ Some (codes "*[x='a'][y='b']"))
+    × (option_map selector_text (reads edition (codes "*[x='a'][y='b']")).0
+    ≡ Some (codes "*[x='a'][y='b']"))
     × ((reads edition (codes "*[x='a'][y='b']")).1 ≡ [])
-    × (option_map selector_text (reads edition (codes "*[x='a\\'b']")).0 ≡ Some (codes "*[x='a\\'b']"))
+    × (option_map selector_text (reads edition (codes "*[x='a\\'b']")).0
+    ≡ Some (codes "*[x='a\\'b']"))
     × ((reads edition (codes "*[x='a\\'b']")).1 ≡ [])
-unfolding each comment blank gap past_name_chars name string_or_name attribute_operator attribute_after lang_after pseudo_class_after named_token next_kind solid piece ending sequence_from chars encode trim_start trim_end reads
-printed_again first_edition = (refl, refl, refl, refl, refl, refl, refl, refl, refl, refl, refl, refl)
-printed_again second_edition = (refl, refl, refl, refl, refl, refl, refl, refl, refl, refl, refl, refl)
+unfolding each comment blank gap past_name_chars name string_or_name attribute_operator
+    attribute_after lang_after pseudo_class_after named_token next_kind solid piece ending
+    sequence_from chars encode trim_start trim_end reads
+printed_again first_edition =
+    (refl, refl, refl, refl, refl, refl, refl, refl, refl, refl, refl, refl)
+printed_again second_edition =
+    (refl, refl, refl, refl, refl, refl, refl, refl, refl, refl, refl, refl)
 
 -- a value with a bare apostrophe prints as a text that is refused
 pub bare_apostrophes : (edition : Edition) →
@@ -144,19 +258,27 @@ pub bare_apostrophes : (edition : Edition) →
     × ((reads edition (codes "[x=\"a'b\"]")).1 ≡ [])
     × (option_map selector_text (reads edition (codes "*[x='a'b']")).0 ≡ None)
     × ((reads edition (codes "*[x='a'b']")).1 ≡ (codes "b']"))
-unfolding each comment blank gap past_name_chars name string_or_name attribute_operator attribute_after lang_after pseudo_class_after named_token next_kind solid piece ending sequence_from chars encode trim_start trim_end reads
+unfolding each comment blank gap past_name_chars name string_or_name attribute_operator
+    attribute_after lang_after pseudo_class_after named_token next_kind solid piece ending
+    sequence_from chars encode trim_start trim_end reads
 bare_apostrophes first_edition = (refl, refl, refl, refl)
 bare_apostrophes second_edition = (refl, refl, refl, refl)
 
 -- each operator and each known pseudo-class
 pub all_subselectors : (edition : Edition) →
-    (option_map selector_text (reads edition (codes "[a][a=b][a~='b'][a|=\"b\"]")).0 ≡ Some (codes "*[a][a='b'][a~='b'][a|='b']"))
+    (option_map selector_text (reads edition (codes "[a][a=b][a~='b'][a|=\"b\"]")).0
+    ≡ Some (codes "*[a][a='b'][a~='b'][a|='b']"))
     × ((reads edition (codes "[a][a=b][a~='b'][a|=\"b\"]")).1 ≡ [])
-    × (option_map selector_text (reads edition (codes "a:first-child:link:visited:hover:active:focus")).0 ≡ Some (codes "a:first-child:link:visited:hover:active:focus"))
+    × (option_map selector_text
+    (reads edition (codes "a:first-child:link:visited:hover:active:focus")).0
+    ≡ Some (codes "a:first-child:link:visited:hover:active:focus"))
     × ((reads edition (codes "a:first-child:link:visited:hover:active:focus")).1 ≡ [])
-    × (option_map selector_text (reads edition (codes "*:lang(en) + b>c")).0 ≡ Some (codes "*:lang(en) + b > c"))
+    × (option_map selector_text (reads edition (codes "*:lang(en) + b>c")).0
+    ≡ Some (codes "*:lang(en) + b > c"))
     × ((reads edition (codes "*:lang(en) + b>c")).1 ≡ [])
-unfolding each comment blank gap past_name_chars name string_or_name attribute_operator attribute_after lang_after pseudo_class_after named_token next_kind solid piece ending sequence_from chars encode trim_start trim_end reads
+unfolding each comment blank gap past_name_chars name string_or_name attribute_operator
+    attribute_after lang_after pseudo_class_after named_token next_kind solid piece ending
+    sequence_from chars encode trim_start trim_end reads
 all_subselectors first_edition = (refl, refl, refl, refl, refl, refl)
 all_subselectors second_edition = (refl, refl, refl, refl, refl, refl)
 
@@ -172,7 +294,8 @@ pub refusals : (edition : Edition) →
     × ((reads edition (97 ∷ 11 ∷ [])).1 ≡ (11 ∷ []))
     × (option_map selector_text (reads edition (codes "a/*/.b")).0 ≡ None)
     × ((reads edition (codes "a/*/.b")).1 ≡ [])
-    × (option_map selector_text (reads edition (58 ∷ 108 ∷ 97 ∷ 110 ∷ 103 ∷ 40 ∷ 11 ∷ 41 ∷ [])).0 ≡ None)
+    × (option_map selector_text (reads edition (58 ∷ 108 ∷ 97 ∷ 110 ∷ 103 ∷ 40 ∷ 11 ∷ 41 ∷ [])).0
+    ≡ None)
     × ((reads edition (58 ∷ 108 ∷ 97 ∷ 110 ∷ 103 ∷ 40 ∷ 11 ∷ 41 ∷ [])).1 ≡ [])
     × (option_map selector_text (reads edition (codes "a:b<")).0 ≡ None)
     × ((reads edition (codes "a:b<")).1 ≡ (codes "<"))
@@ -186,17 +309,72 @@ pub refusals : (edition : Edition) →
     × ((reads edition (codes "b:-")).1 ≡ [])
     × (option_map selector_text (reads edition (codes "a,:b")).0 ≡ Some (codes "a"))
     × ((reads edition (codes "a,:b")).1 ≡ (codes ",:b"))
-unfolding each comment blank gap past_name_chars name string_or_name attribute_operator attribute_after lang_after pseudo_class_after named_token next_kind solid piece ending sequence_from chars encode trim_start trim_end reads
-refusals first_edition = (refl, refl, refl, refl, refl, refl, refl, refl, refl, refl, refl, refl, refl, refl, refl, refl, refl, refl, refl, refl, refl, refl, refl, refl)
-refusals second_edition = (refl, refl, refl, refl, refl, refl, refl, refl, refl, refl, refl, refl, refl, refl, refl, refl, refl, refl, refl, refl, refl, refl, refl, refl)
+unfolding each comment blank gap past_name_chars name string_or_name attribute_operator
+    attribute_after lang_after pseudo_class_after named_token next_kind solid piece ending
+    sequence_from chars encode trim_start trim_end reads
+refusals first_edition = (
+  refl,
+  refl,
+  refl,
+  refl,
+  refl,
+  refl,
+  refl,
+  refl,
+  refl,
+  refl,
+  refl,
+  refl,
+  refl,
+  refl,
+  refl,
+  refl,
+  refl,
+  refl,
+  refl,
+  refl,
+  refl,
+  refl,
+  refl,
+  refl,
+)
+refusals second_edition = (
+  refl,
+  refl,
+  refl,
+  refl,
+  refl,
+  refl,
+  refl,
+  refl,
+  refl,
+  refl,
+  refl,
+  refl,
+  refl,
+  refl,
+  refl,
+  refl,
+  refl,
+  refl,
+  refl,
+  refl,
+  refl,
+  refl,
+  refl,
+  refl,
+)
 
 -- type names of wide characters, in both editions
 pub wide_type_names : (edition : Edition) →
-    (option_map selector_text (reads edition (encode_utf8_all (codes "î"))).0 ≡ Some (encode_utf8_all (codes "î")))
+    (option_map selector_text (reads edition (encode_utf8_all (codes "î"))).0
+    ≡ Some (encode_utf8_all (codes "î")))
     × ((reads edition (encode_utf8_all (codes "î"))).1 ≡ [])
     × (option_map selector_text (reads edition (194 ∷ 159 ∷ [])).0 ≡ None)
     × ((reads edition (194 ∷ 159 ∷ [])).1 ≡ (194 ∷ 159 ∷ []))
-unfolding each comment blank gap past_name_chars name string_or_name attribute_operator attribute_after lang_after pseudo_class_after named_token next_kind solid piece ending sequence_from chars encode trim_start trim_end reads
+unfolding each comment blank gap past_name_chars name string_or_name attribute_operator
+    attribute_after lang_after pseudo_class_after named_token next_kind solid piece ending
+    sequence_from chars encode trim_start trim_end reads
 wide_type_names first_edition = (refl, refl, refl, refl)
 wide_type_names second_edition = (refl, refl, refl, refl)
 
@@ -204,14 +382,17 @@ wide_type_names second_edition = (refl, refl, refl, refl)
 pub wide_type_names-editions :
     (option_map selector_text (reads second_edition (194 ∷ 160 ∷ [])).0 ≡ Some (194 ∷ 160 ∷ []))
     × ((reads second_edition (194 ∷ 160 ∷ [])).1 ≡ [])
-unfolding each comment blank gap past_name_chars name string_or_name attribute_operator attribute_after lang_after pseudo_class_after named_token next_kind solid piece ending sequence_from chars encode trim_start trim_end reads
+unfolding each comment blank gap past_name_chars name string_or_name attribute_operator
+    attribute_after lang_after pseudo_class_after named_token next_kind solid piece ending
+    sequence_from chars encode trim_start trim_end reads
 wide_type_names-editions = (refl, refl)
 
 -- comments between the pieces, and a slash after them
 pub gaps_of_comments : (edition : Edition) →
     (option_map selector_text (reads edition (codes "/**//**//**/a")).0 ≡ Some (codes "a"))
     × ((reads edition (codes "/**//**//**/a")).1 ≡ [])
-    × (option_map selector_text (reads edition (codes "a/**//**//**/.b")).0 ≡ Some (codes "a[class~='b']"))
+    × (option_map selector_text (reads edition (codes "a/**//**//**/.b")).0
+    ≡ Some (codes "a[class~='b']"))
     × ((reads edition (codes "a/**//**//**/.b")).1 ≡ [])
     × (option_map selector_text (reads edition (codes "a /**//**//**/b")).0 ≡ Some (codes "a b"))
     × ((reads edition (codes "a /**//**//**/b")).1 ≡ [])
@@ -221,9 +402,13 @@ pub gaps_of_comments : (edition : Edition) →
     × ((reads edition (97 ∷ 12 ∷ [])).1 ≡ [])
     × (option_map selector_text (reads edition (codes "a/ b")).0 ≡ Some (codes "a"))
     × ((reads edition (codes "a/ b")).1 ≡ (codes "/ b"))
-unfolding each comment blank gap past_name_chars name string_or_name attribute_operator attribute_after lang_after pseudo_class_after named_token next_kind solid piece ending sequence_from chars encode trim_start trim_end reads
-gaps_of_comments first_edition = (refl, refl, refl, refl, refl, refl, refl, refl, refl, refl, refl, refl)
-gaps_of_comments second_edition = (refl, refl, refl, refl, refl, refl, refl, refl, refl, refl, refl, refl)
+unfolding each comment blank gap past_name_chars name string_or_name attribute_operator
+    attribute_after lang_after pseudo_class_after named_token next_kind solid piece ending
+    sequence_from chars encode trim_start trim_end reads
+gaps_of_comments first_edition =
+    (refl, refl, refl, refl, refl, refl, refl, refl, refl, refl, refl, refl)
+gaps_of_comments second_edition =
+    (refl, refl, refl, refl, refl, refl, refl, refl, refl, refl, refl, refl)
 
 -- more counts of ids, other subselectors and type names
 pub counts : (edition : Edition) →
@@ -233,8 +418,11 @@ pub counts : (edition : Edition) →
     × (option_map specificity (reads edition (codes "ul li")).0 ≡ Some (0 ∷ 0 ∷ 2 ∷ []))
     × (option_map specificity (reads edition (codes "ul ol + li")).0 ≡ Some (0 ∷ 0 ∷ 3 ∷ []))
     × (option_map specificity (reads edition (codes "ul ol li.red")).0 ≡ Some (0 ∷ 1 ∷ 3 ∷ []))
-    × (option_map specificity (reads edition (codes "[id~=a][class=id]:link")).0 ≡ Some (1 ∷ 2 ∷ 0 ∷ []))
+    × (option_map specificity (reads edition (codes "[id~=a][class=id]:link")).0
+    ≡ Some (1 ∷ 2 ∷ 0 ∷ []))
     × (option_map specificity (reads edition (codes "*:lang(en) > *")).0 ≡ Some (0 ∷ 1 ∷ 0 ∷ []))
-unfolding each comment blank gap past_name_chars name string_or_name attribute_operator attribute_after lang_after pseudo_class_after named_token next_kind solid piece ending sequence_from chars encode trim_start trim_end reads
+unfolding each comment blank gap past_name_chars name string_or_name attribute_operator
+    attribute_after lang_after pseudo_class_after named_token next_kind solid piece ending
+    sequence_from chars encode trim_start trim_end reads
 counts first_edition = (refl, refl, refl, refl, refl, refl, refl, refl)
 counts second_edition = (refl, refl, refl, refl, refl, refl, refl, refl)

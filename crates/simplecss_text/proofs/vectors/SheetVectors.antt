@@ -24,49 +24,83 @@ use Rattle.simplecss_text.specs.Components.Combinator.{none}
 
 -- the parts of a rule set, refused ones among them
 pub rule_sets : (edition : Edition) →
-    (sheet_text (sheet edition ((codes "a, b { color:red }") ∷ [])) ≡ (codes "a { color:red; }\nb { color:red; }"))
-    × (sheet_text (sheet edition ((codes "#x { color:red } a { color:blue }") ∷ [])) ≡ (codes "a { color:blue; }\n*[id='x'] { color:red; }"))
-    × (sheet_text (sheet edition ((codes ":le, b { color:red }") ∷ [])) ≡ (codes "b { color:red; }"))
-    × (sheet_text (sheet edition ((codes "a, b < c { color:red }") ∷ [])) ≡ (codes "a { color:red; }"))
-    × (sheet_text (sheet edition ((codes "a /, b { color:red }") ∷ [])) ≡ (codes "b { color:red; }"))
-unfolding each comment blank gap past_name_chars name string_or_name attribute_operator attribute_after lang_after pseudo_class_after named_token next_kind solid piece ending sequence_from chars encode trim_start trim_end reads part parts next_block rule_set at_rule_rest statement statements block block_end word past_number term value importance trailing stated_name declaration declarations
+    (sheet_text (sheet edition ((codes "a, b { color:red }") ∷ []))
+    ≡ (codes "a { color:red; }\nb { color:red; }"))
+    × (sheet_text (sheet edition ((codes "#x { color:red } a { color:blue }") ∷ []))
+    ≡ (codes "a { color:blue; }\n*[id='x'] { color:red; }"))
+    × (sheet_text (sheet edition ((codes ":le, b { color:red }") ∷ []))
+    ≡ (codes "b { color:red; }"))
+    × (sheet_text (sheet edition ((codes "a, b < c { color:red }") ∷ []))
+    ≡ (codes "a { color:red; }"))
+    × (sheet_text (sheet edition ((codes "a /, b { color:red }") ∷ []))
+    ≡ (codes "b { color:red; }"))
+unfolding each comment blank gap past_name_chars name string_or_name attribute_operator
+    attribute_after lang_after pseudo_class_after named_token next_kind solid piece ending
+    sequence_from chars encode trim_start trim_end reads part parts next_block rule_set at_rule_rest
+    statement statements block block_end word past_number term value importance trailing stated_name
+    declaration declarations
 rule_sets first_edition = (refl, refl, refl, refl, refl)
 rule_sets second_edition = (refl, refl, refl, refl, refl)
 
 -- braces after a block
 pub braces : (edition : Edition) →
-    (sheet_text (sheet edition ((codes "a { }} b { color:red }") ∷ [])) ≡ (codes "b { color:red; }"))
+    (sheet_text (sheet edition ((codes "a { }} b { color:red }") ∷ []))
+    ≡ (codes "b { color:red; }"))
     × (sheet_text (sheet edition ((codes "a { } } b { color:red }") ∷ [])) ≡ [])
     × (sheet_text (sheet edition ((codes "a {}} b { color:red }") ∷ [])) ≡ [])
-unfolding each comment blank gap past_name_chars name string_or_name attribute_operator attribute_after lang_after pseudo_class_after named_token next_kind solid piece ending sequence_from chars encode trim_start trim_end reads part parts next_block rule_set at_rule_rest statement statements block block_end word past_number term value importance trailing stated_name declaration declarations
+unfolding each comment blank gap past_name_chars name string_or_name attribute_operator
+    attribute_after lang_after pseudo_class_after named_token next_kind solid piece ending
+    sequence_from chars encode trim_start trim_end reads part parts next_block rule_set at_rule_rest
+    statement statements block block_end word past_number term value importance trailing stated_name
+    declaration declarations
 braces first_edition = (refl, refl, refl)
 braces second_edition = (refl, refl, refl)
 
 -- blocks with a broken declaration
 pub broken_declarations : (edition : Edition) →
-    (sheet_text (sheet edition ((codes "p { color:green; color{;color:maroon} }") ∷ [])) ≡ (codes "p { color:green; }"))
-    × (sheet_text (sheet edition ((codes "a { b:c; color:red; /* open") ∷ [])) ≡ (codes "a { b:c; }"))
+    (sheet_text (sheet edition ((codes "p { color:green; color{;color:maroon} }") ∷ []))
+    ≡ (codes "p { color:green; }"))
+    × (sheet_text (sheet edition ((codes "a { b:c; color:red; /* open") ∷ []))
+    ≡ (codes "a { b:c; }"))
     × (sheet_text (sheet edition ((codes "a { color:red 'x") ∷ [])) ≡ (codes "a { color:red; }"))
     × (sheet_text (sheet edition ((codes "a { color:red") ∷ [])) ≡ (codes "a { color:red; }"))
     × (sheet_text (sheet edition ((codes "p { color; color:green }") ∷ [])) ≡ [])
     × (sheet_text (sheet edition ((codes "p { color{;color:maroon} color:green; }") ∷ [])) ≡ [])
-unfolding each comment blank gap past_name_chars name string_or_name attribute_operator attribute_after lang_after pseudo_class_after named_token next_kind solid piece ending sequence_from chars encode trim_start trim_end reads part parts next_block rule_set at_rule_rest statement statements block block_end word past_number term value importance trailing stated_name declaration declarations
+unfolding each comment blank gap past_name_chars name string_or_name attribute_operator
+    attribute_after lang_after pseudo_class_after named_token next_kind solid piece ending
+    sequence_from chars encode trim_start trim_end reads part parts next_block rule_set at_rule_rest
+    statement statements block block_end word past_number term value importance trailing stated_name
+    declaration declarations
 broken_declarations first_edition = (refl, refl, refl, refl, refl, refl)
 broken_declarations second_edition = (refl, refl, refl, refl, refl, refl)
 
 -- and what the two editions read apart
 pub broken_declarations-editions :
-    (sheet_text (sheet second_edition ((codes "p { font:12px/1.5 serif; color:red } q { color:blue }") ∷ [])) ≡ (codes "p { font:12px/1.5 serif;color:red; }\nq { color:blue; }"))
-    × (sheet_text (sheet first_edition ((codes "p { font:12px/1.5 serif; color:red } q { color:blue }") ∷ [])) ≡ (codes "p { font:12px; }\nq { color:blue; }"))
-unfolding each comment blank gap past_name_chars name string_or_name attribute_operator attribute_after lang_after pseudo_class_after named_token next_kind solid piece ending sequence_from chars encode trim_start trim_end reads part parts next_block rule_set at_rule_rest statement statements block block_end word past_number term value importance trailing stated_name declaration declarations
+    (sheet_text
+    (sheet second_edition ((codes "p { font:12px/1.5 serif; color:red } q { color:blue }") ∷ []))
+    ≡ (codes "p { font:12px/1.5 serif;color:red; }\nq { color:blue; }"))
+    × (sheet_text
+    (sheet first_edition ((codes "p { font:12px/1.5 serif; color:red } q { color:blue }") ∷ []))
+    ≡ (codes "p { font:12px; }\nq { color:blue; }"))
+unfolding each comment blank gap past_name_chars name string_or_name attribute_operator
+    attribute_after lang_after pseudo_class_after named_token next_kind solid piece ending
+    sequence_from chars encode trim_start trim_end reads part parts next_block rule_set at_rule_rest
+    statement statements block block_end word past_number term value importance trailing stated_name
+    declaration declarations
 broken_declarations-editions = (refl, refl)
 
 -- at-rules are skipped
 pub at_rules : (edition : Edition) →
     (sheet_text (sheet edition ((codes "@ a { color:red }") ∷ [])) ≡ (codes "a { color:red; }"))
-    × (sheet_text (sheet edition ((codes "@media screen { p:before { content: 'Hello'; } } a { color:red }") ∷ [])) ≡ (codes "a { color:red; }"))
+    × (sheet_text (sheet edition
+    ((codes "@media screen { p:before { content: 'Hello'; } } a { color:red }") ∷ []))
+    ≡ (codes "a { color:red; }"))
     × (sheet_text (sheet edition ((codes "<!-- a { b:c } --> d { e:f }") ∷ [])) ≡ [])
-unfolding each comment blank gap past_name_chars name string_or_name attribute_operator attribute_after lang_after pseudo_class_after named_token next_kind solid piece ending sequence_from chars encode trim_start trim_end reads part parts next_block rule_set at_rule_rest statement statements block block_end word past_number term value importance trailing stated_name declaration declarations
+unfolding each comment blank gap past_name_chars name string_or_name attribute_operator
+    attribute_after lang_after pseudo_class_after named_token next_kind solid piece ending
+    sequence_from chars encode trim_start trim_end reads part parts next_block rule_set at_rule_rest
+    statement statements block block_end word past_number term value importance trailing stated_name
+    declaration declarations
 at_rules first_edition = (refl, refl, refl)
 at_rules second_edition = (refl, refl, refl)
 
@@ -74,10 +108,17 @@ at_rules second_edition = (refl, refl, refl)
 pub sheets_of_texts : (edition : Edition) →
     (sheet_text (sheet edition ([])) ≡ [])
     × (sheet_text (sheet edition ([] ∷ [])) ≡ [])
-    × (sheet_text (sheet edition ((codes "#x { a:b }") ∷ (codes "p { c:d }") ∷ [])) ≡ (codes "p { c:d; }\n*[id='x'] { a:b; }"))
-    × (sheet_text (sheet edition ((codes "#x { a:b }") ∷ (codes "p { c:d }") ∷ (codes "/* open") ∷ [])) ≡ (codes "p { c:d; }\n*[id='x'] { a:b; }"))
-    × (sheet_text (sheet edition ((codes "a > b { c:d } b { e:f }") ∷ [])) ≡ (codes "b { e:f; }\na > b { c:d; }"))
-unfolding each comment blank gap past_name_chars name string_or_name attribute_operator attribute_after lang_after pseudo_class_after named_token next_kind solid piece ending sequence_from chars encode trim_start trim_end reads part parts next_block rule_set at_rule_rest statement statements block block_end word past_number term value importance trailing stated_name declaration declarations
+    × (sheet_text (sheet edition ((codes "#x { a:b }") ∷ (codes "p { c:d }") ∷ []))
+    ≡ (codes "p { c:d; }\n*[id='x'] { a:b; }"))
+    × (sheet_text (sheet edition ((codes "#x { a:b }") ∷ (codes "p { c:d }") ∷ (codes "/* open")
+    ∷ [])) ≡ (codes "p { c:d; }\n*[id='x'] { a:b; }"))
+    × (sheet_text (sheet edition ((codes "a > b { c:d } b { e:f }") ∷ []))
+    ≡ (codes "b { e:f; }\na > b { c:d; }"))
+unfolding each comment blank gap past_name_chars name string_or_name attribute_operator
+    attribute_after lang_after pseudo_class_after named_token next_kind solid piece ending
+    sequence_from chars encode trim_start trim_end reads part parts next_block rule_set at_rule_rest
+    statement statements block block_end word past_number term value importance trailing stated_name
+    declaration declarations
 sheets_of_texts first_edition = (refl, refl, refl, refl, refl)
 sheets_of_texts second_edition = (refl, refl, refl, refl, refl)
 
@@ -90,7 +131,11 @@ pub no_rules : (edition : Edition) →
     × (sheet_text (sheet edition ((codes "> {}") ∷ [])) ≡ [])
     × (sheet_text (sheet edition ((codes "@import 'subs.css';") ∷ [])) ≡ [])
     × (sheet_text (sheet edition ((codes ":le {}") ∷ [])) ≡ [])
-unfolding each comment blank gap past_name_chars name string_or_name attribute_operator attribute_after lang_after pseudo_class_after named_token next_kind solid piece ending sequence_from chars encode trim_start trim_end reads part parts next_block rule_set at_rule_rest statement statements block block_end word past_number term value importance trailing stated_name declaration declarations
+unfolding each comment blank gap past_name_chars name string_or_name attribute_operator
+    attribute_after lang_after pseudo_class_after named_token next_kind solid piece ending
+    sequence_from chars encode trim_start trim_end reads part parts next_block rule_set at_rule_rest
+    statement statements block block_end word past_number term value importance trailing stated_name
+    declaration declarations
 no_rules first_edition = (refl, refl, refl, refl, refl, refl, refl)
 no_rules second_edition = (refl, refl, refl, refl, refl, refl, refl)
 
@@ -99,23 +144,39 @@ pub commas_and_comments : (edition : Edition) →
     (sheet_text (sheet edition ((codes "a { color:red }") ∷ [])) ≡ (codes "a { color:red; }"))
     × (sheet_text (sheet edition ((codes "a { b:c }") ∷ [])) ≡ (codes "a { b:c; }"))
     × (sheet_text (sheet edition ((codes "#x { a:b }") ∷ [])) ≡ (codes "*[id='x'] { a:b; }"))
-    × (sheet_text (sheet edition ((codes "a { color:red } /**/") ∷ [])) ≡ (codes "a { color:red; }"))
+    × (sheet_text (sheet edition ((codes "a { color:red } /**/") ∷ []))
+    ≡ (codes "a { color:red; }"))
     × (sheet_text (sheet edition ((codes "a, { color:red }") ∷ [])) ≡ (codes "a { color:red; }"))
     × (sheet_text (sheet edition ((codes "a,, { color:red }") ∷ [])) ≡ (codes "a { color:red; }"))
     × (sheet_text (sheet edition ((codes ",a { color:red }") ∷ [])) ≡ (codes "a { color:red; }"))
-    × (sheet_text (sheet edition ((codes "a,,b { color:red }") ∷ [])) ≡ (codes "a { color:red; }\nb { color:red; }"))
-    × (sheet_text (sheet edition ((codes "@import \"subs.css\";\na { color:red }") ∷ [])) ≡ (codes "a { color:red; }"))
-    × (sheet_text (sheet edition ((codes "h1 { color: green }\nh2 & h3 { color: red }\nh4 { color: black }\n") ∷ [])) ≡ (codes "h1 { color:green; }\nh4 { color:black; }"))
-unfolding each comment blank gap past_name_chars name string_or_name attribute_operator attribute_after lang_after pseudo_class_after named_token next_kind solid piece ending sequence_from chars encode trim_start trim_end reads part parts next_block rule_set at_rule_rest statement statements block block_end word past_number term value importance trailing stated_name declaration declarations
+    × (sheet_text (sheet edition ((codes "a,,b { color:red }") ∷ []))
+    ≡ (codes "a { color:red; }\nb { color:red; }"))
+    × (sheet_text (sheet edition ((codes "@import \"subs.css\";\na { color:red }") ∷ []))
+    ≡ (codes "a { color:red; }"))
+    × (sheet_text (sheet edition
+    ((codes "h1 { color: green }\nh2 & h3 { color: red }\nh4 { color: black }\n") ∷ []))
+    ≡ (codes "h1 { color:green; }\nh4 { color:black; }"))
+unfolding each comment blank gap past_name_chars name string_or_name attribute_operator
+    attribute_after lang_after pseudo_class_after named_token next_kind solid piece ending
+    sequence_from chars encode trim_start trim_end reads part parts next_block rule_set at_rule_rest
+    statement statements block block_end word past_number term value importance trailing stated_name
+    declaration declarations
 commas_and_comments first_edition = (refl, refl, refl, refl, refl, refl, refl, refl, refl, refl)
 commas_and_comments second_edition = (refl, refl, refl, refl, refl, refl, refl, refl, refl, refl)
 
 -- blocks with a declaration that breaks off
 pub cut_blocks : (edition : Edition) →
-    (sheet_text (sheet edition ((codes "p { color:green; color }") ∷ [])) ≡ (codes "p { color:green; }"))
-    × (sheet_text (sheet edition ((codes "p { color:green; color: }") ∷ [])) ≡ (codes "p { color:green; }"))
-    × (sheet_text (sheet edition ((codes "p { color:green; color:; color:red; }") ∷ [])) ≡ (codes "p { color:green; }"))
-unfolding each comment blank gap past_name_chars name string_or_name attribute_operator attribute_after lang_after pseudo_class_after named_token next_kind solid piece ending sequence_from chars encode trim_start trim_end reads part parts next_block rule_set at_rule_rest statement statements block block_end word past_number term value importance trailing stated_name declaration declarations
+    (sheet_text (sheet edition ((codes "p { color:green; color }") ∷ []))
+    ≡ (codes "p { color:green; }"))
+    × (sheet_text (sheet edition ((codes "p { color:green; color: }") ∷ []))
+    ≡ (codes "p { color:green; }"))
+    × (sheet_text (sheet edition ((codes "p { color:green; color:; color:red; }") ∷ []))
+    ≡ (codes "p { color:green; }"))
+unfolding each comment blank gap past_name_chars name string_or_name attribute_operator
+    attribute_after lang_after pseudo_class_after named_token next_kind solid piece ending
+    sequence_from chars encode trim_start trim_end reads part parts next_block rule_set at_rule_rest
+    statement statements block block_end word past_number term value importance trailing stated_name
+    declaration declarations
 cut_blocks first_edition = (refl, refl, refl)
 cut_blocks second_edition = (refl, refl, refl)
 
@@ -132,37 +193,60 @@ pub beginnings : (edition : Edition) →
     × (sheet_text (sheet edition ((codes "a { b:\"c\"") ∷ [])) ≡ (codes "a { b:\"c\"; }"))
     × (sheet_text (sheet edition ((codes "a { b:\"c\" ") ∷ [])) ≡ (codes "a { b:\"c\"; }"))
     × (sheet_text (sheet edition ((codes "a { b:\"c\" }") ∷ [])) ≡ (codes "a { b:\"c\"; }"))
-unfolding each comment blank gap past_name_chars name string_or_name attribute_operator attribute_after lang_after pseudo_class_after named_token next_kind solid piece ending sequence_from chars encode trim_start trim_end reads part parts next_block rule_set at_rule_rest statement statements block block_end word past_number term value importance trailing stated_name declaration declarations
+unfolding each comment blank gap past_name_chars name string_or_name attribute_operator
+    attribute_after lang_after pseudo_class_after named_token next_kind solid piece ending
+    sequence_from chars encode trim_start trim_end reads part parts next_block rule_set at_rule_rest
+    statement statements block block_end word past_number term value importance trailing stated_name
+    declaration declarations
 beginnings first_edition = (refl, refl, refl, refl, refl, refl, refl, refl, refl, refl, refl)
 beginnings second_edition = (refl, refl, refl, refl, refl, refl, refl, refl, refl, refl, refl)
 
 -- a text read in two pieces: cut where a statement ends, and where none does
 pub cut_texts : (edition : Edition) →
     (sheet_text (sheet edition ((codes "a { }} b { c:d }") ∷ [])) ≡ (codes "b { c:d; }"))
-    × (sheet_text (sheet edition ((codes "a { }}") ∷ (codes " b { c:d }") ∷ [])) ≡ (codes "b { c:d; }"))
+    × (sheet_text (sheet edition ((codes "a { }}") ∷ (codes " b { c:d }") ∷ []))
+    ≡ (codes "b { c:d; }"))
     × (sheet_text (sheet edition ((codes "a { }") ∷ (codes "} b { c:d }") ∷ [])) ≡ [])
-    × (sheet_text (sheet edition ((codes "x { y:z }") ∷ (codes "a, b { c:d }") ∷ [])) ≡ (codes "x { y:z; }\na { c:d; }\nb { c:d; }"))
-unfolding each comment blank gap past_name_chars name string_or_name attribute_operator attribute_after lang_after pseudo_class_after named_token next_kind solid piece ending sequence_from chars encode trim_start trim_end reads part parts next_block rule_set at_rule_rest statement statements block block_end word past_number term value importance trailing stated_name declaration declarations
+    × (sheet_text (sheet edition ((codes "x { y:z }") ∷ (codes "a, b { c:d }") ∷ []))
+    ≡ (codes "x { y:z; }\na { c:d; }\nb { c:d; }"))
+unfolding each comment blank gap past_name_chars name string_or_name attribute_operator
+    attribute_after lang_after pseudo_class_after named_token next_kind solid piece ending
+    sequence_from chars encode trim_start trim_end reads part parts next_block rule_set at_rule_rest
+    statement statements block block_end word past_number term value importance trailing stated_name
+    declaration declarations
 cut_texts first_edition = (refl, refl, refl, refl)
 cut_texts second_edition = (refl, refl, refl, refl)
 
 -- a printed sheet read again, where a value has a bare apostrophe or white space past ASCII
 pub printed_sheets : (edition : Edition) →
-    (sheet_text (sheet edition ((codes "[x=\"a'b\"] { c:d } e { f:g }") ∷ [])) ≡ (codes "e { f:g; }\n*[x='a'b'] { c:d; }"))
-    × (sheet_text (sheet edition ((codes "e { f:g; }\n*[x='a'b'] { c:d; }") ∷ [])) ≡ (codes "e { f:g; }"))
-    × (sheet_text (sheet edition ((97 ∷ 32 ∷ 123 ∷ 32 ∷ 98 ∷ 58 ∷ 227 ∷ 128 ∷ 128 ∷ 40 ∷ 120 ∷ 41 ∷ 32 ∷ 125 ∷ []) ∷ [])) ≡ (codes "a { b:(x); }"))
+    (sheet_text (sheet edition ((codes "[x=\"a'b\"] { c:d } e { f:g }") ∷ []))
+    ≡ (codes "e { f:g; }\n*[x='a'b'] { c:d; }"))
+    × (sheet_text (sheet edition ((codes "e { f:g; }\n*[x='a'b'] { c:d; }") ∷ []))
+    ≡ (codes "e { f:g; }"))
+    × (sheet_text (sheet edition ((97 ∷ 32 ∷ 123 ∷ 32 ∷ 98 ∷ 58 ∷ 227 ∷ 128 ∷ 128 ∷ 40 ∷ 120 ∷ 41
+    ∷ 32 ∷ 125 ∷ []) ∷ [])) ≡ (codes "a { b:(x); }"))
     × (sheet_text (sheet edition ((codes "a { b:(x); }") ∷ [])) ≡ [])
-unfolding each comment blank gap past_name_chars name string_or_name attribute_operator attribute_after lang_after pseudo_class_after named_token next_kind solid piece ending sequence_from chars encode trim_start trim_end reads part parts next_block rule_set at_rule_rest statement statements block block_end word past_number term value importance trailing stated_name declaration declarations
+unfolding each comment blank gap past_name_chars name string_or_name attribute_operator
+    attribute_after lang_after pseudo_class_after named_token next_kind solid piece ending
+    sequence_from chars encode trim_start trim_end reads part parts next_block rule_set at_rule_rest
+    statement statements block block_end word past_number term value importance trailing stated_name
+    declaration declarations
 printed_sheets first_edition = (refl, refl, refl, refl)
 printed_sheets second_edition = (refl, refl, refl, refl)
 
 -- wide characters of names, in both editions
 pub wide_names :
-    (sheet_text (sheet second_edition ((encode_utf8_all (codes "xí{a:b}")) ∷ [])) ≡ (encode_utf8_all (codes "xí { a:b; }")))
-    × (sheet_text (sheet second_edition ((encode_utf8_all (codes "é { a:b }")) ∷ [])) ≡ (encode_utf8_all (codes "é { a:b; }")))
+    (sheet_text (sheet second_edition ((encode_utf8_all (codes "xí{a:b}")) ∷ []))
+    ≡ (encode_utf8_all (codes "xí { a:b; }")))
+    × (sheet_text (sheet second_edition ((encode_utf8_all (codes "é { a:b }")) ∷ []))
+    ≡ (encode_utf8_all (codes "é { a:b; }")))
     × (sheet_text (sheet first_edition ((encode_utf8_all (codes "xí{a:b}")) ∷ [])) ≡ [])
     × (sheet_text (sheet first_edition ((encode_utf8_all (codes "é { a:b }")) ∷ [])) ≡ [])
-unfolding each comment blank gap past_name_chars name string_or_name attribute_operator attribute_after lang_after pseudo_class_after named_token next_kind solid piece ending sequence_from chars encode trim_start trim_end reads part parts next_block rule_set at_rule_rest statement statements block block_end word past_number term value importance trailing stated_name declaration declarations
+unfolding each comment blank gap past_name_chars name string_or_name attribute_operator
+    attribute_after lang_after pseudo_class_after named_token next_kind solid piece ending
+    sequence_from chars encode trim_start trim_end reads part parts next_block rule_set at_rule_rest
+    statement statements block block_end word past_number term value importance trailing stated_name
+    declaration declarations
 wide_names = (refl, refl, refl, refl)
 
 -- where reading continues after a part that is refused
@@ -182,10 +266,17 @@ pub parts_after_refusals : (edition : Edition) →
     × (sheet_text (sheet edition ((codes "a>,b{c:d}") ∷ [])) ≡ (codes "b { c:d; }"))
     × (sheet_text (sheet edition ((codes "a /,b{c:d}") ∷ [])) ≡ (codes "b { c:d; }"))
     × (sheet_text (sheet edition ((codes "@m}x{y:z}c{d:e}") ∷ [])) ≡ (codes "c { d:e; }"))
-    × (sheet_text (sheet edition ((97 ∷ 13 ∷ 98 ∷ 123 ∷ 99 ∷ 58 ∷ 100 ∷ 125 ∷ []) ∷ [])) ≡ (codes "a b { c:d; }"))
-unfolding each comment blank gap past_name_chars name string_or_name attribute_operator attribute_after lang_after pseudo_class_after named_token next_kind solid piece ending sequence_from chars encode trim_start trim_end reads part parts next_block rule_set at_rule_rest statement statements block block_end word past_number term value importance trailing stated_name declaration declarations
-parts_after_refusals first_edition = (refl, refl, refl, refl, refl, refl, refl, refl, refl, refl, refl, refl, refl, refl, refl, refl)
-parts_after_refusals second_edition = (refl, refl, refl, refl, refl, refl, refl, refl, refl, refl, refl, refl, refl, refl, refl, refl)
+    × (sheet_text (sheet edition ((97 ∷ 13 ∷ 98 ∷ 123 ∷ 99 ∷ 58 ∷ 100 ∷ 125 ∷ []) ∷ []))
+    ≡ (codes "a b { c:d; }"))
+unfolding each comment blank gap past_name_chars name string_or_name attribute_operator
+    attribute_after lang_after pseudo_class_after named_token next_kind solid piece ending
+    sequence_from chars encode trim_start trim_end reads part parts next_block rule_set at_rule_rest
+    statement statements block block_end word past_number term value importance trailing stated_name
+    declaration declarations
+parts_after_refusals first_edition =
+    (refl, refl, refl, refl, refl, refl, refl, refl, refl, refl, refl, refl, refl, refl, refl, refl)
+parts_after_refusals second_edition =
+    (refl, refl, refl, refl, refl, refl, refl, refl, refl, refl, refl, refl, refl, refl, refl, refl)
 
 -- where reading continues after a declaration that is broken
 pub blocks_after_faults : (edition : Edition) →
@@ -199,42 +290,81 @@ pub blocks_after_faults : (edition : Edition) →
     × (sheet_text (sheet edition ((codes "a{b:c;}}d{e:f}") ∷ [])) ≡ (codes "a { b:c; }"))
     × (sheet_text (sheet edition ((codes "a{b/*}*/}c{d:e}") ∷ [])) ≡ (codes "c { d:e; }"))
     × (sheet_text (sheet edition ((codes "a{/*}*/b}c{d:e}") ∷ [])) ≡ (codes "c { d:e; }"))
-unfolding each comment blank gap past_name_chars name string_or_name attribute_operator attribute_after lang_after pseudo_class_after named_token next_kind solid piece ending sequence_from chars encode trim_start trim_end reads part parts next_block rule_set at_rule_rest statement statements block block_end word past_number term value importance trailing stated_name declaration declarations
+unfolding each comment blank gap past_name_chars name string_or_name attribute_operator
+    attribute_after lang_after pseudo_class_after named_token next_kind solid piece ending
+    sequence_from chars encode trim_start trim_end reads part parts next_block rule_set at_rule_rest
+    statement statements block block_end word past_number term value importance trailing stated_name
+    declaration declarations
 blocks_after_faults first_edition = (refl, refl, refl, refl, refl, refl, refl, refl, refl, refl)
 blocks_after_faults second_edition = (refl, refl, refl, refl, refl, refl, refl, refl, refl, refl)
 
 -- and what the two editions read apart
 pub blocks_after_faults-editions :
-    (sheet_text (sheet second_edition ((codes "a{b:/c{}}d{e:f}") ∷ [])) ≡ (codes "a { b:/c; }\nd { e:f; }"))
+    (sheet_text (sheet second_edition ((codes "a{b:/c{}}d{e:f}") ∷ []))
+    ≡ (codes "a { b:/c; }\nd { e:f; }"))
     × (sheet_text (sheet first_edition ((codes "a{b:/c{}}d{e:f}") ∷ [])) ≡ (codes "d { e:f; }"))
-unfolding each comment blank gap past_name_chars name string_or_name attribute_operator attribute_after lang_after pseudo_class_after named_token next_kind solid piece ending sequence_from chars encode trim_start trim_end reads part parts next_block rule_set at_rule_rest statement statements block block_end word past_number term value importance trailing stated_name declaration declarations
+unfolding each comment blank gap past_name_chars name string_or_name attribute_operator
+    attribute_after lang_after pseudo_class_after named_token next_kind solid piece ending
+    sequence_from chars encode trim_start trim_end reads part parts next_block rule_set at_rule_rest
+    statement statements block block_end word past_number term value importance trailing stated_name
+    declaration declarations
 blocks_after_faults-editions = (refl, refl)
 
 -- rules of equal specificity and declarations of a rule keep their order
 pub order_in_rules : (edition : Edition) →
-    (sheet_text (sheet edition ((codes "a{c:x;c:y}a{c:z}") ∷ [])) ≡ (codes "a { c:x;c:y; }\na { c:z; }"))
-    × (sheet_text (sheet edition ((codes "a { c:red !important; c:blue } a { c:green }") ∷ [])) ≡ (codes "a { c:red !important;c:blue; }\na { c:green; }"))
-    × (sheet_text (sheet edition ((codes "a { c:red } .x { c:blue } a { c:green }") ∷ [])) ≡ (codes "a { c:red; }\na { c:green; }\n*[class~='x'] { c:blue; }"))
-    × (sheet_text (sheet edition ((codes ".a{b:c}#a{b:c}a{b:c}*{b:c}[id]{b:d}a b{b:c}") ∷ [])) ≡ (codes "* { b:c; }\na { b:c; }\na b { b:c; }\n*[class~='a'] { b:c; }\n*[id='a'] { b:c; }\n*[id] { b:d; }"))
-unfolding each comment blank gap past_name_chars name string_or_name attribute_operator attribute_after lang_after pseudo_class_after named_token next_kind solid piece ending sequence_from chars encode trim_start trim_end reads part parts next_block rule_set at_rule_rest statement statements block block_end word past_number term value importance trailing stated_name declaration declarations
+    (sheet_text (sheet edition ((codes "a{c:x;c:y}a{c:z}") ∷ []))
+    ≡ (codes "a { c:x;c:y; }\na { c:z; }"))
+    × (sheet_text (sheet edition ((codes "a { c:red !important; c:blue } a { c:green }") ∷ []))
+    ≡ (codes "a { c:red !important;c:blue; }\na { c:green; }"))
+    × (sheet_text (sheet edition ((codes "a { c:red } .x { c:blue } a { c:green }") ∷ []))
+    ≡ (codes "a { c:red; }\na { c:green; }\n*[class~='x'] { c:blue; }"))
+    × (sheet_text (sheet edition ((codes ".a{b:c}#a{b:c}a{b:c}*{b:c}[id]{b:d}a b{b:c}") ∷ []))
+    ≡ (codes
+    "* { b:c; }\na { b:c; }\na b { b:c; }\n*[class~='a'] { b:c; }\n*[id='a'] { b:c; }\n*[id] { b:d; }"))
+unfolding each comment blank gap past_name_chars name string_or_name attribute_operator
+    attribute_after lang_after pseudo_class_after named_token next_kind solid piece ending
+    sequence_from chars encode trim_start trim_end reads part parts next_block rule_set at_rule_rest
+    statement statements block block_end word past_number term value importance trailing stated_name
+    declaration declarations
 order_in_rules first_edition = (refl, refl, refl, refl)
 order_in_rules second_edition = (refl, refl, refl, refl)
 
 -- the components of `#b` and of `a`, and what `x:y` says
 abbrev id_of_b : List Component
-id_of_b = record { combinator = none; compound = record { name = None; subselectors = attribute (codes "id") (equals (codes "b")) ∷ [] } } ∷ []
+id_of_b = record {
+  combinator = none;
+  compound =
+      record { name = None; subselectors = attribute (codes "id") (equals (codes "b")) ∷ [] };
+} ∷ []
 
 abbrev type_a : List Component
-type_a = record { combinator = none; compound = record { name = Some (codes "a"); subselectors = [] } } ∷ []
+type_a =
+    record { combinator = none; compound = record { name = Some (codes "a"); subselectors = [] } }
+    ∷ []
 
 abbrev one_declaration : List StyleDeclaration
 one_declaration = record { name = codes "x"; value = codes "y"; important = false } ∷ []
 
 -- a text read into a sheet whose rules were edited, and a printed rule without declarations
 pub edited_sheets : (edition : Edition) →
-    (sheet_text (ordered (filter has_declaration (record { components = id_of_b; declarations = one_declaration } ∷ record { components = type_a; declarations = [] } ∷ []) ++ kept edition [])) ≡ (codes "*[id='b'] { x:y; }"))
-    × (sheet_text (ordered (filter has_declaration (record { components = id_of_b; declarations = one_declaration } ∷ record { components = type_a; declarations = one_declaration } ∷ []) ++ kept edition (codes "b { c:d } *{}"))) ≡ (codes "a { x:y; }\nb { c:d; }\n*[id='b'] { x:y; }"))
-    × (sheet_text (record { components = type_a; declarations = [] } ∷ record { components = id_of_b; declarations = one_declaration } ∷ []) ≡ (codes "a {  }\n*[id='b'] { x:y; }"))
-unfolding each comment blank gap past_name_chars name string_or_name attribute_operator attribute_after lang_after pseudo_class_after named_token next_kind solid piece ending sequence_from chars encode trim_start trim_end reads part parts next_block rule_set at_rule_rest statement statements block block_end word past_number term value importance trailing stated_name declaration declarations
+    (sheet_text (ordered (filter has_declaration (record {
+      components = id_of_b;
+      declarations = one_declaration;
+    } ∷ record { components = type_a; declarations = [] } ∷ []) ++ kept edition []))
+    ≡ (codes "*[id='b'] { x:y; }"))
+    × (sheet_text (ordered (filter has_declaration (record {
+      components = id_of_b;
+      declarations = one_declaration;
+    } ∷ record { components = type_a; declarations = one_declaration } ∷ []) ++ kept edition
+    (codes "b { c:d } *{}"))) ≡ (codes "a { x:y; }\nb { c:d; }\n*[id='b'] { x:y; }"))
+    × (sheet_text (record { components = type_a; declarations = [] } ∷ record {
+      components = id_of_b;
+      declarations = one_declaration;
+    } ∷ []) ≡ (codes "a {  }\n*[id='b'] { x:y; }"))
+unfolding each comment blank gap past_name_chars name string_or_name attribute_operator
+    attribute_after lang_after pseudo_class_after named_token next_kind solid piece ending
+    sequence_from chars encode trim_start trim_end reads part parts next_block rule_set at_rule_rest
+    statement statements block block_end word past_number term value importance trailing stated_name
+    declaration declarations
 edited_sheets first_edition = (refl, refl, refl)
 edited_sheets second_edition = (refl, refl, refl)

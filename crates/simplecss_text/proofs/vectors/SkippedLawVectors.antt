@@ -32,7 +32,8 @@ unfolding rests_after each position comment blank gap past_name_chars name strin
     attribute_operator attribute_after lang_after pseudo_class_after named_token next_kind solid
     piece ending sequence_from chars encode trim_start trim_end reads part parts next_block rule_set
     at_rule_rest statement statements block block_end word past_number term value importance
-    trailing stated_name declaration declarations refusal selector_skips part_skips skips_of_each parts_skips
+    trailing stated_name declaration declarations refusal selector_skips part_skips skips_of_each
+    parts_skips
     declaration_skips block_skips next_block_skips rule_set_skips statement_skips skipped
 skipped_in_front first_edition = (refl, refl, refl, refl)
 skipped_in_front second_edition = (refl, refl, refl, refl)
@@ -49,7 +50,8 @@ unfolding rests_after each position comment blank gap past_name_chars name strin
     attribute_operator attribute_after lang_after pseudo_class_after named_token next_kind solid
     piece ending sequence_from chars encode trim_start trim_end reads part parts next_block rule_set
     at_rule_rest statement statements block block_end word past_number term value importance
-    trailing stated_name declaration declarations refusal selector_skips part_skips skips_of_each parts_skips
+    trailing stated_name declaration declarations refusal selector_skips part_skips skips_of_each
+    parts_skips
     declaration_skips block_skips next_block_skips rule_set_skips statement_skips skipped
 hyphen_is_cut first_edition = (refl, refl, refl, refl)
 hyphen_is_cut second_edition = (refl, refl, refl, refl)
@@ -65,7 +67,8 @@ unfolding rests_after each position comment blank gap past_name_chars name strin
     attribute_operator attribute_after lang_after pseudo_class_after named_token next_kind solid
     piece ending sequence_from chars encode trim_start trim_end reads part parts next_block rule_set
     at_rule_rest statement statements block block_end word past_number term value importance
-    trailing stated_name declaration declarations refusal selector_skips part_skips skips_of_each parts_skips
+    trailing stated_name declaration declarations refusal selector_skips part_skips skips_of_each
+    parts_skips
     declaration_skips block_skips next_block_skips rule_set_skips statement_skips skipped
 open_string_is_skipped first_edition = (refl, refl)
 open_string_is_skipped second_edition = (refl, refl)

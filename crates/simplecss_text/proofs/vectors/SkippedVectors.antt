@@ -73,16 +73,48 @@ pub skips_of_texts : (edition : Edition) →
 unfolding each position comment blank gap past_name_chars name string_or_name attribute_operator
     attribute_after lang_after pseudo_class_after named_token next_kind solid piece ending
     sequence_from chars encode trim_start trim_end reads part parts next_block rule_set at_rule_rest
-    statement statements block block_end word past_number term value importance trailing stated_name declaration
-    declarations refusal selector_skips part_skips skips_of_each parts_skips declaration_skips block_skips
+    statement statements block block_end word past_number term value importance trailing stated_name
+    declaration
+    declarations refusal selector_skips part_skips skips_of_each parts_skips declaration_skips
+    block_skips
     next_block_skips rule_set_skips statement_skips skipped
-skips_of_texts first_edition =
-    (
-      refl, refl, refl, refl, refl, refl, refl, refl, refl, refl, refl, refl, refl, refl, refl, refl,
-      refl, refl,
-    )
-skips_of_texts second_edition =
-    (
-      refl, refl, refl, refl, refl, refl, refl, refl, refl, refl, refl, refl, refl, refl, refl, refl,
-      refl, refl,
-    )
+skips_of_texts first_edition = (
+  refl,
+  refl,
+  refl,
+  refl,
+  refl,
+  refl,
+  refl,
+  refl,
+  refl,
+  refl,
+  refl,
+  refl,
+  refl,
+  refl,
+  refl,
+  refl,
+  refl,
+  refl,
+)
+skips_of_texts second_edition = (
+  refl,
+  refl,
+  refl,
+  refl,
+  refl,
+  refl,
+  refl,
+  refl,
+  refl,
+  refl,
+  refl,
+  refl,
+  refl,
+  refl,
+  refl,
+  refl,
+  refl,
+  refl,
+)

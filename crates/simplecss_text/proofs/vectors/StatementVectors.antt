@@ -21,12 +21,22 @@ use Rattle.simplecss_text.specs.Printing.{selector_text}
 
 -- the declarations of a block after its brace, and what is left after it
 pub blocks : (edition : Edition) →
-    (block edition (codes "a:b; c:d}e") ≡ (record { name = (codes "a"); value = (codes "b"); important = false } ∷ record { name = (codes "c"); value = (codes "d"); important = false } ∷ [], (codes "e")))
+    (block edition (codes "a:b; c:d}e") ≡ (
+      record { name = (codes "a"); value = (codes "b"); important = false }
+          ∷ record { name = (codes "c"); value = (codes "d"); important = false } ∷ [],
+      (codes "e"),
+    ))
     × (block edition (codes "}}a") ≡ ([], (codes "}a")))
     × (block edition (codes " }}a") ≡ ([], (codes "a")))
-    × (block edition (codes "a:b;c{}}d") ≡ (record { name = (codes "a"); value = (codes "b"); important = false } ∷ [], (codes "d")))
-    × (block edition (codes "a:b") ≡ (record { name = (codes "a"); value = (codes "b"); important = false } ∷ [], []))
-unfolding each comment blank gap past_name_chars name string_or_name attribute_operator attribute_after lang_after pseudo_class_after named_token next_kind solid piece ending sequence_from chars encode trim_start trim_end reads part parts next_block rule_set at_rule_rest statement statements block block_end word past_number term value importance trailing stated_name declaration declarations
+    × (block edition (codes "a:b;c{}}d")
+    ≡ (record { name = (codes "a"); value = (codes "b"); important = false } ∷ [], (codes "d")))
+    × (block edition (codes "a:b")
+    ≡ (record { name = (codes "a"); value = (codes "b"); important = false } ∷ [], []))
+unfolding each comment blank gap past_name_chars name string_or_name attribute_operator
+    attribute_after lang_after pseudo_class_after named_token next_kind solid piece ending
+    sequence_from chars encode trim_start trim_end reads part parts next_block rule_set at_rule_rest
+    statement statements block block_end word past_number term value importance trailing stated_name
+    declaration declarations
 blocks first_edition = (refl, refl, refl, refl, refl)
 blocks second_edition = (refl, refl, refl, refl, refl)
 
@@ -38,7 +48,11 @@ pub statement_ends : (edition : Edition) →
     × ((statement edition (codes "@m")).1 ≡ [])
     × ((statement edition (codes "a{b:c}d")).1 ≡ (codes "d"))
     × ((statement edition (codes ",a, b")).1 ≡ [])
-unfolding each comment blank gap past_name_chars name string_or_name attribute_operator attribute_after lang_after pseudo_class_after named_token next_kind solid piece ending sequence_from chars encode trim_start trim_end reads part parts next_block rule_set at_rule_rest statement statements block block_end word past_number term value importance trailing stated_name declaration declarations
+unfolding each comment blank gap past_name_chars name string_or_name attribute_operator
+    attribute_after lang_after pseudo_class_after named_token next_kind solid piece ending
+    sequence_from chars encode trim_start trim_end reads part parts next_block rule_set at_rule_rest
+    statement statements block block_end word past_number term value importance trailing stated_name
+    declaration declarations
 statement_ends first_edition = (refl, refl, refl, refl, refl, refl)
 statement_ends second_edition = (refl, refl, refl, refl, refl, refl)
 
@@ -48,7 +62,11 @@ pub part_ends : (edition : Edition) →
     × ((part edition (codes "a {")).1 ≡ (codes "{"))
     × ((part edition (codes ":x  {")).1 ≡ (codes "{"))
     × ((part edition (codes "a/**/,")).1 ≡ (codes ","))
-unfolding each comment blank gap past_name_chars name string_or_name attribute_operator attribute_after lang_after pseudo_class_after named_token next_kind solid piece ending sequence_from chars encode trim_start trim_end reads part parts next_block rule_set at_rule_rest statement statements block block_end word past_number term value importance trailing stated_name declaration declarations
+unfolding each comment blank gap past_name_chars name string_or_name attribute_operator
+    attribute_after lang_after pseudo_class_after named_token next_kind solid piece ending
+    sequence_from chars encode trim_start trim_end reads part parts next_block rule_set at_rule_rest
+    statement statements block block_end word past_number term value importance trailing stated_name
+    declaration declarations
 part_ends first_edition = (refl, refl, refl, refl)
 part_ends second_edition = (refl, refl, refl, refl)
 
@@ -57,7 +75,11 @@ pub parts_of_sets : (edition : Edition) →
     (map selector_text (parts edition (codes "a, b > c {")).0 ≡ (codes "a") ∷ (codes "b > c") ∷ [])
     × (map selector_text (parts edition (codes "a, :x, b")).0 ≡ (codes "a") ∷ (codes "b") ∷ [])
     × (map selector_text (parts edition (codes ":x")).0 ≡ [])
-unfolding each comment blank gap past_name_chars name string_or_name attribute_operator attribute_after lang_after pseudo_class_after named_token next_kind solid piece ending sequence_from chars encode trim_start trim_end reads part parts next_block rule_set at_rule_rest statement statements block block_end word past_number term value importance trailing stated_name declaration declarations
+unfolding each comment blank gap past_name_chars name string_or_name attribute_operator
+    attribute_after lang_after pseudo_class_after named_token next_kind solid piece ending
+    sequence_from chars encode trim_start trim_end reads part parts next_block rule_set at_rule_rest
+    statement statements block block_end word past_number term value importance trailing stated_name
+    declaration declarations
 parts_of_sets first_edition = (refl, refl, refl)
 parts_of_sets second_edition = (refl, refl, refl)
 
@@ -68,15 +90,24 @@ pub open_comments :
     × (is_open_comment (codes "a") ≡ false)
     × (is_open_comment [] ≡ false)
     × (is_open_comment (codes "/**/") ≡ false)
-unfolding each comment blank gap past_name_chars name string_or_name attribute_operator attribute_after lang_after pseudo_class_after named_token next_kind solid piece ending sequence_from chars encode trim_start trim_end reads part parts next_block rule_set at_rule_rest statement statements block block_end word past_number term value importance trailing stated_name declaration declarations
+unfolding each comment blank gap past_name_chars name string_or_name attribute_operator
+    attribute_after lang_after pseudo_class_after named_token next_kind solid piece ending
+    sequence_from chars encode trim_start trim_end reads part parts next_block rule_set at_rule_rest
+    statement statements block block_end word past_number term value importance trailing stated_name
+    declaration declarations
 open_comments = (refl, refl, refl, refl, refl)
 
 -- each element at its rank
 pub ranks :
     (ordered_by nat_lt (3 ∷ 1 ∷ 2 ∷ 1 ∷ []) ≡ 1 ∷ 1 ∷ 2 ∷ 3 ∷ [])
     × (ordered_by nat_lt [] ≡ [])
-    × (ordered_by (λ (x y : ℕ × ℕ). nat_lt x.0 y.0) ((2, 7) ∷ (1, 8) ∷ (2, 6) ∷ (1, 9) ∷ []) ≡ (1, 8) ∷ (1, 9) ∷ (2, 7) ∷ (2, 6) ∷ [])
-unfolding each comment blank gap past_name_chars name string_or_name attribute_operator attribute_after lang_after pseudo_class_after named_token next_kind solid piece ending sequence_from chars encode trim_start trim_end reads part parts next_block rule_set at_rule_rest statement statements block block_end word past_number term value importance trailing stated_name declaration declarations
+    × (ordered_by (λ (x y : ℕ × ℕ). nat_lt x.0 y.0) ((2, 7) ∷ (1, 8) ∷ (2, 6) ∷ (1, 9) ∷ [])
+    ≡ (1, 8) ∷ (1, 9) ∷ (2, 7) ∷ (2, 6) ∷ [])
+unfolding each comment blank gap past_name_chars name string_or_name attribute_operator
+    attribute_after lang_after pseudo_class_after named_token next_kind solid piece ending
+    sequence_from chars encode trim_start trim_end reads part parts next_block rule_set at_rule_rest
+    statement statements block block_end word past_number term value importance trailing stated_name
+    declaration declarations
 ranks = (refl, refl, refl)
 
 -- where a block ends: one further brace is consumed after a broken declaration
@@ -89,18 +120,63 @@ pub block_ends : (edition : Edition) →
     × (block edition (codes "/**/}}a") ≡ ([], (codes "a")))
     × (block edition (codes " }}}a") ≡ ([], (codes "}a")))
     × (block edition (codes " } }a") ≡ ([], (codes " }a")))
-    × (block edition (codes "a:b}}c") ≡ (record { name = codes "a"; value = codes "b"; important = false } ∷ [], (codes "}c")))
+    × (block edition (codes "a:b}}c")
+    ≡ (record { name = codes "a"; value = codes "b"; important = false } ∷ [], (codes "}c")))
     × (block edition (codes "a:b;/*}c") ≡ ([], []))
     × (block edition (codes "{}}a") ≡ ([], (codes "a")))
     × (block edition (codes "a:{}}b") ≡ ([], (codes "b")))
-    × (block edition (codes "a:b;c{d}e;f:g}h") ≡ (record { name = codes "a"; value = codes "b"; important = false } ∷ [], (codes "h")))
-    × (block edition (codes "a:'}'}b") ≡ (record { name = codes "a"; value = codes "'}'"; important = false } ∷ [], (codes "b")))
+    × (block edition (codes "a:b;c{d}e;f:g}h")
+    ≡ (record { name = codes "a"; value = codes "b"; important = false } ∷ [], (codes "h")))
+    × (block edition (codes "a:'}'}b")
+    ≡ (record { name = codes "a"; value = codes "'}'"; important = false } ∷ [], (codes "b")))
     × (block edition (codes "a'}'}b") ≡ ([], (codes "'}b")))
-    × (block edition (codes "a:b") ≡ (record { name = codes "a"; value = codes "b"; important = false } ∷ [], []))
-    × (block edition (codes "a:b!important;}c") ≡ (record { name = codes "a"; value = codes "b"; important = true } ∷ [], (codes "c")))
-unfolding each comment blank gap past_name_chars name string_or_name attribute_operator attribute_after lang_after pseudo_class_after named_token next_kind solid piece ending sequence_from chars encode trim_start trim_end reads part parts next_block rule_set at_rule_rest statement statements block block_end word past_number term value importance trailing stated_name declaration declarations
-block_ends first_edition = (refl, refl, refl, refl, refl, refl, refl, refl, refl, refl, refl, refl, refl, refl, refl, refl, refl)
-block_ends second_edition = (refl, refl, refl, refl, refl, refl, refl, refl, refl, refl, refl, refl, refl, refl, refl, refl, refl)
+    × (block edition (codes "a:b")
+    ≡ (record { name = codes "a"; value = codes "b"; important = false } ∷ [], []))
+    × (block edition (codes "a:b!important;}c")
+    ≡ (record { name = codes "a"; value = codes "b"; important = true } ∷ [], (codes "c")))
+unfolding each comment blank gap past_name_chars name string_or_name attribute_operator
+    attribute_after lang_after pseudo_class_after named_token next_kind solid piece ending
+    sequence_from chars encode trim_start trim_end reads part parts next_block rule_set at_rule_rest
+    statement statements block block_end word past_number term value importance trailing stated_name
+    declaration declarations
+block_ends first_edition = (
+  refl,
+  refl,
+  refl,
+  refl,
+  refl,
+  refl,
+  refl,
+  refl,
+  refl,
+  refl,
+  refl,
+  refl,
+  refl,
+  refl,
+  refl,
+  refl,
+  refl,
+)
+block_ends second_edition = (
+  refl,
+  refl,
+  refl,
+  refl,
+  refl,
+  refl,
+  refl,
+  refl,
+  refl,
+  refl,
+  refl,
+  refl,
+  refl,
+  refl,
+  refl,
+  refl,
+  refl,
+)
 
 -- after a part space bytes are skipped and comments are not
 pub parts_and_blanks : (edition : Edition) →
@@ -114,24 +190,41 @@ pub parts_and_blanks : (edition : Edition) →
     × ((part edition (codes ":x")).1 ≡ [])
     × ((part edition (codes "a,b")).1 ≡ (codes ",b"))
     × ((part edition (codes "-\t\n,")).1 ≡ (codes ","))
-unfolding each comment blank gap past_name_chars name string_or_name attribute_operator attribute_after lang_after pseudo_class_after named_token next_kind solid piece ending sequence_from chars encode trim_start trim_end reads part parts next_block rule_set at_rule_rest statement statements block block_end word past_number term value importance trailing stated_name declaration declarations
+unfolding each comment blank gap past_name_chars name string_or_name attribute_operator
+    attribute_after lang_after pseudo_class_after named_token next_kind solid piece ending
+    sequence_from chars encode trim_start trim_end reads part parts next_block rule_set at_rule_rest
+    statement statements block block_end word past_number term value importance trailing stated_name
+    declaration declarations
 parts_and_blanks first_edition = (refl, refl, refl, refl, refl, refl, refl, refl, refl, refl)
 parts_and_blanks second_edition = (refl, refl, refl, refl, refl, refl, refl, refl, refl, refl)
 
 -- the selectors that a rule set yields
 pub rule_sets : (edition : Edition) →
-    (map (λ rule. selector_text rule.components) (rule_set edition (codes "a,,b{c:d}")).0 ≡ (codes "a") ∷ (codes "b") ∷ [])
-    × (map (λ rule. selector_text rule.components) (rule_set edition (codes ",a{c:d}")).0 ≡ (codes "a") ∷ [])
-    × (map (λ rule. selector_text rule.components) (rule_set edition (codes ",,a{c:d}")).0 ≡ (codes "a") ∷ [])
-    × (map (λ rule. selector_text rule.components) (rule_set edition (codes "a,{c:d}")).0 ≡ (codes "a") ∷ [])
-    × (map (λ rule. selector_text rule.components) (rule_set edition (codes "a,b")).0 ≡ (codes "a") ∷ (codes "b") ∷ [])
-    × (map (λ rule. selector_text rule.components) (rule_set edition (codes "a,b <x")).0 ≡ (codes "a") ∷ [])
-    × (map (λ rule. selector_text rule.components) (rule_set edition (codes "a/x{c:d}")).0 ≡ (codes "a") ∷ [])
+    (map (λ rule. selector_text rule.components) (rule_set edition (codes "a,,b{c:d}")).0
+    ≡ (codes "a") ∷ (codes "b") ∷ [])
+    × (map (λ rule. selector_text rule.components) (rule_set edition (codes ",a{c:d}")).0
+    ≡ (codes "a") ∷ [])
+    × (map (λ rule. selector_text rule.components) (rule_set edition (codes ",,a{c:d}")).0
+    ≡ (codes "a") ∷ [])
+    × (map (λ rule. selector_text rule.components) (rule_set edition (codes "a,{c:d}")).0
+    ≡ (codes "a") ∷ [])
+    × (map (λ rule. selector_text rule.components) (rule_set edition (codes "a,b")).0
+    ≡ (codes "a") ∷ (codes "b") ∷ [])
+    × (map (λ rule. selector_text rule.components) (rule_set edition (codes "a,b <x")).0
+    ≡ (codes "a") ∷ [])
+    × (map (λ rule. selector_text rule.components) (rule_set edition (codes "a/x{c:d}")).0
+    ≡ (codes "a") ∷ [])
     × (map (λ rule. selector_text rule.components) (rule_set edition (codes ",")).0 ≡ [])
     × (map (λ rule. selector_text rule.components) (rule_set edition (codes "{c:d}")).0 ≡ [])
-    × (map (λ rule. selector_text rule.components) (rule_set edition (codes "a:x,b{c:d}")).0 ≡ (codes "b") ∷ [])
-    × (map (λ rule. selector_text rule.components) (rule_set edition (codes "a, b,c")).0 ≡ (codes "a") ∷ (codes "b") ∷ (codes "c") ∷ [])
-unfolding each comment blank gap past_name_chars name string_or_name attribute_operator attribute_after lang_after pseudo_class_after named_token next_kind solid piece ending sequence_from chars encode trim_start trim_end reads part parts next_block rule_set at_rule_rest statement statements block block_end word past_number term value importance trailing stated_name declaration declarations
+    × (map (λ rule. selector_text rule.components) (rule_set edition (codes "a:x,b{c:d}")).0
+    ≡ (codes "b") ∷ [])
+    × (map (λ rule. selector_text rule.components) (rule_set edition (codes "a, b,c")).0
+    ≡ (codes "a") ∷ (codes "b") ∷ (codes "c") ∷ [])
+unfolding each comment blank gap past_name_chars name string_or_name attribute_operator
+    attribute_after lang_after pseudo_class_after named_token next_kind solid piece ending
+    sequence_from chars encode trim_start trim_end reads part parts next_block rule_set at_rule_rest
+    statement statements block block_end word past_number term value importance trailing stated_name
+    declaration declarations
 rule_sets first_edition = (refl, refl, refl, refl, refl, refl, refl, refl, refl, refl, refl)
 rule_sets second_edition = (refl, refl, refl, refl, refl, refl, refl, refl, refl, refl, refl)
 
@@ -148,7 +241,11 @@ pub rule_set_ends : (edition : Edition) →
     × ((statement edition (codes "{}a")).1 ≡ (codes "a"))
     × ((statement edition (codes ":x/**/{b:c}d")).1 ≡ (codes "d"))
     × ((statement edition (codes "a;b{c:d}e")).1 ≡ (codes "e"))
-unfolding each comment blank gap past_name_chars name string_or_name attribute_operator attribute_after lang_after pseudo_class_after named_token next_kind solid piece ending sequence_from chars encode trim_start trim_end reads part parts next_block rule_set at_rule_rest statement statements block block_end word past_number term value importance trailing stated_name declaration declarations
+unfolding each comment blank gap past_name_chars name string_or_name attribute_operator
+    attribute_after lang_after pseudo_class_after named_token next_kind solid piece ending
+    sequence_from chars encode trim_start trim_end reads part parts next_block rule_set at_rule_rest
+    statement statements block block_end word past_number term value importance trailing stated_name
+    declaration declarations
 rule_set_ends first_edition = (refl, refl, refl, refl, refl, refl, refl, refl, refl, refl, refl)
 rule_set_ends second_edition = (refl, refl, refl, refl, refl, refl, refl, refl, refl, refl, refl)
 
@@ -168,6 +265,12 @@ pub at_rule_ends : (edition : Edition) →
     × ((statement edition (codes "@m';'a")).1 ≡ (codes "'a"))
     × ((statement edition (codes "@m/*;*/a")).1 ≡ (codes "*/a"))
     × ((statement edition (codes "@m}a;b")).1 ≡ (codes "b"))
-unfolding each comment blank gap past_name_chars name string_or_name attribute_operator attribute_after lang_after pseudo_class_after named_token next_kind solid piece ending sequence_from chars encode trim_start trim_end reads part parts next_block rule_set at_rule_rest statement statements block block_end word past_number term value importance trailing stated_name declaration declarations
-at_rule_ends first_edition = (refl, refl, refl, refl, refl, refl, refl, refl, refl, refl, refl, refl, refl, refl)
-at_rule_ends second_edition = (refl, refl, refl, refl, refl, refl, refl, refl, refl, refl, refl, refl, refl, refl)
+unfolding each comment blank gap past_name_chars name string_or_name attribute_operator
+    attribute_after lang_after pseudo_class_after named_token next_kind solid piece ending
+    sequence_from chars encode trim_start trim_end reads part parts next_block rule_set at_rule_rest
+    statement statements block block_end word past_number term value importance trailing stated_name
+    declaration declarations
+at_rule_ends first_edition =
+    (refl, refl, refl, refl, refl, refl, refl, refl, refl, refl, refl, refl, refl, refl)
+at_rule_ends second_edition =
+    (refl, refl, refl, refl, refl, refl, refl, refl, refl, refl, refl, refl, refl, refl)

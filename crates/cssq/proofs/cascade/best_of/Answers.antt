@@ -19,11 +19,15 @@ loop-declaration-preserved c = λ i.
       | then-eq w ↦
           let is = ap (option_map declaration_of) w.best-is ∙ ap Some w.better_of.ensures in
           subst (Wins (InRule i (take (k + 1) ps)) name) (sym is)
-          (best_named c.args.declarations.now k _ c.loop-declaration-test.true name _ so_far i ((bytes_decides _ name).0 (sym c.eq.ensures ∙ w.if-eq.true)))
+          (best_named c.args.declarations.now k _ c.loop-declaration-test.true name _ so_far i
+          ((bytes_decides _ name).0 (sym c.eq.ensures ∙ w.if-eq.true)))
       | else-eq w ↦
-          subst (Wins (InRule i (take (k + 1) ps)) name) (ap (option_map declaration_of) (sym w.best-is))
-          (best_other c.args.declarations.now k _ c.loop-declaration-test.true name _ so_far i (λ named. both_ways _ w.if-eq.false (c.eq.ensures ∙ (bytes_decides _ name).1 named)))
+          subst (Wins (InRule i (take (k + 1) ps)) name)
+          (ap (option_map declaration_of) (sym w.best-is))
+          (best_other c.args.declarations.now k _ c.loop-declaration-test.true name _ so_far i
+          (λ named. both_ways _ w.if-eq.false (c.eq.ensures ∙ (bytes_decides _ name).1 named)))
     ]
 
 pub returns : goal.returns
-returns c = best_all c.args.declarations.now c.loop-declaration.declaration-index c.args.name.now _ c.loop-declaration-test.false c.loop-declaration.invariant
+returns c = best_all c.args.declarations.now c.loop-declaration.declaration-index c.args.name.now _
+    c.loop-declaration-test.false c.loop-declaration.invariant

@@ -8,4 +8,5 @@ use Rattle.cssq.proofs.cascade.best_of.Given as goal
 -- what wins among the declarations so far
 abbrev pub invariant-loop-declaration : goal.invariant-loop-declaration
 invariant-loop-declaration l =
-    (i : ℕ) → Wins (InRule i (take l.declaration-index (declarations_of l.declarations))) l.name (option_map declaration_of l.best)
+    (i : ℕ) → Wins (InRule i (take l.declaration-index (declarations_of l.declarations))) l.name
+    (option_map declaration_of l.best)

@@ -11,5 +11,7 @@ use Rattle.cssq.proofs.cascade.stated_at.Given as goal
 abbrev pub invariant-loop-index : goal.invariant-loop-index
 invariant-loop-index g l =
     (l.index-index ≤ length l.indices)
-    × ((element : g.E.Element.Node) → AreMatches g.E.Element.tree element (map (λ rule. rule.selector) l.rules) l.indices
-    → ListsInOrder (Before (IsStated g.E.Element.tree element (rules_of l.rules)) (after l.indices l.index-index)) (declarations_of l.all.items))
+    × ((element : g.E.Element.Node)
+    → AreMatches g.E.Element.tree element (map (λ rule. rule.selector) l.rules) l.indices
+    → ListsInOrder (Before (IsStated g.E.Element.tree element (rules_of l.rules))
+    (after l.indices l.index-index)) (declarations_of l.all.items))

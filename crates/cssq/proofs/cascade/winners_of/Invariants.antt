@@ -10,5 +10,7 @@ use Rattle.cssq.proofs.cascade.winners_of.Given as goal
 abbrev pub invariant-loop-index : goal.invariant-loop-index
 invariant-loop-index g l =
     HasBestIndices l.indices (declarations_of l.stated)
-    × ((element : g.E.Element.Node) (rules : List StyleRule) (lists : ListsInOrder (IsStated g.E.Element.tree element rules) (declarations_of l.stated))
-    → ListsInOrder (Kept (IsStated g.E.Element.tree element rules) (declarations_of l.stated) lists l.index) (declarations_of l.all.items))
+    × ((element : g.E.Element.Node) (rules : List StyleRule)
+    (lists : ListsInOrder (IsStated g.E.Element.tree element rules) (declarations_of l.stated))
+    → ListsInOrder (Kept (IsStated g.E.Element.tree element rules)
+    (declarations_of l.stated) lists l.index) (declarations_of l.all.items))

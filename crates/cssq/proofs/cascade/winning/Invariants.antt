@@ -8,4 +8,5 @@ use Rattle.cssq.proofs.cascade.winning.Given as goal
 -- what wins among the rules that were looked at
 abbrev pub invariant-loop-index : goal.invariant-loop-index
 invariant-loop-index g l =
-    KnownFrom (IsStated g.E.Element.tree (g.E.Element.node l.element) (rules_of l.rules)) l.name l.index (option_map declaration_of l.winner)
+    KnownFrom (IsStated g.E.Element.tree (g.E.Element.node l.element) (rules_of l.rules)) l.name
+    l.index (option_map declaration_of l.winner)

@@ -12,4 +12,5 @@ use Rattle.cssq.proofs.cascade.winning_among.Given as goal
 abbrev pub invariant-loop-i : goal.invariant-loop-i
 invariant-loop-i l =
     (element : Spot) → AreMatches page_tree element (map (λ rule. rule.selector) l.rules) l.indices
-    → KnownFrom (IsStated page_tree element (rules_of l.rules)) l.name (get_or l.indices l.i (length (map (λ rule. rule.selector) l.rules))) (option_map declaration_of l.winner)
+    → KnownFrom (IsStated page_tree element (rules_of l.rules)) l.name (get_or l.indices l.i
+    (length (map (λ rule. rule.selector) l.rules))) (option_map declaration_of l.winner)

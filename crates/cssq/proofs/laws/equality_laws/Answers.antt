@@ -38,11 +38,17 @@ returns-clause-commands c (Selector a) (Selector b) =
     let same = bytes_decides a.now b.now in
     (λ h. ap selector (same.0 h), λ e. let text : a.now ≡ b.now = cc in same.1 text)
 returns-clause-commands c (Sheet a) (Sheet b) =
-    let same : Decides (pointwise (λ x y. bytes_eq (string_bytes x) (string_bytes y)) a.now b.now) (map string_bytes a.now ≡ map string_bytes b.now) =
-    subst (λ t. Decides t (map string_bytes a.now ≡ map string_bytes b.now)) (pointwise-map string_bytes bytes_eq a.now b.now) (pointwise_decides bytes_decides (map string_bytes a.now) (map string_bytes b.now)) in
-    (λ h. ap sheet (same.0 h), λ e. let files : map string_bytes a.now ≡ map string_bytes b.now = cc in same.1 files)
+    let same : Decides (pointwise (λ x y. bytes_eq (string_bytes x) (string_bytes y)) a.now b.now)
+    (map string_bytes a.now ≡ map string_bytes b.now) =
+    subst (λ t. Decides t (map string_bytes a.now ≡ map string_bytes b.now))
+    (pointwise-map string_bytes bytes_eq a.now b.now)
+    (pointwise_decides bytes_decides (map string_bytes a.now) (map string_bytes b.now)) in (
+      λ h. ap sheet (same.0 h),
+      λ e. let files : map string_bytes a.now ≡ map string_bytes b.now = cc in same.1 files,
+    )
 returns-clause-commands c (Match a s) (Match b t) =
-    let same = Decides-and (bytes_eq a.now b.now) (bytes_eq s.now t.now) (bytes_decides a.now b.now) (bytes_decides s.now t.now) in (
+    let same = Decides-and (bytes_eq a.now b.now) (bytes_eq s.now t.now) (bytes_decides a.now b.now)
+    (bytes_decides s.now t.now) in (
       (λ h. let both = same.0 h in λ i. match (both.0 i) (both.1 i)),
       (λ e.
           let file : a.now ≡ b.now = cc in
@@ -50,8 +56,10 @@ returns-clause-commands c (Match a s) (Match b t) =
           same.1 (file, tree)),
     )
 returns-clause-commands c (Style a s x) (Style b t y) =
-    let later = Decides-and (bytes_eq s.now t.now) (bytes_eq x.now y.now) (bytes_decides s.now t.now) (bytes_decides x.now y.now) in
-    let same = Decides-and (bytes_eq a.now b.now) (bytes_eq s.now t.now && bytes_eq x.now y.now) (bytes_decides a.now b.now) later in (
+    let later = Decides-and (bytes_eq s.now t.now) (bytes_eq x.now y.now)
+    (bytes_decides s.now t.now) (bytes_decides x.now y.now) in
+    let same = Decides-and (bytes_eq a.now b.now) (bytes_eq s.now t.now && bytes_eq x.now y.now)
+    (bytes_decides a.now b.now) later in (
       (λ h. let all = same.0 h in λ i. style (all.0 i) (all.1.0 i) (all.1.1 i)),
       (λ e.
           let file : a.now ≡ b.now = cc in
@@ -60,8 +68,13 @@ returns-clause-commands c (Style a s x) (Style b t y) =
           same.1 (file, (tree, name))),
     )
 -- of two kinds
-returns-clause-commands c Input _ = (λ h. absurd (both_ways false refl h), λ e. absurd (both_ways true (ap is_input e) refl))
-returns-clause-commands c (Selector a) _ = (λ h. absurd (both_ways false refl h), λ e. absurd (both_ways true (ap is_selector e) refl))
-returns-clause-commands c (Sheet a) _ = (λ h. absurd (both_ways false refl h), λ e. absurd (both_ways true (ap is_sheet e) refl))
-returns-clause-commands c (Match a s) _ = (λ h. absurd (both_ways false refl h), λ e. absurd (both_ways true (ap is_match e) refl))
-returns-clause-commands c (Style a s x) _ = (λ h. absurd (both_ways false refl h), λ e. absurd (both_ways true (ap is_style e) refl))
+returns-clause-commands c Input _ =
+    (λ h. absurd (both_ways false refl h), λ e. absurd (both_ways true (ap is_input e) refl))
+returns-clause-commands c (Selector a) _ =
+    (λ h. absurd (both_ways false refl h), λ e. absurd (both_ways true (ap is_selector e) refl))
+returns-clause-commands c (Sheet a) _ =
+    (λ h. absurd (both_ways false refl h), λ e. absurd (both_ways true (ap is_sheet e) refl))
+returns-clause-commands c (Match a s) _ =
+    (λ h. absurd (both_ways false refl h), λ e. absurd (both_ways true (ap is_match e) refl))
+returns-clause-commands c (Style a s x) _ =
+    (λ h. absurd (both_ways false refl h), λ e. absurd (both_ways true (ap is_style e) refl))

@@ -7,4 +7,5 @@ use Rattle.cssq.proofs.runs.page_lines.Given as goal
 -- the lines of the elements so far, and results of searches by the index
 abbrev pub invariant-loop-element : goal.invariant-loop-element
 invariant-loop-element l =
-    LinesSoFar (IsElementLine l.content (rules_of l.rules) l.page) l.element (string_bytes l.text) × (l.recent ≡ l.index)
+    LinesSoFar (IsElementLine l.content (rules_of l.rules) l.page) l.element (string_bytes l.text)
+    × (l.recent ≡ l.index)

@@ -15,35 +15,58 @@ use Rattle.cssq.proofs.runs.push_element.Goals.{After-as_slice-indices}
 use Rattle.cssq.proofs.runs.push_element.Goals as goal
 
 -- the indices are those of the rules that match the element
-found : (c : After-as_slice-indices) → AreMatches page_tree (spot c.args.page.now c.args.element) (map (λ rule. rule.selector) c.args.rules.now) c.as_slice-indices.result.now
+found : (c : After-as_slice-indices)
+    → AreMatches page_tree (spot c.args.page.now c.args.element)
+    (map (λ rule. rule.selector) c.args.rules.now) c.as_slice-indices.result.now
 found c =
-    let at = subst (λ r. MatchOption r (length c.args.page.now ≤ c.args.element) (λ node. (c.args.element < length c.args.page.now) × (node ≡ spot c.args.page.now c.args.element))) c.unwrap-node.ensures c.node.ensures in
-    subst (λ node. AreMatches page_tree node (map (λ rule. rule.selector) c.args.rules.now) c.as_slice-indices.result.now) at.1
-    (subst (λ selectors. AreMatches page_tree c.unwrap-node.result selectors c.as_slice-indices.result.now) c.requires.index
-    (subst (AreMatches page_tree c.unwrap-node.result c.args.index.now) (sym c.as_slice-indices.ensures.value) c.in_ok-matching_recent.ensures.matches))
+    let at = subst (λ r. MatchOption r (length c.args.page.now ≤ c.args.element) (λ node.
+    (c.args.element < length c.args.page.now) × (node ≡ spot c.args.page.now c.args.element)))
+    c.unwrap-node.ensures c.node.ensures in
+    subst (λ node. AreMatches page_tree node
+    (map (λ rule. rule.selector) c.args.rules.now) c.as_slice-indices.result.now) at.1
+    (subst (λ selectors. AreMatches page_tree c.unwrap-node.result selectors
+    c.as_slice-indices.result.now) c.requires.index
+    (subst (AreMatches page_tree c.unwrap-node.result c.args.index.now)
+    (sym c.as_slice-indices.ensures.value) c.in_ok-matching_recent.ensures.matches))
 
 pub push_line-requires : goal.push_line-requires
 push_line-requires c = λ k d within.
     let bound : length c.args.rules.now < 2 ^ 63 = search rules in
-    let at = index_within page_tree _ c.args.rules.now _ (found (goal.at.push_line-requires c).After-as_slice-indices) k within in
+    let at = index_within page_tree _ c.args.rules.now _
+    (found (goal.at.push_line-requires c).After-as_slice-indices) k within in
     let same = get_or_default c.as_slice-indices.result.now k d 0 within in
     omega (arith, bound, at, same)
 
 pub winning_among-requires : goal.winning_among-requires
 winning_among-requires c = λ k d within.
-    let at = index_within page_tree _ c.args.rules.now _ (found (goal.at.winning_among-requires c).After-as_slice-indices) k within in
+    let at = index_within page_tree _ c.args.rules.now _
+    (found (goal.at.winning_among-requires c).After-as_slice-indices) k within in
     let same = get_or_default c.as_slice-indices.result.now k d 0 within in
     omega (arith, at, same)
 
 pub returns-in-Rules-clause-reported : goal.returns-in-Rules-clause-reported
 returns-in-Rules-clause-reported c =
-    let are = subst (λ selectors. AreMatches page_tree (spot c.args.page.now c.args.element) selectors c.as_slice-indices.result.now) (same_selectors rule_of c.args.rules.now) (found (goal.at.returns-in-Rules-clause-reported c).After-as_slice-indices) in
-    subst (λ content. OnOk c.push_line.result (AppendsElementLine content (rules_of c.args.rules.now) c.args.page.now c.args.element (string_bytes c.args.out.now) (string_bytes c.push_line.new.out))) (sym c.in-Rules.is)
-    (on_ok_weaker c.push_line.result (λ wrote. (numbers_line (c.args.element + 1) (map (λ element. element + 1) c.as_slice-indices.result.now), numbers_reported (rules_of c.args.rules.now) (spot c.args.page.now c.args.element) c.as_slice-indices.result.now are c.args.page.now c.args.element refl, wrote)) c.push_line.ensures)
+    let are = subst (λ selectors. AreMatches page_tree (spot c.args.page.now c.args.element)
+    selectors c.as_slice-indices.result.now) (same_selectors rule_of c.args.rules.now)
+    (found (goal.at.returns-in-Rules-clause-reported c).After-as_slice-indices) in
+    subst (λ content. OnOk c.push_line.result
+    (AppendsElementLine content (rules_of c.args.rules.now) c.args.page.now c.args.element
+    (string_bytes c.args.out.now) (string_bytes c.push_line.new.out))) (sym c.in-Rules.is)
+    (on_ok_weaker c.push_line.result (λ wrote. (
+      numbers_line (c.args.element + 1)
+          (map (λ element. element + 1) c.as_slice-indices.result.now),
+      numbers_reported (rules_of c.args.rules.now) (spot c.args.page.now c.args.element)
+          c.as_slice-indices.result.now are c.args.page.now c.args.element refl,
+      wrote,
+    )) c.push_line.ensures)
 
 pub returns-in-Winner-clause-reported : goal.returns-in-Winner-clause-reported
 returns-in-Winner-clause-reported c =
     let winner = option_map declaration_of c.winning_among.result in
-    let wins = c.winning_among.ensures (spot c.args.page.now c.args.element) (found (goal.at.returns-in-Winner-clause-reported c).After-as_slice-indices) in
-    subst (λ content. OnOk c.push_winner.result (AppendsElementLine content (rules_of c.args.rules.now) c.args.page.now c.args.element (string_bytes c.args.out.now) (string_bytes c.push_winner.new.out))) (sym c.in-Winner.is)
-    (on_ok_weaker c.push_winner.result (λ wrote. (style_line (c.args.element + 1) winner, (winner, wins, refl), wrote)) c.push_winner.ensures)
+    let wins = c.winning_among.ensures (spot c.args.page.now c.args.element)
+    (found (goal.at.returns-in-Winner-clause-reported c).After-as_slice-indices) in
+    subst (λ content. OnOk c.push_winner.result
+    (AppendsElementLine content (rules_of c.args.rules.now) c.args.page.now c.args.element
+    (string_bytes c.args.out.now) (string_bytes c.push_winner.new.out))) (sym c.in-Winner.is)
+    (on_ok_weaker c.push_winner.result (λ wrote.
+    (style_line (c.args.element + 1) winner, (winner, wins, refl), wrote)) c.push_winner.ensures)

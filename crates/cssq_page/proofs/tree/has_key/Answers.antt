@@ -8,7 +8,8 @@ use Rattle.cssq_page.proofs.tree.has_key.Goals as goal
 pub loop-i-preserved : goal.loop-i-preserved
 loop-i-preserved c =
     c.loop-i.invariant
-    ∙ has_key_more c.args.key.now (c.args.count - c.loop-i.i) (c.args.count - (c.loop-i.i + 1)) (fields_in c.loop-i.rest) c.cut_field.result.0.now (fields_in c.cut_field.result.1)
+    ∙ has_key_more c.args.key.now (c.args.count - c.loop-i.i) (c.args.count - (c.loop-i.i + 1))
+    (fields_in c.loop-i.rest) c.cut_field.result.0.now (fields_in c.cut_field.result.1)
     (ap fields_in c.in-Some.is ∙ c.cut_field.ensures.fields)
     (omega arith)
     (ap (λ k. bytes_eq k c.args.key.now) (sym c.attribute_of.ensures.key) ∙ sym c.if-eq.ensures)

@@ -8,18 +8,27 @@ use Rattle.cssq_page.proofs.tree.nearest.Goals as goal
 pub loop-candidate-smaller : goal.loop-candidate-smaller
 loop-candidate-smaller c =
     let is = c.index-lines-i.is in
-    subst (λ m. steps_left m.parent < steps_left c.loop-candidate.candidate) (sym is) (next_candidate c.args.lines.now c.args.depth c.in-Some.i c.index-lines-i.result c.loop-candidate.candidate c.requires c.in-Some.is c.loop-candidate.invariant (subst (λ m. c.args.depth < m.entry.depth) is c.if-line-depth.false)).1
+    subst (λ m. steps_left m.parent < steps_left c.loop-candidate.candidate) (sym is)
+    (next_candidate c.args.lines.now c.args.depth c.in-Some.i c.index-lines-i.result
+    c.loop-candidate.candidate c.requires c.in-Some.is c.loop-candidate.invariant
+    (subst (λ m. c.args.depth < m.entry.depth) is c.if-line-depth.false)).1
 
 pub loop-candidate-preserved : goal.loop-candidate-preserved
 loop-candidate-preserved c =
     let is = c.index-lines-i.is in
-    subst (λ m. IsCandidate (depths c.args.lines.now) c.args.depth m.parent) (sym is) (next_candidate c.args.lines.now c.args.depth c.in-Some.i c.index-lines-i.result c.loop-candidate.candidate c.requires c.in-Some.is c.loop-candidate.invariant (subst (λ m. c.args.depth < m.entry.depth) is c.if-line-depth.false)).0
+    subst (λ m. IsCandidate (depths c.args.lines.now) c.args.depth m.parent) (sym is)
+    (next_candidate c.args.lines.now c.args.depth c.in-Some.i c.index-lines-i.result
+    c.loop-candidate.candidate c.requires c.in-Some.is c.loop-candidate.invariant
+    (subst (λ m. c.args.depth < m.entry.depth) is c.if-line-depth.false)).0
 
 pub returns-then-line-depth-clause-value : goal.returns-then-line-depth-clause-value
-returns-then-line-depth-clause-value c = last_found c.args.lines.now c.args.depth c.in-Some.i c.index-lines-i.result c.loop-candidate.candidate c.in-Some.is c.loop-candidate.invariant (subst (λ m. m.entry.depth ≤ c.args.depth) c.index-lines-i.is c.if-line-depth.true)
+returns-then-line-depth-clause-value c = last_found c.args.lines.now c.args.depth c.in-Some.i
+    c.index-lines-i.result c.loop-candidate.candidate c.in-Some.is c.loop-candidate.invariant
+    (subst (λ m. m.entry.depth ≤ c.args.depth) c.index-lines-i.is c.if-line-depth.true)
 
 pub returns-in_default-clause-value : goal.returns-in_default-clause-value
-returns-in_default-clause-value c = none_found c.args.lines.now c.args.depth c.loop-candidate.candidate c.in_default.is c.loop-candidate.invariant
+returns-in_default-clause-value c = none_found c.args.lines.now c.args.depth
+    c.loop-candidate.candidate c.in_default.is c.loop-candidate.invariant
 
 pub returns-then-line-depth-clause-within : goal.returns-then-line-depth-clause-within
 returns-then-line-depth-clause-within c = grind (arith, common_steps)

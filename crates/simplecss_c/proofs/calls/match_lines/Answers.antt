@@ -9,5 +9,7 @@ use Rattle.simplecss_c.proofs.calls.match_lines.Goals as goal
 
 pub returns : goal.returns
 returns c =
-    subst (λ selectors. MatchResult c.lines.result (λ text. AreLinesOf Numbers selectors c.args.tree.now (string_bytes text)) (λ failure. failure ≡ Memory))
-    (ap (map (λ rule. rule.selector)) c.deref.ensures.value ∙ same_selectors rule_of c.args.sheet.now.rules.items) c.lines.ensures
+    subst (λ selectors. MatchResult c.lines.result (λ text.
+    AreLinesOf Numbers selectors c.args.tree.now (string_bytes text)) (λ failure. failure ≡ Memory))
+    (ap (map (λ rule. rule.selector)) c.deref.ensures.value
+    ∙ same_selectors rule_of c.args.sheet.now.rules.items) c.lines.ensures

@@ -6,7 +6,10 @@ use Rattle.simplecss_c.proofs.calls.select.Goals as goal
 
 pub returns : goal.returns
 returns c =
-    select_due c.args.text.now (passed_of c.args.tree) (map (λ rule. rule.selector) c.in_ok-selectors.selectors.items) c.in_ok-tree.tree
-    c.in_ok-text.ensures.1 (ap selectors_in (sym c.in_ok-text.ensures.0) ∙ c.in_ok-selectors.ensures) c.in_ok-tree.ensures.0 c.in_ok-tree.ensures.1
-    (map (λ rule. rule.selector) c.deref.result.now) (ap (map (λ rule. rule.selector)) c.deref.ensures.value)
+    select_due c.args.text.now (passed_of c.args.tree)
+    (map (λ rule. rule.selector) c.in_ok-selectors.selectors.items) c.in_ok-tree.tree
+    c.in_ok-text.ensures.1 (ap selectors_in (sym c.in_ok-text.ensures.0)
+    ∙ c.in_ok-selectors.ensures) c.in_ok-tree.ensures.0 c.in_ok-tree.ensures.1
+    (map (λ rule. rule.selector) c.deref.result.now)
+    (ap (map (λ rule. rule.selector)) c.deref.ensures.value)
     c.lines.result c.lines.ensures

@@ -10,6 +10,9 @@ loop-i-preserved c =
     let key : 2 * c.loop-i.i < length c.args.fields.now = omega (arith, c.requires) in
     let value : 2 * c.loop-i.i + 1 < length c.args.fields.now = omega (arith, c.requires) in
     c.in_ok-set_attribute.ensures.ok
-    ∙ attribute_added c.args.tree.now c.args.parent c.args.name.now (map (λ field. field.now) c.args.fields.now) c.loop-i.i c.loop-i.tree c.loop-i.invariant _ _
-    (sym (get_or-map (λ field. field.now) c.args.fields.now (2 * c.loop-i.i) (record { ref_ptr = (0, 0); now = [] }) [] key))
-    (sym (get_or-map (λ field. field.now) c.args.fields.now (2 * c.loop-i.i + 1) (record { ref_ptr = (0, 0); now = [] }) [] value))
+    ∙ attribute_added c.args.tree.now c.args.parent c.args.name.now
+    (map (λ field. field.now) c.args.fields.now) c.loop-i.i c.loop-i.tree c.loop-i.invariant _ _
+    (sym (get_or-map (λ field. field.now) c.args.fields.now (2 * c.loop-i.i)
+    (record { ref_ptr = (0, 0); now = [] }) [] key))
+    (sym (get_or-map (λ field. field.now) c.args.fields.now (2 * c.loop-i.i + 1)
+    (record { ref_ptr = (0, 0); now = [] }) [] value))

@@ -5,4 +5,5 @@ use Rattle.simplecss_c.proofs.json.fault_lines.Given as goal
 
 -- the lines of what is skipped so far
 abbrev pub invariant-loop-fault : goal.invariant-loop-fault
-invariant-loop-fault l = string_bytes l.out ≡ fault_lines (map fault_of (take l.fault-index l.faults))
+invariant-loop-fault l =
+    string_bytes l.out ≡ fault_lines (map fault_of (take l.fault-index l.faults))

@@ -9,8 +9,10 @@ use Rattle.simplecss_c.proofs.json.push_declarations.Goals.{then-index-gt0+in_ok
 pub loop-index-preserved : goal.loop-index-preserved
 unfolding encode
 loop-index-preserved c =
-    array_more declaration_object declaration_of c.args.declarations.now c.loop-index.index _ (string_bytes c.push.new.self) (string_bytes c.loop-index.out)
-    (string_bytes c.if-index-gt0.out) (string_bytes c.push_declaration.new.out) c.loop-index-test.true c.loop-index.invariant
+    array_more declaration_object declaration_of c.args.declarations.now c.loop-index.index _
+    (string_bytes c.push.new.self) (string_bytes c.loop-index.out)
+    (string_bytes c.if-index-gt0.out) (string_bytes c.push_declaration.new.out)
+    c.loop-index-test.true c.loop-index.invariant
     (λ none. elim c.if-index-gt0.branch [
       | then-index-gt0+in_ok-push-2 w ↦ absurd (omega (arith, w.if-index-gt0.true, none))
       | else-index-gt0 w ↦ ap string_bytes w.out-is

@@ -4,4 +4,5 @@ use Rattle.simplecss_c.proofs.json.push_string.Given as goal
 
 -- what was written of the bytes so far
 abbrev pub invariant-loop-offset : goal.invariant-loop-offset
-invariant-loop-offset l = EscapedSoFar l.text l.start l.offset (string_bytes l.initial.out) (string_bytes l.out)
+invariant-loop-offset l =
+    EscapedSoFar l.text l.start l.offset (string_bytes l.initial.out) (string_bytes l.out)

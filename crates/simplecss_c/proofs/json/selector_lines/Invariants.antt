@@ -4,4 +4,5 @@ use Rattle.simplecss_c.proofs.json.selector_lines.Given as goal
 
 -- the lines of the selectors so far
 abbrev pub invariant-loop-rule : goal.invariant-loop-rule
-invariant-loop-rule l = string_bytes l.out ≡ selector_lines (map (λ rule. rule.selector) (take l.rule-index l.rules))
+invariant-loop-rule l =
+    string_bytes l.out ≡ selector_lines (map (λ rule. rule.selector) (take l.rule-index l.rules))

@@ -11,28 +11,50 @@ use Rattle.simplecss_c.proofs.pages.push_line.Goals.{After-as_slice-indices}
 use Rattle.simplecss_c.proofs.pages.push_line.Goals as goal
 
 -- the indices are those of the selectors that match the element
-found : (c : After-as_slice-indices) → AreMatches element_tree (spot c.args.tree.now c.args.element) (map (λ rule. rule.selector) c.args.rules.now) c.as_slice-indices.result.now
+found : (c : After-as_slice-indices)
+    → AreMatches element_tree (spot c.args.tree.now c.args.element)
+    (map (λ rule. rule.selector) c.args.rules.now) c.as_slice-indices.result.now
 found c =
-    let at = subst (λ r. MatchOption r (length c.args.tree.now ≤ c.args.element) (λ node. (c.args.element < length c.args.tree.now) × (node ≡ spot c.args.tree.now c.args.element))) c.unwrap-node.ensures c.node.ensures in
-    subst (λ node. AreMatches element_tree node (map (λ rule. rule.selector) c.args.rules.now) c.as_slice-indices.result.now) at.1
-    (subst (λ selectors. AreMatches element_tree c.unwrap-node.result selectors c.as_slice-indices.result.now) c.requires.index
-    (subst (AreMatches element_tree c.unwrap-node.result c.args.index.now) (sym c.as_slice-indices.ensures.value) c.in_ok-matching.ensures.matches))
+    let at = subst (λ r. MatchOption r (length c.args.tree.now ≤ c.args.element) (λ node.
+    (c.args.element < length c.args.tree.now) × (node ≡ spot c.args.tree.now c.args.element)))
+    c.unwrap-node.ensures c.node.ensures in
+    subst (λ node. AreMatches element_tree node
+    (map (λ rule. rule.selector) c.args.rules.now) c.as_slice-indices.result.now) at.1
+    (subst (λ selectors. AreMatches element_tree c.unwrap-node.result selectors
+    c.as_slice-indices.result.now) c.requires.index
+    (subst (AreMatches element_tree c.unwrap-node.result c.args.index.now)
+    (sym c.as_slice-indices.ensures.value) c.in_ok-matching.ensures.matches))
 
 pub push_numbers-requires : goal.push_numbers-requires
 push_numbers-requires c = λ k d within.
     let bound : length c.args.rules.now < 2 ^ 63 = search rules in
-    let at = index_within element_tree _ c.args.rules.now _ (found (goal.at.push_numbers-requires c).After-as_slice-indices) k within in
+    let at = index_within element_tree _ c.args.rules.now _
+    (found (goal.at.push_numbers-requires c).After-as_slice-indices) k within in
     let same = get_or_default c.as_slice-indices.result.now k d 0 within in
     omega (arith, bound, at, same)
 
 pub returns-in-Numbers : goal.returns-in-Numbers
 returns-in-Numbers c =
     let are = found (goal.at.returns-in-Numbers c).After-as_slice-indices in
-    subst (λ content. OnOk c.push_numbers.result ((line : List ℕ) × IsLineOf content (map (λ rule. rule.selector) c.args.rules.now) c.args.tree.now c.args.element line × (string_bytes c.push_numbers.new.out ≡ string_bytes c.args.out.now ++ line))) (sym c.in-Numbers.is)
-    (on_ok_weaker c.push_numbers.result (λ wrote. (indices_line Numbers (c.args.element + 1) c.as_slice-indices.result.now, (c.as_slice-indices.result.now, are, refl), wrote)) c.push_numbers.ensures)
+    subst (λ content. OnOk c.push_numbers.result ((line : List ℕ)
+    × IsLineOf content (map (λ rule. rule.selector) c.args.rules.now) c.args.tree.now c.args.element
+    line × (string_bytes c.push_numbers.new.out ≡ string_bytes c.args.out.now ++ line)))
+    (sym c.in-Numbers.is)
+    (on_ok_weaker c.push_numbers.result (λ wrote. (
+      indices_line Numbers (c.args.element + 1) c.as_slice-indices.result.now,
+      (c.as_slice-indices.result.now, are, refl),
+      wrote,
+    )) c.push_numbers.ensures)
 
 pub returns-in-Selected : goal.returns-in-Selected
 returns-in-Selected c =
     let are = found (goal.at.returns-in-Selected c).After-as_slice-indices in
-    subst (λ content. OnOk c.push_selected.result ((line : List ℕ) × IsLineOf content (map (λ rule. rule.selector) c.args.rules.now) c.args.tree.now c.args.element line × (string_bytes c.push_selected.new.out ≡ string_bytes c.args.out.now ++ line))) (sym c.in-Selected.is)
-    (on_ok_weaker c.push_selected.result (λ wrote. (indices_line Selected (c.args.element + 1) c.as_slice-indices.result.now, (c.as_slice-indices.result.now, are, refl), wrote)) c.push_selected.ensures)
+    subst (λ content. OnOk c.push_selected.result ((line : List ℕ)
+    × IsLineOf content (map (λ rule. rule.selector) c.args.rules.now) c.args.tree.now c.args.element
+    line × (string_bytes c.push_selected.new.out ≡ string_bytes c.args.out.now ++ line)))
+    (sym c.in-Selected.is)
+    (on_ok_weaker c.push_selected.result (λ wrote. (
+      indices_line Selected (c.args.element + 1) c.as_slice-indices.result.now,
+      (c.as_slice-indices.result.now, are, refl),
+      wrote,
+    )) c.push_selected.ensures)

@@ -4,4 +4,5 @@ use Rattle.simplecss_c.proofs.pages.push_numbers.Given as goal
 
 -- the numbers of the indices so far were written
 abbrev pub invariant-loop-index : goal.invariant-loop-index
-invariant-loop-index l = string_bytes l.out ≡ string_bytes l.initial.out ++ numbers_text (map (λ index. index + 1) (take l.index-index l.indices))
+invariant-loop-index l = string_bytes l.out ≡ string_bytes l.initial.out
+    ++ numbers_text (map (λ index. index + 1) (take l.index-index l.indices))

@@ -13,14 +13,22 @@ use Rattle.simplecss_c.proofs.pages.push_winners.Goals as goal
 pub returns-clause-written : goal.returns-clause-written
 unfolding encode
 returns-clause-written c =
-    let at = subst (λ r. MatchOption r (length c.args.tree.now ≤ c.args.element) (λ node. (c.args.element < length c.args.tree.now) × (node ≡ spot c.args.tree.now c.args.element))) c.unwrap-node.ensures c.node.ensures in
+    let at = subst (λ r. MatchOption r (length c.args.tree.now ≤ c.args.element) (λ node.
+    (c.args.element < length c.args.tree.now) × (node ≡ spot c.args.tree.now c.args.element)))
+    c.unwrap-node.ensures c.node.ensures in
     let all = declarations_of c.in_ok-winners.winners.items in
-    let order = subst (λ node. ListsInOrder (WinsForItsName element_tree node c.args.cascade.now) all) at.1 c.in_ok-winners.ensures.order in
-    let wrote_all = c.in_ok-push_declarations.ensures ∙ ap (λ ds. string_bytes c.args.out.now ++ declaration_array (declarations_of ds)) c.deref.ensures.value in
+    let order =
+    subst (λ node. ListsInOrder (WinsForItsName element_tree node c.args.cascade.now) all) at.1
+    c.in_ok-winners.ensures.order in
+    let wrote_all = c.in_ok-push_declarations.ensures
+    ∙ ap (λ ds. string_bytes c.args.out.now ++ declaration_array (declarations_of ds))
+    c.deref.ensures.value in
     on_ok_weaker c.push.result
     (λ wrote. (
       line (declaration_array all),
       (all, order, refl),
-      wrote ∙ ap (λ t. t ++ newline ∷ []) wrote_all ∙ append_assoc (string_bytes c.args.out.now) (declaration_array all) (newline ∷ []),
+      wrote ∙ ap (λ t. t ++ newline ∷ []) wrote_all
+          ∙ append_assoc (string_bytes c.args.out.now) (declaration_array all) (newline ∷ []),
     ))
-    (wrote_last c.push.result (string_bytes c.push_declarations.new.out) (newline ∷ []) (string_bytes c.push.new.self) c.push.ensures.bytes)
+    (wrote_last c.push.result (string_bytes c.push_declarations.new.out) (newline ∷ [])
+    (string_bytes c.push.new.self) c.push.ensures.bytes)

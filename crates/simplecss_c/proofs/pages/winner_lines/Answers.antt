@@ -6,4 +6,5 @@ use Rattle.simplecss_c.proofs.pages.winner_lines.Goals as goal
 pub loop-element-preserved : goal.loop-element-preserved
 loop-element-preserved c =
     let added = c.in_ok-push_winning.ensures in
-    lines_more c.loop-element.invariant added.0 (string_bytes c.push_winning.new.out) added.1 added.2
+    lines_more c.loop-element.invariant added.0
+    (string_bytes c.push_winning.new.out) added.1 added.2

@@ -6,4 +6,5 @@ use Rattle.simplecss_c.proofs.pages.winner_lines.Given as goal
 
 -- the lines of the elements so far
 abbrev pub invariant-loop-element : goal.invariant-loop-element
-invariant-loop-element l = LinesSoFar (IsWinnerLine l.name (rules_in l.sheet) l.tree) l.element (string_bytes l.text)
+invariant-loop-element l =
+    LinesSoFar (IsWinnerLine l.name (rules_in l.sheet) l.tree) l.element (string_bytes l.text)

@@ -10,5 +10,6 @@ loop-element-preserved c =
     let added = c.in_ok-push_winners.ensures.written in (
       c.push_winners.ensures.same ∙ same,
       lines_more c.loop-element.invariant.1 added.0 (string_bytes c.push_winners.new.out)
-          (subst (λ rules. IsWinnersLine rules c.args.tree.now c.loop-element.element added.0) same added.1) added.2,
+          (subst (λ rules. IsWinnersLine rules c.args.tree.now c.loop-element.element added.0) same
+          added.1) added.2,
     )

@@ -8,6 +8,8 @@ loop-byte-preserved c =
     let counted = c.loop-byte.invariant in
     let chunk = c.args.chunk.now in
     record {
-      opening = (λ k. counted.opening k + c.from-opening.ensures k) ∙ count_of-more open_brace chunk c.loop-byte.byte-index (omega arith);
-      closing = (λ k. counted.closing k + c.from-closing.ensures k) ∙ count_of-more close_brace chunk c.loop-byte.byte-index (omega arith);
+      opening = (λ k. counted.opening k + c.from-opening.ensures k)
+          ∙ count_of-more open_brace chunk c.loop-byte.byte-index (omega arith);
+      closing = (λ k. counted.closing k + c.from-closing.ensures k)
+          ∙ count_of-more close_brace chunk c.loop-byte.byte-index (omega arith);
     }

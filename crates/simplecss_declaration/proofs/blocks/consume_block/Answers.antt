@@ -39,7 +39,8 @@ returns-in-Some-clause-reported g c =
     let here = (each (declaration_in_block this_edition) (rest_of c.args.s.now)).1 in
     let add = g.P.Report.add in
     let middle = g.P.Report.state c.consume_declarations.new.report in
-    let lost = broken_part c.in-Some.text.now (from_block_end (rest_of c.consume_declarations.new.s))
+    let lost =
+    broken_part c.in-Some.text.now (from_block_end (rest_of c.consume_declarations.new.s))
     in
     on_ok_weaker c.skip_broken.result
     (λ (e : g.P.Report.state c.skip_broken.new.report ≡ add_each add middle lost).

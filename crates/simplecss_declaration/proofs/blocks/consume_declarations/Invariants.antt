@@ -7,7 +7,8 @@ use Rattle.simplecss_text.proofs.reading.EachLemmas.{Done}
 use Rattle.simplecss_declaration.specs.DeclarationViews.{declaration_of}
 use Rattle.simplecss_declaration.proofs.blocks.consume_declarations.Given as goal
 
--- The declarations so far and those from here on are those of the whole list, and so are the reports.
+-- The declarations so far and those from here on are those of the whole list, and so are the
+-- reports.
 abbrev pub invariant-list : goal.invariant-list
 invariant-list g l = record {
   same : text_of l.s ≡ text_of l.initial.s;

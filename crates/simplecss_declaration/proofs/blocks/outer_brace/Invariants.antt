@@ -6,6 +6,7 @@ use Rattle.simplecss_declaration.proofs.blocks.outer_brace.Given as goal
 
 abbrev pub invariant-loop-offset : goal.invariant-loop-offset
 invariant-loop-offset l = record {
-  counts : l.open + count_of close_brace (take l.offset l.bytes) ≡ l.depth + count_of open_brace (take l.offset l.bytes);
+  counts : l.open + count_of close_brace (take l.offset l.bytes)
+      ≡ l.depth + count_of open_brace (take l.offset l.bytes);
   none : (k : ℕ) → k < l.offset → closes_at l.depth l.bytes k ≡ false;
 }

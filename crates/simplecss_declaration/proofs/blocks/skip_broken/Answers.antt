@@ -18,7 +18,11 @@ returns-clause-reported g c =
     let middle = g.P.Report.state c.report_list_end.new.report in
     let last = g.P.Report.state c.skip_brace.new.report in
     let rest = c.slice_tail.ensures ∙ c.skip_to_block_end.ensures.rest in
-    let brace = c.try_consume_byte.ensures.rest ∙ ap (past_byte close_brace) c.skip_to_block_end.ensures.rest in
-    add-both_ok add (list_end_skips text after) (brace_skips (past_byte close_brace after)) before middle last c.skip_brace.result
-    (c.in_ok-report_list_end.ensures ∙ ap (λ (t : List ℕ). add_each add before (list_end_skips text t)) rest)
-    (subst (λ (t : List ℕ). OnOk c.skip_brace.result (last ≡ add_each add middle (brace_skips t))) brace c.skip_brace.ensures.reported)
+    let brace =
+    c.try_consume_byte.ensures.rest ∙ ap (past_byte close_brace) c.skip_to_block_end.ensures.rest in
+    add-both_ok add (list_end_skips text after)
+    (brace_skips (past_byte close_brace after)) before middle last c.skip_brace.result
+    (c.in_ok-report_list_end.ensures
+    ∙ ap (λ (t : List ℕ). add_each add before (list_end_skips text t)) rest)
+    (subst (λ (t : List ℕ). OnOk c.skip_brace.result (last ≡ add_each add middle (brace_skips t)))
+    brace c.skip_brace.ensures.reported)

@@ -8,14 +8,18 @@ use Rattle.simplecss_declaration.proofs.blocks.skip_semicolon_or_block.Goals as 
 
 pub returns-then-skip_byte-clause-rest : goal.returns-then-skip_byte-clause-rest
 returns-then-skip_byte-clause-rest c =
-    let head : rest_of c.skip_bytes.new.self ≡ past (is_neither semicolon open_brace) (rest_of c.args.s.now) =
+    let head : rest_of c.skip_bytes.new.self
+    ≡ past (is_neither semicolon open_brace) (rest_of c.args.s.now) =
     ap (drop (offset_of c.skip_bytes.new.self)) c.skip_bytes.ensures.text
-    ∙ past_run (is_neither semicolon open_brace) (text_of c.args.s.now) (offset_of c.args.s.now) (offset_of c.skip_bytes.new.self) (λ b x answered. search rules) c.skip_bytes.ensures.run in
+    ∙ past_run (is_neither semicolon open_brace) (text_of c.args.s.now) (offset_of c.args.s.now)
+    (offset_of c.skip_bytes.new.self) (λ b x answered. search rules) c.skip_bytes.ensures.run in
     grind (arith, common_steps)
 
 pub returns-else-skip_byte-clause-rest : goal.returns-else-skip_byte-clause-rest
 returns-else-skip_byte-clause-rest c =
-    let head : rest_of c.skip_bytes.new.self ≡ past (is_neither semicolon open_brace) (rest_of c.args.s.now) =
+    let head : rest_of c.skip_bytes.new.self
+    ≡ past (is_neither semicolon open_brace) (rest_of c.args.s.now) =
     ap (drop (offset_of c.skip_bytes.new.self)) c.skip_bytes.ensures.text
-    ∙ past_run (is_neither semicolon open_brace) (text_of c.args.s.now) (offset_of c.args.s.now) (offset_of c.skip_bytes.new.self) (λ b x answered. search rules) c.skip_bytes.ensures.run in
+    ∙ past_run (is_neither semicolon open_brace) (text_of c.args.s.now) (offset_of c.args.s.now)
+    (offset_of c.skip_bytes.new.self) (λ b x answered. search rules) c.skip_bytes.ensures.run in
     grind (arith, common_steps)

@@ -24,40 +24,65 @@ terms-init c = record {
 
 pub terms-smaller : goal.terms-smaller
 terms-smaller c =
-    let read = passed (term this_edition (rest_of c.terms.s)) c.skip_term.result (rest_of c.skip_term.new.s) c.skip_term.ensures.reads c.terms-test.true in
-    subst (λ (t : List ℕ). length t < length (rest_of c.terms.s)) (sym c.skip_gap.ensures.rest) (term-takes this_edition (rest_of c.terms.s) (rest_of c.skip_term.new.s) read)
+    let read = passed (term this_edition (rest_of c.terms.s)) c.skip_term.result
+    (rest_of c.skip_term.new.s) c.skip_term.ensures.reads c.terms-test.true in
+    subst (λ (t : List ℕ). length t < length (rest_of c.terms.s)) (sym c.skip_gap.ensures.rest)
+    (term-takes this_edition (rest_of c.terms.s) (rest_of c.skip_term.new.s) read)
 
 pub terms-preserved : goal.terms-preserved
 terms-preserved c =
     let text = rest_of c.terms.s in
     let after = rest_of c.skip_term.new.s in
-    let read = passed (term this_edition text) c.skip_term.result after c.skip_term.ensures.reads c.terms-test.true in
+    let read = passed (term this_edition text) c.skip_term.result after c.skip_term.ensures.reads
+    c.terms-test.true in
     let step = terms-some this_edition text after read in
     let gap = c.skip_gap.ensures.rest in
     record {
       same = c.skip_gap.ensures.text ∙ c.skip_term.ensures.text ∙ c.terms.invariant.same;
-      last = rw (gap, c.slice_tail-end.ensures) (sym (ap (λ r. last_or c.terms.end.now r.0) step) ∙ c.terms.invariant.last);
+      last = rw (gap, c.slice_tail-end.ensures)
+          (sym (ap (λ r. last_or c.terms.end.now r.0) step) ∙ c.terms.invariant.last);
       left = rw gap (sym (ap (λ r. r.1) step) ∙ c.terms.invariant.left);
-      begins = rw c.slice_tail-end.ensures (ends-ends c.slice_tail-start.result.now text after (ends-ends c.slice_tail-start.result.now c.terms.end.now text c.terms.invariant.begins c.terms.invariant.after) (ends-got text no_texts (term this_edition text) tt after (term-stands this_edition text) read));
+      begins = rw c.slice_tail-end.ensures (ends-ends c.slice_tail-start.result.now text after
+          (ends-ends c.slice_tail-start.result.now c.terms.end.now text c.terms.invariant.begins
+          c.terms.invariant.after) (ends-got text no_texts (term this_edition text) tt after
+          (term-stands this_edition text) read));
       after = rw (gap, c.slice_tail-end.ensures) (ends-past_blank after);
       utf8 = c.slice_tail-end.utf8;
     }
 
 pub range-requires-clause-end_boundary : goal.range-requires-clause-end_boundary
-range-requires-clause-end_boundary c = boundary_at_end c.slice_tail-start.result.now c.terms.end.now c.terms.invariant.begins c.terms.invariant.utf8
+range-requires-clause-end_boundary c = boundary_at_end c.slice_tail-start.result.now c.terms.end.now
+    c.terms.invariant.begins c.terms.invariant.utf8
 
 pub returns-clause-reads : goal.returns-clause-reads
 returns-clause-reads c =
-    let fault = failed (term this_edition (rest_of c.terms.s)) (rest_of c.skip_term.new.s) (not_passed (term this_edition (rest_of c.terms.s)) c.skip_term.result (rest_of c.skip_term.new.s) c.skip_term.ensures.reads c.terms-test.false) in
+    let fault = failed (term this_edition (rest_of c.terms.s)) (rest_of c.skip_term.new.s)
+    (not_passed (term this_edition (rest_of c.terms.s)) c.skip_term.result
+    (rest_of c.skip_term.new.s) c.skip_term.ensures.reads c.terms-test.false) in
     rw (← c.slice_tail-start.ensures) (
-    value-done this_edition c.slice_tail-start.result.now c.terms.end.now (rest_of c.terms.s) (rest_of c.skip_term.new.s) fault.0 c.terms.invariant.last c.terms.invariant.left fault.1
-    ∙ ap (λ (v : List ℕ). (v, rest_of c.skip_term.new.s)) (sym (trimmed c.slice_tail-start.result.now c.terms.end.now c.range.result.now c.trim.result.now c.range.ensures.value c.trim.ensures.trim))
+    value-done this_edition c.slice_tail-start.result.now c.terms.end.now (rest_of c.terms.s)
+    (rest_of c.skip_term.new.s) fault.0 c.terms.invariant.last c.terms.invariant.left fault.1
+    ∙ ap (λ (v : List ℕ). (v, rest_of c.skip_term.new.s))
+    (sym (trimmed c.slice_tail-start.result.now c.terms.end.now c.range.result.now c.trim.result.now
+    c.range.ensures.value c.trim.ensures.trim))
     )
 
 pub returns-clause-stands : goal.returns-clause-stands
 returns-clause-stands c =
-    let fault = failed (term this_edition (rest_of c.terms.s)) (rest_of c.skip_term.new.s) (not_passed (term this_edition (rest_of c.terms.s)) c.skip_term.result (rest_of c.skip_term.new.s) c.skip_term.ensures.reads c.terms-test.false) in
-    rw (← c.slice_tail-start.ensures, trimmed c.slice_tail-start.result.now c.terms.end.now c.range.result.now c.trim.result.now c.range.ensures.value c.trim.ensures.trim)
-    (stand-to c.slice_tail-start.result.now c.terms.end.now (rest_of c.skip_term.new.s) (trim (before c.slice_tail-start.result.now c.terms.end.now) ∷ [])
-    (stand-trim c.slice_tail-start.result.now c.terms.end.now c.terms.invariant.begins (subst IsUtf8 (c.range.ensures.value ∙ before-range c.slice_tail-start.result.now c.terms.end.now) c.range.utf8))
-    (ends-ends c.terms.end.now (rest_of c.terms.s) (rest_of c.skip_term.new.s) c.terms.invariant.after (ends-fails (rest_of c.terms.s) no_texts (term this_edition (rest_of c.terms.s)) fault.0 (rest_of c.skip_term.new.s) (term-stands this_edition (rest_of c.terms.s)) fault.1)))
+    let fault = failed (term this_edition (rest_of c.terms.s)) (rest_of c.skip_term.new.s)
+    (not_passed (term this_edition (rest_of c.terms.s)) c.skip_term.result
+    (rest_of c.skip_term.new.s) c.skip_term.ensures.reads c.terms-test.false) in
+    rw (
+      ← c.slice_tail-start.ensures,
+      trimmed c.slice_tail-start.result.now c.terms.end.now c.range.result.now c.trim.result.now
+          c.range.ensures.value c.trim.ensures.trim,
+    )
+    (stand-to c.slice_tail-start.result.now c.terms.end.now (rest_of c.skip_term.new.s)
+    (trim (before c.slice_tail-start.result.now c.terms.end.now) ∷ [])
+    (stand-trim c.slice_tail-start.result.now c.terms.end.now c.terms.invariant.begins
+    (subst IsUtf8 (c.range.ensures.value
+    ∙ before-range c.slice_tail-start.result.now c.terms.end.now) c.range.utf8))
+    (ends-ends c.terms.end.now (rest_of c.terms.s)
+    (rest_of c.skip_term.new.s) c.terms.invariant.after
+    (ends-fails (rest_of c.terms.s) no_texts (term this_edition (rest_of c.terms.s)) fault.0
+    (rest_of c.skip_term.new.s) (term-stands this_edition (rest_of c.terms.s)) fault.1)))

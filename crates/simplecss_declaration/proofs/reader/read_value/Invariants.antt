@@ -10,8 +10,10 @@ use Rattle.simplecss_declaration.proofs.reader.read_value.Given as goal
 abbrev pub invariant-terms : goal.invariant-terms
 invariant-terms l = record {
   same : text_of l.s ≡ text_of l.initial.s;
-  last : last_or l.end (each (term_in_value this_edition) (rest_of l.s)).0 ≡ last_or l.start (each (term_in_value this_edition) l.start).0;
-  left : (each (term_in_value this_edition) (rest_of l.s)).1 ≡ (each (term_in_value this_edition) l.start).1;
+  last : last_or l.end (each (term_in_value this_edition) (rest_of l.s)).0
+      ≡ last_or l.start (each (term_in_value this_edition) l.start).0;
+  left : (each (term_in_value this_edition) (rest_of l.s)).1
+      ≡ (each (term_in_value this_edition) l.start).1;
   begins : Ends l.start l.end;
   after : Ends l.end (rest_of l.s);
   utf8 : IsUtf8 l.end;

@@ -10,16 +10,22 @@ use Rattle.simplecss_declaration.proofs.reader.skip_semicolons.Goals as goal
 pub semicolons-smaller : goal.semicolons-smaller
 semicolons-smaller c =
     let stands = sym c.skip_byte.ensures.stands ∙ c.semicolons-test.true in
-    let after : rest_of c.skip_gap.new.s ≡ past_blank (past_one (rest_of c.semicolons.s)) = c.skip_gap.ensures.rest ∙ ap past_blank (c.skip_byte.ensures.rest ∙ past_byte_there semicolon (rest_of c.semicolons.s) stands) in
-    subst (λ (t : List ℕ). length t < length (rest_of c.semicolons.s)) (sym after) (semicolon-less (rest_of c.semicolons.s) stands)
+    let after : rest_of c.skip_gap.new.s ≡ past_blank (past_one (rest_of c.semicolons.s)) =
+    c.skip_gap.ensures.rest ∙ ap past_blank
+    (c.skip_byte.ensures.rest ∙ past_byte_there semicolon (rest_of c.semicolons.s) stands) in
+    subst (λ (t : List ℕ). length t < length (rest_of c.semicolons.s)) (sym after)
+    (semicolon-less (rest_of c.semicolons.s) stands)
 
 pub semicolons-preserved : goal.semicolons-preserved
 semicolons-preserved c =
     let stands = sym c.skip_byte.ensures.stands ∙ c.semicolons-test.true in
-    let after : rest_of c.skip_gap.new.s ≡ past_blank (past_one (rest_of c.semicolons.s)) = c.skip_gap.ensures.rest ∙ ap past_blank (c.skip_byte.ensures.rest ∙ past_byte_there semicolon (rest_of c.semicolons.s) stands) in
+    let after : rest_of c.skip_gap.new.s ≡ past_blank (past_one (rest_of c.semicolons.s)) =
+    c.skip_gap.ensures.rest ∙ ap past_blank
+    (c.skip_byte.ensures.rest ∙ past_byte_there semicolon (rest_of c.semicolons.s) stands) in
     record {
       same = c.skip_gap.ensures.text ∙ c.skip_byte.ensures.text ∙ c.semicolons.invariant.same;
-      rest = rw after (sym (semicolons-some (rest_of c.semicolons.s) stands) ∙ c.semicolons.invariant.rest);
+      rest = rw after
+          (sym (semicolons-some (rest_of c.semicolons.s) stands) ∙ c.semicolons.invariant.rest);
     }
 
 pub returns-clause-rest : goal.returns-clause-rest

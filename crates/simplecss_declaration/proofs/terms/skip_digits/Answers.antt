@@ -7,4 +7,5 @@ use Rattle.simplecss_declaration.proofs.terms.skip_digits.Goals as goal
 pub returns-clause-rest : goal.returns-clause-rest
 returns-clause-rest c =
     ap (drop (offset_of c.skip_bytes.new.self)) c.skip_bytes.ensures.text
-    ∙ past_run is_digit (text_of c.args.s.now) (offset_of c.args.s.now) (offset_of c.skip_bytes.new.self) (λ b x answered. search rules) c.skip_bytes.ensures.run
+    ∙ past_run is_digit (text_of c.args.s.now) (offset_of c.args.s.now)
+    (offset_of c.skip_bytes.new.self) (λ b x answered. search rules) c.skip_bytes.ensures.run

@@ -16,8 +16,14 @@ loop-skip-preserved c =
     let text : List ℕ = c.args.text.now in
     let items = c.deref-skip-items.result.now in
     let i = c.loop-skip.skip-index in
-    let in_text = item_within text items i _ (ap (map skip_of) c.deref-skip-items.ensures.value ∙ c.in_ok-skips.ensures) (omega arith) in
+    let in_text = item_within text items i _
+    (ap (map skip_of) c.deref-skip-items.ensures.value ∙ c.in_ok-skips.ensures) (omega arith) in
     record {
       here = c.fault.ensures.known c.loop-skip.invariant.here in_text;
-      found = rw (c.in_ok-push.ensures.items, map-append fault_of c.loop-skip.faults.items (c.fault.result ∷ [])) (one_more text items i _ (map fault_of c.loop-skip.faults.items) (fault_of c.fault.result) (omega arith) c.loop-skip.invariant.found (c.fault.ensures.fault c.loop-skip.invariant.here in_text));
+      found = rw (
+        c.in_ok-push.ensures.items,
+        map-append fault_of c.loop-skip.faults.items (c.fault.result ∷ []),
+      ) (one_more text items i _ (map fault_of c.loop-skip.faults.items) (fault_of c.fault.result)
+          (omega arith) c.loop-skip.invariant.found
+          (c.fault.ensures.fault c.loop-skip.invariant.here in_text));
     }

@@ -7,5 +7,6 @@ use Rattle.simplecss_faults.proofs.finding.find_faults.Given as goal
 abbrev pub invariant-loop-skip : goal.invariant-loop-skip
 invariant-loop-skip l = record {
   here : IsKnown l.text l.known;
-  found : map fault_of l.faults.items ≡ map (fault_in l.text) (map skip_of (take l.skip-index l.skip-items));
+  found : map fault_of l.faults.items
+      ≡ map (fault_in l.text) (map skip_of (take l.skip-index l.skip-items));
 }

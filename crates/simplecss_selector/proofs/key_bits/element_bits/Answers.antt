@@ -8,7 +8,10 @@ use Rattle.simplecss_selector.proofs.key_bits.element_bits.Goals as goal
 
 pub returns : goal.returns
 returns c =
-    λ reported name id class. covers_reported reported c.bits.result c.id_bits.result c.class_bits.result
+    λ reported name id class.
+    covers_reported reported c.bits.result c.id_bits.result c.class_bits.result
     (c.bits.ensures ∙ ap (λ n. key_bits (by_name n)) (sym name))
     (subst (CoversId c.id_bits.result) (sym id) c.id_bits.ensures)
-    (subst (λ (v : Option (List ℕ)). (word : List ℕ) → IsTrue (has_satisfying_value (has_word word) v) → Covers c.class_bits.result (key_bits (by_class word))) (sym class) c.class_bits.ensures)
+    (subst
+    (λ (v : Option (List ℕ)). (word : List ℕ) → IsTrue (has_satisfying_value (has_word word) v)
+    → Covers c.class_bits.result (key_bits (by_class word))) (sym class) c.class_bits.ensures)

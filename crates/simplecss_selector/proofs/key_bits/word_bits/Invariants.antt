@@ -6,4 +6,5 @@ use Rattle.simplecss_selector.proofs.key_bits.word_bits.Given as goal
 
 -- the bits of the words so far are there
 abbrev pub invariant-loop-word : goal.invariant-loop-word
-invariant-loop-word l = (w : List ℕ) → Contains (map (λ word. word.now) l.yielded) w → Covers l.bits (key_bits (by_class w))
+invariant-loop-word l = (w : List ℕ) → Contains (map (λ word. word.now) l.yielded) w
+    → Covers l.bits (key_bits (by_class w))

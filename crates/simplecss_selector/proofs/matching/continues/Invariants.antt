@@ -14,8 +14,10 @@ invariant-loop-candidate g l =
       numbered : l.number < length l.ends;
       begun : l.stretch.first ≡ get_or (0 ∷ l.ends) l.number 0;
       is_stretch : IsStretch l.selector l.stretch.first l.stretch.last;
-      same : HasPlacement tree l.selector (node l.element) ↔ CanPlace tree (first_of l.selector (l.stretch.last + 1)) (node l.candidate);
-      spent : l.tests + 1 + longest_stretch l.selector * (tree.depth (node l.candidate) + 1) ≤ l.fn.tests + longest_stretch l.selector * (tree.depth (node l.element) + 1);
+      same : HasPlacement tree l.selector (node l.element)
+          ↔ CanPlace tree (first_of l.selector (l.stretch.last + 1)) (node l.candidate);
+      spent : l.tests + 1 + longest_stretch l.selector * (tree.depth (node l.candidate) + 1)
+          ≤ l.fn.tests + longest_stretch l.selector * (tree.depth (node l.element) + 1);
       placed : l.fn.tests + l.fn.last ≤ l.tests + (l.stretch.last + 1);
       tested : l.fn.tests ≤ l.tests;
     }

@@ -8,4 +8,5 @@ use Rattle.simplecss_selector.proofs.matching.is_met_at.Given as goal
 abbrev pub invariant-loop-subselector : goal.invariant-loop-subselector
 invariant-loop-subselector g l =
     Meets g.E.Element.tree (g.E.Element.node l.element) (component_at l.selector l.index).compound
-    ↔ All (Holds g.E.Element.tree (g.E.Element.node l.element)) (map subselector_of (drop l.subselector-index l.subselectors))
+    ↔ All (Holds g.E.Element.tree (g.E.Element.node l.element))
+    (map subselector_of (drop l.subselector-index l.subselectors))

@@ -14,10 +14,15 @@ returns-then-not-is_met_at-clause-finds g c =
 
 pub returns-then-not-is_met_at-clause-bounded : goal.returns-then-not-is_met_at-clause-bounded
 returns-then-not-is_met_at-clause-bounded g c =
-    omega (arith, c.is_met_at.ensures.counted, longest_stretch-some c.args.selector.now (omega (arith, c.requires.within)))
+    omega (
+      arith,
+      c.is_met_at.ensures.counted,
+      longest_stretch-some c.args.selector.now (omega (arith, c.requires.within)),
+    )
 
 pub climb-requires : goal.climb-requires
 climb-requires g c = record { stretch = c.requires; met = c.if-not-is_met_at.ensures.answer.0 refl }
 
 pub returns-clause-placed : goal.returns-clause-placed
-returns-clause-placed g c = tests_before c.args.stretch.first c.args.stretch.last _ _ _ c.climb.result c.is_met_at.ensures.counted c.climb.ensures.placed
+returns-clause-placed g c = tests_before c.args.stretch.first c.args.stretch.last _ _ _
+    c.climb.result c.is_met_at.ensures.counted c.climb.ensures.placed

@@ -10,8 +10,10 @@ use Rattle.simplecss_selector.proofs.reading.fill_all.Given as goal
 abbrev pub invariant-loop-item : goal.invariant-loop-item
 invariant-loop-item g l = record {
   same : whole_text l.tokenizer ≡ whole_text l.initial.tokenizer;
-  whole : selector_after l.draft (outcome (still_to_come l.tokenizer)) ≡ selector_after l.initial.draft (outcome (still_to_come l.initial.tokenizer));
-  why : refusal_in l.text (still_to_come l.tokenizer) ≡ refusal_in l.text (still_to_come l.initial.tokenizer);
+  whole : selector_after l.draft (outcome (still_to_come l.tokenizer))
+      ≡ selector_after l.initial.draft (outcome (still_to_come l.initial.tokenizer));
+  why : refusal_in l.text (still_to_come l.tokenizer)
+      ≡ refusal_in l.text (still_to_come l.initial.tokenizer);
   state : g.P.Report.state l.report ≡ g.P.Report.state l.initial.report;
 }
 

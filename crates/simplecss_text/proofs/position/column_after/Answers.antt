@@ -14,9 +14,11 @@ returns c =
     = elim c.match-rfind.branch [
       | in-Some w ↦
           let found = rw w.in-Some.is at last in
-          ap (λ (r : Bor (List ℕ)). r.now) w.line-is ∙ w.range_from-line.ensures.value ∙ after_newline _ _ found.0 found.1 found.2
+          ap (λ (r : Bor (List ℕ)). r.now) w.line-is ∙ w.range_from-line.ensures.value
+          ∙ after_newline _ _ found.0 found.1 found.2
       | in-None w ↦
           let none = rw w.in-None.is at last in
           ap (λ (r : Bor (List ℕ)). r.now) w.line-is ∙ one_line _ none
     ] in
-    c.one_more.ensures ∙ ap (λ n. min 4294967295 (1 + n)) (c.char_count.ensures ∙ ap (λ (t : List ℕ). length (chars t)) line)
+    c.one_more.ensures ∙ ap (λ n. min 4294967295 (1 + n))
+    (c.char_count.ensures ∙ ap (λ (t : List ℕ). length (chars t)) line)

@@ -4,4 +4,5 @@ use Rattle.simplecss_text.proofs.printing.append_at.Goals as goal
 
 -- the words and the position are written in one call
 pub returns : goal.returns
-returns c = appends_on_ok c.args.text.now _ _ c.write.new.self c.write.result c.write.ensures.writes (simp append_assoc)
+returns c = appends_on_ok c.args.text.now _ _ c.write.new.self c.write.result c.write.ensures.writes
+    (simp append_assoc)

@@ -19,13 +19,17 @@ pub returns-in-SelectorMissing : goal.returns-in-SelectorMissing
 returns-in-SelectorMissing c = rw c.in-SelectorMissing.is c.write_str-in-SelectorMissing.ensures.ok
 
 pub returns-in-UnexpectedSelector : goal.returns-in-UnexpectedSelector
-returns-in-UnexpectedSelector c = rw c.in-UnexpectedSelector.is c.write_str-in-UnexpectedSelector.ensures.ok
+returns-in-UnexpectedSelector c =
+    rw c.in-UnexpectedSelector.is c.write_str-in-UnexpectedSelector.ensures.ok
 
 pub returns-in-UnexpectedCombinator : goal.returns-in-UnexpectedCombinator
-returns-in-UnexpectedCombinator c = rw c.in-UnexpectedCombinator.is c.write_str-in-UnexpectedCombinator.ensures.ok
+returns-in-UnexpectedCombinator c =
+    rw c.in-UnexpectedCombinator.is c.write_str-in-UnexpectedCombinator.ensures.ok
 
 pub returns-in-InvalidAttributeSelector : goal.returns-in-InvalidAttributeSelector
-returns-in-InvalidAttributeSelector c = rw c.in-InvalidAttributeSelector.is c.write_str-in-InvalidAttributeSelector.ensures.ok
+returns-in-InvalidAttributeSelector c =
+    rw c.in-InvalidAttributeSelector.is c.write_str-in-InvalidAttributeSelector.ensures.ok
 
 pub returns-in-InvalidLanguagePseudoClass : goal.returns-in-InvalidLanguagePseudoClass
-returns-in-InvalidLanguagePseudoClass c = rw c.in-InvalidLanguagePseudoClass.is c.write_str-in-InvalidLanguagePseudoClass.ensures.ok
+returns-in-InvalidLanguagePseudoClass c =
+    rw c.in-InvalidLanguagePseudoClass.is c.write_str-in-InvalidLanguagePseudoClass.ensures.ok

@@ -7,8 +7,11 @@ use Rattle.simplecss_text.proofs.readers.from_brace.Goals as goal
 
 pub returns : goal.returns
 returns c =
-    let start : rest_of c.new-s.result ≡ c.args.text.now = ap (λ n. drop n c.new-s.result.text.now) c.new-s.ensures.offset ∙ c.new-s.ensures.text in
-    let run : rest_of c.skip_bytes.new.self ≡ past (λ b. not (b == open_brace)) (rest_of c.new-s.result) =
+    let start : rest_of c.new-s.result ≡ c.args.text.now =
+    ap (λ n. drop n c.new-s.result.text.now) c.new-s.ensures.offset ∙ c.new-s.ensures.text in
+    let run : rest_of c.skip_bytes.new.self
+    ≡ past (λ b. not (b == open_brace)) (rest_of c.new-s.result) =
     ap (drop (offset_of c.skip_bytes.new.self)) c.skip_bytes.ensures.text
-    ∙ past_run (λ b. not (b == open_brace)) (text_of c.new-s.result) (offset_of c.new-s.result) (offset_of c.skip_bytes.new.self) (λ b x answered. search rules) c.skip_bytes.ensures.run in
+    ∙ past_run (λ b. not (b == open_brace)) (text_of c.new-s.result) (offset_of c.new-s.result)
+    (offset_of c.skip_bytes.new.self) (λ b x answered. search rules) c.skip_bytes.ensures.run in
     c.slice_tail.ensures ∙ run ∙ ap (past (λ b. not (b == open_brace))) start

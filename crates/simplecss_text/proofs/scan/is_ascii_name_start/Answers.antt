@@ -8,4 +8,5 @@ use Rattle.simplecss_text.proofs.scan.is_ascii_name_start.Goals as goal
 
 pub returns : goal.returns
 unfolding agree_below
-returns c = rw c.from.ensures (from_table BYTES 2 (λ b. is_ascii b && is_name_start this_edition b) c.args.byte (omega arith) refl)
+returns c = rw c.from.ensures (from_table BYTES 2
+    (λ b. is_ascii b && is_name_start this_edition b) c.args.byte (omega arith) refl)

@@ -7,4 +7,5 @@ use Rattle.simplecss_text.proofs.scan.is_gap_start.Goals as goal
 
 pub returns : goal.returns
 unfolding agree_below
-returns c = rw c.from.ensures (from_table BYTES 4 (λ b. is_space b || b == slash) c.args.byte (omega arith) refl)
+returns c = rw c.from.ensures
+    (from_table BYTES 4 (λ b. is_space b || b == slash) c.args.byte (omega arith) refl)

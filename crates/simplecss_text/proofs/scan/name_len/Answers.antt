@@ -10,5 +10,6 @@ pub returns-then-starts_with_name_start-clause-some :
 returns-then-starts_with_name_start-clause-some c =
     let test : ℕ → Bool = λ b. is_ascii b && is_name_start this_edition b in
     let start : starts_by test c.args.text.now ≡ true
-    = sym (c.starts_with_name_start.ensures ∙ ap (starts_by test) c.as_bytes.ensures.value) ∙ c.if-starts_with_name_start.true in
+    = sym (c.starts_with_name_start.ensures ∙ ap (starts_by test) c.as_bytes.ensures.value)
+    ∙ c.if-starts_with_name_start.true in
     (begins_name-ascii this_edition c.args.text.now c.utf8.text start, c.name_chars_len.ensures.len)

@@ -5,4 +5,5 @@ use Rattle.simplecss_text.proofs.scan.opens_comment.Goals as goal
 
 pub returns-clause-boundary : goal.returns-clause-boundary
 returns-clause-boundary c opens =
-    IsCharBoundary-after_comment c.args.text.now c.utf8.text (sym (c.starts_comment.ensures ∙ ap opens_comment c.as_bytes.ensures.value) ∙ opens)
+    IsCharBoundary-after_comment c.args.text.now c.utf8.text
+    (sym (c.starts_comment.ensures ∙ ap opens_comment c.as_bytes.ensures.value) ∙ opens)

@@ -5,4 +5,5 @@ use Rattle.simplecss_tree.proofs.node.value_in.Given as goal
 
 -- the value is that among what is left
 abbrev pub invariant-loop-key : goal.invariant-loop-key
-invariant-loop-key l = value_in (map attribute_of l.attributes) l.name ≡ value_in (map attribute_of (drop l.key-index l.attributes)) l.name
+invariant-loop-key l = value_in (map attribute_of l.attributes) l.name
+    ≡ value_in (map attribute_of (drop l.key-index l.attributes)) l.name

@@ -11,8 +11,11 @@ returns-in-Some-clause-found c = λ near name_is class_is starts.
     let none = no_items c.args.indices.now.items empty in
     let selectors = c.args.rule_index.now in
     let known = c.in-Some.known.now in
-    let found = subst (λ ss. IsFound ss c.args.name.now (option_map (λ value. value.now) c.args.class) known) c.requires.recent c.in-Some.ensures in
-    subst (AreKeyed near selectors) (sym (c.in_ok-extend_from_slice.ensures.items ∙ ap (λ xs. xs ++ known) none))
+    let found =
+    subst (λ ss. IsFound ss c.args.name.now (option_map (λ value. value.now) c.args.class) known)
+    c.requires.recent c.in-Some.ensures in
+    subst (AreKeyed near selectors)
+    (sym (c.in_ok-extend_from_slice.ensures.items ∙ ap (λ xs. xs ++ known) none))
     (found near name_is class_is (subst (AreStarts (adds_wanted near) selectors) none starts))
 
 pub keep-requires : goal.keep-requires
@@ -21,6 +24,7 @@ keep-requires c = λ near name_is class_is starts.
     let none = no_items c.args.indices.now.items empty in
     let selectors = c.args.rule_index.now in
     let from_none = subst (λ ss. AreStarts (adds_wanted near) ss []) c.requires.recent starts in
-    let keyed = c.in_ok-find_named.ensures near name_is class_is (subst (AreStarts (adds_wanted near) selectors) (sym none) from_none) in
+    let keyed = c.in_ok-find_named.ensures near name_is class_is
+    (subst (AreStarts (adds_wanted near) selectors) (sym none) from_none) in
     subst (AreKeyed near c.args.recent.now) (sym c.deref.ensures.value)
     (subst (λ ss. AreKeyed near ss c.find_named-2.new.indices.items) (sym c.requires.recent) keyed)

@@ -8,14 +8,25 @@ use Rattle.simplecss.proofs.index.find.find_named.Goals as goal
 
 pub push_all_earlier-requires : goal.push_all_earlier-requires
 push_all_earlier-requires c =
-    led_within _ c.rule_index.inside.lasts c.rule_index.inside.links.items c.args.rule_index.now c.rule_index.invariant c.rule_index.view_is
-    c.args.indices.now.items c.push_named.new.indices.items c.sort_once.new.indices.items c.requires c.in_ok-push_named.ensures c.sort_once.ensures.same
+    led_within _ c.rule_index.inside.lasts c.rule_index.inside.links.items c.args.rule_index.now
+    c.rule_index.invariant c.rule_index.view_is
+    c.args.indices.now.items c.push_named.new.indices.items c.sort_once.new.indices.items c.requires
+    c.in_ok-push_named.ensures c.sort_once.ensures.same
 
 pub returns : goal.returns
 returns c = λ near name_is class_is starts.
-    let leads = subst (λ n. Adds c.args.indices.now.items c.push_named.new.indices.items (Leads (names_wanted n near.own.class) c.rule_index.inside.lasts)) (sym name_is)
-    (subst (λ v. Adds c.args.indices.now.items c.push_named.new.indices.items (Leads (names_wanted c.args.name.now v) c.rule_index.inside.lasts)) (sym class_is) c.in_ok-push_named.ensures) in
-    are_keyed near c.args.rule_index.now c.push_named.new.indices.items c.sort_once.new.indices.items c.push_all_earlier.new.indices.items c.sort_once-2.new.indices.items
-    (starts_more (names_wanted near.own.name near.own.class) c.rule_index.inside.lasts c.rule_index.inside.links.items c.args.rule_index.now c.rule_index.invariant c.rule_index.view_is
-    (adds_wanted near) (reports_wanted near) c.args.indices.now.items c.push_named.new.indices.items (key_cases near) (added_key near) (named_key near) starts leads)
-    c.sort_once.ensures.same c.in_ok-push_all_earlier.ensures c.sort_once-2.ensures.ascending c.sort_once-2.ensures.same
+    let leads = subst (λ n. Adds c.args.indices.now.items c.push_named.new.indices.items
+    (Leads (names_wanted n near.own.class) c.rule_index.inside.lasts)) (sym name_is)
+    (subst (λ v. Adds c.args.indices.now.items c.push_named.new.indices.items
+    (Leads (names_wanted c.args.name.now v) c.rule_index.inside.lasts))
+    (sym class_is) c.in_ok-push_named.ensures) in
+    are_keyed near c.args.rule_index.now c.push_named.new.indices.items
+    c.sort_once.new.indices.items c.push_all_earlier.new.indices.items
+    c.sort_once-2.new.indices.items
+    (starts_more (names_wanted near.own.name near.own.class) c.rule_index.inside.lasts
+    c.rule_index.inside.links.items c.args.rule_index.now c.rule_index.invariant
+    c.rule_index.view_is
+    (adds_wanted near) (reports_wanted near) c.args.indices.now.items c.push_named.new.indices.items
+    (key_cases near) (added_key near) (named_key near) starts leads)
+    c.sort_once.ensures.same c.in_ok-push_all_earlier.ensures c.sort_once-2.ensures.ascending
+    c.sort_once-2.ensures.same

@@ -5,4 +5,5 @@ use Rattle.simplecss.proofs.index.find.push_all_earlier.Given as goal
 
 -- the chains of the first indices were added
 abbrev pub invariant-starts : goal.invariant-starts
-invariant-starts l = Adds l.initial.indices.items l.indices.items (After l.rule_index (take l.i l.initial.indices.items))
+invariant-starts l = Adds l.initial.indices.items l.indices.items
+    (After l.rule_index (take l.i l.initial.indices.items))

@@ -5,7 +5,10 @@ use Rattle.simplecss.proofs.index.find.push_neighbour.Goals as goal
 
 pub returns-in-Some : goal.returns-in-Some
 returns-in-Some g c =
-    rw c.in-Some.is (on_ok_weaker c.push_keys_of.result (λ adds. (Some (g.E.Keyed.reported c.in-Some.node), (c.in-Some.node, refl, refl), adds)) c.push_keys_of.ensures)
+    rw c.in-Some.is (on_ok_weaker c.push_keys_of.result
+    (λ adds. (Some (g.E.Keyed.reported c.in-Some.node), (c.in-Some.node, refl, refl), adds))
+    c.push_keys_of.ensures)
 
 pub returns-in-None : goal.returns-in-None
-returns-in-None g c = rw c.in-None.is (None, tt, no_neighbour c.args.lasts.now c.args.indices.now.items)
+returns-in-None g c =
+    rw c.in-None.is (None, tt, no_neighbour c.args.lasts.now c.args.indices.now.items)

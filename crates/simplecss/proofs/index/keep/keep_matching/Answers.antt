@@ -11,34 +11,48 @@ use Rattle.simplecss.proofs.index.keep.keep_matching.Goals as goal
 use Rattle.simplecss.proofs.index.keep.keep_matching.Goals.{then-matches_counted, else-matches_counted}
 
 pub indices-init : goal.indices-init
-indices-init g c = record { keeps = keep_none _ c.args.indices.now; least = omega arith; tested = omega arith }
+indices-init g c =
+    record { keeps = keep_none _ c.args.indices.now; least = omega arith; tested = omega arith }
 
 pub indices-preserved : goal.indices-preserved
 indices-preserved g c =
-    let IsMet : List Component → Type 0 = λ selector. HasPlacement g.E.Element.tree selector (g.E.Element.node c.args.element.now) in
-    let cost : List Component → ℕ = most_tests g.E.Element.tree (g.E.Element.node c.args.element.now) in
+    let IsMet : List Component → Type 0 =
+    λ selector. HasPlacement g.E.Element.tree selector (g.E.Element.node c.args.element.now) in
+    let cost : List Component → ℕ =
+    most_tests g.E.Element.tree (g.E.Element.node c.args.element.now) in
     let rules = c.args.rules.now in
     let indices = c.args.indices.now in
     let v = c.index-rules-index.result in
     let lt : c.indices.i < length indices = c.indices-test.true in
     let same : length c.indices.indices ≡ length indices = c.indices.auto.indices in
     let before = c.indices.invariant.keeps in
-    let keeps : Keeps (Met (λ rule. rule.selector) IsMet rules) indices c.if-matches_counted.indices c.if-matches_counted.kept (c.indices.i + 1) = elim c.if-matches_counted.branch [
-      | then-matches_counted w ↦ rw (w.indices-is, w.kept-is) (keeps_met (λ rule. rule.selector) IsMet rules indices c.indices.indices c.indices.kept c.indices.i v before lt c.requires.within c.requires.ascending same (w.if-matches_counted.ensures.answer.0 refl))
-      | else-matches_counted w ↦ rw (w.indices-is, w.kept-is) (keeps_unmet (λ rule. rule.selector) IsMet rules indices c.indices.indices c.indices.kept c.indices.i v before lt c.requires.within (λ h. false≢true (w.if-matches_counted.ensures.answer.1 h)))
+    let keeps : Keeps (Met (λ rule. rule.selector) IsMet rules) indices c.if-matches_counted.indices
+    c.if-matches_counted.kept (c.indices.i + 1) = elim c.if-matches_counted.branch [
+      | then-matches_counted w ↦ rw (w.indices-is, w.kept-is) (keeps_met (λ rule. rule.selector)
+          IsMet rules indices c.indices.indices c.indices.kept c.indices.i v before lt
+          c.requires.within c.requires.ascending same (w.if-matches_counted.ensures.answer.0 refl))
+      | else-matches_counted w ↦ rw (w.indices-is, w.kept-is) (keeps_unmet (λ rule. rule.selector)
+          IsMet rules indices c.indices.indices c.indices.kept c.indices.i v before lt
+          c.requires.within (λ h. false≢true (w.if-matches_counted.ensures.answer.1 h)))
     ] in
     record {
       keeps = keeps;
       least = omega (arith, c.indices.invariant.least, c.matches_counted.ensures.at_least_one);
-      tested = tested_more (λ rule. rule.selector) IsMet rules indices c.indices.indices c.indices.kept c.indices.i v before lt c.requires.within cost c.args.tests.now c.indices.tests c.matches_counted.new.tests c.indices.invariant.tested c.matches_counted.ensures.at_most_by_stretches;
+      tested = tested_more (λ rule. rule.selector) IsMet rules indices c.indices.indices
+          c.indices.kept c.indices.i v before lt c.requires.within cost c.args.tests.now
+          c.indices.tests c.matches_counted.new.tests c.indices.invariant.tested
+          c.matches_counted.ensures.at_most_by_stretches;
     }
 
 pub returns-clause-exactly : goal.returns-clause-exactly
-returns-clause-exactly g c = keep_all _ c.args.indices.now c.indices.indices c.indices.kept c.indices.i c.indices-test.false c.indices.invariant.keeps
+returns-clause-exactly g c = keep_all _ c.args.indices.now c.indices.indices c.indices.kept
+    c.indices.i c.indices-test.false c.indices.invariant.keeps
 
 pub returns-clause-counted : goal.returns-clause-counted
 returns-clause-counted g c =
-    subst (λ ps. c.indices.tests ≤ c.args.tests.now + sum_by (λ index. most_tests g.E.Element.tree (g.E.Element.node c.args.element.now) (selector_at (map (λ rule. rule.selector) c.args.rules.now) index)) ps)
+    subst (λ ps. c.indices.tests ≤ c.args.tests.now
+    + sum_by (λ index. most_tests g.E.Element.tree (g.E.Element.node c.args.element.now)
+    (selector_at (map (λ rule. rule.selector) c.args.rules.now) index)) ps)
     (take_all c.indices.i c.args.indices.now c.indices-test.false) c.indices.invariant.tested
 
 pub returns-clause-tested : goal.returns-clause-tested

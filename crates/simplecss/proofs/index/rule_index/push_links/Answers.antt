@@ -12,13 +12,20 @@ loop-rule-preserved c =
     let i = c.loop-rule.rule-index in
     let rule = c.rule-item in
     let within : i < length rules = omega arith in
-    let more = map_more (λ rule. rule.selector) rules i rule.result within ∙ ap (λ r. map (λ rule. rule.selector) (take i rules) ++ r.selector ∷ []) (sym rule.is) in
+    let more = map_more (λ rule. rule.selector) rules i rule.result within
+    ∙ ap (λ r. map (λ rule. rule.selector) (take i rules) ++ r.selector ∷ []) (sym rule.is) in
     let links = c.loop-rule.links in
     let index : c.len.result ≡ length links.items = omega (arith, c.len.ensures, links.ok.0) in
-    let linked = link_more c.loop-rule.lasts c.replace.new.self links.items c.push.new.self.items c.new.result c.len.result c.in_ok-earlier.earlier rule.result.selector (wanted_value c.wanted.result)
-    c.loop-rule.invariant.chained index c.wanted.ensures c.in_ok-earlier.ensures.known c.in_ok-earlier.ensures.taken c.new.ensures.earlier c.new.ensures.selector c.in_ok-push.ensures.items in
+    let linked =
+    link_more c.loop-rule.lasts c.replace.new.self links.items c.push.new.self.items c.new.result
+    c.len.result c.in_ok-earlier.earlier rule.result.selector (wanted_value c.wanted.result)
+    c.loop-rule.invariant.chained index c.wanted.ensures c.in_ok-earlier.ensures.known
+    c.in_ok-earlier.ensures.taken c.new.ensures.earlier c.new.ensures.selector
+    c.in_ok-push.ensures.items in
     record {
       chained = linked.0;
-      selectors = linked.1 ∙ ap (λ ss. ss ++ rule.result.selector ∷ []) c.loop-rule.invariant.selectors
-          ∙ append_assoc old (map (λ rule. rule.selector) (take i rules)) (rule.result.selector ∷ []) ∙ ap (λ ss. old ++ ss) (sym more);
+      selectors =
+          linked.1 ∙ ap (λ ss. ss ++ rule.result.selector ∷ []) c.loop-rule.invariant.selectors
+          ∙ append_assoc old (map (λ rule. rule.selector) (take i rules))
+          (rule.result.selector ∷ []) ∙ ap (λ ss. old ++ ss) (sym more);
     }

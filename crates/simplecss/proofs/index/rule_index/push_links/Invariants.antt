@@ -6,5 +6,6 @@ use Rattle.simplecss.proofs.index.rule_index.push_links.Given as goal
 abbrev pub invariant-loop-rule : goal.invariant-loop-rule
 invariant-loop-rule l = record {
   chained : AreChained l.lasts l.links.items;
-  selectors : selectors_of l.links.items ≡ selectors_of l.initial.links.items ++ map (λ rule. rule.selector) (take l.rule-index l.rules);
+  selectors : selectors_of l.links.items ≡ selectors_of l.initial.links.items
+      ++ map (λ rule. rule.selector) (take l.rule-index l.rules);
 }

@@ -11,13 +11,15 @@ pub returns-clause-ranks : goal.returns-clause-ranks
 returns-clause-ranks c xs i r h e = ordered_at_rank is_smaller smaller_order xs i r h e
 
 pub returns-clause-rises : goal.returns-clause-rises
-returns-clause-rises c xs = sorted_from_rises is_smaller _ (ordered_arranges is_smaller smaller_order xs).rises
+returns-clause-rises c xs =
+    sorted_from_rises is_smaller _ (ordered_arranges is_smaller smaller_order xs).rises
 
 pub returns-clause-stays : goal.returns-clause-stays
 returns-clause-stays c xs = (ordered_arranges is_smaller smaller_order xs).stable
 
 pub returns-clause-one : goal.returns-clause-one
-returns-clause-one c xs ys moved up stable = sym (ordered_is is_smaller smaller_order xs ys (arranges_from_sort is_smaller smaller_order xs ys moved up stable))
+returns-clause-one c xs ys moved up stable = sym (ordered_is is_smaller smaller_order xs ys
+    (arranges_from_sort is_smaller smaller_order xs ys moved up stable))
 
 pub returns-clause-twice : goal.returns-clause-twice
 returns-clause-twice c = ordered_twice is_smaller smaller_order

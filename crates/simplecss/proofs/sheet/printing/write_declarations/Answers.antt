@@ -12,7 +12,9 @@ loop-declaration-preserved g c = λ plain.
     let all = c.args.declarations.now in
     let i = c.loop-declaration.declaration-index in
     let within : i < length all = omega arith in
-    has_written_styled_of_eq _ _ _ _ _ (sym (flat_map-map declaration_text declaration_of (take (i + 1) all)))
+    has_written_styled_of_eq _ _ _ _ _
+    (sym (flat_map-map declaration_text declaration_of (take (i + 1) all)))
     (styled_step_at _ (λ d. declaration_text (declaration_of d)) _ _ _ _ _ _ within
-    (has_written_styled_of_eq _ _ _ _ _ (flat_map-map declaration_text declaration_of (take i all)) so_far)
+    (has_written_styled_of_eq _ _ _ _ _
+    (flat_map-map declaration_text declaration_of (take i all)) so_far)
     (c.fmt.ensures.styled so_far.flush (search rules)))

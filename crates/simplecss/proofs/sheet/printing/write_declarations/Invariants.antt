@@ -8,4 +8,5 @@ use Rattle.simplecss.proofs.sheet.printing.write_declarations.Given as goal
 -- what is written is the text of the first ones
 abbrev pub invariant-loop-declaration : goal.invariant-loop-declaration
 invariant-loop-declaration g l =
-    IsFlush l.initial.f → HasWrittenStyled g.W.Write.write_str_gives l.initial.f (flat_map declaration_text (declarations_of (take l.declaration-index l.declarations))) l.f
+    IsFlush l.initial.f → HasWrittenStyled g.W.Write.write_str_gives l.initial.f
+    (flat_map declaration_text (declarations_of (take l.declaration-index l.declarations))) l.f

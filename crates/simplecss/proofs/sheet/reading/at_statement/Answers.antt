@@ -8,11 +8,15 @@ use Rattle.simplecss.proofs.sheet.reading.at_statement.Goals as goal
 
 pub returns-then-skip_blank-clause-reads : goal.returns-then-skip_blank-clause-reads
 returns-then-skip_blank-clause-reads c =
-    next_statement-after this_edition (rest_of c.args.s.now) (rest_of c.skip_blank.new.s) c.at_end.result c.if-skip_blank.ensures.reads c.at_end.ensures
+    next_statement-after this_edition (rest_of c.args.s.now)
+    (rest_of c.skip_blank.new.s) c.at_end.result c.if-skip_blank.ensures.reads c.at_end.ensures
 
 pub returns-else-skip_blank-clause-reads : goal.returns-else-skip_blank-clause-reads
 returns-else-skip_blank-clause-reads c =
-    rw c.if-skip_blank.false (next_statement-open this_edition (rest_of c.args.s.now) (rest_of c.skip_blank.new.s) (no_comment (past_blank (rest_of c.args.s.now))) c.if-skip_blank.ensures.reads)
+    rw c.if-skip_blank.false
+    (next_statement-open this_edition (rest_of c.args.s.now) (rest_of c.skip_blank.new.s)
+    (no_comment (past_blank (rest_of c.args.s.now))) c.if-skip_blank.ensures.reads)
 
 pub returns-then-skip_blank-clause-rest : goal.returns-then-skip_blank-clause-rest
-returns-then-skip_blank-clause-rest c = λ stands. sym (blank-got (rest_of c.args.s.now) (rest_of c.skip_blank.new.s) c.if-skip_blank.ensures.reads).1
+returns-then-skip_blank-clause-rest c = λ stands. sym
+    (blank-got (rest_of c.args.s.now) (rest_of c.skip_blank.new.s) c.if-skip_blank.ensures.reads).1

@@ -9,6 +9,8 @@ use Rattle.simplecss.proofs.sheet.reading.read_all.Given as goal
 -- the rules so far are those of the first texts
 abbrev pub invariant-loop-text : goal.invariant-loop-text
 invariant-loop-text g l =
-    (filter has_declaration (rules_of l.rules.items) ≡ flat_map (kept this_edition) (map (λ text. text.now) (take l.text-index l.texts)))
+    (filter has_declaration (rules_of l.rules.items)
+    ≡ flat_map (kept this_edition) (map (λ text. text.now) (take l.text-index l.texts)))
     × All (λ text. IsUtf8 text.now) (take l.text-index l.texts)
-    × (g.P.Report.state l.report ≡ add_each g.P.Report.add (g.P.Report.state l.initial.report) (flat_map (skipped this_edition) (map (λ text. text.now) (take l.text-index l.texts))))
+    × (g.P.Report.state l.report ≡ add_each g.P.Report.add (g.P.Report.state l.initial.report)
+    (flat_map (skipped this_edition) (map (λ text. text.now) (take l.text-index l.texts))))

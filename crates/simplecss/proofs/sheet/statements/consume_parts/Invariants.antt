@@ -9,8 +9,12 @@ use Rattle.simplecss.proofs.sheet.statements.consume_parts.Given as goal
 abbrev pub invariant-parts : goal.invariant-parts
 invariant-parts g l = record {
   same : text_of l.s ≡ text_of l.initial.s;
-  read : l.selectors.items ++ (parts this_edition (rest_of l.s)).0 ≡ (parts this_edition (rest_of l.initial.s)).0;
-  reported : add_each g.P.Report.add (g.P.Report.state l.report) (parts_skips this_edition (rest_of l.s)) ≡ add_each g.P.Report.add (g.P.Report.state l.initial.report) (parts_skips this_edition (rest_of l.initial.s));
+  read : l.selectors.items ++ (parts this_edition (rest_of l.s)).0
+      ≡ (parts this_edition (rest_of l.initial.s)).0;
+  reported :
+      add_each g.P.Report.add (g.P.Report.state l.report) (parts_skips this_edition (rest_of l.s))
+      ≡ add_each g.P.Report.add (g.P.Report.state l.initial.report)
+      (parts_skips this_edition (rest_of l.initial.s));
   rest : (parts this_edition (rest_of l.s)).1 ≡ (parts this_edition (rest_of l.initial.s)).1;
 }
 

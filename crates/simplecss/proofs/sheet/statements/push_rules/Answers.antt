@@ -12,9 +12,11 @@ selectors-preserved c =
     let before = c.selectors.rules.items in
     let given = rule_with (map declaration_of c.args.declarations.now) in
     let selector = c.in-Some.selector in
-    let rule : Rule = record { selector = selector; declarations = c.in_ok-declarations.declarations } in
+    let rule : Rule =
+    record { selector = selector; declarations = c.in_ok-declarations.declarations } in
     ap (map rule_of) c.in_ok-push.ensures.items ∙ map-append rule_of before (rule ∷ [])
-    ∙ ap (λ all. map rule_of before ++ rule_with (map declaration_of all) selector ∷ []) c.in_ok-declarations.ensures.items
+    ∙ ap (λ all. map rule_of before ++ rule_with (map declaration_of all) selector ∷ [])
+    c.in_ok-declarations.ensures.items
     ∙ ap (λ l. l ++ given selector ∷ []) c.selectors.invariant
     ∙ append_assoc old (map given c.selectors.yielded) (given selector ∷ [])
     ∙ ap (λ l. old ++ l) (sym (map-append given c.selectors.yielded (selector ∷ [])))

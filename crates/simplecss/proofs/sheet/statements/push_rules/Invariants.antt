@@ -5,4 +5,5 @@ use Rattle.simplecss.specs.internal.SharedBlocks.{rules_with}
 use Rattle.simplecss.proofs.sheet.statements.push_rules.Given as goal
 
 abbrev pub invariant-selectors : goal.invariant-selectors
-invariant-selectors l = map rule_of l.rules.items ≡ map rule_of l.initial.rules.items ++ rules_with (map declaration_of l.fn.declarations) l.yielded
+invariant-selectors l = map rule_of l.rules.items ≡ map rule_of l.initial.rules.items
+    ++ rules_with (map declaration_of l.fn.declarations) l.yielded

@@ -9,7 +9,9 @@ returns-clause-styled g c flush ok =
     let stated = c.in_ok-write_stated.ensures flush (refl {a = true}) in
     let marked = c.in_ok-write_str.ensures.styled stated.flush (refl {a = true}) in
     let closed = c.write_str-2.ensures.styled marked.flush ok in
-    styled_three g.W.Write.write_str_gives _ _ _ _ _ _ _ _ stated marked closed (ap (λ mark. d.name.now ++ codes ":" ++ d.value.now ++ mark ++ codes ";") c.important_mark.ensures)
+    styled_three g.W.Write.write_str_gives _ _ _ _ _ _ _ _ stated marked closed (ap
+    (λ mark. d.name.now ++ codes ":" ++ d.value.now ++ mark ++ codes ";") c.important_mark.ensures)
 
 pub returns-clause-writes : goal.returns-clause-writes
-returns-clause-writes g c plain ok = plain_of_styled g.W.Write.write_str_gives _ _ _ plain (returns-clause-styled g c plain.flush ok)
+returns-clause-writes g c plain ok =
+    plain_of_styled g.W.Write.write_str_gives _ _ _ plain (returns-clause-styled g c plain.flush ok)

@@ -12,11 +12,14 @@ pub returns : goal.returns
 returns c =
     let text = c.args.text.now in
     let all : rest_of c.new.result ≡ text = rw (c.new.ensures.text, c.new.ensures.offset) refl in
-    let read : declarations this_edition (rest_of c.new.result) ≡ declarations this_edition text = ap (declarations this_edition) all in
+    let read : declarations this_edition (rest_of c.new.result) ≡ declarations this_edition text =
+    ap (declarations this_edition) all in
     record {
       whole_text_is = c.new.ensures.text;
       at_start = c.new.ensures.offset;
       to_come = read;
-      few = subst (λ (ps : List StyleDeclaration). length ps ≤ length text) (sym read) (length-declarations this_edition text);
-      in_turn = from_front GivesDeclaration declaration_of still_to_come (λ s t g. ap length g.items.0) (λ s x t g. g.items);
+      few = subst (λ (ps : List StyleDeclaration). length ps ≤ length text) (sym read)
+          (length-declarations this_edition text);
+      in_turn = from_front GivesDeclaration declaration_of still_to_come
+          (λ s t g. ap length g.items.0) (λ s x t g. g.items);
     }

@@ -19,26 +19,39 @@ pub returns-then-eq-2 : goal.returns-then-eq-2
 returns-then-eq-2 c =
     let a = c.self.inside in
     let b = c.other.inside in
-    let t : Tile 0 (a.front.items ++ a.last ∷ []) (length a.subselectors.items) = rw (← a.subselectors.ok.0) c.self.invariant.tiled in
-    let u : Tile 0 (b.front.items ++ b.last ∷ []) (length b.subselectors.items) = rw (← b.subselectors.ok.0) c.other.invariant.tiled in
+    let t : Tile 0 (a.front.items ++ a.last ∷ []) (length a.subselectors.items) =
+    rw (← a.subselectors.ok.0) c.self.invariant.tiled in
+    let u : Tile 0 (b.front.items ++ b.last ∷ []) (length b.subselectors.items) =
+    rw (← b.subselectors.ok.0) c.other.invariant.tiled in
     let front = rw (c.as_slice.ensures.value, c.as_slice-2.ensures.value) at c.eq.ensures in
-    let all = flat_last_eq a.front.items b.front.items a.last b.last a.subselectors.items b.subselectors.items t u in
-    let heads : c.if-eq.value ≡ (pointwise flat_test.it a.front.items b.front.items && flat_test.it a.last b.last) = elim c.if-eq.branch [
+    let all = flat_last_eq a.front.items b.front.items a.last b.last a.subselectors.items
+    b.subselectors.items t u in
+    let heads : c.if-eq.value
+    ≡ (pointwise flat_test.it a.front.items b.front.items && flat_test.it a.last b.last) =
+    elim c.if-eq.branch [
       | then-eq w ↦ and_then _ _ _ _ front w.if-eq.true (w.value-is ∙ w.eq-then-eq.ensures)
       | else-eq w ↦ and_not _ _ _ _ front w.if-eq.false (w.value-is ∙ w.if-eq.false)
     ] in
     rw (← c.self.view_is, ← c.other.view_is)
-    (and_then _ _ _ _ heads c.if-eq-2.true (rw (c.as_slice-then-eq-2.ensures.value, c.as_slice-then-eq-2-2.ensures.value) at c.eq-then-eq-2.ensures) ∙ all)
+    (and_then _ _ _ _ heads c.if-eq-2.true (rw (
+      c.as_slice-then-eq-2.ensures.value,
+      c.as_slice-then-eq-2-2.ensures.value,
+    ) at c.eq-then-eq-2.ensures) ∙ all)
 
 pub returns-else-eq-2 : goal.returns-else-eq-2
 returns-else-eq-2 c =
     let a = c.self.inside in
     let b = c.other.inside in
-    let t : Tile 0 (a.front.items ++ a.last ∷ []) (length a.subselectors.items) = rw (← a.subselectors.ok.0) c.self.invariant.tiled in
-    let u : Tile 0 (b.front.items ++ b.last ∷ []) (length b.subselectors.items) = rw (← b.subselectors.ok.0) c.other.invariant.tiled in
+    let t : Tile 0 (a.front.items ++ a.last ∷ []) (length a.subselectors.items) =
+    rw (← a.subselectors.ok.0) c.self.invariant.tiled in
+    let u : Tile 0 (b.front.items ++ b.last ∷ []) (length b.subselectors.items) =
+    rw (← b.subselectors.ok.0) c.other.invariant.tiled in
     let front = rw (c.as_slice.ensures.value, c.as_slice-2.ensures.value) at c.eq.ensures in
-    let all = flat_last_eq a.front.items b.front.items a.last b.last a.subselectors.items b.subselectors.items t u in
-    let heads : c.if-eq.value ≡ (pointwise flat_test.it a.front.items b.front.items && flat_test.it a.last b.last) = elim c.if-eq.branch [
+    let all = flat_last_eq a.front.items b.front.items a.last b.last a.subselectors.items
+    b.subselectors.items t u in
+    let heads : c.if-eq.value
+    ≡ (pointwise flat_test.it a.front.items b.front.items && flat_test.it a.last b.last) =
+    elim c.if-eq.branch [
       | then-eq w ↦ and_then _ _ _ _ front w.if-eq.true (w.value-is ∙ w.eq-then-eq.ensures)
       | else-eq w ↦ and_not _ _ _ _ front w.if-eq.false (w.value-is ∙ w.if-eq.false)
     ] in

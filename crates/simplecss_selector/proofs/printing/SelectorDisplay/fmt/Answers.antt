@@ -13,10 +13,13 @@ returns-clause-styled g c = λ flush ok. has_written_styled_of_eq _ _ _ _ _
     (c.loop-index.invariant flush)
 
 pub returns-clause-writes : goal.returns-clause-writes
-returns-clause-writes g c = λ plain ok. plain_of_styled _ _ _ _ plain (returns-clause-styled g c plain.flush ok)
+returns-clause-writes g c =
+    λ plain ok. plain_of_styled _ _ _ _ plain (returns-clause-styled g c plain.flush ok)
 
 pub loop-index-preserved : goal.loop-index-preserved
 loop-index-preserved g c = λ plain.
     let so_far = c.loop-index.invariant plain in
-    styled_step_at _ component_text c.args.self.now c.loop-index.index any_component _ _ _ (omega arith) so_far
-    (has_written_styled_of_eq _ _ _ _ _ (ap component_text c.component.ensures) (c.write_component.ensures so_far.flush (search rules)))
+    styled_step_at _ component_text c.args.self.now c.loop-index.index any_component _ _ _
+    (omega arith) so_far
+    (has_written_styled_of_eq _ _ _ _ _ (ap component_text c.component.ensures)
+    (c.write_component.ensures so_far.flush (search rules)))

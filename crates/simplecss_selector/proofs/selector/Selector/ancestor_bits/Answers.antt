@@ -9,4 +9,5 @@ loop-index-preserved c =
     let index = c.loop-index.index in
     ap (λ b. bit_or b c.step_bits-bits.result) c.loop-index.invariant
     ∙ ap (bit_or _) c.step_bits-bits.ensures
-    ∙ sym (bits_more cs index (subst (λ n. index < n) c.len-index-end.ensures c.loop-index-test.true))
+    ∙ sym
+    (bits_more cs index (subst (λ n. index < n) c.len-index-end.ensures c.loop-index-test.true))

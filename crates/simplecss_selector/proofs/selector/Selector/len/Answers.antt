@@ -10,4 +10,9 @@ overflow_add-result c =
 pub returns : goal.returns
 returns c =
     let s = c.self.inside in
-    omega (arith, c.len.ensures, s.front.ok.0, length_is s.front.items _ s.subselectors.items c.args.self.now c.self.view_is)
+    omega (
+      arith,
+      c.len.ensures,
+      s.front.ok.0,
+      length_is s.front.items _ s.subselectors.items c.args.self.now c.self.view_is,
+    )

@@ -23,5 +23,15 @@ returns c =
     let last = c.from.ensures ∙ bool_byte-is _ _ c.is_named.ensures in
     rw (← c.self.view_is) (three
     (c.at_most_255.ensures ∙ ap (min 255) (omega (arith, ids, id_count, c.id_count-ids.ensures)))
-    (c.at_most_255-2.ensures ∙ ap (min 255) (omega (arith, others, both, id_count, c.id_count-ids.ensures, c.len.ensures, s.subselectors.ok.0)))
-    (omega (arith, c.saturating_add.ensures, c.at_most_255-3.ensures, names, name_count, all_names, last, c.name_count.ensures)))
+    (c.at_most_255-2.ensures ∙ ap (min 255) (omega
+    (arith, others, both, id_count, c.id_count-ids.ensures, c.len.ensures, s.subselectors.ok.0)))
+    (omega (
+      arith,
+      c.saturating_add.ensures,
+      c.at_most_255-3.ensures,
+      names,
+      name_count,
+      all_names,
+      last,
+      c.name_count.ensures,
+    )))

@@ -5,9 +5,11 @@ use Rattle.simplecss_selector.proofs.selector.Selector.wanted.Goals as goal
 
 pub returns-then-last-eq0 : goal.returns-then-last-eq0
 returns-then-last-eq0 c =
-    ap of_element c.key_at-key.ensures ∙ sym (wanted_one c.args.self.now c.last_index-last.result c.last_index-last.ensures c.if-last-eq0.true)
+    ap of_element c.key_at-key.ensures ∙ sym (wanted_one c.args.self.now c.last_index-last.result
+    c.last_index-last.ensures c.if-last-eq0.true)
 
 pub returns : goal.returns
 returns c =
     c.wanted_by.ensures
-    ∙ wanted_is c.args.self.now c.last_index-last.result _ _ _ c.last_index-last.ensures c.if-last-eq0.false c.key_at-key.ensures c.combinator.ensures.value c.key_at-before.ensures
+    ∙ wanted_is c.args.self.now c.last_index-last.result _ _ _ c.last_index-last.ensures
+    c.if-last-eq0.false c.key_at-key.ensures c.combinator.ensures.value c.key_at-before.ensures

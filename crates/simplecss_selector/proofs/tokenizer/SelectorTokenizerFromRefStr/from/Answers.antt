@@ -15,14 +15,19 @@ unfolding items_left
 returns c =
     let text = c.args.text.now in
     let all : rest_of c.from.result ≡ text = rw (c.from.ensures.0, c.from.ensures.1) refl in
-    let given : map (reported_in c.from.result.text.now) (items (sequence_of this_edition (rest_of c.from.result))) ≡ tokens_of this_edition text = rw (all, c.from.ensures.0) refl in
-    let few : length (items (sequence_of this_edition text)) ≤ length text + 2 = length-sequence_from this_edition open_side text in
+    let given : map (reported_in c.from.result.text.now)
+    (items (sequence_of this_edition (rest_of c.from.result))) ≡ tokens_of this_edition text =
+    rw (all, c.from.ensures.0) refl in
+    let few : length (items (sequence_of this_edition text)) ≤ length text + 2 =
+    length-sequence_from this_edition open_side text in
     record {
       whole_text_is = c.from.ensures.0;
       at_start = c.from.ensures.1;
       left = all;
       sequence = ap (sequence_of this_edition) all;
       to_come = given;
-      few = rw given (omega (arith, few, length-map (items (sequence_of this_edition text)) (reported_in text)));
-      in_turn = from_front GivesItem item_view items_left (λ s t g. ap length g.items.0) (λ s x t g. g.items);
+      few = rw given (omega
+          (arith, few, length-map (items (sequence_of this_edition text)) (reported_in text)));
+      in_turn = from_front GivesItem item_view items_left (λ s t g. ap length g.items.0)
+          (λ s x t g. g.items);
     }

@@ -6,11 +6,15 @@ use Rattle.simplecss_tree.proofs.tree.Tree.set_states.Goals as goal
 pub invariant_of-self : goal.invariant_of-self
 invariant_of-self c =
     let here = c.index_mut.ensures.value in
-    knows_kept c.self.inside.entries.items c.self.inside.last_root c.self.invariant c.args.index _ c.index_mut.result.now (ap (λ e. e.parent) here) (ap (λ e. e.last_child) here)
+    knows_kept c.self.inside.entries.items c.self.inside.last_root c.self.invariant c.args.index _
+    c.index_mut.result.now (ap (λ e. e.parent) here) (ap (λ e. e.last_child) here)
 
 pub returns-clause-ok : goal.returns-clause-ok
 returns-clause-ok c =
     let here = c.index_mut.ensures.value in
-    let within : c.args.index < length c.self.inside.entries.items = omega (arith, c.if-index-len.false, c.len.ensures, c.self.inside.entries.ok.0) in
-    rows_changed c.self.inside.entries.items c.args.index _ c.index_mut.result.now (λ row. row_in row c.args.states) within (ap (λ e. row_in (row_of e) c.args.states) here)
-    ∙ ap (λ rows. set rows c.args.index (row_in (get_or rows c.args.index nobody) c.args.states)) c.self.view_is
+    let within : c.args.index < length c.self.inside.entries.items =
+    omega (arith, c.if-index-len.false, c.len.ensures, c.self.inside.entries.ok.0) in
+    rows_changed c.self.inside.entries.items c.args.index _ c.index_mut.result.now
+    (λ row. row_in row c.args.states) within (ap (λ e. row_in (row_of e) c.args.states) here)
+    ∙ ap (λ rows. set rows c.args.index (row_in (get_or rows c.args.index nobody) c.args.states))
+    c.self.view_is

@@ -4,13 +4,17 @@ use Rattle.cssq_page.proofs.LineCuts.{text_after, fields_after, text_none, field
 use Rattle.cssq_page.proofs.tree.entry.Entry.attributes.Goals as goal
 
 pub returns-then-len-self-clause-text : goal.returns-then-len-self-clause-text
-returns-then-len-self-clause-text c = c.range_from.ensures.value ∙ text_after c.args.self.now.fields.now c.name_len-len.result c.name_len-len.ensures.len
+returns-then-len-self-clause-text c = c.range_from.ensures.value
+    ∙ text_after c.args.self.now.fields.now c.name_len-len.result c.name_len-len.ensures.len
 
 pub returns-then-len-self-clause-fields : goal.returns-then-len-self-clause-fields
-returns-then-len-self-clause-fields c = ap fields_of c.range_from.ensures.value ∙ fields_after c.args.self.now.fields.now c.name_len-len.result c.name_len-len.ensures.len c.if-len-self.true
+returns-then-len-self-clause-fields c = ap fields_of c.range_from.ensures.value ∙ fields_after
+    c.args.self.now.fields.now c.name_len-len.result c.name_len-len.ensures.len c.if-len-self.true
 
 pub returns-else-len-self-clause-text : goal.returns-else-len-self-clause-text
-returns-else-len-self-clause-text c = text_none c.args.self.now.fields.now c.name_len-len.result c.name_len-len.ensures.len c.if-len-self.false
+returns-else-len-self-clause-text c = text_none c.args.self.now.fields.now c.name_len-len.result
+    c.name_len-len.ensures.len c.if-len-self.false
 
 pub returns-else-len-self-clause-fields : goal.returns-else-len-self-clause-fields
-returns-else-len-self-clause-fields c = fields_none c.args.self.now.fields.now c.name_len-len.result c.name_len-len.ensures.len c.if-len-self.false
+returns-else-len-self-clause-fields c = fields_none c.args.self.now.fields.now c.name_len-len.result
+    c.name_len-len.ensures.len c.if-len-self.false

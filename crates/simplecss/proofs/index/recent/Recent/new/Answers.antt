@@ -8,8 +8,10 @@ pub slots-init : goal.slots-init
 slots-init c = rw c.in_ok-slots.ensures.items (no_slots c.args.index.now)
 
 pub slots-preserved : goal.slots-preserved
-slots-preserved c = rw c.in_ok-push.ensures.items (empty_more c.args.index.now c.slots.slots.items c.slots.invariant)
+slots-preserved c = rw c.in_ok-push.ensures.items
+    (empty_more c.args.index.now c.slots.slots.items c.slots.invariant)
 
 pub invariant_of-result : goal.invariant_of-result
 invariant_of-result c =
-    subst (λ selectors. All (IsSlotOf selectors) c.slots.slots.items) (sym c.of.ensures) c.slots.invariant
+    subst (λ selectors. All (IsSlotOf selectors) c.slots.slots.items)
+    (sym c.of.ensures) c.slots.invariant

@@ -11,9 +11,12 @@ use Rattle.simplecss.proofs.index.rule_index.RuleIndex.matching_all.Goals as goa
 
 pub keep_matching-kept-requires-clause-within : goal.keep_matching-kept-requires-clause-within
 keep_matching-kept-requires-clause-within g c =
-    let same : length c.args.self.now ≡ length c.args.rules.now = ap length c.requires.index ∙ length-map c.args.rules.now (λ rule. rule.selector) in
-    let within = candidate_within c.in_default.ensures.found.0 c.in_default.ensures.found.2 c.args.self.now c.candidates.new.indices.items c.in_default.ensures.found.4 in
-    rw c.deref_mut.ensures.value (subst (λ n. All (λ index. index < n) c.candidates.new.indices.items) same within)
+    let same : length c.args.self.now ≡ length c.args.rules.now =
+    ap length c.requires.index ∙ length-map c.args.rules.now (λ rule. rule.selector) in
+    let within = candidate_within c.in_default.ensures.found.0 c.in_default.ensures.found.2
+    c.args.self.now c.candidates.new.indices.items c.in_default.ensures.found.4 in
+    rw c.deref_mut.ensures.value
+    (subst (λ n. All (λ index. index < n) c.candidates.new.indices.items) same within)
 
 pub returns-clause-matches : goal.returns-clause-matches
 returns-clause-matches g c =
@@ -23,12 +26,22 @@ returns-clause-matches g c =
     let kept = c.keep_matching-kept.new.indices in
     let count = c.keep_matching-kept.result in
     let back : c.truncate.new.self.items ≡ take count kept =
-    c.truncate.ensures.items ∙ ap (take count) (written_back candidates.items kept candidates.len candidates.ok.0 (c.keep_matching-kept.auto.indices ∙ ap length c.deref_mut.ensures.value)) in
-    let exactly : (index : ℕ) → Contains (take count kept) index ↔ (Contains candidates.items index × HasPlacement tree (selector_at c.args.self.now index) element) =
-    subst (λ ss. (index : ℕ) → Contains (take count kept) index ↔ (Contains candidates.items index × HasPlacement tree (selector_at ss index) element)) (sym c.requires.index)
-    (subst (λ ps. (index : ℕ) → Contains (take count kept) index ↔ (Contains ps index × HasPlacement tree (selector_at (map (λ rule. rule.selector) c.args.rules.now) index) element)) c.deref_mut.ensures.value c.keep_matching-kept.ensures.exactly) in
+    c.truncate.ensures.items ∙ ap (take count) (written_back candidates.items kept candidates.len
+    candidates.ok.0 (c.keep_matching-kept.auto.indices ∙ ap length c.deref_mut.ensures.value)) in
+    let exactly : (index : ℕ) → Contains (take count kept) index ↔ (Contains candidates.items index
+    × HasPlacement tree (selector_at c.args.self.now index) element) =
+    subst (λ ss. (index : ℕ) → Contains (take count kept) index
+    ↔ (Contains candidates.items index × HasPlacement tree (selector_at ss index) element))
+    (sym c.requires.index)
+    (subst (λ ps. (index : ℕ) → Contains (take count kept) index ↔ (Contains ps index
+    × HasPlacement tree (selector_at (map (λ rule. rule.selector) c.args.rules.now) index) element))
+    c.deref_mut.ensures.value c.keep_matching-kept.ensures.exactly) in
     subst (AreMatches tree element c.args.self.now) (sym back)
-    (are_matches tree element c.in_default.ensures.found.0 c.in_default.ensures.found.2 c.args.self.now candidates.items (take count kept) g.met.E.Element.sibling_law (near_reports tree g.E.Element.node g.E.Keyed.reported g.met.E.Keyed.reported_law c.args.element.now c.in_default.ensures.found.0 c.in_default.ensures.found.1) c.in_default.ensures.found.3 c.in_default.ensures.found.4 c.keep_matching-kept.ensures.ascending exactly)
+    (are_matches tree element c.in_default.ensures.found.0 c.in_default.ensures.found.2
+    c.args.self.now candidates.items (take count kept) g.met.E.Element.sibling_law (near_reports
+    tree g.E.Element.node g.E.Keyed.reported g.met.E.Keyed.reported_law c.args.element.now
+    c.in_default.ensures.found.0 c.in_default.ensures.found.1) c.in_default.ensures.found.3
+    c.in_default.ensures.found.4 c.keep_matching-kept.ensures.ascending exactly)
 
 pub returns-clause-tests : goal.returns-clause-tests
 returns-clause-tests g c =
@@ -37,14 +50,23 @@ returns-clause-tests g c =
     let near = c.in_default.ensures.found.0 in
     let candidates = c.candidates.new.indices.items in
     let least : c.args.tests.now + length candidates ≤ c.keep_matching-kept.new.tests =
-    subst (λ ps. c.args.tests.now + length ps ≤ c.keep_matching-kept.new.tests) c.deref_mut.ensures.value c.keep_matching-kept.ensures.tested in
-    let tested : c.keep_matching-kept.new.tests ≤ c.args.tests.now + sum_by (λ index. most_tests tree element (selector_at c.args.self.now index)) candidates =
-    subst (λ ss. c.keep_matching-kept.new.tests ≤ c.args.tests.now + sum_by (λ index. most_tests tree element (selector_at ss index)) candidates) (sym c.requires.index)
-    (subst (λ ps. c.keep_matching-kept.new.tests ≤ c.args.tests.now + sum_by (λ index. most_tests tree element (selector_at (map (λ rule. rule.selector) c.args.rules.now) index)) ps) c.deref_mut.ensures.value c.keep_matching-kept.ensures.counted) in (
+    subst (λ ps. c.args.tests.now + length ps ≤ c.keep_matching-kept.new.tests)
+    c.deref_mut.ensures.value c.keep_matching-kept.ensures.tested in
+    let tested : c.keep_matching-kept.new.tests ≤ c.args.tests.now
+    + sum_by (λ index. most_tests tree element (selector_at c.args.self.now index)) candidates =
+    subst (λ ss. c.keep_matching-kept.new.tests ≤ c.args.tests.now + sum_by
+    (λ index. most_tests tree element (selector_at ss index)) candidates) (sym c.requires.index)
+    (subst (λ ps. c.keep_matching-kept.new.tests ≤ c.args.tests.now + sum_by (λ index.
+    most_tests tree element (selector_at (map (λ rule. rule.selector) c.args.rules.now) index)) ps)
+    c.deref_mut.ensures.value c.keep_matching-kept.ensures.counted) in (
       near,
       c.in_default.ensures.found.1,
       c.in_default.ensures.found.2,
       c.in_default.ensures.found.3,
-      subst (λ n. c.args.tests.now + n ≤ c.keep_matching-kept.new.tests) (number_of_candidates near c.in_default.ensures.found.2 c.args.self.now candidates c.in_default.ensures.found.4) least,
-      subst (λ n. c.keep_matching-kept.new.tests ≤ c.args.tests.now + n) (sum_of_candidates near c.in_default.ensures.found.2 c.args.self.now candidates (most_tests tree element) c.in_default.ensures.found.4) tested,
+      subst (λ n. c.args.tests.now + n ≤ c.keep_matching-kept.new.tests)
+          (number_of_candidates near c.in_default.ensures.found.2 c.args.self.now candidates
+          c.in_default.ensures.found.4) least,
+      subst (λ n. c.keep_matching-kept.new.tests ≤ c.args.tests.now + n)
+          (sum_of_candidates near c.in_default.ensures.found.2 c.args.self.now candidates
+          (most_tests tree element) c.in_default.ensures.found.4) tested,
     )

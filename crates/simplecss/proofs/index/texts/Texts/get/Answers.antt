@@ -7,4 +7,6 @@ pub returns-then-word-eq0 : goal.returns-then-word-eq0
 returns-then-word-eq0 c =
     let words = c.args.self.now.filter in
     let text = c.args.text.now in
-    none_found words text (index_for_text c.args.self.now.indices text) (ap (λ i. get_or words i 0) (sym c.word_of.ensures.value) ∙ c.if-word-eq0.true) (λ index. c.args.self.now.filtered text index)
+    none_found words text (index_for_text c.args.self.now.indices text)
+    (ap (λ i. get_or words i 0) (sym c.word_of.ensures.value) ∙ c.if-word-eq0.true)
+    (λ index. c.args.self.now.filtered text index)

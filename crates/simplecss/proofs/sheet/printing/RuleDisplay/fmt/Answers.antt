@@ -10,15 +10,20 @@ use Rattle.simplecss.specs.RuleViews.{rule_of}
 use Rattle.simplecss.proofs.sheet.printing.RuleDisplay.fmt.Goals as goal
 
 -- the selector, and the declarations between braces
-written : (g : _) (c : goal.After-write_str-2 g) → IsFlush c.args.f.now → IsOk c.write_str-2.result → HasWrittenStyled g.W.Write.write_str_gives c.args.f.now (rule_text (rule_of c.args.self.now)) c.write_str-2.new.self
+written : (g : _) (c : goal.After-write_str-2 g) → IsFlush c.args.f.now → IsOk c.write_str-2.result
+    → HasWrittenStyled g.W.Write.write_str_gives c.args.f.now
+    (rule_text (rule_of c.args.self.now)) c.write_str-2.new.self
 written g c flush ok =
     let selector = c.in_ok-fmt.ensures.styled flush refl in
     let brace = c.in_ok-write_str.ensures.styled selector.flush refl in
-    let block = (rw c.as_slice.ensures.value at c.in_ok-write_declarations.ensures) brace.flush refl in
+    let block =
+    (rw c.as_slice.ensures.value at c.in_ok-write_declarations.ensures) brace.flush refl in
     let close = c.write_str-2.ensures.styled block.flush ok in
     let front : List ℕ = selector_text c.args.self.now.selector in
-    let inner : List ℕ = flat_map declaration_text (declarations_of c.args.self.now.declarations.items) in
-    let whole : ((front ++ space ∷ open_brace ∷ space ∷ []) ++ inner) ++ space ∷ close_brace ∷ [] ≡ rule_text (rule_of c.args.self.now) = search rules in
+    let inner : List ℕ =
+    flat_map declaration_text (declarations_of c.args.self.now.declarations.items) in
+    let whole : ((front ++ space ∷ open_brace ∷ space ∷ []) ++ inner) ++ space ∷ close_brace ∷ []
+    ≡ rule_text (rule_of c.args.self.now) = search rules in
     styled_four _ _ _ _ _ _ _ _ _ _ _ selector brace block close whole
 
 pub returns-clause-writes : goal.returns-clause-writes

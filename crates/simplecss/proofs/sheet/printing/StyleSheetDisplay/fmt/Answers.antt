@@ -15,19 +15,31 @@ pub loop-rule-preserved : goal.loop-rule-preserved
 loop-rule-preserved g c = λ plain.
     let so_far = c.loop-rule.invariant plain in
     let within : c.loop-rule.rule-index < length c.in-Some.rest.now = omega arith in
-    let newline : HasWrittenStyled g.W.Write.write_str_gives c.loop-rule.f (newline_byte ∷ []) c.write_str.new.self = c.write_str.ensures.styled so_far.flush (search rules) in
-    styled_step _ (λ r. newline_byte ∷ rule_text (rule_of r)) _ _ _ _ _ _ within c.rule-item.is so_far
-    (styled_two _ _ _ _ (newline_byte ∷ []) _ _ newline (c.fmt-in-loop-rule.ensures.styled newline.flush (search rules)) refl)
+    let newline : HasWrittenStyled g.W.Write.write_str_gives c.loop-rule.f (newline_byte ∷ [])
+    c.write_str.new.self = c.write_str.ensures.styled so_far.flush (search rules) in
+    styled_step _
+    (λ r. newline_byte ∷ rule_text (rule_of r)) _ _ _ _ _ _ within c.rule-item.is so_far
+    (styled_two _ _ _ _ (newline_byte ∷ []) _ _ newline
+    (c.fmt-in-loop-rule.ensures.styled newline.flush (search rules)) refl)
 
 -- the first rule, and then the lines of the others
-written : (g : _) (c : goal.After-loop-rule g) → IsFlush c.args.f.now → HasWrittenStyled g.W.Write.write_str_gives c.args.f.now (sheet_text (rules_in c.args.self.now)) c.loop-rule.f
+written : (g : _) (c : goal.After-loop-rule g) → IsFlush c.args.f.now
+    → HasWrittenStyled g.W.Write.write_str_gives c.args.f.now
+    (sheet_text (rules_in c.args.self.now)) c.loop-rule.f
 written g c flush =
     let split : c.deref.result.now ≡ c.in-Some.first.now ∷ c.in-Some.rest.now = search rules in
-    let first : HasWrittenStyled g.W.Write.write_str_gives c.args.f.now (rule_text (rule_of c.in-Some.first.now)) c.fmt.new.f = c.in_ok-fmt.ensures.styled flush refl in
-    let lines : HasWrittenStyled g.W.Write.write_str_gives c.fmt.new.f (flat_map (λ r. newline_byte ∷ rule_text (rule_of r)) c.in-Some.rest.now) c.loop-rule.f =
-    has_written_styled_of_eq _ _ _ _ _ (ap (flat_map (λ r. newline_byte ∷ rule_text (rule_of r))) (take_all c.loop-rule.rule-index c.in-Some.rest.now (omega arith))) (c.loop-rule.invariant first.flush) in
+    let first : HasWrittenStyled g.W.Write.write_str_gives c.args.f.now
+    (rule_text (rule_of c.in-Some.first.now)) c.fmt.new.f = c.in_ok-fmt.ensures.styled flush refl in
+    let lines : HasWrittenStyled g.W.Write.write_str_gives c.fmt.new.f
+    (flat_map (λ r. newline_byte ∷ rule_text (rule_of r)) c.in-Some.rest.now) c.loop-rule.f =
+    has_written_styled_of_eq _ _ _ _ _ (ap (flat_map (λ r. newline_byte ∷ rule_text (rule_of r)))
+    (take_all c.loop-rule.rule-index c.in-Some.rest.now (omega arith)))
+    (c.loop-rule.invariant first.flush) in
     has_written_styled_of_eq _ _ _ _ _
-    (sym (join_first newline_byte rule_text (rule_of c.in-Some.first.now) (map rule_of c.in-Some.rest.now) ∙ ap (λ l. rule_text (rule_of c.in-Some.first.now) ++ l) (flat_map-map (λ r. newline_byte ∷ rule_text r) rule_of c.in-Some.rest.now)) ∙ ap (λ l. sheet_text (map rule_of l)) (sym split ∙ c.deref.ensures.value))
+    (sym (join_first newline_byte rule_text (rule_of c.in-Some.first.now)
+    (map rule_of c.in-Some.rest.now) ∙ ap (λ l. rule_text (rule_of c.in-Some.first.now) ++ l)
+    (flat_map-map (λ r. newline_byte ∷ rule_text r) rule_of c.in-Some.rest.now))
+    ∙ ap (λ l. sheet_text (map rule_of l)) (sym split ∙ c.deref.ensures.value))
     (has_written_styled_append _ _ _ _ _ _ first lines)
 
 pub returns-clause-writes : goal.returns-clause-writes

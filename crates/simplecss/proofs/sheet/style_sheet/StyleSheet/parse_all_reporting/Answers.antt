@@ -21,11 +21,13 @@ pub returns-clause-selectors : goal.returns-clause-selectors
 returns-clause-selectors g c =
     let texts : List (List ℕ) = map (λ text. text.now) c.args.texts.now in
     let is : rules_of c.merge.new.rules.items ≡ sheet this_edition texts = search rules in
-    subst (SelectorsReadBack this_edition) (sym is) (sheet-reads_back this_edition texts (All-map IsUtf8 (λ text. text.now) c.args.texts.now (c.in_ok-all.ensures.utf8 refl)))
+    subst (SelectorsReadBack this_edition) (sym is) (sheet-reads_back this_edition texts
+    (All-map IsUtf8 (λ text. text.now) c.args.texts.now (c.in_ok-all.ensures.utf8 refl)))
 
 pub returns-clause-prints_back : goal.returns-clause-prints_back
 returns-clause-prints_back g c narrow =
     let texts : List (List ℕ) = map (λ text. text.now) c.args.texts.now in
     let is : rules_of c.merge.new.rules.items ≡ sheet this_edition texts = search rules in
     subst (PrintsBack this_edition) (sym is)
-    (sheet-prints_back this_edition texts (All-map IsNarrow (λ text. text.now) c.args.texts.now (λ k d less. (c.in_ok-all.ensures.utf8 refl k d less, narrow k d less))))
+    (sheet-prints_back this_edition texts (All-map IsNarrow (λ text. text.now) c.args.texts.now
+    (λ k d less. (c.in_ok-all.ensures.utf8 refl k d less, narrow k d less))))
