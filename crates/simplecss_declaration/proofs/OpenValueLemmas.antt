@@ -1,6 +1,6 @@
 -- What of a value is skipped, by where reading its terms stops.
 -- Serves `reader::find_open_value` and `blocks::{report_declared, consume_declarations}`.
-use Rattle.std.proofs.Common.{◌≡◌, ◌⊎◌, ◌==◌, ◌||◌, ℕ, Bool, true, false, not, List, [], ◌∷◌, ◌++◌, if◌then◌else◌, ap, inl, inr, length, refl, subst, sym, ◌∙◌, Some, None}
+use Rattle.std.proofs.Common.{◌≡◌, ◌⊎◌, ◌==◌, ◌||◌, ℕ, Bool, true, false, not, List, [], ◌∷◌, if◌then◌else◌, ap, inl, inr, length, refl, subst, sym, ◌∙◌, Some, None}
 use Rattle.simplecss_text.specs.Reading.{Reading, got, fails, each}
 use Rattle.simplecss_text.specs.Characters.{Edition}
 use Rattle.simplecss_text.specs.Terms.{term}

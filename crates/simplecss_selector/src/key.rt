@@ -7,8 +7,8 @@ ghost use Rattle.simplecss_selector.specs.internal.SelectorViews.{subselector_of
 
 use crate::selector::SubSelector;
 
-/// A condition that the last component of a selector includes. An element that does not satisfy it
-/// cannot match the selector.
+/// A condition that the last component of a selector includes. The selector does not match an
+/// element that does not satisfy it.
 #[derive(Clone, Copy, Debug, PartialEq)]
 pub enum Key<'a> {
     /// `#text` or `[id=text]`: the attribute `id` equals the text.

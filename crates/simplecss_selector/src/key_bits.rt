@@ -108,8 +108,8 @@ pub fn all_key_bits() -> u64
     u64::MAX
 }
 
-/// Bits that cover the keys of an element's ancestors cover those that a selector requires of them
-/// if it matches the element.
+/// If a selector matches an element, bits that cover the keys of the element's ancestors cover those
+/// that the selector requires of them.
 pub fn ancestors_law<E: Element>()
     ensures { (components : List Component) (n : E.Node) (bits : ℕ)
         → CoversAncestors E.tree n bits → HasPlacement E.tree components n

@@ -1,17 +1,19 @@
-//! Elements that report the name, id and class by which an index finds selectors.
+//! Elements that report by what an index finds selectors: name, id, class and attributes, and bits of the
+//! ancestors.
 use crate::Element;
 
-/// An element that reports its name, its id and its class, so that an index finds the selectors
-/// that can match it without testing it for each name, id and class of the selectors.
+/// An element that reports its name, its id, its class and which attributes it has, and bits of its
+/// ancestors, so that an index finds the selectors that can match it without testing it for each name,
+/// id and class of the selectors.
 ///
-/// The promise goes one way: if the element matches a name, an id or a class, it reports that name,
-/// that id, or a class value with that word. It may report more than it matches: an index then
+/// The promise goes one way: if the element matches a name, an id, a class or an attribute, it reports
+/// that name, that id, a class value with that word, or that it has the attribute, and the bits cover
+/// all of its ancestors' keys. It may report more than it matches: an index then
 /// tests more selectors, and finds the same ones. An element whose names match without case cannot
 /// promise this, since it matches names that it does not report. It implements only `Element`, and
 /// each selector is tested against it.
 ///
-/// To implement it, write `reported`, what the element of a value reports, and prove `reported_law`
-/// in your
+/// To implement it, write `reported`, what an element reports, and prove `reported_law` in your
 /// `specs/`: for each kind of key, every key that the node has is reported.
 /// `Rattle.simplecss.specs.Keys` has `Reported`, `ReportsKeys` and the keys. For entries with a
 /// name, an id and a class:

@@ -157,8 +157,8 @@ fn place_stretch<E: Element>(
     climb(selector, stretch, lowest, tests)
 }
 
-/// Continues from the element, which matches the last component, through the stretches. Out of
-/// line, since most elements do not match the last component.
+/// Continues from the element, which matches the last component, through the stretches. Not
+/// inlined, since most elements do not match the last component.
 #[inline(never)]
 pub(crate) fn continues<E: Element>(
     selector: &Selector<'_>,

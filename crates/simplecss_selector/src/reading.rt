@@ -125,7 +125,7 @@ fn report_refusal<'a, P: Report<'a>>(
 }
 
 /// Adds the remaining tokens to the selector under construction, up to the first error or unknown
-/// pseudo-class, and returns whether there was none. One is reported.
+/// pseudo-class, and returns whether all were added. What stopped it is reported.
 #[inline(always)]
 fn fill_all<'a, P: Report<'a>>(
     report: &mut P,

@@ -45,8 +45,8 @@ pub(crate) enum SubSelector<'a> {
     PseudoClass(PseudoClass<'a>),
 }
 
-/// A component in the flat lists of its selector: its subselectors end at `end` in the one list of
-/// all, and begin at the end of those of the one before.
+/// A component in the flat lists of its selector. Its subselectors are those of the one list of all
+/// from the end of the component before to `end`.
 #[derive(Clone, Copy, Debug, PartialEq)]
 pub(crate) struct FlatComponent<'a> {
     /// The relation to the component before it.
@@ -168,7 +168,7 @@ impl<'a> FlatComponent<'a> {
     }
 }
 
-/// Returns the subselectors from one index to before another.
+/// Returns the subselectors from the index `start` to before `end`.
 #[inline(always)]
 fn between<'s, 'a>(all: &'s [SubSelector<'a>], start: usize, end: usize) -> &'s [SubSelector<'a>]
     requires rising { start ≤ end }
@@ -257,7 +257,7 @@ impl<'a> Selector<'a> {
     ///
     /// It ends at the end of the text, before `,` or `{`, or before a `/` that opens no comment and
     /// follows a simple piece with no space byte between. It is refused at the first error of its
-    /// tokens, and at a pseudo-class whose name is not known; the logger gets a warning. Fails only
+    /// tokens, and at a pseudo-class whose name is not known; a warning is logged. Fails only
     /// if an allocation fails.
     pub fn parse<R: Log>(
         rt: &R,

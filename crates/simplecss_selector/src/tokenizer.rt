@@ -126,7 +126,7 @@ fn pseudo_class<'a>(stream: &mut Stream<'a>) -> Result<(&'a str, bool), Error>
     Ok((name, false))
 }
 
-/// Consumes everything up to the first such byte, or up to the end of the text, and returns it.
+/// Consumes everything up to the first `byte`, or up to the end of the text, and returns it.
 #[inline(always)]
 fn text_before<'a>(stream: &mut Stream<'a>, byte: u8) -> &'a str
     requires { byte < 128 }

@@ -20,8 +20,8 @@ use simplecss_declaration::Declaration;
 /// The order of the rules in a style sheet: each is kept and is at its rank, which is the
 /// number of rules of smaller specificity and of earlier ones of equal specificity. So no rule
 /// is before one of smaller specificity, and rules of equal specificity stay in their order;
-/// each list of the same rules with these two properties is this one. To order a second time
-/// changes nothing.
+/// each list of the same rules with these two properties is this one. Ordering twice is ordering
+/// once.
 pub fn order_laws()
     ensures keeps { (rules : List StyleRule) → IsPermutation rules (ordered rules) }
     ensures ranks { (rules : List StyleRule) (i : ℕ) (r : StyleRule) → i < length rules
@@ -53,9 +53,8 @@ pub fn sheet_law()
         → SelectorsReadBack this_edition (sheet this_edition texts) }
 {}
 
-/// A text has the rules of its front up to an offset and then those of what follows, wherever one
-/// of its statements ends. At other offsets that can be false: a block may be open
-/// there.
+/// A text has the rules of a prefix and then those of its rest, wherever one of its statements ends.
+/// At other offsets that can be false: a block may be open there.
 pub fn cutting_law()
     ensures { (text : List ℕ) (offset : ℕ) → IsUtf8 text → StatementEndsAt this_edition text offset
         → KeepsAcross this_edition text offset }
@@ -66,9 +65,9 @@ pub fn edition_law()
     ensures { (text : List ℕ) → IsCommon text → KeepsInBoth text }
 {}
 
-/// Two rules are equal exactly if their selectors and their declarations are, the rules of two style
-/// sheets, if each is in its turn, and two declarations, if their names, their values and whether
-/// they are important are.
+/// Two rules are equal exactly if their selectors and declarations are. The rules of two style sheets
+/// are compared one by one. Two declarations are equal exactly if their names, values and importance
+/// are.
 pub fn equality_laws()
     ensures rules { (a b : Rule) → IsTrue (⟦<Rule<'static> as PartialEq>⟧.eq a b)
         ↔ (rule_of a ≡ rule_of b) }

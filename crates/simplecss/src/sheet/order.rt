@@ -9,7 +9,7 @@ ghost use Rattle.simplecss.specs.internal.RuleOrders.{weight_at, IsOrder, Orders
 use crate::sheet::Rule;
 use std::alloc::{AllocError, Global};
 
-/// The numbers from 0 on, `len` of them.
+/// Returns the numbers from 0 to before `len`.
 fn numbers(alloc: Global, len: usize) -> Result<Vec<usize>, AllocError>
     ensures { IfOk result (λ list. list.items ≡ range_with_len 0 len) }
 {
@@ -20,7 +20,7 @@ fn numbers(alloc: Global, len: usize) -> Result<Vec<usize>, AllocError>
     Ok(list)
 }
 
-/// The specificity of the rule at the index. Past the end it is that of no rule.
+/// Returns the specificity of the rule at the index, and zeros past the end.
 fn weight_at(rules: &[Rule], index: usize) -> [u8; 3]
     ensures { result ≡ weight_at (rules_of rules.now) index }
 {
@@ -30,8 +30,7 @@ fn weight_at(rules: &[Rule], index: usize) -> [u8; 3]
     }
 }
 
-/// The indices of the rules in the order of specificity, and of those of equal specificity in the
-/// order of the list.
+/// Returns the indices of the rules, stably sorted by specificity.
 fn indices_in_order(alloc: Global, rules: &[Rule]) -> Result<Vec<usize>, AllocError>
     ensures { IfOk result (λ indices. OrdersRules (rules_of rules.now) indices.items) }
 {
@@ -44,8 +43,8 @@ fn indices_in_order(alloc: Global, rules: &[Rule]) -> Result<Vec<usize>, AllocEr
     Ok(indices)
 }
 
-/// Moves the rules to the indices that the order gives them, by exchanges only. `who` says which of
-/// the rules is at each index, and `at` where each of them is.
+/// Moves the rules to where `order` says, by exchanges only. `who` has the rule at each index, and
+/// `at` the index of each rule.
 fn arrange(rules: &mut Vec<Rule>, order: &[usize], mut who: Vec<usize>, mut at: Vec<usize>)
     requires order { IsOrder (length rules.old.items) order.now }
     requires who { who.items ≡ range_with_len 0 (length rules.old.items) }
@@ -62,9 +61,7 @@ fn arrange(rules: &mut Vec<Rule>, order: &[usize], mut who: Vec<usize>, mut at: 
     }
 }
 
-/// Puts the rules in the order of specificity, and those of equal specificity in the order in which
-/// they are. They are moved in place, so that there is no second list of them. An `Err` changes
-/// nothing.
+/// Sorts the rules stably by specificity, in place. After an error `rules` is unchanged.
 fn sort_rules(rules: &mut Vec<Rule>) -> Result<(), AllocError>
     ensures ok { OnOk result (rules_of rules.new.items ≡ ordered (rules_of rules.old.items)) }
     ensures err { OnErr result (rules.new.items ≡ rules.old.items) }
@@ -89,7 +86,8 @@ pub(crate) fn join<'a>(rules: &mut Vec<Rule<'a>>, mut more: Vec<Rule<'a>>) -> Re
     rules.append(&mut more)
 }
 
-/// Adds rules, orders all that have a declaration, and drops the others. An `Err` changes nothing.
+/// Adds rules, orders all that have a declaration, and drops the others. After an error
+/// `rules` is unchanged.
 pub(crate) fn merge<'a>(rules: &mut Vec<Rule<'a>>, more: Vec<Rule<'a>>) -> Result<(), AllocError>
     ensures ok { OnOk result (rules_of rules.new.items
         ≡ ordered (filter has_declaration (rules_of rules.old.items ++ rules_of more.entry.items))) }

@@ -17,7 +17,7 @@ pub struct Rule<'a> {
 }
 
 impl<'a> Rule<'a> {
-    /// An equal rule, in memory of the same allocator. The error is that a growth was refused.
+    /// Returns an equal rule, in memory of the same allocator. Fails only if an allocation fails.
     pub fn clone(&self) -> Result<Self, AllocError>
         ensures { IfOk result (λ copy. rule_of copy ≡ rule_of self.now) }
     {

@@ -32,7 +32,7 @@ pub struct Statement<'a> {
 /// A style sheet of the text has the rules of all statements that have a declaration, in the order
 /// of their specificity.
 ///
-/// A `loop` would need a measure; a `for` over the bytes ends by itself:
+/// A `loop` needs a measure, and a `for` over the bytes needs none:
 ///
 /// <!-- from crates/example_library/src/statements.rt -->
 /// ```rust
@@ -63,7 +63,7 @@ impl<'a> Model for StatementReader<'a> {
 }
 
 impl<'a> StatementReader<'a> {
-    /// A reader at the start of the text.
+    /// Returns a reader at the start of the text.
     pub fn new(text: &'a str) -> StatementReader<'a>
         ensures { result ≡ (text.now, 0) }
     {
@@ -72,9 +72,9 @@ impl<'a> StatementReader<'a> {
         }
     }
 
-    /// Returns the next statement, or `None`, from then on, if there is none: at the end of the
+    /// Returns the next statement, or `None` if there is none, and from then on: at the end of the
     /// text, and at a comment that is not closed. Fails only if an allocation fails, and then the
-    /// reader stays where it is. Warnings of what is skipped go to `rt`.
+    /// reader is unchanged. Warnings of what is skipped go to `rt`.
     pub fn read_next<R: Log>(
         &mut self,
         rt: &R,

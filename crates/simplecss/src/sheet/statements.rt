@@ -172,7 +172,7 @@ fn left_after(most: usize, selectors: usize, declarations: usize) -> Option<usiz
     most.checked_sub(selectors.checked_mul(declarations)?)
 }
 
-/// Reads statements, and keeps their rules. The lists that a rule set is read into are used again
+/// Reads statements, and keeps their rules. The lists that a rule set is read into are reused
 /// for each.
 #[derive(Drop)]
 pub struct RuleReader<'a> {

@@ -141,8 +141,8 @@ impl<'a> StyleSheet<'a> {
             ≡ ordered (filter has_declaration (rules_in self.old) ++ kept this_edition text.now)) }
         ensures nothing { is_open_comment text.now ≡ true → rules_in self.new ≡ rules_in self.old }
         ensures err { OnErr result (rules_in self.new ≡ rules_in self.old) }
-        // The sheet of some texts is then the sheet of these and of this one, and each of its rules
-        // has a declaration.
+        // If the old rules are the sheet of some texts, the new ones are the sheet of these and this
+        // one. Each of them has a declaration.
         ensures sheet { (texts : List (List ℕ)) → rules_in self.old ≡ sheet this_edition texts
             → OnOk result (rules_in self.new ≡ sheet this_edition (texts ++ text.now ∷ [])) }
         ensures filled { (texts : List (List ℕ)) → rules_in self.old ≡ sheet this_edition texts
@@ -173,8 +173,8 @@ impl<'a> StyleSheet<'a> {
             ≡ ordered (filter has_declaration (rules_in self.old) ++ kept this_edition text.now)) }
         ensures nothing { is_open_comment text.now ≡ true → rules_in self.new ≡ rules_in self.old }
         ensures err { OnErr result (rules_in self.new ≡ rules_in self.old) }
-        // The sheet of some texts is then the sheet of these and of this one, and each of its rules
-        // has a declaration.
+        // If the old rules are the sheet of some texts, the new ones are the sheet of these and this
+        // one. Each of them has a declaration.
         ensures sheet { (texts : List (List ℕ)) → rules_in self.old ≡ sheet this_edition texts
             → OnOk result (rules_in self.new ≡ sheet this_edition (texts ++ text.now ∷ [])) }
         ensures filled { (texts : List (List ℕ)) → rules_in self.old ≡ sheet this_edition texts
@@ -201,8 +201,8 @@ impl<'a> StyleSheet<'a> {
     /// Reads a text into the style sheet as [`StyleSheet::parse_more`] does, unless its rules would
     /// hold more than `most` declarations: then the sheet is unchanged. A rule set counts its
     /// declarations once for each of its selectors, as often as they are stored, and is refused
-    /// before they are. For texts from untrusted sources, whose rules may else take memory as the
-    /// square of their length.
+    /// before they are. For texts from untrusted sources, whose rules may otherwise take memory
+    /// quadratic in their length.
     pub fn parse_within<R: Log>(
         &mut self,
         rt: &R,
@@ -210,8 +210,8 @@ impl<'a> StyleSheet<'a> {
         text: &'a str,
         most: usize,
     ) -> Result<(), SheetError>
-        // The refusal comes exactly if the text's rules would hold more declarations, unless memory is
-        // refused first.
+        // The text is refused exactly if its rules would hold more declarations, unless an allocation
+        // fails first.
         ensures limit { (result ≢ Err SheetError.Memory)
             → (result ≡ Err SheetError.TooManyDeclarations)
             ↔ (most < kept_declarations this_edition text.now) }
@@ -221,8 +221,8 @@ impl<'a> StyleSheet<'a> {
             ≡ ordered (filter has_declaration (rules_in self.old) ++ kept this_edition text.now)) }
         ensures nothing { is_open_comment text.now ≡ true → rules_in self.new ≡ rules_in self.old }
         ensures err { OnErr result (rules_in self.new ≡ rules_in self.old) }
-        // The sheet of some texts is then the sheet of these and of this one, and each of its rules
-        // has a declaration.
+        // If the old rules are the sheet of some texts, the new ones are the sheet of these and this
+        // one. Each of them has a declaration.
         ensures sheet { (texts : List (List ℕ)) → rules_in self.old ≡ sheet this_edition texts
             → OnOk result (rules_in self.new ≡ sheet this_edition (texts ++ text.now ∷ [])) }
         ensures filled { (texts : List (List ℕ)) → rules_in self.old ≡ sheet this_edition texts
@@ -248,8 +248,8 @@ impl<'a> StyleSheet<'a> {
         text: &'a str,
         most: usize,
     ) -> Result<(), SheetError>
-        // The refusal comes exactly if the text's rules would hold more declarations, unless memory is
-        // refused first.
+        // The text is refused exactly if its rules would hold more declarations, unless an allocation
+        // fails first.
         ensures limit { (result ≢ Err SheetError.Memory)
             → (result ≡ Err SheetError.TooManyDeclarations)
             ↔ (most < kept_declarations this_edition text.now) }
@@ -259,8 +259,8 @@ impl<'a> StyleSheet<'a> {
             ≡ ordered (filter has_declaration (rules_in self.old) ++ kept this_edition text.now)) }
         ensures nothing { is_open_comment text.now ≡ true → rules_in self.new ≡ rules_in self.old }
         ensures err { OnErr result (rules_in self.new ≡ rules_in self.old) }
-        // The sheet of some texts is then the sheet of these and of this one, and each of its rules
-        // has a declaration.
+        // If the old rules are the sheet of some texts, the new ones are the sheet of these and this
+        // one. Each of them has a declaration.
         ensures sheet { (texts : List (List ℕ)) → rules_in self.old ≡ sheet this_edition texts
             → OnOk result (rules_in self.new ≡ sheet this_edition (texts ++ text.now ∷ [])) }
         ensures filled { (texts : List (List ℕ)) → rules_in self.old ≡ sheet this_edition texts
@@ -286,8 +286,8 @@ impl<'a> StyleSheet<'a> {
         }
     }
 
-    /// A style sheet of equal rules, in memory of the same allocator. The error is that a growth
-    /// was refused.
+    /// Returns a style sheet of equal rules, in memory of the same allocator. Fails only if an
+    /// allocation fails.
     pub fn clone(&self) -> Result<Self, AllocError>
         ensures { IfOk result (λ copy. rules_in copy ≡ rules_in self.now) }
     {
@@ -299,7 +299,7 @@ impl<'a> StyleSheet<'a> {
     }
 }
 
-/// All that reading a style sheet's text skips, in order. Fails only if an allocation fails.
+/// Returns all that reading a style sheet's text skips, in order. Fails only if an allocation fails.
 pub fn find_skipped<'a>(alloc: Global, text: &'a str) -> Result<Vec<Skipped<'a>>, AllocError>
     ensures { IfOk result (λ skips. map skip_of skips.items ≡ skipped this_edition text.now) }
 {

@@ -19,7 +19,7 @@ use Rattle.simplecss_text.specs.Blocks.{from_block_end, ends_list, declaration_i
 use Rattle.simplecss_text.specs.Statements.{StyleRule, part, part_and_comma, parts, past_semicolon_or_block, at_rule_rest_by_name, at_rule_rest, next_statement}
 use Rattle.simplecss_text.specs.Skipped.{Refusal, faulty, unknown_class, Why, Skip, unless_unknown, class_name, refusal_in, refusal, from_brace, past_refused, refused_part, selector_skips, why_after, skips_after, skips_after_read, part_skips, skips_with, skips_of_each, parts_skips, brace_skips, list_end_skips, if_broken, list_skips, declaration_skips, block_skips, next_block_skips, comma_skips, rule_set_skips, at_rule_skip, statement_skips, end_skips, skipped}
 use Rattle.simplecss_text.specs.SkipOffsets.{IsRefusalWithin, IsWhyWithin, IsWithin}
-use Rattle.simplecss_text.proofs.reading.EndsLemmas.{ends-same, ends-nil, ends-ends, ends-past_one, ends-past_byte, ends-past, EndsFound, each-ends, stands-ends, no_texts, itself}
+use Rattle.simplecss_text.proofs.reading.EndsLemmas.{ends-same, ends-nil, ends-ends, ends-past_one, ends-past_byte, ends-past, EndsFound, stands-ends, no_texts, itself}
 use Rattle.simplecss_text.proofs.reading.StandLemmas.{ends-past_blank, name-stands}
 use Rattle.simplecss_text.proofs.reading.DeclarationsLawful.{declaration-stands, declaration_in_block-ends, ends-from_block_end}
 use Rattle.simplecss_text.proofs.reading.OpenValues.{declaration_skips-at}

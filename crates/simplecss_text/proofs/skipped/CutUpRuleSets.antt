@@ -20,7 +20,7 @@ use Rattle.simplecss_text.proofs.reading.GotLemmas.{starts-cons}
 use Rattle.simplecss_text.proofs.reading.ReadNames.{name-none_begins}
 use Rattle.simplecss_text.proofs.reading.DeclarationLemmas.{declaration_in_block-takes}
 use Rattle.simplecss_text.proofs.reading.DeclarationsLawful.{declaration-stands, ends-from_block_end}
-use Rattle.simplecss_text.proofs.reading.EachLemmas.{each-none, each-some, each-stops, not_empty, option_cases, took}
+use Rattle.simplecss_text.proofs.reading.EachLemmas.{each-none, each-some, not_empty, option_cases, took}
 use Rattle.simplecss_text.proofs.reading.EndsLemmas.{ends-ends, no_texts, stands-ends}
 use Rattle.simplecss_text.proofs.reading.LeastLemmas.{least-is}
 use Rattle.simplecss_text.proofs.reading.LocalLemmas.{quiet-brace}

@@ -1,7 +1,6 @@
 use Rattle.std.proofs.Common.{◌∷◌, [], Some, None, sym, subst, ◌∙◌, ap, refl, List, ℕ}
 use Rattle.std.proofs.lemmas.List.{map-append}
 use Rattle.simplecss_text.specs.Blocks.{declaration_in_block}
-use Rattle.simplecss_text.specs.Skipped.{add_each, list_skips}
 use Rattle.simplecss_text.specs.ThisEdition.{this_edition}
 use Rattle.simplecss_text.specs.Cursor.{rest_of}
 use Rattle.simplecss_text.proofs.reading.EachLemmas.{done_start, done_step, done_end}

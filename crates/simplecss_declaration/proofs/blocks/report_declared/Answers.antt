@@ -1,4 +1,4 @@
-use Rattle.std.proofs.Common.{ap, sym, ◌∙◌, false, true}
+use Rattle.std.proofs.Common.{ap, sym, ◌∙◌, false}
 use Rattle.std.specs.Bool.{IsTrue}
 use Rattle.simplecss_text.specs.Skipped.{add_each}
 use Rattle.simplecss_text.specs.ThisEdition.{this_edition}

@@ -1,6 +1,5 @@
 use Rattle.std.proofs.Common.{◌≡◌, sym, ◌∙◌, refl, subst, List, ℕ, false}
 use Rattle.std.specs.Bool.{IsTrue}
-use Rattle.simplecss_text.specs.Reading.{got}
 use Rattle.simplecss_text.specs.Declarations.{stated_name}
 use Rattle.simplecss_text.specs.ThisEdition.{this_edition}
 use Rattle.simplecss_text.specs.Cursor.{rest_of}
