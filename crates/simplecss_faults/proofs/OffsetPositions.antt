@@ -17,7 +17,7 @@ use Rattle.simplecss_text.specs.ThisEdition.{this_edition}
 use Rattle.simplecss_text.proofs.cutting.SkipEnds.{AllWithin, skipped-within, within-at}
 use Rattle.simplecss_faults.specs.FaultViews.{FaultView, fault_in}
 use Rattle.simplecss_text.proofs.bytes.PositionSums.{position-add}
-use Rattle.simplecss_text.proofs.cutting.CuttingLaws.{drop_place}
+use Rattle.simplecss_text.proofs.cutting.CuttingLaws.{drop_rest_offset}
 use Rattle.simplecss_text.proofs.reading.EndsLemmas.{ends-drop, length-ends}
 
 -- the position of the start
@@ -38,8 +38,9 @@ ends-both text a b e f h =
     let n = length a - length b in
     let in_a : length a ≤ length text = length-ends text a e in
     let at : (length text - length a) + n ≡ length text - length b = omega (arith, h, in_a) in
-    let same : drop n a ≡ b = ap (drop n) (sym (drop_place text a e))
-    ∙ drop-drop n (length text - length a) text ∙ ap (λ k. drop k text) at ∙ drop_place text b f in
+    let same : drop n a ≡ b = ap (drop n) (sym (drop_rest_offset text a e))
+    ∙ drop-drop n (length text - length a) text ∙ ap (λ k. drop k text) at
+    ∙ drop_rest_offset text b f in
     subst (Ends a) same (ends-drop n a)
 
 -- a position that is counted on from an earlier one
@@ -62,7 +63,7 @@ boundary_at_start text i = IsCharBoundary-from_drop text 0 (omega arith) i
 pub boundary_at_rest : (text rest : List ℕ) → Ends text rest → IsUtf8 rest
     → IsCharBoundary text (rest_offset text rest)
 boundary_at_rest text rest e i = IsCharBoundary-from_drop text (rest_offset text rest) (omega arith)
-    (subst IsUtf8 (sym (drop_place text rest e)) i)
+    (subst IsUtf8 (sym (drop_rest_offset text rest e)) i)
 
 -- where the shorter of two ends of a text begins in the longer one
 pub boundary-between : (text a b : List ℕ) → Ends text a → Ends text b → IsUtf8 a → IsUtf8 b

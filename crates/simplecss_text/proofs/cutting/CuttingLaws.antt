@@ -93,8 +93,9 @@ kept-append (x ∷ a) b =
     (sym (filter-append x (flat_map (λ rules. rules) a)))
 
 -- a rest and the offset where it begins
-pub drop_place : (text rest : List ℕ) → Ends text rest → drop (rest_offset text rest) text ≡ rest
-drop_place text rest e =
+pub drop_rest_offset : (text rest : List ℕ) → Ends text rest
+    → drop (rest_offset text rest) text ≡ rest
+drop_rest_offset text rest e =
     append_cancel_left (before text rest) (drop (rest_offset text rest) text) rest
     (take-append-drop (rest_offset text rest) text ∙ sym e)
 
@@ -176,7 +177,7 @@ module _ (edition : Edition) where
       let there : KeepsAcross edition text (rest_offset text rest) =
       kept-cut rest text reached i (before text rest) (sym ends)
       ∙ ap (λ (t : List ℕ). kept edition (before text rest) ++ kept edition t)
-      (sym (drop_place text rest ends)) in
+      (sym (drop_rest_offset text rest ends)) in
       subst (KeepsAcross edition text) here there
 
   -- ---- sheets

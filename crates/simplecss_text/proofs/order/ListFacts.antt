@@ -120,7 +120,7 @@ found p g y (e ∷ es) (suc i) d h hit all =
     found_at p g y e es (p e) refl (all 0 (omega arith))
     (found p g y es i d (omega arith) hit (λ j w. all (suc j) (omega arith)))
 
--- a list that is gathered place by place
+-- a list that is gathered item by item
 pub gathered : {X : Type 0} (f : ℕ → Option X) (a : ℕ) (ys : List X)
     → ((k : ℕ) (d : X) → k < length ys → f (a + k) ≡ Some (get_or ys k d))
     → filter_map f (range_with_len a (length ys)) ≡ ys

@@ -45,9 +45,9 @@ pub record Arranges {X : Type 0} (lt : X → X → Bool) (xs ys : List X) : Type
 abbrev index : {X : Type 0} → (X → X → Bool) → List X → ℕ → X → ℕ
 index lt xs i x = passing (λ y. lt y x) xs + passing (ties lt x) (take i xs)
 
-rank_is_place : {X : Type 0} (lt : X → X → Bool) (xs : List X) (i : ℕ) (x : X)
+rank_is_index : {X : Type 0} (lt : X → X → Bool) (xs : List X) (i : ℕ) (x : X)
     → rank_by lt xs i x ≡ index lt xs i x
-rank_is_place lt xs i x =
+rank_is_index lt xs i x =
     ap (λ n. n + count_by (ties lt x) (take i xs)) (sym (length-filter (λ y. lt y x) xs))
     ∙ ap (λ n. passing (λ y. lt y x) xs + n) (sym (length-filter (ties lt x) (take i xs)))
 
@@ -63,7 +63,7 @@ module _ {X : Type 0} (lt : X → X → Bool) (o : IsStrictWeakOrder lt) where
     at : ℕ
     within : at < length ys
     same : get_or ys at d ≡ get_or xs i d
-    placed : index lt ys at (get_or ys at d) ≡ index lt xs i (get_or xs i d)
+    indexed : index lt ys at (get_or ys at d) ≡ index lt xs i (get_or xs i d)
 
   carried : (xs ys : List X) → ((x : X) → filter (ties lt x) ys ≡ filter (ties lt x) xs)
       → ((x : X) → passing (λ y. lt y x) ys ≡ passing (λ y. lt y x) xs) → (i : ℕ) (d : X)
@@ -82,7 +82,7 @@ module _ {X : Type 0} (lt : X → X → Bool) (o : IsStrictWeakOrder lt) where
         at = t.at;
         within = t.within;
         same = same;
-        placed =
+        indexed =
             ap (index lt ys t.at) same ∙ ap (λ n. n + passing (ties lt x) (take t.at ys)) (less x)
             ∙ ap (λ n. passing (λ y. lt y x) xs + n) t.before;
       }
@@ -131,7 +131,7 @@ module _ {X : Type 0} (lt : X → X → Bool) (o : IsStrictWeakOrder lt) where
       (subst (λ n. back.at < n) (sym (length-enumerate_from 0 xs)) back.within)
       (ap test (entry back.at back.within)
       ∙ eq-eqb _ _ (ap (λ i. rank_by lt xs i (get_or xs back.at d)) (omega arith)
-      ∙ rank_is_place lt xs back.at (get_or xs back.at d) ∙ back.placed
+      ∙ rank_is_index lt xs back.at (get_or xs back.at d) ∙ back.indexed
       ∙ self lt o ys k d a.rises h))
       (λ j w hit.
       let short : j < length xs = subst (λ n. j < n) (length-enumerate_from 0 xs) w in
@@ -140,8 +140,8 @@ module _ {X : Type 0} (lt : X → X → Bool) (o : IsStrictWeakOrder lt) where
       ap (λ i. rank_by lt xs i (get_or xs j d)) (omega arith)
       ∙ (unsigned_Decides _ _).0 (sym (ap test (entry j short)) ∙ hit) in
       let here : forth.at ≡ k =
-      sym (self lt o ys forth.at d a.rises forth.within) ∙ forth.placed
-      ∙ sym (rank_is_place lt xs j (get_or xs j d)) ∙ ranked in
+      sym (self lt o ys forth.at d a.rises forth.within) ∙ forth.indexed
+      ∙ sym (rank_is_index lt xs j (get_or xs j d)) ∙ ranked in
       ap (λ (p : ℕ × X). p.1) (entry j short) ∙ sym forth.same ∙ ap (λ i. get_or ys i d) here)
 
   -- a stable sort yields each element its rank
@@ -319,7 +319,7 @@ module _ {X : Type 0} (lt : X → X → Bool) (o : IsStrictWeakOrder lt) where
       let a = ordered_arranges xs in
       let c = carried lt o xs (ordered_by lt xs) a.stable (λ y. a.counts (λ z. lt z y)) i x h in
       let at : rank_by lt xs i x ≡ c.at =
-      rank_is_place lt xs i x ∙ ap (index lt xs i) (sym e) ∙ sym c.placed
+      rank_is_index lt xs i x ∙ ap (index lt xs i) (sym e) ∙ sym c.indexed
       ∙ self lt o (ordered_by lt xs) c.at x a.rises c.within in
       ap (λ k. get_or (ordered_by lt xs) k x) at ∙ c.same ∙ e
 

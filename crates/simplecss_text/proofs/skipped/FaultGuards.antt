@@ -27,13 +27,13 @@ use Rattle.simplecss_text.proofs.reading.PiecesLawful.{string_or_name-lawful, at
 
 -- the same fault, at the same offset
 pub data FaultsAlike (t u : List ℕ) : Fault → Fault → Type 0 where
-  no_place : (f : Fault) → ((text other : List ℕ) → error_of text f ≡ error_of other f)
+  no_position : (f : Fault) → ((text other : List ℕ) → error_of text f ≡ error_of other f)
       → FaultsAlike t u f f
-  byte_place : (expected : ℕ) (r s : List ℕ) → Diverge (close_brace ∷ t) (close_brace ∷ u) r s
+  byte_position : (expected : ℕ) (r s : List ℕ) → Diverge (close_brace ∷ t) (close_brace ∷ u) r s
       → FaultsAlike t u (wrong_byte expected r) (wrong_byte expected s)
-  name_place : (r s : List ℕ) → Diverge (close_brace ∷ t) (close_brace ∷ u) r s
+  name_position : (r s : List ℕ) → Diverge (close_brace ∷ t) (close_brace ∷ u) r s
       → FaultsAlike t u (no_name r) (no_name s)
-  comment_place : (r s : List ℕ) → Diverge (close_brace ∷ t) (close_brace ∷ u) r s
+  comment_position : (r s : List ℕ) → Diverge (close_brace ∷ t) (close_brace ∷ u) r s
       → FaultsAlike t u (no_comment r) (no_comment s)
 
 -- where both fail, the faults are alike
@@ -104,7 +104,7 @@ heard-byte c low =
         (if k then got (tt {0}) r else fails (wrong_byte c (b ∷ r)) (b ∷ r))
         (if k then got (tt {0}) s else fails (wrong_byte c (b ∷ s)) (b ∷ s))
     one t u b r s h true = inr tt
-    one t u b r s h false = inr (byte_place c (b ∷ r) (b ∷ s) h)
+    one t u b r s h false = inr (byte_position c (b ∷ r) (b ∷ s) h)
 
     by : (t u r s : List ℕ) → Diverge (close_brace ∷ t) (close_brace ∷ u) r s
         → FaultGuard t u (byte c r) (byte c s)
@@ -135,7 +135,7 @@ heard-name = record {
     by edition u v r s h (got x i) b e k = inr tt
     by edition u v r s h (fails f i) (got y j) e k = inr tt
     by edition u v r s h (fails f i) (fails g j) e k =
-        rw (name-fault edition r i f e, name-fault edition s j g k) (inr (name_place r s h))
+        rw (name-fault edition r i f e, name-fault edition s j g k) (inr (name_position r s h))
 
 string-reported : (t u r s : List ℕ) (o p : Option (List ℕ))
     → FaultGuard t u (string_up_to r o) (string_up_to s p)
@@ -199,7 +199,7 @@ heard-attribute_operator = record {
     by : (edition : Edition) (u v r s : List ℕ) → IsUtf8 r
         → Diverge (close_brace ∷ (u ++ v)) (close_brace ∷ u) r s
         → FaultGuard (u ++ v) u (attribute_operator edition r) (attribute_operator edition s)
-    by edition u v r s w at = inr (no_place no_attribute_form (λ text other. refl))
+    by edition u v r s w at = inr (no_position no_attribute_form (λ text other. refl))
     by edition u v r s w (on b r1 s1 h) =
         choose (u ++ v) u (b == close_bracket) _ _ _ _ (λ e. inr tt) (λ e1.
         choose (u ++ v) u (b == equals_sign) _ _ _ _
@@ -210,7 +210,7 @@ heard-attribute_operator = record {
         choose (u ++ v) u (b == vertical_bar) _ _ _ _
         (λ e. (heard-equated begins_with).reports edition u v r1 s1
         (following b r1 (omega (arith, eqb-true b vertical_bar e)) w) h)
-        (λ e4. inr (no_place no_attribute_form (λ text other. refl))))))
+        (λ e4. inr (no_position no_attribute_form (λ text other. refl))))))
 
 heard-attribute_after : Heard attribute_after
 unfolding attribute_after
@@ -234,7 +234,7 @@ heard-all_before c low =
 heard-no_language : Heard {A = Token} (λ edition text. fails no_language text)
 heard-no_language = record {
   lawful = owes-fails no_language no_language;
-  reports = λ edition u v r s w h. inr (no_place no_language (λ text other. refl));
+  reports = λ edition u v r s w h. inr (no_position no_language (λ text other. refl));
 }
 
 heard-lang_of : (value : List ℕ) → Heard (λ edition. lang_of value)
@@ -289,8 +289,8 @@ pub solid_as-reported : (edition : Edition) (u v r s : List ℕ) → IsUtf8 r
     → Diverge (close_brace ∷ (u ++ v)) (close_brace ∷ u) r s → (kind : NextKind)
     → next_kind r ≡ kind
     → FaultGuard (u ++ v) u (solid_as edition kind r) (solid_as edition kind s)
-solid_as-reported edition u v r s w h Stop k = inr (no_place no_selector (λ text other. refl))
-solid_as-reported edition u v r s w h Slash k = inr (no_place no_selector (λ text other. refl))
+solid_as-reported edition u v r s w h Stop k = inr (no_position no_selector (λ text other. refl))
+solid_as-reported edition u v r s w h Slash k = inr (no_position no_selector (λ text other. refl))
 solid_as-reported edition u v r s w h Child k = inr tt
 solid_as-reported edition u v r s w h Adjacent k = inr tt
 solid_as-reported edition u v r s w h Universal k = inr tt

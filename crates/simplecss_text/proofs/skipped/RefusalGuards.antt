@@ -37,7 +37,7 @@ use Rattle.simplecss_text.proofs.reading.WellLemmas.{well-gap}
 use Rattle.simplecss_text.proofs.reading.SequenceSteps.{solid_sequence, gap_sequence, sequence_from-by}
 use Rattle.simplecss_text.proofs.cutting.OutcomeGuards.{IsSolid, after_role-passed, answered-passed, fault_ending-outcome, left_of, left_of-sequence}
 use Rattle.simplecss_text.proofs.cutting.SelectorGuards.{Passed, solid_as-passed, gap_sequence-within}
-use Rattle.simplecss_text.proofs.skipped.FaultGuards.{FaultsAlike, no_place, byte_place, name_place, comment_place, FaultGuard, solid_as-reported}
+use Rattle.simplecss_text.proofs.skipped.FaultGuards.{FaultsAlike, no_position, byte_position, name_position, comment_position, FaultGuard, solid_as-reported}
 
 -- ---- errors
 
@@ -55,18 +55,18 @@ offset-alike text v b =
 -- the error that reports a fault, where more follows the text
 error-alike : (u v text : List ℕ) (f e : Fault) → FaultsAlike (u ++ v) u f e
     → error_of (text ++ v) f ≡ error_of text e
-error-alike u v text f e (no_place _ h) = h (text ++ v) text
-error-alike u v text f e (name_place r s h) =
+error-alike u v text f e (no_position _ h) = h (text ++ v) text
+error-alike u v text f e (name_position r s h) =
     ap (λ (x : List ℕ). InvalidIdent (position_of (text ++ v) x))
     (diverge-append close_brace u v r s h)
     ∙ ap InvalidIdent (offset-alike text v s)
-error-alike u v text f e (comment_place r s h) =
+error-alike u v text f e (comment_position r s h) =
     ap (λ (x : List ℕ). InvalidComment (position_of (text ++ v) x))
     (diverge-append close_brace u v r s h)
     ∙ ap InvalidComment (offset-alike text v s)
-error-alike u v text f e (byte_place c r s at) =
+error-alike u v text f e (byte_position c r s at) =
     ap (InvalidByte c close_brace) (offset-alike text v (close_brace ∷ u))
-error-alike u v text f e (byte_place c r s (on b r1 s1 h)) =
+error-alike u v text f e (byte_position c r s (on b r1 s1 h)) =
     ap (λ (x : List ℕ). InvalidByte c b (position_of (text ++ v) (b ∷ x)))
     (diverge-append close_brace u v r1 s1 h)
     ∙ ap (InvalidByte c b) (offset-alike text v (b ∷ s1))
@@ -153,9 +153,9 @@ answered-refused text u v side spaced kind a x b y p q h k =
     spaced kind a x b y k
     (token-refused text u v descendant_combinator a b p q k)
     (λ f i j e. inr (fault-refused text u v f f i j (sequence_end i) (sequence_end j)
-    (no_place f e)))
+    (no_position f e)))
     (inr (fault-refused text u v (no_comment a) (no_comment b) x y (sequence_end x)
-    (sequence_end y) (comment_place a b h)))
+    (sequence_end y) (comment_position a b h)))
 
 -- the refusal at a fault of a solid piece
 fault_ending-refused : (whole : List ℕ) (side : Side) (kind : NextKind) (spaced : Bool)

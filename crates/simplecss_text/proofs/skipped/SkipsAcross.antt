@@ -13,7 +13,7 @@ use Rattle.simplecss_text.proofs.reading.SkipLemmas.{skipped-none, skips_of_each
 use Rattle.simplecss_text.proofs.reading.StatementTextLemmas.{next_statement-takes}
 use Rattle.simplecss_text.proofs.cutting.AtRuleCuts.{nothing_in_front}
 use Rattle.simplecss_text.proofs.cutting.StatementCuts.{next_statement-cut, next_statement-well}
-use Rattle.simplecss_text.proofs.cutting.CuttingLaws.{Reaches, at_rest, following, drop_place, reaches-well, rests-reached}
+use Rattle.simplecss_text.proofs.cutting.CuttingLaws.{Reaches, at_rest, following, drop_rest_offset, reaches-well, rests-reached}
 use Rattle.simplecss_text.proofs.skipped.StatementSkipCuts.{statement_skips-cut}
 
 -- what a blank and a statement skip, and what the rest does
@@ -84,5 +84,5 @@ skips_across edition text offset i (k, l, is) =
     let there : SkipsAcross edition text (rest_offset text rest) =
     skipped-cut edition rest text reached i (before text rest) (sym ends)
     ∙ ap (λ (t : List ℕ). map (skip_before t) (skipped edition (before text rest))
-    ++ skipped edition t) (sym (drop_place text rest ends)) in
+    ++ skipped edition t) (sym (drop_rest_offset text rest ends)) in
     subst (SkipsAcross edition text) here there

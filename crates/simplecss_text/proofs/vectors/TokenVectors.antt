@@ -379,7 +379,7 @@ slashes second_edition = (refl, refl, refl)
 
 -- what is left where a name is missing: a hyphen is consumed, and after an open left side a missing
 -- head is reported twice
-pub places_of_missing_names : (edition : Edition) →
+pub positions_of_missing_names : (edition : Edition) →
     (sequence_of edition (codes "<,b") ≡ item (Err (no_name (codes "<,b"))) (codes "<,b")
     (item (Err no_selector) (codes "<,b") (sequence_end (codes "<,b"))))
     × (sequence_of edition (codes "-,b") ≡ item (Err (no_name (codes "-,b"))) (codes ",b")
@@ -411,13 +411,13 @@ pub places_of_missing_names : (edition : Edition) →
 unfolding each comment blank gap past_name_chars name string_or_name attribute_operator
     attribute_after lang_after pseudo_class_after named_token next_kind solid piece ending
     sequence_from position chars encode trim_start trim_end
-places_of_missing_names first_edition =
+positions_of_missing_names first_edition =
     (refl, refl, refl, refl, refl, refl, refl, refl, refl, refl, refl, refl)
-places_of_missing_names second_edition =
+positions_of_missing_names second_edition =
     (refl, refl, refl, refl, refl, refl, refl, refl, refl, refl, refl, refl)
 
 -- what is left after a fault of an attribute or a language
-pub places_within_attributes : (edition : Edition) →
+pub positions_within_attributes : (edition : Edition) →
     (sequence_of edition (codes "[a") ≡ item (Err ended) [] (sequence_end []))
     × (sequence_of edition (codes "[a,b")
     ≡ item (Err no_attribute_form) (codes ",b") (sequence_end (codes ",b")))
@@ -443,13 +443,13 @@ pub places_within_attributes : (edition : Edition) →
 unfolding each comment blank gap past_name_chars name string_or_name attribute_operator
     attribute_after lang_after pseudo_class_after named_token next_kind solid piece ending
     sequence_from position chars encode trim_start trim_end
-places_within_attributes first_edition =
+positions_within_attributes first_edition =
     (refl, refl, refl, refl, refl, refl, refl, refl, refl, refl, refl, refl, refl, refl)
-places_within_attributes second_edition =
+positions_within_attributes second_edition =
     (refl, refl, refl, refl, refl, refl, refl, refl, refl, refl, refl, refl, refl, refl)
 
 -- what is left after each token, at a stop, and after a neighbour that may not be there
-pub places_of_neighbours : (edition : Edition) →
+pub positions_of_neighbours : (edition : Edition) →
     (sequence_of edition (codes "> a")
     ≡ item (Err unexpected_combinator) (codes "> a") (sequence_end (codes "> a")))
     × (sequence_of edition (codes "a>+b")
@@ -491,7 +491,7 @@ pub places_of_neighbours : (edition : Edition) →
 unfolding each comment blank gap past_name_chars name string_or_name attribute_operator
     attribute_after lang_after pseudo_class_after named_token next_kind solid piece ending
     sequence_from position chars encode trim_start trim_end
-places_of_neighbours first_edition = (
+positions_of_neighbours first_edition = (
   refl,
   refl,
   refl,
@@ -510,7 +510,7 @@ places_of_neighbours first_edition = (
   refl,
   refl,
 )
-places_of_neighbours second_edition = (
+positions_of_neighbours second_edition = (
   refl,
   refl,
   refl,
