@@ -9,7 +9,7 @@ use Rattle.simplecss_text.specs.ThisEdition.{this_edition}
 use Rattle.simplecss_text.proofs.bytes.GapLemmas.{past_blank-again}
 use Rattle.simplecss_text.proofs.reading.TakesLemmas.{length-past_blank}
 use Rattle.simplecss.specs.declared.sheet.statement_reader.Statement.{Statement}
-use Rattle.simplecss.specs.StatementOffsets.{StandsNext}
+use Rattle.simplecss.specs.StatementOffsets.{OccursNext}
 use Rattle.simplecss.specs.RuleViews.{rules_of}
 use Rattle.simplecss.proofs.StatementLemmas.{statement-less, pair-of}
 
@@ -30,10 +30,10 @@ module _ (text : List ℕ) (offset : ℕ) (s : Statement)
   longer = subst (λ (t : List ℕ). length t < length (drop s.start text)) (sym end)
       (statement-less this_edition (drop s.start text) (drop s.start text) next_there)
 
-  pub stands_next : offset ≤ length text → IsCharBoundary text s.start → IsCharBoundary text s.end
+  pub occurs_next : offset ≤ length text → IsCharBoundary text s.start → IsCharBoundary text s.end
       → rules_of s.rules.items ≡ (statement this_edition (drop s.start text)).0
-      → StandsNext text offset s
-  stands_next within starts_at ends_at rules =
+      → OccursNext text offset s
+  occurs_next within starts_at ends_at rules =
       let blank : length (drop s.start text) ≤ length (drop offset text) = subst (λ (t : List ℕ).
       length t ≤ length (drop offset text)) (sym start) (length-past_blank (drop offset text)) in
       record {

@@ -9,7 +9,7 @@ use Rattle.simplecss.specs.RuleViews.{rules_of}
 
 -- The statement is the next one after an offset of the text: it begins after the blank there, has
 -- the rules of the grammar, and the rest after it is the grammar's.
-pub record StandsNext (text : List ℕ) (offset : ℕ) (statement : Statement) : Type 0 where
+pub record OccursNext (text : List ℕ) (offset : ℕ) (statement : Statement) : Type 0 where
   pub start : drop statement.start text ≡ past_blank (drop offset text)
   pub reads : next_statement this_edition (drop offset text)
       ≡ Some (rules_of statement.rules.items, drop statement.end text)

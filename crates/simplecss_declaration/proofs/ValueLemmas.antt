@@ -9,12 +9,12 @@ use Rattle.simplecss_text.specs.Bytes.{starts, past_one, past_byte, byte}
 use Rattle.simplecss_text.specs.Characters.{Edition}
 use Rattle.simplecss_text.specs.Comments.{past_blank, blank}
 use Rattle.simplecss_text.specs.Names.{name}
-use Rattle.simplecss_text.specs.Slices.{StandBetween}
+use Rattle.simplecss_text.specs.Slices.{OccurBetween}
 use Rattle.simplecss_text.specs.Terms.{term}
 use Rattle.simplecss_text.specs.Declarations.{after_term, term_in_value, last_or, value, semicolon, trailing}
-use Rattle.simplecss_text.proofs.reading.EndsLemmas.{no_texts, itself, ends-ends, ends-got, ends-past_byte, stands-got, stand-from, stand-to, stand-append}
-use Rattle.simplecss_text.proofs.reading.StandLemmas.{blank-stands, byte-stands, name-stands}
-use Rattle.simplecss_text.proofs.reading.DeclarationsLawful.{semicolon-takes, term_in_value-takes, trailing-stands}
+use Rattle.simplecss_text.proofs.reading.EndsLemmas.{no_texts, itself, ends-ends, ends-got, ends-past_byte, occurs-got, occur-from, occur-to, occur-append}
+use Rattle.simplecss_text.proofs.reading.OccurrenceLemmas.{blank-occurs, byte-occurs, name-occurs}
+use Rattle.simplecss_text.proofs.reading.DeclarationsLawful.{semicolon-takes, term_in_value-takes, trailing-occurs}
 use Rattle.simplecss_text.proofs.reading.EachLemmas.{took, each-none, each-some}
 
 pub terms-some : (edition : Edition) (text rest : List ℕ) → term edition text ≡ got tt rest
@@ -86,25 +86,25 @@ trimmed text rest ranged result r t = t ∙ ap (λ (v : List ℕ). trim v) (r �
 pub stated_name-slices : (text a b n c d e rest : List ℕ) (edition : Edition)
     → blank text ≡ got tt a → b ≡ past_byte asterisk a → name edition b ≡ got n c
     → blank c ≡ got tt d → byte colon_byte d ≡ got tt e → blank e ≡ got tt rest
-    → StandBetween text rest (n ∷ [])
+    → OccurBetween text rest (n ∷ [])
 stated_name-slices text a b n c d e rest edition e1 e2 e3 e4 e5 e6 =
     let front : Ends text b =
-    ends-ends text a b (ends-got text no_texts (blank text) tt a (blank-stands text) e1)
+    ends-ends text a b (ends-got text no_texts (blank text) tt a (blank-occurs text) e1)
     (subst (λ (t : List ℕ). Ends a t) (sym e2) (ends-past_byte asterisk a)) in
-    let named : StandBetween text c (n ∷ []) =
-    stand-from text b c (n ∷ []) front
-    (stands-got b itself (name edition b) n c (name-stands edition b) e3) in
+    let named : OccurBetween text c (n ∷ []) =
+    occur-from text b c (n ∷ []) front
+    (occurs-got b itself (name edition b) n c (name-occurs edition b) e3) in
     let colon : Ends c e =
-    ends-ends c d e (ends-got c no_texts (blank c) tt d (blank-stands c) e4)
-    (ends-got d no_texts (byte colon_byte d) tt e (byte-stands colon_byte d) e5) in
-    stand-to text c rest (n ∷ []) named
-    (ends-ends c e rest colon (ends-got e no_texts (blank e) tt rest (blank-stands e) e6))
+    ends-ends c d e (ends-got c no_texts (blank c) tt d (blank-occurs c) e4)
+    (ends-got d no_texts (byte colon_byte d) tt e (byte-occurs colon_byte d) e5) in
+    occur-to text c rest (n ∷ []) named
+    (ends-ends c e rest colon (ends-got e no_texts (blank e) tt rest (blank-occurs e) e6))
 
 -- The name and the value of a declaration occur in order.
 pub declaration-slices : (text start left rest n v : List ℕ) (important : Bool)
-    → StandBetween text start (n ∷ []) → StandBetween start left (v ∷ [])
-    → trailing left ≡ got important rest → StandBetween text rest (n ∷ v ∷ [])
+    → OccurBetween text start (n ∷ []) → OccurBetween start left (v ∷ [])
+    → trailing left ≡ got important rest → OccurBetween text rest (n ∷ v ∷ [])
 declaration-slices text start left rest n v important named stated e =
-    stand-append text start rest (n ∷ []) (v ∷ []) named
-    (stand-to start left rest (v ∷ []) stated
-    (ends-got left no_texts (trailing left) important rest (trailing-stands left) e))
+    occur-append text start rest (n ∷ []) (v ∷ []) named
+    (occur-to start left rest (v ∷ []) stated
+    (ends-got left no_texts (trailing left) important rest (trailing-occurs left) e))

@@ -2,7 +2,7 @@
 use Rattle.std.specs.Prelude.{◌≡◌, ℕ, ◌≤◌, List, [], ◌∷◌, length, Option, None, Some}
 use Rattle.std.specs.Iterator.{YieldsFirstBy}
 use Rattle.std.specs.Iterator.Runs.{EveryRun, ItemsMapTo}
-use Rattle.simplecss_text.specs.Slices.{StandBetween}
+use Rattle.simplecss_text.specs.Slices.{OccurBetween}
 use Rattle.simplecss_text.specs.Cursor.{text_of, rest_of, offset_of}
 use Rattle.simplecss_text.specs.ThisEdition.{this_edition}
 use Rattle.simplecss_text.specs.Declarations.{StyleDeclaration, next_declaration, declarations}
@@ -48,7 +48,7 @@ pub record GivesDeclaration (before : DeclarationTokenizer) (result : Option Dec
   -- it was read from the start of the rest
   pub reads : GivesNext (left_of before) result (left_of after)
   -- its name and its value occur in what was consumed
-  pub slices : StandBetween (left_of before) (left_of after) (given_texts result)
+  pub slices : OccurBetween (left_of before) (left_of after) (given_texts result)
   -- the offset does not fall
   pub forward : offset_in before ≤ offset_in after
 

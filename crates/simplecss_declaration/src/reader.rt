@@ -3,7 +3,7 @@ ghost use Rattle.std.specs.Prelude.{◌≡◌, [], ◌∷◌, IfSome, option_map
 ghost use Rattle.simplecss_text.specs.Reading.{got, each};
 ghost use Rattle.simplecss_text.specs.AsciiBytes.{colon};
 ghost use Rattle.simplecss_text.specs.Bytes.{byte as byte_read};
-ghost use Rattle.simplecss_text.specs.Slices.{StandBetween};
+ghost use Rattle.simplecss_text.specs.Slices.{OccurBetween};
 ghost use Rattle.simplecss_text.specs.Comments.{past_blank};
 ghost use Rattle.simplecss_text.specs.Terms.{term};
 ghost use Rattle.simplecss_text.specs.Declarations.{terms, value as value_read, important_word};
@@ -37,7 +37,7 @@ fn skip_gap(s: &mut Stream<'_>)
 fn read_value<'a>(s: &mut Stream<'a>) -> &'a str
     ensures text { text_of s.new ≡ text_of s.old }
     ensures reads { value_read this_edition (rest_of s.old) ≡ (result.now, rest_of s.new) }
-    ensures stands { StandBetween (rest_of s.old) (rest_of s.new) (result.now ∷ []) }
+    ensures occurs { OccurBetween (rest_of s.old) (rest_of s.new) (result.now ∷ []) }
 {
     let start = s.slice_tail();
     let mut end = start;
@@ -54,11 +54,11 @@ fn skip_important(s: &mut Stream<'_>) -> bool
     ensures text { text_of s.new ≡ text_of s.old }
     ensures reads { important_word (rest_of s.old) ≡ got result (rest_of s.new) }
 {
-    let stands = s.slice_tail().starts_with("important");
-    if stands {
+    let occurs = s.slice_tail().starts_with("important");
+    if occurs {
         s.advance(9);
     }
-    stands
+    occurs
 }
 
 /// Consumes an exclamation mark and after it a blank and the word `important`, as far as they are
@@ -128,7 +128,7 @@ fn take_stated_name<'a>(s: &mut Stream<'a>) -> Option<&'a str>
     ensures reads { Answers (λ name. name.now) (stated_name_read this_edition (rest_of s.old)) result
         (rest_of s.new) }
     ensures slices { IfSome result
-        (λ name. StandBetween (rest_of s.old) (rest_of s.new) (name.now ∷ [])) }
+        (λ name. OccurBetween (rest_of s.old) (rest_of s.new) (name.now ∷ [])) }
 {
     if !readers::skip_blank(s) {
         return None;
@@ -148,8 +148,8 @@ pub fn take_declaration<'a>(s: &mut Stream<'a>) -> Option<Declaration<'a>>
     ensures text { text_of s.new ≡ text_of s.old }
     ensures reads { Answers declaration_of (declaration_read this_edition (rest_of s.old)) result
         (rest_of s.new) }
-    ensures stands { IfSome result
-        (λ d. StandBetween (rest_of s.old) (rest_of s.new) (d.name.now ∷ d.value.now ∷ [])) }
+    ensures occurs { IfSome result
+        (λ d. OccurBetween (rest_of s.old) (rest_of s.new) (d.name.now ∷ d.value.now ∷ [])) }
 {
     let name = take_stated_name(s)?;
     let value = read_value(s);

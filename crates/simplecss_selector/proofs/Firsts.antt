@@ -9,7 +9,7 @@ use Rattle.simplecss_text.specs.Bytes.{past_one}
 use Rattle.simplecss_text.specs.Comments.{gap}
 use Rattle.simplecss_text.specs.Errors.{error_of, position_of, FailsBy}
 use Rattle.simplecss_text.specs.ThisEdition.{this_edition}
-use Rattle.simplecss_text.specs.Slices.{StandBetween}
+use Rattle.simplecss_text.specs.Slices.{OccurBetween}
 use Rattle.simplecss_text.specs.declared.next_kind.NextKind.{NextKind}
 use Rattle.simplecss_text.specs.declared.next_kind.NextKind.TheVariants.{Stop, Slash, Child, Adjacent, Universal, Id, Class, Attribute, Colon, Other}
 use Rattle.simplecss_text.specs.Tokens.{Token, token_texts}
@@ -19,9 +19,9 @@ use Rattle.simplecss_text.specs.TokenSequences.{TokenSequence, fault_sequence, i
 use Rattle.simplecss_text.specs.TokenSequences.TokenSequence.{item}
 use Rattle.simplecss_text.specs.declared.error.Error.{Error}
 use Rattle.simplecss_text.specs.declared.error.Error.TheVariants.{InvalidComment, SelectorMissing, UnexpectedSelector, UnexpectedCombinator}
-use Rattle.simplecss_text.proofs.reading.EndsLemmas.{ends-same, stand-ends}
+use Rattle.simplecss_text.proofs.reading.EndsLemmas.{ends-same, occur-ends}
 use Rattle.simplecss_text.proofs.reading.OffsetLemmas.{offset-ends}
-use Rattle.simplecss_text.proofs.reading.SequenceEndLemmas.{FirstStands, sequence_from-first}
+use Rattle.simplecss_text.proofs.reading.SequenceEndLemmas.{FirstOccurs, sequence_from-first}
 use Rattle.simplecss_text.proofs.reading.SequenceSteps.{solid_sequence, sequence_from-kind, sequence_from-open_gap, sequence_from-descends}
 use Rattle.simplecss_text.proofs.reading.GivesLemmas.{fails_by-fault}
 use Rattle.simplecss_selector.specs.declared.token.SelectorToken.{SelectorToken}
@@ -292,21 +292,21 @@ gives_steps old new (Some x) left s (reported, seen, before) =
 
 -- what is returned first is between what was left before and what is left then
 given-first : (old : SelectorTokenizer) (r : Option (Result SelectorToken Error)) (left : List ℕ)
-    (after : TokenSequence) → FirstStands (left_of old) (still_to_come old)
+    (after : TokenSequence) → FirstOccurs (left_of old) (still_to_come old)
     → GivesFirst (whole_text old) (still_to_come old) r left after
-    → StandBetween (left_of old) left (given_texts r)
-given-first old None left after between first = subst (FirstStands (left_of old)) first.0 between
+    → OccurBetween (left_of old) left (given_texts r)
+given-first old None left after between first = subst (FirstOccurs (left_of old)) first.0 between
 given-first old (Some (Ok token)) left after between (Ok reported, seen, before) =
     let same : reported ≡ token_of token = cc in
-    let h : StandBetween (left_of old) left (token_texts reported) =
-    subst (FirstStands (left_of old)) before between in
-    subst (λ (t : Token). StandBetween (left_of old) left (token_texts t)) same h
+    let h : OccurBetween (left_of old) left (token_texts reported) =
+    subst (FirstOccurs (left_of old)) before between in
+    subst (λ (t : Token). OccurBetween (left_of old) left (token_texts t)) same h
 given-first old (Some (Ok token)) left after between (Err fault, seen, before) = absurd (cc)
 given-first old (Some (Err error)) left after between (Ok reported, seen, before) = absurd (cc)
 given-first old (Some (Err error)) left after between (Err fault, seen, before) =
-    subst (FirstStands (left_of old)) before between
+    subst (FirstOccurs (left_of old)) before between
 
-stage-slices : (text : List ℕ) → IsUtf8 text → (s : Stage) → FirstStands text (sequence_in s text)
+stage-slices : (text : List ℕ) → IsUtf8 text → (s : Stage) → FirstOccurs text (sequence_in s text)
 stage-slices text u stages.Open = sequence_from-first this_edition open_side text u
 stage-slices text u stages.Closed = sequence_from-first this_edition closed_side text u
 stage-slices text u stages.Missing = ends-same text
@@ -320,7 +320,7 @@ left-utf8 t = IsUtf8-drop t.stream.text.now t.stream.pos
 pub given-slices : (old : SelectorTokenizer) (r : Option (Result SelectorToken Error))
     (left : List ℕ) (after : TokenSequence)
     → GivesFirst (whole_text old) (still_to_come old) r left after
-    → StandBetween (left_of old) left (given_texts r)
+    → OccurBetween (left_of old) left (given_texts r)
 given-slices old r left after first =
     given-first old r left after (stage-slices (left_of old) (left-utf8 old) old.stage) first
 
@@ -347,7 +347,7 @@ gives-item old new s r is same h =
       first = first;
       slices = between;
       forward = offset-ends old.stream new.stream same
-          (stand-ends (left_of old) (left_of new) (given_texts r) between);
+          (occur-ends (left_of old) (left_of new) (given_texts r) between);
     }
 
 -- an item that was returned is no longer to come

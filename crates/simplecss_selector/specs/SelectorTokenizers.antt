@@ -6,7 +6,7 @@ use Rattle.simplecss_text.specs.declared.error.Error.{Error}
 use Rattle.simplecss_text.specs.Reading.{Fault, no_selector}
 use Rattle.simplecss_text.specs.ThisEdition.{this_edition}
 use Rattle.simplecss_text.specs.Cursor.{text_of, offset_of, rest_of}
-use Rattle.simplecss_text.specs.Slices.{StandBetween}
+use Rattle.simplecss_text.specs.Slices.{OccurBetween}
 use Rattle.simplecss_text.specs.Tokens.{Token}
 use Rattle.simplecss_text.specs.Neighbours.Side.{open_side, closed_side}
 use Rattle.simplecss_text.specs.TokenSequences.{TokenSequence, sequence_from, sequence_of, tokens_of, fault_sequence, items, reported_in}
@@ -67,7 +67,7 @@ pub record GivesItem (before : SelectorTokenizer) (result : Option (Result Selec
       GivesFirst (whole_text before) (still_to_come before) result (left_of after)
       (still_to_come after)
   -- its names and values occur in order in what was consumed
-  pub slices : StandBetween (left_of before) (left_of after) (given_texts result)
+  pub slices : OccurBetween (left_of before) (left_of after) (given_texts result)
   -- the offset does not fall
   pub forward : offset_in before ≤ offset_in after
 

@@ -8,7 +8,7 @@ pub mod SequenceLemmas
 pub mod EndsLemmas
 pub mod OffsetLemmas
 pub mod CountLemmas
-pub mod StandLemmas
+pub mod OccurrenceLemmas
 pub mod SequenceEndLemmas
 pub mod BeforeLemmas
 pub mod GivesLemmas

@@ -4,8 +4,8 @@ use Rattle.simplecss_text.specs.Reading.{before, Ends}
 
 -- These texts occur, in order, in what is consumed from one rest of a text to a later one: each is
 -- what precedes some rest, and the next one begins no earlier than that rest.
-abbrev pub StandBetween : (from to : List ℕ) → List (List ℕ) → Type 0
-StandBetween from to [] = Ends from to
-StandBetween from to (s ∷ ss) =
+abbrev pub OccurBetween : (from to : List ℕ) → List (List ℕ) → Type 0
+OccurBetween from to [] = Ends from to
+OccurBetween from to (s ∷ ss) =
     (start : List ℕ) × (end : List ℕ) × Ends from start × Ends start end × (s ≡ before start end)
-    × StandBetween end to ss
+    × OccurBetween end to ss

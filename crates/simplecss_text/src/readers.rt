@@ -57,12 +57,12 @@ pub fn skip_ascii(s: &mut Stream<'_>)
 pub fn skip_byte(s: &mut Stream<'_>, byte: u8) -> bool
     requires { byte < 128 }
     ensures text { text_of s.new ≡ text_of s.old }
-    ensures stands { result ≡ starts byte (rest_of s.old) }
+    ensures occurs { result ≡ starts byte (rest_of s.old) }
     ensures rest { rest_of s.new ≡ past_byte byte (rest_of s.old) }
 {
-    let stands = peek(s) == Some(byte);
+    let occurs = peek(s) == Some(byte);
     s.try_consume_byte(byte);
-    stands
+    occurs
 }
 
 /// Consumes a name and returns it. If none begins at the cursor, a hyphen there is consumed.

@@ -3,7 +3,7 @@ ghost use Rattle.std.specs.Prelude.{◌≡◌, IfOk, MatchOption, None, OnErr, O
 ghost use Rattle.simplecss_text.specs.Statements.{next_statement};
 ghost use Rattle.simplecss_text.specs.Skipped.{add_each, next_skips};
 ghost use Rattle.simplecss_text.specs.ThisEdition.{this_edition};
-ghost use Rattle.simplecss.specs.StatementOffsets.{StandsNext};
+ghost use Rattle.simplecss.specs.StatementOffsets.{OccursNext};
 
 use super::reading::{at_statement, report_end};
 use super::rules::Rule;
@@ -84,7 +84,7 @@ impl<'a> StatementReader<'a> {
         ensures ok { IfOk result (λ read. MatchOption read
             ((next_statement this_edition (drop self.old.1 self.old.0) ≡ None)
             × (self.new ≡ self.old))
-            (λ statement. StandsNext self.old.0 self.old.1 statement
+            (λ statement. OccursNext self.old.0 self.old.1 statement
             × (self.new.1 ≡ statement.end))) }
         ensures err { OnErr result (self.new ≡ self.old) }
     {
@@ -102,7 +102,7 @@ impl<'a> StatementReader<'a> {
         ensures ok { IfOk result (λ read. MatchOption read
             ((next_statement this_edition (drop self.old.1 self.old.0) ≡ None)
             × (self.new ≡ self.old))
-            (λ statement. StandsNext self.old.0 self.old.1 statement
+            (λ statement. OccursNext self.old.0 self.old.1 statement
             × (self.new.1 ≡ statement.end))) }
         ensures err { OnErr result (self.new ≡ self.old) }
         ensures reported { OnOk result (P.state report.new ≡ add_each P.add (P.state report.old)

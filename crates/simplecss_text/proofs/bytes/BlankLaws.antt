@@ -16,7 +16,7 @@ use Rattle.simplecss_text.specs.Blanks.IsComments.{none, comment_before}
 use Rattle.simplecss_text.proofs.reading.EachLemmas.{each-some, each-stops}
 use Rattle.simplecss_text.proofs.reading.TakesLemmas.{blank_part-takes, length-past_blank}
 use Rattle.simplecss_text.proofs.reading.EndsLemmas.{before-append, ends-append}
-use Rattle.simplecss_text.proofs.reading.StandLemmas.{ends-past_blank}
+use Rattle.simplecss_text.proofs.reading.OccurrenceLemmas.{ends-past_blank}
 use Rattle.simplecss_text.proofs.bytes.GapLemmas.{no_space_after}
 
 -- the two bytes that a text begins with

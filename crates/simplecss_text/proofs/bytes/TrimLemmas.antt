@@ -7,7 +7,7 @@ use Rattle.std.specs.Char.{is_whitespace}
 use Rattle.std.specs.Str.{all_scalars, trim_start, trim_end, trim, skip_leading_whitespace, drop_trailing_whitespace}
 use Rattle.std.proofs.lemmas.Str.{chars-encodes}
 use lib.Utf8.{scalar}
-use Rattle.simplecss_text.proofs.reading.StandLemmas.{trim-parts}
+use Rattle.simplecss_text.proofs.reading.OccurrenceLemmas.{trim-parts}
 
 -- the characters without the white space at both ends
 abbrev pub inner : List ℕ → List ℕ

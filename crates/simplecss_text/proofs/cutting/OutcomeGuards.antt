@@ -17,8 +17,8 @@ use Rattle.simplecss_text.specs.Selectors.{Outcome, Role, after_role, outcome, w
 use Rattle.simplecss_text.specs.Selectors.Outcome.{accepted, refused}
 use Rattle.simplecss_text.specs.Selectors.Role.{joined_by}
 use Rattle.simplecss_text.proofs.reading.EndsLemmas.{length-ends, no_texts}
-use Rattle.simplecss_text.proofs.reading.StandLemmas.{sees_nothing}
-use Rattle.simplecss_text.proofs.reading.SequenceEndLemmas.{SequenceStands, sequence_from-stands}
+use Rattle.simplecss_text.proofs.reading.OccurrenceLemmas.{sees_nothing}
+use Rattle.simplecss_text.proofs.reading.SequenceEndLemmas.{SequenceOccurs, sequence_from-occurs}
 use Rattle.simplecss_text.proofs.reading.LocalLemmas.{Diverge, To}
 use Rattle.simplecss_text.proofs.reading.TakesLemmas.{length-past_one}
 use Rattle.simplecss_text.proofs.reading.KindLemmas.{NamesStart, between-both, between-case, fault_ending-case}
@@ -95,7 +95,7 @@ after_role-passed n None after o a l = a
 
 -- what a sequence leaves is no more than its text
 length-left_of : (n : ℕ) (text : List ℕ) (r : TokenSequence) → length text ≤ n
-    → SequenceStands no_texts text r → length (left_of (outcome r)) ≤ n
+    → SequenceOccurs no_texts text r → length (left_of (outcome r)) ≤ n
 length-left_of n text (sequence_end left) l h = omega (arith, l, length-ends text left h)
 length-left_of n text (item (Err fault) after rest) l h =
     omega (arith, l, length-ends text after h.0)
@@ -108,7 +108,7 @@ pub left_of-sequence : (edition : Edition) (side : Side) (n : ℕ) (text : List 
     → length (left_of (outcome (sequence_from edition side text))) ≤ n
 left_of-sequence edition side n text l =
     length-left_of n text (sequence_from edition side text) l
-    (sequence_from-stands sees_nothing edition side text tt)
+    (sequence_from-occurs sees_nothing edition side text tt)
 
 -- ---- endings
 

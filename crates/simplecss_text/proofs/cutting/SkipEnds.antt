@@ -19,9 +19,9 @@ use Rattle.simplecss_text.specs.Blocks.{from_block_end, ends_list, declaration_i
 use Rattle.simplecss_text.specs.Statements.{StyleRule, part, part_and_comma, parts, past_semicolon_or_block, at_rule_rest_by_name, at_rule_rest, next_statement}
 use Rattle.simplecss_text.specs.Skipped.{Refusal, faulty, unknown_class, Why, Skip, unless_unknown, class_name, refusal_in, refusal, from_brace, past_refused, refused_part, selector_skips, why_after, skips_after, skips_after_read, part_skips, skips_with, skips_of_each, parts_skips, brace_skips, list_end_skips, if_broken, list_skips, declaration_skips, block_skips, next_block_skips, comma_skips, rule_set_skips, at_rule_skip, statement_skips, end_skips, skipped}
 use Rattle.simplecss_text.specs.SkipOffsets.{IsRefusalWithin, IsWhyWithin, IsWithin}
-use Rattle.simplecss_text.proofs.reading.EndsLemmas.{ends-same, ends-nil, ends-ends, ends-past_one, ends-past_byte, ends-past, EndsFound, stands-ends, no_texts, itself}
-use Rattle.simplecss_text.proofs.reading.StandLemmas.{ends-past_blank, name-stands}
-use Rattle.simplecss_text.proofs.reading.DeclarationsLawful.{declaration-stands, declaration_in_block-ends, ends-from_block_end}
+use Rattle.simplecss_text.proofs.reading.EndsLemmas.{ends-same, ends-nil, ends-ends, ends-past_one, ends-past_byte, ends-past, EndsFound, occurs-ends, no_texts, itself}
+use Rattle.simplecss_text.proofs.reading.OccurrenceLemmas.{ends-past_blank, name-occurs}
+use Rattle.simplecss_text.proofs.reading.DeclarationsLawful.{declaration-occurs, declaration_in_block-ends, ends-from_block_end}
 use Rattle.simplecss_text.proofs.reading.OpenValues.{declaration_skips-at}
 use Rattle.simplecss_text.proofs.cutting.StatementEnds.{part-ends, part_and_comma-ends, parts-ends}
 use Rattle.simplecss_text.proofs.cutting.StatementCuts.{next_statement-well}
@@ -226,7 +226,7 @@ list_skips-within : (edition : Edition) (text : List ℕ) → AllWithin text (li
 list_skips-within edition text =
     within-if text (ends_list text) [] (if_broken text (declaration edition text)) tt
     (by (declaration edition text)
-    (stands-ends _ no_texts _ (declaration-stands edition text)))
+    (occurs-ends _ no_texts _ (declaration-occurs edition text)))
   where
     by : (r : Reading StyleDeclaration) → Ends text (left_after r)
         → AllWithin text (if_broken text r)
@@ -304,7 +304,7 @@ ends-past_semicolon_or_block text = by (starts open_brace text)
 pub ends-at_rule_rest : (edition : Edition) (text : List ℕ) → Ends text (at_rule_rest edition text)
 unfolding at_rule_rest
 ends-at_rule_rest edition text =
-    by (name edition text) (stands-ends _ itself _ (name-stands edition text))
+    by (name edition text) (occurs-ends _ itself _ (name-occurs edition text))
   where
     by : (r : Reading (List ℕ)) → Ends text (left_after r) → Ends text (at_rule_rest_by_name r)
     by (got n rest) h =

@@ -12,7 +12,7 @@ use Rattle.simplecss_text.specs.Names.{name}
 use Rattle.simplecss_text.specs.Blocks.{from_block_end}
 use Rattle.simplecss_text.specs.Statements.{StyleRule, ends_statements, next_statement, at_rule_rest, rule_set, statement}
 use Rattle.simplecss_text.proofs.reading.EndsLemmas.{ends-ends, ends-got, ends-past, ends-same, ends-tail, length-ends}
-use Rattle.simplecss_text.proofs.reading.StandLemmas.{name-stands, ends-past_blank}
+use Rattle.simplecss_text.proofs.reading.OccurrenceLemmas.{name-occurs, ends-past_blank}
 use Rattle.simplecss_text.proofs.bytes.Utf8Lemmas.{utf8-after}
 use Rattle.simplecss_text.proofs.reading.WellLemmas.{EndsWell, well-after, well-name, well-nil, well-past_blank, well-then}
 use Rattle.simplecss_text.proofs.reading.EachLemmas.{not_empty}
@@ -137,7 +137,7 @@ module _ (edition : Edition) where
       → Ends text (semicolon ∷ left)
   semicolon-front text n rest left e f =
       ends-ends text rest (semicolon ∷ left)
-      (ends-got _ _ _ _ _ (name-stands edition text) e)
+      (ends-got _ _ _ _ _ (name-occurs edition text) e)
       (subst (Ends rest) f (ends-past (is_neither semicolon open_brace) rest))
 
   pub block-front : (text n rest inner left : List ℕ) → name edition text ≡ got n rest
@@ -147,7 +147,7 @@ module _ (edition : Edition) where
   block-front text n rest inner left e f g =
       let opened : Ends text (open_brace ∷ inner) =
       ends-ends text rest (open_brace ∷ inner)
-      (ends-got _ _ _ _ _ (name-stands edition text) e)
+      (ends-got _ _ _ _ _ (name-occurs edition text) e)
       (subst (Ends rest) f (ends-past (is_neither semicolon open_brace) rest)) in
       ends-ends text inner (close_brace ∷ left)
       (ends-ends text (open_brace ∷ inner) inner opened (ends-tail open_brace inner))

@@ -14,12 +14,12 @@ use Rattle.simplecss_text.specs.Blocks.{block, declaration_in_block, ends_list, 
 use Rattle.simplecss_text.specs.Statements.{next_block, part, part_and_comma, parts, past_semicolon_or_block, at_rule_rest_by_name, at_rule_rest, rule_set}
 use Rattle.simplecss_text.proofs.reading.EachLemmas.{each-stops}
 use Rattle.simplecss_text.proofs.reading.DeclarationLemmas.{declaration_in_block-takes}
-use Rattle.simplecss_text.proofs.reading.EndsLemmas.{EndsFound, Stands, each-ends, ends-ends, ends-past, ends-past_byte, ends-past_one, ends-tail, no_texts}
+use Rattle.simplecss_text.proofs.reading.EndsLemmas.{EndsFound, Occurs, each-ends, ends-ends, ends-past, ends-past_byte, ends-past_one, ends-tail, no_texts}
 use Rattle.simplecss_text.proofs.reading.WellLemmas.{WellFound, found-ends, well-after}
 use Rattle.simplecss_text.proofs.reading.GotLemmas.{starts-cons}
 use Rattle.simplecss_text.proofs.reading.SequenceEndLemmas.{reads-ends}
 use Rattle.simplecss_text.proofs.reading.EachLemmas.{not_empty}
-use Rattle.simplecss_text.proofs.reading.DeclarationsLawful.{declaration-stands, declaration_in_block-ends, ends-from_block_end}
+use Rattle.simplecss_text.proofs.reading.DeclarationsLawful.{declaration-occurs, declaration_in_block-ends, ends-from_block_end}
 use Rattle.simplecss_text.proofs.cutting.BlockEndGuards.{no_brace}
 use Rattle.simplecss_text.proofs.cutting.BlockCuts.{at_brace, none_broken}
 
@@ -99,9 +99,9 @@ module _ (edition : Edition) where
   broken-after : (text : List ℕ) → found (declaration edition text) ≡ None
       → AfterBrace text (past_byte close_brace (past_broken (declaration edition text)))
   broken-after text none =
-      by (declaration edition text) (declaration-stands edition text) none
+      by (declaration edition text) (declaration-occurs edition text) none
     where
-      by : (r : Reading StyleDeclaration) → Stands text no_texts r → found r ≡ None
+      by : (r : Reading StyleDeclaration) → Occurs text no_texts r → found r ≡ None
           → AfterBrace text (past_byte close_brace (past_broken r))
       by (got declared rest) h e = absurd (cc)
       by (fails fault rest) h e =

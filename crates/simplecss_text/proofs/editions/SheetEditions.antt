@@ -14,8 +14,8 @@ use Rattle.simplecss_text.specs.Blocks.{block, declaration_in_block, ends_list, 
 use Rattle.simplecss_text.specs.Statements.{StyleRule, ends_statements, has_declaration, next_block, next_statement, part, part_and_comma, parts, at_rule_rest_by_name, at_rule_rest, rule_set, statement, statements}
 use Rattle.simplecss_text.specs.Sheets.{ordered, sheet}
 use Rattle.simplecss_text.specs.Editions.{IsCommon, KeepsInBoth}
-use Rattle.simplecss_text.proofs.reading.EndsLemmas.{EndsFound, Stands, each-ends, ends-ends, ends-past, ends-past_byte, ends-past_one, ends-same, no_texts}
-use Rattle.simplecss_text.proofs.reading.StandLemmas.{ends-past_blank, gap-stands, sees_nothing}
+use Rattle.simplecss_text.proofs.reading.EndsLemmas.{EndsFound, Occurs, each-ends, ends-ends, ends-past, ends-past_byte, ends-past_one, ends-same, no_texts}
+use Rattle.simplecss_text.proofs.reading.OccurrenceLemmas.{ends-past_blank, gap-occurs, sees_nothing}
 use Rattle.simplecss_text.proofs.reading.DeclarationsLawful.{declaration-lawful, declaration_in_block-ends}
 use Rattle.simplecss_text.proofs.cutting.StatementEnds.{part_and_comma-ends, parts-ends}
 use Rattle.simplecss_text.proofs.cutting.StatementCuts.{next_statement-well}
@@ -25,7 +25,7 @@ use Rattle.simplecss_text.specs.Neighbours.{Side}
 use Rattle.simplecss_text.specs.Neighbours.Side.{open_side}
 use Rattle.simplecss_text.specs.TokenSequences.{TokenSequence, sequence, sequence_from}
 use Rattle.simplecss_text.specs.Selectors.{outcome, reads, selector_of}
-use Rattle.simplecss_text.proofs.reading.SequenceEndLemmas.{PieceStands, piece-stands}
+use Rattle.simplecss_text.proofs.reading.SequenceEndLemmas.{PieceOccurs, piece-occurs}
 use Rattle.simplecss_text.proofs.reading.PiecesLawful.{solid-lawful}
 
 -- ---- selectors
@@ -33,7 +33,7 @@ use Rattle.simplecss_text.proofs.reading.PiecesLawful.{solid-lawful}
 piece-editions : (text : List ℕ) → Shared text
     → piece first_edition text ≡ piece second_edition text
 unfolding piece
-piece-editions text h = by (gap text) (gap-stands text)
+piece-editions text h = by (gap text) (gap-occurs text)
   where
     solid_then : Edition → Bool → Reader Piece
     solid_then edition spaced start = follow (solid edition start)
@@ -45,7 +45,7 @@ piece-editions text h = by (gap text) (gap-stands text)
           after = after;
         }) after)
 
-    by : (r : Reading Bool) → Stands text no_texts r
+    by : (r : Reading Bool) → Occurs text no_texts r
         → follow r (solid_then first_edition) ≡ follow r (solid_then second_edition)
     by (got spaced start) s = ap (λ r. follow r
         (λ token after. got (record {
@@ -60,9 +60,9 @@ piece-editions text h = by (gap text) (gap-stands text)
 
 next_piece-ends : (edition : Edition) (text : List ℕ) → EndsFound text (next_piece edition text)
 next_piece-ends edition text = by (piece edition text)
-    (piece-stands sees_nothing edition text text tt (ends-same text))
+    (piece-occurs sees_nothing edition text text tt (ends-same text))
   where
-    by : (r : Reading Piece) → PieceStands no_texts text r → EndsFound text (found r)
+    by : (r : Reading Piece) → PieceOccurs no_texts text r → EndsFound text (found r)
     by (got p rest) h = ends-ends text p.start rest h.0 (ends-ends p.start p.after rest h.1 h.2)
     by (fails fault rest) h = tt
 
@@ -74,9 +74,9 @@ pieces-editions text h = each-editions (next_piece first_edition) (next_piece se
 ending-editions : (text : List ℕ) → Shared text
     → ending first_edition text ≡ ending second_edition text
 unfolding ending
-ending-editions text h = by (gap text) (gap-stands text)
+ending-editions text h = by (gap text) (gap-occurs text)
   where
-    by : (r : Reading Bool) → Stands text no_texts r
+    by : (r : Reading Bool) → Occurs text no_texts r
         → gap_ending first_edition r ≡ gap_ending second_edition r
     by (fails fault after) s = refl
     by (got spaced start) s = ap (solid_ending spaced start)

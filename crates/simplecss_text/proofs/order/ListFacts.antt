@@ -60,22 +60,22 @@ passes p (x ∷ xs) zero d h e = record {
 passes p (x ∷ xs) (suc i) d h e = passes_at p x xs i d (p x) refl (passes p xs i d (omega arith) e)
 
 -- each element of the part is somewhere in the list
-pub record StandsAt {X : Type 0} (p : X → Bool) (xs : List X) (j : ℕ) (d : X) : Type 0 where
+pub record OccursAt {X : Type 0} (p : X → Bool) (xs : List X) (j : ℕ) (d : X) : Type 0 where
   pub at : ℕ
   pub within : at < length xs
   pub before : passing p (take at xs) ≡ j
   pub same : get_or xs at d ≡ get_or (filter p xs) j d
 
-stands_at : {X : Type 0} (p : X → Bool) (x : X) (xs : List X) (j : ℕ) (d : X) (b : Bool) → p x ≡ b
-    → ((i : ℕ) → i < passing p xs → StandsAt p xs i d) → j < passing p (x ∷ xs)
-    → StandsAt p (x ∷ xs) j d
-stands_at p x xs zero d true e later h = record {
+occurs_at : {X : Type 0} (p : X → Bool) (x : X) (xs : List X) (j : ℕ) (d : X) (b : Bool) → p x ≡ b
+    → ((i : ℕ) → i < passing p xs → OccursAt p xs i d) → j < passing p (x ∷ xs)
+    → OccursAt p (x ∷ xs) j d
+occurs_at p x xs zero d true e later h = record {
   at = 0;
   within = omega arith;
   before = refl;
   same = sym (ap (λ l. get_or l 0 d) (head_passes p x xs e));
 }
-stands_at p x xs (suc j) d true e later h =
+occurs_at p x xs (suc j) d true e later h =
     let short : j < passing p xs = omega (arith, ap length (head_passes p x xs e)) in
     let s = later j short in
     record {
@@ -84,7 +84,7 @@ stands_at p x xs (suc j) d true e later h =
       before = ap length (head_passes p x (take s.at xs) e) ∙ ap suc s.before;
       same = s.same ∙ sym (ap (λ l. get_or l (suc j) d) (head_passes p x xs e));
     }
-stands_at p x xs j d false e later h =
+occurs_at p x xs j d false e later h =
     let s = later j (subst (λ n. j < n) (ap length (head_fails p x xs e)) h) in
     record {
       at = suc s.at;
@@ -93,10 +93,10 @@ stands_at p x xs j d false e later h =
       same = s.same ∙ sym (ap (λ l. get_or l j d) (head_fails p x xs e));
     }
 
-pub stands : {X : Type 0} (p : X → Bool) (xs : List X) (j : ℕ) (d : X) → j < passing p xs
-    → StandsAt p xs j d
-stands p [] j d h = absurd (omega arith)
-stands p (x ∷ xs) j d h = stands_at p x xs j d (p x) refl (λ i. stands p xs i d) h
+pub occurs : {X : Type 0} (p : X → Bool) (xs : List X) (j : ℕ) (d : X) → j < passing p xs
+    → OccursAt p xs j d
+occurs p [] j d h = absurd (omega arith)
+occurs p (x ∷ xs) j d h = occurs_at p x xs j d (p x) refl (λ i. occurs p xs i d) h
 
 -- ---- what is found, and lists that are gathered
 

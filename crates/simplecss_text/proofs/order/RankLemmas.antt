@@ -10,7 +10,7 @@ use Rattle.std.proofs.lemmas.List.Elements.{filter-append, filter_agree}
 use Rattle.std.proofs.lemmas.List.Sums.{length-filter}
 use Rattle.std.proofs.lemmas.List.Sorted.{sorted_far, sum_by-IsPermutation, length_permutation, IsPermutation-refl, IsPermutation-trans, IsPermutation-cons, IsPermutation-sym, IsPermutation-middle}
 use Rattle.std.proofs.lemmas.List.FromFn.{get_or-enumerate_from, length-enumerate_from}
-use Rattle.simplecss_text.proofs.order.ListFacts.{all-map, all_at, all_filter, all_map, filter-map, filter_and, filter_head, filter_swap, found, gathered, head_fails, head_passes, none_pass, passes, passing, passing-map, stands}
+use Rattle.simplecss_text.proofs.order.ListFacts.{all-map, all_at, all_filter, all_map, filter-map, filter_and, filter_head, filter_swap, found, gathered, head_fails, head_passes, none_pass, passes, passing, passing-map, occurs}
 use Rattle.simplecss_text.specs.Ranks.{rank_by, of_rank, ordered_by}
 
 -- ---- tests
@@ -72,7 +72,7 @@ module _ {X : Type 0} (lt : X → X → Bool) (o : IsStrictWeakOrder lt) where
       let x : X = get_or xs i d in
       let s = passes (ties lt x) xs i d h (ties_itself x) in
       let t =
-      stands (ties lt x) ys (passing (ties lt x) (take i xs)) d
+      occurs (ties lt x) ys (passing (ties lt x) (take i xs)) d
       (subst (λ (l : List X). passing (ties lt x) (take i xs) < length l) (sym (stable x))
       s.short) in
       let same : get_or ys t.at d ≡ x =

@@ -18,7 +18,7 @@ use Rattle.simplecss_text.specs.Terms.{arguments, begins_number, is_hex_digit, i
 use Rattle.simplecss_text.specs.Declarations.{StyleDeclaration, after_term, declaration, importance, important_word, last_or, semicolon, semicolons, stated_name, term_in_value, terms, trailing, unless_empty, value, value_reader}
 use Rattle.simplecss_text.specs.Blocks.{block_end, declaration_in_block, ends_list, from_block_end}
 use Rattle.simplecss_text.specs.Names.{begins_name, name}
-use Rattle.simplecss_text.proofs.reading.EndsLemmas.{EndsFound, Stands, ends-drop, length-ends, no_texts}
+use Rattle.simplecss_text.proofs.reading.EndsLemmas.{EndsFound, Occurs, ends-drop, length-ends, no_texts}
 use Rattle.simplecss_text.proofs.reading.WellLemmas.{EndsWell, WellFound, each-well, found-ends, found-text, well-blank, well-closed, well-name, well-past, well-past_blank, well-tail, well-then}
 use Rattle.simplecss_text.proofs.bytes.Utf8Lemmas.{utf8-second, chars-byte}
 use Rattle.simplecss_text.proofs.reading.GotLemmas.{IfAfter, after_byte-after, starts-cons}
@@ -31,7 +31,7 @@ use Rattle.simplecss_text.proofs.reading.NameLocal.{past_hash-seam}
 use Rattle.simplecss_text.proofs.reading.SearchLemmas.{brace_plain, closed-diverge, past_blank-to}
 use Rattle.simplecss_text.proofs.reading.ReadNames.{name-none_begins}
 use Rattle.simplecss_text.proofs.reading.EditionLaws.{Shared, each-editions, name-editions, shared-ends}
-use Rattle.simplecss_text.proofs.reading.Lawful.{Lawful, Owes, blank-lawful, byte-lawful, lawful-cases, lawful-guarded, lawful-keeps, lawful-stands, name-lawful, name-owes, optional-lawful, owes-choice, owes-cuts, owes-fails, owes-follow, owes-give, owes-if, owes-past, owes-sign, owes-so, owes-starts, passes-sign, past-lawful, past_name-lawful, string_after-lawful, takes-passed}
+use Rattle.simplecss_text.proofs.reading.Lawful.{Lawful, Owes, blank-lawful, byte-lawful, lawful-cases, lawful-guarded, lawful-keeps, lawful-occurs, name-lawful, name-owes, optional-lawful, owes-choice, owes-cuts, owes-fails, owes-follow, owes-give, owes-if, owes-past, owes-sign, owes-so, owes-starts, passes-sign, past-lawful, past_name-lawful, string_after-lawful, takes-passed}
 
 -- ---- terms
 
@@ -236,8 +236,8 @@ term-lawful c = lawful-cases term term (λ e. term-cuts) (owes-fails ended ended
     (λ edition e. owes-past b (single-low edition b r e) (owes-give tt r s))
     (word-owes c (b ∷ r) (b ∷ s) (λ e is. number_hyphen b e1 (cc)))))))
 
-pub term-stands : (edition : Edition) (text : List ℕ) → Stands text no_texts (term edition text)
-term-stands edition text = lawful-stands term term (term-lawful true) edition text
+pub term-occurs : (edition : Edition) (text : List ℕ) → Occurs text no_texts (term edition text)
+term-occurs edition text = lawful-occurs term term (term-lawful true) edition text
 
 -- ---- values
 
@@ -497,9 +497,9 @@ trailing-lawful r s =
     owes-follow _ _ (semicolons-lawful r s) (λ u r s.
     owes-follow _ _ (blank-lawful r s) (λ u. owes-give important)))))
 
-pub trailing-stands : (text : List ℕ) → Stands text no_texts (trailing text)
-trailing-stands text =
-    lawful-stands (λ edition. trailing) (λ edition. trailing) trailing-lawful first_edition text
+pub trailing-occurs : (text : List ℕ) → Occurs text no_texts (trailing text)
+trailing-occurs text =
+    lawful-occurs (λ edition. trailing) (λ edition. trailing) trailing-lawful first_edition text
 
 -- ---- declarations
 
@@ -539,10 +539,10 @@ stated_name-cuts edition text =
     (λ property. lawful-keeps (name_end property) (name_end property)
     (name_end-lawful property) edition)))
 
-pub stated_name-stands : (edition : Edition) (text : List ℕ)
-    → Stands text no_texts (stated_name edition text)
-stated_name-stands edition text =
-    lawful-stands stated_name stated_name stated_name-lawful edition text
+pub stated_name-occurs : (edition : Edition) (text : List ℕ)
+    → Occurs text no_texts (stated_name edition text)
+stated_name-occurs edition text =
+    lawful-occurs stated_name stated_name stated_name-lawful edition text
 
 -- a declaration after its name and its colon
 abbrev pub stated_value : List ℕ → Edition → Reader StyleDeclaration
@@ -597,10 +597,10 @@ declaration-steps edition text =
     follow-follow (byte colon d) _ more _ (λ u e.
     follow-follow (blank e) (λ u. give property) more _ (λ u start. refl)))))
 
-pub declaration-stands : (edition : Edition) (text : List ℕ)
-    → Stands text no_texts (declaration edition text)
-declaration-stands edition text =
-    lawful-stands declaration declaration declaration-lawful edition text
+pub declaration-occurs : (edition : Edition) (text : List ℕ)
+    → Occurs text no_texts (declaration edition text)
+declaration-occurs edition text =
+    lawful-occurs declaration declaration declaration-lawful edition text
 
 -- ---- blocks
 

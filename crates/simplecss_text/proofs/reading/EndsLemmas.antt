@@ -7,7 +7,7 @@ use Rattle.std.proofs.lemmas.List.{take-append-drop}
 use Rattle.simplecss_text.specs.Reading.{Fault, Reading, got, fails, Reader, follow, left_after, and_then, up_to, each, before, Ends}
 use Rattle.simplecss_text.specs.Bytes.{past_one, past_byte, past}
 use Rattle.std.specs.List.{prefix_len}
-use Rattle.simplecss_text.specs.Slices.{StandBetween}
+use Rattle.simplecss_text.specs.Slices.{OccurBetween}
 
 -- what is before a rest is the front that was put there
 pub before-append : (front rest : List ℕ) → before (front ++ rest) rest ≡ front
@@ -106,46 +106,46 @@ unfolding each
 each-ends read ends text = up_to-ends read ends (length text) text
 
 -- texts between two rests are between an earlier and a later one too
-pub stand-from : (from middle to : List ℕ) (texts : List (List ℕ)) → Ends from middle
-    → StandBetween middle to texts → StandBetween from to texts
-stand-from from middle to [] e h = ends-ends from middle to e h
-stand-from from middle to (s ∷ ss) e (start, end, a, b, c, d) =
+pub occur-from : (from middle to : List ℕ) (texts : List (List ℕ)) → Ends from middle
+    → OccurBetween middle to texts → OccurBetween from to texts
+occur-from from middle to [] e h = ends-ends from middle to e h
+occur-from from middle to (s ∷ ss) e (start, end, a, b, c, d) =
     (start, end, ends-ends from middle start e a, b, c, d)
 
-pub stand-to : (from middle to : List ℕ) (texts : List (List ℕ)) → StandBetween from middle texts
-    → Ends middle to → StandBetween from to texts
-stand-to from middle to [] h e = ends-ends from middle to h e
-stand-to from middle to (s ∷ ss) (start, end, a, b, c, d) e =
-    (start, end, a, b, c, stand-to end middle to ss d e)
+pub occur-to : (from middle to : List ℕ) (texts : List (List ℕ)) → OccurBetween from middle texts
+    → Ends middle to → OccurBetween from to texts
+occur-to from middle to [] h e = ends-ends from middle to h e
+occur-to from middle to (s ∷ ss) (start, end, a, b, c, d) e =
+    (start, end, a, b, c, occur-to end middle to ss d e)
 
 -- texts, and then others
-pub stand-append : (from middle to : List ℕ) (ss ts : List (List ℕ)) → StandBetween from middle ss
-    → StandBetween middle to ts → StandBetween from to (ss ++ ts)
-stand-append from middle to [] ts h k = stand-from from middle to ts h k
-stand-append from middle to (s ∷ ss) ts (start, end, a, b, c, d) k =
-    (start, end, a, b, c, stand-append end middle to ss ts d k)
+pub occur-append : (from middle to : List ℕ) (ss ts : List (List ℕ)) → OccurBetween from middle ss
+    → OccurBetween middle to ts → OccurBetween from to (ss ++ ts)
+occur-append from middle to [] ts h k = occur-from from middle to ts h k
+occur-append from middle to (s ∷ ss) ts (start, end, a, b, c, d) k =
+    (start, end, a, b, c, occur-append end middle to ss ts d k)
 
 -- where texts are between two rests, the later one is an end of the earlier one
-pub stand-ends : (from to : List ℕ) (texts : List (List ℕ)) → StandBetween from to texts
+pub occur-ends : (from to : List ℕ) (texts : List (List ℕ)) → OccurBetween from to texts
     → Ends from to
-stand-ends from to [] h = h
-stand-ends from to (s ∷ ss) (start, end, a, b, c, d) =
-    ends-ends from start to a (ends-ends start end to b (stand-ends end to ss d))
+occur-ends from to [] h = h
+occur-ends from to (s ∷ ss) (start, end, a, b, c, d) =
+    ends-ends from start to a (ends-ends start end to b (occur-ends end to ss d))
 
 -- what is before a rest is between the text and that rest
-pub stand-before : (text rest : List ℕ) → Ends text rest
-    → StandBetween text rest (before text rest ∷ [])
-stand-before text rest e = (text, rest, ends-same text, e, refl, ends-same rest)
+pub occur-before : (text rest : List ℕ) → Ends text rest
+    → OccurBetween text rest (before text rest ∷ [])
+occur-before text rest e = (text, rest, ends-same text, e, refl, ends-same rest)
 
 -- After a reading an end of the text is left, and the texts of the value that it yields are before
 -- it.
-abbrev pub StandsIn : {A : Type 0} → List ℕ → (A → List (List ℕ)) → Reading A → Type 0
-StandsIn text texts (got x rest) = StandBetween text rest (texts x)
-StandsIn text texts (fails fault rest) = Ends text rest
+abbrev pub OccursIn : {A : Type 0} → List ℕ → (A → List (List ℕ)) → Reading A → Type 0
+OccursIn text texts (got x rest) = OccurBetween text rest (texts x)
+OccursIn text texts (fails fault rest) = Ends text rest
 
-pub record Stands {A : Type 0} (text : List ℕ) (texts : A → List (List ℕ)) (r : Reading A) : Type 0
+pub record Occurs {A : Type 0} (text : List ℕ) (texts : A → List (List ℕ)) (r : Reading A) : Type 0
   where
-    pub at : StandsIn text texts r
+    pub at : OccursIn text texts r
 
 -- a value without texts
 abbrev pub no_texts : {A : Type 0} → A → List (List ℕ)
@@ -155,64 +155,64 @@ no_texts x = []
 abbrev pub itself : List ℕ → List (List ℕ)
 itself s = s ∷ []
 
-pub stands-ends : {A : Type 0} (text : List ℕ) (texts : A → List (List ℕ)) (r : Reading A)
-    → Stands text texts r → Ends text (left_after r)
-stands-ends text texts (got x rest) h = stand-ends text rest (texts x) h.at
-stands-ends text texts (fails fault rest) h = h.at
+pub occurs-ends : {A : Type 0} (text : List ℕ) (texts : A → List (List ℕ)) (r : Reading A)
+    → Occurs text texts r → Ends text (left_after r)
+occurs-ends text texts (got x rest) h = occur-ends text rest (texts x) h.at
+occurs-ends text texts (fails fault rest) h = h.at
 
 -- a reading whose texts are not seen, by what it leaves
-pub stands-none : {A : Type 0} (text : List ℕ) (r : Reading A) → Ends text (left_after r)
-    → Stands text no_texts r
-stands-none text (got x rest) h = record { at = h }
-stands-none text (fails fault rest) h = record { at = h }
+pub occurs-none : {A : Type 0} (text : List ℕ) (r : Reading A) → Ends text (left_after r)
+    → Occurs text no_texts r
+occurs-none text (got x rest) h = record { at = h }
+occurs-none text (fails fault rest) h = record { at = h }
 
 -- the texts need not be seen
-pub stands-unseen : {A : Type 0} (text : List ℕ) (texts : A → List (List ℕ)) (r : Reading A)
-    → Stands text texts r → Stands text no_texts r
-stands-unseen text texts (got x rest) h = record { at = stand-ends text rest (texts x) h.at }
-stands-unseen text texts (fails fault rest) h = record { at = h.at }
+pub occurs-unseen : {A : Type 0} (text : List ℕ) (texts : A → List (List ℕ)) (r : Reading A)
+    → Occurs text texts r → Occurs text no_texts r
+occurs-unseen text texts (got x rest) h = record { at = occur-ends text rest (texts x) h.at }
+occurs-unseen text texts (fails fault rest) h = record { at = h.at }
 
-pub stands-got : {A : Type 0} (text : List ℕ) (texts : A → List (List ℕ)) (r : Reading A) (x : A)
-    (rest : List ℕ) → Stands text texts r → r ≡ got x rest → StandBetween text rest (texts x)
-stands-got text texts r x rest h e = subst (StandsIn text texts) e h.at
+pub occurs-got : {A : Type 0} (text : List ℕ) (texts : A → List (List ℕ)) (r : Reading A) (x : A)
+    (rest : List ℕ) → Occurs text texts r → r ≡ got x rest → OccurBetween text rest (texts x)
+occurs-got text texts r x rest h e = subst (OccursIn text texts) e h.at
 
 pub ends-got : {A : Type 0} (text : List ℕ) (texts : A → List (List ℕ)) (r : Reading A) (x : A)
-    (rest : List ℕ) → Stands text texts r → r ≡ got x rest → Ends text rest
+    (rest : List ℕ) → Occurs text texts r → r ≡ got x rest → Ends text rest
 ends-got text texts r x rest h e =
-    stand-ends text rest (texts x) (stands-got _ _ _ _ _ h e)
+    occur-ends text rest (texts x) (occurs-got _ _ _ _ _ h e)
 
 pub ends-fails : {A : Type 0} (text : List ℕ) (texts : A → List (List ℕ)) (r : Reading A)
-    (fault : Fault) (rest : List ℕ) → Stands text texts r → r ≡ fails fault rest → Ends text rest
-ends-fails text texts r fault rest h e = subst (StandsIn text texts) e h.at
+    (fault : Fault) (rest : List ℕ) → Occurs text texts r → r ≡ fails fault rest → Ends text rest
+ends-fails text texts r fault rest h e = subst (OccursIn text texts) e h.at
 
 -- more text in front
-pub stands-from : {A : Type 0} (text middle : List ℕ) (texts : A → List (List ℕ)) (r : Reading A)
-    → Ends text middle → Stands middle texts r → Stands text texts r
-stands-from text middle texts (got x rest) e h =
-    record { at = stand-from text middle rest (texts x) e h.at }
-stands-from text middle texts (fails fault rest) e h =
+pub occurs-from : {A : Type 0} (text middle : List ℕ) (texts : A → List (List ℕ)) (r : Reading A)
+    → Ends text middle → Occurs middle texts r → Occurs text texts r
+occurs-from text middle texts (got x rest) e h =
+    record { at = occur-from text middle rest (texts x) e h.at }
+occurs-from text middle texts (fails fault rest) e h =
     record { at = ends-ends text middle rest e h.at }
 
-pub stands-if : {A : Type 0} {text : List ℕ} {texts : A → List (List ℕ)} (t : Bool)
-    {x y : Reading A} → Stands text texts x → Stands text texts y
-    → Stands text texts (if t then x else y)
-stands-if true a b = a
-stands-if false a b = b
+pub occurs-if : {A : Type 0} {text : List ℕ} {texts : A → List (List ℕ)} (t : Bool)
+    {x y : Reading A} → Occurs text texts x → Occurs text texts y
+    → Occurs text texts (if t then x else y)
+occurs-if true a b = a
+occurs-if false a b = b
 
 -- one thing after another, where texts were consumed before the first
-pub stands-then : {A B : Type 0} (from text : List ℕ) (front : List (List ℕ))
+pub occurs-then : {A B : Type 0} (from text : List ℕ) (front : List (List ℕ))
     (seen : A → List (List ℕ)) (texts : B → List (List ℕ)) (r : Reading A) (next : A → Reader B)
-    → StandBetween from text front → Stands text seen r
-    → ((x : A) (rest : List ℕ) → r ≡ got x rest → StandBetween from rest (front ++ seen x)
-    → Stands from texts (next x rest)) → Stands from texts (follow r next)
-stands-then from text front seen texts (got x rest) next f h more =
-    more x rest refl (stand-append from text rest front (seen x) f h.at)
-stands-then from text front seen texts (fails fault rest) next f h more =
-    record { at = ends-ends from text rest (stand-ends from text front f) h.at }
+    → OccurBetween from text front → Occurs text seen r
+    → ((x : A) (rest : List ℕ) → r ≡ got x rest → OccurBetween from rest (front ++ seen x)
+    → Occurs from texts (next x rest)) → Occurs from texts (follow r next)
+occurs-then from text front seen texts (got x rest) next f h more =
+    more x rest refl (occur-append from text rest front (seen x) f h.at)
+occurs-then from text front seen texts (fails fault rest) next f h more =
+    record { at = ends-ends from text rest (occur-ends from text front f) h.at }
 
-pub stands-follow : {A B : Type 0} (text : List ℕ) (seen : A → List (List ℕ))
-    (texts : B → List (List ℕ)) (r : Reading A) (next : A → Reader B) → Stands text seen r
-    → ((x : A) (rest : List ℕ) → r ≡ got x rest → StandBetween text rest (seen x)
-    → Stands text texts (next x rest)) → Stands text texts (follow r next)
-stands-follow text seen texts r next h more =
-    stands-then text text [] seen texts r next (ends-same text) h more
+pub occurs-follow : {A B : Type 0} (text : List ℕ) (seen : A → List (List ℕ))
+    (texts : B → List (List ℕ)) (r : Reading A) (next : A → Reader B) → Occurs text seen r
+    → ((x : A) (rest : List ℕ) → r ≡ got x rest → OccurBetween text rest (seen x)
+    → Occurs text texts (next x rest)) → Occurs text texts (follow r next)
+occurs-follow text seen texts r next h more =
+    occurs-then text text [] seen texts r next (ends-same text) h more

@@ -10,7 +10,7 @@ use Rattle.simplecss_text.specs.Characters.{Edition, first_edition, second_editi
 use Rattle.simplecss_text.specs.Comments.{blank}
 use Rattle.simplecss_text.specs.Names.{name}
 use Rattle.simplecss_text.specs.Strings.{is_quote, string_after}
-use Rattle.simplecss_text.proofs.reading.EndsLemmas.{Stands, length-ends, no_texts, stands-none}
+use Rattle.simplecss_text.proofs.reading.EndsLemmas.{Occurs, length-ends, no_texts, occurs-none}
 use Rattle.simplecss_text.proofs.reading.TakesLemmas.{Cuts, Keeps, keeps-cuts}
 use Rattle.simplecss_text.proofs.reading.WellLemmas.{EndsWell, well-blank, well-byte, well-name, well-past, well-past_byte, well-same, well-sign, well-string, well-tail, well-then}
 use Rattle.simplecss_text.proofs.reading.LocalLemmas.{Diverge, Equal, Guard, Passed, ContinuesNothing, Seam, To, at, at-brace, beyond-less, beyond-within, byte-guarded, guard-follow, guard-got, on, passed-beyond, past-seam, past_byte-to, past_one-to, starts-seam}
@@ -280,9 +280,9 @@ owes-cuts {r = r} {a = a} k p edition =
     (length-ends r (left_after (a edition)) (p.left edition).0)
 
 -- it is an end of the text
-pub lawful-stands : {A : Type 0} {c : Bool} (m n : Edition → Reader A) → Lawful c m n
-    → (edition : Edition) (text : List ℕ) → Stands text no_texts (m edition text)
-lawful-stands m n p edition text = stands-none text (m edition text) ((p text text).left edition).0
+pub lawful-occurs : {A : Type 0} {c : Bool} (m n : Edition → Reader A) → Lawful c m n
+    → (edition : Edition) (text : List ℕ) → Occurs text no_texts (m edition text)
+lawful-occurs m n p edition text = occurs-none text (m edition text) ((p text text).left edition).0
 
 -- it is UTF-8 if the text is
 pub lawful-text : {A : Type 0} {c : Bool} (m n : Edition → Reader A) → Lawful c m n

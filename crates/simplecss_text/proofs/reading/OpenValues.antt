@@ -10,9 +10,9 @@ use Rattle.simplecss_text.specs.Declarations.{StyleDeclaration, declaration, imp
 use Rattle.simplecss_text.specs.Blocks.{declaration_in_block, ends_list}
 use Rattle.simplecss_text.specs.Skipped.{Skip, open_value, block_skips, declaration_skips, is_open_term, list_skips, open_skips, skips_after_name}
 use Rattle.simplecss_text.proofs.reading.EachLemmas.{each-none, each-some, not_empty, option_cases, took}
-use Rattle.simplecss_text.proofs.reading.EndsLemmas.{ends-ends, no_texts, stands-ends}
+use Rattle.simplecss_text.proofs.reading.EndsLemmas.{ends-ends, no_texts, occurs-ends}
 use Rattle.simplecss_text.proofs.reading.TakesLemmas.{each-within}
-use Rattle.simplecss_text.proofs.reading.DeclarationsLawful.{stated_name-stands, stated_value, terms-well}
+use Rattle.simplecss_text.proofs.reading.DeclarationsLawful.{stated_name-occurs, stated_value, terms-well}
 use Rattle.simplecss_text.proofs.reading.DeclarationLemmas.{declaration_in_block-takes}
 use Rattle.simplecss_text.proofs.reading.SkipLemmas.{skips_of_each-some, skips_of_each-none}
 
@@ -27,7 +27,7 @@ pub declaration_skips-at : (edition : Edition) (text : List ℕ)
 unfolding declaration_skips
 declaration_skips-at edition text =
     by (stated_name edition text)
-    (stands-ends text no_texts (stated_name edition text) (stated_name-stands edition text))
+    (occurs-ends text no_texts (stated_name edition text) (stated_name-occurs edition text))
   where
     by : (r : Reading (List ℕ)) → Ends text (left_after r)
         → (skips_after_name edition r ≡ [])

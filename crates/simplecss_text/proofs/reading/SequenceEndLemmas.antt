@@ -7,7 +7,7 @@ use Rattle.simplecss_text.specs.Reading.{Reading, got, fails, follow, found, and
 use Rattle.simplecss_text.specs.Bytes.{past_one}
 use Rattle.simplecss_text.specs.declared.next_kind.NextKind.{NextKind}
 use Rattle.simplecss_text.specs.declared.next_kind.NextKind.TheVariants.{Stop, Slash}
-use Rattle.simplecss_text.specs.Slices.{StandBetween}
+use Rattle.simplecss_text.specs.Slices.{OccurBetween}
 use Rattle.simplecss_text.specs.Characters.{Edition}
 use Rattle.simplecss_text.specs.Comments.{gap}
 use Rattle.simplecss_text.specs.Tokens.{Token, token_texts}
@@ -22,25 +22,25 @@ use Rattle.simplecss_text.specs.TokenSequences.TokenSequence.{item, sequence_end
 use Rattle.simplecss_text.specs.Selectors.{Role, role_of, Outcome, with_role, after_role, outcome, selector_of, reads}
 use Rattle.simplecss_text.specs.Selectors.Outcome.{refused, accepted}
 use Rattle.simplecss_text.proofs.reading.KindLemmas.{between-case, fault_ending-case}
-use Rattle.simplecss_text.proofs.reading.EndsLemmas.{ends-same, ends-ends, ends-past_one, stand-from, stand-ends, Stands, no_texts}
-use Rattle.simplecss_text.proofs.reading.StandLemmas.{gap-stands, Sees, sees_nothing, sees_texts, solid-stands}
+use Rattle.simplecss_text.proofs.reading.EndsLemmas.{ends-same, ends-ends, ends-past_one, occur-from, occur-ends, Occurs, no_texts}
+use Rattle.simplecss_text.proofs.reading.OccurrenceLemmas.{gap-occurs, Sees, sees_nothing, sees_texts, solid-occurs}
 
 -- The texts of a sequence's tokens are in order in the text, each after the rest that the item
 -- before left.
-abbrev pub SequenceStands : (Token → List (List ℕ)) → List ℕ → TokenSequence → Type 0
-SequenceStands texts text (item (Ok token) after rest) = StandBetween text after (texts token)
-    × SequenceStands texts after rest
-SequenceStands texts text (item (Err fault) after rest) = Ends text after
-    × SequenceStands texts after rest
-SequenceStands texts text (sequence_end left) = Ends text left
+abbrev pub SequenceOccurs : (Token → List (List ℕ)) → List ℕ → TokenSequence → Type 0
+SequenceOccurs texts text (item (Ok token) after rest) = OccurBetween text after (texts token)
+    × SequenceOccurs texts after rest
+SequenceOccurs texts text (item (Err fault) after rest) = Ends text after
+    × SequenceOccurs texts after rest
+SequenceOccurs texts text (sequence_end left) = Ends text left
 
-sequence-stands-from : (texts : Token → List (List ℕ)) (from text : List ℕ) (r : TokenSequence)
-    → Ends from text → SequenceStands texts text r → SequenceStands texts from r
-sequence-stands-from texts from text (item (Ok token) after rest) e h =
-    (stand-from from text after (texts token) e h.0, h.1)
-sequence-stands-from texts from text (item (Err fault) after rest) e h =
+sequence-occurs-from : (texts : Token → List (List ℕ)) (from text : List ℕ) (r : TokenSequence)
+    → Ends from text → SequenceOccurs texts text r → SequenceOccurs texts from r
+sequence-occurs-from texts from text (item (Ok token) after rest) e h =
+    (occur-from from text after (texts token) e h.0, h.1)
+sequence-occurs-from texts from text (item (Err fault) after rest) e h =
     (ends-ends from text after e h.0, h.1)
-sequence-stands-from texts from text (sequence_end left) e h = ends-ends from text left e h
+sequence-occurs-from texts from text (sequence_end left) e h = ends-ends from text left e h
 
 -- ---- the answers between neighbours
 
@@ -55,15 +55,15 @@ between-ends : (text : List ℕ) (side : Side) (spaced : Bool) (kind : NextKind)
 between-ends text side spaced kind start after s a = between-case (AnswerEnds text) side spaced kind
     start after tt (λ e. tt) (λ f k. s) (λ f. a)
 
-answered-stands : {Good : List ℕ → Type 0} {texts : Token → List (List ℕ)} → Sees Good texts
+answered-occurs : {Good : List ℕ → Type 0} {texts : Token → List (List ℕ)} → Sees Good texts
     → (text : List ℕ) (answer : Answer) (start : List ℕ) (next : TokenSequence)
-    → AnswerEnds text answer → Ends text start → SequenceStands texts start next
-    → SequenceStands texts text (answered answer start next)
-answered-stands {texts = texts} sees text nothing start next a s h = sequence-stands-from texts text
+    → AnswerEnds text answer → Ends text start → SequenceOccurs texts start next
+    → SequenceOccurs texts text (answered answer start next)
+answered-occurs {texts = texts} sees text nothing start next a s h = sequence-occurs-from texts text
     start next s h
-answered-stands {texts = texts} sees text descends start next a s h =
+answered-occurs {texts = texts} sees text descends start next a s h =
     ((sees.seen text (got descendant_combinator start) (record { at = s })).at, h)
-answered-stands sees text (refuses fault after) start next a s h = (a, ends-same after)
+answered-occurs sees text (refuses fault after) start next a s h = (a, ends-same after)
 
 -- ---- endings
 
@@ -74,21 +74,21 @@ EndingEnds text (without_head spaced start fault after) = Ends text start × End
 EndingEnds text (within_piece spaced start fault after) = Ends text start × Ends start after
 EndingEnds text (within_gap fault after) = Ends text after
 
-ending_sequence-stands : {Good : List ℕ → Type 0} {texts : Token → List (List ℕ)} → Sees Good texts
+ending_sequence-occurs : {Good : List ℕ → Type 0} {texts : Token → List (List ℕ)} → Sees Good texts
     → (text : List ℕ) (side : Side) (end : Ending) → EndingEnds text end
-    → SequenceStands texts text (ending_sequence side end)
-ending_sequence-stands {texts = texts} sees text side end = by side end
+    → SequenceOccurs texts text (ending_sequence side end)
+ending_sequence-occurs {texts = texts} sees text side end = by side end
   where
     descends_at : (start : List ℕ) → Ends text start
-        → StandBetween text start (texts descendant_combinator)
+        → OccurBetween text start (texts descendant_combinator)
     descends_at start h = (sees.seen text (got descendant_combinator start) (record { at = h })).at
 
     by : (side : Side) (end : Ending) → EndingEnds text end
-        → SequenceStands texts text (ending_sequence side end)
-    by side (at_stop spaced start) h = answered-stands sees text
+        → SequenceOccurs texts text (ending_sequence side end)
+    by side (at_stop spaced start) h = answered-occurs sees text
         (between side spaced Stop start start) start (sequence_end start)
         (between-ends text side spaced Stop start start h h) h (ends-same start)
-    by side (at_slash spaced start) h = answered-stands sees text
+    by side (at_slash spaced start) h = answered-occurs sees text
         (between side spaced Slash start (past_one start)) start (sequence_end start)
         (between-ends text side spaced Slash start (past_one start) h
         (ends-ends text start (past_one start) h (ends-past_one start))) h (ends-same start)
@@ -108,40 +108,40 @@ ending_sequence-stands {texts = texts} sees text side end = by side end
     by closed_side (within_gap fault after) h = (h, ends-same after)
 
 solid_ending-ends : (text : List ℕ) (spaced : Bool) (start : List ℕ) (r : Reading Token)
-    → Ends text start → Stands start no_texts r → EndingEnds text (solid_ending spaced start r)
+    → Ends text start → Occurs start no_texts r → EndingEnds text (solid_ending spaced start r)
 solid_ending-ends text spaced start (got token after) s h = s
 solid_ending-ends text spaced start (fails fault after) s h = fault_ending-case (EndingEnds text)
     (next_kind start) spaced start fault after (λ k. s) (λ k. s) (s, h.at) (s, h.at)
 
-gap_ending-ends : (edition : Edition) (text : List ℕ) (r : Reading Bool) → Stands text no_texts r
+gap_ending-ends : (edition : Edition) (text : List ℕ) (r : Reading Bool) → Occurs text no_texts r
     → EndingEnds text (gap_ending edition r)
 gap_ending-ends edition text (fails fault after) h = h.at
 gap_ending-ends edition text (got spaced start) h =
     solid_ending-ends text spaced start (solid edition start) h.at
-    (solid-stands sees_nothing edition start start tt (ends-same start))
+    (solid-occurs sees_nothing edition start start tt (ends-same start))
 
 -- the rests that an ending names are ends of the text
 ending-ends : (edition : Edition) (text : List ℕ) → EndingEnds text (ending edition text)
 unfolding ending
-ending-ends edition text = gap_ending-ends edition text (gap text) (gap-stands text)
+ending-ends edition text = gap_ending-ends edition text (gap text) (gap-occurs text)
 
 -- ---- pieces
 
 -- A piece that is read: its start is an end of the text, and its token's texts are from there to
 -- what it leaves.
-abbrev pub PieceStands : (Token → List (List ℕ)) → List ℕ → Reading Piece → Type 0
-PieceStands texts text (got p rest) = Ends text p.start
-    × StandBetween p.start p.after (texts p.token) × Ends p.after rest
-PieceStands texts text (fails fault rest) = Ends text rest
+abbrev pub PieceOccurs : (Token → List (List ℕ)) → List ℕ → Reading Piece → Type 0
+PieceOccurs texts text (got p rest) = Ends text p.start
+    × OccurBetween p.start p.after (texts p.token) × Ends p.after rest
+PieceOccurs texts text (fails fault rest) = Ends text rest
 
-pub piece-stands : {Good : List ℕ → Type 0} {texts : Token → List (List ℕ)} → Sees Good texts
+pub piece-occurs : {Good : List ℕ → Type 0} {texts : Token → List (List ℕ)} → Sees Good texts
     → (edition : Edition) (whole text : List ℕ) → Good whole → Ends whole text
-    → PieceStands texts text (piece edition text)
+    → PieceOccurs texts text (piece edition text)
 unfolding piece
-piece-stands {texts = texts} sees edition whole text good e = by (gap text) (gap-stands text)
+piece-occurs {texts = texts} sees edition whole text good e = by (gap text) (gap-occurs text)
   where
     inner : (spaced : Bool) (start : List ℕ) (r : Reading Token) → Ends text start
-        → Stands start texts r → PieceStands texts text
+        → Occurs start texts r → PieceOccurs texts text
         (follow r (λ token after. got (record {
           spaced = spaced;
           start = start;
@@ -153,8 +153,8 @@ piece-stands {texts = texts} sees edition whole text good e = by (gap text) (gap
     inner spaced start (got token after) s h = (s, h.at, ends-same after)
     inner spaced start (fails fault after) s h = ends-ends text start after s h.at
 
-    by : (r : Reading Bool) → Stands text no_texts r
-        → PieceStands texts text (follow r (λ spaced start. follow (solid edition start)
+    by : (r : Reading Bool) → Occurs text no_texts r
+        → PieceOccurs texts text (follow r (λ spaced start. follow (solid edition start)
         (λ token after. got (record {
           spaced = spaced;
           start = start;
@@ -163,88 +163,88 @@ piece-stands {texts = texts} sees edition whole text good e = by (gap text) (gap
           after = after;
         }) after)))
     by (got spaced start) h = inner spaced start (solid edition start) h.at
-        (solid-stands sees edition whole start good (ends-ends whole text start e h.at))
+        (solid-occurs sees edition whole start good (ends-ends whole text start e h.at))
     by (fails fault rest) h = h.at
 
 -- pieces, each after the one before, and what is left after the last
-abbrev PiecesStand : (Token → List (List ℕ)) → List ℕ → List Piece × List ℕ → Type 0
-PiecesStand texts text ([], left) = Ends text left
-PiecesStand texts text (p ∷ ps, left) = Ends text p.start
-    × StandBetween p.start p.after (texts p.token) × PiecesStand texts p.after (ps, left)
+abbrev PiecesOccur : (Token → List (List ℕ)) → List ℕ → List Piece × List ℕ → Type 0
+PiecesOccur texts text ([], left) = Ends text left
+PiecesOccur texts text (p ∷ ps, left) = Ends text p.start
+    × OccurBetween p.start p.after (texts p.token) × PiecesOccur texts p.after (ps, left)
 
-pieces-stand-from : (texts : Token → List (List ℕ)) (from text : List ℕ) (ps : List Piece)
-    (left : List ℕ) → Ends from text → PiecesStand texts text (ps, left)
-    → PiecesStand texts from (ps, left)
-pieces-stand-from texts from text [] left e h = ends-ends from text left e h
-pieces-stand-from texts from text (p ∷ ps) left e h = (ends-ends from text p.start e h.0, h.1, h.2)
+pieces-occur-from : (texts : Token → List (List ℕ)) (from text : List ℕ) (ps : List Piece)
+    (left : List ℕ) → Ends from text → PiecesOccur texts text (ps, left)
+    → PiecesOccur texts from (ps, left)
+pieces-occur-from texts from text [] left e h = ends-ends from text left e h
+pieces-occur-from texts from text (p ∷ ps) left e h = (ends-ends from text p.start e h.0, h.1, h.2)
 
-up_to-stand : {Good : List ℕ → Type 0} {texts : Token → List (List ℕ)} → Sees Good texts
+up_to-occur : {Good : List ℕ → Type 0} {texts : Token → List (List ℕ)} → Sees Good texts
     → (edition : Edition) (whole : List ℕ) → Good whole → (k : ℕ) (text : List ℕ) → Ends whole text
-    → PiecesStand texts text (up_to k (next_piece edition) text)
-up_to-stand sees edition whole good zero text e = ends-same text
-up_to-stand {texts = texts} sees edition whole good (suc k) text e = by
-    (λ t. up_to-stand sees edition whole good k t) (piece edition text)
-    (piece-stands sees edition whole text good e)
+    → PiecesOccur texts text (up_to k (next_piece edition) text)
+up_to-occur sees edition whole good zero text e = ends-same text
+up_to-occur {texts = texts} sees edition whole good (suc k) text e = by
+    (λ t. up_to-occur sees edition whole good k t) (piece edition text)
+    (piece-occurs sees edition whole text good e)
   where
-    by : ((t : List ℕ) → Ends whole t → PiecesStand texts t (up_to k (next_piece edition) t))
-        → (r : Reading Piece) → PieceStands texts text r
-        → PiecesStand texts text (and_then text (found r) (up_to k (next_piece edition)))
+    by : ((t : List ℕ) → Ends whole t → PiecesOccur texts t (up_to k (next_piece edition) t))
+        → (r : Reading Piece) → PieceOccurs texts text r
+        → PiecesOccur texts text (and_then text (found r) (up_to k (next_piece edition)))
     by more (got p rest) h =
         let on : Ends whole rest = ends-ends whole text rest e
         (ends-ends text p.start rest h.0 (ends-ends p.start p.after rest
-        (stand-ends p.start p.after (texts p.token) h.1) h.2)) in
+        (occur-ends p.start p.after (texts p.token) h.1) h.2)) in
         let following = up_to k (next_piece edition) rest in
-        (h.0, h.1, pieces-stand-from texts p.after rest following.0 following.1 h.2 (more rest on))
+        (h.0, h.1, pieces-occur-from texts p.after rest following.0 following.1 h.2 (more rest on))
     by more (fails fault rest) h = ends-same text
 
-pieces-stand : {Good : List ℕ → Type 0} {texts : Token → List (List ℕ)} → Sees Good texts
+pieces-occur : {Good : List ℕ → Type 0} {texts : Token → List (List ℕ)} → Sees Good texts
     → (edition : Edition) (whole text : List ℕ) → Good whole → Ends whole text
-    → PiecesStand texts text (pieces edition text)
+    → PiecesOccur texts text (pieces edition text)
 unfolding each
-pieces-stand sees edition whole text good e = up_to-stand sees edition whole good (length text) text
+pieces-occur sees edition whole text good e = up_to-occur sees edition whole good (length text) text
     e
 
 -- ---- the sequence
 
-sequence-stands : {Good : List ℕ → Type 0} {texts : Token → List (List ℕ)} → Sees Good texts
+sequence-occurs : {Good : List ℕ → Type 0} {texts : Token → List (List ℕ)} → Sees Good texts
     → (text : List ℕ) (side : Side) (ps : List Piece) (rest : List ℕ) (end : Ending)
-    → PiecesStand texts text (ps, rest) → EndingEnds rest end
-    → SequenceStands texts text (sequence side ps end)
-sequence-stands {texts = texts} sees text side [] rest end p e =
-    sequence-stands-from texts text rest (sequence side [] end) p
-    (ending_sequence-stands sees rest side end e)
-sequence-stands {texts = texts} sees text side (p ∷ ps) rest end h e =
+    → PiecesOccur texts text (ps, rest) → EndingEnds rest end
+    → SequenceOccurs texts text (sequence side ps end)
+sequence-occurs {texts = texts} sees text side [] rest end p e =
+    sequence-occurs-from texts text rest (sequence side [] end) p
+    (ending_sequence-occurs sees rest side end e)
+sequence-occurs {texts = texts} sees text side (p ∷ ps) rest end h e =
     let after : Ends text p.after = ends-ends text p.start p.after h.0
-    (stand-ends p.start p.after (texts p.token) h.1) in
-    answered-stands sees text (between side p.spaced p.kind p.start p.after) p.start
+    (occur-ends p.start p.after (texts p.token) h.1) in
+    answered-occurs sees text (between side p.spaced p.kind p.start p.after) p.start
     (token_then p.token p.after (sequence (side_after p.kind) ps end))
     (between-ends text side p.spaced p.kind p.start p.after h.0 after) h.0
-    (h.1, sequence-stands sees p.after (side_after p.kind) ps rest end h.2 e)
+    (h.1, sequence-occurs sees p.after (side_after p.kind) ps rest end h.2 e)
 
-pub sequence_from-stands : {Good : List ℕ → Type 0} {texts : Token → List (List ℕ)}
+pub sequence_from-occurs : {Good : List ℕ → Type 0} {texts : Token → List (List ℕ)}
     → Sees Good texts → (edition : Edition) (side : Side) (text : List ℕ) → Good text
-    → SequenceStands texts text (sequence_from edition side text)
+    → SequenceOccurs texts text (sequence_from edition side text)
 unfolding sequence_from
-sequence_from-stands sees edition side text good =
+sequence_from-occurs sees edition side text good =
     let rest = (pieces edition text).1 in
-    sequence-stands sees text side (pieces edition text).0 rest (ending edition rest)
-    (pieces-stand sees edition text text good (ends-same text)) (ending-ends edition rest)
+    sequence-occurs sees text side (pieces edition text).0 rest (ending edition rest)
+    (pieces-occur sees edition text text good (ends-same text)) (ending-ends edition rest)
 
 -- the texts of what a sequence yields first are before what is left then
-abbrev pub FirstStands : List ℕ → TokenSequence → Type 0
-FirstStands text (item x after rest) = StandBetween text after (item_texts x)
-FirstStands text (sequence_end left) = Ends text left
+abbrev pub FirstOccurs : List ℕ → TokenSequence → Type 0
+FirstOccurs text (item x after rest) = OccurBetween text after (item_texts x)
+FirstOccurs text (sequence_end left) = Ends text left
 
-first-stands : (text : List ℕ) (r : TokenSequence) → SequenceStands token_texts text r
-    → FirstStands text r
-first-stands text (item (Ok token) after rest) h = h.0
-first-stands text (item (Err fault) after rest) h = h.0
-first-stands text (sequence_end left) h = h
+first-occurs : (text : List ℕ) (r : TokenSequence) → SequenceOccurs token_texts text r
+    → FirstOccurs text r
+first-occurs text (item (Ok token) after rest) h = h.0
+first-occurs text (item (Err fault) after rest) h = h.0
+first-occurs text (sequence_end left) h = h
 
 pub sequence_from-first : (edition : Edition) (side : Side) (text : List ℕ) → IsUtf8 text
-    → FirstStands text (sequence_from edition side text)
-sequence_from-first edition side text u = first-stands text (sequence_from edition side text)
-    (sequence_from-stands sees_texts edition side text u)
+    → FirstOccurs text (sequence_from edition side text)
+sequence_from-first edition side text u = first-occurs text (sequence_from edition side text)
+    (sequence_from-occurs sees_texts edition side text u)
 
 -- ---- selectors
 
@@ -267,7 +267,7 @@ after_role-ends : (text : List ℕ) (role : Option Role) (after : List ℕ) (o :
 after_role-ends text (Some role) after o a h = with_role-ends text role o h
 after_role-ends text None after o a h = a
 
-outcome-ends : (text : List ℕ) (r : TokenSequence) → SequenceStands no_texts text r
+outcome-ends : (text : List ℕ) (r : TokenSequence) → SequenceOccurs no_texts text r
     → OutcomeEnds text (outcome r)
 outcome-ends text (sequence_end left) h = h
 outcome-ends text (item (Err fault) after rest) h = h.0
@@ -284,4 +284,4 @@ pub reads-ends : (edition : Edition) (text : List ℕ) → Ends text (reads edit
 unfolding reads
 reads-ends edition text = selector_of-ends text (outcome (sequence_of edition text))
     (outcome-ends text (sequence_of edition text)
-    (sequence_from-stands sees_nothing edition open_side text tt))
+    (sequence_from-occurs sees_nothing edition open_side text tt))

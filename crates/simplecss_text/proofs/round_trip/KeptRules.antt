@@ -16,9 +16,9 @@ use Rattle.simplecss_text.specs.Blocks.{ends_list, declaration_in_block, block}
 use Rattle.simplecss_text.specs.Statements.{StyleRule, part, part_and_comma, parts, next_block, rule_set, at_rule_rest, statement, ends_statements, next_statement, statements, has_declaration, kept}
 use Rattle.simplecss_text.specs.Ranks.{rank_by, of_rank, ordered_by}
 use Rattle.simplecss_text.specs.Sheets.{is_smaller, sheet}
-use Rattle.simplecss_text.proofs.reading.EndsLemmas.{ends-ends, ends-past, ends-past_one, ends-past_byte, Stands, no_texts}
-use Rattle.simplecss_text.proofs.reading.StandLemmas.{ends-past_blank}
-use Rattle.simplecss_text.proofs.reading.DeclarationsLawful.{declaration-lawful, declaration-stands}
+use Rattle.simplecss_text.proofs.reading.EndsLemmas.{ends-ends, ends-past, ends-past_one, ends-past_byte, Occurs, no_texts}
+use Rattle.simplecss_text.proofs.reading.OccurrenceLemmas.{ends-past_blank}
+use Rattle.simplecss_text.proofs.reading.DeclarationsLawful.{declaration-lawful, declaration-occurs}
 use Rattle.simplecss_text.proofs.round_trip.PrintedSelectors.{IsSelector}
 use Rattle.simplecss_text.proofs.reading.GotLemmas.{utf8-past_one, IfGot, IfTaken, each-all}
 use Rattle.simplecss_text.proofs.bytes.Utf8Lemmas.{utf8-past_byte_if}
@@ -204,7 +204,7 @@ module _ (edition : Edition) where
 
   module _ (Q : List ℕ → Type 0) (R : StyleDeclaration → Type 0) (known : Known edition Q R) where
     declared : (text : List ℕ) → Q text → (r : Reading StyleDeclaration) → IfGot (λ p rest. R p) r
-        → Stands text no_texts r → IsUtf8 (left_after r) → IfTaken R Q (found r)
+        → Occurs text no_texts r → IsUtf8 (left_after r) → IfTaken R Q (found r)
     declared text q (got p rest) h k l = (h, known.of_end text rest q k.at l)
     declared text q (fails fault rest) h k l = tt
 
@@ -215,7 +215,7 @@ module _ (edition : Edition) where
         by true = tt
         by false =
             declared text q (declaration edition text) (known.declares text q)
-            (declaration-stands edition text)
+            (declaration-occurs edition text)
             (lawful-text declaration declaration declaration-lawful edition text
             (known.is_text text q))
 

@@ -47,11 +47,11 @@ both_got P Q (got x rest) p q = (p, q)
 both_got P Q (fails fault rest) p q = tt
 
 -- what is before a byte, and the text from there on
-abbrev StandsBefore : List ℕ → List ℕ → List ℕ → Type 0
-StandsBefore text value rest =
+abbrev OccursBefore : List ℕ → List ℕ → List ℕ → Type 0
+OccursBefore text value rest =
     (text ≡ value ++ rest) × (list_all (λ b. not (b == close_parenthesis)) value ≡ true)
 
-all_before-is : (text : List ℕ) → IfGot (StandsBefore text) (all_before close_parenthesis text)
+all_before-is : (text : List ℕ) → IfGot (OccursBefore text) (all_before close_parenthesis text)
 all_before-is text =
     let test = λ (b : ℕ). not (b == close_parenthesis) in
     let front = take_while test text in
@@ -144,7 +144,7 @@ module _ (edition : Edition) where
   lang_after-gives text u =
       if_got-follow (λ x rest. text ≡ open_parenthesis ∷ rest) (GoodToken edition) _ _
       (byte-is open_parenthesis text) (λ x rest e.
-      if_got-follow (StandsBefore rest) (GoodToken edition) (all_before close_parenthesis rest) _
+      if_got-follow (OccursBefore rest) (GoodToken edition) (all_before close_parenthesis rest) _
       (all_before-is rest) (λ value next w.
       if_got-follow (λ y last. next ≡ close_parenthesis ∷ last) (GoodToken edition) _ _
       (byte-is close_parenthesis next) (λ y last f.

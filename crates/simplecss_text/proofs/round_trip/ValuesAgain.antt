@@ -18,8 +18,8 @@ use Rattle.std.proofs.lemmas.List.Folds.{list_any-append}
 use Rattle.simplecss_text.proofs.reading.EachLemmas.{each-none, each-some}
 use Rattle.simplecss_text.proofs.reading.TakesLemmas.{Cuts, length-past_blank}
 use Rattle.simplecss_text.proofs.reading.EndsLemmas.{before-append, ends-ends, ends-got}
-use Rattle.simplecss_text.proofs.reading.StandLemmas.{ends-past_blank}
-use Rattle.simplecss_text.proofs.reading.DeclarationsLawful.{slash_word, term-cuts, term-lawful, term-stands, term_in_value-takes}
+use Rattle.simplecss_text.proofs.reading.OccurrenceLemmas.{ends-past_blank}
+use Rattle.simplecss_text.proofs.reading.DeclarationsLawful.{slash_word, term-cuts, term-lawful, term-occurs, term_in_value-takes}
 use Rattle.simplecss_text.proofs.reading.GotLemmas.{got-holds}
 use Rattle.simplecss_text.proofs.reading.GotLemmas.{opens_comment-two}
 use Rattle.simplecss_text.proofs.reading.WellLemmas.{well-past_blank}
@@ -241,7 +241,7 @@ module _ (edition : Edition) where
       let next = past_blank rest in
       let end : Ends text next =
       ends-ends text rest next
-      (ends-got _ _ _ _ _ (term-stands edition text) e)
+      (ends-got _ _ _ _ _ (term-occurs edition text) e)
       (ends-past_blank rest) in
       let inner = valued-final r next ((well-past_blank rest).1 left) w in (
         before text next ++ inner.0,

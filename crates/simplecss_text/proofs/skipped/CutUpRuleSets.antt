@@ -19,15 +19,15 @@ use Rattle.simplecss_text.specs.NothingLost.{IsCutUp, IsExplained, cut_ends, mar
 use Rattle.simplecss_text.proofs.reading.GotLemmas.{starts-cons}
 use Rattle.simplecss_text.proofs.reading.ReadNames.{name-none_begins}
 use Rattle.simplecss_text.proofs.reading.DeclarationLemmas.{declaration_in_block-takes}
-use Rattle.simplecss_text.proofs.reading.DeclarationsLawful.{declaration-stands, ends-from_block_end}
+use Rattle.simplecss_text.proofs.reading.DeclarationsLawful.{declaration-occurs, ends-from_block_end}
 use Rattle.simplecss_text.proofs.reading.EachLemmas.{each-none, each-some, not_empty, option_cases, took}
-use Rattle.simplecss_text.proofs.reading.EndsLemmas.{ends-ends, no_texts, stands-ends}
+use Rattle.simplecss_text.proofs.reading.EndsLemmas.{ends-ends, no_texts, occurs-ends}
 use Rattle.simplecss_text.proofs.reading.LeastLemmas.{least-is}
 use Rattle.simplecss_text.proofs.reading.LocalLemmas.{quiet-brace}
 use Rattle.simplecss_text.proofs.reading.NameLocal.{name-quiet}
 use Rattle.simplecss_text.proofs.reading.SkipLemmas.{parts_skips-last, parts_skips-some}
 use Rattle.simplecss_text.proofs.reading.OpenValues.{block_skips-none, block_skips-some, declaration_in_block-got, declaration_skips-at, declaration_skips-ended}
-use Rattle.simplecss_text.proofs.reading.StandLemmas.{ends-past_blank}
+use Rattle.simplecss_text.proofs.reading.OccurrenceLemmas.{ends-past_blank}
 use Rattle.simplecss_text.proofs.reading.StatementTextLemmas.{part_and_comma-takes}
 use Rattle.simplecss_text.proofs.cutting.BlockCuts.{none_broken}
 use Rattle.simplecss_text.proofs.cutting.StatementEnds.{past-stops}
@@ -185,7 +185,7 @@ list_end-cut edition a rest fault e =
     ends : Ends a rest
     ends =
         subst (λ (r : Reading StyleDeclaration). Ends a (left_after r)) e
-        (stands-ends a no_texts (declaration edition a) (declaration-stands edition a))
+        (occurs-ends a no_texts (declaration edition a) (declaration-occurs edition a))
 
     less : length rest ≤ length start
     less =
@@ -281,7 +281,7 @@ block-step edition text more =
         ends : Ends text rest
         ends =
             subst (λ (r : Reading StyleDeclaration). Ends text (left_after r)) read
-            (stands-ends text no_texts (declaration edition text) (declaration-stands edition text))
+            (occurs-ends text no_texts (declaration edition text) (declaration-occurs edition text))
 
         end : List ℕ
         end = past_byte close_brace (past_list edition (each (declaration_in_block edition) rest).1)

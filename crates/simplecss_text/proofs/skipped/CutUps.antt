@@ -22,7 +22,7 @@ use Rattle.simplecss_text.proofs.bytes.BlankLaws.{past_blank-cut}
 use Rattle.simplecss_text.proofs.reading.EndsLemmas.{ends-by, ends-ends, ends-past, ends-same}
 use Rattle.simplecss_text.proofs.reading.NameLocal.{split-after}
 use Rattle.simplecss_text.proofs.reading.SequenceEndLemmas.{reads-ends}
-use Rattle.simplecss_text.proofs.reading.StandLemmas.{ends-past_blank}
+use Rattle.simplecss_text.proofs.reading.OccurrenceLemmas.{ends-past_blank}
 use Rattle.simplecss_text.proofs.skipped.RuleSetSkipCuts.{reads-after_blank}
 
 -- ---- pieces

@@ -21,7 +21,7 @@ use Rattle.simplecss_text.proofs.reading.ReadNames.{name-fails, name-is, name-no
 use Rattle.simplecss_text.proofs.round_trip.ReadSelectors.{hyphen_no_name}
 use Rattle.simplecss_text.proofs.reading.EndsLemmas.{ends-ends, ends-same}
 use Rattle.simplecss_text.proofs.reading.NameLocal.{name-same}
-use Rattle.simplecss_text.proofs.reading.StandLemmas.{ends-past_blank}
+use Rattle.simplecss_text.proofs.reading.OccurrenceLemmas.{ends-past_blank}
 use Rattle.simplecss_text.proofs.reading.TakesLemmas.{length-past}
 use Rattle.simplecss_text.proofs.reading.DeclarationLemmas.{length-from_block_end}
 use Rattle.simplecss_text.proofs.reading.WellLemmas.{well-past_blank}
@@ -65,7 +65,7 @@ none-after (b ∷ w) v e = absurd (cc)
 
 -- ---- the names of at-rules
 
--- no name that stands before more text is a single hyphen
+-- no name that occurs before more text is a single hyphen
 name-no_hyphen : (edition : Edition) (text n rest : List ℕ) → IsUtf8 text
     → name edition text ≡ got n rest → (rest ≡ [] → ⊥) → is_hyphen_name (Some n) ≡ false
 name-no_hyphen edition text n rest u e some = by (name-is edition text n rest u e).is

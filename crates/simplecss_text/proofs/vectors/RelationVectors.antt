@@ -1,8 +1,8 @@
 -- Worked slices and blanks.
--- Computes `StandBetween` of `specs/Slices` and `IsBlank` of `specs/Blanks`.
+-- Computes `OccurBetween` of `specs/Slices` and `IsBlank` of `specs/Blanks`.
 use Rattle.std.proofs.Common.{◌≡◌, refl, ap, [], ◌∷◌, codes, length, arith, length-append}
 use Rattle.simplecss_text.specs.AsciiBytes.{space}
-use Rattle.simplecss_text.specs.Slices.{StandBetween}
+use Rattle.simplecss_text.specs.Slices.{OccurBetween}
 use Rattle.simplecss_text.specs.Blanks.{IsComment, IsBlank, IsComments}
 use Rattle.simplecss_text.specs.Blanks.IsBlank.{empty, space_then, comment_then}
 use Rattle.simplecss_text.specs.Blanks.IsComments.{none, comment_before}
@@ -11,15 +11,15 @@ use Rattle.simplecss_text.specs.Tokens.{token_texts}
 use Rattle.simplecss_text.specs.Tokens.Token.{attribute_selector, child_combinator, type_selector}
 
 -- no text is between a rest and a later one
-pub none_between : StandBetween (codes "ab") (codes "b") []
+pub none_between : OccurBetween (codes "ab") (codes "b") []
 none_between = refl
 
 -- one text is there, and it may be empty
-pub one_between : StandBetween (codes "abc") [] (codes "b" ∷ [])
+pub one_between : OccurBetween (codes "abc") [] (codes "b" ∷ [])
 one_between = (codes "bc", codes "c", refl, refl, refl, refl)
 
 -- the name and the value of an attribute
-pub two_between : StandBetween (codes "[a=b]") []
+pub two_between : OccurBetween (codes "[a=b]") []
     (token_texts (attribute_selector (codes "a") (equals (codes "b"))))
 two_between =
     (codes "a=b]", codes "=b]", refl, refl, refl, (codes "b]", codes "]", refl, refl, refl, refl))

@@ -5,9 +5,9 @@ use Rattle.simplecss_text.specs.Terms.{term}
 use Rattle.simplecss_text.specs.Declarations.{last_or}
 use Rattle.simplecss_text.specs.ThisEdition.{this_edition}
 use Rattle.simplecss_text.specs.Cursor.{rest_of}
-use Rattle.simplecss_text.proofs.reading.EndsLemmas.{no_texts, ends-ends, ends-got, ends-fails, stand-to, ends-same}
-use Rattle.simplecss_text.proofs.reading.StandLemmas.{ends-past_blank, stand-trim}
-use Rattle.simplecss_text.proofs.reading.DeclarationsLawful.{term-stands}
+use Rattle.simplecss_text.proofs.reading.EndsLemmas.{no_texts, ends-ends, ends-got, ends-fails, occur-to, ends-same}
+use Rattle.simplecss_text.proofs.reading.OccurrenceLemmas.{ends-past_blank, occur-trim}
+use Rattle.simplecss_text.proofs.reading.DeclarationsLawful.{term-occurs}
 use Rattle.simplecss_declaration.proofs.FaultLemmas.{passed, not_passed, failed}
 use Rattle.simplecss_declaration.proofs.ValueLemmas.{terms-some, term-takes, value-done, boundary_at_end, before-range, trimmed}
 use Rattle.simplecss_declaration.proofs.reader.read_value.Goals as goal
@@ -45,7 +45,7 @@ terms-preserved c =
       begins = rw c.slice_tail-end.ensures (ends-ends c.slice_tail-start.result.now text after
           (ends-ends c.slice_tail-start.result.now c.terms.end.now text c.terms.invariant.begins
           c.terms.invariant.after) (ends-got text no_texts (term this_edition text) tt after
-          (term-stands this_edition text) read));
+          (term-occurs this_edition text) read));
       after = rw (gap, c.slice_tail-end.ensures) (ends-past_blank after);
       utf8 = c.slice_tail-end.utf8;
     }
@@ -67,8 +67,8 @@ returns-clause-reads c =
     c.range.ensures.value c.trim.ensures.trim))
     )
 
-pub returns-clause-stands : goal.returns-clause-stands
-returns-clause-stands c =
+pub returns-clause-occurs : goal.returns-clause-occurs
+returns-clause-occurs c =
     let fault = failed (term this_edition (rest_of c.terms.s)) (rest_of c.skip_term.new.s)
     (not_passed (term this_edition (rest_of c.terms.s)) c.skip_term.result
     (rest_of c.skip_term.new.s) c.skip_term.ensures.reads c.terms-test.false) in
@@ -77,12 +77,12 @@ returns-clause-stands c =
       trimmed c.slice_tail-start.result.now c.terms.end.now c.range.result.now c.trim.result.now
           c.range.ensures.value c.trim.ensures.trim,
     )
-    (stand-to c.slice_tail-start.result.now c.terms.end.now (rest_of c.skip_term.new.s)
+    (occur-to c.slice_tail-start.result.now c.terms.end.now (rest_of c.skip_term.new.s)
     (trim (before c.slice_tail-start.result.now c.terms.end.now) ∷ [])
-    (stand-trim c.slice_tail-start.result.now c.terms.end.now c.terms.invariant.begins
+    (occur-trim c.slice_tail-start.result.now c.terms.end.now c.terms.invariant.begins
     (subst IsUtf8 (c.range.ensures.value
     ∙ before-range c.slice_tail-start.result.now c.terms.end.now) c.range.utf8))
     (ends-ends c.terms.end.now (rest_of c.terms.s)
     (rest_of c.skip_term.new.s) c.terms.invariant.after
     (ends-fails (rest_of c.terms.s) no_texts (term this_edition (rest_of c.terms.s)) fault.0
-    (rest_of c.skip_term.new.s) (term-stands this_edition (rest_of c.terms.s)) fault.1)))
+    (rest_of c.skip_term.new.s) (term-occurs this_edition (rest_of c.terms.s)) fault.1)))

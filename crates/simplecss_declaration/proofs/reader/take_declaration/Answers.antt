@@ -4,12 +4,12 @@ use Rattle.simplecss_text.specs.Cursor.{rest_of}
 use Rattle.simplecss_declaration.proofs.ValueLemmas.{declaration-slices}
 use Rattle.simplecss_declaration.proofs.reader.take_declaration.Goals as goal
 
-pub returns-clause-stands : goal.returns-clause-stands
-returns-clause-stands c =
+pub returns-clause-occurs : goal.returns-clause-occurs
+returns-clause-occurs c =
     declaration-slices (rest_of c.args.s.now) (rest_of c.take_stated_name.new.s)
     (rest_of c.read_value-value.new.s) (rest_of c.take_trailing.new.s) c.in_ok-name.name.now
     c.read_value-value.result.now c.in_ok-important.important c.in_ok-name.ensures.slices
-    c.read_value-value.ensures.stands c.in_ok-important.ensures.reads
+    c.read_value-value.ensures.occurs c.in_ok-important.ensures.reads
 
 pub returns-clause-reads : goal.returns-clause-reads
 unfolding declaration

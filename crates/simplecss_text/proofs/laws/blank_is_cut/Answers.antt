@@ -1,5 +1,5 @@
 use Rattle.simplecss_text.proofs.bytes.BlankLaws.{past_blank-cut}
-use Rattle.simplecss_text.proofs.reading.StandLemmas.{ends-past_blank}
+use Rattle.simplecss_text.proofs.reading.OccurrenceLemmas.{ends-past_blank}
 use Rattle.simplecss_text.proofs.laws.blank_is_cut.Goals as goal
 
 pub returns-clause-ends : goal.returns-clause-ends

@@ -18,5 +18,5 @@ returns-else-skip_blank-clause-reads c =
     (no_comment (past_blank (rest_of c.args.s.now))) c.if-skip_blank.ensures.reads)
 
 pub returns-then-skip_blank-clause-rest : goal.returns-then-skip_blank-clause-rest
-returns-then-skip_blank-clause-rest c = λ stands. sym
+returns-then-skip_blank-clause-rest c = λ occurs. sym
     (blank-got (rest_of c.args.s.now) (rest_of c.skip_blank.new.s) c.if-skip_blank.ensures.reads).1

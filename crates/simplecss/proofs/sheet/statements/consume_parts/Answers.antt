@@ -13,7 +13,7 @@ use Rattle.simplecss.proofs.sheet.statements.consume_parts.Goals as goal
 
 pub parts-smaller : goal.parts-smaller
 parts-smaller g c =
-    let comma = sym c.skip_byte.ensures.stands ∙ c.if-not-skip_byte.false in
+    let comma = sym c.skip_byte.ensures.occurs ∙ c.if-not-skip_byte.false in
     let read : Option (List Component) × List ℕ = part this_edition (rest_of c.parts.s) in
     let is : read ≡ (read.0, rest_of c.consume_part.new.s) =
     pair-of {r = read} refl c.in_ok-consume_part.ensures.rest in
@@ -24,7 +24,7 @@ parts-smaller g c =
 
 pub parts-preserved : goal.parts-preserved
 parts-preserved g c =
-    let comma = sym c.skip_byte.ensures.stands ∙ c.if-not-skip_byte.false in
+    let comma = sym c.skip_byte.ensures.occurs ∙ c.if-not-skip_byte.false in
     let read : Option (List Component) × List ℕ = part this_edition (rest_of c.parts.s) in
     let is : read ≡ (read.0, rest_of c.consume_part.new.s) =
     pair-of {r = read} refl c.in_ok-consume_part.ensures.rest in
@@ -52,7 +52,7 @@ parts-preserved g c =
 
 pub returns-then-not-skip_byte-clause-reads : goal.returns-then-not-skip_byte-clause-reads
 returns-then-not-skip_byte-clause-reads g c =
-    let none = sym c.skip_byte.ensures.stands ∙ c.if-not-skip_byte.true in
+    let none = sym c.skip_byte.ensures.occurs ∙ c.if-not-skip_byte.true in
     let read : Option (List Component) × List ℕ = part this_edition (rest_of c.parts.s) in
     let is : read ≡ (read.0, rest_of c.consume_part.new.s) =
     pair-of {r = read} refl c.in_ok-consume_part.ensures.rest in
@@ -69,7 +69,7 @@ returns-then-not-skip_byte-clause-reads g c =
 
 pub returns-then-not-skip_byte-clause-reported : goal.returns-then-not-skip_byte-clause-reported
 returns-then-not-skip_byte-clause-reported g c =
-    let none = sym c.skip_byte.ensures.stands ∙ c.if-not-skip_byte.true in
+    let none = sym c.skip_byte.ensures.occurs ∙ c.if-not-skip_byte.true in
     c.in_ok-consume_part.ensures.reported
     ∙ ap (add_each g.P.Report.add (g.P.Report.state c.parts.report))
     (sym (parts_skips-last this_edition (rest_of c.parts.s) (rest_of c.consume_part.new.s)

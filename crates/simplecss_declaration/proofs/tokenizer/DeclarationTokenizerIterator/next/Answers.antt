@@ -4,7 +4,7 @@ use Rattle.simplecss_text.specs.Cursor.{rest_of}
 use Rattle.simplecss_text.specs.Declarations.{StyleDeclaration, declaration, declarations}
 use Rattle.simplecss_text.specs.ThisEdition.{this_edition}
 use Rattle.simplecss_text.specs.Reading.{found}
-use Rattle.simplecss_text.proofs.reading.EndsLemmas.{ends-nil, stand-ends}
+use Rattle.simplecss_text.proofs.reading.EndsLemmas.{ends-nil, occur-ends}
 use Rattle.simplecss_text.proofs.reading.OffsetLemmas.{offset-ends}
 use Rattle.simplecss_declaration.specs.DeclarationViews.{declaration_of}
 use Rattle.simplecss_declaration.specs.DeclarationTokenizers.{given_texts}
@@ -21,9 +21,9 @@ returns-in-Some-clause-steps c =
           (declaration_of d) c.in-Some.ensures.reads;
       text = c.take_declaration.ensures.text;
       reads = ap found c.in-Some.ensures.reads;
-      slices = c.in-Some.ensures.stands;
+      slices = c.in-Some.ensures.occurs;
       forward = offset-ends old new c.take_declaration.ensures.text
-          (stand-ends (rest_of old) (rest_of new) (given_texts (Some d)) c.in-Some.ensures.stands);
+          (occur-ends (rest_of old) (rest_of new) (given_texts (Some d)) c.in-Some.ensures.occurs);
     }
 
 pub returns-in-Some-clause-goes : goal.returns-in-Some-clause-goes

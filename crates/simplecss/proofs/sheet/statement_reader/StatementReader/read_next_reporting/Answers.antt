@@ -3,10 +3,10 @@ use Rattle.std.specs.Str.{IsCharBoundary}
 use Rattle.simplecss_text.specs.Cursor.{text_of, rest_of}
 use Rattle.simplecss_text.specs.Statements.{statement}
 use Rattle.simplecss_text.specs.ThisEdition.{this_edition}
-use Rattle.simplecss.specs.StatementOffsets.{StandsNext}
+use Rattle.simplecss.specs.StatementOffsets.{OccursNext}
 use Rattle.simplecss.specs.RuleViews.{rule_of}
 use Rattle.simplecss.specs.internal.SharedBlocks.{rules_read}
-use Rattle.simplecss.proofs.StatementRests.{stands_next}
+use Rattle.simplecss.proofs.StatementRests.{occurs_next}
 use Rattle.simplecss.proofs.sheet.statement_reader.StatementReader.read_next_reporting.Goals as goal
 
 pub returns-clause-ok : goal.returns-clause-ok
@@ -19,10 +19,10 @@ returns-clause-ok g c =
     (let back = sym at_start in λ k. drop (c.pos-start.ensures k) (back k)) in
     let ends : drop c.pos.result text ≡ rest_of c.consume_statement.new.s =
     (let back = sym at_end in λ k. drop (c.pos.ensures k) (back k)) in (
-      subst (λ (v : List ℕ × ℕ). StandsNext v.0 v.1
+      subst (λ (v : List ℕ × ℕ). OccursNext v.0 v.1
           (record { start = c.pos-start.result; end = c.pos.result; rules = c.into_rules.result }))
           c.self.view_is
-          (stands_next text c.self.inside.stream.pos
+          (occurs_next text c.self.inside.stream.pos
           (record { start = c.pos-start.result; end = c.pos.result; rules = c.into_rules.result })
           (begins ∙ c.if-not-at_statement.ensures.rest refl)
           (c.if-not-at_statement.ensures.reads

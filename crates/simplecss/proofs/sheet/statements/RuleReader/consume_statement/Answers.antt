@@ -12,7 +12,7 @@ use Rattle.simplecss.proofs.sheet.statements.RuleReader.consume_statement.Goals 
 pub returns-then-skip_byte-clause-reported : goal.returns-then-skip_byte-clause-reported
 returns-then-skip_byte-clause-reported g c =
     let text : List ℕ = rest_of c.args.s.now in
-    let sign : starts at_sign text ≡ true = sym c.skip_byte.ensures.stands ∙ c.if-skip_byte.true in
+    let sign : starts at_sign text ≡ true = sym c.skip_byte.ensures.occurs ∙ c.if-skip_byte.true in
     let after : rest_of c.skip_byte.new.s ≡ past_one text =
     c.skip_byte.ensures.rest ∙ past_byte_there at_sign text sign in
     let before = g.P.Report.state c.args.report.now in
@@ -33,7 +33,7 @@ pub returns-clause-reported : goal.returns-clause-reported
 returns-clause-reported g c =
     let text : List ℕ = rest_of c.args.s.now in
     let none : starts at_sign text ≡ false =
-    sym c.skip_byte.ensures.stands ∙ c.if-skip_byte.false in
+    sym c.skip_byte.ensures.occurs ∙ c.if-skip_byte.false in
     let same : rest_of c.skip_byte.new.s ≡ text =
     c.skip_byte.ensures.rest ∙ past_byte_not at_sign text none in
     let before = g.P.Report.state c.args.report.now in

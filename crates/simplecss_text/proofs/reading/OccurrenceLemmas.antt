@@ -18,7 +18,7 @@ use Rattle.simplecss_text.specs.Characters.{Edition}
 use Rattle.simplecss_text.specs.Comments.{past_blank, blank, gap}
 use Rattle.simplecss_text.specs.Names.{begins_name, past_name_chars, name}
 use Rattle.simplecss_text.specs.Strings.{is_quote, from_quote, string_up_to, string_or_name}
-use Rattle.simplecss_text.specs.Slices.{StandBetween}
+use Rattle.simplecss_text.specs.Slices.{OccurBetween}
 use Rattle.simplecss_text.specs.Components.{Operator}
 use Rattle.simplecss_text.specs.Components.Operator.{equals, has_word, begins_with}
 use Rattle.simplecss_text.specs.Tokens.{Token, token_texts, operator_texts}
@@ -27,33 +27,33 @@ use Rattle.simplecss_text.specs.Pieces.{attribute_operator, equated, attribute_a
 use Rattle.simplecss_text.proofs.reading.KindLemmas.{sign-begins}
 use Rattle.simplecss_text.proofs.reading.WellLemmas.{ends-past_name_chars, well-blank, well-gap, well-past_blank}
 use Rattle.simplecss_text.proofs.bytes.Utf8Lemmas.{until-boundary, utf8-after, all_scalars-append}
-use Rattle.simplecss_text.proofs.reading.EndsLemmas.{before-append, ends-append, ends-by, ends-same, ends-nil, ends-tail, ends-past_one, ends-past_byte, ends-past, EndsSome, ends_some-if, ends_some-ends, stand-from, stand-to, stand-ends, stand-before, Stands, no_texts, itself, stands-unseen, stands-from, stands-if, stands-none, stands-then, stands-follow}
+use Rattle.simplecss_text.proofs.reading.EndsLemmas.{before-append, ends-append, ends-by, ends-same, ends-nil, ends-tail, ends-past_one, ends-past_byte, ends-past, EndsSome, ends_some-if, ends_some-ends, occur-from, occur-to, occur-ends, occur-before, Occurs, no_texts, itself, occurs-unseen, occurs-from, occurs-if, occurs-none, occurs-then, occurs-follow}
 
 -- ---- bytes, comments and blanks
 
-pub byte-stands : (c : ℕ) (text : List ℕ) → Stands text no_texts (byte c text)
-byte-stands c [] = record { at = ends-same [] }
-byte-stands c (b ∷ text) =
-    stands-if (b == c) (record { at = ends-tail b text })
+pub byte-occurs : (c : ℕ) (text : List ℕ) → Occurs text no_texts (byte c text)
+byte-occurs c [] = record { at = ends-same [] }
+byte-occurs c (b ∷ text) =
+    occurs-if (b == c) (record { at = ends-tail b text })
     (record { at = ends-same (b ∷ text) })
 
 pub ends-past_blank : (text : List ℕ) → Ends text (past_blank text)
 ends-past_blank text = (well-past_blank text).0
 
-pub blank-stands : (text : List ℕ) → Stands text no_texts (blank text)
-blank-stands text = stands-none text (blank text) (well-blank text).0
+pub blank-occurs : (text : List ℕ) → Occurs text no_texts (blank text)
+blank-occurs text = occurs-none text (blank text) (well-blank text).0
 
-pub gap-stands : (text : List ℕ) → Stands text no_texts (gap text)
-gap-stands text = stands-none text (gap text) (well-gap text).0
+pub gap-occurs : (text : List ℕ) → Occurs text no_texts (gap text)
+gap-occurs text = occurs-none text (gap text) (well-gap text).0
 
 -- ---- names and values
 
-pub name-stands : (edition : Edition) (text : List ℕ) → Stands text itself (name edition text)
+pub name-occurs : (edition : Edition) (text : List ℕ) → Occurs text itself (name edition text)
 unfolding name
-name-stands edition text =
-    stands-if (begins_name edition (chars text))
+name-occurs edition text =
+    occurs-if (begins_name edition (chars text))
     (record {
-      at = stand-before text (past_name_chars edition text)
+      at = occur-before text (past_name_chars edition text)
           (ends-past_name_chars edition text);
     }) (record { at = ends-past_byte hyphen text })
 
@@ -66,66 +66,66 @@ from_quote-ends quote previous (b ∷ text) =
     (ends_some-ends (b ∷ text) text (from_quote quote b text) (ends-tail b text)
     (from_quote-ends quote b text))
 
-pub string_up_to-stands : (text : List ℕ) (o : Option (List ℕ)) → EndsSome text o
-    → Stands text itself (string_up_to text o)
-string_up_to-stands text None h = record { at = ends-nil text }
-string_up_to-stands text (Some closing) h =
+pub string_up_to-occurs : (text : List ℕ) (o : Option (List ℕ)) → EndsSome text o
+    → Occurs text itself (string_up_to text o)
+string_up_to-occurs text None h = record { at = ends-nil text }
+string_up_to-occurs text (Some closing) h =
     record {
-      at = stand-to text closing (past_one closing) (before text closing ∷ [])
-          (stand-before text closing h) (ends-past_one closing);
+      at = occur-to text closing (past_one closing) (before text closing ∷ [])
+          (occur-before text closing h) (ends-past_one closing);
     }
 
-string_or_name-stands : (edition : Edition) (text : List ℕ)
-    → Stands text itself (string_or_name edition text)
+string_or_name-occurs : (edition : Edition) (text : List ℕ)
+    → Occurs text itself (string_or_name edition text)
 unfolding string_or_name
-string_or_name-stands edition [] = record { at = ends-same [] }
-string_or_name-stands edition (b ∷ text) =
-    stands-if (is_quote b)
-    (stands-from (b ∷ text) text itself (string_up_to text (from_quote b b text)) (ends-tail b text)
-    (string_up_to-stands text (from_quote b b text) (from_quote-ends b b text)))
-    (name-stands edition (b ∷ text))
+string_or_name-occurs edition [] = record { at = ends-same [] }
+string_or_name-occurs edition (b ∷ text) =
+    occurs-if (is_quote b)
+    (occurs-from (b ∷ text) text itself (string_up_to text (from_quote b b text)) (ends-tail b text)
+    (string_up_to-occurs text (from_quote b b text) (from_quote-ends b b text)))
+    (name-occurs edition (b ∷ text))
 
 -- ---- attributes
 
-equated-stands : (edition : Edition) (operator : List ℕ → Operator)
+equated-occurs : (edition : Edition) (operator : List ℕ → Operator)
     → ((value : List ℕ) → operator_texts (operator value) ≡ itself value) → (text : List ℕ)
-    → Stands text operator_texts (equated edition operator text)
-equated-stands edition operator is text =
-    stands-follow text no_texts operator_texts (byte equals_sign text) _
-    (byte-stands equals_sign text) (λ u rest e h.
-    stands-from text rest operator_texts _ h
-    (stands-follow rest itself operator_texts (string_or_name edition rest)
-    (λ value. got (operator value)) (string_or_name-stands edition rest) (λ value last f k.
-    record { at = subst (StandBetween rest last) (sym (is value)) k })))
+    → Occurs text operator_texts (equated edition operator text)
+equated-occurs edition operator is text =
+    occurs-follow text no_texts operator_texts (byte equals_sign text) _
+    (byte-occurs equals_sign text) (λ u rest e h.
+    occurs-from text rest operator_texts _ h
+    (occurs-follow rest itself operator_texts (string_or_name edition rest)
+    (λ value. got (operator value)) (string_or_name-occurs edition rest) (λ value last f k.
+    record { at = subst (OccurBetween rest last) (sym (is value)) k })))
 
-attribute_operator-stands : (edition : Edition) (text : List ℕ)
-    → Stands text operator_texts (attribute_operator edition text)
+attribute_operator-occurs : (edition : Edition) (text : List ℕ)
+    → Occurs text operator_texts (attribute_operator edition text)
 unfolding attribute_operator
-attribute_operator-stands edition [] = record { at = ends-same [] }
-attribute_operator-stands edition (b ∷ text) =
-    stands-if (b == close_bracket) (record { at = ends-same (b ∷ text) })
-    (stands-if (b == equals_sign)
-    (equated-stands edition equals (λ v. refl) (b ∷ text))
-    (stands-if (b == tilde)
-    (stands-from (b ∷ text) text operator_texts (equated edition has_word text)
-    (ends-tail b text) (equated-stands edition has_word (λ v. refl) text))
-    (stands-if (b == vertical_bar)
-    (stands-from (b ∷ text) text operator_texts (equated edition begins_with text)
-    (ends-tail b text) (equated-stands edition begins_with (λ v. refl) text))
+attribute_operator-occurs edition [] = record { at = ends-same [] }
+attribute_operator-occurs edition (b ∷ text) =
+    occurs-if (b == close_bracket) (record { at = ends-same (b ∷ text) })
+    (occurs-if (b == equals_sign)
+    (equated-occurs edition equals (λ v. refl) (b ∷ text))
+    (occurs-if (b == tilde)
+    (occurs-from (b ∷ text) text operator_texts (equated edition has_word text)
+    (ends-tail b text) (equated-occurs edition has_word (λ v. refl) text))
+    (occurs-if (b == vertical_bar)
+    (occurs-from (b ∷ text) text operator_texts (equated edition begins_with text)
+    (ends-tail b text) (equated-occurs edition begins_with (λ v. refl) text))
     (record { at = ends-same (b ∷ text) }))))
 
-attribute_after-stands : (edition : Edition) (text : List ℕ)
-    → Stands text token_texts (attribute_after edition text)
+attribute_after-occurs : (edition : Edition) (text : List ℕ)
+    → Occurs text token_texts (attribute_after edition text)
 unfolding attribute_after
-attribute_after-stands edition text =
-    stands-follow text itself token_texts (name edition text) _ (name-stands edition text)
+attribute_after-occurs edition text =
+    occurs-follow text itself token_texts (name edition text) _ (name-occurs edition text)
     (λ n rest e h.
-    stands-then text rest (itself n) operator_texts token_texts (attribute_operator edition rest) _
-    h (attribute_operator-stands edition rest) (λ operator next f k.
-    stands-then text next (n ∷ operator_texts operator) no_texts token_texts
+    occurs-then text rest (itself n) operator_texts token_texts (attribute_operator edition rest) _
+    h (attribute_operator-occurs edition rest) (λ operator next f k.
+    occurs-then text next (n ∷ operator_texts operator) no_texts token_texts
     (byte close_bracket next)
-    (λ u. got (attribute_selector n operator)) k (byte-stands close_bracket next) (λ u last g l.
-    record { at = subst (StandBetween text last) (append-nil (n ∷ operator_texts operator)) l })))
+    (λ u. got (attribute_selector n operator)) k (byte-occurs close_bracket next) (λ u last g l.
+    record { at = subst (OccurBetween text last) (append-nil (n ∷ operator_texts operator)) l })))
 
 -- ---- languages
 
@@ -182,9 +182,9 @@ trim-parts bs u =
     )
 
 -- a trimmed text is in it
-pub stand-trim : (text rest : List ℕ) → Ends text rest → IsUtf8 (before text rest)
-    → StandBetween text rest (trim (before text rest) ∷ [])
-stand-trim text rest e u =
+pub occur-trim : (text rest : List ℕ) → Ends text rest → IsUtf8 (before text rest)
+    → OccurBetween text rest (trim (before text rest) ∷ [])
+occur-trim text rest e u =
     let v = before text rest in
     let cut = trim-parts v u in
     let a = cut.0 in
@@ -202,16 +202,16 @@ stand-trim text rest e u =
     )
 
 -- the language in the parentheses of a `:lang`, up to the closing one
-language-stands : (text : List ℕ) → IsUtf8 text
-    → StandBetween text (past (λ b. not (b == close_parenthesis)) text)
+language-occurs : (text : List ℕ) → IsUtf8 text
+    → OccurBetween text (past (λ b. not (b == close_parenthesis)) text)
     (trim (before text (past (λ b. not (b == close_parenthesis)) text)) ∷ [])
-language-stands text u =
+language-occurs text u =
     let k = prefix_len (λ b. not (b == close_parenthesis)) text in
     let same : before text (past (λ b. not (b == close_parenthesis)) text) ≡ take k text =
     ap (λ n. take n text)
     (omega
     (arith, length-drop k text, prefix_len-le-length (λ b. not (b == close_parenthesis)) text)) in
-    stand-trim text (past (λ b. not (b == close_parenthesis)) text)
+    occur-trim text (past (λ b. not (b == close_parenthesis)) text)
     (ends-past (λ b. not (b == close_parenthesis)) text)
     (subst IsUtf8 (sym same) (utf8-before text close_parenthesis (omega arith) u))
 
@@ -222,9 +222,9 @@ language-stands text u =
 pub record Sees (Good : List ℕ → Type 0) (texts : Token → List (List ℕ)) : Type 0 where
   pub following : (text rest : List ℕ) (b : ℕ) → b < 128 → Good text → Ends text (b ∷ rest)
       → Good rest
-  pub seen : (text : List ℕ) (r : Reading Token) → Stands text token_texts r → Stands text texts r
+  pub seen : (text : List ℕ) (r : Reading Token) → Occurs text token_texts r → Occurs text texts r
   pub language : (text : List ℕ) → Good text
-      → StandBetween text (past (λ b. not (b == close_parenthesis)) text)
+      → OccurBetween text (past (λ b. not (b == close_parenthesis)) text)
       (texts
       (lang_pseudo_class (trim (before text (past (λ b. not (b == close_parenthesis)) text)))))
 
@@ -235,7 +235,7 @@ Any text = Unit {0}
 pub sees_nothing : Sees Any no_texts
 sees_nothing = record {
   following = λ text rest b a g e. tt;
-  seen = λ text r h. stands-unseen text token_texts r h;
+  seen = λ text r h. occurs-unseen text token_texts r h;
   language = λ text g. ends-past (λ b. not (b == close_parenthesis)) text;
 }
 
@@ -243,7 +243,7 @@ pub sees_texts : Sees IsUtf8 token_texts
 sees_texts = record {
   following = utf8-after;
   seen = λ text r h. h;
-  language = language-stands;
+  language = language-occurs;
 }
 
 byte-is : (c : ℕ) (text rest : List ℕ) (u : Unit {0}) → byte c text ≡ got u rest → text ≡ c ∷ rest
@@ -256,27 +256,27 @@ byte-is c (b ∷ text) rest u e = by (b == c) refl e
     by true t e = let same : b ≡ c = eqb-true b c t in cc
     by false t e = absurd (cc)
 
-lang_after-stands : {Good : List ℕ → Type 0} {texts : Token → List (List ℕ)} → Sees Good texts
-    → (text : List ℕ) → Good text → Stands text texts (lang_after text)
+lang_after-occurs : {Good : List ℕ → Type 0} {texts : Token → List (List ℕ)} → Sees Good texts
+    → (text : List ℕ) → Good text → Occurs text texts (lang_after text)
 unfolding lang_after
-lang_after-stands {Good = Good} {texts = texts} sees text good =
-    stands-follow text no_texts texts (byte open_parenthesis text) _
-    (byte-stands open_parenthesis text) (λ u rest e h.
+lang_after-occurs {Good = Good} {texts = texts} sees text good =
+    occurs-follow text no_texts texts (byte open_parenthesis text) _
+    (byte-occurs open_parenthesis text) (λ u rest e h.
     let end = past (λ b. not (b == close_parenthesis)) rest in
     let value = trim (before rest end) in
     let opened : Ends text (open_parenthesis ∷ rest) =
     subst (λ (t : List ℕ). Ends t (open_parenthesis ∷ rest))
     (sym (byte-is open_parenthesis text rest u e))
     (ends-same (open_parenthesis ∷ rest)) in
-    let front : StandBetween text end (texts (lang_pseudo_class value)) =
-    stand-from text rest end _ h
+    let front : OccurBetween text end (texts (lang_pseudo_class value)) =
+    occur-from text rest end _ h
     (sees.language rest (sees.following text rest open_parenthesis (omega arith) good opened)) in
-    stands-then text end (texts (lang_pseudo_class value)) no_texts texts
+    occurs-then text end (texts (lang_pseudo_class value)) no_texts texts
     (byte close_parenthesis end)
-    (λ u. lang_of value) front (byte-stands close_parenthesis end) (λ u last f k.
-    let k : StandBetween text last (texts (lang_pseudo_class value)) =
-    subst (StandBetween text last) (append-nil (texts (lang_pseudo_class value))) k in
-    stands-if (length value == 0) (record { at = stand-ends text last _ k })
+    (λ u. lang_of value) front (byte-occurs close_parenthesis end) (λ u last f k.
+    let k : OccurBetween text last (texts (lang_pseudo_class value)) =
+    subst (OccurBetween text last) (append-nil (texts (lang_pseudo_class value))) k in
+    occurs-if (length value == 0) (record { at = occur-ends text last _ k })
     (record { at = k })))
 
 -- a name that was read is what is before the rest
@@ -294,47 +294,47 @@ name-got edition text rest n = by (begins_name edition (chars text))
         sym read ∙ ap (before text) left
     by false e = absurd (cc)
 
-pseudo_class_after-stands : {Good : List ℕ → Type 0} {texts : Token → List (List ℕ)}
+pseudo_class_after-occurs : {Good : List ℕ → Type 0} {texts : Token → List (List ℕ)}
     → Sees Good texts → (edition : Edition) (text : List ℕ) → Good text
-    → Stands text texts (pseudo_class_after edition text)
+    → Occurs text texts (pseudo_class_after edition text)
 unfolding pseudo_class_after
-pseudo_class_after-stands {Good = Good} {texts = texts} sees edition text good =
-    stands-follow text itself texts (name edition text) pseudo_class_named
-    (name-stands edition text) (λ n rest e h.
+pseudo_class_after-occurs {Good = Good} {texts = texts} sees edition text good =
+    occurs-follow text itself texts (name edition text) pseudo_class_named
+    (name-occurs edition text) (λ n rest e h.
     by n rest h (name-got edition text rest n e) (bytes_eq n (codes "lang")) refl)
   where
-    by : (n rest : List ℕ) → StandBetween text rest (n ∷ []) → n ≡ before text rest → (t : Bool)
+    by : (n rest : List ℕ) → OccurBetween text rest (n ∷ []) → n ≡ before text rest → (t : Bool)
         → bytes_eq n (codes "lang") ≡ t
-        → Stands text texts (if t then lang_after rest else got (named_pseudo_class n) rest)
+        → Occurs text texts (if t then lang_after rest else got (named_pseudo_class n) rest)
     by n rest h is true t =
         let lang : n ≡ 108 ∷ 97 ∷ 110 ∷ 103 ∷ [] = (bytes_eq-Decides n (codes "lang")).0 t in
         let whole : (108 ∷ 97 ∷ 110 ∷ []) ++ (103 ∷ rest) ≡ text =
-        ap (λ s. s ++ rest) (sym lang ∙ is) ∙ stand-ends text rest (n ∷ []) h in
-        stands-from text rest texts (lang_after rest) (stand-ends text rest (n ∷ []) h)
-        (lang_after-stands sees rest
+        ap (λ s. s ++ rest) (sym lang ∙ is) ∙ occur-ends text rest (n ∷ []) h in
+        occurs-from text rest texts (lang_after rest) (occur-ends text rest (n ∷ []) h)
+        (lang_after-occurs sees rest
         (sees.following text rest 103 (omega arith) good
         (ends-by text (108 ∷ 97 ∷ 110 ∷ []) (103 ∷ rest) whole)))
     by n rest h is false t = sees.seen text (got (named_pseudo_class n) rest) (record { at = h })
 
-named_token-stands : (edition : Edition) (token : List ℕ → Token)
+named_token-occurs : (edition : Edition) (token : List ℕ → Token)
     → ((n : List ℕ) → token_texts (token n) ≡ itself n) → (text : List ℕ)
-    → Stands text token_texts (named_token edition token text)
+    → Occurs text token_texts (named_token edition token text)
 unfolding named_token
-named_token-stands edition token is text =
-    stands-follow text itself token_texts (name edition text) (λ n. got (token n))
-    (name-stands edition text) (λ n rest e h.
-    record { at = subst (StandBetween text rest) (sym (is n)) h })
+named_token-occurs edition token is text =
+    occurs-follow text itself token_texts (name edition text) (λ n. got (token n))
+    (name-occurs edition text) (λ n rest e h.
+    record { at = subst (OccurBetween text rest) (sym (is n)) h })
 
-solid_as-stands : {Good : List ℕ → Type 0} {texts : Token → List (List ℕ)} → Sees Good texts
+solid_as-occurs : {Good : List ℕ → Type 0} {texts : Token → List (List ℕ)} → Sees Good texts
     → (edition : Edition) (whole text : List ℕ) → Good whole → Ends whole text → (kind : NextKind)
-    → next_kind text ≡ kind → Stands text texts (solid_as edition kind text)
-solid_as-stands {Good = Good} {texts = texts} sees edition whole text good e = by
+    → next_kind text ≡ kind → Occurs text texts (solid_as edition kind text)
+solid_as-occurs {Good = Good} {texts = texts} sees edition whole text good e = by
   where
-    more : (r : Reading Token) → Stands (past_one text) token_texts r → Stands text texts r
+    more : (r : Reading Token) → Occurs (past_one text) token_texts r → Occurs text texts r
     more r h =
-        sees.seen text r (stands-from text (past_one text) token_texts r (ends-past_one text) h)
+        sees.seen text r (occurs-from text (past_one text) token_texts r (ends-past_one text) h)
 
-    by : (kind : NextKind) → next_kind text ≡ kind → Stands text texts (solid_as edition kind text)
+    by : (kind : NextKind) → next_kind text ≡ kind → Occurs text texts (solid_as edition kind text)
     by Stop k = record { at = ends-same text }
     by Slash k = record { at = ends-same text }
     by Child k =
@@ -344,20 +344,20 @@ solid_as-stands {Good = Good} {texts = texts} sees edition whole text good e = b
         (record { at = ends-past_one text })
     by Universal k =
         sees.seen text (got universal_selector (past_one text)) (record { at = ends-past_one text })
-    by Id k = more _ (named_token-stands edition id_selector (λ n. refl) (past_one text))
-    by Class k = more _ (named_token-stands edition class_selector (λ n. refl) (past_one text))
-    by Attribute k = more _ (attribute_after-stands edition (past_one text))
+    by Id k = more _ (named_token-occurs edition id_selector (λ n. refl) (past_one text))
+    by Class k = more _ (named_token-occurs edition class_selector (λ n. refl) (past_one text))
+    by Attribute k = more _ (attribute_after-occurs edition (past_one text))
     by Colon k =
         let sign = sign-begins Colon text tt k in
-        stands-from text (past_one text) texts _ (ends-past_one text)
-        (pseudo_class_after-stands sees edition (past_one text)
+        occurs-from text (past_one text) texts _ (ends-past_one text)
+        (pseudo_class_after-occurs sees edition (past_one text)
         (sees.following whole (past_one text) sign.byte sign.ascii good
         (subst (Ends whole) sign.is e)))
-    by Other k = sees.seen text _ (named_token-stands edition type_selector (λ n. refl) text)
+    by Other k = sees.seen text _ (named_token-occurs edition type_selector (λ n. refl) text)
 
-pub solid-stands : {Good : List ℕ → Type 0} {texts : Token → List (List ℕ)} → Sees Good texts
+pub solid-occurs : {Good : List ℕ → Type 0} {texts : Token → List (List ℕ)} → Sees Good texts
     → (edition : Edition) (whole text : List ℕ) → Good whole → Ends whole text
-    → Stands text texts (solid edition text)
+    → Occurs text texts (solid edition text)
 unfolding solid
-solid-stands sees edition whole text good e =
-    solid_as-stands sees edition whole text good e (next_kind text) refl
+solid-occurs sees edition whole text good e =
+    solid_as-occurs sees edition whole text good e (next_kind text) refl
