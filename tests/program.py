@@ -256,7 +256,8 @@ SHEETS = [
     ("a { b:-webkit-calc(1px); c:d }", "a { b:-webkit-calc; }\n", [":1:19: '(1px)': broken declaration"]),
     ("a { b:linear-gradient(to right, rgb(1,2,3), red; c:d }", "a { b:linear-gradient(to right, rgb(1,2,3), red;c:d; }\n", [
         ":1:7: 'linear-gradient(to right, rgb(1,2,3), red': a parenthesis of the value is left open"]),
-    ("a { b:url(\"c)d\"); e:f }", "a { b:url(\"c)d; }\n", [":1:7: 'url(\"c)d': a parenthesis of the value is left open"]),
+    ("a { b:url(\"c)d\"); e:f }", "a { b:url(\"c)d; }\n", [
+        ":1:7: 'url(\"c)d': a parenthesis of the value is left open", ":1:15: '\"); e:f }': string or function not closed"]),
     ("a { b:rgb(1, 2; c:d } e { f:g }", "", [":1:5: 'b:rgb(1, 2': broken declaration"]),
     ("a { b:; c:d }", "", [":1:5: 'b:': broken declaration"]),
     ("a { :b }", "", [":1:5: ':b': broken declaration"]),
