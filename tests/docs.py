@@ -5,8 +5,9 @@
 A block of code below a line `<!-- from FILE -->` is in that file, apart from indentation; so is one in the documentation of
 an item. The README's table of commands shows what the program prints, with the files of the blocks below lines
 `<!-- file NAME -->`, of which page.tree is what tools/html_tree.py writes of page.html. The words of its other command lines are
-files of the repository. What docs/DIFFERENCES.md shows of sheets is what the program prints. The files
-that the recipes of docs/ARCHITECTURE.md name exist. The lines of docs/USING.md below `<!-- run -->` are run in an empty folder. There are no other blocks. Prints 'N passed, M failed' in the end; the
+files of the repository. What docs/DIFFERENCES.md shows of sheets is what the program prints. The files that the recipes of
+docs/ARCHITECTURE.md name exist. The lines of docs/USING.md below `<!-- run -->` are run in an empty folder. There are no other
+blocks. A file that begins with `#!` may be run, and no other. Prints 'N passed, M failed' in the end; the
 status is 1 if something failed.
 """
 import os
@@ -136,6 +137,14 @@ with tempfile.TemporaryDirectory() as folder:
 lines = re.findall(r"^    out/(\w+)(.*)$", readme, re.MULTILINE)
 examples = {name.split("/")[1] for name in names if re.fullmatch(r"crates/example_\w+/src/main.rt", name)}
 expect({program for program, _ in lines} == examples, f"README: a line for each of {sorted(examples)}")
+# A file that begins with `#!` may be run, and no other.
+for folder in ("", "tests", "tools", "bench", ".ci"):
+    for entry in sorted(os.scandir(os.path.join(top, folder)), key=lambda entry: entry.name):
+        if entry.is_file():
+            with open(entry.path, "rb") as file:
+                runs = file.read(2) == b"#!"
+            expect(runs == os.access(entry.path, os.X_OK), f"{os.path.join(folder, entry.name)}: it begins with #!, or may be run, but not both")
+
 for program, words in lines:
     for word in shlex.split(words):
         expect("/" not in word or os.path.isfile(os.path.join(top, word)), f"README: {program} is run with {word}")
