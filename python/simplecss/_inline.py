@@ -7,6 +7,7 @@ broken declaration is dropped alone); which declarations win on an element is th
 from __future__ import annotations
 
 import re
+from html import unescape
 from typing import Dict, List, NamedTuple, Optional, Tuple
 
 from ._sheet import Declaration, Selector, SelectorError, StyleSheet
@@ -29,6 +30,17 @@ _NAME = re.compile(r"--[-\w]*|-?[A-Za-z_][-\w]*")
 _IMPORTANT = re.compile(r"!\s*important\s*$", re.IGNORECASE)
 _HEAD_PARTS = frozenset("head title meta link base style script noscript template".split())
 _SPACES = " \t\n\r\f"
+# The parts of a sheet in which a backslash escapes: strings, comments and the contents of `url()`.
+_ESCAPABLE = re.compile(
+    r"""/\*.*?(?:\*/|\Z)|"[^"\\]*(?:\\.[^"\\]*)*"?|'[^'\\]*(?:\\.[^'\\]*)*'?|url\([^)"']*""",
+    re.DOTALL | re.IGNORECASE,
+)
+_STYLE_END = re.compile("<(?=/style)", re.IGNORECASE)
+_XML_START = re.compile(
+    r"\ufeff?\s*(?:<\?xml\s|(?:<!--(?:(?!-->).)*-->\s*|<!DOCTYPE\s+svg[^>]*>\s*)*<svg[\s>])",
+    re.DOTALL,
+)
+_CDATA = re.compile(r"<!\[CDATA\[(.*?)(?:\]\]>|\Z)", re.DOTALL)
 
 
 class _Tag(NamedTuple):
@@ -324,8 +336,30 @@ def _is_modern(selector: str) -> bool:
     return re.search(r"[\w\])*]\s*~\s*[\w.#\[:*]|\[\s*[-\w]+\s*[$^*|~]?=?", selector) is not None
 
 
+def _style_text(css: str, is_xml: bool) -> str:
+    """Returns css as the content of a `style` element, which nothing in it may end.
+
+    In HTML, where no reference is read there, `</style` gets a backslash in a string, a comment or
+    a `url()`; anywhere else it raises `ValueError`.
+    """
+    if is_xml:
+        return css.replace("&", "&amp;").replace("<", "&lt;").replace("]]>", "]]&gt;")
+    text = _ESCAPABLE.sub(lambda part: _STYLE_END.sub(r"<\\", part.group()), css)
+    if _STYLE_END.search(text):
+        raise ValueError("`</style` outside of a string would end the style element that it is in")
+    return text
+
+
+def _style_content(text: str, is_xml: bool) -> str:
+    """Returns the sheet that the text of a `style` element is."""
+    if not is_xml:
+        return text
+    parts = _CDATA.split(text)
+    return "".join(part if index % 2 else unescape(part) for index, part in enumerate(parts))
+
+
 def _escape(text: str, quote: str) -> str:
-    text = text.replace("&", "&amp;")
+    text = text.replace("&", "&amp;").replace("<", "&lt;")
     return text.replace('"', "&quot;") if quote == '"' else text.replace("'", "&#39;")
 
 
@@ -338,7 +372,7 @@ def _own_style(tag: str) -> Optional[Tuple[int, int, str, str]]:
             continue
         value = found.group(2) or ""
         quote = value[0] if value[:1] in ("'", '"') else ""
-        raw = value[1:-1] if quote else value
+        raw = value[1:-1] if quote else value.replace('"', "&quot;")
         return found.start(), found.end(), raw, quote or '"'
     return None
 
@@ -396,6 +430,7 @@ def inline(html: str, css: str = "") -> str:
     of the page (`:hover`), that CSS 2.1 does not have, and at-rules stay in a `style` element, as
     does one for some media only. Everything else is unchanged, byte for byte.
     """
+    is_xml = _XML_START.match(html) is not None
     reader = _Reader(html)
     reader.feed(html)
     reader.close()
@@ -405,16 +440,17 @@ def inline(html: str, css: str = "") -> str:
     sheets = [inlined]
     if kept:
         offset = _offset_of_style(reader)
-        edits[(offset, offset)] = f"<style>\n{kept}\n</style>"
+        edits[(offset, offset)] = f"<style>\n{_style_text(kept, is_xml)}\n</style>"
     for content in reader.styles:
         if not _is_plain(reader.elements[content.element]):
             continue
-        inlined, kept = rules.split(html[content.inner : content.inner_end])
+        text = html[content.inner : content.inner_end]
+        inlined, kept = rules.split(_style_content(text, is_xml))
         if not inlined:
             continue
         sheets.append(inlined)
         if kept:
-            edits[(content.inner, content.inner_end)] = f"\n{kept}\n"
+            edits[(content.inner, content.inner_end)] = f"\n{_style_text(kept, is_xml)}\n"
         else:
             edits[(content.start, content.end)] = ""
     winners = StyleSheet(*sheets).styles(Tree(reader.elements))

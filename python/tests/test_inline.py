@@ -95,5 +95,46 @@ class Selectors(unittest.TestCase):
         self.assertEqual(style_of("p[title=ab] { n: 1 }", "<p title=Ab>"), "")
 
 
+class Injection(unittest.TestCase):
+    """What a sheet or a page says stays in the style element or attribute that it is written in."""
+
+    def test_no_text_of_a_sheet_ends_the_style_element(self):
+        for css, written in (
+            ('p:hover{content:"</style><script>alert(1)</script>"}',
+             r'p:hover {content:"<\/style><script>alert(1)</script>"}'),
+            ("p:hover{content:'\\'</STYLE >'}", r"p:hover {content:'\'<\/STYLE >'}"),
+            ("p:hover{b:url(</style>)}", r"p:hover {b:url(<\/style>)}"),
+            ("@media x{/*</style>*/}", r"@media x{/*<\/style>*/}"),
+            ("@import '</style/>';", r"@import '<\/style/>';"),
+        ):
+            self.assertEqual(inline("<html><head></head><body><p>x", css),
+                             f"<html><head><style>\n{written}\n</style></head><body><p>x", css)
+
+    def test_what_no_escape_holds_is_refused(self):
+        for css in ("p:hover{--a:</style>}", "@x </style>;", "p:hover, </STYLE x> {n:1}",
+                    "@media x{</style>}"):
+            with self.assertRaises(ValueError, msg=css):
+                inline("<p>", css)
+
+    def test_references_in_xml(self):
+        page = '<?xml version="1.0"?><html><head/><body><p/></body></html>'
+        css = "p{content:'<&]]>'} p:hover{content:'</style>&amp;'} @media x{p>b{n:1}}"
+        self.assertEqual(
+            inline(page.replace("<head/>", "<head></head>"), css),
+            '<?xml version="1.0"?><html><head><style>\np:hover {content:\'&lt;/style>&amp;amp;\'}\n'
+            "@media x{p>b{n:1}}\n</style></head><body>"
+            "<p style=\"content: '&lt;&amp;]]>'\"/></body></html>")
+
+    def test_content_of_style_elements_in_xml(self):
+        for text in ("r:hover{a:'&lt;&amp;'} r{n:1}", "<![CDATA[r:hover{a:'<&'} r{n:1}]]>"):
+            self.assertEqual(
+                inline(f"<svg><style>{text}</style><r/></svg>"),
+                "<svg><style>\nr:hover {a:'&lt;&amp;'}\n</style><r style=\"n: 1\"/></svg>")
+
+    def test_an_unquoted_attribute_stays_one(self):
+        self.assertEqual(inline('<p style=a:b"onclick=x>', "p { n: 1 }"),
+                         '<p style="n: 1; a:b&quot;onclick=x">')
+
+
 if __name__ == "__main__":
     unittest.main()
