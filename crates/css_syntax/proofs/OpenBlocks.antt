@@ -1,0 +1,333 @@
+-- Blocks within blocks, a token at a time.
+-- Serves `component_values::skip_block`.
+use Rattle.std.proofs.Common.{◌≡◌, ℕ, zero, suc, ◌+◌, ◌*◌, ◌/◌, ◌%◌, ◌^◌, ◌-◌, ◌<◌, ◌≤◌, ◌==◌, ◌&&◌, Bool, true, false, List, [], ◌∷◌, length, Some, None, arith, refl, sym, ap, ◌∙◌, if◌then◌else◌, eq-eqb, eqb-true, add-one}
+use Rattle.std.proofs.Math.Nat.{pow-suc, pow-le-pow_right}
+use Rattle.std.proofs.lemmas.Nat.{div_below}
+use Rattle.simplecss_text.specs.Reading.{each}
+use Rattle.simplecss_text.specs.AsciiBytes.{close_brace}
+use Rattle.simplecss_text.specs.Bytes.{past_byte}
+use Rattle.simplecss_text.proofs.reading.EachLemmas.{Shrinks, Takes, each-none, each-some}
+use Rattle.simplecss_text.proofs.reading.TakesLemmas.{length-past_byte, each-within}
+use Rattle.css_syntax.specs.Tokens.{token}
+use Rattle.css_syntax.specs.ComponentValues.{is_opener, mirror, all_good, value_inside, block_of, value_by, component_value}
+use Rattle.css_syntax.specs.internal.OpenBrackets.{closer_of}
+use Rattle.css_syntax.proofs.Shorter.{token-takes}
+
+-- ---- a component value consumes a byte or more
+
+-- what a reader of values consumes
+pub Consumes : (List ℕ → Bool × List ℕ) → Type 0
+Consumes read = (b : ℕ) (text : List ℕ) → length (read (b ∷ text)).1 ≤ length text
+
+value_inside-takes : (read : List ℕ → Bool × List ℕ) (closer : ℕ) → Consumes read
+    → Takes (value_inside read closer)
+unfolding Consumes
+value_inside-takes read closer h [] = tt
+value_inside-takes read closer h (b ∷ text) = by (b == closer)
+  where
+    by : (t : Bool) → Shrinks (b ∷ text) (if t then None else Some (read (b ∷ text)))
+    by true = tt
+    by false = omega (arith, h b text)
+
+value_by-consumes : (block : ℕ → List ℕ → Bool × List ℕ)
+    → ((closer : ℕ) (text : List ℕ) → length (block closer text).1 ≤ length text)
+    → Consumes (value_by block)
+unfolding Consumes
+value_by-consumes block h b text = by (is_opener b)
+  where
+    by : (t : Bool)
+        → length (if t then block (mirror b) text else token (b ∷ text)).1 ≤ length text
+    by true = h (mirror b) text
+    by false = token-takes b text
+
+block_of-within : (read : List ℕ → Bool × List ℕ) → Consumes read → (closer : ℕ) (text : List ℕ)
+    → length (block_of read closer text).1 ≤ length text
+unfolding block_of
+block_of-within read h closer text = omega (
+  arith,
+  length-past_byte closer (each (value_inside read closer) text).1,
+  each-within (value_inside read closer) (value_inside-takes read closer h) text,
+)
+
+pub component_value-consumes : (n : ℕ) → Consumes (component_value n)
+unfolding Consumes component_value
+component_value-consumes zero b text =
+    value_by-consumes (λ closer rest. (false, [])) (λ closer rest. omega arith) b text
+component_value-consumes (suc n) b text =
+    value_by-consumes (block_of (component_value n))
+    (block_of-within (component_value n) (component_value-consumes n)) b text
+
+-- in a block whose values may have `n` further brackets open
+pub inside-takes : (n closer : ℕ) → Takes (value_inside (component_value n) closer)
+inside-takes n closer =
+    value_inside-takes (component_value n) closer (component_value-consumes n)
+
+pub value-within : (n b : ℕ) (text : List ℕ) → length (component_value n (b ∷ text)).1 ≤ length text
+unfolding Consumes
+value-within n b text = component_value-consumes n b text
+
+pub braces_within : (text : List ℕ)
+    → length (block_of (component_value 63) close_brace text).1 ≤ length text
+braces_within text = block_of-within (component_value 63) (component_value-consumes 63) close_brace text
+
+pub value-empty : (n : ℕ) → component_value n [] ≡ (true, [])
+unfolding component_value
+value-empty zero = refl
+value-empty (suc n) = refl
+
+pub value-open : (n b : ℕ) (text : List ℕ) → is_opener b ≡ true
+    → component_value (suc n) (b ∷ text) ≡ block_of (component_value n) (mirror b) text
+unfolding component_value
+value-open n b text opener = rw opener refl
+
+pub value-token : (n b : ℕ) (text : List ℕ) → is_opener b ≡ false
+    → component_value n (b ∷ text) ≡ token (b ∷ text)
+unfolding component_value
+value-token zero b text opener = rw opener refl
+value-token (suc n) b text opener = rw opener refl
+
+-- ---- what is left of the blocks that are open
+
+-- a reading, if what was read before is good, too
+abbrev pub also : Bool → Bool × List ℕ → Bool × List ℕ
+also good read = (good && read.0, read.1)
+
+pub and-assoc : (a b c : Bool) → (a && (b && c)) ≡ ((a && b) && c)
+and-assoc true b c = refl
+and-assoc false b c = refl
+
+pub and-true : (a : Bool) → (a && true) ≡ a
+and-true true = refl
+and-true false = refl
+
+pub and-false : (a : Bool) → (a && false) ≡ false
+and-false true = refl
+and-false false = refl
+
+pub also-also : (a b : Bool) (read : Bool × List ℕ) → also a (also b read) ≡ also (a && b) read
+also-also a b read = ap (λ (good : Bool). (good, read.1)) (and-assoc a b read.0)
+
+-- the rest of the innermost block, and then of those round it, of which there are `depth` in all;
+-- `waiting` has their closing brackets, and `n` further brackets may be opened
+abbrev pub resume : (depth waiting n : ℕ) → List ℕ → Bool × List ℕ
+resume zero waiting n text = (true, text)
+resume (suc depth) waiting n text =
+    let inside = each (value_inside (component_value n) (closer_of (waiting % 4))) text in
+    also (all_good inside.0)
+    (resume depth (waiting / 4) (suc n) (past_byte (closer_of (waiting % 4)) inside.1))
+
+-- at the end of the text
+pub resume-end : (depth waiting n : ℕ) → resume depth waiting n [] ≡ (true, [])
+resume-end zero waiting n = refl
+resume-end (suc depth) waiting n =
+    rw (each-none (value_inside (component_value n) (closer_of (waiting % 4))) [] refl)
+    (resume-end depth (waiting / 4) (suc n))
+
+-- at the closing bracket of the innermost block
+pub resume-close : (depth waiting n b : ℕ) (text : List ℕ) → b ≡ closer_of (waiting % 4)
+    → resume (suc depth) waiting n (b ∷ text) ≡ resume depth (waiting / 4) (suc n) text
+resume-close depth waiting n b text e =
+    let closer = closer_of (waiting % 4) in
+    let read = value_inside (component_value n) closer in
+    let same : (b == closer) ≡ true = eq-eqb b closer e in
+    let none : read (b ∷ text) ≡ None = rw same refl in
+    let past : past_byte closer (b ∷ text) ≡ text = rw same refl in
+    ap (λ (r : List Bool × List ℕ). also (all_good r.0)
+    (resume depth (waiting / 4) (suc n) (past_byte closer r.1)))
+    (each-none read (b ∷ text) none)
+    ∙ ap (resume depth (waiting / 4) (suc n)) past
+
+-- at a value
+pub resume-value : (depth waiting n b : ℕ) (text : List ℕ) → (b == closer_of (waiting % 4)) ≡ false
+    → resume (suc depth) waiting n (b ∷ text)
+    ≡ also (component_value n (b ∷ text)).0
+    (resume (suc depth) waiting n (component_value n (b ∷ text)).1)
+resume-value depth waiting n b text e =
+    let closer = closer_of (waiting % 4) in
+    let read = value_inside (component_value n) closer in
+    let x = component_value n (b ∷ text) in
+    let found : read (b ∷ text) ≡ Some x = rw e refl in
+    ap (λ (r : List Bool × List ℕ). also (all_good r.0)
+    (resume depth (waiting / 4) (suc n) (past_byte closer r.1)))
+    (each-some read (inside-takes n closer) (b ∷ text) x.1 x.0 found)
+    ∙ sym (also-also x.0 (all_good (each read x.1).0)
+    (resume depth (waiting / 4) (suc n) (past_byte closer (each read x.1).1)))
+
+-- at an opening bracket
+pub resume-open : (depth waiting next n b : ℕ) (text : List ℕ)
+    → (b == closer_of (waiting % 4)) ≡ false → is_opener b ≡ true → next / 4 ≡ waiting
+    → closer_of (next % 4) ≡ mirror b
+    → resume (suc depth) waiting (suc n) (b ∷ text) ≡ resume (suc (suc depth)) next n text
+unfolding block_of component_value
+resume-open depth waiting next n b text e opener rest closer =
+    let inner = each (value_inside (component_value n) (mirror b)) text in
+    let value : component_value (suc n) (b ∷ text) ≡ (all_good inner.0, past_byte (mirror b) inner.1)
+    = rw opener refl in
+    resume-value depth waiting (suc n) b text e
+    ∙ ap (λ (x : Bool × List ℕ). also x.0 (resume (suc depth) waiting (suc n) x.1)) value
+    ∙ rw (closer, rest) refl
+
+-- at one too many
+pub resume-deep : (depth waiting b : ℕ) (text : List ℕ)
+    → (b == closer_of (waiting % 4)) ≡ false → is_opener b ≡ true
+    → resume (suc depth) waiting zero (b ∷ text) ≡ (false, [])
+unfolding component_value
+resume-deep depth waiting b text e opener =
+    let value : component_value zero (b ∷ text) ≡ (false, []) = rw opener refl in
+    resume-value depth waiting zero b text e
+    ∙ ap (λ (x : Bool × List ℕ). also x.0 (resume (suc depth) waiting zero x.1)) value
+    ∙ ap (λ (r : Bool × List ℕ). (false, r.1)) (resume-end (suc depth) waiting zero)
+
+-- at any other token
+pub resume-token : (depth waiting n b : ℕ) (text : List ℕ)
+    → (b == closer_of (waiting % 4)) ≡ false → is_opener b ≡ false
+    → resume (suc depth) waiting n (b ∷ text)
+    ≡ also (token (b ∷ text)).0 (resume (suc depth) waiting n (token (b ∷ text)).1)
+resume-token depth waiting n b text e opener =
+    resume-value depth waiting n b text e
+    ∙ ap (λ (x : Bool × List ℕ). also x.0 (resume (suc depth) waiting n x.1))
+    (value-token n b text opener)
+
+-- one block, from its start
+pub resume-start : (kind n : ℕ) (text : List ℕ) → kind < 4
+    → resume 1 kind n text ≡ block_of (component_value n) (closer_of kind) text
+unfolding block_of
+resume-start kind n text h =
+    let digit : kind % 4 ≡ kind = omega arith in
+    rw digit (ap (λ (good : Bool). (
+      good,
+      past_byte (closer_of kind) (each (value_inside (component_value n) (closer_of kind)) text).1,
+    ))
+    (and-true (all_good (each (value_inside (component_value n) (closer_of kind)) text).0)))
+
+-- ---- with the depth as the code has it
+
+pub close-at : (depth waiting b : ℕ) (text : List ℕ) → 0 < depth → depth ≤ 64
+    → b ≡ closer_of (waiting % 4)
+    → resume depth waiting (64 - depth) (b ∷ text)
+    ≡ resume (depth - 1) (waiting / 4) (64 - (depth - 1)) text
+close-at zero waiting b text h l e = absurd (omega arith)
+close-at (suc d) waiting b text h l e =
+    let more : suc (64 - suc d) ≡ 64 - (suc d - 1) = omega arith in
+    let fewer : d ≡ suc d - 1 = omega arith in
+    resume-close d waiting (64 - suc d) b text e
+    ∙ ap (λ (m : ℕ). resume d (waiting / 4) m text) more
+    ∙ ap (λ (k : ℕ). resume k (waiting / 4) (64 - (suc d - 1)) text) fewer
+
+pub open-at : (depth waiting kind b : ℕ) (text : List ℕ) → 0 < depth → depth < 64
+    → (b == closer_of (waiting % 4)) ≡ false → is_opener b ≡ true → kind < 4
+    → closer_of kind ≡ mirror b
+    → resume depth waiting (64 - depth) (b ∷ text)
+    ≡ resume (depth + 1) (4 * waiting + kind) (64 - (depth + 1)) text
+open-at zero waiting kind b text h l e opener k closer = absurd (omega arith)
+open-at (suc d) waiting kind b text h l e opener k closer =
+    let next = 4 * waiting + kind in
+    let digit : next % 4 ≡ kind = omega arith in
+    let others : next / 4 ≡ waiting = omega arith in
+    let fewer : 64 - suc d ≡ suc (64 - (suc d + 1)) = omega arith in
+    let deeper : suc (suc d) ≡ suc d + 1 = omega arith in
+    ap (λ (m : ℕ). resume (suc d) waiting m (b ∷ text)) fewer
+    ∙ resume-open d waiting next (64 - (suc d + 1)) b text e opener others (ap closer_of digit ∙ closer)
+    ∙ ap (λ (k : ℕ). resume k next (64 - (suc d + 1)) text) deeper
+
+pub deep-at : (depth waiting b : ℕ) (text : List ℕ) → depth ≡ 64
+    → (b == closer_of (waiting % 4)) ≡ false → is_opener b ≡ true
+    → resume depth waiting (64 - depth) (b ∷ text) ≡ (false, [])
+deep-at depth waiting b text h e opener =
+    let none : 64 - depth ≡ zero = omega arith in
+    let all : depth ≡ suc 63 = omega arith in
+    ap (λ (n : ℕ). resume depth waiting n (b ∷ text)) none
+    ∙ ap (λ (k : ℕ). resume k waiting zero (b ∷ text)) all
+    ∙ resume-deep 63 waiting b text e opener
+
+pub token-at : (depth waiting n b : ℕ) (text : List ℕ) → 0 < depth
+    → (b == closer_of (waiting % 4)) ≡ false → is_opener b ≡ false
+    → resume depth waiting n (b ∷ text)
+    ≡ also (token (b ∷ text)).0 (resume depth waiting n (token (b ∷ text)).1)
+token-at zero waiting n b text h e opener = absurd (omega arith)
+token-at (suc d) waiting n b text h e opener = resume-token d waiting n b text e opener
+
+-- ---- the number of the brackets
+
+-- a further digit
+pub digits : (waiting kind depth : ℕ) → kind < 4 → waiting < 4 ^ depth
+    → 4 * waiting + kind < 4 ^ (depth + 1)
+digits waiting kind depth k h =
+    rw (add-one, pow-suc 4 depth) (omega arith)
+
+-- and one less
+pub fewer : (waiting depth : ℕ) → 0 < depth → waiting < 4 ^ depth
+    → waiting / 4 < 4 ^ (depth - 1)
+fewer waiting zero z h = absurd (omega arith)
+fewer waiting (suc d) z h =
+    let less : d ≡ suc d - 1 = omega arith in
+    let next : waiting < 4 ^ d * 4 = rw (← pow-suc 4 d) h in
+    rw (← less) (div_below waiting 4 (4 ^ d) (omega arith) next)
+
+-- as many as a number of 64 bits has
+pub fits : (waiting depth : ℕ) → depth < 64 → waiting < 4 ^ depth → waiting < 4 ^ 63
+fits waiting depth l h =
+    omega (arith, pow-le-pow_right {n = 4} (omega arith) {i = depth} {j = 63} (omega arith))
+
+-- ---- as the loop goes
+
+pub other_byte : (a b : ℕ) → (a ≡ b → ⊥) → (a == b) ≡ false
+other_byte a b h = by (a == b) refl
+  where
+    by : (t : Bool) → (a == b) ≡ t → (a == b) ≡ false
+    by true e = absurd (h (eqb-true a b e))
+    by false e = e
+
+pub at-end : (depth waiting n : ℕ) (rest : List ℕ) (good : Bool) → rest ≡ []
+    → also good (resume depth waiting n rest) ≡ (good, rest)
+at-end depth waiting n rest good e =
+    ap (λ (t : List ℕ). also good (resume depth waiting n t)) e
+    ∙ ap (also good) (resume-end depth waiting n)
+    ∙ ap (λ (g : Bool). (g, [])) (and-true good)
+    ∙ ap (λ (t : List ℕ). (good, t)) (sym e)
+
+pub step-close : (depth waiting b : ℕ) (rest after : List ℕ) (good : Bool) → 0 < depth → depth ≤ 64
+    → rest ≡ b ∷ after → b ≡ closer_of (waiting % 4)
+    → also good (resume (depth - 1) (waiting / 4) (64 - (depth - 1)) after)
+    ≡ also good (resume depth waiting (64 - depth) rest)
+step-close depth waiting b rest after good h l e closer =
+    ap (also good) (sym (ap (resume depth waiting (64 - depth)) e
+    ∙ close-at depth waiting b after h l closer))
+
+pub step-open : (depth waiting kind b : ℕ) (rest after : List ℕ) (good : Bool) → 0 < depth
+    → depth < 64 → rest ≡ b ∷ after → (b == closer_of (waiting % 4)) ≡ false
+    → is_opener b ≡ true → kind < 4 → closer_of kind ≡ mirror b
+    → also good (resume (depth + 1) (4 * waiting + kind) (64 - (depth + 1)) after)
+    ≡ also good (resume depth waiting (64 - depth) rest)
+step-open depth waiting kind b rest after good h l e other opener k closer =
+    ap (also good) (sym (ap (resume depth waiting (64 - depth)) e
+    ∙ open-at depth waiting kind b after h l other opener k closer))
+
+pub step-deep : (depth waiting b : ℕ) (rest after : List ℕ) (good : Bool) → depth ≡ 64
+    → rest ≡ b ∷ after → (b == closer_of (waiting % 4)) ≡ false → is_opener b ≡ true
+    → also good (resume depth waiting (64 - depth) rest) ≡ (false, [])
+step-deep depth waiting b rest after good l e other opener =
+    ap (also good) (ap (resume depth waiting (64 - depth)) e
+    ∙ deep-at depth waiting b after l other opener)
+    ∙ ap (λ (g : Bool). (g, [])) (and-false good)
+
+pub step-token : (depth waiting n b : ℕ) (rest after : List ℕ) (good : Bool)
+    (skipped : Bool × List ℕ) → 0 < depth → rest ≡ b ∷ after
+    → (b == closer_of (waiting % 4)) ≡ false → is_opener b ≡ false → token rest ≡ skipped
+    → also (good && skipped.0) (resume depth waiting n skipped.1)
+    ≡ also good (resume depth waiting n rest)
+step-token depth waiting n b rest after good skipped h e other opener t =
+    sym (also-also good skipped.0 (resume depth waiting n skipped.1))
+    ∙ ap (also good) (sym (ap (resume depth waiting n) e
+    ∙ token-at depth waiting n b after h other opener
+    ∙ ap (λ (x : Bool × List ℕ). also x.0 (resume depth waiting n x.1)) (ap token (sym e) ∙ t)))
+
+pub token-less : (b : ℕ) (rest after : List ℕ) (skipped : Bool × List ℕ) → rest ≡ b ∷ after
+    → token rest ≡ skipped → length skipped.1 < length rest
+token-less b rest after skipped e t =
+    omega (
+      arith,
+      token-takes b after,
+      ap length e,
+      ap (λ (x : Bool × List ℕ). length x.1) (ap token (sym e) ∙ t),
+    )

@@ -1,0 +1,10 @@
+use Rattle.std.proofs.Common.{◌≡◌, length}
+use Rattle.simplecss_text.specs.Reading.{each}
+use Rattle.css_syntax.specs.Tokens.{gap_part}
+use Rattle.css_syntax.proofs.tokens.skip_gap.Given as goal
+
+abbrev pub invariant-parts : goal.invariant-parts
+invariant-parts l = (each gap_part l.rest).1 ≡ (each gap_part l.bytes).1
+
+abbrev pub decreases-parts : goal.decreases-parts
+decreases-parts l = length l.rest

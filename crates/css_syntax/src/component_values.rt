@@ -1,0 +1,104 @@
+//! Component values (CSS Syntax 3, sections 5.4.7 to 5.4.9): a token, or brackets with component
+//! values in them.
+ghost use Rattle.std.specs.Prelude.{◌≡◌, ◌<◌, ◌≤◌, length, true, false, None, IfSome};
+ghost use Rattle.simplecss_text.specs.AsciiBytes.{close_brace};
+ghost use Rattle.css_syntax.specs.ComponentValues.{is_opener, mirror, deepest, block_of};
+ghost use Rattle.css_syntax.specs.ComponentValues.{component_value};
+ghost use Rattle.css_syntax.specs.internal.OpenBrackets.{closer_of as closer_named};
+
+use crate::tokens::{Skipped, skip_token, split};
+
+/// How many brackets may be open at once: as many as a `u128` has digits to the base of four.
+const DEEPEST: usize = 64;
+
+/// The closing bracket of a number from 1 to 3.
+fn closer_of(kind: u128) -> u8
+    ensures { result ≡ closer_named kind }
+{
+    match kind {
+        1 => b')',
+        2 => b']',
+        _ => b'}',
+    }
+}
+
+/// The number of the closing bracket for an opening one, if the byte is one.
+fn opened_kind(byte: u8) -> Option<u128>
+    ensures none { result ≡ None → is_opener byte ≡ false }
+    ensures some { IfSome result (λ kind. (is_opener byte ≡ true) × (kind < 4)
+        × (closer_named kind ≡ mirror byte)) }
+{
+    match byte {
+        b'(' => Some(1),
+        b'[' => Some(2),
+        b'{' => Some(3),
+        _ => None,
+    }
+}
+
+/// Skips a block after its opening bracket, up to and with the bracket that closes it. `kind` is the
+/// number of that bracket.
+///
+/// The brackets that are open are the digits of `waiting` to the base of four, the last opened one
+/// lowest, so nothing is allocated and nothing calls itself.
+fn skip_block(bytes: &[u8], kind: u128) -> Skipped<'_>
+    requires { kind < 4 }
+    ensures { block_of (component_value 63) (closer_named kind) bytes.now
+        ≡ (result.good, result.rest.now) }
+{
+    let mut waiting = kind;
+    let mut depth = 1usize;
+    let mut good = true;
+    let mut rest = bytes;
+    'values: while depth > 0 {
+        match split(rest) {
+            None => return Skipped { good, rest },
+            Some((byte, after)) => {
+                if byte == closer_of(waiting % 4) {
+                    waiting /= 4;
+                    depth -= 1;
+                    rest = after;
+                } else if let Some(inner) = opened_kind(byte) {
+                    if depth == DEEPEST {
+                        return Skipped {
+                            good: false,
+                            rest: &[],
+                        };
+                    }
+                    waiting = 4 * waiting + inner;
+                    depth += 1;
+                    rest = after;
+                } else {
+                    let token = skip_token(rest);
+                    good &= token.good;
+                    rest = token.rest;
+                }
+            }
+        }
+    }
+    Skipped { good, rest }
+}
+
+/// Skips a component value.
+pub fn skip_component_value(bytes: &[u8]) -> Skipped<'_>
+    ensures { component_value deepest bytes.now ≡ (result.good, result.rest.now) }
+{
+    match split(bytes) {
+        None => Skipped {
+            good: true,
+            rest: bytes,
+        },
+        Some((byte, rest)) => match opened_kind(byte) {
+            Some(kind) => skip_block(rest, kind),
+            None => skip_token(bytes),
+        },
+    }
+}
+
+/// Skips a block after its opening brace.
+pub fn skip_braces(bytes: &[u8]) -> &[u8]
+    ensures rest { result.now ≡ (block_of (component_value 63) close_brace bytes.now).1 }
+    ensures within { length result.now ≤ length bytes.now }
+{
+    skip_block(bytes, 3).rest
+}

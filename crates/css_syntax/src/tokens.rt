@@ -1,0 +1,588 @@
+//! The tokens of CSS Syntax 3 (section 4.3), as far as where one ends depends on them. Each function
+//! takes the rest of a text and returns the rest after what it skips.
+ghost use Rattle.std.specs.Prelude.{◌≡◌, ◌≤◌, [], ◌∷◌, length, option_map, MatchOption, ◌<◌, true};
+ghost use Rattle.std.specs.Prelude.{Some};
+ghost use Rattle.std.specs.List.{prefix_len};
+ghost use Rattle.simplecss_text.specs.Reading.{each};
+ghost use Rattle.simplecss_text.specs.AsciiBytes.{close_parenthesis};
+ghost use Rattle.simplecss_text.specs.Bytes.{past, past_byte, starts_by};
+ghost use Rattle.simplecss_text.specs.Strings.{is_quote as is_quote_byte};
+ghost use Rattle.simplecss_text.specs.Characters.{is_space as is_space_byte};
+ghost use Rattle.simplecss_text.specs.Comments.{opens_comment};
+ghost use Rattle.simplecss_text.specs.Terms.{is_hex_digit as is_hex};
+ghost use Rattle.css_syntax.specs.Tokens.{is_newline as is_newline_byte};
+ghost use Rattle.css_syntax.specs.Tokens.{past_one_space, past_hex, past_escape};
+ghost use Rattle.css_syntax.specs.Tokens.{begins_escape as begins_escape_of, past_comment};
+ghost use Rattle.css_syntax.specs.Tokens.{gap_part as gap_part_of, past_gap};
+ghost use Rattle.css_syntax.specs.Tokens.{string_part as string_part_of, past_string, string_end};
+ghost use Rattle.css_syntax.specs.Tokens.{is_name_byte as is_name_byte_of};
+ghost use Rattle.css_syntax.specs.Tokens.{name_part as name_part_of, past_word};
+ghost use Rattle.css_syntax.specs.Tokens.{begins_url as begins_url_of, hex_digit};
+ghost use Rattle.css_syntax.specs.Tokens.{hex_number as hex_number_of, from_close};
+ghost use Rattle.css_syntax.specs.Tokens.{escaped_char as escaped_char_of, past_letter};
+ghost use Rattle.css_syntax.specs.Tokens.{then_open, after_url};
+ghost use Rattle.css_syntax.specs.Tokens.{is_never_bare as is_never_bare_of};
+ghost use Rattle.css_syntax.specs.Tokens.{url_part as url_part_of, past_url, url_end};
+ghost use Rattle.css_syntax.specs.Tokens.{remnant_part as remnant_part_of};
+ghost use Rattle.css_syntax.specs.Tokens.{begins_cdo as begins_cdo_of, token};
+ghost use Rattle.css_syntax.specs.Tokens.{is_closer as is_closer_of};
+ghost use Rattle.css_syntax.specs.Tokens.{other_token};
+
+/// What was skipped: whether it is good, and the rest.
+#[derive(Clone, Copy)]
+pub struct Skipped<'a> {
+    /// Whether it may be in a value.
+    pub good: bool,
+    /// The rest after it.
+    pub rest: &'a [u8],
+}
+
+/// Returns the first byte and the rest, if there is one.
+pub fn split(bytes: &[u8]) -> Option<(u8, &[u8])>
+    ensures { MatchOption result (bytes.now ≡ []) (λ it. bytes.now ≡ it.0 ∷ it.1.now) }
+{
+    match bytes {
+        [] => None,
+        [byte, rest @ ..] => Some((*byte, rest)),
+    }
+}
+
+/// Whether the byte is a space byte.
+fn is_space(byte: u8) -> bool
+    ensures { result ≡ is_space_byte byte }
+{
+    matches!(byte, b' ' | b'\t' | b'\n' | b'\r' | b'\x0C')
+}
+
+/// Whether the byte is a line feed, a carriage return or a form feed.
+fn is_newline(byte: u8) -> bool
+    ensures { result ≡ is_newline_byte byte }
+{
+    matches!(byte, b'\n' | b'\r' | b'\x0C')
+}
+
+/// Skips the byte, if it is next.
+pub fn skip_byte(bytes: &[u8], byte: u8) -> &[u8]
+    ensures { result.now ≡ past_byte byte bytes.now }
+{
+    match bytes {
+        [first, rest @ ..] if *first == byte => rest,
+        _ => bytes,
+    }
+}
+
+/// Returns the number of space bytes at the start.
+fn space_count(bytes: &[u8]) -> usize
+    ensures count { result ≡ prefix_len is_space_byte bytes.now }
+    ensures within { result ≤ length bytes.now }
+{
+    bytes.iter().take_while(|byte| is_space(**byte)).count()
+}
+
+/// Skips space bytes.
+fn skip_spaces(bytes: &[u8]) -> &[u8]
+    ensures { result.now ≡ past is_space_byte bytes.now }
+{
+    &bytes[space_count(bytes)..]
+}
+
+/// Skips a space byte, if one is next. A carriage return and a line feed are one.
+fn skip_one_space(bytes: &[u8]) -> &[u8]
+    ensures { result.now ≡ past_one_space bytes.now }
+{
+    match bytes {
+        [b'\r', rest @ ..] => skip_byte(rest, b'\n'),
+        [byte, rest @ ..] if is_space(*byte) => rest,
+        _ => bytes,
+    }
+}
+
+/// Whether the byte is a hexadecimal digit.
+fn is_hex_digit(byte: u8) -> bool
+    ensures { result ≡ is_hex byte }
+{
+    byte.is_ascii_hexdigit()
+}
+
+/// Skips hexadecimal digits, at most `n`.
+fn skip_hex(bytes: &[u8], n: usize) -> &[u8]
+    ensures { result.now ≡ past_hex n bytes.now }
+{
+    let mut rest = bytes;
+    let mut left = n;
+    'digits: while left > 0 {
+        match rest {
+            [byte, after @ ..] if is_hex_digit(*byte) => rest = after,
+            _ => return rest,
+        }
+        left -= 1;
+    }
+    rest
+}
+
+/// Skips what a backslash escapes.
+#[tactic(auto, unfolding(crate::specs::Tokens::past_escape))]
+fn skip_escape(bytes: &[u8]) -> &[u8]
+    ensures { result.now ≡ past_escape bytes.now }
+{
+    match bytes {
+        [] => bytes,
+        [byte, rest @ ..] => {
+            if is_hex_digit(*byte) {
+                skip_one_space(skip_hex(rest, 5))
+            } else if is_newline(*byte) {
+                skip_one_space(bytes)
+            } else {
+                rest
+            }
+        }
+    }
+}
+
+/// Whether the bytes begin with a backslash that no newline follows.
+pub fn begins_escape(bytes: &[u8]) -> bool
+    ensures { result ≡ begins_escape_of bytes.now }
+{
+    match bytes {
+        [b'\\', next, ..] => !is_newline(*next),
+        [b'\\'] => true,
+        _ => false,
+    }
+}
+
+/// Whether the bytes begin with `/*`.
+fn starts_comment(bytes: &[u8]) -> bool
+    ensures { result ≡ opens_comment bytes.now }
+{
+    matches!(bytes, [b'/', b'*', ..])
+}
+
+/// Skips the comment that opens here, up to the end of the text if it is not closed.
+#[tactic(auto, unfolding(crate::specs::Tokens::past_comment))]
+fn skip_comment(bytes: &[u8]) -> &[u8]
+    ensures { result.now ≡ past_comment bytes.now }
+{
+    let mut rest = match bytes {
+        [_, _, inside @ ..] => inside,
+        _ => return &[],
+    };
+    'comment: while let [byte, after @ ..] = rest {
+        if *byte == b'*' && matches!(after, [b'/', ..]) {
+            return skip_byte(after, b'/');
+        }
+        rest = after;
+    }
+    rest
+}
+
+/// Skips a space byte or a comment, if one is next.
+#[tactic(auto, unfolding(crate::specs::Tokens::gap_part))]
+pub fn gap_part(bytes: &[u8]) -> Option<&[u8]>
+    ensures { gap_part_of bytes.now ≡ option_map (λ rest. (tt, rest.now)) result }
+{
+    match bytes {
+        [] => None,
+        [byte, rest @ ..] => {
+            if is_space(*byte) {
+                Some(rest)
+            } else if starts_comment(bytes) {
+                Some(skip_comment(bytes))
+            } else {
+                None
+            }
+        }
+    }
+}
+
+/// Skips space bytes and comments.
+pub fn skip_gap(bytes: &[u8]) -> &[u8]
+    ensures { result.now ≡ past_gap bytes.now }
+{
+    let mut rest = bytes;
+    'parts: while let Some(after) = gap_part(rest) {
+        rest = after;
+    }
+    rest
+}
+
+/// Skips an escape or a byte in a string, if one is next.
+#[tactic(auto, unfolding(crate::specs::Tokens::string_part))]
+fn string_part(bytes: &[u8], quote: u8) -> Option<&[u8]>
+    ensures { string_part_of quote bytes.now ≡ option_map (λ rest. (tt, rest.now)) result }
+{
+    match bytes {
+        [] => None,
+        [byte, rest @ ..] => {
+            if *byte == quote || is_newline(*byte) {
+                None
+            } else if *byte == b'\\' {
+                Some(skip_escape(rest))
+            } else {
+                Some(rest)
+            }
+        }
+    }
+}
+
+/// Skips the end of a string: its quote, or the end of the text. A newline makes it bad.
+fn skip_string_end(bytes: &[u8], quote: u8) -> Skipped<'_>
+    ensures { string_end quote bytes.now ≡ (result.good, result.rest.now) }
+{
+    match bytes {
+        [] => Skipped {
+            good: true,
+            rest: bytes,
+        },
+        [byte, rest @ ..] => {
+            if *byte == quote {
+                Skipped { good: true, rest }
+            } else {
+                Skipped {
+                    good: false,
+                    rest: bytes,
+                }
+            }
+        }
+    }
+}
+
+/// Skips a string after its opening quote.
+fn skip_string(bytes: &[u8], quote: u8) -> Skipped<'_>
+    ensures { past_string quote bytes.now ≡ (result.good, result.rest.now) }
+{
+    let mut rest = bytes;
+    'parts: while let Some(after) = string_part(rest, quote) {
+        rest = after;
+    }
+    skip_string_end(rest, quote)
+}
+
+/// Whether the byte is one of a name, or of a character past ASCII.
+fn is_name_byte(byte: u8) -> bool
+    ensures { result ≡ is_name_byte_of byte }
+{
+    byte.is_ascii_alphabetic()
+        || byte.is_ascii_digit()
+        || byte == b'_'
+        || byte == b'-'
+        || byte >= 128
+}
+
+/// Skips a byte of a name or an escape, if one is next.
+#[tactic(auto, unfolding(crate::specs::Tokens::name_part))]
+fn name_part(bytes: &[u8]) -> Option<&[u8]>
+    ensures { name_part_of bytes.now ≡ option_map (λ rest. (tt, rest.now)) result }
+{
+    match bytes {
+        [] => None,
+        [byte, rest @ ..] => {
+            if is_name_byte(*byte) {
+                Some(rest)
+            } else if begins_escape(bytes) {
+                Some(skip_escape(rest))
+            } else {
+                None
+            }
+        }
+    }
+}
+
+/// Skips a word.
+pub fn skip_word(bytes: &[u8]) -> &[u8]
+    ensures { result.now ≡ past_word bytes.now }
+{
+    let mut rest = bytes;
+    'parts: while let Some(after) = name_part(rest) {
+        rest = after;
+    }
+    rest
+}
+
+/// Whether the byte is a quote.
+fn is_quote(byte: u8) -> bool
+    ensures { result ≡ is_quote_byte byte }
+{
+    matches!(byte, b'\'' | b'"')
+}
+
+/// Whether the bytes begin with a quote.
+fn starts_with_quote(bytes: &[u8]) -> bool
+    ensures { result ≡ starts_by is_quote_byte bytes.now }
+{
+    matches!(bytes, [b'\'' | b'"', ..])
+}
+
+/// Returns the number that a hexadecimal digit stands for.
+fn hex_value(byte: u8) -> u32
+    requires { is_hex byte ≡ true }
+    ensures value { result ≡ hex_digit byte }
+    ensures small { result < 16 }
+{
+    match byte {
+        b'0'..=b'9' => u32::from(byte - b'0'),
+        b'a'..=b'f' => u32::from(byte - 87),
+        _ => u32::from(byte - 55),
+    }
+}
+
+/// Returns the number of the hexadecimal digits at the start, at most six.
+fn hex_number(bytes: &[u8]) -> u32
+    ensures { result ≡ hex_number_of 6 0 bytes.now }
+{
+    let mut rest = bytes;
+    let mut so_far = 0u32;
+    let mut left = 6usize;
+    'digits: while left > 0 {
+        match split(rest) {
+            Some((byte, after)) if is_hex_digit(byte) => {
+                so_far = 16 * so_far + hex_value(byte);
+                rest = after;
+            }
+            _ => return so_far,
+        }
+        left -= 1;
+    }
+    so_far
+}
+
+/// Returns the character that a backslash escapes, if it is ASCII.
+fn escaped_char(bytes: &[u8]) -> u32
+    ensures { result ≡ escaped_char_of bytes.now }
+{
+    match bytes {
+        [] => 0,
+        [byte, ..] => {
+            if is_hex_digit(*byte) {
+                hex_number(bytes)
+            } else {
+                u32::from(*byte)
+            }
+        }
+    }
+}
+
+/// Skips one of two ASCII characters, if it is next, as it is or as an escape.
+#[tactic(auto, unfolding(crate::specs::Tokens::past_letter))]
+pub fn skip_letter(bytes: &[u8], low: u8, up: u8) -> Option<&[u8]>
+    ensures { past_letter low up bytes.now ≡ option_map (λ rest. rest.now) result }
+{
+    match bytes {
+        [] => None,
+        [byte, rest @ ..] => {
+            if *byte == low || *byte == up {
+                return Some(rest);
+            }
+            if !begins_escape(bytes) {
+                return None;
+            }
+            let escaped = escaped_char(rest);
+            if escaped == u32::from(low) || escaped == u32::from(up) {
+                Some(skip_escape(rest))
+            } else {
+                None
+            }
+        }
+    }
+}
+
+/// Skips a parenthesis that no quote follows after blanks, if it is next.
+fn skip_open(bytes: &[u8]) -> Option<&[u8]>
+    ensures { then_open (Some bytes.now) ≡ option_map (λ rest. rest.now) result }
+{
+    match bytes {
+        [] => None,
+        [byte, rest @ ..] => {
+            if *byte == b'(' && !starts_with_quote(skip_spaces(rest)) {
+                Some(rest)
+            } else {
+                None
+            }
+        }
+    }
+}
+
+/// Skips `url(`, in any case and with any escapes, if it is next and no quote follows it.
+fn skip_url_name(bytes: &[u8]) -> Option<&[u8]>
+    ensures { after_url bytes.now ≡ option_map (λ rest. rest.now) result }
+{
+    let Some(after_u) = skip_letter(bytes, b'u', b'U') else {
+        return None;
+    };
+    let Some(after_r) = skip_letter(after_u, b'r', b'R') else {
+        return None;
+    };
+    let Some(after_l) = skip_letter(after_r, b'l', b'L') else {
+        return None;
+    };
+    skip_open(after_l)
+}
+
+/// Whether an address without quotes begins here.
+fn begins_url(bytes: &[u8]) -> bool
+    ensures { result ≡ begins_url_of bytes.now }
+{
+    skip_url_name(bytes).is_some()
+}
+
+/// Skips the `url(` that begins here.
+fn past_url_name(bytes: &[u8]) -> &[u8]
+    ensures { result.now ≡ from_close (after_url bytes.now) }
+{
+    match skip_url_name(bytes) {
+        Some(rest) => rest,
+        None => &[],
+    }
+}
+
+/// Whether an address may have the byte only escaped.
+fn is_never_bare(byte: u8) -> bool
+    ensures { result ≡ is_never_bare_of byte }
+{
+    matches!(byte, b'\'' | b'"' | b'(' | b'\\' | 0..=8 | 11 | 14..=31 | 127)
+}
+
+/// Skips an escape or a byte in an address, if one is next.
+#[tactic(auto, unfolding(crate::specs::Tokens::url_part))]
+fn url_part(bytes: &[u8]) -> Option<&[u8]>
+    ensures { url_part_of bytes.now ≡ option_map (λ rest. (tt, rest.now)) result }
+{
+    match bytes {
+        [] => None,
+        [byte, rest @ ..] => {
+            if begins_escape(bytes) {
+                Some(skip_escape(rest))
+            } else if *byte == b')' || is_space(*byte) || is_never_bare(*byte) {
+                None
+            } else {
+                Some(rest)
+            }
+        }
+    }
+}
+
+/// Skips an escape or a byte of a bad address, if one is next before its parenthesis.
+#[tactic(auto, unfolding(crate::specs::Tokens::remnant_part))]
+fn remnant_part(bytes: &[u8]) -> Option<&[u8]>
+    ensures { remnant_part_of bytes.now ≡ option_map (λ rest. (tt, rest.now)) result }
+{
+    match bytes {
+        [] => None,
+        [byte, rest @ ..] => {
+            if begins_escape(bytes) {
+                Some(skip_escape(rest))
+            } else if *byte == b')' {
+                None
+            } else {
+                Some(rest)
+            }
+        }
+    }
+}
+
+/// Skips a bad address, up to and with its parenthesis.
+fn skip_remnants(bytes: &[u8]) -> &[u8]
+    ensures { result.now ≡ past_byte close_parenthesis (each remnant_part_of bytes.now).1 }
+{
+    let mut rest = bytes;
+    'parts: while let Some(after) = remnant_part(rest) {
+        rest = after;
+    }
+    skip_byte(rest, b')')
+}
+
+/// Skips the end of an address: its parenthesis, the end of the text, or what makes it bad.
+fn skip_url_end(bytes: &[u8]) -> Skipped<'_>
+    ensures { url_end bytes.now ≡ (result.good, result.rest.now) }
+{
+    match bytes {
+        [] => Skipped {
+            good: true,
+            rest: bytes,
+        },
+        [b')', rest @ ..] => Skipped { good: true, rest },
+        _ => Skipped {
+            good: false,
+            rest: skip_remnants(bytes),
+        },
+    }
+}
+
+/// Skips an address without quotes, from after the parenthesis of `url(`.
+fn skip_url(bytes: &[u8]) -> Skipped<'_>
+    ensures { past_url bytes.now ≡ (result.good, result.rest.now) }
+{
+    let mut rest = skip_spaces(bytes);
+    'parts: while let Some(after) = url_part(rest) {
+        rest = after;
+    }
+    skip_url_end(skip_spaces(rest))
+}
+
+/// Whether the bytes begin with `<!--`.
+pub fn begins_cdo(bytes: &[u8]) -> bool
+    ensures { result ≡ begins_cdo_of bytes.now }
+{
+    matches!(bytes, [b'<', b'!', b'-', b'-', ..])
+}
+
+/// Whether the byte is a closing bracket.
+fn is_closer(byte: u8) -> bool
+    ensures { result ≡ is_closer_of byte }
+{
+    matches!(byte, b')' | b']' | b'}')
+}
+
+/// Skips a hash or a name after `@`, from after its first byte, or nothing after any other byte. A
+/// closing bracket is bad.
+fn skip_other(byte: u8, rest: &[u8]) -> Skipped<'_>
+    ensures { other_token byte rest.now ≡ (result.good, result.rest.now) }
+{
+    if byte == b'#' || byte == b'@' {
+        Skipped {
+            good: true,
+            rest: skip_word(rest),
+        }
+    } else {
+        Skipped {
+            good: !is_closer(byte),
+            rest,
+        }
+    }
+}
+
+/// Skips a token that is no opening bracket.
+#[tactic(auto, unfolding(crate::specs::Tokens::token))]
+pub fn skip_token(bytes: &[u8]) -> Skipped<'_>
+    ensures { token bytes.now ≡ (result.good, result.rest.now) }
+{
+    match bytes {
+        [] => Skipped {
+            good: true,
+            rest: bytes,
+        },
+        [byte, rest @ ..] => {
+            if starts_comment(bytes) {
+                Skipped {
+                    good: true,
+                    rest: skip_comment(bytes),
+                }
+            } else if is_quote(*byte) {
+                skip_string(rest, *byte)
+            } else if begins_url(bytes) {
+                skip_url(past_url_name(bytes))
+            } else if begins_cdo(bytes) {
+                Skipped {
+                    good: true,
+                    rest: &bytes[4..],
+                }
+            } else if is_name_byte(*byte) || begins_escape(bytes) {
+                Skipped {
+                    good: true,
+                    rest: skip_word(bytes),
+                }
+            } else {
+                skip_other(*byte, rest)
+            }
+        }
+    }
+}
