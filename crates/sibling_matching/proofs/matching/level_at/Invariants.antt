@@ -1,0 +1,19 @@
+use Rattle.std.proofs.Common.{◌+◌, ◌*◌, ◌≤◌}
+use Rattle.sibling_matching.specs.Bounds.{longest_free, run_length}
+use Rattle.sibling_matching.proofs.Steps.{LevelState}
+use Rattle.sibling_matching.proofs.matching.level_at.Given as goal
+
+abbrev pub invariant-loop-candidate : goal.invariant-loop-candidate
+invariant-loop-candidate g l =
+    let c = g.P.Parts.combinator_at l.parts in
+    let n = g.E.Candidate.node l.lowest in
+    let v = g.E.Candidate.node l.candidate in
+    let earlier = g.E.Candidate.tree.earlier in
+    record {
+      state : LevelState g.E.Candidate.tree c (g.E.Candidate.Meets l.parts) l.last l.low n v;
+      spent : l.tests + longest_free c l.last * (earlier v + 1)
+          ≤ l.fn.tests + run_length c l.last + longest_free c l.last * earlier n;
+    }
+
+abbrev pub decreases-loop-candidate : goal.decreases-loop-candidate
+decreases-loop-candidate g l = g.E.Candidate.tree.earlier (g.E.Candidate.node l.candidate)
