@@ -12,6 +12,7 @@ import shutil
 import subprocess
 import sys
 import tempfile
+import time
 
 TOP = os.path.dirname(os.path.dirname(os.path.abspath(__file__)))
 # Each script of this folder, and the crate of the program that it runs.
@@ -96,7 +97,10 @@ def main():
         if os.path.exists(program_of(crate)):
             os.remove(program_of(crate))
     if shutil.which("rt"):
+        began = time.time()
         shown(["rt", "ci"], "rt ci")
+        # What it has proved of the C library is not proved again.
+        subprocess.run([os.path.join(TOP, "build"), "adopt", str(began)], cwd=TOP, check=False)
         with tempfile.TemporaryDirectory() as folder:
             shim = shim_in(folder)
             if shim:

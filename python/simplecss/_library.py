@@ -91,7 +91,7 @@ def library_path() -> str:
     if found:
         return found
     raise LibraryError(
-        f"{_NAME} not found: build it by tools/build_library, or set SIMPLECSS_LIBRARY"
+        f"{_NAME} not found: build it by `./build library`, or set SIMPLECSS_LIBRARY"
     )
 
 
