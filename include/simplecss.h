@@ -27,10 +27,12 @@
  * a call leaves nothing allocated. Do not call it from a signal handler. `out`, `len` and `fault` must
  * not overlap each other or anything that is passed for reading.
  *
- * Time: a style sheet is read in time that grows as its texts and, to put n rules in order, as
- * n log n. A tree is read in time that grows as its strings. Of each element those rules are tested
- * whose id, class, name or attribute it has; a test takes no longer than the selector's components
- * times the element's depth.
+ * Time and memory: a style sheet is read in time that grows as its texts, as n log n to put n rules in
+ * order, and of each rule set as its selectors times its declarations, since each rule has a copy of
+ * the declarations: 12 kB may take a hundred milliseconds and the memory of millions of declarations.
+ * A tree is read in time that grows as its strings. Of each element those rules are tested whose id,
+ * class, name or attribute it has; a test takes no longer than the selector's components times
+ * (the element's depth + 1).
  */
 #ifndef SIMPLECSS_H
 #define SIMPLECSS_H
@@ -50,7 +52,8 @@ extern "C" {
 #define SIMPLECSS_REFUSED 1u       /* a selector is refused, or ends are not those of texts */
 #define SIMPLECSS_TREE_FAULT 2u    /* the tree has a fault, in `*fault` */
 #define SIMPLECSS_OUT_OF_MEMORY 3u /* an allocation failed */
-#define SIMPLECSS_NOT_UTF8 5u      /* a text is not UTF-8, or the strings of a tree are not */
+#define SIMPLECSS_NOT_UTF8 5u      /* a text is not UTF-8, or the strings of a tree are not; where the ends
+                                      of texts are wrong, too, this status or 1 */
 #define SIMPLECSS_TOO_SMALL 6u     /* the answer is longer than the buffer */
 
 /* An element of a tree. The depth of a root is 0, and that of any other element is one more than its

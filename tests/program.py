@@ -1,5 +1,5 @@
 """Tests the built program: each request for memory refused, its answers to words, files and mistakes, and its three streams
-closed, full, or a pipe that nobody reads.
+closed, full, or a pipe that nobody reads. Each run is ended after 20 seconds of processor time.
 
     program.py PROGRAM SHIM     PROGRAM is the built `cssq`, SHIM the built tests/refuse.c
 
@@ -7,6 +7,7 @@ Prints a line for each part with what was tried, then 'N passed, M failed'; the 
 run as root, the program is run as nobody, since root may read every file.
 """
 import os
+import resource
 import shutil
 import subprocess
 import sys
@@ -20,6 +21,8 @@ REFUSED = "cssq: selector refused"
 CANNOT_WRITE = "cssq: cannot write"
 CANNOT_READ_INPUT = "cssq: cannot read standard input"
 NOBODY = 65534
+# The most seconds of processor time of a run. The longest takes about one.
+SECONDS = 20
 
 room = tempfile.TemporaryDirectory()
 folder = room.name
@@ -110,6 +113,7 @@ def start(words, kinds, **streams):
     streams = {"stdin": subprocess.DEVNULL, "stdout": subprocess.PIPE, "stderr": subprocess.PIPE, **streams, **given}
 
     def prepare():
+        resource.setrlimit(resource.RLIMIT_CPU, (SECONDS, SECONDS))
         if os.geteuid() == 0:
             os.setgroups([])
             os.setgid(NOBODY)
@@ -406,10 +410,13 @@ for bad in UNREADABLE:
     for worse in UNREADABLE:
         for words in (["sheet", bad, worse], ["match", bad, worse], ["style", bad, worse, "c"]):
             answers(words, b"", {}, 4, "", f"cssq: cannot read {bad}")
-# ---- inputs of a hundred thousand parts, and 750,000 siblings: the answers, on an ordinary stack
+# ---- inputs of a hundred thousand parts, and 750,000 siblings: the answers, on an ordinary stack and in little time. Testing each
+# of the hundred thousand rules on each of the hundred thousand elements would take minutes.
 
 MANY = 100_000
 chain = " ".join(["a"] * MANY)
+classes = put("classes.css", "".join(f".c{number} {{ a:v{number} }}\n" for number in range(MANY)).encode())
+classed = put("classes.tree", "".join(f"0\ta\tclass=c{number}\n" for number in range(MANY)).encode())
 HUGE = [
     ([], chain, f"{chain}\t0,0,255\n"),
     (["sheet", put("closing.css", b"}" * MANY + b"a { b:c }")], "", ""),
@@ -425,6 +432,8 @@ HUGE = [
         "",
         "".join(f"{number}:\n" for number in range(1, 750_000)) + "750000: 1\n",
     ),
+    (["match", classes, classed], "", "".join(f"{number}: {number}\n" for number in range(1, MANY + 1))),
+    (["style", classes, classed, "a"], "", "".join(f"{number + 1}: v{number}\n" for number in range(MANY))),
 ]
 for words, stdin, out in HUGE:
     answers(words, stdin.encode(), {}, 0, out, "")
