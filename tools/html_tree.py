@@ -3,8 +3,9 @@
 
     html_tree.py [FILE] > page.tree     without FILE, or with `-`, the document is read from standard input
 
-A document is XML by its extension (.svg, .xml, .xhtml) or by its first bytes, and else HTML. Python's standard library reads both;
-nothing has to be built. A value that has a TAB, a newline or a carriage return is written with a space for each, and
+A document is XML by its extension (.svg, .xml, .xhtml) or by its first bytes, and else HTML, with the elements that a browser adds.
+Text with no tag of `html`, `head` or `body` is read as the content of a body, and these three are not added. Nothing has to be
+built. A value that has a TAB, a newline or a carriage return is written with a space for each, and
 a warning says so. The status is 1 if the document is no tree, and 4 if it cannot be read or the output cannot be written.
 """
 import os
@@ -17,6 +18,8 @@ from simplecss import Tree, TreeError  # noqa: E402
 REFUSED, USAGE, UNREADABLE = 1, 2, 4
 # What would end a field or a line, or belong to the end of one.
 SPECIAL = re.compile("[\t\r\n]")
+# What only a whole page has.
+PAGE = re.compile(r"<(?:html|head|body)[\s/>]", re.IGNORECASE)
 
 
 def warn(name, row, column, words):
@@ -39,7 +42,7 @@ def parse(name, text):
     """Returns the tree of a document."""
     start = text.lstrip()
     is_xml = name.endswith((".svg", ".xml", ".xhtml")) or start.startswith(("<?xml", "<svg"))
-    return Tree.from_xml(text) if is_xml else Tree.from_html(text)
+    return Tree.from_xml(text) if is_xml else Tree.from_html(text, is_part=not PAGE.search(text))
 
 
 def fields_of(name, element):
@@ -53,10 +56,8 @@ def fields_of(name, element):
 
 def lines_of(name, tree):
     """Yields the line of each element."""
-    depths = []
-    for element in tree.elements:
-        depths.append(0 if element.parent is None else depths[element.parent] + 1)
-        yield "\t".join([str(depths[-1]), *fields_of(name, element)]) + "\n"
+    for element in tree:
+        yield "\t".join([str(element.depth), *fields_of(name, element)]) + "\n"
 
 
 def main(words):

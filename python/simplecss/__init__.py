@@ -3,20 +3,22 @@
     >>> import simplecss
     >>> tree = simplecss.Tree.from_html("<ul><li class=a>one<li>two</ul>")
     >>> tree.select("ul > .a")
-    [1]
+    [<li class="a">]
 
 The work is done by the C library `libsimplecss`; `docs/PYTHON.md` says where it is looked for.
 Every call may be made from any thread.
 """
 
 from ._inline import inline
-from ._library import LibraryError, library_path
-from ._sheet import Declaration, Rule, Selector, SelectorError, Skipped, StyleSheet
-from ._tree import Element, Tree, TreeError
+from ._library import LibraryError, __version__, library_path
+from ._selectors import Selector, SelectorError
+from ._sheet import Declaration, Rule, Skipped, StyleSheet
+from ._tree import Element, Item, Tree, TreeError
 
 __all__ = [
     "Declaration",
     "Element",
+    "Item",
     "LibraryError",
     "Rule",
     "Selector",
@@ -25,6 +27,7 @@ __all__ = [
     "StyleSheet",
     "Tree",
     "TreeError",
+    "__version__",
     "inline",
     "library_path",
 ]

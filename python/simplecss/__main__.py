@@ -4,21 +4,32 @@ from __future__ import annotations
 
 import argparse
 import json
+import os
 import sys
 import threading
+import time
 from pathlib import Path
-from typing import Any, List, Optional, Tuple
+from typing import Any, Callable, List, Optional, Sequence, Tuple
 
+from . import _lint
+from ._encoding import decode_page
 from ._inline import inline
-from ._library import LibraryError
-from ._sheet import SelectorError, StyleSheet
+from ._library import LibraryError, __version__
+from ._page import Page
+from ._selectors import SelectorError
+from ._sheet import StyleSheet
 from ._tree import Element, Tree, TreeError
+from ._xml import is_xml
 
 DONE = 0
 REFUSED = 1
 USAGE = 2
 OUT_OF_MEMORY = 3
 UNREADABLE = 4
+INTERRUPTED = 130
+
+# After how many seconds a bar of progress is shown.
+_PATIENCE = 2.0
 
 
 class _Failure(Exception):
@@ -29,39 +40,105 @@ class _Failure(Exception):
         self.status = status
 
 
+class _Progress:
+    """How many of the files are done, shown on a terminal."""
+
+    def __init__(self) -> None:
+        self.done = 0
+        self.count = 0
+        self._start = time.monotonic()
+        self._is_shown = False
+
+    def show(self) -> None:
+        """Writes the bar, if the work takes long."""
+        seconds = time.monotonic() - self._start
+        if seconds < _PATIENCE or sys.stderr is None or not sys.stderr.isatty():
+            return
+        filled = 20 * self.done // max(self.count, 1)
+        bar = "#" * filled + "." * (20 - filled)
+        files = f"{self.done} of {self.count} files, " if self.count > 1 else ""
+        sys.stderr.write(f"\r\033[Ksimplecss: [{bar}] {files}{seconds:.0f} s")
+        sys.stderr.flush()
+        self._is_shown = True
+
+    def clear(self) -> None:
+        """Removes the bar."""
+        if self._is_shown and sys.stderr is not None:
+            sys.stderr.write("\r\033[K")
+            sys.stderr.flush()
+
+
+_progress = _Progress()
+
+
+def _read_bytes(name: str) -> bytes:
+    """Returns the bytes of a file, or of standard input for `-`."""
+    try:
+        if name != "-":
+            return Path(name).read_bytes()
+        if sys.stdin is None:
+            raise _Failure("cannot read -: standard input is closed", UNREADABLE)
+        return sys.stdin.buffer.read()
+    except OSError as error:
+        raise _Failure(f"cannot read {name}: {error.strerror}", UNREADABLE) from None
+
+
 def _read(name: str) -> str:
-    """Returns the text of a file, or of standard input for `-`."""
+    """Returns the text of a file in UTF-8."""
     try:
-        data = sys.stdin.buffer.read() if name == "-" else Path(name).read_bytes()
-        return data.decode("utf-8-sig")
-    except (OSError, UnicodeDecodeError) as error:
-        reason = getattr(error, "strerror", None) or "not UTF-8"
-        raise _Failure(f"cannot read {name}: {reason}", UNREADABLE) from None
+        return _read_bytes(name).decode("utf-8-sig")
+    except UnicodeDecodeError:
+        raise _Failure(f"cannot read {name}: not UTF-8", UNREADABLE) from None
 
 
-def _tree(name: str) -> Tree:
-    """Returns the tree of a file: XML by its extension or its first bytes, else HTML."""
-    text = _read(name)
-    is_xml = name.endswith((".svg", ".xml", ".xhtml")) or text.lstrip().startswith("<?xml")
+def _read_page(name: str) -> str:
+    """Returns the text of a page, in the encoding that it names."""
     try:
-        return Tree.from_xml(text) if is_xml else Tree.from_html(text)
+        return decode_page(_read_bytes(name))[0]
+    except UnicodeDecodeError as error:
+        raise _Failure(f"cannot read {name}: not {error.encoding}", UNREADABLE) from None
+
+
+def _tree_of(name: str, text: str) -> Tree:
+    """Returns the tree of a page: XML by its extension or its beginning, else HTML."""
+    has_xml = name.endswith((".svg", ".xml", ".xhtml")) or is_xml(text)
+    try:
+        return Tree.from_xml(text) if has_xml else Tree.from_html(text)
     except TreeError as error:
         raise _Failure(f"{name}:{error}", REFUSED) from None
 
 
-def _position(name: str, row: Optional[int], column: Optional[int]) -> str:
-    """Returns `file:row:column`, in bold on a terminal."""
-    text = name if row is None else f"{name}:{row}:{column}"
+def _sheets(names: Sequence[str], page: str) -> StyleSheet:
+    """Returns the sheet of files, or of the elements `style` of a page if there are none."""
+    if names:
+        return StyleSheet(*map(_read, names))
+    found = Page(page)
+    return StyleSheet(*(found.sheet_of(each) for each in found.styles() if found.is_plain(each)))
+
+
+def _bold(text: str) -> str:
+    """Returns the text in bold on a terminal."""
     return f"\033[1m{text}\033[0m" if sys.stdout.isatty() else text
 
 
-def _tag(element: Element) -> str:
-    """Returns the start tag of an element in short."""
-    words = [element.name]
-    for key in ("id", "class"):
-        if key in element.attributes:
-            words.append(f'{key}="{" ".join(element.attributes[key].split())}"')
-    return f"<{' '.join(words)}>"
+def _position(name: str, element: Element) -> str:
+    """Returns `file:row:column`, as far as it is known."""
+    row = element.row
+    return _bold(name if row is None else f"{name}:{row}:{element.column}")
+
+
+def _path(element: Element) -> str:
+    """Returns a selector of CSS 3 that matches the element only."""
+    steps: List[str] = []
+    node: Optional[Element] = element
+    while node is not None:
+        parent = node.parent
+        step = node.name
+        if parent is not None:
+            step += f":nth-child({parent.children.index(node) + 1})"
+        steps.append(step)
+        node = parent
+    return " > ".join(reversed(steps))
 
 
 def _print_json(value: Any) -> None:
@@ -69,131 +146,248 @@ def _print_json(value: Any) -> None:
 
 
 def _match(words: argparse.Namespace) -> int:
-    sheet = StyleSheet(*map(_read, words.sheets))
-    tree = _tree(words.page)
-    for index, (element, found) in enumerate(zip(tree.elements, sheet.match(tree))):
+    *sheets, page = words.files
+    text = _read_page(page)
+    sheet = _sheets(sheets, text)
+    tree = _tree_of(page, text)
+    for element, found in zip(tree, sheet.match(tree)):
         if words.json:
-            _print_json({"element": index, "name": element.name, "rules": found})
+            _print_json({"element": element.index, "name": element.name, "rules": found})
         else:
             selectors = ", ".join(sheet.rules[rule].selector for rule in found)
-            print(f"{_position(words.page, element.row, element.column)}: {_tag(element)} {selectors}")
-    return DONE
-
-
-def _select(words: argparse.Namespace) -> int:
-    tree = _tree(words.page)
-    try:
-        found = tree.select(words.selectors)
-    except SelectorError as error:
-        raise _Failure(f"selector refused: {error}", REFUSED) from None
-    for index in found:
-        element = tree.elements[index]
-        if words.json:
-            _print_json({"element": index, "name": element.name, "row": element.row,
-                         "column": element.column})
-        else:
-            print(f"{_position(words.page, element.row, element.column)}: {_tag(element)}")
+            print(f"{_position(page, element)}: {element} {selectors}")
     return DONE
 
 
 def _style(words: argparse.Namespace) -> int:
-    sheet = StyleSheet(*map(_read, words.sheets))
-    tree = _tree(words.page)
-    for index, (element, winner) in enumerate(zip(tree.elements, sheet.style(tree, words.name))):
+    *sheets, page = words.files
+    text = _read_page(page)
+    sheet = _sheets(sheets, text)
+    tree = _tree_of(page, text)
+    for element, winner in zip(tree, sheet.style(tree, words.name)):
         if words.json:
             value = None if winner is None else winner._asdict()
-            _print_json({"element": index, "name": element.name, "winner": value})
+            _print_json({"element": element.index, "name": element.name, "winner": value})
         elif winner is not None:
-            position = _position(words.page, element.row, element.column)
-            print(f"{position}: {_tag(element)} {winner}")
+            print(f"{_position(page, element)}: {element} {winner}")
     return DONE
+
+
+def _select(words: argparse.Namespace) -> int:
+    count = 0
+    _progress.count = len(words.pages)
+    for name in words.pages:
+        tree = _tree_of(name, _read_page(name))
+        try:
+            found = tree.select(words.selectors)
+        except SelectorError as error:
+            raise _Failure(f"selector refused: {error}", REFUSED) from None
+        count += len(found)
+        _show_found(words, name, found)
+        _progress.done += 1
+    return REFUSED if words.quiet and not count else DONE
+
+
+def _show_found(words: argparse.Namespace, name: str, found: List[Element]) -> None:
+    """Prints what is asked for of the elements that were found in a page."""
+    if words.quiet:
+        return
+    if words.count:
+        print(f"{name}:{len(found)}" if len(words.pages) > 1 else len(found))
+        return
+    for element in found:
+        if words.json:
+            _print_json({
+                "file": name, "element": element.index, "name": element.name, "row": element.row,
+                "column": element.column, "path": _path(element), "attributes": element.attributes,
+            })
+        elif words.text:
+            print(" ".join(element.text.split()))
+        elif words.html:
+            print(element.source or "")
+        elif words.attr is None:
+            print(f"{_position(name, element)}: {element}")
+        elif words.attr in element.attributes:
+            print(element.attributes[words.attr])
 
 
 def _inline(words: argparse.Namespace) -> int:
     css = "\n".join(map(_read, words.sheets))
-    result = inline(_read(words.page), css)
+    try:
+        result = inline(_read_bytes(words.page), css)
+    except UnicodeDecodeError as error:
+        raise _Failure(f"cannot read {words.page}: not {error.encoding}", UNREADABLE) from None
+    except TreeError as error:
+        raise _Failure(f"{words.page}: {error}", REFUSED) from None
+    except ValueError as error:
+        raise _Failure(str(error), REFUSED) from None
     if words.json:
-        _print_json({"html": result})
+        _print_json({"html": decode_page(result)[0]})
+    elif hasattr(sys.stdout, "buffer"):
+        sys.stdout.flush()
+        sys.stdout.buffer.write(result)
     else:
-        sys.stdout.write(result)
+        sys.stdout.write(decode_page(result)[0])
     return DONE
 
 
-def _lint(words: argparse.Namespace) -> int:
-    sheet = StyleSheet(*map(_read, words.sheets))
-    skipped = sheet.skipped
-    for part in skipped:
-        name = words.sheets[part.source]
-        if words.json:
-            _print_json({"file": name, "row": part.row, "column": part.column,
-                         "reason": part.reason, "text": part.text})
-        else:
-            print(f"{_position(name, part.row, part.column)}: '{part.text}': {part.reason}")
-    return REFUSED if skipped else DONE
+def _is_selected(kind: str, words: argparse.Namespace) -> bool:
+    """Whether findings of a kind are asked for, by the beginnings of kinds."""
+    selected = not words.select or kind.startswith(tuple(words.select))
+    return selected and not (words.ignore and kind.startswith(tuple(words.ignore)))
+
+
+def _lint_files(words: argparse.Namespace) -> int:
+    found: List[_lint.Finding] = []
+    status = DONE
+    _progress.count = len(words.sheets)
+    for name in words.sheets:
+        try:
+            text = _read_page(name) if _lint.is_page(name) else _read(name)
+            found += [each for each in _lint.findings(name, text) if _is_selected(each.kind, words)]
+        except _Failure as failure:
+            _say(str(failure))
+            status = failure.status
+        except TreeError as error:
+            _say(f"{name}:{error}")
+            status = UNREADABLE
+        _progress.done += 1
+    form = "json" if words.json else words.format
+    write = _lint.FORMATS.get(form)
+    sys.stdout.write(write(found) if write else _lint.as_text(found, _bold))
+    if not write and sys.stdout.isatty():
+        files = len({each.file for each in found})
+        print(f"{len(found)} findings in {files} of {len(words.sheets)} files")
+    return status or (REFUSED if found else DONE)
 
 
 def _parser() -> argparse.ArgumentParser:
     parser = argparse.ArgumentParser(prog="simplecss", description="CSS 2.1 on real files.")
+    parser.add_argument("--version", action="version", version=f"simplecss {__version__}")
     commands = parser.add_subparsers(dest="command", required=True)
 
-    def add(name: str, run: Any, text: str) -> argparse.ArgumentParser:
+    def add(name: str, run: Callable[[argparse.Namespace], int], text: str) -> Any:
         command = commands.add_parser(name, help=text, description=text)
         command.add_argument("--json", action="store_true", help="write lines of JSON")
         command.set_defaults(run=run)
         return command
 
+    sheets = "style sheets (the page's own without any), and a page"
     command = add("match", _match, "Show which rules match each element.")
-    command.add_argument("sheets", nargs="+", metavar="SHEET")
-    command.add_argument("page", metavar="PAGE")
-    command = add("select", _select, "Show the elements that a list of selectors matches.")
-    command.add_argument("selectors", metavar="SELECTORS")
-    command.add_argument("page", metavar="PAGE")
+    command.add_argument("files", nargs="+", metavar="FILE", help=sheets)
     command = add("style", _style, "Show which declaration of a name wins on each element.")
     command.add_argument("name", metavar="NAME")
-    command.add_argument("sheets", nargs="+", metavar="SHEET")
-    command.add_argument("page", metavar="PAGE")
+    command.add_argument("files", nargs="+", metavar="FILE", help=sheets)
+    _add_select(add("select", _select, "Show the elements that a list of selectors matches."))
     command = add("inline", _inline, "Write style sheets into the style attributes of a page.")
     command.add_argument("page", metavar="PAGE")
     command.add_argument("sheets", nargs="*", metavar="SHEET")
-    command = add("lint", _lint, "Show what is skipped of style sheets.")
-    command.add_argument("sheets", nargs="+", metavar="SHEET")
+    _add_lint(add("lint", _lint_files, "Show what is skipped of style sheets, and those of pages."))
     return parser
 
 
-def _progress() -> Optional[threading.Timer]:
-    """Starts a line of progress on a terminal, which is written after a second."""
-    if not sys.stderr.isatty():
-        return None
-    timer = threading.Timer(1.0, lambda: print("simplecss: working ..", file=sys.stderr))
-    timer.daemon = True
-    timer.start()
-    return timer
+def _add_select(command: Any) -> None:
+    shown = command.add_mutually_exclusive_group()
+    shown.add_argument("--text", action="store_true", help="write the text of each element")
+    shown.add_argument("--attr", metavar="NAME", help="write the value of an attribute")
+    shown.add_argument("--html", action="store_true", help="write the source of each element")
+    shown.add_argument("--count", action="store_true", help="write how many there are")
+    shown.add_argument(
+        "--quiet", action="store_true", help="write nothing; status 1 if there are none"
+    )
+    command.add_argument("selectors", metavar="SELECTORS")
+    command.add_argument("pages", nargs="+", metavar="PAGE")
+
+
+def _add_lint(command: Any) -> None:
+    formats = ["text", *_lint.FORMATS]
+    command.add_argument("--format", choices=formats, default="text", help="the form of the report")
+    command.add_argument(
+        "--select", action="append", metavar="KIND", help="report these kinds only, as `at-rule`"
+    )
+    command.add_argument("--ignore", action="append", metavar="KIND", help="leave these kinds out")
+    command.add_argument("sheets", nargs="+", metavar="FILE")
+
+
+def _say(message: str) -> None:
+    """Writes a line to standard error."""
+    if sys.stderr is not None:
+        _progress.clear()
+        print(f"simplecss: {message}".encode("utf-8", "replace").decode(), file=sys.stderr)
 
 
 def _run(words: argparse.Namespace) -> Tuple[int, str]:
     """Returns the exit status, and what to say on standard error."""
     try:
-        return words.run(words), ""
+        if sys.stdout is None:
+            return UNREADABLE, "standard output is closed"
+        status = words.run(words)
+        sys.stdout.flush()
+        return status, ""
     except _Failure as failure:
         return failure.status, str(failure)
     except TreeError as error:
-        return REFUSED, f"{words.page}:{error}"
+        return REFUSED, str(error)
+    except UnicodeEncodeError:
+        return USAGE, "a word or a name of a file is not UTF-8"
     except MemoryError:
         return OUT_OF_MEMORY, "out of memory"
-    except (BrokenPipeError, LibraryError) as error:
+    except BrokenPipeError:
+        _drop_output()
+        return UNREADABLE, ""
+    except LibraryError as error:
         return UNREADABLE, str(error)
+    except OSError as error:
+        _drop_output()
+        return UNREADABLE, f"cannot write: {error.strerror}"
+
+
+def _drop_output() -> None:
+    """Keeps the interpreter from writing what is left when it ends."""
+    try:
+        os.dup2(os.open(os.devnull, os.O_WRONLY), sys.stdout.fileno())
+    except (OSError, AttributeError):
+        pass
+
+
+def _run_aside(words: argparse.Namespace) -> Tuple[int, str]:
+    """Runs in a thread, so that Ctrl-C need not wait for a call of the library."""
+    answers: List[Tuple[int, str]] = []
+    errors: List[BaseException] = []
+
+    def work() -> None:
+        try:
+            answers.append(_run(words))
+        except BaseException as error:  # what is no failure of ours is shown by the main thread
+            errors.append(error)
+
+    thread = threading.Thread(target=work, daemon=True)
+    thread.start()
+    try:
+        while thread.is_alive():
+            thread.join(0.2)
+            _progress.show()
+    except KeyboardInterrupt:
+        _progress.clear()
+        os._exit(INTERRUPTED)
+    _progress.clear()
+    if errors:
+        raise errors[0]
+    return answers[0]
 
 
 def main(arguments: Optional[List[str]] = None) -> int:
-    """Runs the command line. Returns the exit status: 0 done, 1 refused, 2 wrong words, 3 out of
-    memory, 4 a file that cannot be read."""
+    """Runs the command line. Returns the exit status: 0 done, 1 refused or found, 2 wrong words, 3
+    out of memory, 4 a file that cannot be read or written."""
+    global _progress
+    _progress = _Progress()
     words = _parser().parse_args(arguments)
-    timer = _progress()
-    status, message = _run(words)
-    if timer is not None:
-        timer.cancel()
+    reconfigure = getattr(sys.stdout, "reconfigure", None)
+    if reconfigure is not None:
+        reconfigure(encoding="utf-8", newline="\n")
+    status, message = _run_aside(words)
     if message:
-        print(f"simplecss: {message}", file=sys.stderr)
+        _say(message)
     return status
 
 

@@ -1,469 +1,439 @@
 """Style sheets written into `style` attributes, as mail is prepared.
 
-Rule sets are cut into selectors and declarations as a browser cuts them (CSS 2.1 section 4.2, so a
-broken declaration is dropped alone); which declarations win on an element is the library's answer.
+Rule sets are cut into selectors and declarations by `_css`; which declarations win on an element is
+the library's answer.
 """
 
 from __future__ import annotations
 
 import re
-from html import unescape
-from typing import Dict, List, NamedTuple, Optional, Tuple
+from typing import Any, Dict, FrozenSet, Iterable, Iterator, List, NamedTuple, Optional, Set, Tuple, Union
 
-from ._sheet import Declaration, Selector, SelectorError, StyleSheet
-from ._tree import _ENDS, Element, Tree, _HtmlParser
+from . import _library as library
+from ._css import declarations, has_rules, pieces, statements, without_comments
+from ._encoding import decode_page
+from ._page import Content, Page
+from ._selectors import Selector, SelectorError
+from ._sheet import Declaration, Prepared
+from ._tree import Tree
 
 # What a selector may have that the library does not read and that browsers know. A rule set with
 # any other selector that is refused stays whole, since a browser may drop all of it.
 _KNOWN = re.compile(
     r"::?(?:before|after|first-line|first-letter|placeholder|selection|marker"
-    r"|hover|active|focus|focus-within|focus-visible|link|visited|any-link|target|root|empty|lang"
+    r"|hover|active|focus|focus-within|focus-visible|link|visited|any-link|target|root|empty"
     r"|first-child|last-child|only-child|first-of-type|last-of-type|only-of-type"
     r"|enabled|disabled|checked|required|optional|valid|invalid|read-only|read-write"
-    r"|(?:not|is|where|has|nth-child|nth-last-child|nth-of-type|nth-last-of-type)\([^()]*\))"
-    r"(?![-\w(])"
+    r"|(?:not|has)\([^()]*[^()\s][^()]*\)|(?:is|where)\([^()]*\)"
+    r"|nth-(?:last-)?(?:child|of-type)\(\s*(?:odd|even|[-+]?\d+|[-+]?\d*n(?:\s*[-+]\s*\d+)?)\s*\)"
+    r"|lang\(\s*[-\w]+\s*\))"
+    r"(?![-\w(])",
+    re.IGNORECASE,
 )
+# What a browser refuses in a selector that the library takes, as a value that is no name or string,
+# or reads otherwise.
+_REFUSED = re.compile(r"""\\|:lang\([^)]*,|=\s*(?!["']|-?[_a-zA-Z\u0080-\U0010ffff]|--)[^\]]*\]""")
 # The pseudo-classes that depend on a state of the page.
-_STATE = re.compile(r":(?!first-child\b)")
-_ATTRIBUTE = re.compile(r"""([^\s=>"'/]+)(?:\s*=\s*("[^"]*"|'[^']*'|[^\s>]*))?""")
-_NAME = re.compile(r"--[-\w]*|-?[A-Za-z_][-\w]*")
-_IMPORTANT = re.compile(r"!\s*important\s*$", re.IGNORECASE)
-_HEAD_PARTS = frozenset("head title meta link base style script noscript template".split())
-_SPACES = " \t\n\r\f"
-# The parts of a sheet in which a backslash escapes: strings, comments and the contents of `url()`.
-_ESCAPABLE = re.compile(
-    r"""/\*.*?(?:\*/|\Z)|"[^"\\]*(?:\\.[^"\\]*)*"?|'[^'\\]*(?:\\.[^'\\]*)*'?|url\([^)"']*""",
-    re.DOTALL | re.IGNORECASE,
+_STATE = re.compile(r""":(?!first-child\b|lang\([^"'])""")
+_MODERN = re.compile(r"[\w\])*]\s*~\s*[\w.#\[:*]|\[\s*[-\w]+\s*[$^*|~]?=?")
+# The ids, classes and attributes that mail clients add to a page, whose rules match nothing yet.
+_CLIENTS = re.compile(
+    r"#(?:outlook|MessageViewBody|MessageWebViewDiv|body)\b|\.(?:ExternalClass|ReadMsgBody|yshortcuts"
+    r"|moz-text-html|gmail\w*|Mso\w+|aolmail\w*)\b|\[(?:data-ogsc|data-ogsb|data-outlook-cycle"
+    r"|x-apple-data-detectors|owa)|\bu\s*\+",
+    re.IGNORECASE,
 )
-_STYLE_END = re.compile("<(?=/style)", re.IGNORECASE)
-_XML_START = re.compile(
-    r"\ufeff?\s*(?:<\?xml\s|(?:<!--(?:(?!-->).)*-->\s*|<!DOCTYPE\s+svg[^>]*>\s*)*<svg[\s>])",
-    re.DOTALL,
+_BOX = re.compile(r"::|:(?:before|after|first-line|first-letter)\b")
+# What is dropped of a selector, so that the rest matches all that it does and maybe more.
+_DROPPED = re.compile(r"::?[-\w]+(?:\((?:[^()]|\([^()]*\))*\))?")
+_OPERATOR = re.compile(r"\[\s*([-\w]+)\s*[$^*~|]?=[^\]]*\]")
+# A compound of which all was dropped.
+_ALONE = re.compile(r"(?<![^\s>+])\0+(?![^\s>+])")
+_PREFIX = re.compile(r"-(?:webkit|moz|ms|o)-|[*_]")
+# The properties that a name of another family sets, too.
+_FAMILIES = {
+    "line": "font", "top": "inset", "right": "inset", "bottom": "inset", "left": "inset",
+    "width": "size", "height": "size", "min": "size", "max": "size", "inline": "size",
+    "block": "size", "row": "gap", "column": "gap", "columns": "gap", "align": "place",
+    "justify": "place",
+}
+# A value that every browser knows, as far as its form shows.
+_PLAIN_VALUE = re.compile(
+    r"(?:(?:[-+]?[0-9]*\.?[0-9]+(?:%|px|em|ex|pt|pc|in|cm|mm)?|#(?:[0-9a-f]{3}|[0-9a-f]{6})"
+    r"""|"[^"]*"|'[^']*'|url\([^()]*\)|rgb\([0-9%, ]*\)"""
+    r"|absolute|always|aqua|auto|avoid|baseline|black|block|blue|bold|bolder|both|bottom|break-word"
+    r"|capitalize|center|circle|collapse|dashed|decimal|disc|dotted|double|fixed|fuchsia|gr[ae]y"
+    r"|green|hidden|inherit|inline|inline-block|inside|italic|justify|large|left|lighter|lime"
+    r"|line-through|list-item|lowercase|maroon|medium|middle|navy|no-repeat|none|normal|nowrap"
+    r"|oblique|olive|outside|overline|pre|purple|red|relative|repeat|repeat-[xy]|right|scroll"
+    r"|separate|show|hide|silver|small|small-caps|smaller|larger|solid|square|static|sub|super"
+    r"|table|table-cell|table-row|teal|text-bottom|text-top|thick|thin|top|transparent|underline"
+    r"|uppercase|visible|white|yellow|x-small|x-large|xx-small|xx-large|sans-serif|serif|monospace"
+    r"|arial|helvetica|georgia|verdana|tahoma|times)(?:[ ,/]+|$)){1,4}",
+    re.IGNORECASE,
 )
-_CDATA = re.compile(r"<!\[CDATA\[(.*?)(?:\]\]>|\Z)", re.DOTALL)
+
+Specificity = Tuple[int, ...]
+_GREATEST: Specificity = (256, 256, 256)
+_EVERYTHING = "*"
+_ALL_FAMILIES = frozenset((_EVERYTHING,))
 
 
-class _Tag(NamedTuple):
-    """Where the text of a start tag begins and ends in the document."""
+class _Group(NamedTuple):
+    """The declarations of one name and importance in a block, which are written together: a browser
+    takes the last that it knows."""
 
-    start: int
-    end: int
+    declarations: Tuple[Declaration, ...]
+    specificity: Specificity
+    number: int
 
+    @property
+    def name(self) -> str:
+        return self.declarations[0].name
 
-class _Content(NamedTuple):
-    """A `style` element: its index, where it begins, where its content does, and where both end."""
-
-    element: int
-    start: int
-    inner: int
-    inner_end: int
-    end: int
-
-
-class _Reader(_HtmlParser):
-    """Collects the elements of a document, the offsets of their tags, and its `style` elements.
-
-    A `tbody` whose tag is left out is an element without a tag, as it is one in a browser.
-    """
-
-    def __init__(self, text: str) -> None:
-        super().__init__()
-        self.text = text
-        self.starts = [0]
-        for line in re.finditer("\n", text):
-            self.starts.append(line.end())
-        self.tags: List[Optional[_Tag]] = []
-        self.styles: List[_Content] = []
-        self.head_end: Optional[int] = None
-        self._style: Optional[Tuple[int, int, int]] = None
-
-    def _offset(self) -> int:
-        row, column = self.getpos()
-        return self.starts[row - 1] + column
-
-    def _add_table_body(self) -> None:
-        """Adds the `tbody` that a row directly within a table is in."""
-        self._end_open(*_ENDS["tr"])
-        if self.open and self._name(len(self.open) - 1) == "table":
-            super().handle_starttag("tbody", [])
-            self.tags.append(None)
-
-    def handle_starttag(self, tag: str, attrs: List[Tuple[str, Optional[str]]]) -> None:
-        if tag == "tr":
-            self._add_table_body()
-        super().handle_starttag(tag, attrs)
-        start = self._offset()
-        end = start + len(self.get_starttag_text() or "")
-        self.tags.append(_Tag(start, end))
-        if tag == "style":
-            self._style = (len(self.elements) - 1, start, end)
-
-    def handle_endtag(self, tag: str) -> None:
-        super().handle_endtag(tag)
-        start = self._offset()
-        if tag == "head" and self.head_end is None:
-            self.head_end = start
-        if tag == "style" and self._style is not None:
-            element, begin, inner = self._style
-            close = self.text.find(">", start)
-            end = len(self.text) if close < 0 else close + 1
-            self.styles.append(_Content(element, begin, inner, start, end))
-            self._style = None
+    @property
+    def important(self) -> bool:
+        return self.declarations[0].important
 
 
-def _skip_string(css: str, offset: int) -> int:
-    """Returns the offset after the string that begins at an offset."""
-    quote = css[offset]
-    offset += 1
-    while offset < len(css) and css[offset] != quote:
-        offset += 2 if css[offset] == "\\" else 1
-    return min(offset + 1, len(css))
+class _Statement:
+    """A statement of a sheet: what of it is written into attributes, and what stays."""
 
+    def __init__(self, number: int, head: str, block: str) -> None:
+        self.number = number
+        self.head = head
+        self.block = block
+        # The selectors that are written into attributes, with their specificity, and the others.
+        self.going: List[Tuple[str, Specificity]] = []
+        self.staying: List[str] = []
+        self.declarations: List[Declaration] = []
+        # The families of the declarations that stay, too.
+        self.left: Set[str] = set()
+        self.is_whole = True
 
-def _skip_comment(css: str, offset: int) -> int:
-    """Returns the offset after the comment that begins at an offset."""
-    end = css.find("*/", offset + 2)
-    return len(css) if end < 0 else end + 2
-
-
-def _skip_until(css: str, offset: int, stops: str) -> int:
-    """Returns the next offset of one of the stops outside strings, comments and brackets."""
-    depth = 0
-    while offset < len(css):
-        c = css[offset]
-        if depth == 0 and c in stops:
-            return offset
-        if c in "\"'":
-            offset = _skip_string(css, offset)
-            continue
-        if css.startswith("/*", offset):
-            offset = _skip_comment(css, offset)
-            continue
-        if c in "([{":
-            depth += 1
-        elif c in ")]}" and depth > 0:
-            depth -= 1
-        offset += 1
-    return len(css)
-
-
-def _skip_blank(css: str, offset: int) -> int:
-    """Returns the offset after spaces, comments, and the marks `<!--` and `-->`."""
-    while offset < len(css):
-        if css[offset] in _SPACES:
-            offset += 1
-        elif css.startswith("/*", offset):
-            offset = _skip_comment(css, offset)
-        elif css.startswith("<!--", offset):
-            offset += 4
-        elif css.startswith("-->", offset):
-            offset += 3
-        else:
-            break
-    return offset
-
-
-def _statements(css: str) -> List[Tuple[str, str]]:
-    """Returns the statements of a sheet, each as what is before its block, and the block.
-
-    A block that the end of the text closes gets its brace.
-    """
-    found = []
-    offset = _skip_blank(css, 0)
-    while offset < len(css):
-        head_end = _skip_until(css, offset, "{;" if css[offset] == "@" else "{")
-        end = head_end
-        if css[head_end : head_end + 1] == "{":
-            end = _skip_until(css, head_end + 1, "}")
-        is_open = end == len(css) and head_end < end
-        found.append((css[offset:head_end], css[head_end : end + 1] + "}" * is_open))
-        offset = _skip_blank(css, end + 1)
-    return found
-
-
-def _pieces(text: str, separator: str) -> List[str]:
-    """Returns the text cut at a separator outside strings, comments and brackets."""
-    found = []
-    offset = 0
-    while offset <= len(text):
-        end = _skip_until(text, offset, separator)
-        found.append(text[offset:end].strip(_SPACES))
-        offset = end + 1
-    return found
-
-
-def _without_comments(text: str) -> str:
-    """Returns the text with a space in place of each comment outside strings."""
-    parts = []
-    last = offset = 0
-    while offset < len(text):
-        if text[offset] in "\"'":
-            offset = _skip_string(text, offset)
-        elif text.startswith("/*", offset):
-            parts.append(text[last:offset] + " ")
-            last = offset = _skip_comment(text, offset)
-        else:
-            offset += 1
-    parts.append(text[last:])
-    return "".join(parts)
-
-
-def _is_balanced(value: str) -> bool:
-    """Whether brackets and strings are closed."""
-    waiting = []
-    offset = 0
-    while offset < len(value):
-        c = value[offset]
-        if c in "\"'":
-            end = _skip_string(value, offset)
-            if end - offset < 2 or value[end - 1] != c:
-                return False
-            offset = end
-            continue
-        if c in "([{":
-            waiting.append(")]}"["([{".index(c)])
-        elif c in ")]}" and (not waiting or waiting.pop() != c):
-            return False
-        offset += 1
-    return not waiting
-
-
-def _declarations(block: str) -> List[Declaration]:
-    """Returns the declarations of a block, without those that a browser drops by their form."""
-    found = []
-    for piece in _pieces(_without_comments(block), ";"):
-        name, colon, value = piece.partition(":")
-        name, value = name.strip(_SPACES), value.strip(_SPACES)
-        important = _IMPORTANT.search(value)
-        if important:
-            value = value[: important.start()].strip(_SPACES)
-        if not colon or not value or "!" in value or not _NAME.fullmatch(name):
-            continue
-        if _is_balanced(value):
-            name = name if name.startswith("--") else name.lower()
-            found.append(Declaration(name, value, important is not None))
-    return found
-
-
-def _in_lower_case(printed: str) -> Optional[str]:
-    """Returns a printed selector with its names in lower case, as HTML has them.
-
-    Returns `None` if the text is not one that reads back.
-    """
-    parts = re.split(r"('(?:\\.|[^'])*')", printed, flags=re.DOTALL)
-    text = "".join(part if index % 2 else part.lower() for index, part in enumerate(parts))
-    try:
-        return text if str(Selector(text)) == text else None
-    except SelectorError:
-        return None
-
-
-class _Rules:
-    """The rule sets that are written into attributes, as a sheet for the library, and what stays.
-
-    In the sheet, a declaration's name and value are numbers of this table, so that the library
-    decides between declarations whose values it need not read.
-    """
-
-    def __init__(self) -> None:
-        self.names: Dict[str, int] = {}
-        self.values: List[List[Declaration]] = []
-
-    def _block(self, declarations: List[Declaration]) -> str:
-        """Returns the block of the declarations. Those of one name are one, so that the values
-        which a browser does not know leave the earlier ones."""
+    def groups(self, specificity: Specificity) -> List[_Group]:
+        """Returns the declarations by name and importance, each where its last one is."""
         groups: Dict[Tuple[str, bool], List[Declaration]] = {}
-        for declaration in declarations:
+        for declaration in self.declarations:
             key = (declaration.name, declaration.important)
             group = groups.pop(key, [])
             group.append(declaration)
             groups[key] = group
-        words = []
-        for (name, important), group in groups.items():
-            number = self.names.setdefault(name, len(self.names))
-            words.append(f"n{number}:{len(self.values)}{' !important' if important else ''}")
-            self.values.append(group)
-        return "{" + ";".join(words) + "}"
+        return [_Group(tuple(group), specificity, self.number) for group in groups.values()]
 
-    def split(self, css: str) -> Tuple[str, str]:
-        """Returns the rules of a sheet that are written into attributes, and those that stay."""
-        inlined = []
-        kept = []
-        for head, block in _statements(css):
-            if head.startswith("@"):
-                kept.append(head + block)
-                continue
-            if not block:
-                continue
-            going, staying = _sort_selectors(_pieces(_without_comments(head), ","))
-            if staying:
-                kept.append(f"{', '.join(staying)} {block}")
-            if going:
-                inlined.append(f"{', '.join(going)} {self._block(_declarations(block[1:-1]))}")
-        return "\n".join(inlined), "\n".join(kept)
-
-    def texts(self, winners: List[Declaration]) -> List[str]:
-        """Returns the declarations that the winners denote, in order."""
-        return [str(each) for winner in winners for each in self.values[int(winner.value)]]
+    def kept(self) -> List[str]:
+        """Returns the text that stays."""
+        if self.is_whole:
+            return [self.head + self.block]
+        texts = [f"{', '.join(self.staying)} {self.block}"] if self.staying else []
+        left = [each for each in self.declarations if family_of(each.name) in self.left]
+        if left:
+            selectors = ", ".join(selector for selector, _ in self.going)
+            texts.append(f"{selectors} {{ {'; '.join(map(str, left))} }}")
+        return texts
 
 
-def _sort_selectors(selectors: List[str]) -> Tuple[List[str], List[str]]:
-    """Returns the selectors of a rule set that are written into attributes, and those that stay.
+class _Sheet:
+    """A sheet: its statements, and the `style` element that it is in, if any."""
 
-    A rule set with an empty selector has neither: browsers drop it.
-    """
-    going = []
-    staying = []
+    def __init__(self, css: str, content: Optional[Content], start: int) -> None:
+        self.content = content
+        self.statements: List[_Statement] = []
+        for head, block in statements(css):
+            statement = _Statement(start + len(self.statements), head, block)
+            if head.startswith("@") or _sort(statement):
+                self.statements.append(statement)
+
+    def kept(self, newline: str) -> str:
+        """Returns the text that stays."""
+        return newline.join(text for each in self.statements for text in each.kept())
+
+    def has_written(self) -> bool:
+        """Whether a statement is written into attributes."""
+        return any(each.going for each in self.statements)
+
+
+class _Kept(NamedTuple):
+    """A rule that stays: a selector that matches all that its own does, or `*`; its specificity, as
+    far as it is known; and its declarations."""
+
+    selector: str
+    specificity: Specificity
+    number: int
+    declarations: List[Declaration]
+    is_layered: bool
+
+
+def family_of(name: str) -> str:
+    """Returns the family of a property: two that may set the same have one."""
+    if name.startswith("--"):
+        return name
+    if name == "all":
+        return _EVERYTHING
+    word = _PREFIX.sub("", name, count=1).partition("-")[0]
+    return _FAMILIES.get(word, word)
+
+
+def _sort(statement: _Statement) -> bool:
+    """Sorts the selectors of a rule set. Whether it is one: browsers drop one with an empty
+    selector, or without a block."""
+    if not statement.block:
+        return False
+    block = statement.block[1:-1]
+    selectors = pieces(without_comments(statement.head), ",")
+    if not all(selectors):
+        return False
+    going: List[Tuple[str, Specificity]] = []
+    staying: List[str] = []
     for selector in selectors:
-        if not selector:
-            return [], []
+        if _REFUSED.search(selector):
+            return True
         try:
-            printed = str(Selector(selector))
+            found = Selector(selector)
         except SelectorError:
-            if not _KNOWN.search(selector) and not _is_modern(selector):
-                return [], selectors
+            if not _KNOWN.search(selector) and not _MODERN.search(selector):
+                return True
             staying.append(selector)
             continue
-        if _STATE.search(printed):
+        if _STATE.search(str(found)):
             staying.append(selector)
         else:
-            going.append(_in_lower_case(printed) or selector)
-    return going, staying
+            going.append((selector, found.specificity))
+    if not has_rules(block):
+        statement.is_whole = False
+        statement.going, statement.staying = going, staying
+        statement.declarations = declarations(block)
+    return True
 
 
-def _is_modern(selector: str) -> bool:
-    """Whether the selector is one of CSS 3 by its combinator `~` or its operators of attributes."""
-    return re.search(r"[\w\])*]\s*~\s*[\w.#\[:*]|\[\s*[-\w]+\s*[$^*|~]?=?", selector) is not None
+def _wider(selector: str) -> Tuple[str, Specificity]:
+    """Returns a selector that matches all that a selector does and that the library reads, and the
+    specificity, or a greater one."""
+    if _REFUSED.search(selector):
+        return _EVERYTHING, _GREATEST
+    subject = selector.rpartition("~")[2] if "~=" not in selector else selector
+    dropped = _DROPPED.findall(subject)
+    text = _OPERATOR.sub(r"[\1]", _DROPPED.sub("\0", subject)).strip()
+    text = _ALONE.sub("*", text).replace("\0", "")
+    try:
+        found = Selector(text or _EVERYTHING)
+    except SelectorError:
+        return _EVERYTHING, _GREATEST
+    if subject != selector or any("(" in each for each in dropped):
+        return str(found), _GREATEST
+    ids, others, types = found.specificity
+    return str(found), (ids, others + len(dropped), types)
 
 
-def _style_text(css: str, is_xml: bool) -> str:
-    """Returns css as the content of a `style` element, which nothing in it may end.
-
-    In HTML, where no reference is read there, `</style` gets a backslash in a string, a comment or
-    a `url()`; anywhere else it raises `ValueError`.
-    """
-    if is_xml:
-        return css.replace("&", "&amp;").replace("<", "&lt;").replace("]]>", "]]&gt;")
-    text = _ESCAPABLE.sub(lambda part: _STYLE_END.sub(r"<\\", part.group()), css)
-    if _STYLE_END.search(text):
-        raise ValueError("`</style` outside of a string would end the style element that it is in")
-    return text
-
-
-def _style_content(text: str, is_xml: bool) -> str:
-    """Returns the sheet that the text of a `style` element is."""
-    if not is_xml:
-        return text
-    parts = _CDATA.split(text)
-    return "".join(part if index % 2 else unescape(part) for index, part in enumerate(parts))
-
-
-def _escape(text: str, quote: str) -> str:
-    text = text.replace("&", "&amp;").replace("<", "&lt;")
-    return text.replace('"', "&quot;") if quote == '"' else text.replace("'", "&#39;")
-
-
-def _own_style(tag: str) -> Optional[Tuple[int, int, str, str]]:
-    """Returns where the attribute `style` of a start tag is, its raw value, and its quote."""
-    name = re.match(r"<[^\s/>]+", tag)
-    offset = name.end() if name else 1
-    for found in _ATTRIBUTE.finditer(tag, offset):
-        if found.group(1).lower() != "style":
+def _rules_of(css: str, number: int, is_layered: bool = False) -> Iterator[_Kept]:
+    """Yields the rules of statements that stay, also of those within at-rules."""
+    for head, block in statements(css):
+        inner = block[1:-1]
+        if head.startswith("@"):
+            if re.match(r"@(?:-\w+-)?(?:media|supports|container|layer|scope|document)\b", head):
+                yield from _rules_of(inner, number, is_layered or head.startswith("@layer"))
             continue
-        value = found.group(2) or ""
-        quote = value[0] if value[:1] in ("'", '"') else ""
-        raw = value[1:-1] if quote else value.replace('"', "&quot;")
-        return found.start(), found.end(), raw, quote or '"'
-    return None
+        yield from _kept_rules(pieces(without_comments(head), ","), inner, number, is_layered)
 
 
-def _new_tag(tag: str, declarations: List[str]) -> str:
-    """Returns the text of a start tag with the declarations in its attribute `style`."""
-    own = _own_style(tag)
-    quote = own[3] if own else '"'
-    style = _escape("; ".join(declarations), quote)
-    if own is None:
-        name = re.match(r"<[^\s/>]+", tag)
-        offset = len(tag) - (2 if tag.endswith("/>") else 1)
-        if tag[offset:] not in (">", "/>"):
-            offset = name.end() if name else offset
-        while offset > 0 and tag[offset - 1].isspace():
-            offset -= 1
-        return f'{tag[:offset]} style="{style}"{tag[offset:]}'
-    start, end, raw, quote = own
-    both = f"{style}; {raw}" if raw.strip() else style
-    return f"{tag[:start]}style={quote}{both}{quote}{tag[end:]}"
+def _kept_rules(
+    selectors: Iterable[str], block: str, number: int, is_layered: bool
+) -> Iterator[_Kept]:
+    found = declarations(block)
+    if has_rules(block):
+        # What rules within it say is not looked at: they may say anything of any element.
+        everything = [Declaration("all", "", False), Declaration("all", "", True)]
+        yield _Kept(_EVERYTHING, _GREATEST, number, found + everything, is_layered)
+        return
+    for selector in selectors:
+        # What a pseudo-element has is of another box.
+        if selector and not _BOX.search(selector):
+            text, specificity = _wider(selector)
+            if is_layered:
+                specificity = _GREATEST
+            yield _Kept(text, specificity, number, found, is_layered)
 
 
-def _is_plain(element: Element) -> bool:
-    """Whether a `style` element is a style sheet for all media."""
-    kind = element.attributes.get("type", "").strip().lower()
-    media = element.attributes.get("media", "").strip().lower()
-    return kind in ("", "text/css") and media in ("", "all")
+class _Inliner:
+    """Writes sheets into the attributes of a page."""
+
+    def __init__(self, page: Page, css: str) -> None:
+        self.page = page
+        self.tree: Tree = page.tree
+        self.sheets: List[_Sheet] = [_Sheet(css, None, 0)]
+        self.kept: List[_Kept] = []
+        number = len(self.sheets[0].statements)
+        for content in page.styles():
+            if page.is_plain(content):
+                sheet = _Sheet(page.sheet_of(content), content, number)
+                self.sheets.append(sheet)
+                number += len(sheet.statements)
+            elif page.is_style_sheet(content):
+                self.kept.extend(_rules_of(page.sheet_of(content), number))
+                number += 1
+        self.statements = [each for sheet in self.sheets for each in sheet.statements]
+        self.rules: List[List[_Group]] = []
+        self.rule_selectors: List[str] = []
+        self.prepared = self._prepare()
+
+    def _prepare(self) -> Prepared:
+        """Makes the rules that are written into attributes."""
+        for statement in self.statements:
+            if statement.is_whole or statement.staying:
+                self._keep(statement)
+            for selector, specificity in statement.going:
+                groups = statement.groups(specificity)
+                if groups:
+                    self.rule_selectors.append(selector)
+                    self.rules.append(groups)
+        rewrite = self.tree._reading.rewrite
+        return Prepared(
+            (rewrite(str(Selector(selector)), '"'),
+             [(group.name, group.important, group) for group in groups])
+            for selector, groups in zip(self.rule_selectors, self.rules)
+        )
+
+    def _keep(self, statement: _Statement) -> None:
+        """Notes the rules of a statement that stay."""
+        if statement.is_whole:
+            text = statement.head + statement.block
+            self.kept.extend(_rules_of(text, statement.number))
+        else:
+            block = statement.block[1:-1]
+            self.kept.extend(_kept_rules(statement.staying, block, statement.number, False))
+
+    def write(self) -> None:
+        """Writes what wins on each element into its attribute, and what stays into style elements."""
+        order = sorted(range(len(self.rules)), key=lambda rule: self.rules[rule][0].specificity)
+        matched: List[List[int]] = self.prepared.match(self.tree)
+        winners = self.prepared.styles(self.tree)
+        values: List[Any] = self.prepared.values
+        rivals = self._rivals()
+        shown = self.page.shown()
+        used: Set[int] = set()
+        for index, tag in enumerate(self.page.tags):
+            rules = [order[each] for each in matched[index]]
+            used.update(self.rules[rule][0].number for rule in rules)
+            if not rules or not shown[index]:
+                continue
+            if tag is None:
+                # The element has no tag of its own that an attribute could be written into.
+                self._leave(rules, _ALL_FAMILIES)
+                continue
+            groups = [values[each] for each in winners[index]]
+            left = _left_families(groups, rivals.get(index, []))
+            if left:
+                self._leave(rules, left)
+            texts = self._texts([each for each in groups if not _is_in(each.name, left)], rules)
+            if texts:
+                self.page.add_declarations(index, texts)
+        self._keep_clients(used)
+        self._write_sheets()
+
+    def _rivals(self) -> Dict[int, List[_Kept]]:
+        """Returns for each element the rules that stay and may match it."""
+        found: Dict[int, List[_Kept]] = {}
+        for rule in self.kept:
+            for index in self.tree._found(rule.selector):
+                found.setdefault(index, []).append(rule)
+        return found
+
+    def _leave(self, rules: List[int], families: FrozenSet[str]) -> None:
+        """Notes that the declarations of families stay, of all rules that match an element."""
+        numbers = {self.rules[rule][0].number for rule in rules}
+        for statement in self.statements:
+            if statement.number in numbers:
+                for each in statement.declarations:
+                    family = family_of(each.name)
+                    if family in families or _EVERYTHING in families or family == _EVERYTHING:
+                        statement.left.add(family)
+
+    def _texts(self, groups: List[_Group], rules: List[int]) -> List[str]:
+        """Returns the declarations of the winners, each after those that it would beat if a browser
+        may not know it."""
+        found: List[str] = []
+        for group in groups:
+            before: List[_Group] = []
+            if not _is_known(group.declarations[0].value):
+                before = self._beaten(group, rules)
+            for each in (*before, group):
+                found.extend(map(str, each.declarations))
+        return found
+
+    def _beaten(self, winner: _Group, rules: List[int]) -> List[_Group]:
+        """Returns what a winner beats, from the last that every browser knows on."""
+        found: List[_Group] = []
+        for rule in rules:
+            found += [each for each in self.rules[rule] if each.name == winner.name]
+        found.sort(key=lambda each: (each.important, each.specificity, each.number))
+        found = found[: found.index(winner)]
+        for at in range(len(found) - 1, -1, -1):
+            if _is_known(found[at].declarations[0].value):
+                return found[at:]
+        return found
+
+    def _keep_clients(self, used: Set[int]) -> None:
+        """Keeps the rules for mail clients that match nothing in the page."""
+        for statement in self.statements:
+            if statement.number not in used and not statement.is_whole:
+                clients = [each for each, _ in statement.going if _CLIENTS.search(each)]
+                statement.staying = clients + statement.staying
+
+    def _write_sheets(self) -> None:
+        newline = self.page.newline
+        for sheet in self.sheets:
+            kept = sheet.kept(newline)
+            if sheet.content is None:
+                if kept:
+                    self.page.add_sheet(kept)
+            elif sheet.has_written():
+                self.page.set_sheet(sheet.content, kept)
 
 
-def _in_head(elements: List[Element]) -> List[bool]:
-    """Whether each element is the head of the document, is in it, or is shown nowhere."""
-    found: List[bool] = []
-    for element in elements:
-        above = element.parent is not None and found[element.parent]
-        found.append(above or element.name in _HEAD_PARTS)
-    return found
+def _is_in(name: str, families: FrozenSet[str]) -> bool:
+    return bool(families) and (_EVERYTHING in families or family_of(name) in families)
 
 
-def _offset_of_style(reader: _Reader) -> int:
-    """Returns where a new `style` element goes: at the end of the head, or before the content."""
-    if reader.head_end is not None:
-        return reader.head_end
-    for element, tag in zip(reader.elements, reader.tags):
-        if tag is not None and element.name not in ("html", "head"):
-            return tag.start
-    return 0
+def _is_known(value: str) -> bool:
+    """Whether a value has a form that every browser knows."""
+    return _PLAIN_VALUE.fullmatch(value) is not None
 
 
-def inline(html: str, css: str = "") -> str:
+def _left_families(groups: List[_Group], rivals: List[_Kept]) -> FrozenSet[str]:
+    """Returns the families of which a rule that stays may beat what would be written."""
+    found: Set[str] = set()
+    for rival in rivals:
+        for declaration in rival.declarations:
+            family = family_of(declaration.name)
+            for group in groups:
+                if group.important != declaration.important or declaration in group.declarations:
+                    continue
+                if rival.is_layered and not declaration.important:
+                    continue
+                mine = family_of(group.name)
+                is_rival = family == mine or _EVERYTHING in (family, mine)
+                if is_rival and (rival.specificity, rival.number) >= (group.specificity, group.number):
+                    found.add(mine)
+    return frozenset(found)
+
+
+def inline(html: Union[str, bytes], css: str = "") -> Any:
     """Returns the document with style sheets written into `style` attributes.
 
     The sheets are `css` and then the document's own `style` elements. Each element gets the
     declarations that win on it, and after them those of its own `style` attribute, so that its own
     are stronger, unless one of a sheet is important and they are not. Rules that depend on a state
     of the page (`:hover`), that CSS 2.1 does not have, and at-rules stay in a `style` element, as
-    does one for some media only. Everything else is unchanged, byte for byte.
+    does one for some media only, and with them what they could override. Everything else is
+    unchanged, byte for byte. A document in bytes is returned in bytes.
     """
-    is_xml = _XML_START.match(html) is not None
-    reader = _Reader(html)
-    reader.feed(html)
-    reader.close()
-    rules = _Rules()
-    edits: Dict[Tuple[int, int], str] = {}
-    inlined, kept = rules.split(css)
-    sheets = [inlined]
-    if kept:
-        offset = _offset_of_style(reader)
-        edits[(offset, offset)] = f"<style>\n{_style_text(kept, is_xml)}\n</style>"
-    for content in reader.styles:
-        if not _is_plain(reader.elements[content.element]):
-            continue
-        text = html[content.inner : content.inner_end]
-        inlined, kept = rules.split(_style_content(text, is_xml))
-        if not inlined:
-            continue
-        sheets.append(inlined)
-        if kept:
-            edits[(content.inner, content.inner_end)] = f"\n{_style_text(kept, is_xml)}\n"
-        else:
-            edits[(content.start, content.end)] = ""
-    winners = StyleSheet(*sheets).styles(Tree(reader.elements))
-    skipped = _in_head(reader.elements)
-    for index, tag in enumerate(reader.tags):
-        if tag is not None and winners[index] and not skipped[index]:
-            text = html[tag.start : tag.end]
-            edits[(tag.start, tag.end)] = _new_tag(text, rules.texts(winners[index]))
-    parts = []
-    last = 0
-    for (start, end), text in sorted(edits.items()):
-        parts.append(html[last:start])
-        parts.append(text)
-        last = end
-    parts.append(html[last:])
-    return "".join(parts)
+    library.expect_text(css)
+    css.encode("utf-8")
+    if isinstance(html, bytes):
+        text, encode = decode_page(html)
+        return encode(inline(text, css))
+    library.expect_text(html)
+    html.encode("utf-8")
+    page = Page(html)
+    _Inliner(page, css).write()
+    return page.edited()

@@ -11,6 +11,9 @@ import os
 from pathlib import Path
 from typing import Any, Iterable, List, NamedTuple, Optional, Sequence, Tuple
 
+# That of the library, which `include/simplecss.h` states.
+__version__ = "0.1.0"
+
 DONE = 0
 REFUSED = 1
 TREE_FAULT = 2
@@ -20,7 +23,7 @@ TOO_SMALL = 6
 
 _NAME = "libsimplecss.so"
 # The type code of arrays whose items are as wide as a `size_t`.
-_SIZE = next(c for c in "QLI" if array.array(c).itemsize == ctypes.sizeof(ctypes.c_size_t))
+SIZE = next(c for c in "QLI" if array.array(c).itemsize == ctypes.sizeof(ctypes.c_size_t))
 
 
 class LibraryError(OSError):
@@ -59,10 +62,10 @@ class TreeArrays:
         The strings of an element are its name, and a key and a value for each attribute. A lone
         surrogate raises `UnicodeEncodeError`.
         """
-        texts = [string.encode("utf-8") for string in strings]
         self._elements = (_Element * (len(shapes) // 2)).from_buffer_copy(_sizes(shapes))
-        self._strings = b"".join(texts)
-        self._ends = ends_of(texts)
+        self._strings = "".join(strings).encode("utf-8")
+        is_ascii = len(self._strings) == sum(map(len, strings))
+        self._ends = ends_of(len(each if is_ascii else each.encode("utf-8")) for each in strings)
 
     def __len__(self) -> int:
         """The number of bytes of all strings."""
@@ -99,9 +102,24 @@ def library_path() -> str:
 def _library() -> ctypes.CDLL:
     path = library_path()
     try:
-        return ctypes.CDLL(path)
+        loaded = ctypes.CDLL(path)
     except OSError as error:
         raise LibraryError(f"{path}: {error}") from None
+    version = _version_of(loaded)
+    if version != __version__:
+        raise LibraryError(f"{path} has version {version}, and this package {__version__}")
+    return loaded
+
+
+def _version_of(loaded: ctypes.CDLL) -> str:
+    """Returns the version of a library."""
+    buffer = ctypes.create_string_buffer(64)
+    length = ctypes.c_size_t(0)
+    try:
+        loaded.simplecss_version(buffer, ctypes.c_size_t(64), ctypes.byref(length))
+    except AttributeError:
+        return "none"
+    return ctypes.string_at(buffer, length.value).decode()
 
 
 @functools.lru_cache(maxsize=None)
@@ -116,13 +134,27 @@ def _function(name: str) -> Any:
 
 def _sizes(numbers: Iterable[int]) -> "array.array[int]":
     """Returns an array of numbers as wide as a `size_t`."""
-    return array.array(_SIZE, numbers)
+    return array.array(SIZE, numbers)
 
 
-def ends_of(texts: Sequence[bytes]) -> "ctypes.Array[ctypes.c_size_t]":
-    """Returns where each text ends in the buffer that has them one after another."""
-    ends = _sizes(itertools.accumulate(map(len, texts)))
-    return (ctypes.c_size_t * len(texts)).from_buffer_copy(ends)
+def expect_text(text: object) -> None:
+    """Raises `TypeError` for what is not a `str`."""
+    if not isinstance(text, str):
+        hint = ": decode it first" if isinstance(text, (bytes, bytearray)) else ""
+        hint = ": read the file first" if isinstance(text, os.PathLike) else hint
+        raise TypeError(f"a text (str) is expected, not {type(text).__name__}{hint}")
+
+
+def encode(text: str) -> bytes:
+    """Returns the text in UTF-8. A lone surrogate raises `UnicodeEncodeError`, a `ValueError`."""
+    expect_text(text)
+    return text.encode("utf-8")
+
+
+def ends_of(lengths: Iterable[int]) -> "ctypes.Array[ctypes.c_size_t]":
+    """Returns where each text ends in the buffer that has texts of these lengths one after another."""
+    ends = _sizes(itertools.accumulate(lengths))
+    return (ctypes.c_size_t * len(ends)).from_buffer_copy(ends)
 
 
 def call(name: str, *arguments: Any, room: int, with_fault: bool = False) -> Answer:
@@ -152,3 +184,10 @@ def call(name: str, *arguments: Any, room: int, with_fault: bool = False) -> Ans
     fault = TreeFault(found.fault, found.element) if status == TREE_FAULT else None
     output = ctypes.string_at(buffer, length.value) if status == DONE else b""
     return Answer(status, output, fault)
+
+
+def output_of(name: str, answer: Answer) -> bytes:
+    """Returns what a call wrote, which had no reason to fail."""
+    if answer.status != DONE:
+        raise LibraryError(f"{name}: unexpected status {answer.status}")
+    return answer.output

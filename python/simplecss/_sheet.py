@@ -1,25 +1,14 @@
-"""Selectors and style sheets."""
+"""Style sheets, which rules match the elements of a tree, and which declarations win on them."""
 
 from __future__ import annotations
 
-import json
-from typing import Any, Dict, List, NamedTuple, Optional, Tuple
+from typing import Any, Dict, Iterable, List, NamedTuple, Optional, Tuple, TypeVar, Union, overload
 
 from . import _library as library
-from ._tree import Tree
+from ._selectors import Reading, lines_of
+from ._tree import Element, Tree
 
-
-class SelectorError(ValueError):
-    """A text is no selector.
-
-    `reason` says why; `row` and `column` say where, and begin at 1. Columns count characters.
-    """
-
-    def __init__(self, reason: str, row: int, column: int) -> None:
-        super().__init__(f"{row}:{column}: {reason}")
-        self.reason = reason
-        self.row = row
-        self.column = column
+T = TypeVar("T")
 
 
 class Declaration(NamedTuple):
@@ -45,7 +34,7 @@ class Rule(NamedTuple):
 
 
 class Skipped(NamedTuple):
-    """A part of a style sheet that is skipped (CSS 2.1 section 4.2).
+    """A part of a style sheet that is skipped.
 
     `row` and `column` begin at 1, and columns count characters. `source` is the index of the text
     among those of the sheet.
@@ -58,99 +47,109 @@ class Skipped(NamedTuple):
     source: int
 
 
-def _lines(output: bytes) -> List[Any]:
-    """Returns the values of lines of JSON."""
-    return json.loads(b"[" + output[:-1].replace(b"\n", b",") + b"]")
+class ByElement(List[T]):
+    """A list with a value for each element of a tree, by the element or its index."""
+
+    @overload  # type: ignore[override]
+    def __getitem__(self, key: Union[int, Element]) -> T: ...
+
+    @overload
+    def __getitem__(self, key: slice) -> List[T]: ...
+
+    def __getitem__(self, key: Union[int, slice, Element]) -> Union[T, List[T]]:
+        return super().__getitem__(key.index if isinstance(key, Element) else key)
 
 
 def _declaration(value: Dict[str, Any]) -> Declaration:
     return Declaration(value["name"], value["value"], value["important"])
 
 
-def _encode(text: str) -> bytes:
-    """Returns the text in UTF-8. A lone surrogate raises `UnicodeEncodeError`, a `ValueError`."""
-    return text.encode("utf-8")
+class Prepared:
+    """The rules of a sheet as they are read for a tree. In their text a declaration's name and value
+    are numbers, so that the library decides between declarations whose values it need not read."""
 
+    def __init__(self, rules: Iterable[Tuple[str, Iterable[Tuple[str, bool, object]]]]) -> None:
+        """Takes a selector for each rule, and of each declaration its name, whether it is important,
+        and what it stands for."""
+        self.names: Dict[str, int] = {}
+        self.values: List[object] = []
+        words = []
+        for selector, declarations in rules:
+            words.append(selector + "{")
+            for name, important, value in declarations:
+                number = self.names.setdefault(name, len(self.names))
+                mark = " !important" if important else ""
+                words.append(f"n{number}:{len(self.values)}{mark};")
+                self.values.append(value)
+            words.append("}\n")
+        self.text = "".join(words)
+        self._data = self.text.encode("utf-8")
+        self._ends = library.ends_of((len(self._data),))
 
-def selector_error(text: str) -> SelectorError:
-    """Returns the error of a list of selectors that was refused."""
-    data = _encode(text)
-    answer = library.call("simplecss_refusal", data, room=4096)
-    found = _lines(answer.output)
-    if not found:
-        return SelectorError("refused", 1, 1)
-    return SelectorError(found[0]["reason"], found[0]["row"], found[0]["column"])
+    def _call(self, name: str, tree: Tree, *more: bytes, room: int) -> bytes:
+        arrays = tree._arrays()
+        answer = library.call(
+            name, self._data, self._ends, arrays, *more, room=1024 + room * len(tree), with_fault=True
+        )
+        return library.output_of(name, answer)
 
+    def match(self, tree: Tree) -> "ByElement[List[int]]":
+        """Returns for each element the indices of the rules that match it."""
+        lines = self._call("simplecss_match", tree, room=32).split(b"\n")
+        lines.pop()
+        indices = _Indices()
+        return ByElement(indices[line.partition(b":")[2]].copy() for line in lines)
 
-class Selector:
-    """A selector (CSS 2.1 section 5). `str` is its text as the library prints it.
+    def styles(self, tree: Tree) -> List[List[int]]:
+        """Returns for each element the numbers of the declarations that win."""
+        output = self._call("simplecss_styles", tree, room=256)
+        return [[int(value["value"]) for value in values] for values in lines_of(output)]
 
-    A text that is no selector, or a list of several, raises `SelectorError`.
-    """
-
-    def __init__(self, text: str) -> None:
-        data = _encode(text)
-        answer = library.call("simplecss_list", data, room=256 + 8 * len(data))
-        if answer.status != library.DONE:
-            raise selector_error(text)
-        found = _lines(answer.output)
-        if len(found) != 1:
-            raise SelectorError("more than one selector", 1, 1)
-        self._text: str = found[0]["selector"]
-        ids, others, types = found[0]["specificity"]
-        self._specificity: Tuple[int, int, int] = (ids, others, types)
-
-    @property
-    def specificity(self) -> Tuple[int, int, int]:
-        """The numbers of ids, of attributes and pseudo-classes, and of types; each at most 255."""
-        return self._specificity
-
-    def __str__(self) -> str:
-        return self._text
-
-    def __repr__(self) -> str:
-        return f"Selector({self._text!r})"
-
-    def __eq__(self, other: object) -> bool:
-        return isinstance(other, Selector) and self._text == other._text
-
-    def __hash__(self) -> int:
-        return hash(self._text)
+    def style(self, tree: Tree, name: str) -> List[Optional[int]]:
+        """Returns for each element the number of the declaration of the name that wins."""
+        number = self.names.get(name)
+        if number is None:
+            return [None] * len(tree)
+        output = self._call("simplecss_style", tree, b"n%d" % number, room=32)
+        found: List[Optional[int]] = []
+        for line in output.split(b"\n")[:-1]:
+            words = line.partition(b":")[2].split()
+            found.append(int(words[0]) if words else None)
+        return found
 
 
 class StyleSheet:
     """The style sheet of texts, read one after another.
 
     Its rules are in the order of their specificity, and rules of equal specificity in the order in
-    which they appear. What CSS 2.1 does not allow is skipped. `str` is the printed sheet.
+    which they appear. What the library does not read is skipped. `str` is the printed sheet.
     """
 
     def __init__(self, *texts: str) -> None:
-        self._texts = tuple(_encode(text) for text in texts)
+        self._texts = tuple(library.encode(text) for text in texts)
         self._buffer = b"".join(self._texts)
-        self._ends = library.ends_of(self._texts)
         self._rules: Optional[Tuple[Rule, ...]] = None
+        self._prepared: Dict[Reading, Prepared] = {}
 
-    def _call(self, name: str, *arguments: Any, room: int, with_fault: bool = False) -> bytes:
-        answer = library.call(
-            name, self._buffer, self._ends, *arguments, room=room, with_fault=with_fault
-        )
-        if answer.status != library.DONE:
-            raise RuntimeError(f"{name}: unexpected status {answer.status}")
-        return answer.output
+    def __reduce__(self) -> Tuple[Any, ...]:
+        return (StyleSheet, tuple(text.decode("utf-8") for text in self._texts))
+
+    def _call(self, name: str, room: int) -> bytes:
+        answer = library.call(name, self._buffer, library.ends_of(map(len, self._texts)), room=room)
+        return library.output_of(name, answer)
 
     @property
     def rules(self) -> Tuple[Rule, ...]:
         """The rules, those of smaller specificity first."""
         if self._rules is None:
-            output = self._call("simplecss_rules", room=1024 + 8 * len(self._buffer))
+            output = self._call("simplecss_rules", 1024 + 8 * len(self._buffer))
             self._rules = tuple(
                 Rule(
                     value["selector"],
                     (value["specificity"][0], value["specificity"][1], value["specificity"][2]),
                     tuple(_declaration(declaration) for declaration in value["declarations"]),
                 )
-                for value in _lines(output)
+                for value in lines_of(output)
             )
         return self._rules
 
@@ -160,52 +159,61 @@ class StyleSheet:
         found = []
         for source, text in enumerate(self._texts):
             answer = library.call("simplecss_skipped", text, room=1024 + 2 * len(text))
-            for value in _lines(answer.output):
+            for value in lines_of(library.output_of("simplecss_skipped", answer)):
                 found.append(
                     Skipped(value["row"], value["column"], value["reason"], value["text"], source)
                 )
         return found
 
     def __str__(self) -> str:
-        output = self._call("simplecss_sheet", room=1024 + 4 * len(self._buffer))
-        return output.decode("utf-8")[:-1]
+        return self._call("simplecss_sheet", 1024 + 4 * len(self._buffer)).decode("utf-8")[:-1]
 
     def __repr__(self) -> str:
         return f"<StyleSheet of {len(self._texts)} texts>"
 
-    def _selectors(self) -> str:
-        return "\0".join(rule.selector for rule in self.rules)
+    def _prepare(self, reading: Reading) -> Prepared:
+        """Returns the rules as they are read for a tree."""
+        if reading not in self._prepared:
+            self._prepared[reading] = Prepared(
+                (
+                    reading.rewrite(rule.selector, '"'),
+                    [(each.name, each.important, each) for each in rule.declarations],
+                )
+                for rule in self.rules
+            )
+        return self._prepared[reading]
 
-    def match(self, tree: Tree) -> List[List[int]]:
+    def match(self, tree: Tree) -> "ByElement[List[int]]":
         """Returns for each element the indices of the rules that match it, in order."""
-        arrays = tree._arrays(self._selectors)
-        room = 1024 + 16 * len(tree) + 4 * len(arrays)
-        output = self._call("simplecss_match", arrays, room=room, with_fault=True)
-        lines = output.split(b"\n")
-        lines.pop()
-        indices = _Indices()
-        return [indices[line.partition(b":")[2]].copy() for line in lines]
+        return self._prepare(_reading_of(tree)).match(tree)
 
-    def styles(self, tree: Tree) -> List[List[Declaration]]:
+    def styles(self, tree: Tree) -> "ByElement[List[Declaration]]":
         """Returns for each element the winning declaration of each name (CSS 2.1 section 6.4.1).
 
         They are in the order in which the cascade applies them: in that of their rules, and in a
         rule as they appear.
         """
-        arrays = tree._arrays(self._selectors)
-        room = 1024 + 64 * len(tree) + 16 * len(arrays)
-        output = self._call("simplecss_styles", arrays, room=room, with_fault=True)
-        return [[_declaration(value) for value in values] for values in _lines(output)]
+        prepared = self._prepare(_reading_of(tree))
+        values: List[Any] = prepared.values
+        return ByElement([values[each] for each in found] for found in prepared.styles(tree))
 
-    def style(self, tree: Tree, name: str) -> List[Optional[Declaration]]:
+    def style(self, tree: Tree, name: str) -> "ByElement[Optional[Declaration]]":
         """Returns for each element the winning declaration of the name, or `None`.
 
         The name compares byte by byte.
         """
-        return [
-            next((winner for winner in winners if winner.name == name), None)
-            for winners in self.styles(tree)
-        ]
+        library.expect_text(name)
+        prepared = self._prepare(_reading_of(tree))
+        values: List[Any] = prepared.values
+        return ByElement(
+            None if found is None else values[found] for found in prepared.style(tree, name)
+        )
+
+
+def _reading_of(tree: Tree) -> Reading:
+    if not isinstance(tree, Tree):
+        raise TypeError(f"a Tree is expected, not {type(tree).__name__}")
+    return tree._reading
 
 
 class _Indices(Dict[bytes, List[int]]):

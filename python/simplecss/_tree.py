@@ -1,13 +1,41 @@
-"""Trees of elements, from HTML, XML and ElementTree."""
+"""Trees of elements, from HTML, XML, and the trees of other packages."""
 
 from __future__ import annotations
 
+import array
+import bisect
 import re
-import xml.etree.ElementTree
-from html.parser import HTMLParser
-from typing import Any, Callable, Dict, Iterable, List, NamedTuple, Optional, Tuple
+from typing import (
+    Any,
+    Callable,
+    Dict,
+    FrozenSet,
+    Iterable,
+    Iterator,
+    List,
+    Mapping,
+    NamedTuple,
+    Optional,
+    Sequence,
+    Tuple,
+    Union,
+)
 
 from . import _library as library
+from ._html import HTML, SVG, Builder, Node, TooDeep
+from ._selectors import WHOLE_CLASS, Reading, prepared, selector_error
+from ._tokens import decode
+from ._xml import XmlError, read_xml
+
+# The states of an element that selectors test.
+STATES = frozenset(("link", "visited", "hover", "active", "focus"))
+_NONE: FrozenSet[str] = frozenset()
+_LINK = frozenset(("link",))
+_LINK_SPACES = ("", "http://www.w3.org/1999/xhtml", "http://www.w3.org/2000/svg")
+_WHITE_SPACE = re.compile("[\t\n\f\r]")
+
+# Selectors, and the states of the elements that each matches.
+States = Mapping[str, Iterable[str]]
 
 
 class TreeError(ValueError):
@@ -17,138 +45,580 @@ class TreeError(ValueError):
     """
 
     def __init__(self, reason: str, row: Optional[int], column: Optional[int]) -> None:
-        super().__init__(reason if row is None else f"{row}:{column}: {reason}")
+        super().__init__(reason, row, column)
         self.reason = reason
         self.row = row
         self.column = column
 
+    def __str__(self) -> str:
+        return self.reason if self.row is None else f"{self.row}:{self.column}: {self.reason}"
 
-class Element(NamedTuple):
-    """An element: its `name`, its `attributes`, and the index of its `parent` if it has one.
 
-    `row` and `column` say where its start tag begins, if that is known.
-    """
+class Item(NamedTuple):
+    """An element for `Tree`: its name and attributes, the index of its parent if it has one, where
+    its start tag begins if that is known, and its states, of `STATES`."""
 
     name: str
-    attributes: Dict[str, str]
-    parent: Optional[int]
+    attributes: Dict[str, str] = {}
+    parent: Optional[int] = None
     row: Optional[int] = None
     column: Optional[int] = None
+    states: FrozenSet[str] = _NONE
 
 
-_VOID = frozenset(
-    "area base br col embed hr img input link meta param source track wbr".split()
-)
-_METADATA = frozenset("base link meta title style script noscript template".split())
-_TABLE_PARTS = frozenset("thead tbody tfoot".split())
-_CELLS = frozenset(("td", "th"))
+class Element:
+    """An element of a tree. Two are equal if they are the same element of the same tree."""
 
-# The elements that a start tag ends, and those that it does not look past (HTML, "Optional tags").
-_ENDS: Dict[str, Tuple[frozenset, frozenset]] = {
-    "li": (frozenset(("li",)), frozenset(("ul", "ol", "menu"))),
-    "dt": (frozenset(("dt", "dd")), frozenset(("dl",))),
-    "dd": (frozenset(("dt", "dd")), frozenset(("dl",))),
-    "option": (frozenset(("option",)), frozenset(("select", "datalist", "optgroup"))),
-    "optgroup": (frozenset(("option", "optgroup")), frozenset(("select",))),
-    "rt": (frozenset(("rt", "rp")), frozenset(("ruby",))),
-    "rp": (frozenset(("rt", "rp")), frozenset(("ruby",))),
-    "td": (_CELLS, frozenset(("tr", "table"))),
-    "th": (_CELLS, frozenset(("tr", "table"))),
-    "tr": (
-        _CELLS | frozenset(("tr", "caption", "colgroup")),
-        frozenset(("table",)) | _TABLE_PARTS,
-    ),
-}
-for _name in ("thead", "tbody", "tfoot"):
-    _ENDS[_name] = (
-        _CELLS | _TABLE_PARTS | frozenset(("tr", "caption", "colgroup")),
-        frozenset(("table",)),
-    )
-for _name in (
-    "address article aside blockquote details div dl fieldset figcaption figure footer form h1 h2"
-    " h3 h4 h5 h6 header hgroup hr main menu nav ol p pre section table ul"
-).split():
-    _ENDS[_name] = (
-        frozenset(("p",)),
-        frozenset(("button", "table", "td", "th", "caption", "object", "html")),
-    )
+    __slots__ = ("tree", "index")
+
+    def __init__(self, tree: "Tree", index: int) -> None:
+        self.tree = tree
+        # Its number in the tree, from 0, in document order.
+        self.index = index
+
+    @property
+    def name(self) -> str:
+        """The name, in lower case in HTML."""
+        return self.tree._names[self.index]
+
+    @property
+    def attributes(self) -> Dict[str, str]:
+        """The attributes, which must not be changed."""
+        return self.tree._attributes[self.index]
+
+    @property
+    def states(self) -> FrozenSet[str]:
+        """The states, as `link`."""
+        return self.tree._states.get(self.index, _NONE)
+
+    @property
+    def parent(self) -> Optional["Element"]:
+        """The parent, if there is one."""
+        parent = self.tree._parents[self.index]
+        return None if parent < 0 else Element(self.tree, parent)
+
+    @property
+    def depth(self) -> int:
+        """How many ancestors the element has."""
+        return self.tree._depths[self.index]
+
+    @property
+    def children(self) -> List["Element"]:
+        """The children, in order."""
+        return [Element(self.tree, index) for index in self.tree._children_of(self.index)]
+
+    @property
+    def text(self) -> str:
+        """The text of the element and of all elements in it."""
+        return self.tree._text_of(self.index)
+
+    @property
+    def source(self) -> Optional[str]:
+        """The text of the document from the start tag to the end, if the tree was read from one."""
+        return self.tree._source_of(self.index)
+
+    @property
+    def row(self) -> Optional[int]:
+        """The row where the start tag begins, from 1, if the document has the tag."""
+        return self.tree._position(self.index)[0]
+
+    @property
+    def column(self) -> Optional[int]:
+        """The column where the start tag begins, from 1, if the document has the tag."""
+        return self.tree._position(self.index)[1]
+
+    @property
+    def node(self) -> Any:
+        """The element of the tree that this one was made from, or `None`."""
+        nodes = self.tree._nodes
+        return None if nodes is None else nodes[self.index]
+
+    def matches(self, selectors: str) -> bool:
+        """Whether one of the selectors matches the element."""
+        return self.index in self.tree._found_set(selectors)
+
+    def closest(self, selectors: str) -> Optional["Element"]:
+        """Returns the element itself or its nearest ancestor that one of the selectors matches."""
+        found = self.tree._found_set(selectors)
+        index = self.index
+        while index >= 0:
+            if index in found:
+                return Element(self.tree, index)
+            index = self.tree._parents[index]
+        return None
+
+    def select(self, selectors: str) -> List["Element"]:
+        """Returns the elements within this one that one of the selectors matches, in order."""
+        found = self.tree._found(selectors)
+        first = bisect.bisect_right(found, self.index)
+        last = bisect.bisect_left(found, self.tree._end_of(self.index))
+        return [Element(self.tree, index) for index in found[first:last]]
+
+    def __eq__(self, other: object) -> bool:
+        return isinstance(other, Element) and self.tree is other.tree and self.index == other.index
+
+    def __hash__(self) -> int:
+        return hash((id(self.tree), self.index))
+
+    def __reduce__(self) -> Tuple[Any, ...]:
+        return (Element, (self.tree, self.index))
+
+    def __repr__(self) -> str:
+        words = [self.name]
+        for key in ("id", "class"):
+            if key in self.attributes:
+                words.append(f'{key}="{" ".join(self.attributes[key].split())}"')
+        return f"<{' '.join(words)}>"
 
 
-class _HtmlParser(HTMLParser):
-    """Collects the elements of an HTML document."""
+class _Texts:
+    """The texts of a document, in order: for each how many elements begin before it, in which
+    element it is, and the text, or where it begins and ends in the source."""
 
-    CDATA_CONTENT_ELEMENTS = ("script", "style", "textarea", "title", "xmp", "iframe", "noembed")
+    def __init__(self, source: Optional[str] = None) -> None:
+        self.begun = array.array("l")
+        self.owners = array.array("l")
+        self.values: List[Any] = []
+        self.source = source
 
-    def __init__(self) -> None:
-        super().__init__(convert_charrefs=True)
-        self.elements: List[Element] = []
-        self.open: List[int] = []
-        # How many elements of each name are open.
-        self.counts: Dict[str, int] = {}
+    def add(self, begun: int, owner: int, value: Any) -> None:
+        """Adds a text."""
+        self.begun.append(begun)
+        self.owners.append(owner)
+        self.values.append(value)
 
-    def _name(self, depth: int) -> str:
-        return self.elements[self.open[depth]].name
-
-    def _end_open(self, ended: frozenset, border: frozenset) -> None:
-        """Ends the outermost open element of these within the innermost border."""
-        if not any(self.counts.get(name) for name in ended):
-            return
-        found = None
-        for depth in range(len(self.open) - 1, -1, -1):
-            name = self._name(depth)
-            if name in border:
+    def within(self, start: int, end: int) -> str:
+        """Returns the texts of the elements from one index up to another."""
+        parts = []
+        for at in range(bisect.bisect_left(self.begun, start + 1), len(self.values)):
+            if self.begun[at] > end:
                 break
-            if name in ended:
-                found = depth
-        if found is not None:
-            self._close(found)
-
-    def _close(self, depth: int) -> None:
-        """Ends the open elements from this depth on."""
-        for index in self.open[depth:]:
-            self.counts[self.elements[index].name] -= 1
-        del self.open[depth:]
-
-    def _is_foreign(self) -> bool:
-        return bool(self.counts.get("svg") or self.counts.get("math"))
-
-    def handle_starttag(self, tag: str, attrs: List[Tuple[str, Optional[str]]]) -> None:
-        if tag in _ENDS:
-            self._end_open(*_ENDS[tag])
-        if self.open and self._name(len(self.open) - 1) == "head" and tag not in _METADATA:
-            self._close(len(self.open) - 1)
-        row, column = self.getpos()
-        attributes: Dict[str, str] = {}
-        for key, value in attrs:
-            attributes.setdefault(key, value or "")
-        parent = self.open[-1] if self.open else None
-        self.elements.append(Element(tag, attributes, parent, row, column + 1))
-        if tag not in _VOID:
-            self.open.append(len(self.elements) - 1)
-            self.counts[tag] = self.counts.get(tag, 0) + 1
-
-    def handle_startendtag(self, tag: str, attrs: List[Tuple[str, Optional[str]]]) -> None:
-        is_foreign = tag in ("svg", "math") or self._is_foreign()
-        self.handle_starttag(tag, attrs)
-        if is_foreign and tag not in _VOID:
-            self._close(len(self.open) - 1)
-
-    def handle_endtag(self, tag: str) -> None:
-        if not self.counts.get(tag):
-            return
-        for depth in range(len(self.open) - 1, -1, -1):
-            if self._name(depth) == tag:
-                self._close(depth)
-                return
-            if self._name(depth) in ("td", "th", "table") and tag not in ("table", "tr") and (
-                tag not in _TABLE_PARTS and tag not in ("body", "html")
-            ):
-                return
+            if start <= self.owners[at] < end:
+                value = self.values[at]
+                if self.source is not None:
+                    value = decode(self.source[value[0] : value[1]])
+                parts.append(value)
+        return "".join(parts)
 
 
-def _local(name: str) -> str:
-    """Returns the name without its namespace."""
-    return name.rpartition("}")[2]
+class Tree:
+    """Elements in document order, which selectors are matched against."""
+
+    def __init__(self, items: Iterable[Item] = ()) -> None:
+        """Takes elements in document order: a parent comes before its children."""
+        self._clear()
+        last: List[int] = []
+        for index, item in enumerate(items):
+            self._check(index, item, last)
+            self._add(item.name, item.attributes, -1 if item.parent is None else item.parent)
+            self._places.append((item.row, item.column))
+            states = frozenset(item.states)
+            if not states <= STATES:
+                raise ValueError(f"no state of an element: {sorted(states - STATES)[0]!r}")
+            if states:
+                self._states[index] = states
+        self._read_as(False, False)
+
+    def _read_as(self, is_html: bool, is_quirky: bool) -> None:
+        """Sets how selectors are read for the elements."""
+        values = (attributes.get("class", "") for attributes in self._attributes)
+        has_lines = any(map(_WHITE_SPACE.search, values))
+        self._reading = Reading(is_html, is_quirky, True, has_lines)
+
+    def _clear(self) -> None:
+        self._names: List[str] = []
+        self._attributes: List[Dict[str, str]] = []
+        self._parents: List[int] = []
+        self._depths: List[int] = []
+        self._states: Dict[int, FrozenSet[str]] = {}
+        # Where each element begins: its row and column, or offsets in `_source`.
+        self._places: List[Tuple[Optional[int], Optional[int]]] = []
+        self._spans: Optional[List[Tuple[int, int, int]]] = None
+        self._source: Optional[str] = None
+        self._texts: Optional[_Texts] = None
+        self._nodes: Optional[List[Any]] = None
+        self._reading = Reading(False, False, False, False)
+        self._forget()
+
+    def _forget(self) -> None:
+        """Forgets what is computed when it is needed."""
+        self._passed: Optional[library.TreeArrays] = None
+        self._answers: Dict[str, List[int]] = {}
+        self._sets: Dict[str, FrozenSet[int]] = {}
+        self._lines: Optional[List[int]] = None
+        self._children: Optional[List[List[int]]] = None
+
+    def __getstate__(self) -> Dict[str, Any]:
+        state = self.__dict__.copy()
+        for key in ("_passed", "_answers", "_sets", "_lines", "_children"):
+            del state[key]
+        state["_nodes"] = None
+        return state
+
+    def __setstate__(self, state: Dict[str, Any]) -> None:
+        self.__dict__.update(state)
+        self._forget()
+
+    def _check(self, index: int, item: Item, last: List[int]) -> None:
+        """Raises an error for an element whose parent is not one of the elements still open."""
+        depth = 0
+        if not isinstance(item.name, str) or not isinstance(item.attributes, Mapping):
+            raise TypeError("an element has a text as its name and a mapping as its attributes")
+        if item.parent is not None:
+            if not 0 <= item.parent < index:
+                raise TreeError("the parent is not an earlier element", item.row, item.column)
+            depth = self._depths[item.parent] + 1
+            if depth > len(last) or last[depth - 1] != item.parent:
+                raise TreeError("the elements are not in document order", item.row, item.column)
+        del last[depth:]
+        last.append(index)
+        if not item.name:
+            raise TreeError("the name is empty", item.row, item.column)
+
+    def _add(self, name: str, attributes: Dict[str, str], parent: int) -> int:
+        """Adds an element. Returns its index."""
+        self._names.append(name)
+        self._attributes.append(attributes)
+        self._parents.append(parent)
+        self._depths.append(0 if parent < 0 else self._depths[parent] + 1)
+        return len(self._names) - 1
+
+    # ---- documents
+
+    @classmethod
+    def from_html(
+        cls, text: str, states: Optional[States] = None, *, is_part: bool = False
+    ) -> "Tree":
+        """Reads an HTML document, as a browser does without scripts.
+
+        Names are in lower case, and the elements that a text leaves out (`html`, `head`, `body`,
+        `tbody`) are added. The content of a `template` is left out. `a` and `area` with `href` are
+        links. `states` maps selectors to the states of the elements that they match. `is_part`
+        reads the content of a `body`, and adds no `html`, `head` and `body`.
+        """
+        library.expect_text(text)
+        builder = Builder(text, is_part)
+        try:
+            root = builder.build()
+        except TooDeep as error:
+            raise TreeError(str(error), None, None) from None
+        tree = cls()
+        tree._take_nodes(root, text, is_part)
+        tree._read_as(True, builder.is_quirky)
+        return tree._with_states(states)
+
+    def _take_nodes(self, root: Node, text: str, is_part: bool = False) -> List[Node]:
+        """Takes the elements of a document in HTML, and returns them in order."""
+        self._source = text
+        self._texts = _Texts(text)
+        spans: List[Tuple[int, int, int]] = []
+        taken: List[Node] = []
+        waiting: List[Tuple[Any, int]] = [(root, -1)]
+        if is_part:
+            waiting = [(child, -1) for child in reversed(root.children)]
+        while waiting:
+            node, parent = waiting.pop()
+            if not isinstance(node, Node):
+                self._texts.add(len(taken), parent, node)
+                continue
+            index = self._add(node.name, node.attributes, parent)
+            taken.append(node)
+            start, inner = node.tag or (-1, -1)
+            spans.append((start, inner, node.end[1]))
+            if _is_link(node):
+                self._states[index] = _LINK
+            if node.children and (node.name != "template" or node.space != HTML):
+                waiting.extend((child, index) for child in reversed(node.children))
+        self._spans = spans
+        return taken
+
+    @classmethod
+    def from_xml(cls, text: str, states: Optional[States] = None) -> "Tree":
+        """Reads an XML document, such as SVG or XHTML.
+
+        Names are local names, without a namespace. `a` and `area` with `href` are links.
+        """
+        library.expect_text(text)
+        tree = cls()
+        try:
+            found = read_xml(text)
+        except XmlError as error:
+            raise TreeError(error.reason, error.row, error.column) from None
+        tree._source = text
+        tree._texts = _Texts()
+        spans = []
+        for index, tag in enumerate(found.tags):
+            tree._add(tag.name, tag.attributes, tag.parent)
+            tree._places.append((tag.row, tag.column))
+            spans.append((tag.start, tag.inner, tag.end))
+            if tag.is_link:
+                tree._states[index] = _LINK
+        for begun, owner, value in found.texts:
+            tree._texts.add(begun, owner, value)
+        tree._spans = spans
+        tree._read_as(False, False)
+        return tree._with_states(states)
+
+    @classmethod
+    def from_etree(cls, root: Any, states: Optional[States] = None) -> "Tree":
+        """Takes an element of `xml.etree.ElementTree`, or a whole tree of one.
+
+        Comments and processing instructions are left out. `.node` of an element is the one that it
+        was made from.
+        """
+        if hasattr(root, "getroot"):
+            root = root.getroot()
+        if not hasattr(root, "tag") or not hasattr(root, "attrib"):
+            raise TypeError(f"an element of ElementTree is expected, not {type(root).__name__}")
+        tree = cls()
+        tree._nodes = []
+        tree._texts = _Texts()
+        waiting: List[Tuple[Any, int]] = [(root, -1)]
+        while waiting:
+            node, parent = waiting.pop()
+            if isinstance(node, str):
+                tree._texts.add(len(tree), parent, node)
+            elif isinstance(node.tag, str):
+                index = tree._take_element(node, parent)
+                for child in reversed(list(node)):
+                    waiting.append((child.tail or "", index))
+                    waiting.append((child, index))
+                waiting.append((node.text or "", index))
+        tree._read_as(False, False)
+        return tree._with_states(states)
+
+    def _take_element(self, node: Any, parent: int) -> int:
+        """Takes an element of ElementTree or lxml. Returns its index."""
+        space, _, name = node.tag.rpartition("}")
+        attributes = _local_attributes(node.attrib.items())
+        index = self._add(name, attributes, parent)
+        row = getattr(node, "sourceline", None)
+        self._places.append((row, None if row is None else 1))
+        if name in ("a", "area") and "href" in attributes and space[1:] in _LINK_SPACES:
+            self._states[index] = _LINK
+        if self._nodes is not None:
+            self._nodes.append(node)
+        return index
+
+    @classmethod
+    def from_lxml(cls, root: Any, states: Optional[States] = None) -> "Tree":
+        """Takes an element or a whole tree of lxml. One that `lxml.html` made is HTML."""
+        tree = cls.from_etree(root, None)
+        top = root.getroot() if hasattr(root, "getroot") else root
+        if type(top).__module__.partition(".")[0] == "lxml" and "html" in type(top).__module__:
+            doctype = getattr(getattr(top.getroottree(), "docinfo", None), "doctype", "")
+            tree._read_as(True, not doctype)
+        return tree._with_states(states)
+
+    @classmethod
+    def from_soup(cls, root: Any, states: Optional[States] = None) -> "Tree":
+        """Takes a document or an element of BeautifulSoup, which is HTML unless it was read as XML."""
+        if not hasattr(root, "contents") or not hasattr(root, "attrs"):
+            raise TypeError(f"an element of BeautifulSoup is expected, not {type(root).__name__}")
+        tree = cls()
+        tree._nodes = []
+        tree._texts = _Texts()
+        has_doctype = False
+        waiting: List[Tuple[Any, int]] = [(root, -1)]
+        while waiting:
+            node, parent = waiting.pop()
+            if not hasattr(node, "contents"):
+                kind = type(node).__name__
+                has_doctype = has_doctype or kind == "Doctype"
+                if kind not in ("Comment", "Doctype", "Declaration", "ProcessingInstruction"):
+                    tree._texts.add(len(tree), parent, str(node))
+                continue
+            index = parent if node.name == "[document]" else tree._take_tag(node, parent)
+            waiting.extend((child, index) for child in reversed(node.contents))
+        is_xml = bool(getattr(root, "_is_xml", False))
+        tree._read_as(not is_xml, not is_xml and not has_doctype)
+        return tree._with_states(states)
+
+    def _take_tag(self, node: Any, parent: int) -> int:
+        """Takes an element of BeautifulSoup. Returns its index."""
+        attributes = {
+            str(key): " ".join(value) if isinstance(value, list) else str(value)
+            for key, value in node.attrs.items()
+        }
+        index = self._add(node.name.rpartition(":")[2], attributes, parent)
+        row, column = getattr(node, "sourceline", None), getattr(node, "sourcepos", None)
+        self._places.append((row, None if column is None else column + 1))
+        if node.name in ("a", "area") and "href" in attributes:
+            self._states[index] = _LINK
+        if self._nodes is not None:
+            self._nodes.append(node)
+        return index
+
+    def _with_states(self, states: Optional[States]) -> "Tree":
+        """Gives states to the elements that selectors match."""
+        if states is None:
+            return self
+        if not isinstance(states, Mapping):
+            raise TypeError("states are a mapping of selectors to names of states")
+        more: Dict[int, FrozenSet[str]] = {}
+        for selectors, names in states.items():
+            named = frozenset((names,) if isinstance(names, str) else names)
+            if not named <= STATES:
+                raise ValueError(f"no state of an element: {sorted(named - STATES)[0]!r}")
+            for index in self._found(selectors):
+                more[index] = more.get(index, self._states.get(index, _NONE)) | named
+        for index, named in more.items():
+            # A link is visited or not.
+            self._states[index] = named - _LINK if "visited" in named else named
+        self._forget()
+        return self
+
+    # ---- elements
+
+    @property
+    def elements(self) -> Sequence[Element]:
+        """The elements, in document order."""
+        return [Element(self, index) for index in range(len(self._names))]
+
+    def __getitem__(self, index: int) -> Element:
+        """Returns the element at an index."""
+        return Element(self, range(len(self._names))[index])
+
+    def __iter__(self) -> Iterator[Element]:
+        return (Element(self, index) for index in range(len(self._names)))
+
+    def __len__(self) -> int:
+        return len(self._names)
+
+    def __repr__(self) -> str:
+        return f"<Tree of {len(self)} elements>"
+
+    def _end_of(self, index: int) -> int:
+        """Returns the index after the last element within an element."""
+        depth = self._depths[index]
+        end = index + 1
+        while end < len(self._depths) and self._depths[end] > depth:
+            end += 1
+        return end
+
+    def _children_of(self, index: int) -> List[int]:
+        if self._children is None:
+            self._children = [[] for _ in self._names]
+            for child, parent in enumerate(self._parents):
+                if parent >= 0:
+                    self._children[parent].append(child)
+        return self._children[index]
+
+    def _text_of(self, index: int) -> str:
+        return "" if self._texts is None else self._texts.within(index, self._end_of(index))
+
+    def _source_of(self, index: int) -> Optional[str]:
+        if self._spans is None or self._source is None:
+            return None
+        start, _, end = self._spans[index]
+        return None if start < 0 else self._source[start:end]
+
+    def _position(self, index: int) -> Tuple[Optional[int], Optional[int]]:
+        if self._places:
+            return self._places[index]
+        if self._spans is None or self._spans[index][0] < 0:
+            return None, None
+        if self._lines is None:
+            self._lines = [0] + [found.end() for found in re.finditer("\n", self._source or "")]
+        offset = self._spans[index][0]
+        row = bisect.bisect_right(self._lines, offset)
+        return row, offset - self._lines[row - 1] + 1
+
+    # ---- selectors
+
+    def select(self, selectors: str) -> List[Element]:
+        """Returns the elements that one of the selectors matches, in order.
+
+        The selectors are separated by commas. A text that is no such list raises `SelectorError`.
+        """
+        return [Element(self, index) for index in self._found(selectors)]
+
+    def iselect(self, selectors: str) -> Iterator[Element]:
+        """Yields the elements that one of the selectors matches, in order."""
+        return (Element(self, index) for index in self._found(selectors))
+
+    def select_one(self, selectors: str) -> Optional[Element]:
+        """Returns the first element that one of the selectors matches, or `None`."""
+        return next(self.iselect(selectors), None)
+
+    def _found_set(self, selectors: str) -> FrozenSet[int]:
+        if selectors not in self._sets:
+            if len(self._sets) >= 32:
+                self._sets.clear()
+            self._sets[selectors] = frozenset(self._found(selectors))
+        return self._sets[selectors]
+
+    def _found(self, selectors: str) -> List[int]:
+        """Returns the indices of the elements that one of the selectors matches, in order."""
+        library.expect_text(selectors)
+        if selectors not in self._answers:
+            if len(self._answers) >= 32:
+                self._answers.clear()
+            self._answers[selectors] = self._find(selectors)
+        return self._answers[selectors]
+
+    def _find(self, selectors: str) -> List[int]:
+        text = prepared(selectors, self._reading)
+        answer = library.call(
+            "simplecss_select",
+            library.encode(text),
+            self._arrays(),
+            room=1024 + 8 * len(self),
+            with_fault=True,
+        )
+        if answer.status == library.REFUSED:
+            raise selector_error(selectors)
+        return [int(line) - 1 for line in library.output_of("simplecss_select", answer).split()]
+
+    def _arrays(self) -> library.TreeArrays:
+        """Returns the arrays of the tree, as calls of the library take them.
+
+        Words of a value are parted by spaces. In `class`, other white space parts them too, and
+        selectors that compare its whole value compare that of another attribute.
+        """
+        if self._passed is None:
+            try:
+                self._passed = self._make_arrays()
+            except UnicodeEncodeError as error:
+                raise TreeError(f"a text is not Unicode: {error.reason}", None, None) from None
+        return self._passed
+
+    def _html_attributes(self, attributes: Dict[str, str]) -> Dict[str, str]:
+        """Returns attributes as HTML compares them."""
+        found: Dict[str, str] = {}
+        for key, value in attributes.items():
+            key = key.lower()
+            found.setdefault(key, self._reading.value(key, value))
+        return found
+
+    def _make_arrays(self) -> library.TreeArrays:
+        shapes = array.array(library.SIZE)
+        strings: List[str] = []
+        is_html = self._reading.is_html
+        for index, attributes in enumerate(self._attributes):
+            states = self._states.get(index, _NONE)
+            name = self._names[index]
+            if is_html:
+                name = name.lower()
+                attributes = self._html_attributes(attributes)
+            if self._reading.has_lines and "class" in attributes:
+                value = attributes["class"]
+                attributes = {**attributes, "class": _WHITE_SPACE.sub(" ", value), WHOLE_CLASS: value}
+            shapes.append(self._depths[index])
+            shapes.append(len(attributes) + len(states))
+            strings.append(name)
+            for key, value in attributes.items():
+                strings.append(key)
+                strings.append(value)
+            for state in states:
+                strings += (f"-state-{state}", "")
+        return library.TreeArrays(shapes, strings)
+
+
+def _is_link(node: Node) -> bool:
+    if node.name == "a":
+        return "href" in node.attributes or node.space == SVG and "xlink:href" in node.attributes
+    return node.name == "area" and node.space == HTML and "href" in node.attributes
 
 
 def _local_attributes(items: Iterable[Tuple[Any, Any]]) -> Dict[str, str]:
@@ -156,146 +626,11 @@ def _local_attributes(items: Iterable[Tuple[Any, Any]]) -> Dict[str, str]:
     found: Dict[str, str] = {}
     spaced: Dict[str, str] = {}
     for key, value in items:
-        (spaced if str(key).startswith("{") else found)[_local(str(key))] = str(value)
+        local = str(key).rpartition("}")[2]
+        (spaced if str(key).startswith("{") else found)[local] = str(value)
     for key, value in spaced.items():
         found.setdefault(key, value)
     return found
 
 
-_WHITE_SPACE = re.compile("[\t\n\f\r]")
-_WHOLE_CLASS = re.compile(r"\[class\|?=")
-
-
-class Tree:
-    """Elements in document order, which selectors are matched against."""
-
-    def __init__(self, elements: Iterable[Element]) -> None:
-        """Takes elements in document order: a parent comes before its children."""
-        self._elements = list(elements)
-        self._depths: List[int] = []
-        self._has_white_space = False
-        # The arrays of the tree, with the values of `class` as they are and with single spaces.
-        self._passed: Dict[bool, library.TreeArrays] = {}
-        last: List[int] = []
-        for index, element in enumerate(self._elements):
-            self._append(index, element, last)
-
-    def _append(self, index: int, element: Element, last: List[int]) -> None:
-        """Adds the depth of an element, whose parent must be one of the elements still open."""
-        depth = 0
-        if element.parent is not None:
-            if not 0 <= element.parent < index:
-                raise self._error(element, "the parent is not an earlier element")
-            depth = self._depths[element.parent] + 1
-            if depth > len(last) or last[depth - 1] != element.parent:
-                raise self._error(element, "the elements are not in document order")
-        del last[depth:]
-        last.append(index)
-        self._depths.append(depth)
-        if not element.name:
-            raise self._error(element, "the name is empty")
-        if _WHITE_SPACE.search(element.attributes.get("class", "")):
-            self._has_white_space = True
-
-    @staticmethod
-    def _error(element: Element, reason: str) -> TreeError:
-        return TreeError(reason, element.row, element.column)
-
-    @classmethod
-    def from_html(cls, text: str) -> "Tree":
-        """Reads an HTML document or a part of one.
-
-        Names are in lower case. Void elements have no content, and the end tags that HTML allows
-        to be left out may be missing. No element is added that the text does not have (`tbody`).
-        Of two attributes of one name the first counts.
-        """
-        parser = _HtmlParser()
-        parser.feed(text)
-        parser.close()
-        return cls(parser.elements)
-
-    @classmethod
-    def from_xml(cls, text: str) -> "Tree":
-        """Reads an XML document, such as SVG. Names are local names, without a namespace."""
-        try:
-            root = xml.etree.ElementTree.fromstring(text)
-        except xml.etree.ElementTree.ParseError as error:
-            row, column = error.position
-            raise TreeError(str(error).partition(":")[0], row, column + 1) from None
-        return cls.from_etree(root)
-
-    @classmethod
-    def from_etree(cls, root: Any) -> "Tree":
-        """Takes an element of `xml.etree` or lxml, or a whole tree of one of them.
-
-        Comments and processing instructions are left out.
-        """
-        if hasattr(root, "getroot"):
-            root = root.getroot()
-        elements: List[Element] = []
-        waiting: List[Tuple[Any, Optional[int]]] = [(root, None)]
-        while waiting:
-            node, parent = waiting.pop()
-            if not isinstance(node.tag, str):
-                continue
-            row = getattr(node, "sourceline", None)
-            attributes = _local_attributes(node.attrib.items())
-            elements.append(
-                Element(_local(node.tag), attributes, parent, row, None if row is None else 1)
-            )
-            index = len(elements) - 1
-            waiting.extend((child, index) for child in reversed(list(node)))
-        return cls(elements)
-
-    @property
-    def elements(self) -> List[Element]:
-        """The elements, in document order."""
-        return self._elements
-
-    def __len__(self) -> int:
-        return len(self._elements)
-
-    def __repr__(self) -> str:
-        return f"<Tree of {len(self)} elements>"
-
-    def _arrays(self, selectors: Callable[[], str]) -> library.TreeArrays:
-        """Returns the arrays of the tree, as calls of the library take them.
-
-        Words of a value are parted by spaces. In `class`, other white space parts them too, unless
-        a selector compares the whole value.
-        """
-        is_parted = self._has_white_space and not _WHOLE_CLASS.search(selectors())
-        if is_parted not in self._passed:
-            shapes: List[int] = []
-            strings: List[str] = []
-            for depth, element in zip(self._depths, self._elements):
-                shapes += (depth, len(element.attributes))
-                strings.append(element.name)
-                for key, value in element.attributes.items():
-                    parts = is_parted and key == "class"
-                    strings += (key, _WHITE_SPACE.sub(" ", value) if parts else value)
-            try:
-                self._passed[is_parted] = library.TreeArrays(shapes, strings)
-            except UnicodeEncodeError as error:
-                raise TreeError(f"a text is not Unicode: {error.reason}", None, None) from None
-        return self._passed[is_parted]
-
-    def select(self, selectors: str) -> List[int]:
-        """Returns the indexes of the elements that one of the selectors matches, in order.
-
-        The selectors are separated by commas. A text that is no such list raises `SelectorError`.
-        """
-        from ._sheet import _encode, selector_error
-
-        answer = library.call(
-            "simplecss_select",
-            _encode(selectors),
-            self._arrays(lambda: selectors),
-            room=1024 + 8 * len(self._elements),
-            with_fault=True,
-        )
-        if answer.status == library.REFUSED:
-            raise selector_error(selectors)
-        if answer.status != library.DONE:
-            raise RuntimeError(f"simplecss_select: unexpected status {answer.status}")
-        return [int(line) - 1 for line in answer.output.split()]
+ElementOrIndex = Union[int, Element]

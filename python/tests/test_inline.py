@@ -95,6 +95,121 @@ class Selectors(unittest.TestCase):
         self.assertEqual(style_of("p[title=ab] { n: 1 }", "<p title=Ab>"), "")
 
 
+class Attributes(unittest.TestCase):
+    def test_where_the_new_attribute_goes(self):
+        for tag, written in (
+            ("<a href=http://x.com/>", '<a href=http://x.com/ style="n: 1">'),
+            ("<a class=x title=/>", '<a class=x title=/ style="n: 1">'),
+            ("<a class=>", '<a class="" style="n: 1">'),
+            ("<a style=b:c/>", '<a style="n: 1; b:c/">'),
+            ("<a style>", '<a style="n: 1">'),
+            ("<a style='b: c'class=x>", "<a style='n: 1; b: c' class=x>"),
+            ('<a x="style=y" STYLE = "">', '<a x="style=y" style="n: 1">'),
+            ("<a\n/ x/>", '<a\n/ x style="n: 1"/>'),
+            ("<a x='>'>", "<a x='>' style=\"n: 1\">"),
+        ):
+            self.assertEqual(inline(tag + "b</a>", "a { n: 1 }"), written + "b</a>", tag)
+
+    def test_what_is_no_tag(self):
+        for page in ("<a", "<a x='>", "<!-- <a> -->", "<style><a></style>", "<title><a></title>", "< a>"):
+            self.assertEqual(inline(page, "a { n: 1 }"), page)
+
+    def test_an_element_without_a_tag(self):
+        self.assertEqual(inline("<p>x", "body { n: 1 } p { m: 2 }"),
+                         '<style>\nbody { n: 1 }\n</style><p style="m: 2">x')
+
+
+class Documents(unittest.TestCase):
+    def test_lone_surrogates(self):
+        for words in (("<p>\ud800",), ("<p>", "a{b:'\ud800'}")):
+            with self.assertRaises(ValueError):
+                inline(*words)
+
+    def test_ends_of_lines(self):
+        self.assertEqual(inline("<p>\r\n", "p:hover { n: 1 }\n@x;"),
+                         "<style>\r\np:hover { n: 1 }\r\n@x;\r\n</style><p>\r\n")
+        self.assertEqual(inline("\ufeff<p>", "p { n: 1 }"), '\ufeff<p style="n: 1">')
+
+    def test_bytes(self):
+        for page in (
+            b"\xef\xbb\xbf<p>\xc3\xa9", b'<meta charset="iso-8859-1"><p>\xe9\x93\r\n',
+            "\ufeff<p>é".encode("utf-16-le"), b'<?xml version="1.0" encoding="koi8-r"?><p>\xe1</p>',
+            b"<meta http-equiv=content-type content='text/html; charset=koi8-r'><p>\xe1",
+        ):
+            self.assertEqual(inline(page), page)
+        self.assertEqual(inline(b"<meta charset=latin1><p>\xe9", "p { n: 'é—水' }"),
+                         b"<meta charset=latin1><p style=\"n: '\xe9\x97&#27700;'\">\xe9")
+        with self.assertRaises(ValueError):
+            inline(b"<p>\xff")
+
+    def test_doctype_stays_first(self):
+        self.assertEqual(inline("<!DOCTYPE html>x", "@x;"), "<!DOCTYPE html><style>\n@x;\n</style>x")
+
+    def test_time_of_hostile_text(self):
+        for unit in ("<a ", '<a "', "<a x=", "<!--", "<a x='", "</a", "<![CDATA["):
+            page = unit * (100_000 // len(unit))
+            self.assertEqual(inline(page, "a { n: 1 }"), page)
+
+    def test_xml(self):
+        self.assertEqual(
+            inline('<s:svg xmlns:s="x"><s:style><![CDATA[a > b, .c{n:1} B{m:2} a:hover{o:3}]]></s:style>'
+                   '<a><b/></a></s:svg>'.replace("<s:svg", "<?xml version='1.0'?><s:svg")),
+            "<?xml version='1.0'?><s:svg xmlns:s=\"x\"><s:style>\na:hover {o:3}\n</s:style>"
+            '<a><b style="n: 1"/></a></s:svg>')
+        self.assertEqual(inline("<svg><RECT/></svg>", "rect { n: 1 }"), "<svg><RECT/></svg>")
+        self.assertEqual(inline("<svg><a/></svg>", "a:hover { n: 1 }"),
+                         "<svg><style>\na:hover { n: 1 }\n</style><a/></svg>")
+
+
+class KeptRules(unittest.TestCase):
+    """What stays in a sheet keeps what it has in a browser."""
+
+    def test_what_could_be_overridden_stays(self):
+        css = "a { color: blue; top: 1px } .x { color: green } a:hover { color: red } b { color: blue }"
+        self.assertEqual(
+            inline("<a class=x>1</a><b>2</b>", css),
+            "<style>\na { color: blue }\n.x { color: green }\na:hover { color: red }\n</style>"
+            '<a class=x style="top: 1px">1</a><b style="color: blue">2</b>')
+
+    def test_what_cannot_be_is_written(self):
+        for css, style in (
+            ("a:hover { n: 1 } #i { n: 2 }", ""),
+            ("a { n: 1 } @media x { a { n: 2 !important } }", "n: 1"),
+            ("a { n: 1 !important } a:hover { n: 2 }", "n: 1 !important"),
+            ("a { n: 1 } a::before { n: 2 }", "n: 1"),
+            ("a { n: 1 } b:hover { n: 2 }", "n: 1"),
+            ("@layer x { a { n: 2 } } a { n: 1 }", "n: 1"),
+            ("b a:hover { n: 1 } a { n: 2 }", "n: 2"),
+            ("a:hover { margin-top: 1px } a { margin: 0 }", ""),
+            ("a { n: 1 } @media x { a { n: 2 } }", ""),
+            ("a { n: 1 } a { & b { n: 2 } }", ""),
+            ("a { n: 1 !important } @layer x { a { n: 2 !important } }", ""),
+        ):
+            self.assertEqual(style_of(css, "<a>"), style, css)
+
+    def test_a_value_that_a_browser_may_not_know(self):
+        self.assertEqual(style_of(".a { n: red } .b { n: 1px } p.a.b { n: bogus(1) }"), "n: 1px; n: bogus(1)")
+        self.assertEqual(style_of(".a { n: flex } p.b { n: grid }"), "n: flex; n: grid")
+        self.assertEqual(style_of(".a { n: flex } p.b { n: block }"), "n: block")
+
+    def test_lists_that_browsers_drop(self):
+        for selector in ("p:nth-child(x)", "p:not()", "p[a=1]", "p:lang(a, b)", "p:nothing"):
+            self.assertEqual(style_of(f"{selector}, p {{ n: 1 }}"), "", selector)
+
+    def test_rules_for_clients(self):
+        page = "<style>#outlook a { n: 1 } .ExternalClass, .x { m: 2 } .y { o: 3 }</style><a>"
+        self.assertEqual(inline(page), "<style>\n#outlook a { n: 1 }\n.ExternalClass { m: 2 }\n</style><a>")
+
+    def test_style_elements(self):
+        for attributes in ("title=x", "media=print", "type='text/css '"):
+            page = f"<style {attributes}>a {{ n: 1 }}</style><a>"
+            self.assertEqual(inline(page), page)
+        page = "<template><style>a { n: 1 }</style><a></a></template><a>"
+        self.assertEqual(inline(page), page)
+        self.assertEqual(inline("<style TYPE='TEXT/CSS' MEDIA=ALL>a { n: 1 }</style><a>"), '<a style="n: 1">')
+        self.assertEqual(inline("<p><style>p { n: 1 }</style>"), '<p style="n: 1"><style></style>')
+
+
 class Injection(unittest.TestCase):
     """What a sheet or a page says stays in the style element or attribute that it is written in."""
 
@@ -118,12 +233,12 @@ class Injection(unittest.TestCase):
 
     def test_references_in_xml(self):
         page = '<?xml version="1.0"?><html><head/><body><p/></body></html>'
-        css = "p{content:'<&]]>'} p:hover{content:'</style>&amp;'} @media x{p>b{n:1}}"
+        css = "p{quotes:'<&]]>'} p:hover{content:'</style>&amp;'} @media x{p>b{n:1}}"
         self.assertEqual(
             inline(page.replace("<head/>", "<head></head>"), css),
             '<?xml version="1.0"?><html><head><style>\np:hover {content:\'&lt;/style>&amp;amp;\'}\n'
             "@media x{p>b{n:1}}\n</style></head><body>"
-            "<p style=\"content: '&lt;&amp;]]>'\"/></body></html>")
+            "<p style=\"quotes: '&lt;&amp;]]>'\"/></body></html>")
 
     def test_content_of_style_elements_in_xml(self):
         for text in ("r:hover{a:'&lt;&amp;'} r{n:1}", "<![CDATA[r:hover{a:'<&'} r{n:1}]]>"):

@@ -5,6 +5,9 @@ import concurrent.futures
 import io
 import json
 import os
+import pathlib
+import pickle
+import subprocess
 import sys
 import tempfile
 import unittest
@@ -37,15 +40,32 @@ class Selectors(unittest.TestCase):
             self.assertEqual(simplecss.Selector(str(selector)), selector)
 
     def test_refusals(self):
-        for text, row, column in (("", 1, 1), ("a >", 1, None), ("a\n> > b", 2, None),
-                                  ("a:none", 1, 7), ("a, b", 1, 1), ("a {", 1, 3)):
+        for text, error in (
+            ("", "1:1: selector missing"),
+            ("a\n> > b", "2:3: unexpected combinator"),
+            ("a[b^=c]", "1:4: invalid attribute selector"),
+            ("a, b", "1:1: more than one selector"),
+        ):
             with self.assertRaises(simplecss.SelectorError, msg=text) as found:
                 simplecss.Selector(text)
             self.assertIsInstance(found.exception, ValueError)
-            self.assertTrue(found.exception.reason)
-            self.assertEqual(found.exception.row, row, text)
-            if column is not None:
-                self.assertEqual(found.exception.column, column, text)
+            self.assertEqual(str(found.exception), error, text)
+            position = f"{found.exception.row}:{found.exception.column}"
+            self.assertEqual(f"{position}: {found.exception.reason}", error)
+
+    def test_what_is_no_text(self):
+        for value, name in ((b"a", "bytes"), (["a"], "list"), (None, "NoneType"), (7, "int")):
+            for call in (simplecss.Selector, simplecss.StyleSheet, simplecss.Tree.from_html,
+                         simplecss.Tree.from_xml, simplecss.Tree().select):
+                with self.assertRaisesRegex(TypeError, f"str.* expected, not {name}"):
+                    call(value)
+        with self.assertRaisesRegex(TypeError, "read the file first"):
+            simplecss.Tree.from_html(pathlib.Path("a.html"))
+
+    def test_matches(self):
+        tree = simplecss.Tree.from_html("<ul><li class=a><b>")
+        self.assertTrue(simplecss.Selector("LI.a").matches(tree.select_one("li")))
+        self.assertFalse(simplecss.Selector("li.b").matches(tree.select_one("li")))
 
     def test_surrogates_are_refused(self):
         with self.assertRaises(ValueError):
@@ -87,18 +107,42 @@ class Sheets(unittest.TestCase):
 
 class Trees(unittest.TestCase):
     def names(self, text):
-        tree = simplecss.Tree.from_html(text)
-        return [(element.name, element.parent) for element in tree.elements]
+        """Returns the names and the indices of the parents of the elements of a part of a page."""
+        tree = simplecss.Tree.from_html(text, is_part=True)
+        return [(element.name, None if element.parent is None else element.parent.index)
+                for element in tree]
 
     def test_end_tags_may_be_left_out(self):
         self.assertEqual(self.names("<ul><li>a<li>b<ul><li>c</ul><li>d</ul><p>e<p>f<div>g"),
                          [("ul", None), ("li", 0), ("li", 0), ("ul", 2), ("li", 3), ("li", 0),
                           ("p", None), ("p", None), ("div", None)])
-        self.assertEqual(self.names("<table><tr><td>a<td>b<tr><th>c<tbody><tr><td>d</table><b>"),
-                         [("table", None), ("tr", 0), ("td", 1), ("td", 1), ("tr", 0), ("th", 4),
-                          ("tbody", 0), ("tr", 6), ("td", 7), ("b", None)])
         self.assertEqual(self.names("<dl><dt>a<dd>b<dt>c</dl>"),
                          [("dl", None), ("dt", 0), ("dd", 0), ("dt", 0)])
+        self.assertEqual(self.names("<p><center>a</center><p><dialog>b"),
+                         [("p", None), ("center", None), ("p", None), ("dialog", None)])
+
+    def test_elements_that_a_text_leaves_out(self):
+        self.assertEqual(self.names("<table><col><tr><td>a"),
+                         [("table", None), ("colgroup", 0), ("col", 1), ("tbody", 0), ("tr", 3), ("td", 4)])
+        tree = simplecss.Tree.from_html("x")
+        self.assertEqual([element.name for element in tree], ["html", "head", "body"])
+        self.assertEqual(tree[2].text, "x")
+        self.assertEqual([element.name for element in simplecss.Tree.from_html("")], ["html", "head", "body"])
+
+    def test_misnested_tags(self):
+        self.assertEqual(self.names("<b><p>a</b>b</p>"), [("b", None), ("p", None), ("b", 1)])
+        self.assertEqual(self.names("<table><b>a<tr><td>b</table>"),
+                         [("b", None), ("table", None), ("tbody", 1), ("tr", 2), ("td", 3)])
+        self.assertEqual(self.names("</p></br><image>"), [("p", None), ("br", None), ("img", None)])
+
+    def test_second_html_and_body(self):
+        tree = simplecss.Tree.from_html("<html a=1><body b=2><html a=3 c=4><body b=5 d=6>")
+        self.assertEqual(tree[0].attributes, {"a": "1", "c": "4"})
+        self.assertEqual(tree.select_one("body").attributes, {"b": "2", "d": "6"})
+
+    def test_templates_and_comments(self):
+        self.assertEqual(self.names("<template><p></template><i>"), [("template", None), ("i", None)])
+        self.assertEqual(self.names("<!--><b><!-- > --!><i><!-- <u>"), [("b", None), ("i", 0)])
 
     def test_void_and_raw(self):
         self.assertEqual(self.names("<p><BR><img src=a><style><b></style><title><i></title>"),
@@ -107,71 +151,151 @@ class Trees(unittest.TestCase):
                          [("svg", None), ("path", 0), ("g", 0), ("div", None), ("b", 3)])
 
     def test_attributes(self):
-        tree = simplecss.Tree.from_html("<A Href='x&amp;y' href=z hidden>")
-        self.assertEqual(tree.elements[0].attributes, {"href": "x&y", "hidden": ""})
-        self.assertEqual(tree.elements[0].row, 1)
-        self.assertEqual(tree.elements[0].column, 1)
+        tree = simplecss.Tree.from_html("\n<A Href='x&amp;y&copy=1' href=z hidden b=/>")
+        link = tree.select_one("a")
+        self.assertEqual(link.attributes, {"href": "x&y&copy=1", "hidden": "", "b": "/"})
+        self.assertEqual((link.row, link.column), (2, 1))
+        self.assertIsNone(tree[0].row)
+
+    def test_time_of_hostile_text(self):
+        for unit in ("<a ", '<a "', "<a x=", '<a x="', "<!--", "<b id=1><p>", "</b>", "<table><b>"):
+            simplecss.Tree.from_html(unit * (200_000 // len(unit)))
+        with self.assertRaises(simplecss.TreeError):
+            simplecss.Tree.from_html("".join(f"<b id={number}><p>" for number in range(20_000)))
 
     def test_xml(self):
         text = ('<svg xmlns="http://www.w3.org/2000/svg" xmlns:x="http://www.w3.org/1999/xlink">'
-                '<linearGradient id="a"/><!-- b --><use x:href="#a"/></svg>')
+                '<linearGradient id="a"/><!-- b -->\n é<use x:href="#a"/></svg>')
         tree = simplecss.Tree.from_xml(text)
-        self.assertEqual([element.name for element in tree.elements],
-                         ["svg", "linearGradient", "use"])
-        self.assertEqual(tree.select("use[href='#a'], linearGradient"), [1, 2])
+        self.assertEqual([element.name for element in tree], ["svg", "linearGradient", "use"])
+        self.assertEqual(tree.select("use[href='#a'], linearGradient"), [tree[1], tree[2]])
+        self.assertEqual(tree.select("lineargradient"), [])
+        self.assertEqual([(element.row, element.column) for element in tree], [(1, 1), (1, 80), (2, 3)])
+        self.assertEqual(tree[2].source, '<use x:href="#a"/>')
+        self.assertEqual(tree[0].text, "\n é")
         root = xml.etree.ElementTree.ElementTree(xml.etree.ElementTree.fromstring(text))
-        self.assertEqual(simplecss.Tree.from_etree(root).elements, tree.elements)
+        other = simplecss.Tree.from_etree(root)
+        self.assertEqual([(each.name, each.attributes) for each in other],
+                         [(each.name, each.attributes) for each in tree])
+        self.assertIs(other[2].node, root.getroot()[1])
+        self.assertEqual(other[0].text, "\n é")
         with self.assertRaises(simplecss.TreeError) as found:
             simplecss.Tree.from_xml("<a>\n</b>")
-        self.assertEqual((found.exception.row, found.exception.column), (2, 3))
+        self.assertEqual(str(found.exception), "2:3: mismatched tag")
 
-    def test_deep_and_empty(self):
+    def test_deep(self):
         tree = simplecss.Tree.from_html("<div>" * 20000)
-        self.assertEqual(len(tree), 20000)
-        self.assertEqual(tree.select("div:first-child"), list(range(20000)))
-        self.assertEqual(simplecss.Tree.from_html("").select("a"), [])
+        self.assertEqual(len(tree), 20003)
+        self.assertEqual(len(tree.select("div:first-child")), 20000)
 
     def test_any_value_comes_through(self):
         values = ["", " ", "a=b", "\t", "\n", "a\nb", "a\tb", "a b", "é", "\x01", "'"]
-        tree = simplecss.Tree(simplecss.Element("a", {"k": value}, None) for value in values)
-        self.assertEqual(tree.select("[k]"), list(range(len(values))))
-        self.assertEqual(tree.select("[k='a b']"), [values.index("a b")])
-        self.assertEqual(tree.select("[k~='a']"), [values.index("a b")])
-        self.assertEqual(tree.select("[k='\x01']"), [values.index("\x01")])
-        self.assertEqual(tree.select("[k='a=b']"), [values.index("a=b")])
-        self.assertEqual(tree.select("[k='a\tb']"), [values.index("a\tb")])
-        self.assertEqual(tree.select("[k='\t']"), [values.index("\t")])
-        self.assertEqual(tree.select("[k='']"), [values.index("")])
+        tree = simplecss.Tree(simplecss.Item("a", {"k": value}) for value in values)
+
+        def found(selectors):
+            return [values[element.index] for element in tree.select(selectors)]
+
+        self.assertEqual(found("[k]"), values)
+        for value in ("a b", "\x01", "a=b", "a\tb", "\t", ""):
+            self.assertEqual(found(f"[k='{value}']"), [value])
+        self.assertEqual(found("[k~='a']"), ["a b"])
 
     def test_class_words(self):
         tree = simplecss.Tree.from_html('<a class="x\n\ty">')
-        self.assertEqual(tree.select(".x"), [0])
-        self.assertEqual(tree.select(".y"), [0])
-        self.assertEqual(tree.select("[class='x  y']"), [])
+        self.assertEqual(tree.select(".x.y"), [tree[3]])
+        self.assertEqual(tree.select("[class='x  y'], [class='x y']"), [])
 
     def test_languages(self):
-        tree = simplecss.Tree.from_html("<div lang=de-AT><p>a<p lang=en>b</div><p>c")
-        self.assertEqual(tree.select(":lang(de)"), [0, 1])
-        self.assertEqual(tree.select("p:lang(en)"), [2])
+        tree = simplecss.Tree.from_html("<div lang=de-AT><p>a<p lang=EN>b</div><p>c")
+        self.assertEqual([each.name for each in tree.select(":lang(de)")], ["div", "p"])
+        self.assertEqual([each.text for each in tree.select("p:lang(En)")], ["b"])
+
+    def test_html_compares_without_case(self):
+        tree = simplecss.Tree.from_html("<!DOCTYPE html><A HREF=x><INPUT TYPE=Text TITLE=Ab CLASS=C>")
+        for selectors in ("A[Href]", "input[type=TEXT]", "INPUT", "A:link"):
+            self.assertEqual(len(tree.select(selectors)), 1, selectors)
+        for selectors in ("[title=ab]", ".c", "a[HREF=X]"):
+            self.assertEqual(tree.select(selectors), [], selectors)
+        self.assertEqual(len(simplecss.Tree.from_html("<p class=A id=B>").select("p.a#b")), 1)
+
+    def test_states(self):
+        page = "<a href=x>1</a><a>2</a><a href=y id=y>3</a><map><area href>"
+        tree = simplecss.Tree.from_html(page)
+        self.assertEqual([each.name for each in tree.select(":link")], ["a", "a", "area"])
+        self.assertEqual(tree.select("a:hover, a:visited"), [])
+        tree = simplecss.Tree.from_html(page, {"#y": "visited", "a": ["hover"]})
+        self.assertEqual([each.text for each in tree.select("a:link")], ["1"])
+        self.assertEqual([each.text for each in tree.select("a:visited:hover")], ["3"])
+        self.assertEqual(tree.select_one("#y").states, {"visited", "hover"})
+        with self.assertRaisesRegex(ValueError, "seen"):
+            simplecss.Tree.from_html(page, {"a": "seen"})
+        sheet = simplecss.StyleSheet("a:link { b: c } a:active { b: d }")
+        self.assertEqual(sheet.style(tree, "b")[tree.select_one("a")].value, "c")
 
     def test_names_that_cannot_be_matched(self):
-        for element in (simplecss.Element("", {}, None), simplecss.Element("a", {}, 0)):
+        for item in (simplecss.Item("", {}), simplecss.Item("a", {}, 0)):
             with self.assertRaises(simplecss.TreeError):
-                simplecss.Tree([element])
-        tree = simplecss.Tree([simplecss.Element("a\tb", {"k=": "v"}, None, 3, 4)])
-        self.assertEqual(tree.select("*"), [0])
+                simplecss.Tree([item])
+        tree = simplecss.Tree([simplecss.Item("a\tb", {"k=": "v"}, None, 3, 4)])
+        self.assertEqual(tree.select("*"), [tree[0]])
         self.assertEqual(tree.select("a"), [])
+        with self.assertRaises(ValueError):
+            simplecss.Tree([simplecss.Item("\ud800")]).select("a")
+
+
+class Elements(unittest.TestCase):
+    def setUp(self):
+        self.tree = simplecss.Tree.from_html("<ul id=u><li class='a b'>one <i>1</i> <li>two</ul>three")
+
+    def test_what_an_element_has(self):
+        first = self.tree.select_one("li")
+        self.assertEqual((first.index, first.name, first.attributes), (4, "li", {"class": "a b"}))
+        self.assertEqual(first.parent, self.tree.select_one("ul"))
+        self.assertEqual([each.name for each in first.parent.children], ["li", "li"])
+        self.assertEqual((first.text, first.source), ("one 1 ", "<li class='a b'>one <i>1</i> "))
+        self.assertEqual(self.tree.select_one("body").text, "one 1 twothree")
+        self.assertEqual((first.row, first.column, repr(first)), (1, 10, '<li class="a b">'))
+        self.assertIsNone(self.tree[0].parent)
+
+    def test_searches(self):
+        inner = self.tree.select_one("i")
+        self.assertTrue(inner.matches("u, li > i"))
+        self.assertFalse(inner.matches("ul > i"))
+        self.assertEqual(inner.closest("ul, li").name, "li")
+        self.assertIsNone(inner.closest("table"))
+        self.assertEqual(self.tree.select_one("ul").select("*"), self.tree.select("li, i"))
+        self.assertEqual(self.tree.select_one("li").select("li"), [])
+        self.assertEqual(list(self.tree.iselect("li")), self.tree.select("li"))
+        self.assertIsNone(self.tree.select_one("table"))
+
+    def test_values_can_be_pickled(self):
+        first = pickle.loads(pickle.dumps(self.tree.select_one("li")))
+        self.assertEqual((first.text, first.row, len(first.tree.select("li"))), ("one 1 ", 1, 2))
+        sheet = simplecss.StyleSheet("a{b:c}", "d{e:f}")
+        self.assertEqual(pickle.loads(pickle.dumps(sheet)).rules, sheet.rules)
+        for error in (simplecss.SelectorError("x", 1, 2), simplecss.TreeError("x", None, None)):
+            self.assertEqual(str(pickle.loads(pickle.dumps(error))), str(error))
+
+    def test_answers_by_element(self):
+        sheet = simplecss.StyleSheet("li { color: red } .a { color: blue }")
+        first = self.tree.select_one("li")
+        self.assertEqual(sheet.match(self.tree)[first], [0, 1])
+        self.assertEqual(sheet.styles(self.tree)[first], [("color", "blue", False)])
+        self.assertEqual(sheet.style(self.tree, "color")[first].value, "blue")
 
 
 class Matching(unittest.TestCase):
     def setUp(self):
         self.sheet = simplecss.StyleSheet(SHEET)
-        self.tree = simplecss.Tree.from_html(PAGE)
+        self.tree = simplecss.Tree.from_html(PAGE, is_part=True)
+
+    def found(self, selectors):
+        return [element.index for element in self.tree.select(selectors)]
 
     def test_select(self):
-        self.assertEqual(self.tree.select("li"), [1, 2])
-        self.assertEqual(self.tree.select("p, .a, #x"), [1, 2, 3])
-        self.assertEqual(self.tree.select("li + li"), [2])
+        self.assertEqual(self.found("li"), [1, 2])
+        self.assertEqual(self.found("p, .a, #x"), [1, 2, 3])
+        self.assertEqual(self.found("li + li"), [2])
         for text in ("", "li,", ",li", "li p {", "a:none"):
             with self.assertRaises(simplecss.SelectorError, msg=text):
                 self.tree.select(text)
@@ -191,11 +315,13 @@ class Matching(unittest.TestCase):
 
     def test_threads(self):
         sheet = simplecss.StyleSheet(SHEET * 50)
-        tree = simplecss.Tree.from_html(PAGE * 50)
+        tree = simplecss.Tree.from_html(PAGE * 50, is_part=True)
+        # Of `li`, of `ul > .a` and `p:hover` one after another, and of `#x`, fifty each.
+        first, second = [*range(50), *range(50, 150, 2)], [*range(50), *range(150, 200)]
+        wanted = [[], first, second, []] * 50
         with concurrent.futures.ThreadPoolExecutor(8) as pool:
             answers = list(pool.map(lambda _: sheet.match(tree), range(32)))
-        self.assertTrue(all(answer == answers[0] for answer in answers))
-        self.assertEqual(len(answers[0]), len(tree))
+        self.assertEqual(answers, [wanted] * 32)
 
 
 class LongTexts(unittest.TestCase):
@@ -256,27 +382,115 @@ class CommandLine(unittest.TestCase):
             with open(name, "w", encoding="utf-8") as file:
                 file.write(text)
 
-    def test_commands(self):
-        status, out, _ = self.run_command("select", "li", self.page)
-        self.assertEqual(status, 0)
-        self.assertEqual(out.splitlines()[0], f'{self.page}:1:5: <li class="a b">')
-        status, out, _ = self.run_command("match", "--json", self.sheet, self.page)
-        self.assertEqual(json.loads(out.splitlines()[1]),
-                         {"element": 1, "name": "li", "rules": [0, 1]})
-        status, out, _ = self.run_command("style", "color", self.sheet, self.page)
-        self.assertEqual(len(out.splitlines()), 2)
-        status, out, _ = self.run_command("inline", self.page, self.sheet)
-        self.assertIn('<li class="a b" style="', out)
-        self.assertEqual(self.run_command("lint", self.sheet)[:2], (0, ""))
+    def lines(self, *words):
+        status, out, err = self.run_command(*words)
+        self.assertEqual((status, err), (0, ""), words)
+        return out.splitlines()
+
+    def test_select(self):
+        self.assertEqual(self.lines("select", "li", self.page)[0], f'{self.page}:1:5: <li class="a b">')
+        self.assertEqual(self.lines("select", "body", self.page), [f"{self.page}: <body>"])
+        self.assertEqual(self.lines("select", "--text", "li, p", self.page), ["one", "two", "three"])
+        self.assertEqual(self.lines("select", "--attr", "id", "li", self.page), ["x"])
+        self.assertEqual(self.lines("select", "--html", "li", self.page)[1], "<li id=x>two")
+        self.assertEqual(self.lines("select", "--count", "li", self.page), ["2"])
+        self.assertEqual(self.lines("select", "--count", "li", self.page, self.page),
+                         [f"{self.page}:2"] * 2)
+        self.assertEqual(json.loads(self.lines("select", "--json", "#x", self.page)[0]), {
+            "file": self.page, "element": 5, "name": "li", "row": 1, "column": 24,
+            "path": "html > body:nth-child(2) > ul:nth-child(1) > li:nth-child(2)",
+            "attributes": {"id": "x"}})
+        self.assertEqual(self.run_command("select", "--quiet", "li", self.page), (0, "", ""))
+        self.assertEqual(self.run_command("select", "--quiet", "table", self.page), (1, "", ""))
+
+    def test_match_and_style(self):
+        self.assertEqual(json.loads(self.lines("match", "--json", self.sheet, self.page)[4]),
+                         {"element": 4, "name": "li", "rules": [0, 1]})
+        self.assertEqual(len(self.lines("style", "color", self.sheet, self.page)), 2)
+        with open(self.page, "a", encoding="utf-8") as file:
+            file.write("<style>p { color: green }</style>")
+        self.assertEqual(self.lines("style", "color", self.page), [f"{self.page}:1:41: <p> color: green"])
+
+    def test_inline(self):
+        page = b"\xef\xbb\xbf<p>\xc3\xa9\r\n<li>"
+        with open(self.page, "wb") as file:
+            file.write(page)
+        words = [sys.executable, "-m", "simplecss", "inline", self.page, self.sheet]
+        folder = os.path.dirname(os.path.dirname(simplecss.__file__))
+        made = subprocess.run(words, env={**os.environ, "PYTHONPATH": folder}, capture_output=True)
+        self.assertEqual((made.returncode, made.stderr), (0, b""))
+        self.assertEqual(made.stdout, page.replace(b"<p>", b"<style>\r\np:hover { top: 1px }\r\n</style><p>")
+                         .replace(b"<li>", b'<li style="color: red; margin: 0">'))
+
+    def test_lint(self):
+        self.assertEqual(self.run_command("lint", self.sheet), (0, "", ""))
+        with open(self.sheet, "w", encoding="utf-8") as file:
+            file.write("a { b: c }\n@x;")
+        finding = f"{self.sheet}:2:1: '@x': at-rule not supported\n"
+        self.assertEqual(self.run_command("lint", self.sheet), (1, finding, ""))
+        status, out, err = self.run_command("lint", self.sheet + "x", self.sheet)
+        self.assertEqual((status, out, err.count("\n")), (4, finding, 1))
+        self.assertEqual(self.run_command("lint", "--ignore", "at-rule", self.sheet)[0], 0)
+        self.assertEqual(self.run_command("lint", "--select", "at-rule", self.sheet)[0], 1)
+        with open(self.page, "w", encoding="utf-8") as file:
+            file.write("<p\n style='b: c; d'>\n<style>\n  @x; </style>")
+        status, out, _ = self.run_command("lint", "--format", "json", self.page)
+        self.assertEqual([tuple(json.loads(line)[key] for key in ("row", "column", "kind"))
+                          for line in out.splitlines()],
+                         [(2, 15, "broken-declaration"), (4, 3, "at-rule-not-supported")])
+
+    def test_formats_of_lint(self):
+        with open(self.sheet, "w", encoding="utf-8") as file:
+            file.write("@x 50%\n{}")
+        _, out, _ = self.run_command("lint", "--format", "github", self.sheet)
+        self.assertEqual(out, f"::warning file={self.sheet},line=1,col=1,title=at-rule-not-supported::"
+                              "'@x 50%25': at-rule not supported\n")
+        _, out, _ = self.run_command("lint", "--format", "sarif", self.sheet)
+        log = json.loads(out)
+        self.assertEqual(log["version"], "2.1.0")
+        result = log["runs"][0]["results"][0]
+        self.assertEqual(result["ruleId"], log["runs"][0]["tool"]["driver"]["rules"][0]["id"])
+        self.assertEqual(result["locations"][0]["physicalLocation"]["region"],
+                         {"startLine": 1, "startColumn": 1})
+        _, out, _ = self.run_command("lint", "--format", "checkstyle", self.sheet)
+        error = xml.etree.ElementTree.fromstring(out.encode())[0][0]
+        self.assertEqual((error.get("line"), error.get("message")), ("1", "'@x 50%': at-rule not supported"))
 
     def test_statuses(self):
         self.assertEqual(self.run_command("select", "li,", self.page)[0], 1)
         self.assertEqual(self.run_command("select", "li", self.page + "x")[0], 4)
         self.assertEqual(self.run_command("none")[0], 2)
-        with open(self.sheet, "w", encoding="utf-8") as file:
-            file.write("a { b: c }\n@x;")
-        status, out, _ = self.run_command("lint", self.sheet)
-        self.assertEqual((status, out), (1, f"{self.sheet}:2:1: '@x': at-rule not supported\n"))
+        self.assertEqual(self.run_command("select", "\udcff", self.page),
+                         (2, "", "simplecss: a word or a name of a file is not UTF-8\n"))
+        self.assertEqual(self.run_command("--version")[:2], (0, f"simplecss {simplecss.__version__}\n"))
+
+    def run_shell(self, line):
+        folder = os.path.dirname(os.path.dirname(simplecss.__file__))
+        env = {**os.environ, "PYTHONPATH": folder, "PAGE": self.page,
+               "RUN": f"{sys.executable} -m simplecss"}
+        made = subprocess.run(["sh", "-c", line], env=env, capture_output=True, text=True)
+        return made.returncode, made.stdout, made.stderr
+
+    def test_streams(self):
+        with open(self.page, "w", encoding="utf-8") as file:
+            file.write("<p>" * 20_000)
+        self.assertEqual(self.run_shell("$RUN select p $PAGE | head -n 1"),
+                         (0, f"{self.page}:1:1: <p>\n", ""))
+        if os.path.exists("/dev/full"):
+            self.assertEqual(self.run_shell("$RUN select p $PAGE >/dev/full"),
+                             (4, "", "simplecss: cannot write: No space left on device\n"))
+        self.assertEqual(self.run_shell("$RUN select p - <&-")[::2],
+                         (4, "simplecss: cannot read -: standard input is closed\n"))
+        self.assertEqual(self.run_shell("$RUN select p $PAGE >&-")[::2],
+                         (4, "simplecss: standard output is closed\n"))
+
+
+class Versions(unittest.TestCase):
+    def test_of_the_header(self):
+        top = os.path.dirname(os.path.dirname(os.path.dirname(os.path.abspath(simplecss.__file__))))
+        header = os.path.join(top, "include", "simplecss.h")
+        with open(header, encoding="utf-8") as file:
+            self.assertIn(f'#define SIMPLECSS_VERSION "{simplecss.__version__}"\n', file.read())
 
 
 class Syntax(unittest.TestCase):

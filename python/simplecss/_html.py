@@ -1,0 +1,1385 @@
+"""The tree that a browser makes of an HTML document (HTML Standard, "Tree construction").
+
+Scripts are taken not to run, so that `noscript` has elements.
+"""
+
+from __future__ import annotations
+
+import functools
+import re
+from typing import Callable, Dict, FrozenSet, List, Optional, Tuple, Union
+
+from ._tokens import BLANKS, DOCTYPE, END, EOF, START, TEXT, Token, Tokenizer, is_blank
+
+HTML, SVG, MATH = range(3)
+
+
+class TooDeep(ValueError):
+    """Elements are nested in a way that takes time or elements out of proportion."""
+
+
+def _words(text: str) -> FrozenSet[str]:
+    return frozenset(text.split())
+
+
+VOID = _words(
+    "area base basefont bgsound br col embed frame hr img input keygen link meta param source"
+    " track wbr"
+)
+_FORMATTING = _words("a b big code em font i nobr s small strike strong tt u")
+_HEADINGS = _words("h1 h2 h3 h4 h5 h6")
+_BLOCKS = _words(
+    "address article aside blockquote center details dialog dir div dl fieldset figcaption figure"
+    " footer header hgroup main menu nav ol p search section summary ul"
+)
+_ENDED = (_BLOCKS - {"p"}) | {"button", "listing", "pre", "select"}
+_OBJECTS = _words("applet marquee object")
+_SPECIAL = (
+    _BLOCKS
+    | _HEADINGS
+    | _OBJECTS
+    | (VOID - {"bgsound"})
+    | _words(
+        "bgsound body button caption colgroup dd dt form frameset head html iframe li listing"
+        " noembed noframes noscript plaintext pre script select style table tbody td template"
+        " textarea tfoot th thead title tr xmp"
+    )
+) - _words("dialog")
+_IMPLIED = _words("dd dt li optgroup option p rb rp rt rtc")
+_THOROUGHLY = _IMPLIED | _words("caption colgroup tbody td tfoot th thead tr")
+_HEAD_PARTS = _words("base basefont bgsound link meta noframes script style template title")
+_TABLE_PARTS = _words("caption col colgroup tbody td tfoot th thead tr")
+_BODIES = _words("tbody tfoot thead")
+_CELLS = _words("td th")
+_ROWS = _BODIES | {"tr"}
+_RAW = _words("title textarea style xmp iframe noembed noframes script plaintext")
+_FOSTERING = _ROWS | {"table"}
+
+# The elements that a search of the open ones does not look past.
+_SCOPE = _words("applet caption html table td th marquee object select template")
+_LIST_SCOPE = _SCOPE | {"ol", "ul"}
+_BUTTON_SCOPE = _SCOPE | {"button"}
+_TABLE_SCOPE = _words("html table template")
+_SVG_SCOPE = _words("foreignObject desc title")
+_MATH_SCOPE = _words("mi mo mn ms mtext annotation-xml")
+_MATH_TEXTS = _words("mi mo mn ms mtext")
+
+_BREAKOUT = _words(
+    "b big blockquote body br center code dd div dl dt em embed h1 h2 h3 h4 h5 h6 head hr i img li"
+    " listing menu meta nobr ol p pre ruby s small span strong strike sub sup table tt u ul var"
+)
+_SVG_NAMES = {
+    name.lower(): name
+    for name in (
+        "altGlyph altGlyphDef altGlyphItem animateColor animateMotion animateTransform clipPath"
+        " feBlend feColorMatrix feComponentTransfer feComposite feConvolveMatrix feDiffuseLighting"
+        " feDisplacementMap feDistantLight feDropShadow feFlood feFuncA feFuncB feFuncG feFuncR"
+        " feGaussianBlur feImage feMerge feMergeNode feMorphology feOffset fePointLight"
+        " feSpecularLighting feSpotLight feTile feTurbulence foreignObject glyphRef linearGradient"
+        " radialGradient textPath"
+    ).split()
+}
+_SVG_ATTRIBUTES = {
+    name.lower(): name
+    for name in (
+        "attributeName attributeType baseFrequency baseProfile calcMode clipPathUnits"
+        " diffuseConstant edgeMode filterUnits glyphRef gradientTransform gradientUnits"
+        " kernelMatrix kernelUnitLength keyPoints keySplines keyTimes lengthAdjust"
+        " limitingConeAngle markerHeight markerUnits markerWidth maskContentUnits maskUnits"
+        " numOctaves pathLength patternContentUnits patternTransform patternUnits pointsAtX"
+        " pointsAtY pointsAtZ preserveAlpha preserveAspectRatio primitiveUnits refX refY"
+        " repeatCount repeatDur requiredExtensions requiredFeatures specularConstant"
+        " specularExponent spreadMethod startOffset stdDeviation stitchTiles surfaceScale"
+        " systemLanguage tableValues targetX targetY textLength viewBox viewTarget"
+        " xChannelSelector yChannelSelector zoomAndPan"
+    ).split()
+}
+# The public identifiers of doctypes by which browsers show a page as old ones did.
+_QUIRKS = (
+    "+//silmaril//dtd html pro v0r11 19970101//", "-//as//dtd html 3.0 aswedit + extensions//",
+    "-//advasoft ltd//dtd html 3.0 aswedit + extensions//", "-//ietf//dtd html",
+    "-//metrius//dtd metrius presentational//", "-//microsoft//dtd internet explorer",
+    "-//netscape comm. corp.//dtd", "-//o'reilly and associates//dtd html",
+    "-//softquad", "-//spyglass//dtd html 2.0 extended//", "-//sq//dtd html 2.0 hotmetal",
+    "-//sun microsystems corp.//dtd hotjava", "-//w3c//dtd html 3", "-//w3c//dtd html 4.0 frameset",
+    "-//w3c//dtd html 4.0 transitional//", "-//w3c//dtd html experimental", "-//w3c//dtd w3 html",
+    "-//w3o//dtd w3 html", "-//webtechs//dtd mozilla html",
+)
+_DOCTYPE = re.compile(
+    r"""<!doctype[\s/]*(\w*)[^\S>]*(?:(public|system)\s*("[^">]*"|'[^'>]*')\s*("[^">]*"|'[^'>]*')?)?""",
+    re.IGNORECASE,
+)
+
+
+def is_quirky(doctype: str) -> bool:
+    """Whether a doctype is one by which browsers show a page as old ones did."""
+    found = _DOCTYPE.match(doctype)
+    if not found or found.group(1).lower() != "html":
+        return True
+    kind, first, second = (group.lower().strip("\"'") if group else "" for group in found.groups()[1:])
+    if kind == "system":
+        return first == "http://www.ibm.com/data/dtd/v11/ibmxhtml1-transitional.dtd"
+    if kind == "" and re.match(r"<!doctype\s+html\s*>", doctype, re.IGNORECASE) is None:
+        return True
+    if first.startswith(_QUIRKS) or first in ("-//w3c//dtd html 4.0 transitional//en", "html"):
+        return True
+    is_old = first.startswith(("-//w3c//dtd html 4.01 frameset//", "-//w3c//dtd html 4.01 transitional//"))
+    return is_old and not second
+
+
+Text = Tuple[int, int]
+
+
+class Node:
+    """An element. `tag` is where its start tag is, `None` if the document has none for it; `end` is
+    where its end tag is, or where it ends without one."""
+
+    __slots__ = ("name", "attributes", "space", "parent", "children", "tag", "end", "is_open")
+
+    def __init__(
+        self,
+        name: str,
+        attributes: Dict[str, str],
+        space: int = HTML,
+        tag: Optional[Tuple[int, int]] = None,
+    ) -> None:
+        self.name = name
+        self.attributes = attributes
+        self.space = space
+        self.parent: Optional[Node] = None
+        # Elements, and of each text where it begins and ends.
+        self.children: List[Union[Node, Text]] = []
+        self.tag = tag
+        self.end = (0, 0)
+        self.is_open = False
+
+
+class Builder:
+    """Builds the elements of a document."""
+
+    def __init__(self, text: str, is_part: bool = False) -> None:
+        """Takes a document, or a part of one, as the content of a `body`."""
+        self.text = text
+        self.tokens = Tokenizer(text)
+        self.root = Node("html", {})
+        self.has_root = False
+        self.is_quirky = not is_part
+        self.open: List[Node] = []
+        # How many elements of each name are open.
+        self.counts: Dict[str, int] = {}
+        # The formatting elements that are not ended yet; `None` is a marker.
+        self.formatting: List[Optional[Node]] = []
+        self.head: Optional[Node] = None
+        self.form: Optional[Node] = None
+        self.may_be_frames = True
+        self.is_fostering = False
+        self.skips_newline = False
+        self.steps = 100 * (len(text) // 8 + 1000)
+        self.mode: Callable[[Token], None] = self._initial
+        self.table_mode: Callable[[Token], None] = self._in_body
+        self.templates: List[Callable[[Token], None]] = []
+        self.token = Token(TEXT, 0, 0)
+        # Where the doctype ends, or a mark of the byte order.
+        self.doctype_end = 1 if text.startswith("\ufeff") else 0
+        self.tokens.offset = self.doctype_end
+        if is_part:
+            self._push(self.root)
+            self.mode = self._in_body
+
+    def build(self) -> Node:
+        """Reads the document. Returns its root element."""
+        while True:
+            token = self.tokens.next()
+            self._process(token)
+            if token.kind == EOF:
+                while self.open:
+                    self._pop()
+                return self.root
+            top = self.open[-1] if self.open else None
+            self.tokens.has_cdata = top is not None and top.space != HTML
+
+    # ---- the open elements
+
+    def _spend(self, steps: int) -> None:
+        """Takes steps of those that the length of the document allows."""
+        self.steps -= steps
+        if self.steps < 0:
+            raise TooDeep("the elements are nested too deep")
+
+    def _push(self, node: Node) -> None:
+        node.is_open = True
+        self.open.append(node)
+        self.counts[node.name] = self.counts.get(node.name, 0) + 1
+
+    def _pop(self) -> Node:
+        node = self.open.pop()
+        self._set_ended(node)
+        return node
+
+    def _set_ended(self, node: Node) -> None:
+        """Notes that an element is no longer open, and where it ends."""
+        node.is_open = False
+        self.counts[node.name] -= 1
+        token = self.token
+        is_own = token.kind == END and token.name == node.name.lower()
+        if node.tag == (token.start, token.end):
+            node.end = (token.end, token.end)
+        else:
+            node.end = (token.start, token.end if is_own else token.start)
+
+    def _remove(self, node: Node) -> None:
+        """Removes an element from the open ones, if it is one."""
+        if not node.is_open:
+            return
+        for index in range(len(self.open) - 1, -1, -1):
+            if self.open[index] is node:
+                self._spend(len(self.open) - index)
+                del self.open[index]
+                self._set_ended(node)
+                return
+
+    def _top(self, *names: str) -> bool:
+        """Whether the innermost open element is an HTML element with one of the names."""
+        return self.open[-1].space == HTML and self.open[-1].name in names
+
+    def _top_in(self, names: FrozenSet[str]) -> bool:
+        """Whether the innermost open element is an HTML element with one of the names."""
+        return self.open[-1].space == HTML and self.open[-1].name in names
+
+    def _pop_until(self, *names: str) -> None:
+        """Ends the open elements up to one with one of the names."""
+        while len(self.open) > 1:
+            node = self._pop()
+            if node.space == HTML and node.name in names:
+                return
+
+    def _in_scope(self, names: FrozenSet[str], scope: FrozenSet[str] = _SCOPE) -> bool:
+        """Whether an open element has one of the names, and is not beyond one of the scope."""
+        for name in names:
+            if self.counts.get(name):
+                break
+        else:
+            return False
+        count = 0
+        for node in reversed(self.open):
+            count += 1
+            if node.space == HTML:
+                if node.name in names:
+                    self._spend(count)
+                    return True
+                ends = node.name in scope
+            elif scope is _TABLE_SCOPE:
+                ends = False
+            else:
+                ends = node.name in (_SVG_SCOPE if node.space == SVG else _MATH_SCOPE)
+            if ends:
+                break
+        self._spend(count)
+        return False
+
+    def _has(self, name: str, scope: FrozenSet[str] = _SCOPE) -> bool:
+        return self._in_scope(frozenset((name,)), scope)
+
+    def _end_implied(self, but: str = "", names: FrozenSet[str] = _IMPLIED) -> None:
+        """Ends the innermost elements whose end tags may be left out."""
+        while self._top_in(names) and self.open[-1].name != but:
+            self._pop()
+
+    def _close_p(self) -> None:
+        """Ends an open paragraph."""
+        if self.counts.get("p") and self._has("p", _BUTTON_SCOPE):
+            self._end_implied("p")
+            self._pop_until("p")
+
+    # ---- new elements
+
+    def _place(self, parent: Optional[Node] = None) -> Tuple[Node, Optional[Node]]:
+        """Returns the parent of what comes next, and the child before which it goes, if any."""
+        target = parent or self.open[-1]
+        if not (self.is_fostering and target.space == HTML and target.name in _FOSTERING):
+            return target, None
+        for index in range(len(self.open) - 1, -1, -1):
+            node = self.open[index]
+            self._spend(1)
+            if node.space != HTML:
+                continue
+            if node.name == "template":
+                return node, None
+            if node.name == "table":
+                if node.parent is not None:
+                    return node.parent, node
+                return self.open[index - 1], None
+        return self.open[0], None
+
+    def _append(self, child: Union[Node, Text], parent: Optional[Node] = None) -> None:
+        """Adds an element or a text at its place."""
+        target, before = self._place(parent)
+        if isinstance(child, Node):
+            child.parent = target
+        if before is None:
+            target.children.append(child)
+            return
+        index = len(target.children)
+        while index > 0:
+            index -= 1
+            self._spend(1)
+            if target.children[index] is before:
+                break
+        target.children.insert(index, child)
+
+    def _insert(self, token: Token, space: int = HTML) -> Node:
+        """Adds the element of a start tag, and opens it."""
+        node = Node(token.name, token.attributes, space, (token.start, token.end))
+        self._append(node)
+        self._push(node)
+        if space == HTML and token.name in _RAW:
+            self.tokens.raw_name = token.name
+        return node
+
+    def _insert_implied(self, name: str) -> Node:
+        """Adds and opens an element that has no tag."""
+        node = Node(name, {})
+        self._append(node)
+        self._push(node)
+        return node
+
+    def _insert_void(self, token: Token) -> None:
+        self._insert(token)
+        self.tokens.raw_name = None
+        self._pop()
+
+    def _add_text(self, token: Token) -> None:
+        self._append((token.start, token.end))
+
+    def _detach(self, node: Node) -> None:
+        """Takes an element from its parent."""
+        if node.parent is None:
+            return
+        siblings = node.parent.children
+        index = len(siblings)
+        while index > 0:
+            index -= 1
+            self._spend(1)
+            if siblings[index] is node:
+                del siblings[index]
+                break
+        node.parent = None
+
+    # ---- formatting elements
+
+    def _push_formatting(self, node: Node) -> None:
+        """Remembers a formatting element; of equal ones no more than three."""
+        equal = []
+        for index in range(len(self.formatting) - 1, -1, -1):
+            other = self.formatting[index]
+            if other is None:
+                break
+            self._spend(1)
+            if other.name == node.name and other.attributes == node.attributes:
+                equal.append(index)
+        if len(equal) >= 3:
+            del self.formatting[equal[-1]]
+        self.formatting.append(node)
+
+    def _clear_formatting(self) -> None:
+        """Forgets the formatting elements up to the last marker."""
+        while self.formatting and self.formatting.pop() is not None:
+            pass
+
+    def _reconstruct(self) -> None:
+        """Opens again the formatting elements that another end tag has ended."""
+        index = len(self.formatting)
+        while index > 0:
+            node = self.formatting[index - 1]
+            if node is None or node.is_open:
+                break
+            index -= 1
+        for index in range(index, len(self.formatting)):
+            node = self.formatting[index]
+            if node is not None:
+                self._spend(20)
+                clone = Node(node.name, node.attributes, HTML, node.tag)
+                self._append(clone)
+                self._push(clone)
+                self.formatting[index] = clone
+
+    def _formatting_of(self, name: str) -> Optional[Node]:
+        """Returns the last formatting element of the name since the last marker."""
+        for node in reversed(self.formatting):
+            if node is None:
+                return None
+            self._spend(1)
+            if node.name == name:
+                return node
+        return None
+
+    def _forget(self, node: Node) -> None:
+        for index in range(len(self.formatting) - 1, -1, -1):
+            if self.formatting[index] is node:
+                del self.formatting[index]
+                return
+
+    def _adopt(self, token: Token) -> None:
+        """Ends a formatting element, which may be ended in another order than it was opened."""
+        name = token.name
+        if self._top(name) and not any(node is self.open[-1] for node in self.formatting):
+            self._pop()
+            return
+        for _ in range(8):
+            node = self._formatting_of(name)
+            if node is None:
+                self._end_other(token)
+                return
+            if not node.is_open:
+                self._forget(node)
+                return
+            if not self._is_in_scope(node):
+                return
+            if not self._adopt_once(node):
+                return
+
+    def _is_in_scope(self, node: Node) -> bool:
+        count = 0
+        for each in reversed(self.open):
+            count += 1
+            if each is node:
+                self._spend(count)
+                return True
+            if each.space == HTML and each.name in _SCOPE or each.space == SVG and each.name in _SVG_SCOPE:
+                break
+        self._spend(count)
+        return False
+
+    def _position(self, node: Node) -> int:
+        """Returns where an element is among the open ones."""
+        index = len(self.open) - 1
+        while self.open[index] is not node:
+            index -= 1
+        self._spend(len(self.open) - index)
+        return index
+
+    def _adopt_once(self, formatted: Node) -> bool:
+        """Moves the furthest block within a formatting element out of it. Whether there is one."""
+        at = self._position(formatted)
+        block = next((node for node in self.open[at + 1 :] if _is_special(node)), None)
+        if block is None:
+            while self._pop() is not formatted:
+                pass
+            self._forget(formatted)
+            return False
+        ancestor = self.open[at - 1]
+        mark = self.formatting.index(formatted)
+        last, mark = self._adopt_between(formatted, block, mark)
+        self._detach(last)
+        self._append(last, ancestor)
+        clone = Node(formatted.name, formatted.attributes, HTML, formatted.tag)
+        clone.children = block.children
+        for child in clone.children:
+            self._spend(1)
+            if isinstance(child, Node):
+                child.parent = clone
+        block.children = [clone]
+        clone.parent = block
+        place = self.formatting.index(formatted)
+        del self.formatting[place]
+        self.formatting.insert(mark - 1 if place < mark else mark, clone)
+        self._remove(formatted)
+        self.open.insert(self._position(block) + 1, clone)
+        clone.is_open = True
+        self.counts[clone.name] = self.counts.get(clone.name, 0) + 1
+        return True
+
+    def _adopt_between(self, formatted: Node, block: Node, mark: int) -> Tuple[Node, int]:
+        """Clones the formatting elements between a formatting element and the block within it.
+
+        Returns the outermost element to be moved, and where the new formatting element goes.
+        """
+        last = block
+        index = self._position(block)
+        count = 0
+        while True:
+            index -= 1
+            node = self.open[index]
+            if node is formatted:
+                return last, mark
+            count += 1
+            self._spend(20)
+            known = next((i for i, each in enumerate(self.formatting) if each is node), None)
+            if count > 3 and known is not None:
+                del self.formatting[known]
+                mark -= 1 if known < mark else 0
+                known = None
+            if known is None:
+                del self.open[index]
+                self._set_ended(node)
+                continue
+            clone = Node(node.name, node.attributes, HTML, node.tag)
+            self.formatting[known] = clone
+            self.open[index] = clone
+            self._set_ended(node)
+            clone.is_open = True
+            self.counts[clone.name] += 1
+            if last is block:
+                mark = known + 1
+            self._detach(last)
+            clone.children.append(last)
+            last.parent = clone
+            last = clone
+
+    # ---- the insertion modes
+
+    def _process(self, token: Token) -> None:
+        """Takes a token by the rules of HTML, or by those of SVG and MathML."""
+        self.token = token
+        if self.skips_newline:
+            self.skips_newline = False
+            if token.kind == TEXT and self.text.startswith("\n", token.start):
+                token.start += 1
+                if token.start == token.end:
+                    return
+        if self._is_foreign(token):
+            self._in_foreign(token)
+        else:
+            self.mode(token)
+
+    def _is_foreign(self, token: Token) -> bool:
+        if not self.open or self.open[-1].space == HTML or token.kind == EOF:
+            return False
+        top = self.open[-1]
+        if top.space == MATH and top.name in _MATH_TEXTS:
+            if token.kind == TEXT or token.kind == START and token.name not in ("mglyph", "malignmark"):
+                return False
+        if top.name == "annotation-xml" and token.kind == START and token.name == "svg":
+            return False
+        return not (_is_html_point(top) and token.kind in (START, TEXT))
+
+    def _go(self, mode: Callable[[Token], None], token: Token) -> None:
+        """Takes a token in another mode, which stays."""
+        self.mode = mode
+        self._process(token)
+
+    def _skip_blanks(self, token: Token) -> bool:
+        """Drops the white space at the front of a text. Whether nothing is left."""
+        if token.kind != TEXT:
+            return False
+        text = self.text[token.start : token.end]
+        token.start += len(text) - len(text.lstrip(BLANKS))
+        return token.start == token.end
+
+    def _keep_blanks(self, token: Token) -> bool:
+        """Adds the white space at the front of a text. Whether nothing is left."""
+        start = token.start
+        is_done = self._skip_blanks(token)
+        if start < token.start:
+            self._append((start, token.start))
+        return is_done
+
+    def _initial(self, token: Token) -> None:
+        if self._skip_blanks(token):
+            return
+        if token.kind == DOCTYPE:
+            self.is_quirky = is_quirky(self.text[token.start : token.end])
+            self.doctype_end = token.end
+            self.mode = self._before_html
+        else:
+            self._go(self._before_html, token)
+
+    def _before_html(self, token: Token) -> None:
+        if self._skip_blanks(token) or token.kind == DOCTYPE:
+            return
+        if token.kind == END and token.name not in ("head", "body", "html", "br"):
+            return
+        self.has_root = True
+        self._push(self.root)
+        self.mode = self._before_head
+        if token.kind == START and token.name == "html":
+            self.root.attributes = token.attributes
+            self.root.tag = (token.start, token.end)
+        else:
+            self._process(token)
+
+    def _before_head(self, token: Token) -> None:
+        if self._skip_blanks(token) or token.kind == DOCTYPE:
+            return
+        if token.kind == START and token.name == "html":
+            self._in_body(token)
+        elif token.kind == START and token.name == "head":
+            self.head = self._insert(token)
+            self.mode = self._in_head
+        elif token.kind != END or token.name in ("head", "body", "html", "br"):
+            self.head = self._insert_implied("head")
+            self._go(self._in_head, token)
+
+    def _in_head(self, token: Token) -> None:
+        if token.kind == TEXT and self._keep_blanks(token) or token.kind == DOCTYPE:
+            return
+        if token.kind == START and self._starts_in_head(token):
+            return
+        if token.kind == END:
+            if token.name == "head":
+                self._end_head()
+                return
+            if token.name == "template":
+                self._end_template(token)
+                return
+            if token.name not in ("body", "html", "br"):
+                return
+        self._end_head()
+        self._process(token)
+
+    def _starts_in_head(self, token: Token) -> bool:
+        """Takes a start tag that may be in a head. Whether it is one."""
+        name = token.name
+        if name == "html":
+            self._in_body(token)
+        elif name == "noscript":
+            self._insert(token)
+            self.mode = self._in_noscript
+        elif name == "template":
+            self._start_template(token)
+        elif name in ("base", "basefont", "bgsound", "link", "meta"):
+            self._insert_void(token)
+        elif name in _HEAD_PARTS:
+            self._insert(token)
+            self._read_raw()
+        elif name != "head":
+            return False
+        return True
+
+    def _read_raw(self) -> None:
+        """Reads the text and the end tag of the element that was opened last."""
+        node = self.open[-1]
+        token = self.tokens.next()
+        if token.kind == TEXT:
+            node.children.append((token.start, token.end))
+            token = self.tokens.next()
+        self.token = token
+        self._pop()
+
+    def _end_head(self) -> None:
+        self._pop()
+        self.mode = self._after_head
+
+    def _in_noscript(self, token: Token) -> None:
+        names = ("basefont", "bgsound", "link", "meta", "noframes", "style")
+        if token.kind == TEXT and self._keep_blanks(token) or token.kind == DOCTYPE:
+            return
+        if token.kind == START and (token.name in names or token.name == "html"):
+            self._in_head(token)
+        elif token.kind == END and token.name == "noscript":
+            self._pop()
+            self.mode = self._in_head
+        elif token.kind == START and token.name in ("head", "noscript"):
+            return
+        elif token.kind != END or token.name == "br":
+            self._pop()
+            self._go(self._in_head, token)
+
+    def _after_head(self, token: Token) -> None:
+        if token.kind == TEXT and self._keep_blanks(token) or token.kind == DOCTYPE:
+            return
+        if token.kind == START:
+            if token.name == "html":
+                self._in_body(token)
+                return
+            if token.name in ("body", "frameset"):
+                self._insert(token)
+                self.may_be_frames = self.may_be_frames and token.name != "body"
+                self.mode = self._in_body if token.name == "body" else self._in_frameset
+                return
+            if token.name in _HEAD_PARTS and self.head is not None:
+                self._push(self.head)
+                self._in_head(token)
+                self._remove(self.head)
+                return
+            if token.name == "head":
+                return
+        elif token.kind == END:
+            if token.name == "template":
+                self._end_template(token)
+                return
+            if token.name not in ("body", "html", "br"):
+                return
+        self._insert_implied("body")
+        self._go(self._in_body, token)
+
+    def _in_body(self, token: Token) -> None:
+        if token.kind == TEXT:
+            self._text_in_body(token)
+        elif token.kind == START:
+            handler = _STARTS.get(token.name)
+            if handler:
+                handler(self, token)
+            else:
+                self._start_other(token)
+        elif token.kind == END:
+            handler = _ENDS.get(token.name)
+            if handler:
+                handler(self, token)
+            else:
+                self._end_other(token)
+        elif token.kind == EOF and self.templates:
+            self._in_template(token)
+
+    def _text_in_body(self, token: Token) -> None:
+        self._reconstruct()
+        self._add_text(token)
+        if self.may_be_frames and not is_blank(self.text[token.start : token.end]):
+            self.may_be_frames = False
+
+    # ---- start tags in a body
+
+    def _start_other(self, token: Token) -> None:
+        self._reconstruct()
+        self._insert(token)
+
+    def _start_html(self, token: Token) -> None:
+        if not self.templates:
+            self._add_attributes(self.root, token)
+
+    def _start_body(self, token: Token) -> None:
+        if len(self.open) > 1 and self.open[1].name == "body" and not self.templates:
+            self.may_be_frames = False
+            self._add_attributes(self.open[1], token)
+
+    @staticmethod
+    def _add_attributes(node: Node, token: Token) -> None:
+        node.attributes = {**token.attributes, **node.attributes}
+
+    def _start_frameset(self, token: Token) -> None:
+        if len(self.open) < 2 or self.open[1].name != "body" or not self.may_be_frames:
+            return
+        self._detach(self.open[1])
+        while len(self.open) > 1:
+            self._pop()
+        self._insert(token)
+        self.mode = self._in_frameset
+
+    def _start_in_head(self, token: Token) -> None:
+        self._starts_in_head(token)
+
+    def _start_block(self, token: Token) -> None:
+        self._close_p()
+        self._insert(token)
+
+    def _start_heading(self, token: Token) -> None:
+        self._close_p()
+        if self._top_in(_HEADINGS):
+            self._pop()
+        self._insert(token)
+
+    def _start_pre(self, token: Token) -> None:
+        self._close_p()
+        self._insert(token)
+        self.skips_newline = True
+        self.may_be_frames = False
+
+    def _start_form(self, token: Token) -> None:
+        has_template = bool(self.templates)
+        if self.form is not None and not has_template:
+            return
+        self._close_p()
+        node = self._insert(token)
+        if not has_template:
+            self.form = node
+
+    def _start_item(self, token: Token) -> None:
+        """Takes an item of a list, which ends the item before it."""
+        self.may_be_frames = False
+        names = ("li",) if token.name == "li" else ("dd", "dt")
+        if any(self.counts.get(name) for name in names):
+            for node in reversed(self.open):
+                self._spend(1)
+                if node.space == HTML and node.name in names:
+                    self._end_implied(node.name)
+                    self._pop_until(node.name)
+                    break
+                if _is_special(node) and node.name not in ("address", "div", "p"):
+                    break
+        self._close_p()
+        self._insert(token)
+
+    def _start_plaintext(self, token: Token) -> None:
+        self._close_p()
+        self._insert(token)
+
+    def _start_button(self, token: Token) -> None:
+        if self._has("button"):
+            self._end_implied()
+            self._pop_until("button")
+        self._reconstruct()
+        self._insert(token)
+        self.may_be_frames = False
+
+    def _start_link(self, token: Token) -> None:
+        node = self._formatting_of("a")
+        if node is not None:
+            self._adopt(Token(END, token.start, token.start, "a"))
+            self._forget(node)
+            self._remove(node)
+        self._start_formatting(token)
+
+    def _start_formatting(self, token: Token) -> None:
+        self._reconstruct()
+        self._push_formatting(self._insert(token))
+
+    def _start_nobr(self, token: Token) -> None:
+        self._reconstruct()
+        if self._has("nobr"):
+            self._adopt(Token(END, token.start, token.start, "nobr"))
+            self._reconstruct()
+        self._push_formatting(self._insert(token))
+
+    def _start_object(self, token: Token) -> None:
+        self._reconstruct()
+        self._insert(token)
+        self.formatting.append(None)
+        self.may_be_frames = False
+
+    def _start_table(self, token: Token) -> None:
+        if not self.is_quirky:
+            self._close_p()
+        self._insert(token)
+        self.may_be_frames = False
+        self.mode = self._in_table
+
+    def _start_void(self, token: Token) -> None:
+        self._reconstruct()
+        self._insert_void(token)
+        self.may_be_frames = False
+
+    def _start_input(self, token: Token) -> None:
+        if self._has("select"):
+            self._pop_until("select")
+        self._reconstruct()
+        self._insert_void(token)
+        if token.attributes.get("type", "").lower() != "hidden":
+            self.may_be_frames = False
+
+    def _start_param(self, token: Token) -> None:
+        self._insert_void(token)
+
+    def _start_rule(self, token: Token) -> None:
+        self._close_p()
+        if self._has("select"):
+            self._end_implied()
+        self._insert_void(token)
+        self.may_be_frames = False
+
+    def _start_image(self, token: Token) -> None:
+        token.name = "img"
+        self._start_void(token)
+
+    def _start_textarea(self, token: Token) -> None:
+        self._insert(token)
+        self.may_be_frames = False
+        self._read_raw()
+
+    def _start_xmp(self, token: Token) -> None:
+        self._close_p()
+        self._reconstruct()
+        self._start_textarea(token)
+
+    def _start_select(self, token: Token) -> None:
+        if self._has("select"):
+            self._pop_until("select")
+            return
+        self._reconstruct()
+        self._insert(token)
+        self.may_be_frames = False
+
+    def _start_option(self, token: Token) -> None:
+        if self._has("select"):
+            self._end_implied("optgroup" if token.name == "option" else "")
+        elif self._top("option"):
+            self._pop()
+        self._reconstruct()
+        self._insert(token)
+
+    def _start_ruby(self, token: Token) -> None:
+        if self._has("ruby"):
+            self._end_implied("rtc" if token.name in ("rp", "rt") else "")
+        self._insert(token)
+
+    def _start_foreign(self, token: Token) -> None:
+        self._reconstruct()
+        self._insert_foreign(token, SVG if token.name == "svg" else MATH)
+
+    def _ignore(self, token: Token) -> None:
+        pass
+
+    # ---- end tags in a body
+
+    def _end_other(self, token: Token) -> None:
+        if not self.counts.get(token.name):
+            return
+        for node in reversed(self.open):
+            self._spend(1)
+            if node.space == HTML and node.name == token.name:
+                self._end_implied(token.name)
+                while self._pop() is not node:
+                    pass
+                return
+            if _is_special(node):
+                return
+
+    def _end_body(self, token: Token) -> None:
+        if self._has("body"):
+            self.mode = self._after_body
+
+    def _end_html(self, token: Token) -> None:
+        if self._has("body"):
+            self._go(self._after_body, token)
+
+    def _end_block(self, token: Token) -> None:
+        if self._has(token.name):
+            self._end_implied()
+            self._pop_until(token.name)
+
+    def _end_form(self, token: Token) -> None:
+        if self.templates:
+            self._end_block(token)
+            return
+        node, self.form = self.form, None
+        if node is not None and node.is_open and self._is_in_scope(node):
+            self._end_implied()
+            self._remove(node)
+
+    def _end_p(self, token: Token) -> None:
+        if not self._has("p", _BUTTON_SCOPE):
+            self._insert_implied("p")
+        self._close_p()
+
+    def _end_item(self, token: Token) -> None:
+        if self._has(token.name, _LIST_SCOPE if token.name == "li" else _SCOPE):
+            self._end_implied(token.name)
+            self._pop_until(token.name)
+
+    def _end_heading(self, token: Token) -> None:
+        if self._in_scope(_HEADINGS):
+            self._end_implied()
+            self._pop_until(*_HEADINGS)
+
+    def _end_object(self, token: Token) -> None:
+        if self._has(token.name):
+            self._end_implied()
+            self._pop_until(token.name)
+            self._clear_formatting()
+
+    def _end_br(self, token: Token) -> None:
+        self._reconstruct()
+        self._insert_implied("br")
+        self._pop()
+        self.may_be_frames = False
+
+    # ---- templates
+
+    def _start_template(self, token: Token) -> None:
+        self._insert(token)
+        self.formatting.append(None)
+        self.may_be_frames = False
+        self.templates.append(self._in_template)
+        self.mode = self._in_template
+
+    def _end_template(self, token: Token) -> None:
+        if not self.templates:
+            return
+        self._end_implied("", _THOROUGHLY)
+        self._pop_until("template")
+        self._clear_formatting()
+        self.templates.pop()
+        self._reset_mode()
+
+    def _in_template(self, token: Token) -> None:
+        if token.kind == TEXT:
+            self._in_body(token)
+        elif token.kind == START and token.name in _HEAD_PARTS:
+            self._in_head(token)
+        elif token.kind == END:
+            if token.name == "template":
+                self._end_template(token)
+        elif token.kind == START:
+            mode = self._mode_in_template(token.name)
+            self.templates[-1] = mode
+            self._go(mode, token)
+        elif token.kind == EOF:
+            while self.templates:
+                self._end_template(token)
+            self._process(token)
+
+    def _mode_in_template(self, name: str) -> Callable[[Token], None]:
+        if name in ("caption", "colgroup", "tbody", "tfoot", "thead"):
+            return self._in_table
+        if name == "col":
+            return self._in_columns
+        if name == "tr":
+            return self._in_table_body
+        return self._in_row if name in _CELLS else self._in_body
+
+    def _reset_mode(self) -> None:
+        """Finds the mode by the open elements."""
+        for node in reversed(self.open):
+            self._spend(1)
+            mode = self._mode_of(node)
+            if mode is not None:
+                self.mode = mode
+                return
+        self.mode = self._in_body
+
+    def _mode_of(self, node: Node) -> Optional[Callable[[Token], None]]:
+        if node.space != HTML:
+            return None
+        if node.name == "template":
+            return self.templates[-1] if self.templates else self._in_body
+        if node.name == "html":
+            return self._before_head if self.head is None and self.has_root else (
+                self._after_head if self.has_root else self._in_body
+            )
+        handler = _MODES.get(node.name)
+        return None if handler is None else functools.partial(handler, self)
+
+    # ---- tables
+
+    def _clear_to(self, *names: str) -> None:
+        """Ends the open elements within the innermost of these."""
+        while not self._top("html", "template", *names):
+            self._pop()
+
+    def _in_table(self, token: Token) -> None:
+        if token.kind == TEXT and self._top_in(_FOSTERING):
+            self._text_in_table(token)
+        elif token.kind == START:
+            self._start_in_table(token)
+        elif token.kind == END and token.name == "table":
+            if self._has("table", _TABLE_SCOPE):
+                self._pop_until("table")
+                self._reset_mode()
+        elif token.kind == END and token.name == "template":
+            self._end_template(token)
+        elif token.kind == END and (token.name in _TABLE_PARTS or token.name in ("body", "html")):
+            return
+        elif token.kind == EOF:
+            self._in_body(token)
+        elif token.kind != DOCTYPE:
+            self._foster(token)
+
+    def _text_in_table(self, token: Token) -> None:
+        if token.name == "cdata" or not is_blank(self.text[token.start : token.end]):
+            self._foster(token)
+        else:
+            self._add_text(token)
+
+    def _foster(self, token: Token) -> None:
+        """Takes a token that no table may have: what it adds goes before the table."""
+        self.is_fostering = True
+        self._in_body(token)
+        self.is_fostering = False
+
+    def _start_in_table(self, token: Token) -> None:
+        name = token.name
+        if name in _TABLE_PARTS:
+            self._clear_to("table")
+            self._start_table_part(token)
+        elif name == "table":
+            if self._has("table", _TABLE_SCOPE):
+                self._pop_until("table")
+                self._reset_mode()
+                self._process(token)
+        elif name in ("style", "script", "template"):
+            self._in_head(token)
+        elif name == "input" and token.attributes.get("type", "").lower() == "hidden":
+            self._insert_void(token)
+        elif name == "form":
+            if self.form is None and not self.templates:
+                self.form = self._insert(token)
+                self._pop()
+        else:
+            self._foster(token)
+
+    def _start_table_part(self, token: Token) -> None:
+        name = token.name
+        if name == "caption":
+            self.formatting.append(None)
+            self._insert(token)
+            self.mode = self._in_caption
+        elif name == "colgroup":
+            self._insert(token)
+            self.mode = self._in_columns
+        elif name == "col":
+            self._insert_implied("colgroup")
+            self._go(self._in_columns, token)
+        elif name in _BODIES:
+            self._insert(token)
+            self.mode = self._in_table_body
+        else:
+            self._insert_implied("tbody")
+            self._go(self._in_table_body, token)
+
+    def _in_caption(self, token: Token) -> None:
+        ends = token.kind == END and token.name in ("caption", "table")
+        if ends or token.kind == START and token.name in _TABLE_PARTS:
+            if self._has("caption", _TABLE_SCOPE):
+                self._end_implied()
+                self._pop_until("caption")
+                self._clear_formatting()
+                self.mode = self._in_table
+                if token.kind == START or token.name == "table":
+                    self._process(token)
+        elif token.kind != END or token.name not in _TABLE_PARTS | {"body", "html"}:
+            self._in_body(token)
+
+    def _in_columns(self, token: Token) -> None:
+        if token.kind == TEXT and self._keep_blanks(token) or token.kind == DOCTYPE:
+            return
+        if token.kind == START and token.name == "html":
+            self._in_body(token)
+        elif token.kind == START and token.name == "col":
+            self._insert_void(token)
+        elif token.name == "template" and token.kind in (START, END):
+            self._in_head(token)
+        elif token.kind == END and token.name == "col":
+            return
+        elif token.kind == EOF:
+            self._in_body(token)
+        elif self._top("colgroup"):
+            self._pop()
+            self.mode = self._in_table
+            if token.kind != END or token.name != "colgroup":
+                self._process(token)
+
+    def _in_table_body(self, token: Token) -> None:
+        name = token.name
+        if token.kind == START and name == "tr":
+            self._clear_to(*_BODIES)
+            self._insert(token)
+            self.mode = self._in_row
+        elif token.kind == START and name in _CELLS:
+            self._clear_to(*_BODIES)
+            self._insert_implied("tr")
+            self._go(self._in_row, token)
+        elif token.kind == END and name in _BODIES:
+            if self._has(name, _TABLE_SCOPE):
+                self._clear_to(*_BODIES)
+                self._pop()
+                self.mode = self._in_table
+        elif self._ends_part(token, _TABLE_PARTS - {"td", "th", "tr"}):
+            if self._in_scope(_BODIES, _TABLE_SCOPE):
+                self._clear_to(*_BODIES)
+                self._pop()
+                self._go(self._in_table, token)
+        elif token.kind != END or name not in _TABLE_PARTS | {"body", "html"}:
+            self._in_table(token)
+
+    @staticmethod
+    def _ends_part(token: Token, names: FrozenSet[str]) -> bool:
+        """Whether a token is the end of a table, or begins one of these parts."""
+        return token.kind == END and token.name == "table" or token.kind == START and token.name in names
+
+    def _in_row(self, token: Token) -> None:
+        name = token.name
+        if token.kind == START and name in _CELLS:
+            self._clear_to("tr")
+            self._insert(token)
+            self.mode = self._in_cell
+            self.formatting.append(None)
+        elif token.kind == END and name == "tr" or self._ends_part(token, _TABLE_PARTS - _CELLS):
+            self._end_row(token)
+        elif token.kind == END and name in _BODIES:
+            if self._has(name, _TABLE_SCOPE):
+                self._end_row(token)
+        elif token.kind != END or name not in _TABLE_PARTS | {"body", "html"}:
+            self._in_table(token)
+
+    def _end_row(self, token: Token) -> None:
+        if not self._has("tr", _TABLE_SCOPE):
+            return
+        self._clear_to("tr")
+        self._pop()
+        self.mode = self._in_table_body
+        if token.kind != END or token.name != "tr":
+            self._process(token)
+
+    def _in_cell(self, token: Token) -> None:
+        name = token.name
+        if token.kind == END and name in _CELLS:
+            if self._has(name, _TABLE_SCOPE):
+                self._end_cell()
+        elif token.kind == START and name in _TABLE_PARTS:
+            if self._in_scope(_CELLS, _TABLE_SCOPE):
+                self._end_cell()
+                self._process(token)
+        elif token.kind == END and name in _FOSTERING:
+            if self._has(name, _TABLE_SCOPE):
+                self._end_cell()
+                self._process(token)
+        elif token.kind != END or name not in ("body", "caption", "col", "colgroup", "html"):
+            self._in_body(token)
+
+    def _end_cell(self) -> None:
+        self._end_implied()
+        self._pop_until("td", "th")
+        self._clear_formatting()
+        self.mode = self._in_row
+
+    # ---- after the body, and framesets
+
+    def _after_body(self, token: Token) -> None:
+        if token.kind == TEXT and is_blank(self.text[token.start : token.end]):
+            self._in_body(token)
+        elif token.kind not in (EOF, DOCTYPE) and (token.kind, token.name) != (END, "html"):
+            self._go(self._in_body, token)
+
+    def _in_frameset(self, token: Token) -> None:
+        if token.kind == START and token.name == "html":
+            self._in_body(token)
+        elif token.kind == START and token.name == "frameset":
+            self._insert(token)
+        elif token.kind == START and token.name == "frame":
+            self._insert_void(token)
+        elif token.kind == START and token.name == "noframes":
+            self._in_head(token)
+        elif token.kind == END and token.name == "frameset" and len(self.open) > 1:
+            self._pop()
+            if not self._top("frameset"):
+                self.mode = self._after_frameset
+
+    def _after_frameset(self, token: Token) -> None:
+        if token.kind == START and token.name == "html":
+            self._in_body(token)
+        elif token.kind == START and token.name == "noframes":
+            self._in_head(token)
+
+    # ---- SVG and MathML
+
+    def _insert_foreign(self, token: Token, space: int) -> None:
+        if space == SVG:
+            token.name = _SVG_NAMES.get(token.name, token.name)
+            token.attributes = {
+                _SVG_ATTRIBUTES.get(key, key): value for key, value in token.attributes.items()
+            }
+        self._insert(token, space)
+        if token.is_closed:
+            self._pop()
+
+    def _in_foreign(self, token: Token) -> None:
+        if token.kind == TEXT:
+            self._add_text(token)
+            if self.may_be_frames and not is_blank(self.text[token.start : token.end]):
+                self.may_be_frames = False
+        elif token.kind == START:
+            is_font = token.name == "font" and not token.attributes.keys().isdisjoint(
+                ("color", "face", "size")
+            )
+            if token.name in _BREAKOUT or is_font:
+                self._leave_foreign(token)
+            else:
+                self._insert_foreign(token, self.open[-1].space)
+        elif token.kind == END and token.name in ("br", "p"):
+            self._leave_foreign(token)
+        elif token.kind == END:
+            self._end_foreign(token)
+
+    def _leave_foreign(self, token: Token) -> None:
+        """Ends SVG or MathML, and takes the token as HTML."""
+        while not (
+            self.open[-1].space == HTML
+            or _is_html_point(self.open[-1])
+            or self.open[-1].space == MATH and self.open[-1].name in _MATH_TEXTS
+        ):
+            self._pop()
+        self.mode(token)
+
+    def _end_foreign(self, token: Token) -> None:
+        for index in range(len(self.open) - 1, 0, -1):
+            node = self.open[index]
+            self._spend(1)
+            if node.space == HTML:
+                self.mode(token)
+                return
+            if node.name.lower() == token.name:
+                while len(self.open) > index:
+                    self._pop()
+                return
+
+
+def _is_special(node: Node) -> bool:
+    if node.space == HTML:
+        return node.name in _SPECIAL
+    return node.name in (_SVG_SCOPE if node.space == SVG else _MATH_SCOPE)
+
+
+def _is_html_point(node: Node) -> bool:
+    """Whether an element of SVG or MathML has HTML as its content."""
+    if node.space == SVG:
+        return node.name in _SVG_SCOPE
+    encoding = node.attributes.get("encoding", "").lower()
+    return node.name == "annotation-xml" and encoding in ("text/html", "application/xhtml+xml")
+
+
+Handler = Callable[[Builder, Token], None]
+# The modes that open elements lead back to.
+_MODES: Dict[str, Handler] = {
+    "td": Builder._in_cell,
+    "th": Builder._in_cell,
+    "tr": Builder._in_row,
+    "head": Builder._in_head,
+    "tbody": Builder._in_table_body,
+    "thead": Builder._in_table_body,
+    "tfoot": Builder._in_table_body,
+    "caption": Builder._in_caption,
+    "colgroup": Builder._in_columns,
+    "table": Builder._in_table,
+    "body": Builder._in_body,
+    "frameset": Builder._in_frameset,
+}
+_STARTS: Dict[str, Handler] = {}
+_ENDS: Dict[str, Handler] = {}
+
+
+def _set(table: Dict[str, Handler], handler: Handler, names: "FrozenSet[str]") -> None:
+    table.update((name, handler) for name in names)
+
+
+_set(_STARTS, Builder._start_block, _BLOCKS)
+_set(_STARTS, Builder._start_heading, _HEADINGS)
+_set(_STARTS, Builder._start_formatting, _FORMATTING)
+_set(_STARTS, Builder._start_in_head, _HEAD_PARTS)
+_set(_STARTS, Builder._start_void, _words("area br embed img keygen wbr"))
+_set(_STARTS, Builder._start_param, _words("param source track"))
+_set(_STARTS, Builder._start_pre, _words("pre listing"))
+_set(_STARTS, Builder._start_item, _words("li dd dt"))
+_set(_STARTS, Builder._start_object, _OBJECTS)
+_set(_STARTS, Builder._start_textarea, _words("textarea iframe noembed"))
+_set(_STARTS, Builder._start_option, _words("option optgroup"))
+_set(_STARTS, Builder._start_ruby, _words("rb rtc rp rt"))
+_set(_STARTS, Builder._start_foreign, _words("math svg"))
+_set(_STARTS, Builder._ignore, _TABLE_PARTS | {"frame", "head"})
+_STARTS.update(
+    html=Builder._start_html,
+    body=Builder._start_body,
+    frameset=Builder._start_frameset,
+    form=Builder._start_form,
+    plaintext=Builder._start_plaintext,
+    button=Builder._start_button,
+    a=Builder._start_link,
+    nobr=Builder._start_nobr,
+    table=Builder._start_table,
+    input=Builder._start_input,
+    hr=Builder._start_rule,
+    image=Builder._start_image,
+    xmp=Builder._start_xmp,
+    select=Builder._start_select,
+)
+_set(_ENDS, Builder._end_block, _ENDED)
+_set(_ENDS, Builder._end_item, _words("li dd dt"))
+_set(_ENDS, Builder._end_heading, _HEADINGS)
+_set(_ENDS, Builder._adopt, _FORMATTING)
+_set(_ENDS, Builder._end_object, _OBJECTS)
+_ENDS.update(
+    body=Builder._end_body,
+    html=Builder._end_html,
+    form=Builder._end_form,
+    p=Builder._end_p,
+    br=Builder._end_br,
+    template=Builder._end_template,
+)

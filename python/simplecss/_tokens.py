@@ -1,0 +1,294 @@
+"""The tokens of an HTML document: tags, texts and doctypes (HTML Standard, "Tokenization").
+
+Reading takes time that is linear in the text, whatever it is.
+"""
+
+from __future__ import annotations
+
+import re
+import sys
+from html.entities import html5
+from typing import Dict, Iterator, List, Match, NamedTuple, Optional, Pattern, Tuple
+
+TEXT, START, END, DOCTYPE, EOF = range(5)
+BLANKS = "\t\n\f\r "
+
+_ATTRIBUTE = re.compile(
+    r"""[\t\n\f\r /]*([^\t\n\f\r />][^\t\n\f\r />=]*)"""
+    r"""(?:[\t\n\f\r ]*=[\t\n\f\r ]*("[^"]*"|'[^']*'|[^\t\n\f\r >"'][^\t\n\f\r >]*|(?=>)))?"""
+)
+_EQUALS = re.compile(r"[\t\n\f\r ]*=")
+_TAG_NAME = re.compile(r"[A-Za-z][^\t\n\f\r />]*")
+_SHORT_TAG = re.compile(r"<(/?)([a-z][a-z0-9]*)>")
+_TAG_END = re.compile(r"[\t\n\f\r /]*>")
+_COMMENT_END = re.compile(r"--!?>")
+_SCRIPT = re.compile(r"<!--|-->|<(/?)script(?=[\t\n\f\r />])", re.IGNORECASE)
+_REFERENCE = re.compile(r"&(?:#([0-9]+);?|#[xX]([0-9A-Fa-f]+);?|([A-Za-z][A-Za-z0-9]*;?))")
+_LOWER = {upper: upper + 32 for upper in range(65, 91)}
+# The longest name of a character reference.
+_LONGEST = max(map(len, html5))
+# What the numbers from 128 to 159 denote.
+_WINDOWS = dict(
+    zip(
+        range(128, 160),
+        "€\x81‚ƒ„…†‡ˆ‰Š‹Œ\x8dŽ\x8f\x90‘’“”•–—˜™š›œ\x9džŸ",
+    )
+)
+
+
+class Token:
+    """A token: its kind, name and attributes, and where its text begins and ends."""
+
+    __slots__ = ("kind", "name", "attributes", "start", "end", "is_closed")
+
+    def __init__(
+        self,
+        kind: int,
+        start: int,
+        end: int,
+        name: str = "",
+        attributes: Optional[Dict[str, str]] = None,
+        is_closed: bool = False,
+    ) -> None:
+        self.kind = kind
+        self.start = start
+        self.end = end
+        self.name = name
+        self.attributes: Dict[str, str] = {} if attributes is None else attributes
+        self.is_closed = is_closed
+
+
+class Attribute(NamedTuple):
+    """An attribute in the text of a tag: its name, its value with its quotes, and its place."""
+
+    name: str
+    value: Optional[str]
+    start: int
+    end: int
+
+
+def lower(name: str) -> str:
+    """Returns the name with the letters A to Z in lower case."""
+    return name.lower() if name.isascii() else name.translate(_LOWER)
+
+
+def _numbered(number: int) -> str:
+    """Returns the character that a numeric reference denotes."""
+    if number == 0 or number > 0x10FFFF or 0xD800 <= number <= 0xDFFF:
+        return "\ufffd"
+    return _WINDOWS.get(number) or chr(number)
+
+
+def _number(digits: str, base: int) -> int:
+    """Returns the number, or one that is too great for a character."""
+    digits = digits.lstrip("0")
+    return int(digits or "0", base) if len(digits) < 9 else 0x110000
+
+
+def _named(name: str) -> Tuple[str, str]:
+    """Returns what the longest front of the name denotes, and the rest of the name."""
+    for end in range(min(len(name), _LONGEST), 1, -1):
+        value = html5.get(name[:end])
+        if value is not None:
+            return value, name[end:]
+    return "", ""
+
+
+def _in_text(found: Match[str]) -> str:
+    decimal, hexadecimal, name = found.groups()
+    if name is None:
+        return _numbered(_number(decimal or hexadecimal, 10 if decimal else 16))
+    value, rest = _named(name)
+    return value + rest if value else found.group()
+
+
+def _in_attribute(found: Match[str]) -> str:
+    name = found.group(3)
+    if name is None:
+        return _in_text(found)
+    if not name.endswith(";") and found.string.startswith("=", found.end()):
+        return found.group()
+    return html5.get(name, found.group())
+
+
+def _lines(text: str) -> str:
+    """Returns the text with LF for each end of a line."""
+    return text.replace("\r\n", "\n").replace("\r", "\n") if "\r" in text else text
+
+
+def decode(text: str) -> str:
+    """Returns the characters that a text between tags stands for."""
+    return _REFERENCE.sub(_in_text, _lines(text)) if "&" in text else _lines(text)
+
+
+def decode_value(text: str) -> str:
+    """Returns the value that the text of an attribute's value, without quotes, stands for."""
+    return _REFERENCE.sub(_in_attribute, _lines(text)) if "&" in text else _lines(text)
+
+
+def is_blank(text: str) -> bool:
+    """Whether a text between tags is white space."""
+    return not text.strip(BLANKS) or "&" in text and not decode(text).strip(BLANKS)
+
+
+def _matches(text: str, offset: int) -> Iterator[Match[str]]:
+    """Yields the attributes of a tag from this offset on."""
+    found = _ATTRIBUTE.match(text, offset)
+    while found:
+        yield found
+        found = _ATTRIBUTE.match(text, found.end())
+
+
+def attributes_of(tag: str) -> List[Attribute]:
+    """Returns the attributes in the text of a start tag, in order."""
+    name = _TAG_NAME.match(tag, 1)
+    return [
+        Attribute(lower(found.group(1)), found.group(2), found.start(1), found.end())
+        for found in _matches(tag, name.end() if name else 1)
+    ]
+
+
+class Tokenizer:
+    """Reads the tokens of a document. `raw_name` and `has_cdata` are set by whoever builds a tree."""
+
+    def __init__(self, text: str) -> None:
+        self.text = text
+        self.offset = 0
+        # The element whose content is text up to its end tag.
+        self.raw_name: Optional[str] = None
+        # Whether `<![CDATA[` begins a section.
+        self.has_cdata = False
+        self._ends: Dict[str, Pattern[str]] = {}
+
+    def next(self) -> Token:
+        """Returns the next token."""
+        text = self.text
+        while self.offset < len(text):
+            if self.raw_name is not None:
+                token = self._raw_text(self.raw_name)
+            elif text[self.offset] != "<":
+                token = self._text_until(text.find("<", self.offset))
+            else:
+                token = self._markup()
+            if token is not None:
+                return token
+        return Token(EOF, len(text), len(text))
+
+    def _text_until(self, end: int) -> Token:
+        start = self.offset
+        self.offset = len(self.text) if end < 0 else end
+        return Token(TEXT, start, self.offset)
+
+    def _raw_text(self, name: str) -> Optional[Token]:
+        """Returns the text up to the end tag of the name, if there is any."""
+        start = self.offset
+        self.raw_name = None
+        end = self._end_of_script(start) if name == "script" else self._end_of_raw(name, start)
+        self.offset = end
+        return Token(TEXT, start, end) if start < end else None
+
+    def _end_of_raw(self, name: str, start: int) -> int:
+        if name == "plaintext":
+            return len(self.text)
+        if name not in self._ends:
+            self._ends[name] = re.compile(rf"</{name}(?=[\t\n\f\r />])", re.IGNORECASE)
+        found = self._ends[name].search(self.text, start)
+        return found.start() if found else len(self.text)
+
+    def _end_of_script(self, start: int) -> int:
+        """Returns where a script ends, which may have another in a comment."""
+        offset, is_comment, is_inner = start, False, False
+        while True:
+            found = _SCRIPT.search(self.text, offset)
+            if not found:
+                return len(self.text)
+            offset = found.end()
+            if found.group() == "<!--":
+                offset -= 0 if is_comment else 2
+                is_comment = True
+            elif found.group() == "-->":
+                is_comment = is_inner = False
+            elif found.group(1):
+                if not is_inner:
+                    return found.start()
+                is_inner = False
+            else:
+                is_inner = is_comment
+
+    def _skip_to(self, end: int, length: int) -> None:
+        """Skips to the end of a mark of this length, or of the document if it is missing."""
+        self.offset = len(self.text) if end < 0 else end + length
+
+    def _markup(self) -> Optional[Token]:
+        """Reads what begins with `<`. Returns `None` for a comment."""
+        text, start = self.text, self.offset
+        found = _SHORT_TAG.match(text, start)
+        if found:
+            self.offset = found.end()
+            kind = END if found.group(1) else START
+            return Token(kind, start, self.offset, sys.intern(found.group(2)))
+        after = text[start + 1 : start + 2]
+        if after.isascii() and after.isalpha():
+            return self._tag(START, start + 1)
+        if after == "/":
+            return self._end_tag(start)
+        if after == "!":
+            return self._declaration(start)
+        if after == "?":
+            self._skip_to(text.find(">", start), 1)
+            return None
+        return self._text_until(text.find("<", start + 1))
+
+    def _end_tag(self, start: int) -> Optional[Token]:
+        after = self.text[start + 2 : start + 3]
+        if after.isascii() and after.isalpha():
+            return self._tag(END, start + 2)
+        if not after:
+            return self._text_until(-1)
+        self._skip_to(self.text.find(">", start), 1)
+        return None
+
+    def _declaration(self, start: int) -> Optional[Token]:
+        """Reads a comment, a CDATA section, a doctype, or another declaration."""
+        text = self.text
+        if text.startswith("<!--", start):
+            self._skip_comment(start + 4)
+            return None
+        if self.has_cdata and text.startswith("<![CDATA[", start):
+            end = text.find("]]>", start)
+            self._skip_to(end, 3)
+            return Token(TEXT, start + 9, self.offset - 3 if end >= 0 else self.offset, "cdata")
+        is_doctype = text[start + 2 : start + 9].lower() == "doctype"
+        self._skip_to(text.find(">", start), 1)
+        return Token(DOCTYPE, start, self.offset) if is_doctype else None
+
+    def _skip_comment(self, offset: int) -> None:
+        for mark in (">", "->"):
+            if self.text.startswith(mark, offset):
+                self.offset = offset + len(mark)
+                return
+        found = _COMMENT_END.search(self.text, offset)
+        self.offset = found.end() if found else len(self.text)
+
+    def _tag(self, kind: int, offset: int) -> Optional[Token]:
+        """Reads a tag whose name begins at an offset. Returns `None` if it does not end."""
+        text, start = self.text, self.offset
+        found = _TAG_NAME.match(text, offset)
+        offset = found.end() if found else offset
+        name = sys.intern(lower(found.group())) if found else ""
+        attributes: Dict[str, str] = {}
+        for item in _matches(text, offset):
+            offset = item.end()
+            value = item.group(2)
+            if value is None and _EQUALS.match(text, offset):
+                self.offset = len(text)
+                return None
+            if value and value[0] in "\"'":
+                value = value[1:-1]
+            attributes.setdefault(lower(item.group(1)), decode_value(value) if value else "")
+        end = _TAG_END.match(text, offset)
+        if not end:
+            self.offset = len(text)
+            return None
+        self.offset = end.end()
+        return Token(kind, start, end.end(), name, attributes, end.group().endswith("/>"))
