@@ -1,13 +1,17 @@
 #!/usr/bin/env python3
-"""Compares the computed styles of documents before and after `simplecss.inline`, in a browser.
+"""Compares the Python package with a browser: headless Chromium (Debian's package `chromium`).
 
-    tests/browser.py [FILE..]
+    tests/browser.py mails [FILE..]      the computed styles of documents before and after `simplecss.inline`
+    tests/browser.py trees [FILE..]      the elements and attributes of `Tree.from_html` with those of the browser's tree
+    tests/browser.py winners [FILE..]    which declarations of ten properties win on each element
+    tests/browser.py soup [FILE..]       what selectors find, with soupsieve over html5lib (no browser)
 
-Without files it takes those of `tests/mails`. Headless Chromium (Debian's package `chromium`) loads each document as it is and
-inlined, and `getComputedStyle` must have the same value of each property for each element of the body. The last line is
-`N passed, M failed`, with a document a test; what differs is listed. Run by hand: the tests that `.ci/run` makes need no browser.
-The library is built by `./build library`.
+Without files, `mails` takes those of `tests/mails`, and the others take these and pages of Debian packages below /usr/share/doc.
+Each test is a document. What differs is listed, and the last line is `N passed, M failed`. Run by hand: the tests that `.ci/run`
+makes need no browser. The library is built by `./build library`.
 """
+import collections
+import glob
 import html
 import json
 import os
@@ -22,8 +26,20 @@ sys.path.insert(0, os.path.join(TOP, "python"))
 
 import simplecss  # noqa: E402
 
-COMPARE = """
+# How many differences of a document are listed.
+SHOWN = 4
+# Properties that no shorthand sets.
+PROPERTIES = ("color", "display", "width", "height", "text-align", "vertical-align", "position", "float", "visibility", "z-index")
+SELECTORS = (
+    "*", "p", "a", "a[href]", "A[HREF]", "ul > li", "table td", "td + td", "tr td:first-child", "p + p", "[class]", "[id]", "div p a",
+    "li li", ":first-child", "html > body > *", "h1 + p", "head > title", "body h2, body h3", "img[alt]", "td[align=center]", "[lang|=en]",
+    "div > div > p", "pre code", "dl > dt + dd", "tbody > tr", "a:link", "span span", "input[type=text]",
+)
+
+SCRIPT = """
 <script>
+const input = JSON.parse(document.getElementById("input").textContent), answer = [];
+function all(page) { return [...page.documentElement.querySelectorAll("*")]; }
 function styles(frame) {
     const page = frame.contentDocument, found = [];
     for (const element of page.body.querySelectorAll("*")) {
@@ -34,59 +50,233 @@ function styles(frame) {
     }
     return found;
 }
+function tree(text) {
+    const found = [], page = new DOMParser().parseFromString(text, "text/html");
+    function walk(element, depth) {
+        found.push([depth, element.localName, [...element.attributes].map(each => [each.name, each.value]).sort()]);
+        for (const child of element.children) walk(child, depth + 1);
+    }
+    walk(page.documentElement, 0);
+    return found;
+}
+// A sheet of another site, which is not loaded, has no rules.
+function rules_of(sheet) { try { return sheet.cssRules; } catch { return []; } }
+function winners(frame, properties, values) {
+    const page = frame.contentDocument, window = frame.contentWindow, marks = [];
+    for (const name of properties) window.CSS.registerProperty({name: "--w-" + name, syntax: "*", inherits: false});
+    function mark(rules, place) {
+        for (const rule of rules) {
+            if (rule.style && rule.selectorText) for (const name of properties) {
+                const value = rule.style.getPropertyValue(name);
+                if (!value) continue;
+                rule.style.setProperty("--w-" + name, String(marks.length), rule.style.getPropertyPriority(name));
+                marks.push([value, place + rule.selectorText]);
+            }
+            if (rule.cssRules) mark(rule.cssRules, rule.selectorText ? "nested " : rule.cssText.split("{")[0] + "{ ");
+            if (rule.styleSheet) mark(rules_of(rule.styleSheet), "@import ");
+        }
+    }
+    for (const sheet of page.styleSheets) mark(rules_of(sheet), "");
+    const probe = page.createElement("i").style;
+    const known = values.map(([name, value]) => { probe.cssText = ""; probe.setProperty(name, value); return probe.getPropertyValue(name); });
+    const found = [page.documentElement, ...all(page)].map(element => {
+        const style = window.getComputedStyle(element);
+        return properties.map(name => { const at = style.getPropertyValue("--w-" + name); return at === "" ? -1 : Number(at); });
+    });
+    return {marks, known, found};
+}
 window.onload = () => {
-    const frames = [...document.querySelectorAll("iframe")], answer = [];
-    for (let i = 0; i < frames.length; i += 2) answer.push([styles(frames[i]), styles(frames[i + 1])]);
-    document.documentElement.textContent = "ANSWER" + JSON.stringify(answer) + "END";
+    const frames = [...document.querySelectorAll("iframe")];
+    if (input.kind == "mails") for (let i = 0; i < frames.length; i += 2) answer.push([styles(frames[i]), styles(frames[i + 1])]);
+    if (input.kind == "trees") for (const text of input.texts) answer.push(tree(text));
+    if (input.kind == "winners") frames.forEach((frame, i) => answer.push(winners(frame, input.properties, input.values[i])));
+    document.documentElement.textContent = "ANS" + "WER" + JSON.stringify(answer) + "END";
 };
+window.onerror = text => { document.documentElement.textContent = "failed: " + text; };
 </script>
 """
 
 
-def compare(pages):
-    """Returns for each pair of documents the styles of the elements of both."""
+def run_browser(values, names, folder):
+    """Returns the answer of the browser about documents in frames, of which these are the files."""
     browser = shutil.which("chromium") or shutil.which("chromium-browser") or shutil.which("google-chrome")
     if not browser:
-        sys.exit("tests/browser.py: no chromium; Debian's package is `chromium`")
-    frames = "".join(f'<iframe width=800 height=600 srcdoc="{html.escape(page)}"></iframe>' for pair in pages for page in pair)
-    with tempfile.TemporaryDirectory() as folder:
-        name = os.path.join(folder, "pages.html")
-        with open(name, "w", encoding="utf-8") as file:
-            file.write(f"<!DOCTYPE html><meta charset=utf-8>{frames}{COMPARE}")
-        words = [browser, "--headless", "--no-sandbox", "--disable-gpu", f"--user-data-dir={folder}/profile",
-                 "--virtual-time-budget=20000", "--dump-dom", "file://" + name]
-        made = subprocess.run(words, capture_output=True, check=False)
+        sys.exit("tests/browser.py: left out, for there is no chromium; Debian's package is `chromium`")
+    frames = "".join(f'<iframe width=800 height=600 sandbox="allow-same-origin" src="file://{html.escape(name)}"></iframe>' for name in names)
+    data = json.dumps(values).replace("<", "\\u003c")
+    page = os.path.join(folder, "pages.html")
+    with open(page, "w", encoding="utf-8") as file:
+        file.write(f'<!DOCTYPE html><meta charset=utf-8><script id=input type="application/json">{data}</script>{frames}{SCRIPT}')
+    words = [browser, "--headless", "--no-sandbox", "--disable-gpu", "--allow-file-access-from-files", f"--user-data-dir={folder}/profile",
+             "--virtual-time-budget=60000", "--dump-dom", "file://" + page]
+    made = subprocess.run(words, capture_output=True, check=False)
     answer = re.search(r"ANSWER(.*)END", made.stdout.decode(), re.DOTALL)
     if not answer:
-        sys.exit(f"tests/browser.py: no answer: {made.stderr.decode()[-500:]}")
+        sys.exit(f"tests/browser.py: no answer: {made.stdout.decode()[-300:]} {made.stderr.decode()[-500:]}")
     return json.loads(html.unescape(answer[1]))
 
 
-def differences(before, after):
-    """Returns what differs: the element's number and name, the property, and both values."""
-    found = [] if len(before) == len(after) > 0 else [(0, "body", "elements", str(len(before)), str(len(after)))]
-    for number, ((name, old), (_, new)) in enumerate(zip(before, after), 1):
-        found += [(number, name, each, old[each], new.get(each)) for each in old if old[each] != new.get(each)]
+def read(name):
+    """Returns the text of a page in UTF-8."""
+    with open(name, encoding="utf-8", errors="replace", newline="") as file:
+        return file.read()
+
+
+def mails():
+    """Returns the names of the mails of this repository."""
+    return sorted(glob.glob(os.path.join(TOP, "tests", "mails", "*.html")))
+
+
+def pages():
+    """Returns the names of the mails, and of some pages of Debian packages."""
+    found = []
+    counts = collections.Counter()
+    for name in sorted(glob.glob("/usr/share/doc/**/*.html", recursive=True)):
+        package = name.split("/")[4]
+        if os.path.isfile(name) and 4000 < os.path.getsize(name) < 400000 and counts[package] < 2:
+            counts[package] += 1
+            found.append(name)
+    return mails() + found[:30]
+
+
+class Report:
+    """Counts documents, and lists what differs."""
+
+    def __init__(self):
+        self.passed = self.failed = 0
+
+    def add(self, name, differences):
+        """Counts a document, and lists the first of its differences."""
+        self.passed += not differences
+        self.failed += bool(differences)
+        for line in differences[:SHOWN]:
+            print(f"{os.path.basename(name)}: {line}")
+        if len(differences) > SHOWN:
+            print(f"{os.path.basename(name)}: and {len(differences) - SHOWN} more")
+
+    def end(self):
+        """Prints the last line, and returns the exit status."""
+        print(f"{self.passed} passed, {self.failed} failed")
+        return 1 if self.failed else 0
+
+
+def compare_mails(names):
+    """Compares the computed styles before and after `inline`."""
+    report = Report()
+    with tempfile.TemporaryDirectory() as folder:
+        frames = []
+        for number, name in enumerate(names):
+            with open(name, "rb") as file:
+                data = file.read()
+            for when, text in (("before", data), ("after", simplecss.inline(data))):
+                frames.append(os.path.join(folder, f"{number}{when}.html"))
+                with open(frames[-1], "wb") as file:
+                    file.write(text)
+        for name, (before, after) in zip(names, run_browser({"kind": "mails"}, frames, folder)):
+            found = [] if len(before) == len(after) > 0 else [f"elements: {len(before)}, after: {len(after)}"]
+            for number, ((element, old), (_, new)) in enumerate(zip(before, after), 1):
+                found += [f"{number} <{element}> {each}: {old[each]!r}, after: {new.get(each)!r}" for each in old if old[each] != new.get(each)]
+            report.add(name, found)
+    return report.end()
+
+
+def elements_of(text):
+    """Returns the depth, name and attributes of each element, as the browser does."""
+    depths, found = {}, []
+    for element in simplecss.Tree.from_html(text):
+        depths[element.index] = 0 if element.parent is None else depths[element.parent.index] + 1
+        found.append([depths[element.index], element.name, sorted([key, value] for key, value in element.attributes.items())])
     return found
 
 
-def main():
-    folder = os.path.join(TOP, "tests", "mails")
-    names = sys.argv[1:] or sorted(os.path.join(folder, name) for name in os.listdir(folder))
-    pages = []
+def compare_trees(names):
+    """Compares the trees of documents."""
+    report = Report()
+    texts = [read(name) for name in names]
+    with tempfile.TemporaryDirectory() as folder:
+        for name, text, theirs in zip(names, texts, run_browser({"kind": "trees", "texts": texts}, [], folder)):
+            ours = elements_of(text)
+            theirs = [[depth, element, sorted(attributes)] for depth, element, attributes in theirs]
+            found = [f"{a}, in the browser {b}" for a, b in zip(ours, theirs) if a != b]
+            report.add(name, found if len(ours) == len(theirs) else [f"{len(ours)} elements, in the browser {len(theirs)}", *found])
+    return report.end()
+
+
+def sheets_of(name, tree):
+    """Returns the style sheets of a page: those of its elements `style`, and those in files that it links to."""
+    found = []
+    for element in tree:
+        if element.attributes.get("media", "all").lower() not in ("", "all", "screen"):
+            continue
+        if element.name == "style" and element.attributes.get("type", "").lower() in ("", "text/css") and "title" not in element.attributes:
+            found.append(element.text)
+        elif element.name == "link" and "stylesheet" in element.attributes.get("rel", "").lower().split():
+            path = os.path.join(os.path.dirname(name), element.attributes.get("href", "").partition("?")[0])
+            if os.path.isfile(path) and "alternate" not in element.attributes["rel"].lower():
+                found.append(read(path).lstrip("\ufeff"))
+    return found
+
+
+def compare_winners(names):
+    """Compares which declarations win, by their values as the browser prints them."""
+    report = Report()
+    ours, values = [], []
     for name in names:
-        with open(name, encoding="utf-8") as file:
-            text = file.read()
-        pages.append((text, simplecss.inline(text)))
-    passed = failed = 0
-    for name, (before, after) in zip(names, compare(pages)):
-        found = differences(before, after)
-        for number, element, each, old, new in found:
-            print(f"{os.path.basename(name)}: {number} <{element}> {each}: {old!r}, after: {new!r}")
-        passed += not found
-        failed += bool(found)
-    print(f"{passed} passed, {failed} failed")
-    return 1 if failed else 0
+        tree = simplecss.Tree.from_html(read(name))
+        sheet = simplecss.StyleSheet(*sheets_of(name, tree))
+        ours.append([sheet.style(tree, each) for each in PROPERTIES])
+        values.append(sorted({(each, winner.value) for each, winners in zip(PROPERTIES, ours[-1]) for winner in winners if winner}))
+    with tempfile.TemporaryDirectory() as folder:
+        answers = run_browser({"kind": "winners", "properties": PROPERTIES, "values": values}, [os.path.abspath(name) for name in names], folder)
+    count = differing = 0
+    causes = collections.Counter()
+    for name, winners, asked, answer in zip(names, ours, values, answers):
+        known = dict(zip(asked, answer["known"]))
+        found = []
+        for index, theirs in enumerate(answer["found"]):
+            for each, at, column in zip(PROPERTIES, theirs, winners):
+                mine = column[index] if index < len(column) else None
+                value = known[(each, mine.value)] if mine else None
+                wanted = answer["marks"][at][0] if at >= 0 else None
+                count += mine is not None or wanted is not None
+                if value != wanted:
+                    differing += 1
+                    cause = answer["marks"][at][1] if at >= 0 else "nothing"
+                    causes[cause.partition("{")[0].strip() if cause.startswith("@") else cause] += 1
+                    found.append(f"element {index}, {each}: {mine}, in the browser {wanted} of `{cause}`")
+        report.add(name, found)
+    for cause, number in causes.most_common(15):
+        print(f"{number} differ where the browser has `{cause}`")
+    print(f"{count - differing} of {count} winners are equal")
+    return report.end()
+
+
+def compare_soup(names):
+    """Compares what selectors find with soupsieve, over the tree of html5lib."""
+    try:
+        import bs4
+        import html5lib  # noqa: F401
+    except ImportError:
+        sys.exit("tests/browser.py: left out, for there is no html5lib or BeautifulSoup; Debian's packages are `python3-bs4 python3-html5lib`")
+    report = Report()
+    for name in names:
+        soup = bs4.BeautifulSoup(read(name), "html5lib")
+        tree = simplecss.Tree.from_soup(soup)
+        found = []
+        for selectors in SELECTORS:
+            mine, theirs = [element.node for element in tree.select(selectors)], soup.select(selectors)
+            if len(mine) != len(theirs) or any(a is not b for a, b in zip(mine, theirs)):
+                found.append(f"{selectors}: {len(mine)}, by soupsieve {len(theirs)}")
+        report.add(name, found)
+    return report.end()
+
+
+def main():
+    kinds = {"mails": compare_mails, "trees": compare_trees, "winners": compare_winners, "soup": compare_soup}
+    words = sys.argv[1:] or ["mails"]
+    if words[0] not in kinds:
+        sys.exit(__doc__)
+    return kinds[words[0]](words[1:] or (mails() if words[0] == "mails" else pages()))
 
 
 if __name__ == "__main__":
