@@ -171,6 +171,10 @@ ANSWERS = [
     (["selector", "a", "b"], b"", 2, "", USAGE),
     (["match", sheet], b"", 2, "", USAGE),
     (["other"], b"", 2, "", USAGE),
+    (["--version"], b"", 0, "cssq 0.1.0\n", ""),
+    (["--version", "a"], b"", 2, "", USAGE),
+    (["--help", "selector"], b"", 2, "", USAGE),
+    (["selector", "--help"], b"", 1, "", REFUSED),
     (["selector", b"\xff"], b"", 2, "", USAGE),
 ]
 before = checks.passed

@@ -2,6 +2,7 @@
 //! declarations win there.
 #![tactic(auto)]
 
+mod help;
 mod inputs;
 mod output;
 mod trees;
@@ -11,6 +12,7 @@ use cssq::command::{Command, USAGE};
 use cssq::runs::{
     RunFault, run_match_reporting, run_selector, run_sheet_into, run_style_reporting,
 };
+use help::{help_for, write_text};
 use inputs::{INPUT, read_file, read_input};
 use log::sink::Discard;
 use output::Output;
@@ -29,6 +31,16 @@ fn all_words(rt: &HostRuntime) -> Option<Vec<String>> {
 fn unknown_words(rt: &HostRuntime) -> ExitCode {
     let _ = eprintln!(rt; "{USAGE}");
     ExitCode::from(2)
+}
+
+/// Writes the help or the version if the words ask for it, which no command does, or the usage line.
+fn answer_other(rt: &HostRuntime, words: &[String]) -> ExitCode {
+    let Some(text) = help_for(words) else {
+        return unknown_words(rt);
+    };
+    let mut out = Output::new(rt.stdout());
+    let outcome = write_text(text, &mut out);
+    written(rt, outcome, &out)
 }
 
 /// Writes that a file, or standard input, cannot be read.
@@ -165,6 +177,6 @@ fn main(rt: HostRuntime) -> ExitCode {
         },
         Some(Command::Match(file, tree)) => show_elements(&rt, file, tree, None),
         Some(Command::Style(file, tree, name)) => show_elements(&rt, file, tree, Some(name)),
-        None => unknown_words(&rt),
+        None => answer_other(&rt, arguments),
     }
 }
