@@ -152,6 +152,8 @@ def test_package():
     if bad or made.returncode:
         print(text)
         check(made.returncode == 0 or bad > 0, "unit tests")
+    made = run([sys.executable, "-c", "import simplecss; print(simplecss.__version__)"], env={**env, "PYTHONPATH": "python"})
+    check(made.stdout.decode().strip() == library_calls.VERSION, "simplecss.__version__", made)
     made = run([sys.executable, "-m", "simplecss", "--help"], env={**env, "PYTHONPATH": "python"})
     check(made.returncode == 0, "python3 -m simplecss", made.stderr)
 

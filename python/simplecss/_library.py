@@ -8,6 +8,7 @@ import ctypes.util
 import functools
 import itertools
 import os
+import sys
 from pathlib import Path
 from typing import Any, Iterable, List, NamedTuple, Optional, Sequence, Tuple
 
@@ -21,7 +22,8 @@ OUT_OF_MEMORY = 3
 NOT_UTF8 = 5
 TOO_SMALL = 6
 
-_NAME = "libsimplecss.so"
+# The name of the library on this system.
+_NAME = {"win32": "simplecss.dll", "darwin": "libsimplecss.dylib"}.get(sys.platform, "libsimplecss.so")
 # The type code of arrays whose items are as wide as a `size_t`.
 SIZE = next(c for c in "QLI" if array.array(c).itemsize == ctypes.sizeof(ctypes.c_size_t))
 
@@ -94,7 +96,8 @@ def library_path() -> str:
     if found:
         return found
     raise LibraryError(
-        f"{_NAME} not found: build it by `./build library`, or set SIMPLECSS_LIBRARY"
+        f"{_NAME} not found: install the wheel for this system, run `./build library` in a checkout, or set"
+        " SIMPLECSS_LIBRARY to its path"
     )
 
 

@@ -1,0 +1,82 @@
+//! A string whose calls report an allocation that fails.
+use super::alloc::{AllocError, Global};
+use alloc::string;
+use core::fmt;
+use core::ops::Deref;
+
+#[derive(Debug, Default, PartialEq)]
+pub struct String(pub string::String);
+
+impl Deref for String {
+    type Target = str;
+
+    fn deref(&self) -> &str {
+        &self.0
+    }
+}
+
+impl String {
+    pub const fn new(_: Global) -> Self {
+        String(string::String::new())
+    }
+
+    pub fn with_capacity(_: Global, n: usize) -> Result<Self, AllocError> {
+        let mut text = string::String::new();
+        text.try_reserve_exact(n).map_err(|_| AllocError)?;
+        Ok(String(text))
+    }
+
+    pub fn from_str(_: Global, text: &str) -> Result<Self, AllocError> {
+        let mut copy = String::new(Global);
+        copy.push_str(text)?;
+        Ok(copy)
+    }
+
+    pub fn as_str(&self) -> &str {
+        &self.0
+    }
+
+    pub fn push_str(&mut self, text: &str) -> Result<(), AllocError> {
+        self.0.try_reserve(text.len()).map_err(|_| AllocError)?;
+        self.0.push_str(text);
+        Ok(())
+    }
+
+    pub fn push(&mut self, character: char) -> Result<(), AllocError> {
+        self.0.try_reserve(4).map_err(|_| AllocError)?;
+        self.0.push(character);
+        Ok(())
+    }
+
+    pub fn truncate(&mut self, n: usize) {
+        self.0.truncate(n);
+    }
+
+    pub fn write_fmt(&mut self, arguments: fmt::Arguments<'_>) -> Result<(), AllocError> {
+        fmt::Write::write_fmt(self, arguments).map_err(|_| AllocError)
+    }
+}
+
+impl fmt::Write for String {
+    fn write_str(&mut self, text: &str) -> fmt::Result {
+        self.push_str(text).map_err(|_| fmt::Error)
+    }
+}
+
+impl fmt::Display for String {
+    fn fmt(&self, f: &mut fmt::Formatter<'_>) -> fmt::Result {
+        f.write_str(&self.0)
+    }
+}
+
+pub trait ToString {
+    fn to_string(&self, _: Global) -> Result<String, AllocError>;
+}
+
+impl<T: fmt::Display + ?Sized> ToString for T {
+    fn to_string(&self, alloc: Global) -> Result<String, AllocError> {
+        let mut text = String::new(alloc);
+        text.write_fmt(format_args!("{self}"))?;
+        Ok(text)
+    }
+}

@@ -1,0 +1,482 @@
+#!/usr/bin/env python3
+"""Tests what `./build release` makes: that it is the same twice, that the Rust crate has the API of `simplecss` 0.2.2, its tests and its
+speed, and that it and the WebAssembly module answer as the proved library does on random texts; and that each package
+works where it is unpacked, outside the checkout.
+
+    tests/release.py [PART..]     PART is crate, wheel, program or npm; without one all, and ./build release first
+
+`SIMPLECSS_TESTS` may name a folder with the tests of the Rust crate 0.2.2: files `*.rs`, or texts in which lines
+`// ===== tests/NAME.rs =====` begin them. What was left out, since a tool or a package of Debian is missing, is named at the
+end, before `N passed, M failed`.
+"""
+import ctypes
+import functools
+import glob
+import hashlib
+import json
+import os
+import random
+import re
+import shutil
+import struct
+import subprocess
+import sys
+import tarfile
+import tempfile
+import time
+
+import library_calls
+from common import Counts
+
+TOP = os.path.dirname(os.path.dirname(os.path.abspath(__file__)))
+MADE = os.path.join(TOP, "out", "release")
+REGISTRY = "/usr/share/cargo/registry"
+TEXTS = 20_000
+checks = Counts()
+expect = checks.expect
+left_out = []
+# The elements of the tree of compare.rs.
+PAGE = [
+    (0, "div", [("lang", "en")]),
+    (1, "p", [("class", "note b"), ("a", "b")]),
+    (2, "a", [("a", "b c"), ("id", "x")]),
+    (2, "p", [("a", "x-y"), ("class", "note")]),
+    (1, "p", []),
+    (2, "color", [("class", "x")]),
+    (1, "div", [("a", ""), ("lang", "de")]),
+]
+PIECES = ["a", "p", "div", ".note", "#x", "*", "[a]", "[a=b]", '[a~="b c"]', "[a|='x']", ":first-child", ":lang(en)", ":hover", "::x", ">", "+",
+          "~", " ", ",", "{", "}", "{", "}", ";", ":", "color", "red", "!important", "! ", '"', "'", "/*", "*/", "/", "@media", "@import", "@", "(",
+          ")", "url(x)", "\\", "\n", "\t", "\u00a0", "\u00e9", "\U0001F600", "-", "--", "_", "0", "1px", ".5", "%", "#fff", "a{b:c}",
+          "p { color: red }\n", "a,b{x:y;z:w!important}", "<!--", "-->", "\x00", "\r\n", "\f", "&", "=", "|", "^", "$"]
+
+
+def run(words, cwd=TOP, **options):
+    """Runs a program, and keeps what it prints."""
+    return subprocess.run(words, cwd=cwd, stdout=subprocess.PIPE, stderr=subprocess.PIPE, check=False, **options)
+
+
+def works(words, what, cwd=TOP, **options):
+    """Whether a program ends with status 0, which is counted; with what it prints."""
+    done = run(words, cwd, **options)
+    expect(done.returncode == 0, f"{what}: status {done.returncode}: {(done.stdout + done.stderr).decode(errors='replace')[-1500:]}")
+    return done
+
+
+def has(tool, what):
+    """Whether a tool is there; else what is left out is noted."""
+    if not shutil.which(tool):
+        left_out.append(f"{what}: there is no {tool}")
+    return bool(shutil.which(tool))
+
+
+def made(pattern):
+    """The artifact whose name has this form, or None, which fails."""
+    found = glob.glob(os.path.join(MADE, pattern))
+    expect(len(found) == 1, f"artifacts {pattern}: {found}")
+    return found[0] if found else None
+
+
+def unpack(path, folder):
+    """Unpacks a tar.gz."""
+    with tarfile.open(path) as packed:
+        packed.extractall(folder)
+
+
+# ---- random texts, and what the proved library answers
+
+def random_texts():
+    """The same texts in every run."""
+    rng = random.Random(7)
+    return ["".join(rng.choice(PIECES) for _ in range(rng.randrange(1, 14 if number % 2 else 60))).encode() for number in range(TEXTS)]
+
+
+def framed(texts):
+    """The texts with their lengths."""
+    return b"".join(struct.pack("<Q", len(text)) + text for text in texts)
+
+
+def parts_of(data, count):
+    """The answers of a program, `count` for each text."""
+    at, found = 0, []
+    while at < len(data):
+        (length,) = struct.unpack_from("<Q", data, at)
+        found.append(data[at + 8:at + 8 + length])
+        at += 8 + length
+    return [found[at:at + count] for at in range(0, len(found), count)]
+
+
+class Library:
+    """The proved library."""
+
+    def __init__(self):
+        self.library = ctypes.CDLL(os.path.join(TOP, "out", "libsimplecss.so"))
+        self.page = library_calls.tree_of(*((depth, *(it.encode() for it in [name, *sum(map(list, fields), [])])) for depth, name, fields in PAGE))
+        self.room, self.length, self.fault = ctypes.create_string_buffer(1 << 20), library_calls.SIZE(0), library_calls.TreeFault()
+
+    def call(self, name, *arguments):
+        """What a call writes, or nothing where it refuses a selector."""
+        name = "simplecss_" + name
+        tail = (ctypes.byref(self.fault),) if name in library_calls.WITH_TREE else ()
+        words = library_calls.words_of(arguments)
+        status = getattr(self.library, name)(*words, self.room, library_calls.SIZE(1 << 20), ctypes.byref(self.length), *tail)
+        assert status in (library_calls.DONE, library_calls.REFUSED), status
+        return self.room[:self.length.value] if status == library_calls.DONE else b""
+
+    def answers(self, text):
+        """The answers of compare.mjs."""
+        sheet = library_calls.buffer_of([text])
+        return [self.call("sheet", *sheet), self.call("selector", text), self.call("skipped", text), self.call("list", text),
+                self.call("rules", *sheet), self.call("match", *sheet, *self.page), self.call("styles", *sheet, *self.page)]
+
+
+@functools.lru_cache(maxsize=None)
+def answered():
+    """The random texts, and what the proved library answers to each."""
+    texts, library = random_texts(), Library()
+    return texts, [library.answers(text) for text in texts]
+
+
+def as_text(answers):
+    """The same answers in the form of compare.rs."""
+    sheet, selector, skipped, _, _, matches, styles = answers
+    lines = [json.loads(line) for line in skipped.decode().splitlines()]
+    faults = "".join(f"{it['row']}:{it['column']}:{it['reason']}:{it['text']}\n" for it in lines)
+    rows = [json.loads(line) for line in styles.decode().splitlines()]
+    winners = "".join("".join(f"{it['name']}={it['value']}={str(it['important']).lower()};" for it in row) + "\n" for row in rows)
+    return [sheet, selector, faults.encode(), matches, winners.encode()]
+
+
+def compare(what, texts, wanted, got):
+    """Counts whether all answers are equal, and shows the first that is not."""
+    differ = [at for at in range(len(texts)) if at >= len(got) or got[at] != wanted[at]]
+    shown = f": {texts[differ[0]]!r}: {got[differ[0]] if differ[0] < len(got) else None}, not {wanted[differ[0]]}" if differ else ""
+    expect(not differ and len(got) == len(texts), f"{what}: {len(differ)} of {len(texts)} texts differ{shown}")
+    print(f"{what}: {len(texts)} texts, {len(differ)} differ")
+
+
+# ---- the Rust crate
+
+class Cargo:
+    """A folder in which cargo takes other crates from Debian's packages."""
+
+    def __init__(self, folder):
+        self.folder = folder
+        os.makedirs(os.path.join(folder, "home"))
+        with open(os.path.join(folder, "home", "config.toml"), "w", encoding="utf-8") as config:
+            config.write(f'[source.crates-io]\nreplace-with = "debian"\n[source.debian]\ndirectory = "{REGISTRY}"\n')
+        rustup = os.environ.get("RUSTUP_HOME") or os.path.expanduser("~/.rustup")
+        self.environment = {**os.environ, "CARGO_HOME": os.path.join(folder, "home"), "RUSTUP_HOME": rustup, "CARGO_TARGET_DIR": os.path.join(folder, "target"),
+                            "PATH": os.environ["PATH"] + os.pathsep + os.path.expanduser("~/.cargo/bin")}
+
+    def __call__(self, words, cwd, what, **options):
+        """Runs cargo, and counts whether it ends with status 0 and warns of nothing."""
+        done = works(["cargo", *words, "--offline"], what, cwd, env=self.environment, **options)
+        warned = [line for line in done.stderr.decode().splitlines() if line.startswith("warning") and "Cargo.lock" not in line]
+        expect(not warned, f"{what} warns: {warned[:3]}")
+        return done
+
+    def has(self, name):
+        """Whether a crate is among Debian's."""
+        return bool(glob.glob(os.path.join(REGISTRY, name + "-[0-9]*")))
+
+    def project(self, name, needs, **files):
+        """A folder with a program or tests over the crate."""
+        folder = os.path.join(self.folder, name)
+        for path, text in {"Cargo.toml": f'[package]\nname = "{name}"\nversion = "0.0.0"\nedition = "2021"\n[dependencies]\n{needs}[profile.release]\nlto = true\ncodegen-units = 1\n[workspace]\n', **files}.items():
+            os.makedirs(os.path.dirname(os.path.join(folder, path)), exist_ok=True)
+            with open(os.path.join(folder, path), "w", encoding="utf-8") as file:
+                file.write(text)
+        return folder
+
+
+def text_of(*path):
+    """A file of this repository as text."""
+    with open(os.path.join(TOP, *path), encoding="utf-8") as file:
+        return file.read()
+
+
+def tests_of_0_2_2():
+    """The test files of the crate 0.2.2 by their names, but the one that runs an example of its own."""
+    folder, found = os.environ.get("SIMPLECSS_TESTS"), {}
+    for path in sorted(glob.glob(os.path.join(folder, "*"))) if folder else []:
+        with open(path, encoding="utf-8") as file:
+            text = file.read()
+        if path.endswith(".rs"):
+            found["tests/" + os.path.basename(path)] = text
+        parts = re.split(r"(?m)^// ===== (tests/\S+\.rs|\S+) =====\n", text)
+        found.update((name, body) for name, body in zip(parts[1::2], parts[2::2]) if name.startswith("tests/"))
+    return {name: text for name, text in found.items() if not name.endswith("warnings.rs")}
+
+
+def run_tests_of_0_2_2(cargo, package):
+    """The crate's own tests pass, unchanged."""
+    tests = tests_of_0_2_2()
+    if not tests or not cargo.has("roxmltree"):
+        left_out.append("the tests of the crate 0.2.2: SIMPLECSS_TESTS names none, or there is no librust-roxmltree-dev")
+        return
+    folder = cargo.project("own_tests", f'simplecss = {{ path = "{package}" }}\nroxmltree = "0.16"\n', **{"src/lib.rs": "", **tests})
+    done = run(["cargo", "test", "--offline"], folder, env=cargo.environment)
+    counts = re.findall(r"test result: \w+\. (\d+) passed; (\d+) failed", done.stdout.decode())
+    passed, failed = (sum(int(it[at]) for it in counts) for at in (0, 1))
+    print(f"the tests of the crate 0.2.2: {passed} passed, {failed} failed")
+    expect(done.returncode == 0 and failed == 0 and passed > 0, f"the tests of the crate 0.2.2: {done.stdout.decode()[-1500:]} {done.stderr.decode()[-1500:]}")
+
+
+WARNINGS = """
+use std::sync::Mutex;
+static SEEN: Mutex<Vec<String>> = Mutex::new(Vec::new());
+struct Keeps;
+impl log::Log for Keeps {
+    fn enabled(&self, _: &log::Metadata) -> bool { true }
+    fn log(&self, record: &log::Record) { SEEN.lock().unwrap().push(format!("{}: {}", record.level(), record.args())) }
+    fn flush(&self) {}
+}
+fn main() {
+    log::set_logger(&Keeps).unwrap();
+    log::set_max_level(log::LevelFilter::Trace);
+    for text in ["> {}", "@import 'subs.css';", "a:x {}"] { simplecss::StyleSheet::parse(text); }
+    print!("{}", SEEN.lock().unwrap().join("\\n"));
+}
+"""
+WARNED = "WARN: Selector parsing failed cause unexpected combinator.\nWARN: The @import rule is not supported. Skipped.\nWARN: ':x' is not supported. Selector skipped."
+DRAWING = b"<svg><style>.a { fill: red } path { fill: blue !important; x: 1 }</style><path class='a' style='fill: none; x: 2'/></svg>"
+
+
+def test_crate(folder):
+    """The erased crate."""
+    packed = made("simplecss-0.2.2.crate")
+    cargo = Cargo(folder)
+    if not packed or not shutil.which("cargo", path=cargo.environment["PATH"]):
+        left_out.append("the Rust crate was not compiled: there is no cargo")
+        return
+    if not cargo.has("log"):
+        left_out.append("the Rust crate was not compiled: there is no librust-log-dev")
+        return
+    unpack(packed, folder)
+    package = os.path.join(folder, "simplecss-0.2.2")
+    cargo(["doc", "--no-deps"], package, "cargo doc")
+    if run(["cargo", "clippy", "--version"], env=cargo.environment).returncode == 0:
+        cargo(["clippy", "--all-features"], package, "cargo clippy")
+        cargo(["clippy", "--no-default-features"], package, "cargo clippy without features")
+    else:
+        left_out.append("clippy of the Rust crate: there is none")
+    if cargo.has("roxmltree"):
+        cargo(["test", "--doc"], package, "the crate's doc tests")
+        cargo(["package", "--allow-dirty"], package, "cargo package")
+        done = cargo(["run", "-q", "--example", "drawing"], package, "the example", input=DRAWING)
+        expect(done.stdout.decode().splitlines()[-1:] == ['path fill="blue" x="2"'], f"the example prints {done.stdout}")
+    run_tests_of_0_2_2(cargo, package)
+    needs = f'simplecss = {{ path = "{package}" }}\n'
+    done = cargo(["run", "-q"], cargo.project("warnings", needs + 'log = "0.4"\n', **{"src/main.rs": WARNINGS}), "warnings")
+    expect(done.stdout.decode() == WARNED, f"warnings: {done.stdout.decode()!r}")
+    compare_crate(cargo, needs)
+    measure_crate(cargo, needs)
+
+
+def compare_crate(cargo, needs):
+    """The crate answers as the proved library does."""
+    project = cargo.project("compare", needs, **{"src/main.rs": text_of("tests", "release", "compare.rs")})
+    texts, wanted = answered()
+    done = cargo(["run", "-q", "--release"], project, "the comparison", input=framed(texts))
+    compare("the Rust crate and the proved library", texts, [as_text(it) for it in wanted], parts_of(done.stdout, 5))
+
+
+def measure_crate(cargo, needs):
+    """The crate is no slower than the one of Debian: parsing, and matching by testing each rule on each element."""
+    sheets = glob.glob("/usr/share/nodejs/bootstrap/dist/css/bootstrap.css") + glob.glob("/usr/share/javascript/bootstrap4/css/bootstrap.css")
+    if not cargo.has("simplecss") or not sheets:
+        left_out.append("the speed of the Rust crate: there is no librust-simplecss-dev or no libjs-bootstrap4")
+        return
+    peer = 'peer = { package = "simplecss", version = "=0.2.0" }\n'
+    folder = os.path.join(cargo.folder, "speed")
+    peer_source = glob.glob(os.path.join(REGISTRY, "simplecss-0.2.0"))[0]
+    shutil.copytree(peer_source, os.path.join(cargo.folder, "peer"))
+    toml = os.path.join(cargo.folder, "peer", "Cargo.toml")
+    with open(toml, encoding="utf-8") as file:
+        stated = file.read().replace('name = "simplecss"', 'name = "peer"', 1)
+    with open(toml, "w", encoding="utf-8") as file:
+        file.write(stated)
+    peer = f'peer = {{ path = "{os.path.join(cargo.folder, "peer")}" }}\n'
+    cargo.project("speed", needs + peer, **{"src/main.rs": text_of("tests", "release", "speed.rs")})
+    done = works(["cargo", "run", "-q", "--release", "--offline", "--", sheets[0]], "the speed", folder, env=cargo.environment)
+    print(done.stdout.decode(), end="")
+
+
+# ---- the other packages
+
+def test_wheel(folder):
+    """The wheel's package passes its tests where nothing else of this repository is."""
+    wheel = made("simplecss-*-manylinux_2_5_x86_64*.whl")
+    arm = made("simplecss-*aarch64*.whl")
+    if not wheel or not arm:
+        return
+    environment = {"PATH": os.environ["PATH"], "HOME": folder, "PYTHONDONTWRITEBYTECODE": "1"}
+    if run([sys.executable, "-m", "venv", "--without-pip", os.path.join(folder, "probe")]).returncode:
+        left_out.append("the wheel was not installed: there is no python3-venv")
+        return
+    works([sys.executable, "-m", "venv", os.path.join(folder, "venv")], "venv")
+    python = os.path.join(folder, "venv", "bin", "python")
+    works([python, "-m", "pip", "install", "-q", "--no-index", "--no-deps", "--disable-pip-version-check", wheel], "pip install", folder, env=environment)
+    shutil.copytree(os.path.join(TOP, "python", "tests"), os.path.join(folder, "tests"))
+    done = run([python, "-m", "unittest", "discover", "-s", "tests"], folder, env=environment)
+    text = done.stderr.decode()
+    found = re.search(r"Ran (\d+) tests", text)
+    expect(done.returncode == 0 and found and int(found[1]) > 0, f"the package's tests on the wheel: {text[-1500:]}")
+    print(f"the package's tests on the wheel: {found[1] if found else 0}")
+    done = works([os.path.join(folder, "venv", "bin", "simplecss"), "--help"], "simplecss --help", folder, env=environment)
+    done = works([python, "-c", "import simplecss; print(simplecss.library_path(), simplecss.__version__)"], "where the library is", folder, env=environment)
+    path, _, version = done.stdout.decode().strip().rpartition(" ")
+    expect(path.startswith(folder) and version == library_calls.VERSION, f"the wheel uses {path}, {version}")
+    names = run(["nm", "-D", path]).stdout.decode() if shutil.which("nm") else ""
+    wanted = {"free", "malloc", "memcpy", "memmove", "memset", "realloc"}
+    expect(not names or set(re.findall(r" U (\S+)", names)) <= wanted, f"the library imports {re.findall(r' U (.*)', names)}")
+    run_on_arm(arm, folder)
+
+
+ARM = """
+#include <dlfcn.h>
+#include <stdint.h>
+#include <stdio.h>
+#include <stdlib.h>
+#include <string.h>
+typedef uint32_t call(const uint8_t *, size_t, uint8_t *, size_t, size_t *);
+typedef uint32_t texts(const uint8_t *, size_t, const size_t *, size_t, uint8_t *, size_t, size_t *);
+static uint8_t text[1 << 16], out[1 << 20];
+static void put(uint32_t status, size_t n) { if (status) n = 0; uint64_t w = n; fwrite(&w, 8, 1, stdout); fwrite(out, 1, n, stdout); }
+int main(int argc, char **argv) {
+    void *l = dlopen(argv[argc - 1], RTLD_NOW);
+    if (!l) { fputs(dlerror(), stderr); return 1; }
+    texts *sheet = (texts *)dlsym(l, "simplecss_sheet"), *rules = (texts *)dlsym(l, "simplecss_rules");
+    call *selector = (call *)dlsym(l, "simplecss_selector"), *skipped = (call *)dlsym(l, "simplecss_skipped");
+    for (uint64_t n; fread(&n, 8, 1, stdin) == 1;) {
+        size_t len = 0, end = fread(text, 1, n, stdin);
+        put(sheet(text, end, &end, 1, out, sizeof out, &len), len);
+        put(selector(text, end, out, sizeof out, &len), len);
+        put(skipped(text, end, out, sizeof out, &len), len);
+        put(rules(text, end, &end, 1, out, sizeof out, &len), len);
+    }
+}
+"""
+
+
+def run_on_arm(wheel, folder):
+    """The library for aarch64 answers as the proved one, in an emulator."""
+    if not shutil.which("qemu-aarch64") or not shutil.which("aarch64-linux-gnu-gcc"):
+        left_out.append("the wheel for aarch64 was not run: there is no qemu-user or no gcc-aarch64-linux-gnu")
+        return
+    shutil.unpack_archive(wheel, os.path.join(folder, "arm"), "zip")
+    source, program = os.path.join(folder, "arm.c"), os.path.join(folder, "arm_calls")
+    with open(source, "w", encoding="utf-8") as file:
+        file.write(ARM)
+    works(["aarch64-linux-gnu-gcc", "-O1", "-o", program, source, "-ldl"], "the program for aarch64")
+    texts, wanted = answered()
+    done = works(["qemu-aarch64", "-L", "/usr/aarch64-linux-gnu", program, os.path.join(folder, "arm", "simplecss", "libsimplecss.so")], "aarch64", input=framed(texts))
+    compare("the library for aarch64 and the proved library", texts, [[it[at] for at in (0, 1, 2, 4)] for it in wanted], parts_of(done.stdout, 4))
+
+
+def test_program(folder):
+    """The tarball and the Debian package work where they are unpacked."""
+    packed, debian = made("cssq-*-linux-x86_64.tar.gz"), made("cssq_*_amd64.deb")
+    if not packed or not debian:
+        return
+    unpack(packed, folder)
+    try_installation(glob.glob(os.path.join(folder, "cssq-*"))[0], folder)
+    if has("dpkg-deb", "the Debian package was not unpacked"):
+        root = os.path.join(folder, "root")
+        works(["dpkg-deb", "-x", debian, root], "dpkg-deb")
+        fields = works(["dpkg-deb", "-I", debian], "dpkg-deb -I").stdout.decode()
+        expect(f"Version: {library_calls.VERSION}" in fields and "Package: cssq" in fields, f"the Debian package: {fields}")
+        try_installation(os.path.join(root, "usr"), folder)
+
+
+def try_installation(prefix, folder):
+    """The program, the manual and the C library below a prefix."""
+    with open(os.path.join(folder, "page.css"), "w", encoding="utf-8") as file:
+        file.write(".note { color: red }\n")
+    with open(os.path.join(folder, "page.tree"), "w", encoding="utf-8") as file:
+        file.write("0\tdiv\n1\tp\tclass=note\n")
+    cssq = os.path.join(prefix, "bin", "cssq")
+    for words, wanted in ((["style", "page.css", "page.tree", "color"], "1:\n2: red\n"), (["--version"], f"cssq {library_calls.VERSION}\n")):
+        done = run([cssq, *words], folder, env={})
+        expect((done.returncode, done.stdout.decode()) == (0, wanted), f"the installed cssq {words}: {done}")
+    done = run([cssq, "--help"], folder, env={})
+    expect(done.returncode == 0 and done.stdout.startswith(b"cssq reads CSS 2.1"), f"the installed cssq --help: {done}")
+    if shutil.which("file"):
+        expect(b"statically linked" in run(["file", cssq]).stdout, "cssq is not linked statically")
+    if shutil.which("man"):
+        done = run(["man", "--warnings", "-l", os.path.join(prefix, "share/man/man1/cssq.1.gz")], env={**os.environ, "MANWIDTH": "120", "LC_ALL": "C.UTF-8"})
+        expect(done.returncode == 0 and not done.stderr and b"cssq selector TEXT" in done.stdout, f"the manual: {done.stderr} {done.stdout[:200]}")
+    if not has("gcc", "the C example over the tarball") or not has("pkg-config", "the C example over the tarball"):
+        return
+    environment = {**os.environ, "PKG_CONFIG_PATH": os.path.join(prefix, "lib", "pkgconfig")}
+    flags = works(["pkg-config", "--cflags", "--libs", "simplecss"], "pkg-config", env=environment).stdout.decode().split()
+    source, program = os.path.join(TOP, "examples", "c", "page.c"), os.path.join(folder, "page")
+    for more in ([], ["-static"]):
+        works(["gcc", "-std=c99", "-Wall", "-Werror", "-o", program, source, *flags, *more], f"page.c {more}")
+        done = run([program], env={"LD_LIBRARY_PATH": os.path.join(prefix, "lib")})
+        expect((done.returncode, done.stdout) == (0, b"1:\n2: 1 2\n3: 1\n"), f"page.c {more}: {done}")
+
+
+def test_npm(folder):
+    """The npm package answers as the proved library does, and the page works from a file."""
+    packed, page = made("simplecss-*.tgz"), made("playground.html")
+    if not packed or not page:
+        return
+    unpack(packed, folder)
+    package = os.path.join(folder, "package")
+    if has("node", "the npm package was not run"):
+        tree = os.path.join(folder, "page.json")
+        with open(tree, "w", encoding="utf-8") as file:
+            json.dump(PAGE, file)
+        texts, wanted = answered()
+        done = works(["node", os.path.join(TOP, "tests", "release", "compare.mjs"), package, tree], "node", input=framed(texts))
+        compare("the npm package and the proved library", texts, wanted, parts_of(done.stdout, 7))
+        bad = os.path.join(folder, "bad.css")
+        with open(bad, "w", encoding="utf-8") as file:
+            file.write("a < b { x: y }\n")
+        done = run(["node", os.path.join(package, "cli.mjs"), "lint", bad])
+        expect((done.returncode, done.stdout.decode()) == (1, f"{bad}:1:1: 'a < b': invalid ident\n"), f"simplecss lint: {done}")
+    browser = shutil.which("chromium") or shutil.which("chromium-browser")
+    if not browser:
+        left_out.append("the page was not opened: there is no chromium")
+        return
+    words = [browser, "--headless", "--no-sandbox", "--disable-gpu", f"--user-data-dir={folder}/profile", "--virtual-time-budget=20000", "--dump-dom", "file://" + page]
+    dom = run(words).stdout.decode()
+    expect('data-done="yes"' in dom and "(0,1,0) *[class~='note'] { color: red !important }" in dom and "at-rule not supported" in dom, f"the page: {dom[-800:]}")
+
+
+def test_twice(folder):
+    """Another run makes the same bytes."""
+    kit = os.path.dirname(run(["rt", "doc"]).stdout.decode().strip())
+    works([sys.executable, os.path.join(TOP, "tools", "release.py"), kit, os.path.join(folder, "again")], "the second release")
+    for path in sorted(glob.glob(os.path.join(MADE, "*"))):
+        with open(path, "rb") as first, open(os.path.join(folder, "again", os.path.basename(path)), "rb") as second:
+            expect(first.read() == second.read(), f"{os.path.basename(path)} has other bytes in a second run")
+    with open(os.path.join(MADE, "SHA256SUMS"), encoding="utf-8") as sums:
+        for line in sums:
+            total, _, name = line.strip().partition("  ")
+            with open(os.path.join(MADE, name), "rb") as file:
+                expect(hashlib.sha256(file.read()).hexdigest() == total, f"the sum of {name}")
+
+
+def main(words):
+    """Runs the parts that the words name."""
+    parts = {"crate": test_crate, "wheel": test_wheel, "program": test_program, "npm": test_npm, "twice": test_twice}
+    if not words:
+        done = run([os.path.join(TOP, "build"), "release"])
+        lines = [line for line in done.stderr.decode().splitlines() if "not made" in line]
+        left_out.extend(lines)
+        expect(done.returncode == 0 or bool(lines), f"./build release: status {done.returncode}: {done.stderr.decode()[-1500:]}")
+    for name in words or parts:
+        begun = time.monotonic()
+        with tempfile.TemporaryDirectory() as folder:
+            parts[name](folder)
+        print(f"{name}: {time.monotonic() - begun:.0f} s", flush=True)
+    for line in left_out:
+        print("left out:", line)
+    return checks.end()
+
+
+if __name__ == "__main__":
+    sys.exit(main(sys.argv[1:]))

@@ -1,0 +1,236 @@
+#!/usr/bin/env python3
+"""Writes the proved sources as a crate of Rust, by leaving out what only a prover reads.
+
+  tools/erase.py DIR    the package, with its Cargo.toml
+
+What is left out is listed here, and any other construct that Rust does not have is refused, with its
+file and line, here or by rustc. Nothing that runs is changed but two things: a formatter has no type
+parameter, since Rust's has none, and paths begin with the module that the erased crate has become. The
+names of Rattle's `std` are those of `release/rust/src/rattle_std`.
+"""
+
+from __future__ import annotations
+
+import re
+import shutil
+import sys
+from pathlib import Path
+from typing import Dict, List, Tuple
+
+TOP = Path(__file__).resolve().parent.parent
+PARTS = TOP / "release/rust"
+# What the package has, with all that these use; of `cssq` only the cascade.
+WHOLE = ("simplecss", "simplecss_faults", "simplecss_tree")
+CASCADE = "cssq/src/cascade.rt"
+# Attributes that stay, and that go. Of derived traits, `Drop` says only that a value may be dropped.
+KEPT_ATTRIBUTES = ("derive", "inline", "cold", "must_use", "allow", "doc", "rustfmt")
+DERIVED = ("Clone", "Copy", "Debug", "Default", "Eq", "Hash", "Ord", "PartialEq", "PartialOrd")
+CLAUSES = ("requires", "ensures", "decreases")
+TOKEN = re.compile(
+    r"""(?P<comment>//[^\n]*)
+    |(?P<raw>b?r(?P<hashes>\#*)".*?"(?P=hashes))
+    |(?P<string>b?"(?:[^"\\]|\\.)*")
+    |(?P<char>b?'(?:\\u\{[^}]*\}|\\x..|\\.|[^'\\\n])')
+    |(?P<lifetime>'[A-Za-z_]\w*)
+    |(?P<attribute>\#!?\[)
+    |(?P<word>[A-Za-z_]\w*)
+    |(?P<space>\s+)
+    |(?P<other>.)""",
+    re.X | re.S | re.A,
+)
+# After `ghost`: an import, a stated item, or the value of one.
+GHOST_USE = re.compile(r"\s+use\s[^;]*;")
+GHOST_ITEM = re.compile(r"\s+\w+\s*[:=]\s*(?=\{)", re.A)
+CLAUSE = re.compile(r"(?:\s*\*)?(?:\s+\w+)?\s*(?=\{)", re.A)
+DOCUMENTATION = re.compile(r"(?:[ \t]*///[^\n]*\n)+[ \t]*\Z")
+# What stands between a function's head and a clause: comments on clauses.
+REMARKS = re.compile(r"(?:\s*//(?![/!])[^\n]*(?=\n)|\s)*\Z")
+
+
+class Unknown(Exception):
+    """A construct that is neither left out nor Rust."""
+
+
+class Eraser:
+    """What is left of one source."""
+
+    def __init__(self, path: Path) -> None:
+        self.path, self.text, self.at, self.out = path, path.read_text(encoding="utf-8"), 0, ""
+
+    def refuse(self, what: str) -> Unknown:
+        """Returns the error at the place that is read."""
+        line = self.text.count("\n", 0, self.at) + 1
+        return Unknown(f"{self.path.relative_to(TOP)}:{line}: erase.py does not know {what}")
+
+    def skip_group(self, start: int, closing: str) -> int:
+        """Returns where the group ends that opens at an index; texts and comments in it are skipped."""
+        opening, depth, at = self.text[start], 0, start
+        while at < len(self.text):
+            found = TOKEN.match(self.text, at)
+            assert found
+            depth += (found.group() == opening) - (found.group() == closing)
+            at = found.end()
+            if depth == 0:
+                return at
+        raise self.refuse(f"a group that {closing} does not close")
+
+    def drop_before(self) -> None:
+        """Drops what belongs to an item that is left out: its documentation, and that it is public."""
+        self.out = re.sub(r"\bpub(\([a-z]+\))?\s+\Z", "", self.out)
+        self.out = DOCUMENTATION.sub("", self.out)
+
+    def skip_ghost(self) -> None:
+        """Skips an item after the word `ghost`."""
+        self.drop_before()
+        found = GHOST_USE.match(self.text, self.at)
+        if not found:
+            found = GHOST_ITEM.match(self.text, self.at)
+            if not found:
+                raise self.refuse("this form of `ghost`")
+            end = self.skip_group(found.end(), "}")
+            found = re.compile(r"\s*[;,]|(?=\s*[})])").match(self.text, end)
+            if not found:
+                raise self.refuse("what follows an item of `ghost`")
+        self.at = found.end()
+
+    def read_attribute(self, start: int) -> None:
+        """Copies an attribute, or leaves it out."""
+        end = self.skip_group(self.text.index("[", start), "]")
+        text, self.at = self.text[start:end], end
+        name = re.match(r"#!?\[\s*(\w+)", text)
+        if name and name[1] == "tactic":
+            return
+        if not name or name[1] not in KEPT_ATTRIBUTES:
+            self.at = start
+            raise self.refuse(f"the attribute {text}")
+        if name[1] == "derive":
+            names = [it.strip() for it in text[text.index("(") + 1 : text.rindex(")")].split(",")]
+            names = [it for it in names if it not in ("Drop", "")]
+            for it in names:
+                if it not in DERIVED:
+                    raise self.refuse(f"the derived trait {it}")
+            text = f"#[derive({', '.join(names)})]" if names else ""
+        self.out += text
+
+    def read(self) -> str:
+        """Returns what is left of the source."""
+        while self.at < len(self.text):
+            found = TOKEN.match(self.text, self.at)
+            assert found
+            start, kind, self.at = self.at, found.lastgroup, found.end()
+            if kind == "attribute":
+                self.read_attribute(start)
+            elif found.group() == "ghost":
+                self.skip_ghost()
+            elif found.group() in CLAUSES:
+                clause = CLAUSE.match(self.text, self.at)
+                if not clause:
+                    raise self.refuse(f"this form of `{found.group()}`")
+                self.at = self.skip_group(clause.end(), "}")
+                self.out = REMARKS.sub("", self.out)
+            elif kind == "other" and not found.group().isascii() or self.text.startswith("/*", start):
+                raise self.refuse(f"`{self.text[start:start + 2]}`")
+            else:
+                self.out += found.group()
+        return self.out
+
+
+def without_writers(text: str, path: Path) -> str:
+    """Gives functions Rust's formatter, which has no type of where it writes."""
+    head = re.compile(r"(fn \w+<)((?:'\w+, )*)W: (?:fmt::)?Write((?:, [^>]*)?>)(\((?:[^()]|\([^()]*\))*?\bFormatter)<W>")
+    text = head.sub(lambda it: f"{it[1]}{it[2]}{it[3].removeprefix(', ')}{it[4]}<'_>", text)
+    text = re.sub(r"(fn \w+)<>", r"\1", re.sub(r"(fn \w+<[^<>]*), >", r"\1>", text))
+    if re.search(r"Formatter<W>", text):
+        raise Unknown(f"{path.relative_to(TOP)}: erase.py does not know this use of Formatter<W>")
+    return text
+
+
+def without_examples(text: str) -> str:
+    """Leaves out of the documentation what is of Rattle: blocks of code, and paragraphs that name definitions."""
+    out: List[str] = []
+    for block in re.split(r"(?m)((?:^[ \t]*//[/!].*\n)+)", text):
+        mark = re.match(r"[ \t]*//[/!]", block)
+        if not mark or not block.endswith("\n"):
+            out.append(block)
+            continue
+        lines = [it.strip()[3:].removeprefix(" ") for it in block.splitlines()]
+        joined = re.sub(r"(?ms)^```.*?^```$", "```", "\n".join(lines))
+        parts = [it for it in joined.split("\n\n") if it.strip()]
+        kept = [it for it in parts if not re.search(r"```|<!--|Rattle|specs/|\brt;", it)]
+        kept = [it[:-1] + "." if it.endswith(":") else it for it in kept]
+        rows = "\n\n".join(kept).split("\n")
+        out.append("".join(f"{mark[0]} {row}".rstrip() + "\n" for row in rows) if kept else "")
+    return "".join(out)
+
+
+def erased(path: Path) -> str:
+    """Returns a source as Rust, with its own paths."""
+    text = without_examples(without_writers(Eraser(path).read(), path))
+    # A bound that every type meets.
+    text = re.sub(r"\bDrop\b", "Sized", text)
+    return re.sub(r"\n\s*\n(\s*\n)+", "\n\n", re.sub(r"[ \t]+\n", "\n", text))
+
+
+def placed(text: str, crate: str, crates: List[str]) -> str:
+    """Returns a source whose paths are those in the package, with the names that Rattle has everywhere."""
+    text = re.sub(r"(?<![\w:])std::", "crate::rattle_std::", text)
+    text = re.sub(r"(?<![\w:$])crate::(?!rattle_std::)", f"crate::erased::{crate}::", text)
+    text = re.sub(rf"(?<![\w:$])({'|'.join(crates)})::", r"crate::erased::\1::", text)
+    text = re.sub(r"(?<![\w:$])log::", "crate::rattle_log::", text)
+    lines = text.split("\n")
+    head = 0
+    while lines[head].startswith(("//!", "#![")) or not lines[head].strip():
+        head += 1
+    return "\n".join([*lines[:head], "#[allow(unused_imports)]", "use crate::rattle_std::prelude::*;", *lines[head:]])
+
+
+def uses_of() -> Dict[str, List[str]]:
+    """Returns the crates of the repository, and those of it that each uses."""
+    rows = [it.partition("#")[0].partition(":") for it in (TOP / "crates.txt").read_text().splitlines()]
+    uses = {left.split()[0]: right.split() for left, _, right in rows if left.strip()}
+    return {name: [it for it in used if it in uses] for name, used in uses.items()}
+
+
+def sources() -> List[Tuple[str, Path, str]]:
+    """Returns the crate, the path and the place in the package of each source."""
+    uses, crates = uses_of(), list(WHOLE)
+    for crate in crates:
+        crates += [it for it in uses[crate] if it not in crates]
+    found = [("cssq", TOP / "crates" / CASCADE, "cssq/cascade.rs")]
+    for crate in sorted(crates):
+        top = TOP / "crates" / crate / "src"
+        for path in sorted(top.rglob("*.rt")):
+            name = "mod.rs" if path.name == "lib.rt" else str(path.relative_to(top).with_suffix(".rs"))
+            found.append((crate, path, f"{crate}/{name}"))
+    return found
+
+
+def write_package(to: Path) -> None:
+    """Writes the package."""
+    found = sources()
+    crates = sorted({crate for crate, _, _ in found})
+    shutil.copytree(PARTS, to, dirs_exist_ok=True)
+    whole = ""
+    for crate, path, name in found:
+        place = to / "src/erased" / name
+        place.parent.mkdir(parents=True, exist_ok=True)
+        text = placed(erased(path), crate, crates)
+        place.write_text(text, encoding="utf-8")
+        whole += text
+    (to / "src/erased/cssq/mod.rs").write_text("pub mod cascade;\n")
+    (to / "src/erased/mod.rs").write_text("".join(f"pub mod {it};\n" for it in crates))
+    # The oldest edition that the sources let it be: only the newest has conditions with several `let`.
+    edition, version = ("2024", "1.88") if re.search(r"&&\s*let\b|\b(if|while) let\b[^{;]*&&", whole) else ("2021", "1.81")
+    manifest = (to / "Cargo.toml").read_text()
+    (to / "Cargo.toml").write_text(manifest.replace("EDITION", edition).replace("RUST", version))
+    for licence in TOP.glob("LICENSE-*"):
+        shutil.copy(licence, to)
+
+
+if __name__ == "__main__":
+    if len(sys.argv) != 2:
+        sys.exit("usage: tools/erase.py DIR")
+    try:
+        write_package(Path(sys.argv[1]))
+    except Unknown as unknown:
+        sys.exit(str(unknown))
