@@ -9,10 +9,11 @@ The work is done by the C library `libsimplecss`; `docs/PYTHON.md` says where it
 Every call may be made from any thread.
 """
 
-from ._inline import inline
+from ._declaration import Declaration
+from ._inline import NotWritten, inline
 from ._library import LibraryError, __version__, library_path
 from ._selectors import Selector, SelectorError
-from ._sheet import Declaration, Rule, Skipped, StyleSheet
+from ._sheet import Rule, Skipped, StyleSheet
 from ._tree import Element, Item, Tree, TreeError
 
 __all__ = [
@@ -20,6 +21,7 @@ __all__ = [
     "Element",
     "Item",
     "LibraryError",
+    "NotWritten",
     "Rule",
     "Selector",
     "SelectorError",

@@ -13,7 +13,7 @@ from typing import Any, Callable, List, Optional, Sequence, Tuple
 
 from . import _lint
 from ._encoding import decode_page
-from ._inline import inline
+from ._inline import NotWritten, inline
 from ._library import LibraryError, __version__
 from ._page import Page
 from ._selectors import SelectorError
@@ -213,16 +213,23 @@ def _show_found(words: argparse.Namespace, name: str, found: List[Element]) -> N
 
 def _inline(words: argparse.Namespace) -> int:
     css = "\n".join(map(_read, words.sheets))
+    left: List[NotWritten] = []
     try:
-        result = inline(_read_bytes(words.page), css)
+        result = inline(
+            _read_bytes(words.page), css, folder=words.folder, base_url=words.base_url,
+            preserve=words.preserve, keep_style=words.keep_style,
+            remove_classes=words.remove_classes, attributes=words.attributes, report=left,
+        )
     except UnicodeDecodeError as error:
         raise _Failure(f"cannot read {words.page}: not {error.encoding}", UNREADABLE) from None
     except TreeError as error:
         raise _Failure(f"{words.page}: {error}", REFUSED) from None
     except ValueError as error:
         raise _Failure(str(error), REFUSED) from None
+    for each in left if words.report else ():
+        _say(f"{words.page}: '{each.text}': {each.reason}")
     if words.json:
-        _print_json({"html": decode_page(result)[0]})
+        _print_json({"html": decode_page(result)[0], "left": [each._asdict() for each in left]})
     elif hasattr(sys.stdout, "buffer"):
         sys.stdout.flush()
         sys.stdout.buffer.write(result)
@@ -280,8 +287,7 @@ def _parser() -> argparse.ArgumentParser:
     command.add_argument("files", nargs="+", metavar="FILE", help=sheets)
     _add_select(add("select", _select, "Show the elements that a list of selectors matches."))
     command = add("inline", _inline, "Write style sheets into the style attributes of a page.")
-    command.add_argument("page", metavar="PAGE")
-    command.add_argument("sheets", nargs="*", metavar="SHEET")
+    _add_inline(command)
     _add_lint(add("lint", _lint_files, "Show what is skipped of style sheets, and those of pages."))
     return parser
 
@@ -297,6 +303,21 @@ def _add_select(command: Any) -> None:
     )
     command.add_argument("selectors", metavar="SELECTORS")
     command.add_argument("pages", nargs="+", metavar="PAGE")
+
+
+def _add_inline(command: Any) -> None:
+    command.add_argument("--folder", help="where the files of links to style sheets are")
+    command.add_argument("--base-url", metavar="URL", help="what relative urls are taken from")
+    command.add_argument("--preserve", metavar="SELECTORS", help="style elements that stay")
+    for name, text in (
+        ("keep-style", "leave all style elements"),
+        ("remove-classes", "remove the classes that no rule needs any more"),
+        ("attributes", "write `width`, `bgcolor` and the like beside styles"),
+        ("report", "say on standard error what could not be written"),
+    ):
+        command.add_argument(f"--{name}", action="store_true", help=text)
+    command.add_argument("page", metavar="PAGE")
+    command.add_argument("sheets", nargs="*", metavar="SHEET")
 
 
 def _add_lint(command: Any) -> None:

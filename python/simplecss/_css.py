@@ -6,7 +6,7 @@ from __future__ import annotations
 import re
 from typing import List, Tuple
 
-from ._sheet import Declaration
+from ._declaration import Declaration
 
 _NAME = re.compile(r"--[-\w]*|-?[A-Za-z_][-\w]*")
 _IMPORTANT = re.compile(r"!\s*important\s*$", re.IGNORECASE)

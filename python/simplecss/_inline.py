@@ -6,15 +6,33 @@ the library's answer.
 
 from __future__ import annotations
 
+import os
 import re
-from typing import Any, Dict, FrozenSet, Iterable, Iterator, List, NamedTuple, Optional, Set, Tuple, Union
+import urllib.parse
+from pathlib import Path
+from typing import (
+    Any,
+    Dict,
+    FrozenSet,
+    Iterable,
+    Iterator,
+    List,
+    Match,
+    NamedTuple,
+    Optional,
+    Pattern,
+    Set,
+    Tuple,
+    TypeVar,
+)
 
 from . import _library as library
 from ._css import declarations, has_rules, pieces, statements, without_comments
+from ._declaration import Declaration
 from ._encoding import decode_page
 from ._page import Content, Page
 from ._selectors import Selector, SelectorError
-from ._sheet import Declaration, Prepared
+from ._sheet import Prepared
 from ._tree import Tree
 
 # What a selector may have that the library does not read and that browsers know. A rule set with
@@ -73,6 +91,24 @@ _PLAIN_VALUE = re.compile(
     re.IGNORECASE,
 )
 
+_URL = re.compile(r"""(\burl\(\s*|@import\s+(?=["']))(["']?)([^"'()\\]*?)\2(\s*\)|(?<=["']))""", re.IGNORECASE)
+_URL_ATTRIBUTES = frozenset(("href", "src", "background", "action", "poster"))
+_CLASS = re.compile(r"\.(-?[_a-zA-Z\u0080-\U0010ffff][-\w]*)")
+# The attributes that say the same as a property: for which elements, and for which values.
+_CELLS = frozenset(("td", "th", "tr"))
+_TABLES = _CELLS | {"table"}
+_SIZED = frozenset(("table", "td", "th", "img"))
+_SIZE_FORM = re.compile(r"(\d+%?)(?:px)?")
+_COLOR_FORM = re.compile(r"(#[0-9a-f]{6}|[a-z]+)")
+_ATTRIBUTES: Dict[str, Tuple[Tuple[str, FrozenSet[str], Pattern[str]], ...]] = {
+    "width": (("width", _SIZED, _SIZE_FORM),),
+    "height": (("height", _SIZED, _SIZE_FORM),),
+    "background-color": (("bgcolor", _TABLES | {"body"}, _COLOR_FORM),),
+    "text-align": (("align", _CELLS, re.compile("(left|right|center|justify)")),),
+    "vertical-align": (("valign", _CELLS, re.compile("(top|middle|bottom|baseline)")),),
+}
+
+Document = TypeVar("Document", str, bytes)
 Specificity = Tuple[int, ...]
 _GREATEST: Specificity = (256, 256, 256)
 _EVERYTHING = "*"
@@ -110,6 +146,8 @@ class _Statement:
         # The families of the declarations that stay, too.
         self.left: Set[str] = set()
         self.is_whole = True
+        # Why all of it stays.
+        self.reason = "an at-rule" if head.startswith("@") else "a browser may drop the list"
 
     def groups(self, specificity: Specificity) -> List[_Group]:
         """Returns the declarations by name and importance, each where its last one is."""
@@ -153,6 +191,13 @@ class _Sheet:
         return any(each.going for each in self.statements)
 
 
+class NotWritten(NamedTuple):
+    """What `inline` leaves in a sheet: the selectors or the at-rule, and why."""
+
+    text: str
+    reason: str
+
+
 class _Kept(NamedTuple):
     """A rule that stays: a selector that matches all that its own does, or `*`; its specificity, as
     far as it is known; and its declarations."""
@@ -172,6 +217,13 @@ def family_of(name: str) -> str:
         return _EVERYTHING
     word = _PREFIX.sub("", name, count=1).partition("-")[0]
     return _FAMILIES.get(word, word)
+
+
+def _reason_of(selector: str) -> str:
+    """Returns why a selector stays."""
+    if _CLIENTS.search(selector):
+        return "it is for a mail client"
+    return "it has a pseudo-element" if _BOX.search(selector) else "it depends on a state, or is of CSS 3"
 
 
 def _sort(statement: _Statement) -> bool:
@@ -199,6 +251,7 @@ def _sort(statement: _Statement) -> bool:
             staying.append(selector)
         else:
             going.append((selector, found.specificity))
+    statement.reason = "it has rules in it"
     if not has_rules(block):
         statement.is_whole = False
         statement.going, statement.staying = going, staying
@@ -254,27 +307,57 @@ def _kept_rules(
             yield _Kept(text, specificity, number, found, is_layered)
 
 
+class _Options(NamedTuple):
+    """What `inline` is asked for beside its main work."""
+
+    folder: "Optional[os.PathLike[str] | str]" = None
+    base_url: Optional[str] = None
+    preserve: Optional[str] = None
+    keep_style: bool = False
+    remove_classes: bool = False
+    attributes: bool = False
+
+
 class _Inliner:
     """Writes sheets into the attributes of a page."""
 
-    def __init__(self, page: Page, css: str) -> None:
+    def __init__(self, page: Page, css: str, options: _Options) -> None:
         self.page = page
+        self.options = options
         self.tree: Tree = page.tree
         self.sheets: List[_Sheet] = [_Sheet(css, None, 0)]
         self.kept: List[_Kept] = []
+        preserved = self.tree._found_set(options.preserve) if options.preserve else frozenset()
         number = len(self.sheets[0].statements)
-        for content in page.styles():
-            if page.is_plain(content):
-                sheet = _Sheet(page.sheet_of(content), content, number)
+        for content in page.sources():
+            text = self._read(content)
+            if text is None:
+                continue
+            if page.is_plain(content) and content.element not in preserved:
+                sheet = _Sheet(text, content, number)
                 self.sheets.append(sheet)
                 number += len(sheet.statements)
             elif page.is_style_sheet(content):
-                self.kept.extend(_rules_of(page.sheet_of(content), number))
+                self.kept.extend(_rules_of(text, number))
                 number += 1
         self.statements = [each for sheet in self.sheets for each in sheet.statements]
         self.rules: List[List[_Group]] = []
         self.rule_selectors: List[str] = []
         self.prepared = self._prepare()
+
+    def _read(self, content: Content) -> Optional[str]:
+        """Returns the sheet of an element, with its urls taken from where they are to be, or `None`
+        for a link to what is not in the folder."""
+        if content.href is None:
+            css = self.page.sheet_of(content)
+        else:
+            file = None
+            if self.options.folder is not None:
+                file = _file_of(self.options.folder, content.href)
+            if file is None:
+                return None
+            css = _rebased(file.read_bytes().decode("utf-8-sig"), content.href)
+        return css if self.options.base_url is None else _rebased(css, self.options.base_url)
 
     def _prepare(self) -> Prepared:
         """Makes the rules that are written into attributes."""
@@ -324,11 +407,50 @@ class _Inliner:
             left = _left_families(groups, rivals.get(index, []))
             if left:
                 self._leave(rules, left)
-            texts = self._texts([each for each in groups if not _is_in(each.name, left)], rules)
-            if texts:
-                self.page.add_declarations(index, texts)
+            groups = [each for each in groups if not _is_in(each.name, left)]
+            if groups:
+                self.page.add_declarations(index, self._texts(groups, rules))
+            if self.options.attributes:
+                _set_attributes(self.page, index, groups)
         self._keep_clients(used)
+        if self.options.base_url is not None:
+            self._rebase_attributes(self.options.base_url)
+        if self.options.remove_classes:
+            self._remove_classes()
         self._write_sheets()
+
+    def _rebase_attributes(self, base: str) -> None:
+        for index, attributes in enumerate(self.tree._attributes):
+            for name in _URL_ATTRIBUTES & attributes.keys():
+                if attributes[name] != _joined(base, attributes[name]):
+                    self.page.set_attribute(index, name, _joined(base, attributes[name]))
+
+    def _remove_classes(self) -> None:
+        """Removes the classes that no rule that stays names."""
+        written = {sheet.content for sheet in self.sheets}
+        kept = " ".join(sheet.kept("\n") for sheet in self.sheets)
+        kept += " ".join(
+            self.page.sheet_of(each) for each in self.page.styles() if each not in written
+        )
+        if self.options.keep_style or "[class" in kept.lower():
+            return
+        named = frozenset(_CLASS.findall(kept))
+        for index, attributes in enumerate(self.tree._attributes):
+            if "class" in attributes:
+                words = [each for each in attributes["class"].split() if each in named]
+                self.page.set_attribute(index, "class", " ".join(words) or None)
+
+    def not_written(self) -> Iterator[NotWritten]:
+        """Yields what could not be written into attributes, and why."""
+        for statement in self.statements:
+            if statement.is_whole:
+                yield NotWritten(statement.head.strip(), statement.reason)
+                continue
+            for selector in statement.staying:
+                yield NotWritten(selector, _reason_of(selector))
+            if statement.left:
+                selectors = ", ".join(selector for selector, _ in statement.going)
+                yield NotWritten(selectors, "a rule that stays could override it")
 
     def _rivals(self) -> Dict[int, List[_Kept]]:
         """Returns for each element the rules that stay and may match it."""
@@ -386,7 +508,7 @@ class _Inliner:
             if sheet.content is None:
                 if kept:
                     self.page.add_sheet(kept)
-            elif sheet.has_written():
+            elif not self.options.keep_style and (sheet.has_written() or sheet.content.href is not None):
                 self.page.set_sheet(sheet.content, kept)
 
 
@@ -417,7 +539,56 @@ def _left_families(groups: List[_Group], rivals: List[_Kept]) -> FrozenSet[str]:
     return frozenset(found)
 
 
-def inline(html: Union[str, bytes], css: str = "") -> Any:
+def _rebased(css: str, base: str) -> str:
+    """Returns a sheet with relative urls taken from a base."""
+
+    def one(found: Match[str]) -> str:
+        before, quote, url, after = found.groups()
+        return f"{before}{quote}{_joined(base, url)}{quote}{after}"
+
+    return _URL.sub(one, css)
+
+
+def _joined(base: str, url: str) -> str:
+    """Returns a url taken from a base; one within the page, or data, as it is."""
+    if not url or url.startswith("#") or re.match(r"[A-Za-z][-+.\w]*:", url):
+        return url
+    return urllib.parse.urljoin(base, url)
+
+
+def _file_of(folder: "os.PathLike[str] | str", href: str) -> Optional[Path]:
+    """Returns the file in a folder that a link leads to, if it is one."""
+    path = urllib.parse.unquote(href.partition("#")[0].partition("?")[0])
+    if re.match(r"[A-Za-z][-+.\w]*:|//", path) or not path:
+        return None
+    top = Path(folder).resolve()
+    file = (top / path.lstrip("/")).resolve()
+    return file if top in file.parents and file.is_file() else None
+
+
+def _set_attributes(page: Page, index: int, groups: Iterable[_Group]) -> None:
+    """Writes what older mail clients read of attributes, where the element has none of its own."""
+    name = page.tree._names[index]
+    for group in groups:
+        value = group.declarations[-1].value.lower()
+        for attribute, names, form in _ATTRIBUTES.get(group.name, ()):
+            found = form.fullmatch(value)
+            if found and name in names and attribute not in page.tree._attributes[index]:
+                page.set_attribute(index, attribute, found.group(1))
+
+
+def inline(
+    html: Document,
+    css: str = "",
+    *,
+    folder: "Optional[os.PathLike[str] | str]" = None,
+    base_url: Optional[str] = None,
+    preserve: Optional[str] = None,
+    keep_style: bool = False,
+    remove_classes: bool = False,
+    attributes: bool = False,
+    report: Optional[List[NotWritten]] = None,
+) -> Document:
     """Returns the document with style sheets written into `style` attributes.
 
     The sheets are `css` and then the document's own `style` elements. Each element gets the
@@ -426,14 +597,29 @@ def inline(html: Union[str, bytes], css: str = "") -> Any:
     of the page (`:hover`), that CSS 2.1 does not have, and at-rules stay in a `style` element, as
     does one for some media only, and with them what they could override. Everything else is
     unchanged, byte for byte. A document in bytes is returned in bytes.
+
+    `folder` has the files of `link rel=stylesheet`, which are written, too. `base_url` is what
+    relative urls are taken from. `style` elements that the selectors `preserve` match stay as they
+    are, and with `keep_style` all do. `remove_classes` removes the classes that no rule needs any
+    more. `attributes` writes `width`, `bgcolor` and the like beside styles. `report` gets what could
+    not be written.
     """
     library.expect_text(css)
     css.encode("utf-8")
+    options = _Options(folder, base_url, preserve, keep_style, remove_classes, attributes)
     if isinstance(html, bytes):
         text, encode = decode_page(html)
-        return encode(inline(text, css))
+        return encode(_inlined(text, css, options, report))
     library.expect_text(html)
     html.encode("utf-8")
-    page = Page(html)
-    _Inliner(page, css).write()
-    return page.edited()
+    return _inlined(html, css, options, report)
+
+
+def _inlined(
+    text: str, css: str, options: _Options, report: Optional[List[NotWritten]]
+) -> str:
+    inliner = _Inliner(Page(text), css, options)
+    inliner.write()
+    if report is not None:
+        report.extend(inliner.not_written())
+    return inliner.page.edited()

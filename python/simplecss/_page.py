@@ -7,7 +7,7 @@ from html import unescape
 from typing import Dict, List, NamedTuple, Optional, Tuple
 
 from ._html import HTML, Builder, TooDeep
-from ._tokens import attributes_of
+from ._tokens import BLANKS, Attribute, attributes_of
 from ._tree import Tree, TreeError
 from ._xml import XmlError, is_xml, read_xml
 
@@ -25,11 +25,13 @@ Span = Tuple[int, int]
 
 
 class Content(NamedTuple):
-    """A `style` element: its index, where it is, and where its content is."""
+    """A `style` element: its index, where it is, and where its content is. Of a `link` to a sheet
+    also its `href`."""
 
     element: int
     span: Span
     inner: Span
+    href: Optional[str] = None
 
 
 def style_text(css: str, has_references: bool) -> str:
@@ -71,6 +73,8 @@ class Page:
         # The `style` elements whose content is markup, as in SVG.
         self._has_references: Dict[int, bool] = {}
         self._edits: Dict[Span, List[str]] = {}
+        self._declared: Dict[int, List[str]] = {}
+        self._changes: Dict[int, Dict[str, Optional[str]]] = {}
         self._doctype_end = 0
         line_end = text.find("\n")
         self.newline = "\r\n" if line_end > 0 and text[line_end - 1] == "\r" else "\n"
@@ -119,6 +123,19 @@ class Page:
             if tag is not None and self.tree._names[index] == "style"
         ]
 
+    def sources(self) -> List[Content]:
+        """Returns the `style` elements and the links to style sheets, in order."""
+        links = [
+            Content(index, tag, tag, self.tree._attributes[index].get("href", "").strip())
+            for index, tag in enumerate(self.tags)
+            if tag is not None and self.tree._names[index] == "link" and self._is_sheet_link(index)
+        ]
+        return sorted([*self.styles(), *links], key=lambda each: each.element)
+
+    def _is_sheet_link(self, index: int) -> bool:
+        words = self.tree._attributes[index].get("rel", "").lower().split()
+        return "stylesheet" in words and "alternate" not in words
+
     def sheet_of(self, content: Content) -> str:
         """Returns the sheet of a `style` element."""
         text = self.text[content.inner[0] : content.inner[1]]
@@ -127,13 +144,27 @@ class Page:
     def set_sheet(self, content: Content, css: str) -> None:
         """Replaces the sheet of a `style` element; without one the element goes, if it is in the
         head, where no selector can notice."""
-        if css:
+        if content.href is not None:
+            self._replace_link(content, css)
+        elif css:
             text = style_text(css, self._has_references[content.element])
             self._edit(content.inner, f"{self.newline}{text}{self.newline}")
         elif self._is_in_head(content.element):
             self._edit(content.span, "")
         else:
             self._edit(content.inner, "")
+
+    def _replace_link(self, content: Content, css: str) -> None:
+        text = self._style_element(css) if css else ""
+        is_needed = css or not self._is_in_head(content.element)
+        self._edit(content.span, text or "<style></style>" if is_needed else "")
+
+    def _style_element(self, css: str, prefix: str = "") -> str:
+        """Returns the text of a new `style` element."""
+        name = f"{prefix}:style" if prefix else "style"
+        css = css.replace("\r\n", "\n").replace("\n", self.newline)
+        text = style_text(css, self.is_xml)
+        return f"<{name}>{self.newline}{text}{self.newline}</{name}>"
 
     def _is_in_head(self, index: int) -> bool:
         parent = self.tree._parents[index]
@@ -142,16 +173,12 @@ class Page:
     def add_sheet(self, css: str) -> None:
         """Adds a `style` element before the others, else at the end of the head."""
         offset, prefix = self._place_of_style()
-        name = f"{prefix}:style" if prefix else "style"
-        css = css.replace("\r\n", "\n").replace("\n", self.newline)
-        text = style_text(css, self.is_xml)
-        lines = f"<{name}>{self.newline}{text}{self.newline}</{name}>"
-        self._edit((offset, offset), lines)
+        self._edit((offset, offset), self._style_element(css, prefix))
 
     def _place_of_style(self) -> Tuple[int, str]:
         """Returns where a new `style` element goes, and its prefix."""
         names = self.tree._names
-        for content in self.styles():
+        for content in self.sources():
             if self._is_in_head(content.element):
                 return content.span[0], ""
         for index, name in enumerate(names):
@@ -198,46 +225,74 @@ class Page:
 
     def add_declarations(self, index: int, declarations: List[str]) -> None:
         """Writes declarations into the `style` attribute of an element, before its own."""
-        tag = self.tags[index]
-        if tag is not None:
-            text = self.text[tag[0] : tag[1]]
-            self._edit(tag, _new_tag(text, declarations))
+        self._declared[index] = declarations
+
+    def set_attribute(self, index: int, name: str, value: Optional[str]) -> None:
+        """Sets an attribute of an element that has a tag, or removes it for `None`."""
+        self._changes.setdefault(index, {})[name] = value
 
     def _edit(self, span: Span, text: str) -> None:
         self._edits.setdefault(span, []).append(text)
 
     def edited(self) -> str:
         """Returns the text with all edits."""
+        for index in sorted({*self._declared, *self._changes}):
+            tag = self.tags[index]
+            if tag is not None:
+                changes = self._changes.get(index, {})
+                text = self.text[tag[0] : tag[1]]
+                self._edit(tag, _new_tag(text, self._declared.get(index, []), changes))
         parts = []
         last = 0
         for (start, end), texts in sorted(self._edits.items()):
-            parts.append(self.text[last:start])
-            parts.extend(texts)
-            last = end
+            if start >= last:
+                parts.append(self.text[last:start])
+                parts.extend(texts)
+                last = end
         parts.append(self.text[last:])
         return "".join(parts)
 
 
-def _new_tag(tag: str, declarations: List[str]) -> str:
-    """Returns the text of a start tag with the declarations in its attribute `style`."""
-    own = next((each for each in attributes_of(tag) if each.name == "style"), None)
-    if own is None:
-        return _with_attribute(tag, f'style="{_escape("; ".join(declarations), chr(34))}"')
+def _new_tag(tag: str, declarations: List[str], changes: Dict[str, Optional[str]]) -> str:
+    """Returns the text of a start tag with the declarations in its attribute `style`, and with
+    attributes set or removed."""
+    attributes = attributes_of(tag)
+    name = _TAG_NAME.match(tag)
+    last = name.end() if name else 1
+    parts = [tag[:last]]
+    missing: Dict[str, Optional[str]] = {"style": None, **changes}
+    for each in attributes:
+        text = tag[each.start : each.end]
+        before = tag[last : each.start]
+        last = each.end
+        if each.name not in missing or each.name == "style" and not declarations:
+            parts.append(before + text)
+            # A value that is missing after `=` would be what comes next.
+            parts.append('""' if each.value == "" else "")
+            continue
+        value = missing.pop(each.name)
+        if each.name == "style":
+            parts.append(before + _with_declarations(each, declarations))
+        elif value is not None:
+            parts.append(f'{before}{each.name}="{_escape(value, chr(34))}"')
+        else:
+            parts.append(before.rstrip(BLANKS))
+        # What follows a value in quotes may follow it at once; what follows another may not.
+        if tag[last : last + 1] not in (*BLANKS, "/", ">", "") and value is None:
+            parts.append(" ")
+    if "style" in missing and declarations:
+        parts.append(f' style="{_escape("; ".join(declarations), chr(34))}"')
+    for key, value in missing.items():
+        if value is not None:
+            parts.append(f' {key}="{_escape(value, chr(34))}"')
+    return "".join(parts) + tag[last:]
+
+
+def _with_declarations(own: Attribute, declarations: List[str]) -> str:
+    """Returns an attribute `style` with declarations before its own."""
     value = own.value or ""
     quote = value[0] if value[:1] in ("'", '"') else '"'
     raw = value[1:-1] if value[:1] == quote else value.replace('"', "&quot;")
     style = _escape("; ".join(declarations), quote)
     both = f"{style}; {raw}" if raw.strip() else style
-    # An attribute may follow a value in quotes at once, and a slash may end one without quotes.
-    space = "" if tag[own.end : own.end + 1] in (" ", "\t", "\n", "\f", "\r", "/", ">", "") else " "
-    return f"{tag[:own.start]}style={quote}{both}{quote}{space}{tag[own.end:]}"
-
-
-def _with_attribute(tag: str, attribute: str) -> str:
-    """Returns the text of a start tag with an attribute more, after its others."""
-    others = attributes_of(tag)
-    name = _TAG_NAME.match(tag)
-    end = others[-1].end if others else name.end() if name else 1
-    # A value that is missing after `=` would be the new attribute.
-    empty = '""' if others and others[-1].value == "" else ""
-    return f"{tag[:end]}{empty} {attribute}{tag[end:]}"
+    return f"style={quote}{both}{quote}"

@@ -5,21 +5,12 @@ from __future__ import annotations
 from typing import Any, Dict, Iterable, List, NamedTuple, Optional, Tuple, TypeVar, Union, overload
 
 from . import _library as library
+from ._declaration import Declaration
 from ._selectors import Reading, lines_of
+from ._specified import Inherit, inherited, specified_by
 from ._tree import Element, Tree
 
 T = TypeVar("T")
-
-
-class Declaration(NamedTuple):
-    """A declaration (CSS 2.1 section 4.1.8): `name`, `value`, and whether it is `important`."""
-
-    name: str
-    value: str
-    important: bool
-
-    def __str__(self) -> str:
-        return f"{self.name}: {self.value}{' !important' if self.important else ''}"
 
 
 class Rule(NamedTuple):
@@ -187,22 +178,40 @@ class StyleSheet:
         """Returns for each element the indices of the rules that match it, in order."""
         return self._prepare(_reading_of(tree)).match(tree)
 
-    def styles(self, tree: Tree) -> "ByElement[List[Declaration]]":
+    def styles(
+        self, tree: Tree, *, specified: bool = False, inherit: Inherit = False
+    ) -> "ByElement[List[Declaration]]":
         """Returns for each element the winning declaration of each name (CSS 2.1 section 6.4.1).
 
         They are in the order in which the cascade applies them: in that of their rules, and in a
-        rule as they appear.
+        rule as they appear. With `specified`, the declarations of the attribute `style` and the
+        presentation attributes of SVG take part. `inherit` names the properties that an element
+        without a declaration has from its parent; `True` is those of CSS 2.1 and of SVG.
         """
         prepared = self._prepare(_reading_of(tree))
         values: List[Any] = prepared.values
-        return ByElement([values[each] for each in found] for found in prepared.styles(tree))
+        found: List[List[Declaration]] = [
+            [values[each] for each in numbers] for numbers in prepared.styles(tree)
+        ]
+        if specified:
+            found = [specified_by(element, winners) for element, winners in zip(tree, found)]
+        if inherit:
+            found = inherited(tree, found, inherit)
+        return ByElement(found)
 
-    def style(self, tree: Tree, name: str) -> "ByElement[Optional[Declaration]]":
+    def style(
+        self, tree: Tree, name: str, *, specified: bool = False, inherit: Inherit = False
+    ) -> "ByElement[Optional[Declaration]]":
         """Returns for each element the winning declaration of the name, or `None`.
 
-        The name compares byte by byte.
+        The name compares byte by byte. `specified` and `inherit` are those of `styles`.
         """
         library.expect_text(name)
+        if specified or inherit:
+            every = self.styles(tree, specified=specified, inherit=inherit)
+            return ByElement(
+                next((each for each in found if each.name == name), None) for found in every
+            )
         prepared = self._prepare(_reading_of(tree))
         values: List[Any] = prepared.values
         return ByElement(

@@ -17,8 +17,8 @@ from typing import (
     NamedTuple,
     Optional,
     Sequence,
+    Set,
     Tuple,
-    Union,
 )
 
 from . import _library as library
@@ -31,7 +31,8 @@ from ._xml import XmlError, read_xml
 STATES = frozenset(("link", "visited", "hover", "active", "focus"))
 _NONE: FrozenSet[str] = frozenset()
 _LINK = frozenset(("link",))
-_LINK_SPACES = ("", "http://www.w3.org/1999/xhtml", "http://www.w3.org/2000/svg")
+_SVG_SPACE = "http://www.w3.org/2000/svg"
+_LINK_SPACES = ("", "http://www.w3.org/1999/xhtml", _SVG_SPACE)
 _WHITE_SPACE = re.compile("[\t\n\f\r]")
 
 # Selectors, and the states of the elements that each matches.
@@ -90,6 +91,11 @@ class Element:
     def states(self) -> FrozenSet[str]:
         """The states, as `link`."""
         return self.tree._states.get(self.index, _NONE)
+
+    @property
+    def is_drawn(self) -> bool:
+        """Whether it is an element of SVG."""
+        return self.index in self.tree._drawn
 
     @property
     def parent(self) -> Optional["Element"]:
@@ -231,6 +237,8 @@ class Tree:
         self._parents: List[int] = []
         self._depths: List[int] = []
         self._states: Dict[int, FrozenSet[str]] = {}
+        # The elements of SVG.
+        self._drawn: Set[int] = set()
         # Where each element begins: its row and column, or offsets in `_source`.
         self._places: List[Tuple[Optional[int], Optional[int]]] = []
         self._spans: Optional[List[Tuple[int, int, int]]] = None
@@ -327,6 +335,8 @@ class Tree:
             spans.append((start, inner, node.end[1]))
             if _is_link(node):
                 self._states[index] = _LINK
+            if node.space == SVG:
+                self._drawn.add(index)
             if node.children and (node.name != "template" or node.space != HTML):
                 waiting.extend((child, index) for child in reversed(node.children))
         self._spans = spans
@@ -353,6 +363,8 @@ class Tree:
             spans.append((tag.start, tag.inner, tag.end))
             if tag.is_link:
                 tree._states[index] = _LINK
+            if tag.space == _SVG_SPACE or not tag.space and found.tags[0].name == "svg":
+                tree._drawn.add(index)
         for begun, owner, value in found.texts:
             tree._texts.add(begun, owner, value)
         tree._spans = spans
@@ -396,6 +408,8 @@ class Tree:
         self._places.append((row, None if row is None else 1))
         if name in ("a", "area") and "href" in attributes and space[1:] in _LINK_SPACES:
             self._states[index] = _LINK
+        if space[1:] == _SVG_SPACE:
+            self._drawn.add(index)
         if self._nodes is not None:
             self._nodes.append(node)
         return index
@@ -445,6 +459,8 @@ class Tree:
         self._places.append((row, None if column is None else column + 1))
         if node.name in ("a", "area") and "href" in attributes:
             self._states[index] = _LINK
+        if getattr(node, "namespace", None) == _SVG_SPACE:
+            self._drawn.add(index)
         if self._nodes is not None:
             self._nodes.append(node)
         return index
@@ -631,6 +647,3 @@ def _local_attributes(items: Iterable[Tuple[Any, Any]]) -> Dict[str, str]:
     for key, value in spaced.items():
         found.setdefault(key, value)
     return found
-
-
-ElementOrIndex = Union[int, Element]

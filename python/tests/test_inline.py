@@ -2,6 +2,7 @@
 
 import os
 import sys
+import tempfile
 import unittest
 
 sys.path.insert(0, os.path.join(os.path.dirname(__file__), ".."))
@@ -208,6 +209,61 @@ class KeptRules(unittest.TestCase):
         self.assertEqual(inline(page), page)
         self.assertEqual(inline("<style TYPE='TEXT/CSS' MEDIA=ALL>a { n: 1 }</style><a>"), '<a style="n: 1">')
         self.assertEqual(inline("<p><style>p { n: 1 }</style>"), '<p style="n: 1"><style></style>')
+
+
+class Options(unittest.TestCase):
+    """What premailer and juice have, too."""
+
+    def test_folder(self):
+        with tempfile.TemporaryDirectory() as folder:
+            os.mkdir(os.path.join(folder, "css"))
+            with open(os.path.join(folder, "css", "a.css"), "w", encoding="utf-8") as file:
+                file.write("p { background: url(x.png) } p:hover { n: 1 }")
+            page = "<head><link rel=stylesheet href='css/a.css?1'></head><p>"
+            self.assertEqual(
+                inline(page, folder=folder),
+                "<head><style>\np:hover { n: 1 }\n</style></head>"
+                '<p style="background: url(css/x.png)">')
+            self.assertEqual(inline(page), page)
+            for href in ("http://x/css/a.css", "//x/css/a.css", "../a.css", "css", "b.css", "/css/../../a.css"):
+                other = page.replace("css/a.css?1", href)
+                self.assertEqual(inline(other, folder=folder), other)
+            self.assertEqual(inline(page, "p { background: none }", folder=folder).count("url(css/x.png)"), 1)
+
+    def test_base_url(self):
+        self.assertEqual(
+            inline("<style>p{n:url(a.png);m:url('data:x')}</style><p><a href=b?c&amp;d><a href='#e'><img src=//f/g>",
+                   base_url="http://x/y/z.html"),
+            "<p style=\"n: url(http://x/y/a.png); m: url('data:x')\">"
+            '<a href="http://x/y/b?c&amp;d"><a href=\'#e\'><img src="http://f/g">')
+
+    def test_preserve_and_keep(self):
+        page = "<style id=a>p { n: 1 }</style><style>p { m: 2 }</style><p>"
+        self.assertEqual(inline(page, preserve="#a"), '<style id=a>p { n: 1 }</style><p style="m: 2">')
+        self.assertEqual(inline(page, keep_style=True), page.replace("<p>", '<p style="n: 1; m: 2">'))
+
+    def test_remove_classes(self):
+        self.assertEqual(
+            inline("<style>.a { n: 1 } .b:hover { m: 2 }</style><p class='a b'><p class=a ><p CLASS=a id=x>",
+                   remove_classes=True),
+            '<style>\n.b:hover { m: 2 }\n</style><p class="b" style="n: 1"><p style="n: 1" >'
+            '<p id=x style="n: 1">')
+
+    def test_attributes(self):
+        self.assertEqual(
+            inline("<table><tbody><tr><td width=1><td>", "td { width: 20px; height: 5em; text-align: center;"
+                   " background-color: #FF0000; vertical-align: top }", attributes=True).count(
+                ' bgcolor="#ff0000"'), 2)
+        self.assertEqual(inline("<img>", "img { width: 50%; height: 7px }", attributes=True),
+                         '<img style="width: 50%; height: 7px" width="50%" height="7">')
+
+    def test_report(self):
+        report = []
+        inline("<a>", "@media x{} a:hover, a { n: 1 } a::before { m: 2 } a, a:q { o: 3 } a { n: 2 }", report=report)
+        self.assertEqual([tuple(each) for each in report], [
+            ("@media x", "an at-rule"), ("a:hover", "it depends on a state, or is of CSS 3"),
+            ("a", "a rule that stays could override it"), ("a::before", "it has a pseudo-element"),
+            ("a, a:q", "a browser may drop the list"), ("a", "a rule that stays could override it")])
 
 
 class Injection(unittest.TestCase):

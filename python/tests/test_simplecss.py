@@ -313,6 +313,27 @@ class Matching(unittest.TestCase):
                          [("margin", "0", False), ("color", "blue", True)])
         self.assertEqual(self.sheet.styles(self.tree)[3], [])
 
+    def test_specified(self):
+        sheet = simplecss.StyleSheet("p { color: red !important; top: 1px } rect { fill: red } * { stroke: x }")
+        tree = simplecss.Tree.from_html(
+            "<p style='color: blue; top: 2px; left: 3px'><svg fill=blue><rect fill=blue /><g stroke=y id=z>")
+        styles = sheet.styles(tree, specified=True)
+        self.assertEqual([str(each) for each in styles[tree.select_one("p")]],
+                         ["stroke: x", "color: red !important", "top: 2px", "left: 3px"])
+        self.assertEqual([str(each) for each in styles[tree.select_one("rect")]], ["stroke: x", "fill: red"])
+        self.assertEqual([str(each) for each in styles[tree.select_one("svg")]], ["fill: blue", "stroke: x"])
+        self.assertEqual(sheet.style(tree, "top", specified=True)[tree.select_one("p")].value, "2px")
+        self.assertEqual(sheet.style(tree, "top")[tree.select_one("p")].value, "1px")
+
+    def test_inherit(self):
+        sheet = simplecss.StyleSheet("ul { color: red; top: 1px; left: 2px } .a { top: inherit }")
+        tree = simplecss.Tree.from_html("<ul><li class=a><b>")
+        styles = sheet.styles(tree, inherit=True)
+        self.assertEqual([str(each) for each in styles[tree.select_one("li")]], ["color: red", "top: 1px"])
+        self.assertEqual([str(each) for each in styles[tree.select_one("b")]], ["color: red"])
+        found = sheet.style(tree, "left", inherit=["left"])
+        self.assertEqual(found[tree.select_one("b")].value, "2px")
+
     def test_threads(self):
         sheet = simplecss.StyleSheet(SHEET * 50)
         tree = simplecss.Tree.from_html(PAGE * 50, is_part=True)

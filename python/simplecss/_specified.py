@@ -1,0 +1,86 @@
+"""Declarations beside those of sheets: of `style` attributes, presentation attributes of SVG, and of
+parents (CSS 2.1 sections 6.2 and 6.4.3)."""
+
+from __future__ import annotations
+
+from typing import Dict, FrozenSet, Iterable, List, Union
+
+from ._css import declarations
+from ._declaration import Declaration
+from ._tree import Element, Tree
+
+# What CSS 2.1 hands down (Appendix F), and what SVG does.
+INHERITED: FrozenSet[str] = frozenset(
+    "azimuth border-collapse border-spacing caption-side color cursor direction elevation empty-cells"
+    " font font-family font-size font-style font-variant font-weight letter-spacing line-height"
+    " list-style list-style-image list-style-position list-style-type orphans pitch pitch-range"
+    " quotes richness speak speak-header speak-numeral speak-punctuation speech-rate stress"
+    " text-align text-indent text-transform visibility voice-family volume white-space widows"
+    " word-spacing"
+    " clip-rule color-interpolation color-interpolation-filters color-rendering fill fill-opacity"
+    " fill-rule font-size-adjust font-stretch image-rendering marker marker-end marker-mid"
+    " marker-start paint-order pointer-events shape-rendering stroke stroke-dasharray"
+    " stroke-dashoffset stroke-linecap stroke-linejoin stroke-miterlimit stroke-opacity stroke-width"
+    " text-anchor text-rendering writing-mode glyph-orientation-vertical".split()
+)
+# The attributes of SVG that are properties, too.
+_PRESENTATION: FrozenSet[str] = frozenset(
+    "alignment-baseline baseline-shift clip-path clip-rule color color-interpolation"
+    " color-interpolation-filters cursor direction display dominant-baseline fill fill-opacity"
+    " fill-rule filter flood-color flood-opacity font-family font-size font-size-adjust font-stretch"
+    " font-style font-variant font-weight glyph-orientation-vertical image-rendering letter-spacing"
+    " lighting-color marker-end marker-mid marker-start mask mask-type opacity overflow paint-order"
+    " pointer-events shape-rendering stop-color stop-opacity stroke stroke-dasharray"
+    " stroke-dashoffset stroke-linecap stroke-linejoin stroke-miterlimit stroke-opacity stroke-width"
+    " text-anchor text-decoration text-overflow text-rendering transform-origin unicode-bidi"
+    " vector-effect visibility white-space word-spacing writing-mode".split()
+)
+
+# Which properties are handed down: the table above, some, or none.
+Inherit = Union[bool, Iterable[str]]
+
+
+def _own(element: Element) -> List[Declaration]:
+    """Returns the declarations of the attribute `style`."""
+    return declarations(element.attributes.get("style", ""))
+
+
+def _presented(element: Element) -> List[Declaration]:
+    """Returns the declarations of presentation attributes."""
+    if not element.is_drawn:
+        return []
+    return [
+        Declaration(name, value.strip(), False)
+        for name, value in element.attributes.items()
+        if name in _PRESENTATION and value.strip()
+    ]
+
+
+def specified_by(element: Element, winners: Iterable[Declaration]) -> List[Declaration]:
+    """Returns the declaration of each name that wins among all of these, in order."""
+    found: Dict[str, Declaration] = {}
+    for declaration in (*_presented(element), *winners, *_own(element)):
+        before = found.get(declaration.name)
+        if before is None or declaration.important or not before.important:
+            found.pop(declaration.name, None)
+            found[declaration.name] = declaration
+    return list(found.values())
+
+
+def inherited(
+    tree: Tree, styles: List[List[Declaration]], inherit: Inherit
+) -> List[List[Declaration]]:
+    """Returns the declarations of each element, after those that its parent hands down."""
+    names = INHERITED if isinstance(inherit, bool) else frozenset(inherit)
+    found: List[List[Declaration]] = []
+    for element, winners in zip(tree, styles):
+        parent = element.parent
+        above = {} if parent is None else {each.name: each for each in found[parent.index]}
+        own = {each.name for each in winners}
+        handed = [each for name, each in above.items() if name in names and name not in own]
+        mine = [
+            above.get(each.name, each) if each.value.lower() == "inherit" else each
+            for each in winners
+        ]
+        found.append(handed + mine)
+    return found
