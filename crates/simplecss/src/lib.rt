@@ -13,10 +13,12 @@
 //! ```
 #![tactic(auto)]
 
+mod has_selector;
 mod index;
 pub mod laws;
 mod sheet;
 
+pub use has_selector::HasSelector;
 pub use index::{Recent, RuleIndex};
 pub use sheet::{Rule, SheetError, Statement, StatementReader, StyleSheet, find_skipped};
 pub use simplecss_declaration::{Declaration, DeclarationTokenizer};

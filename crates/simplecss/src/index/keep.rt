@@ -6,12 +6,12 @@ ghost use Rattle.simplecss_selector.specs.Placements.{HasPlacement};
 ghost use Rattle.simplecss.specs.Matching.{most_tests};
 ghost use Rattle.simplecss.specs.SelectorIndices.{selector_at};
 
-use crate::sheet::Rule;
+use crate::HasSelector;
 use simplecss_selector::{Element, Tests};
 
 /// Keeps the indices of the rules that match, in order, at the front, and says how many they are.
-pub(crate) fn keep_matching<E: Element>(
-    rules: &[Rule<'_>],
+pub(crate) fn keep_matching<'a, T: HasSelector<'a>, E: Element>(
+    rules: &[T],
     element: &E,
     indices: &mut [usize],
     tests: &mut Tests,
@@ -22,10 +22,10 @@ pub(crate) fn keep_matching<E: Element>(
     ensures ascending { IsStrictlyIncreasing (take result indices.new) }
     ensures exactly { (index : ℕ) → Contains (take result indices.new) index
         ↔ (Contains indices.old index × HasPlacement E.tree
-        (selector_at (map (λ rule. rule.selector) rules.now) index) (E.node element.now)) }
+        (selector_at (map T.selector_in rules.now) index) (E.node element.now)) }
     ensures counted { tests.new ≤ tests.old + sum_by
         (λ index. most_tests E.tree (E.node element.now)
-        (selector_at (map (λ rule. rule.selector) rules.now) index)) indices.old }
+        (selector_at (map T.selector_in rules.now) index)) indices.old }
 
     // Each is tested at least once.
     ensures tested { tests.old + length indices.old ≤ tests.new }
@@ -33,7 +33,7 @@ pub(crate) fn keep_matching<E: Element>(
     let mut kept = 0;
     'indices: for i in 0..indices.len() {
         let index = indices[i];
-        if rules[index].selector.matches_counted(element, tests) {
+        if rules[index].selector().matches_counted(element, tests) {
             indices[kept] = index;
             kept += 1;
         }

@@ -13,7 +13,7 @@ use super::keep::keep_matching;
 use super::last_by_wanted::LastByWanted;
 use super::link::Link;
 use super::recent::Recent;
-use crate::sheet::Rule;
+use crate::HasSelector;
 use simplecss_selector::{Keyed, Tests};
 use std::alloc::{AllocError, Global};
 use std::marker::Model;
@@ -21,19 +21,20 @@ use std::marker::Model;
 /// Appends the links of the rules, in order: each index is stored under the key of its selector,
 /// with a link to the last earlier index with that key.
 #[inline(always)]
-fn push_links<'a>(
+fn push_links<'a, T: HasSelector<'a>>(
     lasts: &mut LastByWanted<'a>,
     links: &mut Vec<Link<'a>>,
-    rules: &[Rule<'a>],
+    rules: &[T],
 ) -> Result<(), AllocError>
     requires { AreChained lasts.old links.old.items }
     ensures chained { OnOk result (AreChained lasts.new links.new.items) }
     ensures selectors { OnOk result (selectors_of links.new.items
-        ≡ selectors_of links.old.items ++ map (λ rule. rule.selector) rules.now) }
+        ≡ selectors_of links.old.items ++ map T.selector_in rules.now) }
 {
     for rule in rules {
-        let earlier = lasts.replace(rule.selector.wanted(), links.len())?;
-        links.push(Link::new(earlier, &rule.selector))?;
+        let selector = rule.selector();
+        let earlier = lasts.replace(selector.wanted(), links.len())?;
+        links.push(Link::new(earlier, selector))?;
     }
     Ok(())
 }
@@ -79,8 +80,8 @@ impl<'a> Model for RuleIndex<'a> {
 
 impl<'a> RuleIndex<'a> {
     /// The index of these rules. The error is that a growth was refused.
-    pub fn new(alloc: Global, rules: &[Rule<'a>]) -> Result<Self, AllocError>
-        ensures { IfOk result (λ index. index ≡ map (λ rule. rule.selector) rules.now) }
+    pub fn new<T: HasSelector<'a>>(alloc: Global, rules: &[T]) -> Result<Self, AllocError>
+        ensures { IfOk result (λ index. index ≡ map T.selector_in rules.now) }
     {
         let mut links = Vec::with_capacity(alloc, rules.len())?;
         let mut lasts = LastByWanted::new(alloc);
@@ -116,13 +117,13 @@ impl<'a> RuleIndex<'a> {
     /// indices than the greater of the number of rules and a few more than the number of words in
     /// the classes of the element, its parent and its previous sibling and of attributes that are
     /// keys. Once it has grown, further calls allocate nothing. Fails only if an allocation fails.
-    pub fn matching<E: Keyed>(
+    pub fn matching<T: HasSelector<'a>, E: Keyed>(
         &self,
-        rules: &[Rule<'a>],
+        rules: &[T],
         element: &E,
         indices: &mut Vec<usize>,
     ) -> Result<(), AllocError>
-        requires { self.now ≡ map (λ rule. rule.selector) rules.now }
+        requires { self.now ≡ map T.selector_in rules.now }
         ensures matches { OnOk result
             (AreMatches E.tree (E.node element.now) self.now indices.new.items) }
         ensures err { OnErr result (indices.new.items ≡ []) }
@@ -133,14 +134,14 @@ impl<'a> RuleIndex<'a> {
     /// Does what [`RuleIndex::matching`] does, and keeps in `recent`, which was made of this index,
     /// what it found by the element's name and classes. For a later element with the same name and
     /// the same class value that is not looked up again.
-    pub fn matching_recent<E: Keyed>(
+    pub fn matching_recent<T: HasSelector<'a>, E: Keyed>(
         &self,
-        rules: &[Rule<'a>],
+        rules: &[T],
         element: &E,
         indices: &mut Vec<usize>,
         recent: &mut Recent<'a>,
     ) -> Result<(), AllocError>
-        requires index { self.now ≡ map (λ rule. rule.selector) rules.now }
+        requires index { self.now ≡ map T.selector_in rules.now }
         requires recent { recent.old ≡ self.now }
         ensures matches { OnOk result
             (AreMatches E.tree (E.node element.now) self.now indices.new.items) }
@@ -153,14 +154,14 @@ impl<'a> RuleIndex<'a> {
     /// `matching`, with a count of the tests that were made. A rule is tested only if its key is
     /// reported (`Selector::wanted`: by the element, its parent or its previous sibling), and
     /// `Keyed::ancestor_bits` covers the bits of `Selector::ancestor_bits`.
-    pub fn matching_counted<E: Keyed>(
+    pub fn matching_counted<T: HasSelector<'a>, E: Keyed>(
         &self,
-        rules: &[Rule<'a>],
+        rules: &[T],
         element: &E,
         indices: &mut Vec<usize>,
         tests: &mut Tests,
     ) -> Result<(), AllocError>
-        requires { self.now ≡ map (λ rule. rule.selector) rules.now }
+        requires { self.now ≡ map T.selector_in rules.now }
         ensures matches { OnOk result
             (AreMatches E.tree (E.node element.now) self.now indices.new.items) }
         ensures tests { OnOk result ((near : Near)
@@ -178,15 +179,15 @@ impl<'a> RuleIndex<'a> {
 
     /// `matching_counted` and `matching_recent` at once.
     #[inline(always)]
-    fn matching_all<E: Keyed>(
+    fn matching_all<T: HasSelector<'a>, E: Keyed>(
         &self,
-        rules: &[Rule<'a>],
+        rules: &[T],
         element: &E,
         indices: &mut Vec<usize>,
         recent: &mut Recent<'a>,
         tests: &mut Tests,
     ) -> Result<(), AllocError>
-        requires index { self.now ≡ map (λ rule. rule.selector) rules.now }
+        requires index { self.now ≡ map T.selector_in rules.now }
         requires recent { recent.old ≡ self.now }
         ensures matches { OnOk result
             (AreMatches E.tree (E.node element.now) self.now indices.new.items) }

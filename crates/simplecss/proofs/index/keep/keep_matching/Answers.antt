@@ -1,4 +1,4 @@
-use Rattle.std.proofs.Common.{◌≡◌, ◌+◌, ◌<◌, ◌≤◌, ℕ, List, length, map, refl, subst, arith}
+use Rattle.std.proofs.Common.{◌≡◌, ◌+◌, ◌<◌, ◌≤◌, ℕ, List, length, map, refl, subst, sym, ap, ◌∙◌, arith}
 use Rattle.std.specs.List.{sum_by}
 use Rattle.std.proofs.lemmas.Bool.{false≢true}
 use Rattle.std.proofs.lemmas.List.{take_all}
@@ -26,22 +26,26 @@ indices-preserved g c =
     let lt : c.indices.i < length indices = c.indices-test.true in
     let same : length c.indices.indices ≡ length indices = c.indices.auto.indices in
     let before = c.indices.invariant.keeps in
-    let keeps : Keeps (Met (λ rule. rule.selector) IsMet rules) indices c.if-matches_counted.indices
+    let chosen = c.selector.ensures ∙ ap g.T.HasSelector.selector_in c.index-rules-index.is in
+    let keeps : Keeps (Met g.T.HasSelector.selector_in IsMet rules) indices c.if-matches_counted.indices
     c.if-matches_counted.kept (c.indices.i + 1) = elim c.if-matches_counted.branch [
-      | then-matches_counted w ↦ rw (w.indices-is, w.kept-is) (keeps_met (λ rule. rule.selector)
+      | then-matches_counted w ↦ rw (w.indices-is, w.kept-is) (keeps_met g.T.HasSelector.selector_in
           IsMet rules indices c.indices.indices c.indices.kept c.indices.i v before lt
-          c.requires.within c.requires.ascending same (w.if-matches_counted.ensures.answer.0 refl))
-      | else-matches_counted w ↦ rw (w.indices-is, w.kept-is) (keeps_unmet (λ rule. rule.selector)
+          c.requires.within c.requires.ascending same
+          (subst IsMet chosen (w.if-matches_counted.ensures.answer.0 refl)))
+      | else-matches_counted w ↦ rw (w.indices-is, w.kept-is) (keeps_unmet g.T.HasSelector.selector_in
           IsMet rules indices c.indices.indices c.indices.kept c.indices.i v before lt
-          c.requires.within (λ h. false≢true (w.if-matches_counted.ensures.answer.1 h)))
+          c.requires.within (λ h. false≢true
+          (w.if-matches_counted.ensures.answer.1 (subst IsMet (sym chosen) h))))
     ] in
     record {
       keeps = keeps;
       least = omega (arith, c.indices.invariant.least, c.matches_counted.ensures.at_least_one);
-      tested = tested_more (λ rule. rule.selector) IsMet rules indices c.indices.indices
+      tested = tested_more g.T.HasSelector.selector_in IsMet rules indices c.indices.indices
           c.indices.kept c.indices.i v before lt c.requires.within cost c.args.tests.now
           c.indices.tests c.matches_counted.new.tests c.indices.invariant.tested
-          c.matches_counted.ensures.at_most_by_stretches;
+          (subst (λ (s : List Component). c.matches_counted.new.tests ≤ c.indices.tests + cost s)
+          chosen c.matches_counted.ensures.at_most_by_stretches);
     }
 
 pub returns-clause-exactly : goal.returns-clause-exactly
@@ -52,7 +56,7 @@ pub returns-clause-counted : goal.returns-clause-counted
 returns-clause-counted g c =
     subst (λ ps. c.indices.tests ≤ c.args.tests.now
     + sum_by (λ index. most_tests g.E.Element.tree (g.E.Element.node c.args.element.now)
-    (selector_at (map (λ rule. rule.selector) c.args.rules.now) index)) ps)
+    (selector_at (map g.T.HasSelector.selector_in c.args.rules.now) index)) ps)
     (take_all c.indices.i c.args.indices.now c.indices-test.false) c.indices.invariant.tested
 
 pub returns-clause-tested : goal.returns-clause-tested

@@ -10,10 +10,10 @@ use Rattle.simplecss.proofs.index.keep.keep_matching.Given as goal
 abbrev pub invariant-indices : goal.invariant-indices
 invariant-indices g l = record {
   keeps : Keeps (λ index. HasPlacement g.E.Element.tree
-      (selector_at (map (λ rule. rule.selector) l.rules) index) (g.E.Element.node l.element))
+      (selector_at (map g.T.HasSelector.selector_in l.rules) index) (g.E.Element.node l.element))
       l.initial.indices l.indices l.kept l.i;
   least : l.initial.tests + l.i ≤ l.tests;
   tested : l.tests
       ≤ l.initial.tests + sum_by (λ index. most_tests g.E.Element.tree (g.E.Element.node l.element)
-      (selector_at (map (λ rule. rule.selector) l.rules) index)) (take l.i l.initial.indices);
+      (selector_at (map g.T.HasSelector.selector_in l.rules) index)) (take l.i l.initial.indices);
 }

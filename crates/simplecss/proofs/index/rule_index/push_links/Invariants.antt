@@ -4,8 +4,8 @@ use Rattle.simplecss.proofs.index.rule_index.push_links.Given as goal
 
 -- the links of the first rules are there
 abbrev pub invariant-loop-rule : goal.invariant-loop-rule
-invariant-loop-rule l = record {
+invariant-loop-rule g l = record {
   chained : AreChained l.lasts l.links.items;
   selectors : selectors_of l.links.items ≡ selectors_of l.initial.links.items
-      ++ map (λ rule. rule.selector) (take l.rule-index l.rules);
+      ++ map g.T.HasSelector.selector_in (take l.rule-index l.rules);
 }

@@ -1,5 +1,6 @@
-use Rattle.std.proofs.Common.{◌≡◌, ◌+◌, ◌<◌, ◌≤◌, ◌↔◌, ℕ, length, map, take, ap, sym, ◌∙◌, subst}
+use Rattle.std.proofs.Common.{◌≡◌, ◌+◌, ◌<◌, ◌≤◌, ◌↔◌, ℕ, length, map, take, ap, sym, ◌∙◌, subst, refl}
 use Rattle.std.specs.List.{All, Contains, sum_by}
+use Rattle.std.specs.List.Sorted.{IsStrictlyIncreasing}
 use Rattle.std.proofs.lemmas.List.{length-map}
 use Rattle.simplecss_selector.specs.Placements.{HasPlacement}
 use Rattle.simplecss_selector.proofs.WantedLemmas.{near_reports}
@@ -9,14 +10,21 @@ use Rattle.simplecss.proofs.Candidates.{are_matches, candidate_within, sum_of_ca
 use Rattle.simplecss.proofs.Keeping.{written_back}
 use Rattle.simplecss.proofs.index.rule_index.RuleIndex.matching_all.Goals as goal
 
-pub keep_matching-kept-requires-clause-within : goal.keep_matching-kept-requires-clause-within
-keep_matching-kept-requires-clause-within g c =
+pub keep_matching-kept-requires : goal.keep_matching-kept-requires
+keep_matching-kept-requires g c =
     let same : length c.args.self.now ≡ length c.args.rules.now =
-    ap length c.requires.index ∙ length-map c.args.rules.now (λ rule. rule.selector) in
+    ap length c.requires.index ∙ length-map c.args.rules.now g.T.HasSelector.selector_in in
     let within = candidate_within c.in_default.ensures.found.0 c.in_default.ensures.found.2
     c.args.self.now c.candidates.new.indices.items c.in_default.ensures.found.4 in
-    rw c.deref_mut.ensures.value
-    (subst (λ n. All (λ index. index < n) c.candidates.new.indices.items) same within)
+    λ k. (
+      (refl, tt),
+      (
+        subst IsStrictlyIncreasing (sym c.deref_mut.ensures.value)
+            c.in_default.ensures.found.4.ascending,
+        rw c.deref_mut.ensures.value
+            (subst (λ n. All (λ index. index < n) c.candidates.new.indices.items) same within),
+      ),
+    )
 
 pub returns-clause-matches : goal.returns-clause-matches
 returns-clause-matches g c =
@@ -34,7 +42,7 @@ returns-clause-matches g c =
     ↔ (Contains candidates.items index × HasPlacement tree (selector_at ss index) element))
     (sym c.requires.index)
     (subst (λ ps. (index : ℕ) → Contains (take count kept) index ↔ (Contains ps index
-    × HasPlacement tree (selector_at (map (λ rule. rule.selector) c.args.rules.now) index) element))
+    × HasPlacement tree (selector_at (map g.T.HasSelector.selector_in c.args.rules.now) index) element))
     c.deref_mut.ensures.value c.keep_matching-kept.ensures.exactly) in
     subst (AreMatches tree element c.args.self.now) (sym back)
     (are_matches tree element c.in_default.ensures.found.0 c.in_default.ensures.found.2
@@ -57,7 +65,7 @@ returns-clause-tests g c =
     subst (λ ss. c.keep_matching-kept.new.tests ≤ c.args.tests.now + sum_by
     (λ index. most_tests tree element (selector_at ss index)) candidates) (sym c.requires.index)
     (subst (λ ps. c.keep_matching-kept.new.tests ≤ c.args.tests.now + sum_by (λ index.
-    most_tests tree element (selector_at (map (λ rule. rule.selector) c.args.rules.now) index)) ps)
+    most_tests tree element (selector_at (map g.T.HasSelector.selector_in c.args.rules.now) index)) ps)
     c.deref_mut.ensures.value c.keep_matching-kept.ensures.counted) in (
       near,
       c.in_default.ensures.found.1,
