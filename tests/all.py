@@ -1,10 +1,11 @@
 #!/usr/bin/env python3
 """Every check of the repository. First `rt ci`: every proof from nothing, every test, every wrong body that must be refused,
 and the stored runs. Then, over the programs that it has built, each request for memory refused, and the program `cssq` with its
-words, files and streams. So nothing is proved twice. Last what the documents show, the scripts `cssq` and `build`, and the
-C library with the Python package over it.
+words, files and streams. So nothing is proved twice. Last what the documents show, the scripts `cssq` and `build`, the
+C library with the Python package over it, and what people without the toolchain install.
 
-The last line is 'N passed, M failed', of all together.
+The last line is 'N passed, M failed', of all together, and the lines before it name what was left out, since a tool is missing.
+Where `CI` is set and it is root, it first installs the packages of Debian that the tests want.
 """
 import os
 import re
@@ -24,8 +25,14 @@ PLAIN = (
     ("skipped.py", ("example_linter", "cssq_cli")),
     ("script.py", ()),
     ("library.py", ()),
+    ("release.py", ()),
 )
+# What tests want of Debian and work without, but for what they then leave out.
+PACKAGES = ("librust-roxmltree-dev", "librust-log-dev", "nodejs", "binaryen", "python3-venv", "help2man",
+            "python3-tinycss2", "python3-soupsieve", "python3-html5lib", "python3-lxml")
+LEFT_OUT = b"left out: "
 passed = failed = 0
+left_out = []
 
 
 def fail(line):
@@ -44,6 +51,8 @@ def shown(words, what):
             sys.stdout.buffer.write(line)
             sys.stdout.buffer.flush()
             last = line.strip() or last
+            if line.startswith(LEFT_OUT):
+                left_out.append(line.strip())
     counts = re.fullmatch(rb"(\d+) passed, (\d+) failed", last)
     if counts:
         passed += int(counts[1])
@@ -91,7 +100,21 @@ def look():
             shown([sys.executable, os.path.join(TOP, "tests", script), *map(program_of, crates)], script)
 
 
+def install():
+    """Installs what tests want of Debian, one package after another, since an older system lacks some."""
+    if not os.environ.get("CI") or os.geteuid() != 0 or not shutil.which("apt-get"):
+        return
+    quiet = {"stdin": subprocess.DEVNULL, "stdout": subprocess.DEVNULL, "stderr": subprocess.DEVNULL, "check": False}
+    environment = {**os.environ, "DEBIAN_FRONTEND": "noninteractive"}
+    subprocess.run(["apt-get", "update"], env=environment, **quiet)
+    for package in PACKAGES:
+        done = subprocess.run(["apt-get", "install", "-y", "--no-install-recommends", package], env=environment, **quiet)
+        if done.returncode:
+            left_out.append(LEFT_OUT + f"{package} could not be installed".encode())
+
+
 def main():
+    install()
     for crate in {crate for _, crate in SWEEPS} | {crate for _, crates in PLAIN for crate in crates}:
         # The sweeps must not run the program of an earlier build.
         if os.path.exists(program_of(crate)):
@@ -108,6 +131,8 @@ def main():
         look()
     else:
         fail("there is no rt: nothing was proved or run")
+    for line in left_out:
+        print(line.decode(errors="replace"))
     print(f"{passed} passed, {failed} failed")
     return 1 if failed else 0
 

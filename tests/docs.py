@@ -131,7 +131,7 @@ with tempfile.TemporaryDirectory() as folder:
         tried.add(words[0])
         done = subprocess.run([program, *words], cwd=folder, stdin=subprocess.DEVNULL, capture_output=True, check=False)
         expect((done.returncode, done.stdout.decode()) == (0, text), f"README: {words} answers {done.returncode} {done.stdout.decode()!r}, and is said to print {text!r}")
-    usage = subprocess.run([program, "--help"], stdin=subprocess.DEVNULL, capture_output=True, check=False).stderr.decode()
+    usage = subprocess.run([program, "--no-such-word"], stdin=subprocess.DEVNULL, capture_output=True, check=False).stderr.decode()
     commands = set(re.findall(r"[\[|] *(\w+)", usage))
     expect(tried == commands, f"README: the table shows {sorted(tried)} of {sorted(commands)}")
 lines = re.findall(r"^    out/(\w+)(.*)$", readme, re.MULTILINE)

@@ -129,7 +129,7 @@ def test_sanitized(clang, folder, headers):
     source = os.path.join(TOP, "tests", "library_refused.c")
     made = run([*words, source, os.path.join(folder, "lib", "libsimplecss.a"), *runtime, "-o", program])
     if made.returncode:
-        print("library.py: AddressSanitizer does not link: " + made.stderr.decode().strip().split("\n")[-1][:200])
+        print("left out: AddressSanitizer over the C library does not link: " + made.stderr.decode().strip().split("\n")[-1][:200])
         return
     for number in range(CALLS):
         made = run([program, str(number)])
@@ -172,7 +172,7 @@ def main():
                 test_refused(clang, folder, headers)
                 test_sanitized(clang, folder, headers)
             else:
-                print("library.py: the system has no C headers or start files, so the C example was not compiled")
+                print("left out: the C example was not compiled: the system has no C headers or start files")
         library_calls.run(check, os.path.join(OUT, "libsimplecss.so"))
         test_package()
     print(f"{passed} passed, {failed} failed")

@@ -1,9 +1,10 @@
 #!/usr/bin/env python3
-"""Tests what `./build release` makes: that it is the same twice, that the Rust crate has the API of `simplecss` 0.2.2, its tests and its
-speed, and that it and the WebAssembly module answer as the proved library does on random texts; and that each package
-works where it is unpacked, outside the checkout.
+"""Tests what `./build release` makes: that it is the same twice, that the Rust crate has the API of `simplecss` 0.2.2 and passes
+its tests, that it and the WebAssembly module answer as the proved library does on random texts, and that each package works
+where it is unpacked, outside the checkout.
 
-    tests/release.py [PART..]     PART is crate, wheel, program or npm; without one all, and ./build release first
+    tests/release.py [PART..]     PART is crate, wheel, program, npm or twice; without one all, and ./build release first
+    tests/release.py speed        parsing and matching beside Debian's librust-simplecss-dev
 
 `SIMPLECSS_TESTS` may name a folder with the tests of the Rust crate 0.2.2: files `*.rs`, or texts in which lines
 `// ===== tests/NAME.rs =====` begin them. What was left out, since a tool or a package of Debian is missing, is named at the
@@ -17,13 +18,13 @@ import json
 import os
 import random
 import re
+import resource
 import shutil
 import struct
 import subprocess
 import sys
 import tarfile
 import tempfile
-import time
 
 import library_calls
 from common import Counts
@@ -271,7 +272,6 @@ def test_crate(folder):
     done = cargo(["run", "-q"], cargo.project("warnings", needs + 'log = "0.4"\n', **{"src/main.rs": WARNINGS}), "warnings")
     expect(done.stdout.decode() == WARNED, f"warnings: {done.stdout.decode()!r}")
     compare_crate(cargo, needs)
-    measure_crate(cargo, needs)
 
 
 def compare_crate(cargo, needs):
@@ -282,24 +282,24 @@ def compare_crate(cargo, needs):
     compare("the Rust crate and the proved library", texts, [as_text(it) for it in wanted], parts_of(done.stdout, 5))
 
 
-def measure_crate(cargo, needs):
-    """The crate is no slower than the one of Debian: parsing, and matching by testing each rule on each element."""
-    sheets = glob.glob("/usr/share/nodejs/bootstrap/dist/css/bootstrap.css") + glob.glob("/usr/share/javascript/bootstrap4/css/bootstrap.css")
-    if not cargo.has("simplecss") or not sheets:
+def test_speed(folder):
+    """Shows how long the crate and the one of Debian take to parse a sheet, and to test each rule on each element of a page."""
+    packed, cargo = made("simplecss-0.2.2.crate"), Cargo(folder)
+    sheets = glob.glob("/usr/share/javascript/bootstrap4/css/bootstrap.css")
+    if not packed or not cargo.has("simplecss") or not sheets:
         left_out.append("the speed of the Rust crate: there is no librust-simplecss-dev or no libjs-bootstrap4")
         return
-    peer = 'peer = { package = "simplecss", version = "=0.2.0" }\n'
-    folder = os.path.join(cargo.folder, "speed")
-    peer_source = glob.glob(os.path.join(REGISTRY, "simplecss-0.2.0"))[0]
-    shutil.copytree(peer_source, os.path.join(cargo.folder, "peer"))
-    toml = os.path.join(cargo.folder, "peer", "Cargo.toml")
-    with open(toml, encoding="utf-8") as file:
-        stated = file.read().replace('name = "simplecss"', 'name = "peer"', 1)
-    with open(toml, "w", encoding="utf-8") as file:
+    unpack(packed, folder)
+    # Two crates of one name cannot be linked by one program.
+    peer = os.path.join(folder, "peer")
+    shutil.copytree(glob.glob(os.path.join(REGISTRY, "simplecss-0.2.0"))[0], peer)
+    with open(os.path.join(peer, "Cargo.toml"), encoding="utf-8") as file:
+        stated = file.read().replace('name = "simplecss"', 'name = "peer"')
+    with open(os.path.join(peer, "Cargo.toml"), "w", encoding="utf-8") as file:
         file.write(stated)
-    peer = f'peer = {{ path = "{os.path.join(cargo.folder, "peer")}" }}\n'
-    cargo.project("speed", needs + peer, **{"src/main.rs": text_of("tests", "release", "speed.rs")})
-    done = works(["cargo", "run", "-q", "--release", "--offline", "--", sheets[0]], "the speed", folder, env=cargo.environment)
+    needs = f'simplecss = {{ path = "{folder}/simplecss-0.2.2" }}\npeer = {{ path = "{peer}" }}\n'
+    project = cargo.project("speed", needs, **{"src/main.rs": text_of("tests", "release", "speed.rs")})
+    done = works(["cargo", "run", "-q", "--release", "--offline", "--", sheets[0]], "the speed", project, env=cargo.environment)
     print(done.stdout.decode(), end="")
 
 
@@ -460,19 +460,24 @@ def test_twice(folder):
                 expect(hashlib.sha256(file.read()).hexdigest() == total, f"the sum of {name}")
 
 
+def processor_time():
+    """The processor time of this process and of those that it started, in seconds."""
+    return sum(it.ru_utime + it.ru_stime for it in map(resource.getrusage, (resource.RUSAGE_SELF, resource.RUSAGE_CHILDREN)))
+
+
 def main(words):
     """Runs the parts that the words name."""
-    parts = {"crate": test_crate, "wheel": test_wheel, "program": test_program, "npm": test_npm, "twice": test_twice}
+    parts = {"crate": test_crate, "wheel": test_wheel, "program": test_program, "npm": test_npm, "twice": test_twice, "speed": test_speed}
     if not words:
         done = run([os.path.join(TOP, "build"), "release"])
         lines = [line for line in done.stderr.decode().splitlines() if "not made" in line]
         left_out.extend(lines)
         expect(done.returncode == 0 or bool(lines), f"./build release: status {done.returncode}: {done.stderr.decode()[-1500:]}")
-    for name in words or parts:
-        begun = time.monotonic()
+    for name in words or [name for name in parts if name != "speed"]:
+        begun = processor_time()
         with tempfile.TemporaryDirectory() as folder:
             parts[name](folder)
-        print(f"{name}: {time.monotonic() - begun:.0f} s", flush=True)
+        print(f"{name}: {processor_time() - begun:.0f} s of a processor", flush=True)
     for line in left_out:
         print("left out:", line)
     return checks.end()
