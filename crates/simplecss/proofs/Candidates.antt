@@ -11,7 +11,7 @@ use Rattle.std.proofs.lemmas.List.Kept.{IsStrictlyIncreasing-filter}
 use Rattle.std.proofs.lemmas.Bool.{false≢true}
 use Rattle.simplecss_text.specs.Components.{Component}
 use Rattle.simplecss_selector.specs.KeyBits.{CoversAncestors}
-use Rattle.simplecss_selector.specs.Wanted.{Wanted, Near, ReportsWanted, reports_wanted}
+use Rattle.simplecss_selector.specs.Wanted.{Wanted, Near, ReportsWanted, reports_wanted, wanted_of}
 use Rattle.simplecss_selector.specs.Placements.{HasPlacement}
 use Rattle.simplecss_selector.specs.Trees.{Tree, SiblingsShareParent}
 use Rattle.simplecss_selector.proofs.WantedLemmas.{wanted_needed}
@@ -19,7 +19,7 @@ use Rattle.simplecss_selector.proofs.KeyBitLemmas.{covers_none, covers_test, anc
 use Rattle.simplecss.specs.internal.Chains.{selectors_of, IsLastBefore, AreChained}
 use Rattle.simplecss.specs.internal.LastByWanted.{last_wanted}
 use Rattle.simplecss.specs.Recents.{Leads, AreStarts}
-use Rattle.simplecss.specs.Matching.{AreMatches, AreKeyed, is_covered, is_tested, AreCandidates, tested_for}
+use Rattle.simplecss.specs.Matching.{AreMatches, AreKeyed, AreKept, is_covered, AreCandidates}
 use Rattle.simplecss.specs.SelectorIndices.{selector_at, key_at, Adds}
 use Rattle.simplecss.specs.declared.index.link.Link.{Link}
 use Rattle.simplecss.specs.declared.index.last_by_wanted.LastByWanted.{LastByWanted}
@@ -28,7 +28,7 @@ use Rattle.simplecss.proofs.Ascending.{indices_are, sum_of_values, values_at}
 use Rattle.simplecss.proofs.Following.{After}
 
 -- each key leads to the last of all selectors with it
-lasts_lead : (lasts : LastByWanted) (links : List Link) (selectors : List (List Component))
+pub lasts_lead : (lasts : LastByWanted) (links : List Link) (selectors : List (List Component))
     → AreChained lasts links → selectors_of links ≡ selectors → (key : Wanted)
     → IsLastBefore selectors (length selectors) key (last_wanted lasts key)
 lasts_lead lasts links selectors chained is key =
@@ -188,25 +188,56 @@ both_true : (a b : Bool) → IsTrue (a && b) ↔ (IsTrue a × IsTrue b)
 both_true true b = (λ h. (refl, h), λ h. h.1)
 both_true false b = (λ h. absurd (false≢true h), λ h. h.0)
 
--- of the selectors whose key is reported those are kept whose ancestors' keys are covered
-pub covered_only : (reported : Near) (above : ℕ) (selectors : List (List Component))
-    (keyed final : List ℕ) → AreKeyed reported selectors keyed
-    → final ≡ filter (λ index. is_covered above (selector_at selectors index)) keyed
-    → AreCandidates reported above selectors final
-covered_only reported above selectors keyed final are e =
-    subst (AreCandidates reported above selectors) (sym e) (record {
+-- of the selectors whose key is reported those are kept that the test keeps
+pub kept_only : (reported : Near) (keeps : List Component → Bool)
+    (selectors : List (List Component)) (keyed final : List ℕ) → AreKeyed reported selectors keyed
+    → final ≡ filter (λ index. keeps (selector_at selectors index)) keyed
+    → AreKept reported keeps selectors final
+kept_only reported keeps selectors keyed final are e =
+    subst (AreKept reported keeps selectors) (sym e) (record {
       ascending =
-          IsStrictlyIncreasing-filter (λ index. is_covered above (selector_at selectors index))
+          IsStrictlyIncreasing-filter (λ index. keeps (selector_at selectors index))
           keyed are.ascending;
       exactly = λ index.
           let kept =
-          filter_contains (λ p. is_covered above (selector_at selectors p)) keyed index in
+          filter_contains (λ p. keeps (selector_at selectors p)) keyed index in
           let both = both_true (reports_wanted reported (key_at selectors index))
-          (is_covered above (selector_at selectors index)) in (
+          (keeps (selector_at selectors index)) in (
             λ c. let h = kept.0 c in let k = (are.exactly index).0 h.0 in (k.0, both.1 (k.1, h.1)),
             λ h. let x = both.0 h.1 in kept.1 ((are.exactly index).1 (h.0, x.0), x.1),
           );
     })
+
+-- of those that are kept those are matches that have a placement, if the test keeps each of them
+pub kept_matches : {Node : Type 0} (tree : Tree Node) (n : Node) (reported : Near)
+    (keeps : List Component → Bool) (selectors : List (List Component))
+    (candidates final : List ℕ)
+    → ((index : ℕ) → HasPlacement tree (selector_at selectors index) n → index < length selectors
+    → IsTrue (keeps (selector_at selectors index)))
+    → ReportsWanted tree n reported
+    → AreKept reported keeps selectors candidates → IsStrictlyIncreasing final
+    → ((index : ℕ) → Contains final index
+    ↔ (Contains candidates index × HasPlacement tree (selector_at selectors index) n))
+    → AreMatches tree n selectors final
+kept_matches tree n reported keeps selectors candidates final needs reports are up kept =
+    record {
+      ascending = up;
+      exactly = λ index. (
+        λ c. let h = (kept index).0 c in (((are.exactly index).0 h.0).0, h.1),
+        λ h. (kept index).1 (
+          (are.exactly index).1 (
+            h.0,
+            (both_true (reports_wanted reported (key_at selectors index))
+                (keeps (selector_at selectors index))).1 (
+                  reports (key_at selectors index)
+                      (wanted_needed tree (selector_at selectors index) n h.1),
+                  needs index h.1 h.0,
+                ),
+          ),
+          h.1,
+        ),
+      );
+    }
 
 -- of the candidates those are kept that match, and no other selector does
 pub are_matches : {Node : Type 0} (tree : Tree Node) (n : Node) (reported : Near) (above : ℕ)
@@ -217,43 +248,37 @@ pub are_matches : {Node : Type 0} (tree : Tree Node) (n : Node) (reported : Near
     ↔ (Contains candidates index × HasPlacement tree (selector_at selectors index) n))
     → AreMatches tree n selectors final
 are_matches tree n reported above selectors candidates final shared reports covered are up kept =
-    record {
-      ascending = up;
-      exactly = λ index. (
-        λ c. let h = (kept index).0 c in (((are.exactly index).0 h.0).0, h.1),
-        λ h. (kept index).1 (
-          (are.exactly index).1 (
-            h.0,
-            (both_true (reports_wanted reported (key_at selectors index))
-                (is_covered above (selector_at selectors index))).1 (
-                  reports (key_at selectors index)
-                      (wanted_needed tree (selector_at selectors index) n h.1),
-                  ancestors_needed tree shared (selector_at selectors index) n above covered h.1,
-                ),
-          ),
-          h.1,
-        ),
-      );
-    }
+    kept_matches tree n reported (is_covered above) selectors candidates final
+    (λ index h lt. ancestors_needed tree shared (selector_at selectors index) n above covered h)
+    reports are up kept
 
-pub candidate_within : (reported : Near) (above : ℕ) (selectors : List (List Component))
-    (candidates : List ℕ) → AreCandidates reported above selectors candidates
+pub kept_within : (reported : Near) (keeps : List Component → Bool)
+    (selectors : List (List Component)) (candidates : List ℕ)
+    → AreKept reported keeps selectors candidates
     → All (λ index. index < length selectors) candidates
-candidate_within reported above selectors candidates are k d lt =
+kept_within reported keeps selectors candidates are k d lt =
     ((are.exactly (get_or candidates k d)).0 (Contains-get_or candidates k d lt)).0
 
--- a sum over the candidates is one over the selectors that are tested
-pub sum_of_candidates : (reported : Near) (above : ℕ) (selectors : List (List Component))
-    (candidates : List ℕ) (cost : List Component → ℕ)
-    → AreCandidates reported above selectors candidates
+-- the selectors that are kept
+abbrev pub kept_for : Near → (List Component → Bool) → List (List Component)
+    → List (List Component)
+kept_for reported keeps selectors =
+    filter (λ selector. reports_wanted reported (wanted_of selector) && keeps selector) selectors
+
+-- a sum over those that are kept is one over the selectors that are tested
+pub sum_of_kept : (reported : Near) (keeps : List Component → Bool)
+    (selectors : List (List Component)) (candidates : List ℕ) (cost : List Component → ℕ)
+    → AreKept reported keeps selectors candidates
     → sum_by (λ index. cost (selector_at selectors index)) candidates
-    ≡ sum_by cost (tested_for reported above selectors)
-sum_of_candidates reported above selectors candidates cost are =
+    ≡ sum_by cost (kept_for reported keeps selectors)
+sum_of_kept reported keeps selectors candidates cost are =
     let all = range_with_len 0 (length selectors) in
+    let test : List Component → Bool =
+    λ selector. reports_wanted reported (wanted_of selector) && keeps selector in
     ap (sum_by (λ index. cost (selector_at selectors index))) (indices_are (λ index.
-    is_tested reported above (selector_at selectors index)) (length selectors) candidates are)
-    ∙ sum_of_values (selector_at selectors) (is_tested reported above) cost all
-    ∙ ap (λ ss. sum_by cost (tested_for reported above ss)) (values_at selectors [])
+    test (selector_at selectors index)) (length selectors) candidates are)
+    ∙ sum_of_values (selector_at selectors) test cost all
+    ∙ ap (λ ss. sum_by cost (kept_for reported keeps ss)) (values_at selectors [])
 
 ones : {X : Type 0} (xs : List X) → sum_by (λ x. 1) xs ≡ length xs
 ones [] = refl
@@ -262,14 +287,15 @@ ones (x ∷ xs) =
     let others = ones xs in
     omega (arith, first, others)
 
--- there are as many candidates as selectors that are tested
-pub number_of_candidates : (reported : Near) (above : ℕ) (selectors : List (List Component))
-    (candidates : List ℕ) → AreCandidates reported above selectors candidates
-    → length candidates ≡ length (tested_for reported above selectors)
-number_of_candidates reported above selectors candidates are =
+-- as many are kept as selectors are tested
+pub number_of_kept : (reported : Near) (keeps : List Component → Bool)
+    (selectors : List (List Component)) (candidates : List ℕ)
+    → AreKept reported keeps selectors candidates
+    → length candidates ≡ length (kept_for reported keeps selectors)
+number_of_kept reported keeps selectors candidates are =
     sym (ones candidates)
-    ∙ sum_of_candidates reported above selectors candidates (λ selector. 1) are
-    ∙ ones (tested_for reported above selectors)
+    ∙ sum_of_kept reported keeps selectors candidates (λ selector. 1) are
+    ∙ ones (kept_for reported keeps selectors)
 
 -- an index after the last has no selector, and nothing is wanted of ancestors there
 pub none_covered : (links : List Link) (selectors : List (List Component)) (index above : ℕ)

@@ -21,3 +21,6 @@ pub mod Candidates
 pub mod RecentSlots
 pub mod Keeping
 pub mod Reports
+pub mod NeededNumbers
+pub mod Counting
+pub mod OpenPathLemmas

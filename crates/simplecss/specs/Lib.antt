@@ -6,6 +6,7 @@ pub mod StatementOffsets
 pub mod SelectorIndices
 pub mod Matching
 pub mod Recents
+pub mod OpenPaths
 pub mod internal
 -- What contracts of the crates below name, under the names of this crate.
 pub use Rattle.simplecss_declaration.specs.DeclarationTokenizers
@@ -15,6 +16,7 @@ pub use Rattle.simplecss_selector.specs.TokenViews
 pub use Rattle.simplecss_selector.specs.Keys
 pub use Rattle.simplecss_selector.specs.KeyViews
 pub use Rattle.simplecss_selector.specs.KeyBits
+pub use Rattle.simplecss_selector.specs.AncestorKeys
 pub use Rattle.simplecss_selector.specs.WantedViews
 pub use Rattle.simplecss_selector.specs.Wanted
 pub use Rattle.simplecss_selector.specs.ListTrees

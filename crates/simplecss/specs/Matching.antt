@@ -21,6 +21,13 @@ AreKeyed reported selectors =
     AreTheIndices (λ index. IsTrue (reports_wanted reported (key_at selectors index)))
     (length selectors)
 
+-- the indices are in order, and are exactly those of the selectors whose key is reported and which
+-- the test keeps
+abbrev pub AreKept : Near → (List Component → Bool) → List (List Component) → List ℕ → Type 0
+AreKept reported keeps selectors = AreTheIndices
+    (λ index. IsTrue (reports_wanted reported (key_at selectors index)
+    && keeps (selector_at selectors index))) (length selectors)
+
 -- whether the bits of the ancestors cover those that the selector requires of them
 abbrev pub is_covered : ℕ → List Component → Bool
 is_covered above selector = covers above (ancestor_bits selector)

@@ -5,3 +5,5 @@ pub mod RuleOrders
 pub mod SharedBlocks
 pub mod TextIndices
 pub mod LastByWanted
+pub mod NeededKeys
+pub mod Counted

@@ -6,9 +6,13 @@ mod last_by_key;
 mod last_by_wanted;
 pub mod laws;
 mod link;
+mod needed_keys;
+mod open_keys;
+mod open_path;
 mod recent;
 mod rule_index;
 mod texts;
 
+pub use open_path::OpenPath;
 pub use recent::Recent;
 pub use rule_index::RuleIndex;

@@ -8,14 +8,15 @@
 //! index means, reading a text in pieces, and equality of rules and declarations. Of an index: that
 //! it finds what asking each rule finds.
 
-pub use crate::index::laws::answers_law;
+pub use crate::index::laws::{answers_law, leave_law};
 pub use crate::sheet::laws::{
     cutting_law, edition_law, equality_laws, index_in_sheet_law, order_laws, sheet_law,
 };
 pub use simplecss_selector::laws::{at_most_two_errors, token_equality_law};
 pub use simplecss_selector::{
-    ancestors_law, components_law, key_equality_law, key_law, operator_equality_laws, printing_law,
-    reported_near_law, same_meanings_law, selector_equality_law, wanted_law,
+    ancestor_keys_law, ancestors_law, components_law, key_equality_law, key_law,
+    operator_equality_laws, printing_law, reported_near_law, same_meanings_law,
+    selector_equality_law, wanted_law,
 };
 pub use simplecss_text::laws::{
     blank_is_cut, blank_is_longest, comment_is_closed, nothing_is_lost, open_comment_breaks_blank,

@@ -19,7 +19,7 @@ pub mod laws;
 mod sheet;
 
 pub use has_selector::HasSelector;
-pub use index::{Recent, RuleIndex};
+pub use index::{OpenPath, Recent, RuleIndex};
 pub use sheet::{Rule, SheetError, Statement, StatementReader, StyleSheet, find_skipped};
 pub use simplecss_declaration::{Declaration, DeclarationTokenizer};
 pub use simplecss_selector::{

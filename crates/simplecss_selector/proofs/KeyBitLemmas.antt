@@ -207,7 +207,7 @@ of_step b bs adjacent (inr e) = absurd (cc)
 of_step b bs descendant h = refl
 of_step b bs child h = refl
 
-some_step : (d : Combinator) (index : ℕ) → ((d ≡ none) ↔ (index ≡ 0))
+pub some_step : (d : Combinator) (index : ℕ) → ((d ≡ none) ↔ (index ≡ 0))
     → (d ≡ child) ⊎ (d ≡ descendant) → 0 < index
 some_step d zero first (inl e) =
     absurd (let n = first.1 refl in let x : none ≡ child = sym n ∙ e in cc)

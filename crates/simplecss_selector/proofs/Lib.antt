@@ -19,3 +19,4 @@ pub mod KeyLemmas
 pub mod WantedLemmas
 pub mod Refused
 pub mod KeyBitLemmas
+pub mod AncestorKeyLemmas

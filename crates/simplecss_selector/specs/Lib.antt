@@ -15,4 +15,5 @@ pub mod KeyViews
 pub mod Wanted
 pub mod WantedViews
 pub mod KeyBits
+pub mod AncestorKeys
 pub mod internal

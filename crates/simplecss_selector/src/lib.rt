@@ -38,5 +38,5 @@ pub use pseudo_class::PseudoClass;
 pub use selector::Selector;
 pub use token::SelectorToken;
 pub use tokenizer::SelectorTokenizer;
-pub use wanted::{Wanted, reported_near_law, wanted_law};
+pub use wanted::{Wanted, ancestor_keys_law, reported_near_law, wanted_law};
 pub use warnings::Warnings;

@@ -348,10 +348,11 @@ impl<'a> Selector<'a> {
 
 /// Specificity, keys and copies.
 impl<'a> Selector<'a> {
-    ghost use Rattle.std.specs.Prelude.{IfOk};
+    ghost use Rattle.std.specs.Prelude.{IfOk, OnOk, ◌++◌, map, option_map};
     ghost use Rattle.simplecss_text.specs.Specificity.{specificity};
     ghost use Rattle.simplecss_selector.specs.Keys.{key_of, compound_key};
     ghost use Rattle.simplecss_selector.specs.Shapes.{component_at};
+    ghost use Rattle.simplecss_selector.specs.AncestorKeys.{ancestor_keys, step_key};
     ghost use Rattle.simplecss_selector.specs.KeyBits.{ancestor_bits, step_bits};
     ghost use Rattle.simplecss_selector.specs.PlacementSearch.{first_of};
     ghost use Rattle.simplecss_selector.specs.Wanted.{wanted_of};
@@ -446,6 +447,34 @@ impl<'a> Selector<'a> {
             bits |= self.step_bits(index);
         }
         bits
+    }
+
+    /// Returns the key of the component that the combinator of the one at this index leads back to,
+    /// if it leads to an ancestor.
+    fn step_key(&self, index: usize) -> Option<Key<'a>>
+        requires { index < length self.now }
+        ensures { option_map key_value result
+            ≡ step_key (component_at self.now index).combinator (first_of self.now index) }
+    {
+        match self.combinator(index) {
+            Combinator::Child | Combinator::Descendant => Some(self.key_at(index - 1)),
+            Combinator::None | Combinator::Adjacent => None,
+        }
+    }
+
+    /// Appends the keys that an element's ancestors must have for the selector to match it: of each
+    /// component that a child or a descendant combinator leads back to. Fails only if an allocation
+    /// fails.
+    pub fn push_ancestor_keys(&self, keys: &mut Vec<Key<'a>>) -> Result<(), AllocError>
+        ensures { OnOk result (map key_value keys.new.items
+            ≡ map key_value keys.old.items ++ ancestor_keys self.now) }
+    {
+        for index in 0..self.len() {
+            if let Some(key) = self.step_key(index) {
+                keys.push(key)?;
+            }
+        }
+        Ok(())
     }
 
     /// Returns an equal selector, in memory of the same allocator.

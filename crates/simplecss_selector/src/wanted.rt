@@ -1,7 +1,8 @@
 //! The key by which an index finds a selector, and the node that must have it.
-ghost use Rattle.std.specs.Prelude.{◌≡◌, List};
+ghost use Rattle.std.specs.Prelude.{◌≡◌, List, All};
 ghost use Rattle.simplecss_text.specs.Components.{Component};
 ghost use Rattle.simplecss_selector.specs.Placements.{HasPlacement};
+ghost use Rattle.simplecss_selector.specs.AncestorKeys.{ancestor_keys, SomeAncestorHas};
 ghost use Rattle.simplecss_selector.specs.internal.CombinatorViews.{combinator_of};
 ghost use Rattle.simplecss_selector.specs.KeyViews.{key_value};
 ghost use Rattle.simplecss_selector.specs.WantedViews.{wanted_value};
@@ -49,4 +50,11 @@ pub fn wanted_law<E: Element>()
 pub fn reported_near_law<E: Keyed>()
     ensures { (element : E) (near : Near) → IsNear E.tree E.node E.reported element near
         → ReportsWanted E.tree (E.node element) near }
+{}
+
+/// If a selector matches an element, each key that it requires of the element's ancestors is one that
+/// an ancestor has.
+pub fn ancestor_keys_law<E: Element>()
+    ensures { (components : List Component) (n : E.Node) → HasPlacement E.tree components n
+        → All (SomeAncestorHas E.tree n) (ancestor_keys components) }
 {}

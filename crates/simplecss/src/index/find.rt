@@ -10,11 +10,13 @@ ghost use Rattle.simplecss_selector.specs.KeyBits.{CoversAncestors};
 ghost use Rattle.simplecss_selector.specs.Wanted.{Near, IsNear, IsReportedFor};
 ghost use Rattle.simplecss.specs.internal.LastByWanted.{NeighbourLeads};
 ghost use Rattle.simplecss.specs.Recents.{Leads, adds_wanted, names_wanted, AreStarts};
-ghost use Rattle.simplecss.specs.Matching.{AreKeyed, AreCandidates, is_covered};
+ghost use Rattle.simplecss.specs.Matching.{AreKeyed, AreKept, AreCandidates, is_covered};
+ghost use Rattle.simplecss.specs.OpenPaths.{needed_keys, are_open, IsOpenTo};
 ghost use Rattle.simplecss.specs.SelectorIndices.{key_at, selector_at, Adds};
 
 use super::last_by_key::LastByKey;
 use super::last_by_wanted::LastByWanted;
+use super::open_path::OpenPath;
 use super::recent::Recent;
 use super::rule_index::RuleIndex;
 use simplecss_selector::{AttributeOperator, Key, Keyed};
@@ -138,7 +140,7 @@ fn push_attributes<E: Keyed>(
 }
 
 /// Adds the last indices of the keys that the element reports.
-fn push_keys_of<E: Keyed>(
+pub(crate) fn push_keys_of<E: Keyed>(
     lasts: &LastByKey<'_>,
     element: &E,
     indices: &mut Vec<usize>,
@@ -334,6 +336,15 @@ fn keep_covered(rule_index: &RuleIndex<'_>, above: u64, indices: &mut Vec<usize>
     indices.retain(|index| rule_index.is_covered(*index, above));
 }
 
+/// Keeps the indices of the rules whose ancestors' keys open elements report.
+#[inline(always)]
+fn keep_open(rule_index: &RuleIndex<'_>, path: &OpenPath<'_>, indices: &mut Vec<usize>)
+    ensures { indices.new.items ≡ filter (λ index. are_open (needed_keys rule_index.now)
+        path.now.listed (selector_at rule_index.now index)) indices.old.items }
+{
+    indices.retain(|index| rule_index.is_open(*index, path));
+}
+
 /// Leaves the indices of the rules that are to be tested, in order: those whose key is reported,
 /// and whose ancestors' keys are among those of the element's ancestors, as far as their bits show.
 pub(crate) fn candidates<E: Keyed>(
@@ -350,5 +361,54 @@ pub(crate) fn candidates<E: Keyed>(
 {
     find_keyed(rule_index, element, indices, recent)?;
     keep_covered(rule_index, element.ancestor_bits(), indices);
+    Ok(())
+}
+
+/// Leaves the last indices of the keys that the element, its parent or its previous sibling reports
+/// otherwise than by the element's name and classes. Those of the parent are the path's.
+#[inline(always)]
+fn find_beside_open<E: Keyed>(
+    rule_index: &RuleIndex<'_>,
+    element: &E,
+    path: &OpenPath<'_>,
+    indices: &mut Vec<usize>,
+) -> Result<(), AllocError>
+    requires path { path.now.selectors ≡ rule_index.now }
+    requires open { IsOpenTo E.tree E.node E.reported path.now
+        (E.tree.parent (E.node element.now)) }
+    ensures { OnOk result ((near : Near) × IsNear E.tree E.node E.reported element.now near
+        × AreStarts (adds_wanted near) rule_index.now indices.new.items) }
+{
+    let lasts = &rule_index.lasts;
+    indices.clear();
+    push_id(&lasts.own, element.id_value(), indices)?;
+    push_attributes(&lasts.own, element, indices)?;
+    indices.extend_from_slice(path.parent_starts())?;
+    push_neighbour(&lasts.previous, element.prev_sibling_element(), indices)
+}
+
+/// Leaves the indices of the rules that are to be tested, in order: those whose key is reported,
+/// and whose ancestors' keys open elements report.
+pub(crate) fn candidates_open<E: Keyed>(
+    rule_index: &RuleIndex<'_>,
+    element: &E,
+    path: &OpenPath<'_>,
+    indices: &mut Vec<usize>,
+) -> Result<(), AllocError>
+    requires path { path.now.selectors ≡ rule_index.now }
+    requires open { IsOpenTo E.tree E.node E.reported path.now
+        (E.tree.parent (E.node element.now)) }
+    ensures { OnOk result ((near : Near) × IsNear E.tree E.node E.reported element.now near
+        × AreKept near (are_open (needed_keys rule_index.now) path.now.listed) rule_index.now
+        indices.new.items) }
+{
+    find_beside_open(rule_index, element, path, indices)?;
+    find_named(
+        rule_index,
+        element.local_name(),
+        element.class_value(),
+        indices,
+    )?;
+    keep_open(rule_index, path, indices);
     Ok(())
 }

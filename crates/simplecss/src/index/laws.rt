@@ -1,9 +1,10 @@
 //! Laws of what an index finds, each the contract of a function that does nothing.
-ghost use Rattle.std.specs.Prelude.{◌≡◌, ℕ, List, Bool};
+ghost use Rattle.std.specs.Prelude.{◌≡◌, ℕ, List, Bool, Some};
 ghost use Rattle.simplecss_text.specs.Components.{Component};
 ghost use Rattle.simplecss.specs.Matching.{AreMatches, AreAnswers, indices_with_yes};
+ghost use Rattle.simplecss.specs.OpenPaths.{Path, IsOpenTo, left};
 
-use simplecss_selector::Element;
+use simplecss_selector::{Element, Keyed};
 
 /// The indices that an index finds are those of the selectors that match, where each is tested in
 /// order. So an index can replace a loop that tests each.
@@ -12,4 +13,10 @@ pub fn answers_law<E: Element>()
         → AreMatches E.tree element selectors indices
         → (answers : List Bool) × AreAnswers E.tree element selectors answers
         × (indices ≡ indices_with_yes answers) }
+{}
+
+/// Where a path is open to an element, `OpenPath::leave` leaves it open to the element's parent.
+pub fn leave_law<E: Keyed>()
+    ensures { (path : Path) (n : E.Node) → IsOpenTo E.tree E.node E.reported path (Some n)
+        → IsOpenTo E.tree E.node E.reported (left path) (E.tree.parent n) }
 {}

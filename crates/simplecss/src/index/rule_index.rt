@@ -1,17 +1,21 @@
 //! An index of rules by the keys of their selectors.
 ghost use Rattle.std.specs.Prelude.{◌≡◌, ℕ, ◌+◌, ◌<◌, ◌≤◌, ◌∷◌, ◌++◌, [], IfOk, OnOk};
-ghost use Rattle.std.specs.Prelude.{OnErr, length, map};
+ghost use Rattle.std.specs.Prelude.{◌↔◌, All, Contains, IsTrue, OnErr, length, map};
 ghost use Rattle.std.specs.List.{sum_by};
 ghost use Rattle.simplecss_selector.specs.KeyBits.{CoversAncestors};
 ghost use Rattle.simplecss_selector.specs.Wanted.{Near, IsNear};
 ghost use Rattle.simplecss.specs.internal.Chains.{selectors_of, IsLastBefore, AreChained};
+ghost use Rattle.simplecss.specs.internal.NeededKeys.{AreNeeded};
+ghost use Rattle.simplecss.specs.OpenPaths.{needed_keys, are_open, open_for, IsOpenTo};
 ghost use Rattle.simplecss.specs.SelectorIndices.{key_at, selector_at};
 ghost use Rattle.simplecss.specs.Matching.{AreMatches, most_tests, is_covered, tested_for};
 
-use super::find::candidates;
+use super::find::{candidates, candidates_open};
 use super::keep::keep_matching;
 use super::last_by_wanted::LastByWanted;
 use super::link::Link;
+use super::needed_keys::NeededKeys;
+use super::open_path::OpenPath;
 use super::recent::Recent;
 use crate::HasSelector;
 use simplecss_selector::{Keyed, Tests};
@@ -19,24 +23,46 @@ use std::alloc::{AllocError, Global};
 use std::marker::Model;
 
 /// Appends the links of the rules, in order: each index is stored under the key of its selector,
-/// with a link to the last earlier index with that key.
+/// with a link to the last earlier index with that key, and with the numbers of the keys that its
+/// selector needs of ancestors.
 #[inline(always)]
 fn push_links<'a, T: HasSelector<'a>>(
+    alloc: Global,
     lasts: &mut LastByWanted<'a>,
+    needed: &mut NeededKeys<'a>,
     links: &mut Vec<Link<'a>>,
     rules: &[T],
 ) -> Result<(), AllocError>
-    requires { AreChained lasts.old links.old.items }
+    requires chained { AreChained lasts.old links.old.items }
+    requires needed { AreNeeded needed.old links.old.items }
     ensures chained { OnOk result (AreChained lasts.new links.new.items) }
+    ensures needed { OnOk result (AreNeeded needed.new links.new.items) }
     ensures selectors { OnOk result (selectors_of links.new.items
         ≡ selectors_of links.old.items ++ map T.selector_in rules.now) }
 {
+    let mut keys = Vec::new(alloc);
     for rule in rules {
         let selector = rule.selector();
+        keys.clear();
+        selector.push_ancestor_keys(&mut keys)?;
+        let numbers = needed.numbers_of(alloc, &keys)?;
         let earlier = lasts.replace(selector.wanted(), links.len())?;
-        links.push(Link::new(earlier, selector))?;
+        links.push(Link::new(earlier, numbers, selector))?;
     }
     Ok(())
+}
+
+/// Whether all of the numbers are open.
+#[inline(always)]
+fn are_open(numbers: &[usize], path: &OpenPath<'_>) -> bool
+    ensures { IsTrue result ↔ All (Contains path.now.listed) numbers.now }
+{
+    for number in numbers {
+        if !path.is_open(*number) {
+            return false;
+        }
+    }
+    true
 }
 
 /// An index of rules by the keys of their selectors: it finds the rules that match an element, and
@@ -63,6 +89,8 @@ pub struct RuleIndex<'a> {
     pub(crate) lasts: LastByWanted<'a>,
     /// For each rule, in order, how it is chained to the earlier ones.
     links: Vec<Link<'a>>,
+    /// The keys that rules need of ancestors.
+    pub(crate) needed: NeededKeys<'a>,
 }
 
 impl<'a> Model for RuleIndex<'a> {
@@ -71,11 +99,12 @@ impl<'a> Model for RuleIndex<'a> {
 
     ghost Value = { List (List Component) };
 
-    ghost use Rattle.simplecss.specs.internal.Chains.{selectors_of, AreChained};
+    ghost use Rattle.simplecss.specs.internal.Chains.{selectors_of};
+    ghost use Rattle.simplecss.specs.internal.NeededKeys.{AreIndexed};
 
     ghost view = { λ index. selectors_of index.links.items };
 
-    ghost invariant = { λ index. AreChained index.lasts index.links.items };
+    ghost invariant = { λ index. AreIndexed index.lasts index.needed index.links.items };
 }
 
 impl<'a> RuleIndex<'a> {
@@ -83,10 +112,15 @@ impl<'a> RuleIndex<'a> {
     pub fn new<T: HasSelector<'a>>(alloc: Global, rules: &[T]) -> Result<Self, AllocError>
         ensures { IfOk result (λ index. index ≡ map T.selector_in rules.now) }
     {
-        let mut links = Vec::with_capacity(alloc, rules.len())?;
-        let mut lasts = LastByWanted::new(alloc);
-        push_links(&mut lasts, &mut links, rules)?;
-        Ok(RuleIndex { lasts, links })
+        let mut links: Vec<Link<'a>> = Vec::with_capacity(alloc, rules.len())?;
+        let mut lasts: LastByWanted<'a> = LastByWanted::new(alloc);
+        let mut needed: NeededKeys<'a> = NeededKeys::new(alloc);
+        push_links(alloc, &mut lasts, &mut needed, &mut links, rules)?;
+        Ok(RuleIndex {
+            lasts,
+            links,
+            needed,
+        })
     }
 
     /// The last earlier index with the key of this one, if there is one.
@@ -106,6 +140,19 @@ impl<'a> RuleIndex<'a> {
     {
         match self.links.get(index) {
             Some(link) => above | link.ancestors == above,
+            None => true,
+        }
+    }
+
+    /// Whether open elements report each key that the rule at this index needs of an element's
+    /// ancestors.
+    #[inline(always)]
+    pub(crate) fn is_open(&self, index: usize, path: &OpenPath<'_>) -> bool
+        ensures { result
+            ≡ are_open (needed_keys self.now) path.now.listed (selector_at self.now index) }
+    {
+        match self.links.get(index) {
+            Some(link) => are_open(&link.needed, path),
             None => true,
         }
     }
@@ -175,6 +222,59 @@ impl<'a> RuleIndex<'a> {
     {
         let mut recent = Recent::none(*indices.allocator(), self);
         self.matching_all(rules, element, indices, &mut recent, tests)
+    }
+
+    /// Does what [`RuleIndex::matching`] does for an element whose ancestors are the open elements of
+    /// a path. A rule is tested only if its key is reported, and if open elements report each key
+    /// that it needs of ancestors.
+    pub fn matching_open<T: HasSelector<'a>, E: Keyed>(
+        &self,
+        rules: &[T],
+        element: &E,
+        path: &OpenPath<'_>,
+        indices: &mut Vec<usize>,
+    ) -> Result<(), AllocError>
+        requires index { self.now ≡ map T.selector_in rules.now }
+        requires path { path.now.selectors ≡ self.now }
+        requires open { IsOpenTo E.tree E.node E.reported path.now
+            (E.tree.parent (E.node element.now)) }
+        ensures matches { OnOk result
+            (AreMatches E.tree (E.node element.now) self.now indices.new.items) }
+        ensures err { OnErr result (indices.new.items ≡ []) }
+    {
+        self.matching_open_counted(rules, element, path, indices, &mut Tests::new())
+    }
+
+    /// `matching_open`, with a count of the tests that were made.
+    pub fn matching_open_counted<T: HasSelector<'a>, E: Keyed>(
+        &self,
+        rules: &[T],
+        element: &E,
+        path: &OpenPath<'_>,
+        indices: &mut Vec<usize>,
+        tests: &mut Tests,
+    ) -> Result<(), AllocError>
+        requires index { self.now ≡ map T.selector_in rules.now }
+        requires path { path.now.selectors ≡ self.now }
+        requires open { IsOpenTo E.tree E.node E.reported path.now
+            (E.tree.parent (E.node element.now)) }
+        ensures matches { OnOk result
+            (AreMatches E.tree (E.node element.now) self.now indices.new.items) }
+        ensures tests { OnOk result ((near : Near)
+            × IsNear E.tree E.node E.reported element.now near
+            × (tests.old + length (open_for near path.now) ≤ tests.new)
+            × (tests.new ≤ tests.old + sum_by (most_tests E.tree (E.node element.now))
+            (open_for near path.now))) }
+        ensures err { OnErr result (indices.new.items ≡ []) }
+        ensures untested { OnErr result (tests.new ≡ tests.old) }
+    {
+        if let Err(error) = candidates_open(self, element, path, indices) {
+            indices.clear();
+            return Err(error);
+        }
+        let kept = keep_matching(rules, element, indices, tests);
+        indices.truncate(kept);
+        Ok(())
     }
 
     /// `matching_counted` and `matching_recent` at once.

@@ -10,7 +10,7 @@ returns g c =
       beside.0,
       beside.1,
       starts_led (adds_wanted beside.0) c.rule_index.inside.lasts c.rule_index.inside.links.items
-          c.args.rule_index.now c.rule_index.invariant c.rule_index.view_is
+          c.args.rule_index.now c.rule_index.invariant.chained c.rule_index.view_is
           c.clear.new.self.items c.push_beside.new.indices.items c.clear.ensures.items beside.2,
     ))
     c.push_beside.ensures

@@ -9,7 +9,7 @@ use Rattle.simplecss.proofs.index.find.find_named.Goals as goal
 pub push_all_earlier-requires : goal.push_all_earlier-requires
 push_all_earlier-requires c =
     led_within _ c.rule_index.inside.lasts c.rule_index.inside.links.items c.args.rule_index.now
-    c.rule_index.invariant c.rule_index.view_is
+    c.rule_index.invariant.chained c.rule_index.view_is
     c.args.indices.now.items c.push_named.new.indices.items c.sort_once.new.indices.items c.requires
     c.in_ok-push_named.ensures c.sort_once.ensures.same
 
@@ -24,7 +24,7 @@ returns c = λ near name_is class_is starts.
     c.sort_once.new.indices.items c.push_all_earlier.new.indices.items
     c.sort_once-2.new.indices.items
     (starts_more (names_wanted near.own.name near.own.class) c.rule_index.inside.lasts
-    c.rule_index.inside.links.items c.args.rule_index.now c.rule_index.invariant
+    c.rule_index.inside.links.items c.args.rule_index.now c.rule_index.invariant.chained
     c.rule_index.view_is
     (adds_wanted near) (reports_wanted near) c.args.indices.now.items c.push_named.new.indices.items
     (key_cases near) (added_key near) (named_key near) starts leads)

@@ -1,8 +1,14 @@
-use Rattle.std.proofs.Common.{◌≡◌, ◌<◌, ◌++◌, ◌∷◌, [], length, map, take, sym, ap, ◌∙◌, arith, append_assoc}
+use Rattle.std.proofs.Common.{subst, ◌≡◌, ◌<◌, ◌++◌, ◌∷◌, [], length, map, take, sym, ap, ◌∙◌, arith, append_assoc}
 use Rattle.std.proofs.lemmas.List.{map_more}
 use Rattle.simplecss_selector.specs.WantedViews.{wanted_value}
 use Rattle.simplecss.specs.internal.Chains.{selectors_of}
+use Rattle.std.specs.List.{fold}
+use Rattle.simplecss_selector.specs.AncestorKeys.{ancestor_keys}
+use Rattle.simplecss_selector.specs.KeyViews.{key_value}
+use Rattle.simplecss.specs.OpenPaths.{add_key}
+use Rattle.simplecss.specs.internal.NeededKeys.{keys_of, AreNumbersOf}
 use Rattle.simplecss.proofs.Chaining.{link_more}
+use Rattle.simplecss.proofs.NeededNumbers.{needed_push}
 use Rattle.simplecss.proofs.index.rule_index.push_links.Goals as goal
 
 pub loop-rule-preserved : goal.loop-rule-preserved
@@ -23,8 +29,21 @@ loop-rule-preserved g c =
     c.loop-rule.invariant.chained index c.wanted.ensures c.in_ok-earlier.ensures.known
     c.in_ok-earlier.ensures.taken c.new.ensures.earlier c.new.ensures.selector
     c.in_ok-push.ensures.items in
+    let selector = c.selector-selector.result.now in
+    let keys : map key_value c.deref.result.now ≡ ancestor_keys selector =
+    ap (map key_value) c.deref.ensures.value ∙ c.in_ok-push_ancestor_keys.ensures
+    ∙ ap (λ ks. map key_value ks ++ ancestor_keys selector) c.clear.ensures.items in
     record {
       chained = linked.0;
+      needed = needed_push c.loop-rule.needed c.numbers_of.new.self links.items
+          c.push.new.self.items c.new.result selector
+          c.loop-rule.invariant.needed c.in_ok-numbers.ensures.numbered
+          (c.in_ok-numbers.ensures.keys ∙ ap (fold add_key (keys_of c.loop-rule.needed)) keys)
+          (subst (λ numbers. AreNumbersOf (keys_of c.numbers_of.new.self) numbers.items
+          (ancestor_keys selector)) (sym c.new.ensures.needed)
+          (subst (AreNumbersOf (keys_of c.numbers_of.new.self) c.in_ok-numbers.numbers.items) keys
+          c.in_ok-numbers.ensures.numbers))
+          c.new.ensures.selector c.in_ok-push.ensures.items;
       selectors =
           linked.1 ∙ ap (λ ss. ss ++ c.selector-selector.result.now ∷ []) c.loop-rule.invariant.selectors
           ∙ append_assoc old (map g.T.HasSelector.selector_in (take i rules))

@@ -4,9 +4,9 @@ use Rattle.std.specs.List.Sorted.{IsStrictlyIncreasing}
 use Rattle.std.proofs.lemmas.List.{length-map}
 use Rattle.simplecss_selector.specs.Placements.{HasPlacement}
 use Rattle.simplecss_selector.proofs.WantedLemmas.{near_reports}
-use Rattle.simplecss.specs.Matching.{AreMatches, most_tests}
+use Rattle.simplecss.specs.Matching.{AreMatches, is_covered, most_tests}
 use Rattle.simplecss.specs.SelectorIndices.{selector_at}
-use Rattle.simplecss.proofs.Candidates.{are_matches, candidate_within, sum_of_candidates, number_of_candidates}
+use Rattle.simplecss.proofs.Candidates.{are_matches, kept_within, sum_of_kept, number_of_kept}
 use Rattle.simplecss.proofs.Keeping.{written_back}
 use Rattle.simplecss.proofs.index.rule_index.RuleIndex.matching_all.Goals as goal
 
@@ -14,7 +14,7 @@ pub keep_matching-kept-requires : goal.keep_matching-kept-requires
 keep_matching-kept-requires g c =
     let same : length c.args.self.now ≡ length c.args.rules.now =
     ap length c.requires.index ∙ length-map c.args.rules.now g.T.HasSelector.selector_in in
-    let within = candidate_within c.in_default.ensures.found.0 c.in_default.ensures.found.2
+    let within = kept_within c.in_default.ensures.found.0 (is_covered c.in_default.ensures.found.2)
     c.args.self.now c.candidates.new.indices.items c.in_default.ensures.found.4 in
     λ k. (
       (refl, tt),
@@ -72,9 +72,9 @@ returns-clause-tests g c =
       c.in_default.ensures.found.2,
       c.in_default.ensures.found.3,
       subst (λ n. c.args.tests.now + n ≤ c.keep_matching-kept.new.tests)
-          (number_of_candidates near c.in_default.ensures.found.2 c.args.self.now candidates
+          (number_of_kept near (is_covered c.in_default.ensures.found.2) c.args.self.now candidates
           c.in_default.ensures.found.4) least,
       subst (λ n. c.keep_matching-kept.new.tests ≤ c.args.tests.now + n)
-          (sum_of_candidates near c.in_default.ensures.found.2 c.args.self.now candidates
+          (sum_of_kept near (is_covered c.in_default.ensures.found.2) c.args.self.now candidates
           (most_tests tree element) c.in_default.ensures.found.4) tested,
     )

@@ -1,0 +1,94 @@
+use Rattle.std.proofs.Common.{◌≡◌, ◌+◌, ◌<◌, ◌≤◌, ◌↔◌, ℕ, length, map, take, ap, sym, ◌∙◌, subst, refl}
+use Rattle.std.specs.List.{All, Contains, sum_by}
+use Rattle.std.specs.List.Sorted.{IsStrictlyIncreasing}
+use Rattle.std.proofs.lemmas.List.{length-map}
+use Rattle.simplecss_selector.specs.Placements.{HasPlacement}
+use Rattle.simplecss_selector.proofs.WantedLemmas.{near_reports}
+use Rattle.simplecss.specs.Matching.{AreMatches, most_tests}
+use Rattle.simplecss.specs.SelectorIndices.{selector_at}
+use Rattle.simplecss.proofs.Candidates.{kept_matches, kept_for, kept_within, sum_of_kept, number_of_kept}
+use Rattle.simplecss.specs.OpenPaths.{needed_keys, are_open, AreOpened}
+use Rattle.simplecss.proofs.OpenPathLemmas.{index_placed}
+use Rattle.simplecss.proofs.Keeping.{written_back}
+use Rattle.simplecss.proofs.index.rule_index.RuleIndex.matching_open_counted.Goals as goal
+
+pub keep_matching-kept-requires : goal.keep_matching-kept-requires
+keep_matching-kept-requires g c =
+    let same : length c.args.self.now ≡ length c.args.rules.now =
+    ap length c.requires.index ∙ length-map c.args.rules.now g.T.HasSelector.selector_in in
+    let within = kept_within c.in_default.ensures.0 (are_open (needed_keys c.args.self.now) c.args.path.now.listed)
+    c.args.self.now c.candidates_open.new.indices.items c.in_default.ensures.2 in
+    λ k. (
+      (refl, tt),
+      (
+        subst IsStrictlyIncreasing (sym c.deref_mut.ensures.value)
+            c.in_default.ensures.2.ascending,
+        rw c.deref_mut.ensures.value
+            (subst (λ n. All (λ index. index < n) c.candidates_open.new.indices.items) same within),
+      ),
+    )
+
+pub returns-clause-matches : goal.returns-clause-matches
+returns-clause-matches g c =
+    let tree = g.E.Element.tree in
+    let element = g.E.Element.node c.args.element.now in
+    let path = c.args.path.now in
+    let candidates = c.candidates_open.new.indices in
+    let kept = c.keep_matching-kept.new.indices in
+    let count = c.keep_matching-kept.result in
+    let back : c.truncate.new.self.items ≡ take count kept =
+    c.truncate.ensures.items ∙ ap (take count) (written_back candidates.items kept candidates.len
+    candidates.ok.0 (c.keep_matching-kept.auto.indices ∙ ap length c.deref_mut.ensures.value)) in
+    let exactly : (index : ℕ) → Contains (take count kept) index ↔ (Contains candidates.items index
+    × HasPlacement tree (selector_at c.args.self.now index) element) =
+    subst (λ ss. (index : ℕ) → Contains (take count kept) index
+    ↔ (Contains candidates.items index × HasPlacement tree (selector_at ss index) element))
+    (sym c.requires.index)
+    (subst (λ ps. (index : ℕ) → Contains (take count kept) index ↔ (Contains ps index
+    × HasPlacement tree (selector_at (map g.T.HasSelector.selector_in c.args.rules.now) index) element))
+    c.deref_mut.ensures.value c.keep_matching-kept.ensures.exactly) in
+    subst (AreMatches tree element c.args.self.now) (sym back)
+    (kept_matches tree element c.in_default.ensures.0
+    (are_open (needed_keys c.args.self.now) path.listed)
+    c.args.self.now candidates.items (take count kept)
+    (λ index placed lt. index_placed tree g.E.Element.node g.E.Keyed.reported
+    c.args.self.now g.met.E.Keyed.reported_law g.met.E.Element.sibling_law element path.marks path.listed path.starts
+    (subst (λ ss. AreOpened tree g.E.Element.node g.E.Keyed.reported ss (tree.parent element)
+    path.marks path.listed path.starts) c.requires.path c.requires.open) index lt placed)
+    (near_reports
+    tree g.E.Element.node g.E.Keyed.reported g.met.E.Keyed.reported_law c.args.element.now
+    c.in_default.ensures.0 c.in_default.ensures.1)
+    c.in_default.ensures.2 c.keep_matching-kept.ensures.ascending exactly)
+
+pub returns-clause-tests : goal.returns-clause-tests
+returns-clause-tests g c =
+    let tree = g.E.Element.tree in
+    let element = g.E.Element.node c.args.element.now in
+    let near = c.in_default.ensures.0 in
+    let candidates = c.candidates_open.new.indices.items in
+    let keeps = are_open (needed_keys c.args.self.now) c.args.path.now.listed in
+    let least : c.args.tests.now + length candidates ≤ c.keep_matching-kept.new.tests =
+    subst (λ ps. c.args.tests.now + length ps ≤ c.keep_matching-kept.new.tests)
+    c.deref_mut.ensures.value c.keep_matching-kept.ensures.tested in
+    let tested : c.keep_matching-kept.new.tests ≤ c.args.tests.now
+    + sum_by (λ index. most_tests tree element (selector_at c.args.self.now index)) candidates =
+    subst (λ ss. c.keep_matching-kept.new.tests ≤ c.args.tests.now + sum_by
+    (λ index. most_tests tree element (selector_at ss index)) candidates) (sym c.requires.index)
+    (subst (λ ps. c.keep_matching-kept.new.tests ≤ c.args.tests.now + sum_by (λ index.
+    most_tests tree element (selector_at (map g.T.HasSelector.selector_in c.args.rules.now) index)) ps)
+    c.deref_mut.ensures.value c.keep_matching-kept.ensures.counted) in (
+      near,
+      c.in_default.ensures.1,
+      subst (λ ss. c.args.tests.now
+          + length (kept_for near (are_open (needed_keys ss) c.args.path.now.listed) ss)
+          ≤ c.keep_matching-kept.new.tests) (sym c.requires.path)
+          (subst (λ n. c.args.tests.now + n ≤ c.keep_matching-kept.new.tests)
+          (number_of_kept near keeps c.args.self.now candidates c.in_default.ensures.2) least),
+      subst (λ ss. c.keep_matching-kept.new.tests ≤ c.args.tests.now + sum_by
+          (most_tests tree element)
+          (kept_for near (are_open (needed_keys ss) c.args.path.now.listed) ss))
+          (sym c.requires.path)
+          (subst (λ n. c.keep_matching-kept.new.tests ≤ c.args.tests.now + n)
+          (sum_of_kept near keeps c.args.self.now candidates (most_tests tree element)
+          c.in_default.ensures.2) tested),
+    )
