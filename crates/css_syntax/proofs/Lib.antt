@@ -1,7 +1,7 @@
 pub mod Shorter
 pub mod OpenBlocks
-pub mod ValueParts
-pub mod Items
-pub mod Heads
 pub mod Utf8Ends
-pub mod Vectors
+pub mod PartLemmas
+pub mod PartTexts
+pub mod ItemLemmas
+pub mod ListSteps

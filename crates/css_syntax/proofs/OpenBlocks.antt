@@ -1,25 +1,27 @@
 -- Blocks within blocks, a token at a time.
 -- Serves `component_values::skip_block`.
-use Rattle.std.proofs.Common.{◌≡◌, ℕ, zero, suc, ◌+◌, ◌*◌, ◌/◌, ◌%◌, ◌^◌, ◌-◌, ◌<◌, ◌≤◌, ◌==◌, ◌&&◌, Bool, true, false, List, [], ◌∷◌, length, Some, None, arith, refl, sym, ap, ◌∙◌, if◌then◌else◌, eq-eqb, eqb-true, add-one}
+use Rattle.std.proofs.Common.{◌≡◌, ℕ, zero, suc, ◌+◌, ◌*◌, ◌/◌, ◌%◌, ◌^◌, ◌-◌, ◌<◌, ◌≤◌, ◌==◌, Bool, true, false, List, [], ◌∷◌, length, Some, None, arith, refl, sym, ap, ◌∙◌, if◌then◌else◌, eq-eqb, eqb-true, add-one}
 use Rattle.std.proofs.Math.Nat.{pow-suc, pow-le-pow_right}
 use Rattle.std.proofs.lemmas.Nat.{div_below}
 use Rattle.simplecss_text.specs.Reading.{each}
-use Rattle.simplecss_text.specs.AsciiBytes.{close_brace}
 use Rattle.simplecss_text.specs.Bytes.{past_byte}
 use Rattle.simplecss_text.proofs.reading.EachLemmas.{Shrinks, Takes, each-none, each-some}
 use Rattle.simplecss_text.proofs.reading.TakesLemmas.{length-past_byte, each-within}
+use Rattle.css_syntax.specs.declared.quality.Quality.{Quality}
+use Rattle.css_syntax.specs.declared.quality.Quality.TheVariants.{Whole, Open, BadString, BadUrl, StrayBracket, TooDeep}
+use Rattle.css_syntax.specs.Qualities.{first_flaw, flaw_of_all}
 use Rattle.css_syntax.specs.Tokens.{token}
-use Rattle.css_syntax.specs.ComponentValues.{is_opener, mirror, all_good, value_inside, block_of, value_by, component_value}
+use Rattle.css_syntax.specs.ComponentValues.{is_opener, mirror, end_quality, value_inside, block_of, value_by, component_value}
 use Rattle.css_syntax.specs.internal.OpenBrackets.{closer_of}
 use Rattle.css_syntax.proofs.Shorter.{token-takes}
 
 -- ---- a component value consumes a byte or more
 
 -- what a reader of values consumes
-pub Consumes : (List ℕ → Bool × List ℕ) → Type 0
+pub Consumes : (List ℕ → Quality × List ℕ) → Type 0
 Consumes read = (b : ℕ) (text : List ℕ) → length (read (b ∷ text)).1 ≤ length text
 
-value_inside-takes : (read : List ℕ → Bool × List ℕ) (closer : ℕ) → Consumes read
+value_inside-takes : (read : List ℕ → Quality × List ℕ) (closer : ℕ) → Consumes read
     → Takes (value_inside read closer)
 unfolding Consumes
 value_inside-takes read closer h [] = tt
@@ -29,7 +31,7 @@ value_inside-takes read closer h (b ∷ text) = by (b == closer)
     by true = tt
     by false = omega (arith, h b text)
 
-value_by-consumes : (block : ℕ → List ℕ → Bool × List ℕ)
+value_by-consumes : (block : ℕ → List ℕ → Quality × List ℕ)
     → ((closer : ℕ) (text : List ℕ) → length (block closer text).1 ≤ length text)
     → Consumes (value_by block)
 unfolding Consumes
@@ -40,7 +42,7 @@ value_by-consumes block h b text = by (is_opener b)
     by true = h (mirror b) text
     by false = token-takes b text
 
-block_of-within : (read : List ℕ → Bool × List ℕ) → Consumes read → (closer : ℕ) (text : List ℕ)
+block_of-within : (read : List ℕ → Quality × List ℕ) → Consumes read → (closer : ℕ) (text : List ℕ)
     → length (block_of read closer text).1 ≤ length text
 unfolding block_of
 block_of-within read h closer text = omega (
@@ -52,7 +54,7 @@ block_of-within read h closer text = omega (
 pub component_value-consumes : (n : ℕ) → Consumes (component_value n)
 unfolding Consumes component_value
 component_value-consumes zero b text =
-    value_by-consumes (λ closer rest. (false, [])) (λ closer rest. omega arith) b text
+    value_by-consumes (λ closer rest. (TooDeep, [])) (λ closer rest. omega arith) b text
 component_value-consumes (suc n) b text =
     value_by-consumes (block_of (component_value n))
     (block_of-within (component_value n) (component_value-consumes n)) b text
@@ -66,11 +68,7 @@ pub value-within : (n b : ℕ) (text : List ℕ) → length (component_value n (
 unfolding Consumes
 value-within n b text = component_value-consumes n b text
 
-pub braces_within : (text : List ℕ)
-    → length (block_of (component_value 63) close_brace text).1 ≤ length text
-braces_within text = block_of-within (component_value 63) (component_value-consumes 63) close_brace text
-
-pub value-empty : (n : ℕ) → component_value n [] ≡ (true, [])
+pub value-empty : (n : ℕ) → component_value n [] ≡ (Whole, [])
 unfolding component_value
 value-empty zero = refl
 value-empty (suc n) = refl
@@ -88,40 +86,50 @@ value-token (suc n) b text opener = rw opener refl
 
 -- ---- what is left of the blocks that are open
 
--- a reading, if what was read before is good, too
-abbrev pub also : Bool → Bool × List ℕ → Bool × List ℕ
-also good read = (good && read.0, read.1)
+-- a reading after what has this quality
+abbrev pub also : Quality → Quality × List ℕ → Quality × List ℕ
+also quality read = (first_flaw quality read.0, read.1)
 
-pub and-assoc : (a b c : Bool) → (a && (b && c)) ≡ ((a && b) && c)
-and-assoc true b c = refl
-and-assoc false b c = refl
+pub flaw-assoc : (a b c : Quality) → first_flaw a (first_flaw b c) ≡ first_flaw (first_flaw a b) c
+flaw-assoc Whole b c = refl
+flaw-assoc Open b c = refl
+flaw-assoc BadString b c = refl
+flaw-assoc BadUrl b c = refl
+flaw-assoc StrayBracket b c = refl
+flaw-assoc TooDeep b c = refl
 
-pub and-true : (a : Bool) → (a && true) ≡ a
-and-true true = refl
-and-true false = refl
+pub flaw-whole : (a : Quality) → first_flaw a Whole ≡ a
+flaw-whole Whole = refl
+flaw-whole Open = refl
+flaw-whole BadString = refl
+flaw-whole BadUrl = refl
+flaw-whole StrayBracket = refl
+flaw-whole TooDeep = refl
 
-pub and-false : (a : Bool) → (a && false) ≡ false
-and-false true = refl
-and-false false = refl
-
-pub also-also : (a b : Bool) (read : Bool × List ℕ) → also a (also b read) ≡ also (a && b) read
-also-also a b read = ap (λ (good : Bool). (good, read.1)) (and-assoc a b read.0)
+pub also-also : (a b : Quality) (read : Quality × List ℕ)
+    → also a (also b read) ≡ also (first_flaw a b) read
+also-also a b read = ap (λ (quality : Quality). (quality, read.1)) (flaw-assoc a b read.0)
 
 -- the rest of the innermost block, and then of those round it, of which there are `depth` in all;
 -- `waiting` has their closing brackets, and `n` further brackets may be opened
-abbrev pub resume : (depth waiting n : ℕ) → List ℕ → Bool × List ℕ
-resume zero waiting n text = (true, text)
+abbrev pub resume : (depth waiting n : ℕ) → List ℕ → Quality × List ℕ
+resume zero waiting n text = (Whole, text)
 resume (suc depth) waiting n text =
     let inside = each (value_inside (component_value n) (closer_of (waiting % 4))) text in
-    also (all_good inside.0)
+    also (first_flaw (flaw_of_all inside.0) (end_quality inside.1))
     (resume depth (waiting / 4) (suc n) (past_byte (closer_of (waiting % 4)) inside.1))
 
 -- at the end of the text
-pub resume-end : (depth waiting n : ℕ) → resume depth waiting n [] ≡ (true, [])
-resume-end zero waiting n = refl
-resume-end (suc depth) waiting n =
+pub resume-end : (depth waiting n : ℕ) → resume (suc depth) waiting n [] ≡ (Open, [])
+resume-end depth waiting n =
     rw (each-none (value_inside (component_value n) (closer_of (waiting % 4))) [] refl)
-    (resume-end depth (waiting / 4) (suc n))
+    (by depth (waiting / 4) (suc n))
+  where
+    by : (depth waiting n : ℕ) → also Open (resume depth waiting n []) ≡ (Open, [])
+    by zero waiting n = refl
+    by (suc depth) waiting n =
+        rw (each-none (value_inside (component_value n) (closer_of (waiting % 4))) [] refl)
+        (by depth (waiting / 4) (suc n))
 
 -- at the closing bracket of the innermost block
 pub resume-close : (depth waiting n b : ℕ) (text : List ℕ) → b ≡ closer_of (waiting % 4)
@@ -132,7 +140,7 @@ resume-close depth waiting n b text e =
     let same : (b == closer) ≡ true = eq-eqb b closer e in
     let none : read (b ∷ text) ≡ None = rw same refl in
     let past : past_byte closer (b ∷ text) ≡ text = rw same refl in
-    ap (λ (r : List Bool × List ℕ). also (all_good r.0)
+    ap (λ (r : List Quality × List ℕ). also (first_flaw (flaw_of_all r.0) (end_quality r.1))
     (resume depth (waiting / 4) (suc n) (past_byte closer r.1)))
     (each-none read (b ∷ text) none)
     ∙ ap (resume depth (waiting / 4) (suc n)) past
@@ -147,11 +155,14 @@ resume-value depth waiting n b text e =
     let read = value_inside (component_value n) closer in
     let x = component_value n (b ∷ text) in
     let found : read (b ∷ text) ≡ Some x = rw e refl in
-    ap (λ (r : List Bool × List ℕ). also (all_good r.0)
+    let more = each read x.1 in
+    let left = resume depth (waiting / 4) (suc n) (past_byte closer more.1) in
+    ap (λ (r : List Quality × List ℕ). also (first_flaw (flaw_of_all r.0) (end_quality r.1))
     (resume depth (waiting / 4) (suc n) (past_byte closer r.1)))
     (each-some read (inside-takes n closer) (b ∷ text) x.1 x.0 found)
-    ∙ sym (also-also x.0 (all_good (each read x.1).0)
-    (resume depth (waiting / 4) (suc n) (past_byte closer (each read x.1).1)))
+    ∙ ap (λ (quality : Quality). also quality left)
+    (sym (flaw-assoc x.0 (flaw_of_all more.0) (end_quality more.1)))
+    ∙ sym (also-also x.0 (first_flaw (flaw_of_all more.0) (end_quality more.1)) left)
 
 -- at an opening bracket
 pub resume-open : (depth waiting next n b : ℕ) (text : List ℕ)
@@ -161,22 +172,22 @@ pub resume-open : (depth waiting next n b : ℕ) (text : List ℕ)
 unfolding block_of component_value
 resume-open depth waiting next n b text e opener rest closer =
     let inner = each (value_inside (component_value n) (mirror b)) text in
-    let value : component_value (suc n) (b ∷ text) ≡ (all_good inner.0, past_byte (mirror b) inner.1)
+    let value : component_value (suc n) (b ∷ text) ≡ (first_flaw (flaw_of_all inner.0) (end_quality inner.1), past_byte (mirror b) inner.1)
     = rw opener refl in
     resume-value depth waiting (suc n) b text e
-    ∙ ap (λ (x : Bool × List ℕ). also x.0 (resume (suc depth) waiting (suc n) x.1)) value
+    ∙ ap (λ (x : Quality × List ℕ). also x.0 (resume (suc depth) waiting (suc n) x.1)) value
     ∙ rw (closer, rest) refl
 
 -- at one too many
 pub resume-deep : (depth waiting b : ℕ) (text : List ℕ)
     → (b == closer_of (waiting % 4)) ≡ false → is_opener b ≡ true
-    → resume (suc depth) waiting zero (b ∷ text) ≡ (false, [])
+    → resume (suc depth) waiting zero (b ∷ text) ≡ (TooDeep, [])
 unfolding component_value
 resume-deep depth waiting b text e opener =
-    let value : component_value zero (b ∷ text) ≡ (false, []) = rw opener refl in
+    let value : component_value zero (b ∷ text) ≡ (TooDeep, []) = rw opener refl in
     resume-value depth waiting zero b text e
-    ∙ ap (λ (x : Bool × List ℕ). also x.0 (resume (suc depth) waiting zero x.1)) value
-    ∙ ap (λ (r : Bool × List ℕ). (false, r.1)) (resume-end (suc depth) waiting zero)
+    ∙ ap (λ (x : Quality × List ℕ). also x.0 (resume (suc depth) waiting zero x.1)) value
+    ∙ ap (λ (r : Quality × List ℕ). (TooDeep, r.1)) (resume-end depth waiting zero)
 
 -- at any other token
 pub resume-token : (depth waiting n b : ℕ) (text : List ℕ)
@@ -185,7 +196,7 @@ pub resume-token : (depth waiting n b : ℕ) (text : List ℕ)
     ≡ also (token (b ∷ text)).0 (resume (suc depth) waiting n (token (b ∷ text)).1)
 resume-token depth waiting n b text e opener =
     resume-value depth waiting n b text e
-    ∙ ap (λ (x : Bool × List ℕ). also x.0 (resume (suc depth) waiting n x.1))
+    ∙ ap (λ (x : Quality × List ℕ). also x.0 (resume (suc depth) waiting n x.1))
     (value-token n b text opener)
 
 -- one block, from its start
@@ -194,11 +205,9 @@ pub resume-start : (kind n : ℕ) (text : List ℕ) → kind < 4
 unfolding block_of
 resume-start kind n text h =
     let digit : kind % 4 ≡ kind = omega arith in
-    rw digit (ap (λ (good : Bool). (
-      good,
-      past_byte (closer_of kind) (each (value_inside (component_value n) (closer_of kind)) text).1,
-    ))
-    (and-true (all_good (each (value_inside (component_value n) (closer_of kind)) text).0)))
+    let inside = each (value_inside (component_value n) (closer_of kind)) text in
+    rw digit (ap (λ (quality : Quality). (quality, past_byte (closer_of kind) inside.1))
+    (flaw-whole (first_flaw (flaw_of_all inside.0) (end_quality inside.1))))
 
 -- ---- with the depth as the code has it
 
@@ -232,7 +241,7 @@ open-at (suc d) waiting kind b text h l e opener k closer =
 
 pub deep-at : (depth waiting b : ℕ) (text : List ℕ) → depth ≡ 64
     → (b == closer_of (waiting % 4)) ≡ false → is_opener b ≡ true
-    → resume depth waiting (64 - depth) (b ∷ text) ≡ (false, [])
+    → resume depth waiting (64 - depth) (b ∷ text) ≡ (TooDeep, [])
 deep-at depth waiting b text h e opener =
     let none : 64 - depth ≡ zero = omega arith in
     let all : depth ≡ suc 63 = omega arith in
@@ -278,56 +287,55 @@ other_byte a b h = by (a == b) refl
     by true e = absurd (h (eqb-true a b e))
     by false e = e
 
-pub at-end : (depth waiting n : ℕ) (rest : List ℕ) (good : Bool) → rest ≡ []
-    → also good (resume depth waiting n rest) ≡ (good, rest)
-at-end depth waiting n rest good e =
-    ap (λ (t : List ℕ). also good (resume depth waiting n t)) e
-    ∙ ap (also good) (resume-end depth waiting n)
-    ∙ ap (λ (g : Bool). (g, [])) (and-true good)
-    ∙ ap (λ (t : List ℕ). (good, t)) (sym e)
+pub at-end : (depth waiting n : ℕ) (rest : List ℕ) (quality : Quality) → 0 < depth → rest ≡ []
+    → also quality (resume depth waiting n rest) ≡ (first_flaw quality Open, rest)
+at-end zero waiting n rest quality h e = absurd (omega arith)
+at-end (suc depth) waiting n rest quality h e =
+    ap (λ (t : List ℕ). also quality (resume (suc depth) waiting n t)) e
+    ∙ ap (also quality) (resume-end depth waiting n)
+    ∙ ap (λ (t : List ℕ). (first_flaw quality Open, t)) (sym e)
 
-pub step-close : (depth waiting b : ℕ) (rest after : List ℕ) (good : Bool) → 0 < depth → depth ≤ 64
+pub step-close : (depth waiting b : ℕ) (rest after : List ℕ) (quality : Quality) → 0 < depth → depth ≤ 64
     → rest ≡ b ∷ after → b ≡ closer_of (waiting % 4)
-    → also good (resume (depth - 1) (waiting / 4) (64 - (depth - 1)) after)
-    ≡ also good (resume depth waiting (64 - depth) rest)
-step-close depth waiting b rest after good h l e closer =
-    ap (also good) (sym (ap (resume depth waiting (64 - depth)) e
+    → also quality (resume (depth - 1) (waiting / 4) (64 - (depth - 1)) after)
+    ≡ also quality (resume depth waiting (64 - depth) rest)
+step-close depth waiting b rest after quality h l e closer =
+    ap (also quality) (sym (ap (resume depth waiting (64 - depth)) e
     ∙ close-at depth waiting b after h l closer))
 
-pub step-open : (depth waiting kind b : ℕ) (rest after : List ℕ) (good : Bool) → 0 < depth
+pub step-open : (depth waiting kind b : ℕ) (rest after : List ℕ) (quality : Quality) → 0 < depth
     → depth < 64 → rest ≡ b ∷ after → (b == closer_of (waiting % 4)) ≡ false
     → is_opener b ≡ true → kind < 4 → closer_of kind ≡ mirror b
-    → also good (resume (depth + 1) (4 * waiting + kind) (64 - (depth + 1)) after)
-    ≡ also good (resume depth waiting (64 - depth) rest)
-step-open depth waiting kind b rest after good h l e other opener k closer =
-    ap (also good) (sym (ap (resume depth waiting (64 - depth)) e
+    → also quality (resume (depth + 1) (4 * waiting + kind) (64 - (depth + 1)) after)
+    ≡ also quality (resume depth waiting (64 - depth) rest)
+step-open depth waiting kind b rest after quality h l e other opener k closer =
+    ap (also quality) (sym (ap (resume depth waiting (64 - depth)) e
     ∙ open-at depth waiting kind b after h l other opener k closer))
 
-pub step-deep : (depth waiting b : ℕ) (rest after : List ℕ) (good : Bool) → depth ≡ 64
+pub step-deep : (depth waiting b : ℕ) (rest after : List ℕ) (quality : Quality) → depth ≡ 64
     → rest ≡ b ∷ after → (b == closer_of (waiting % 4)) ≡ false → is_opener b ≡ true
-    → also good (resume depth waiting (64 - depth) rest) ≡ (false, [])
-step-deep depth waiting b rest after good l e other opener =
-    ap (also good) (ap (resume depth waiting (64 - depth)) e
+    → also quality (resume depth waiting (64 - depth) rest) ≡ (first_flaw quality TooDeep, [])
+step-deep depth waiting b rest after quality l e other opener =
+    ap (also quality) (ap (resume depth waiting (64 - depth)) e
     ∙ deep-at depth waiting b after l other opener)
-    ∙ ap (λ (g : Bool). (g, [])) (and-false good)
 
-pub step-token : (depth waiting n b : ℕ) (rest after : List ℕ) (good : Bool)
-    (skipped : Bool × List ℕ) → 0 < depth → rest ≡ b ∷ after
+pub step-token : (depth waiting n b : ℕ) (rest after : List ℕ) (quality : Quality)
+    (skipped : Quality × List ℕ) → 0 < depth → rest ≡ b ∷ after
     → (b == closer_of (waiting % 4)) ≡ false → is_opener b ≡ false → token rest ≡ skipped
-    → also (good && skipped.0) (resume depth waiting n skipped.1)
-    ≡ also good (resume depth waiting n rest)
-step-token depth waiting n b rest after good skipped h e other opener t =
-    sym (also-also good skipped.0 (resume depth waiting n skipped.1))
-    ∙ ap (also good) (sym (ap (resume depth waiting n) e
+    → also (first_flaw quality skipped.0) (resume depth waiting n skipped.1)
+    ≡ also quality (resume depth waiting n rest)
+step-token depth waiting n b rest after quality skipped h e other opener t =
+    sym (also-also quality skipped.0 (resume depth waiting n skipped.1))
+    ∙ ap (also quality) (sym (ap (resume depth waiting n) e
     ∙ token-at depth waiting n b after h other opener
-    ∙ ap (λ (x : Bool × List ℕ). also x.0 (resume depth waiting n x.1)) (ap token (sym e) ∙ t)))
+    ∙ ap (λ (x : Quality × List ℕ). also x.0 (resume depth waiting n x.1)) (ap token (sym e) ∙ t)))
 
-pub token-less : (b : ℕ) (rest after : List ℕ) (skipped : Bool × List ℕ) → rest ≡ b ∷ after
+pub token-less : (b : ℕ) (rest after : List ℕ) (skipped : Quality × List ℕ) → rest ≡ b ∷ after
     → token rest ≡ skipped → length skipped.1 < length rest
 token-less b rest after skipped e t =
     omega (
       arith,
       token-takes b after,
       ap length e,
-      ap (λ (x : Bool × List ℕ). length x.1) (ap token (sym e) ∙ t),
+      ap (λ (x : Quality × List ℕ). length x.1) (ap token (sym e) ∙ t),
     )

@@ -11,7 +11,9 @@ use Rattle.simplecss_text.specs.Strings.{is_quote}
 use Rattle.simplecss_text.specs.Terms.{is_hex_digit}
 use Rattle.simplecss_text.proofs.reading.EachLemmas.{Shrinks, Takes, each-none, each-some}
 use Rattle.simplecss_text.proofs.reading.TakesLemmas.{Leaves, after_comment-leaves, length-past_byte, length-past, each-within}
-use Rattle.css_syntax.specs.Tokens.{is_newline, past_one_space, past_hex, past_escape, begins_escape, from_close, past_comment, gap_part, string_part, string_end, past_string, is_name_byte, name_part, past_word, begins_url, is_never_bare, url_part, remnant_part, url_end, past_url, begins_cdo, other_token, token, past_letter, then_letter, then_open, after_url, is_either, escaped_char, hex_number, hex_digit}
+use Rattle.css_syntax.specs.declared.quality.Quality.{Quality}
+use Rattle.css_syntax.specs.declared.quality.Quality.TheVariants.{Whole}
+use Rattle.css_syntax.specs.Tokens.{is_newline, past_one_space, past_hex, past_escape, begins_escape, from_close, past_comment, gap_part, string_part, string_end, past_string, is_name_byte, name_part, past_word, begins_url, is_never_bare, url_part, remnant_part, url_end, past_url, begins_cdo, is_closer, other_token, token, past_letter, then_letter, then_open, after_url, is_either, escaped_char, hex_number, hex_digit}
 
 -- the value that `each` goes on with
 pub each-goes : {A : Type 0} (read : List ℕ → Option (A × List ℕ)) → Takes read
@@ -105,7 +107,7 @@ remnant_part-takes (b ∷ text) =
 
 -- ---- tokens
 
-if-within : (n : ℕ) (t : Bool) (x y : Bool × List ℕ) → length x.1 ≤ n → length y.1 ≤ n
+if-within : (n : ℕ) (t : Bool) (x y : Quality × List ℕ) → length x.1 ≤ n → length y.1 ≤ n
     → length (if t then x else y).1 ≤ n
 if-within n true x y a b = a
 if-within n false x y a b = b
@@ -208,9 +210,9 @@ after_url-within b text =
     by (Some rest) h = h
 
 -- the token at the start, if it is none of the others: a word, or not
-abbrev word_or : ℕ → List ℕ → Bool → Bool × List ℕ
+abbrev word_or : ℕ → List ℕ → Bool → Quality × List ℕ
 word_or b text word =
-    if word then (true, past_word (b ∷ text)) else other_token b text
+    if word then (Whole, past_word (b ∷ text)) else other_token b text
 
 word_or-within : (b : ℕ) (text : List ℕ) (t : Bool)
     → (is_name_byte b || begins_escape (b ∷ text)) ≡ t
@@ -218,7 +220,8 @@ word_or-within : (b : ℕ) (text : List ℕ) (t : Bool)
 word_or-within b text true e = word-less b text e
 word_or-within b text false e =
     if-within (length text) (b == number_sign || b == at_sign) _ _
-    (each-within name_part name_part-takes text) (omega arith)
+    (each-within name_part name_part-takes text)
+    (if-within (length text) (is_closer b) _ _ (omega arith) (omega arith))
 
 pub token-takes : (b : ℕ) (text : List ℕ) → length (token (b ∷ text)).1 ≤ length text
 unfolding token

@@ -1,14 +1,10 @@
 -- What is left after each reader is an end of the text, and UTF-8 if the text is: so all slices of a
 -- text are texts.
 -- Serves `texts::read_text_value`.
-use Rattle.std.proofs.Common.{slice_range, ◌≡◌, ℕ, zero, suc, ◌<◌, ◌≤◌, ◌==◌, ◌||◌, ◌&&◌, Bool, true, false, List, [], ◌∷◌, ◌++◌, length, drop, Option, Some, None, arith, refl, sym, ap, ◌∙◌, subst, if◌then◌else◌, eqb-true, IsUtf8, map, ◌-◌, take, length-take-le, not}
-use Rattle.std.specs.Str.{IsCharBoundary}
-use Rattle.std.proofs.Math.Seq.{take-append_seam, drop-append_seam}
-use Rattle.std.proofs.lemmas.Str.{IsCharBoundary-at_seam}
+use Rattle.std.proofs.Common.{◌≡◌, ℕ, zero, suc, ◌<◌, ◌==◌, ◌||◌, ◌&&◌, Bool, true, false, List, [], ◌∷◌, ◌++◌, drop, Option, Some, None, arith, refl, sym, subst, if◌then◌else◌, eqb-true, IsUtf8, not}
 use Rattle.std.proofs.lemmas.Bool.Decides.{nat_tests}
 use Rattle.simplecss_text.specs.AsciiBytes.{open_parenthesis, newline, carriage_return, number_sign, at_sign, slash, close_parenthesis, backslash}
-use Rattle.simplecss_text.specs.Reading.{each, before, Ends, and_then, up_to}
-use Rattle.simplecss_text.specs.Declarations.{last_or}
+use Rattle.simplecss_text.specs.Reading.{each, before, Ends}
 use Rattle.simplecss_text.specs.Bytes.{past, past_byte, starts_by}
 use Rattle.simplecss_text.specs.Characters.{is_space}
 use Rattle.simplecss_text.specs.Comments.{opens_comment, after_close}
@@ -16,12 +12,13 @@ use Rattle.simplecss_text.specs.Strings.{is_quote}
 use Rattle.simplecss_text.specs.Terms.{is_hex_digit}
 use Rattle.simplecss_text.proofs.bytes.Utf8Lemmas.{utf8-before_byte, utf8-second}
 use Rattle.simplecss_text.proofs.reading.EachLemmas.{each-stops}
-use Rattle.simplecss_text.proofs.reading.EndsLemmas.{length-ends, EndsFound, each-ends, ends-by, ends-drop, ends-ends, ends-past, ends-past_byte, ends-same, ends-tail, ends-nil}
+use Rattle.simplecss_text.proofs.reading.EndsLemmas.{EndsFound, each-ends, ends-by, ends-drop, ends-ends, ends-past, ends-past_byte, ends-same, ends-tail, ends-nil}
 use Rattle.simplecss_text.proofs.reading.GotLemmas.{IfAfter, after_close-after}
 use Rattle.simplecss_text.proofs.reading.WellLemmas.{EndsWell, WellFound, each-well, well-after, well-nil, well-past_byte, well-same, well-tail, well-then}
-use Rattle.css_syntax.specs.Tokens.{is_either, escaped_char, past_letter, then_letter, then_open, after_url, is_newline, past_one_space, past_hex, past_escape, begins_escape, from_close, past_comment, gap_part, past_gap, string_part, string_end, past_string, is_name_byte, name_part, past_word, begins_url, is_never_bare, url_part, remnant_part, url_end, past_url, begins_cdo, other_token, token}
-use Rattle.css_syntax.specs.ComponentValues.{deepest, is_opener, mirror, value_inside, block_of, value_by, component_value}
-use Rattle.css_syntax.specs.Values.{Stated, ends_value, with_gap, value_part, value}
+use Rattle.css_syntax.specs.declared.quality.Quality.{Quality}
+use Rattle.css_syntax.specs.declared.quality.Quality.TheVariants.{Whole, BadString, TooDeep}
+use Rattle.css_syntax.specs.Tokens.{is_either, escaped_char, past_letter, then_letter, then_open, after_url, is_newline, past_one_space, past_hex, past_escape, begins_escape, from_close, past_comment, gap_part, past_gap, string_part, string_end, past_string, is_name_byte, name_part, past_word, begins_url, is_never_bare, url_part, remnant_part, url_end, past_url, begins_cdo, is_closer, other_token, token}
+use Rattle.css_syntax.specs.ComponentValues.{is_opener, mirror, value_inside, block_of, value_by, component_value}
 use Rattle.css_syntax.proofs.Shorter.{string_part-takes, name_part-takes, remnant_part-takes}
 
 -- ---- ends
@@ -160,7 +157,7 @@ word-rest : (rest : List ℕ) → name_part rest ≡ None → AsciiNext rest
 word-rest [] e = tt
 word-rest (b ∷ text) e = name-stop b text e
 
-word-well : (text : List ℕ) → EndsWell text (past_word text)
+pub word-well : (text : List ℕ) → EndsWell text (past_word text)
 word-well text =
     well-ascii text (past_word text) (each-ends name_part name_part-ends text)
     (word-rest (past_word text) (each-stops name_part name_part-takes text))
@@ -176,7 +173,7 @@ comment-well text = by (after_close (drop 2 text)) (after_close-after (drop 2 te
         (ends-ends text (drop 2 text) (slash ∷ rest) (ends-drop 2 text)
         (ends-by (drop 2 text) h.0 (slash ∷ rest) (sym h.1)))
 
-if-well : (text : List ℕ) (t : Bool) (x y : Bool × List ℕ) → EndsWell text x.1
+if-well : (text : List ℕ) (t : Bool) (x y : Quality × List ℕ) → EndsWell text x.1
     → EndsWell text y.1 → EndsWell text (if t then x else y).1
 if-well text true x y a b = a
 if-well text false x y a b = b
@@ -186,7 +183,7 @@ string_end-well : (quote : ℕ) (text rest : List ℕ) → quote < 128 → Ends 
 string_end-well quote text [] low e stop = well-nil text
 string_end-well quote text (b ∷ rest) low e stop =
     let ascii = string-stop quote b rest low stop in
-    if-well text (b == quote) (true, rest) (false, b ∷ rest) (well-after b text rest ascii e)
+    if-well text (b == quote) (Whole, rest) (BadString, b ∷ rest) (well-after b text rest ascii e)
     (well-ascii text (b ∷ rest) e ascii)
 
 string-well : (quote : ℕ) (text : List ℕ) → quote < 128 → EndsWell text (past_string quote text).1
@@ -276,7 +273,7 @@ and-first : (a b : Bool) → (a && b) ≡ true → a ≡ true
 and-first true b e = refl
 and-first false b e = e
 
-cdo-well : (b : ℕ) (text : List ℕ) → begins_cdo (b ∷ text) ≡ true → EndsWell (b ∷ text) (drop 3 text)
+pub cdo-well : (b : ℕ) (text : List ℕ) → begins_cdo (b ∷ text) ≡ true → EndsWell (b ∷ text) (drop 3 text)
 cdo-well b [] e = well-nil (b ∷ [])
 cdo-well b (c ∷ []) e = well-nil (b ∷ c ∷ [])
 cdo-well b (c ∷ d ∷ []) e = well-nil (b ∷ c ∷ d ∷ [])
@@ -288,7 +285,7 @@ other-well : (b : ℕ) (text : List ℕ) → b < 128 → EndsWell (b ∷ text) (
 other-well b text low =
     if-well (b ∷ text) (b == number_sign || b == at_sign) _ _
     (well-then (b ∷ text) text (past_word text) (well-tail b text low) (word-well text))
-    (well-tail b text low)
+    (if-well (b ∷ text) (is_closer b) _ _ (well-tail b text low) (well-tail b text low))
 
 quote-ascii : (b : ℕ) → is_quote b ≡ true → b < 128
 quote-ascii b e = grind (arith, nat_tests)
@@ -304,14 +301,14 @@ token-well (b ∷ text) =
     if-well (b ∷ text) (opens_comment (b ∷ text)) _ _ (comment-well (b ∷ text)) (quote (is_quote b) refl)
   where
     word : (t : Bool) → (is_name_byte b || begins_escape (b ∷ text)) ≡ t
-        → EndsWell (b ∷ text) (if t then (true, past_word (b ∷ text)) else other_token b text).1
+        → EndsWell (b ∷ text) (if t then (Whole, past_word (b ∷ text)) else other_token b text).1
     word true e = word-well (b ∷ text)
     word false e = other-well b text (no_name-ascii b
         (or-false (is_name_byte b) (begins_escape (b ∷ text)) e))
 
     cdo : (t : Bool) → begins_cdo (b ∷ text) ≡ t
-        → EndsWell (b ∷ text) (if t then (true, drop 3 text) else
-        (if is_name_byte b || begins_escape (b ∷ text) then (true, past_word (b ∷ text))
+        → EndsWell (b ∷ text) (if t then (Whole, drop 3 text) else
+        (if is_name_byte b || begins_escape (b ∷ text) then (Whole, past_word (b ∷ text))
         else other_token b text)).1
     cdo true e = cdo-well b text e
     cdo false e = word (is_name_byte b || begins_escape (b ∷ text)) refl
@@ -319,8 +316,8 @@ token-well (b ∷ text) =
     quote : (t : Bool) → is_quote b ≡ t
         → EndsWell (b ∷ text) (if t then past_string b text else
         (if begins_url (b ∷ text) then past_url (from_close (after_url (b ∷ text)))
-        else (if begins_cdo (b ∷ text) then (true, drop 3 text)
-        else (if is_name_byte b || begins_escape (b ∷ text) then (true, past_word (b ∷ text))
+        else (if begins_cdo (b ∷ text) then (Whole, drop 3 text)
+        else (if is_name_byte b || begins_escape (b ∷ text) then (Whole, past_word (b ∷ text))
         else other_token b text)))).1
     quote true e =
         well-then (b ∷ text) text (past_string b text).1 (well-tail b text (quote-ascii b e))
@@ -333,10 +330,10 @@ token-well (b ∷ text) =
 -- ---- component values and values
 
 -- a reader of values leaves a text
-LeavesText : (List ℕ → Bool × List ℕ) → Type 0
+LeavesText : (List ℕ → Quality × List ℕ) → Type 0
 LeavesText read = (text : List ℕ) → EndsWell text (read text).1
 
-block-well : (read : List ℕ → Bool × List ℕ) → LeavesText read → (closer : ℕ) → closer < 128
+block-well : (read : List ℕ → Quality × List ℕ) → LeavesText read → (closer : ℕ) → closer < 128
     → (text : List ℕ) → EndsWell text (block_of read closer text).1
 unfolding block_of LeavesText
 block-well read h closer low text =
@@ -359,7 +356,7 @@ mirror-ascii b = grind (arith, nat_tests)
 opener-ascii : (b : ℕ) → is_opener b ≡ true → b < 128
 opener-ascii b e = grind (arith, nat_tests)
 
-value_by-well : (block : ℕ → List ℕ → Bool × List ℕ)
+value_by-well : (block : ℕ → List ℕ → Quality × List ℕ)
     → ((closer : ℕ) → closer < 128 → (text : List ℕ) → EndsWell text (block closer text).1)
     → LeavesText (value_by block)
 unfolding LeavesText
@@ -375,7 +372,7 @@ value_by-well block h (b ∷ text) = by (is_opener b) refl
 component_value-well : (n : ℕ) → LeavesText (component_value n)
 unfolding LeavesText component_value
 component_value-well zero text =
-    value_by-well (λ closer rest. (false, [])) (λ closer low rest. well-nil rest) text
+    value_by-well (λ closer rest. (TooDeep, [])) (λ closer low rest. well-nil rest) text
 component_value-well (suc n) text =
     value_by-well (block_of (component_value n))
     (block-well (component_value n) (component_value-well n)) text
@@ -384,7 +381,7 @@ pub value-leaves_text : (n : ℕ) (text : List ℕ) → EndsWell text (component
 unfolding LeavesText
 value-leaves_text n text = component_value-well n text
 
-gap_part-well : (text : List ℕ) → WellFound text (gap_part text)
+pub gap_part-well : (text : List ℕ) → WellFound text (gap_part text)
 unfolding gap_part
 gap_part-well [] = tt
 gap_part-well (b ∷ text) = by (is_space b) refl
@@ -401,126 +398,3 @@ gap_part-well (b ∷ text) = by (is_space b) refl
 
 pub gap-well : (text : List ℕ) → EndsWell text (past_gap text)
 gap-well text = each-well gap_part gap_part-well text
-
--- what is left after a value
-value_part-well : (text : List ℕ) → WellFound text (value_part text)
-value_part-well [] = tt
-value_part-well (b ∷ text) = by (ends_value b)
-  where
-    by : (t : Bool) → WellFound (b ∷ text)
-        (if t then None else Some (with_gap (component_value deepest (b ∷ text))))
-    by true = tt
-    by false =
-        let rest = (component_value deepest (b ∷ text)).1 in
-        well-then (b ∷ text) rest (past_gap rest) (value-leaves_text deepest (b ∷ text)) (gap-well rest)
-
-pub value-well : (text : List ℕ) → EndsWell text (value text).1
-unfolding value
-value-well text = each-well value_part value_part-well text
-
--- ---- the end of a value's own text
-
-PartWell : List ℕ → Option ((Bool × List ℕ) × List ℕ) → Type 0
-PartWell text None = Unit {0}
-PartWell text (Some x) = EndsWell text x.0.1 × EndsWell text x.1
-
-part-well : (text : List ℕ) → PartWell text (value_part text)
-unfolding PartWell
-part-well [] = tt
-part-well (b ∷ text) = by (ends_value b)
-  where
-    by : (t : Bool) → PartWell (b ∷ text)
-        (if t then None else Some (with_gap (component_value deepest (b ∷ text))))
-    by true = tt
-    by false =
-        let rest = (component_value deepest (b ∷ text)).1 in
-        let first = value-leaves_text deepest (b ∷ text) in
-        (first, well-then (b ∷ text) rest (past_gap rest) first (gap-well rest))
-
-last-well : (all : List ℕ) (n : ℕ) (text end : List ℕ) → EndsWell all text → EndsWell all end
-    → EndsWell all (last_or end (map (λ part. part.1) (up_to n value_part text).0))
-unfolding PartWell
-last-well all zero text end h k = k
-last-well all (suc n) text end h k =
-    by (λ t e g l. last-well all n t e g l) (value_part text) (part-well text)
-  where
-    by : ((t e : List ℕ) → EndsWell all t → EndsWell all e
-        → EndsWell all (last_or e (map (λ part. part.1) (up_to n value_part t).0)))
-        → (o : Option ((Bool × List ℕ) × List ℕ)) → PartWell text o
-        → EndsWell all (last_or end (map (λ part. part.1) (and_then text o (up_to n value_part)).0))
-    by more None p = k
-    by more (Some x) p =
-        more x.1 x.0.1 (well-then all text x.1 h p.1) (well-then all text x.0.1 h p.0)
-
--- where the text of a value ends
-pub end-well : (text : List ℕ)
-    → EndsWell text (last_or text (map (λ part. part.1) (each value_part text).0))
-unfolding each
-end-well text = last-well text (length text) text text (well-same text) (well-same text)
-
--- ---- slices of a text
-
-pub boundary-after : (text rest : List ℕ) → IsUtf8 text → EndsWell text rest
-    → IsCharBoundary text (length text - length rest)
-boundary-after text rest u h =
-    let n : length (before text rest) ≡ length text - length rest =
-    length-take-le _ text (omega arith) in
-    subst (λ (i : ℕ). IsCharBoundary text i) n
-    (IsCharBoundary-at_seam text (before text rest) rest (sym h.0) (h.1 u))
-
-pub from-drop : (text rest : List ℕ) → Ends text rest → drop (length text - length rest) text ≡ rest
-from-drop text rest e =
-    let n : length (before text rest) ≡ length text - length rest =
-    length-take-le _ text (omega arith) in
-    ap (λ (k : ℕ). drop k text) (sym n) ∙ ap (drop (length (before text rest))) (sym e)
-    ∙ drop-append_seam (before text rest) rest
-
--- a value as slices
-pub text-boundary : (text v : List ℕ) → IsUtf8 text → (value text).0.text ≡ v
-    → IsCharBoundary text (length v)
-unfolding value
-text-boundary text v u e =
-    let end = last_or text (map (λ part. part.1) (each value_part text).0) in
-    subst (λ (t : List ℕ). IsCharBoundary text (length t)) e
-    (IsCharBoundary-at_seam text (before text end) end (sym (end-well text).0) ((end-well text).1 u))
-
-pub text-front : (text v : List ℕ) → (value text).0.text ≡ v → take (length v) text ≡ v
-unfolding value
-text-front text v e =
-    let end = last_or text (map (λ part. part.1) (each value_part text).0) in
-    subst (λ (t : List ℕ). take (length t) text ≡ t) e
-    (ap (take (length (before text end))) (sym (end-well text).0)
-    ∙ take-append_seam (before text end) end)
-
-pub rest-boundary : (text r : List ℕ) → IsUtf8 text → (value text).1 ≡ r
-    → IsCharBoundary text (length text - length r)
-rest-boundary text r u e =
-    boundary-after text r u (subst (EndsWell text) e (value-well text))
-
-pub rest-drop : (text r : List ℕ) → (value text).1 ≡ r → drop (length text - length r) text ≡ r
-rest-drop text r e = from-drop text r (subst (EndsWell text) e (value-well text)).0
-
-pub rest-within : (text r : List ℕ) → (value text).1 ≡ r → length r ≤ length text
-rest-within text r e = length-ends text r (subst (EndsWell text) e (value-well text)).0
-
--- a value and the rest
-abbrev pub stated : List ℕ → Bool → List ℕ → Stated × List ℕ
-stated text good rest = (record { text = text; good = good }, rest)
-
--- what was read of the bytes of a text
-pub read-parts : (bytes text v rest : List ℕ) (good : Bool) → bytes ≡ text
-    → value bytes ≡ stated v good rest → ((value text).0.text ≡ v) × ((value text).1 ≡ rest)
-read-parts bytes text v rest good e h =
-    let read : value text ≡ stated v good rest = ap value (sym e) ∙ h in
-    (ap (λ (r : Stated × List ℕ). r.0.text) read, ap (λ (r : Stated × List ℕ). r.1) read)
-
-pub read-slices : (bytes text v rest front back : List ℕ) (good : Bool) → bytes ≡ text
-    → value bytes ≡ stated v good rest → front ≡ slice_range text 0 (length v)
-    → back ≡ drop (length text - length rest) text → value text ≡ stated front good back
-read-slices bytes text v rest front back good e h f b =
-    let parts = read-parts bytes text v rest good e h in
-    let same : front ≡ v =
-    f ∙ ap (λ (n : ℕ). take n text) (omega arith) ∙ text-front text v parts.0 in
-    let left : back ≡ rest = b ∙ rest-drop text rest parts.1 in
-    ap value (sym e) ∙ h ∙ ap (λ (t : List ℕ). stated t good rest) (sym same)
-    ∙ ap (λ (t : List ℕ). stated front good t) (sym left)

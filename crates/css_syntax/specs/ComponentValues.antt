@@ -1,8 +1,11 @@
 -- Component values (CSS Syntax 3, section 5.4.7): a token, or brackets with component values in them.
-use Rattle.std.specs.Prelude.{ℕ, zero, suc, Bool, true, false, ◌||◌, ◌&&◌, ◌==◌, if◌then◌else◌, List, [], ◌∷◌, Option, Some, None}
+use Rattle.std.specs.Prelude.{ℕ, zero, suc, Bool, ◌||◌, ◌==◌, if◌then◌else◌, List, [], ◌∷◌, Option, Some, None}
 use Rattle.simplecss_text.specs.AsciiBytes.{open_parenthesis, close_parenthesis, open_bracket, close_bracket, open_brace, close_brace}
 use Rattle.simplecss_text.specs.Reading.{each}
 use Rattle.simplecss_text.specs.Bytes.{past_byte}
+use Rattle.css_syntax.specs.declared.quality.Quality.{Quality}
+use Rattle.css_syntax.specs.declared.quality.Quality.TheVariants.{Whole, Open, TooDeep}
+use Rattle.css_syntax.specs.Qualities.{first_flaw, flaw_of_all}
 use Rattle.css_syntax.specs.Tokens.{token}
 
 -- an opening bracket
@@ -20,30 +23,29 @@ mirror b =
 abbrev pub deepest : ℕ
 deepest = 64
 
--- all of these are good
-abbrev pub all_good : List Bool → Bool
-all_good [] = true
-all_good (good ∷ more) = good && all_good more
-
 -- a component value, if neither the text nor the block ends here
-abbrev pub value_inside : (List ℕ → Bool × List ℕ) → ℕ → List ℕ → Option (Bool × List ℕ)
+abbrev pub value_inside : (List ℕ → Quality × List ℕ) → ℕ → List ℕ → Option (Quality × List ℕ)
 value_inside read closer [] = None
 value_inside read closer (b ∷ text) = if b == closer then None else Some (read (b ∷ text))
 
+-- a block is open, if the text ends in it
+abbrev pub end_quality : List ℕ → Quality
+end_quality [] = Open
+end_quality (b ∷ text) = Whole
+
 -- A simple block (section 5.4.8), from after its opening bracket: component values up to the bracket
--- that closes it, which is consumed, or to the end of the text. Whether all are good, and the rest.
-unfoldable pub block_of : (List ℕ → Bool × List ℕ) → ℕ → List ℕ → Bool × List ℕ
+-- that closes it, which is consumed, or to the end of the text. The first flaw of all, and the rest.
+unfoldable pub block_of : (List ℕ → Quality × List ℕ) → ℕ → List ℕ → Quality × List ℕ
 block_of read closer text =
     let inside = each (value_inside read closer) text in
-    (all_good inside.0, past_byte closer inside.1)
+    (first_flaw (flaw_of_all inside.0) (end_quality inside.1), past_byte closer inside.1)
 
 -- a component value, by what reads a block
-abbrev pub value_by : (ℕ → List ℕ → Bool × List ℕ) → List ℕ → Bool × List ℕ
-value_by block [] = (true, [])
+abbrev pub value_by : (ℕ → List ℕ → Quality × List ℕ) → List ℕ → Quality × List ℕ
+value_by block [] = (Whole, [])
 value_by block (b ∷ text) = if is_opener b then block (mirror b) text else token (b ∷ text)
 
--- The component value at the start, with brackets nested at most `n` deep: whether all of it is
--- good, and the rest.
-unfoldable pub component_value : ℕ → List ℕ → Bool × List ℕ
-component_value zero text = value_by (λ closer rest. (false, [])) text
+-- The component value at the start, with brackets nested at most `n` deep: its quality, and the rest.
+unfoldable pub component_value : ℕ → List ℕ → Quality × List ℕ
+component_value zero text = value_by (λ closer rest. (TooDeep, [])) text
 component_value (suc n) text = value_by (block_of (component_value n)) text

@@ -1,39 +1,47 @@
--- The declarations of a block, each on its own: a broken one is dropped, and reading goes on after
--- the next semicolon outside brackets, strings and comments (CSS 2.1, section 4.2; CSS Syntax 3,
--- sections 5.4.5 and 5.4.6).
-use Rattle.std.specs.Prelude.{ℕ, Bool, true, false, not, ◌||◌, ◌&&◌, ◌==◌, nat_le, if◌then◌else◌, List, [], ◌∷◌, codes, Option, Some, None}
-use Rattle.std.specs.List.{filter_map}
+-- The declarations of a block or of a style attribute, each on its own: a broken one is dropped, and
+-- reading continues after the next semicolon outside brackets, strings and comments (CSS 2.1, section
+-- 4.2; CSS Syntax 3, sections 5.4.5 and 5.4.6).
+use Rattle.std.specs.Prelude.{ℕ, Bool, true, false, not, ◌||◌, ◌&&◌, ◌==◌, if◌then◌else◌, List, [], ◌∷◌, codes, Option, Some, None}
 use Rattle.std.specs.Option.{is_some}
 use Rattle.std.specs.Str.{str_eq_ignore_ascii_case}
-use Rattle.simplecss_text.specs.AsciiBytes.{colon, exclamation_mark, semicolon, at_sign, hyphen, underscore, open_brace, close_brace}
+use Rattle.simplecss_text.specs.AsciiBytes.{colon, exclamation_mark, semicolon, hyphen}
 use Rattle.simplecss_text.specs.Reading.{each, before}
-use Rattle.simplecss_text.specs.Bytes.{starts, starts_by, starts_two, past_byte}
-use Rattle.simplecss_text.specs.Characters.{is_letter}
-use Rattle.simplecss_text.specs.Declarations.{StyleDeclaration}
-use Rattle.css_syntax.specs.Tokens.{then_letter, past_letter, begins_escape, past_gap, past_word}
-use Rattle.css_syntax.specs.ComponentValues.{deepest, component_value}
-use Rattle.css_syntax.specs.Values.{Stated, value}
+use Rattle.simplecss_text.specs.Bytes.{past_byte, starts, starts_by}
+use Rattle.css_syntax.specs.declared.parts.Stops.{Stops}
+use Rattle.css_syntax.specs.declared.quality.Quality.{Quality}
+use Rattle.css_syntax.specs.declared.quality.Fault.{Fault}
+use Rattle.css_syntax.specs.declared.quality.Fault.TheVariants.{BrokenDeclaration, StrayBracket}
+use Rattle.css_syntax.specs.Qualities.{is_good, is_whole, fault_of}
+use Rattle.css_syntax.specs.Tokens.{then_letter, past_letter, gap_part, past_gap, past_word, is_closer}
+use Rattle.css_syntax.specs.Parts.{ends_at, Stated, parts}
+use Rattle.css_syntax.specs.Statements.{AtRuleText, at_rule, begins_at_rule, begins_ident, ends_block}
 
--- a byte that begins a name
-abbrev pub begins_name_byte : ℕ → Bool
-begins_name_byte b = is_letter b || b == underscore || nat_le 128 b
+-- A declaration: the name of a property, a value for it, whether it is important, and whether
+-- nothing of its value is open at the end of the text.
+pub record DeclarationText : Type 0 where
+  pub name : List ℕ
+  pub value : List ℕ
+  pub important : Bool
+  pub closed : Bool
 
--- a name begins here (section 4.3.9): two hyphens, or such a byte or an escape, also after a hyphen
-abbrev pub begins_plain_ident : List ℕ → Bool
-begins_plain_ident text = starts_by begins_name_byte text || begins_escape text
+-- what a list of declarations has: a declaration, an at-rule, or something that is skipped
+pub data ItemText : Type 0 where
+  declared : DeclarationText → ItemText
+  at_rule_item : AtRuleText → ItemText
+  skipped_item : Fault → ItemText
 
-abbrev pub begins_ident : List ℕ → Bool
-begins_ident text = starts_two hyphen hyphen text || begins_plain_ident (past_byte hyphen text)
+-- what ends a declaration: a semicolon; in a block, its closing brace, too
+abbrev pub declaration_ends : Bool → Stops
+declaration_ends in_block =
+    record { semicolon = true; open_brace = false; close_brace = in_block; in_value = false }
 
--- an at-rule begins here: `@` and directly a name
-abbrev pub begins_at_rule : List ℕ → Bool
-begins_at_rule [] = false
-begins_at_rule (b ∷ text) = b == at_sign && begins_ident text
+-- what ends a value: a semicolon, an exclamation mark, or a bracket that closes nothing
+abbrev pub value_ends : Stops
+value_ends = record { semicolon = true; open_brace = false; close_brace = true; in_value = true }
 
--- the text ends, or a semicolon or the end of the block follows
-abbrev pub ends_declaration : List ℕ → Bool
-ends_declaration [] = true
-ends_declaration (b ∷ text) = b == semicolon || b == close_brace
+-- the value at the start, without blanks at its end, and the rest
+abbrev pub value : List ℕ → Stated × List ℕ
+value text = parts value_ends text
 
 -- the word `important` in any case, which is then consumed with the blanks after it; if another word
 -- begins here, the text that is left is `from`
@@ -45,18 +53,13 @@ important_word from text =
 
 -- whether an exclamation mark and, after blanks, the word `important` are next, and the rest
 abbrev pub importance : List ℕ → Bool × List ℕ
-importance [] = (false, [])
-importance (b ∷ text) =
-    if b == exclamation_mark then important_word (b ∷ text) (past_gap text) else (false, b ∷ text)
-
--- a part of what is skipped with a broken declaration: a component value before its end
-abbrev pub skipped_part : List ℕ → Option (Bool × List ℕ)
-skipped_part text =
-    if ends_declaration text then None else Some (component_value deepest text)
+importance text =
+    if starts exclamation_mark text
+    then important_word text (past_gap (past_byte exclamation_mark text)) else (false, text)
 
 -- the rest after a broken declaration, from where it is broken
-abbrev pub past_broken : List ℕ → List ℕ
-past_broken text = (each skipped_part text).1
+abbrev pub past_broken : Bool → List ℕ → List ℕ
+past_broken in_block text = (parts (declaration_ends in_block) text).1
 
 -- a custom property: two hyphens, each as it is or as an escape
 abbrev pub is_custom : List ℕ → Bool
@@ -67,62 +70,95 @@ abbrev pub is_empty : List ℕ → Bool
 is_empty [] = true
 is_empty (b ∷ text) = false
 
--- A declaration of this name, this value and this importance, with the rest after it. It is one if
--- all of the value is good, if it ends here, and if the value is not empty or the property is a
--- custom one. Else it is broken.
-abbrev pub stated_as : List ℕ → Stated → Bool × List ℕ → Option StyleDeclaration × List ℕ
-stated_as name stated important =
-    if stated.good && (ends_declaration important.1 && (is_custom name || not (is_empty stated.text)))
-    then (Some (record { name = name; value = stated.text; important = important.0 }), important.1)
-    else (None, past_broken important.1)
+-- What is reported of a declaration with such a value that is dropped, where this follows: the flaw
+-- of the value; or a closing bracket, if it follows the value and ends nothing.
+abbrev pub why_broken : Bool → Quality → List ℕ → Fault
+why_broken in_block quality rest =
+    if is_good quality && not (ends_at (declaration_ends in_block) rest) && starts_by is_closer rest
+    then StrayBracket else fault_of quality
+
+-- A name and a value are a declaration if all of the value is good, if it ends at this rest, and if
+-- the value is not empty or the property is a custom one.
+abbrev pub is_stated : Bool → List ℕ → Stated → List ℕ → Bool
+is_stated in_block name stated rest =
+    is_good stated.quality && ends_at (declaration_ends in_block) rest
+    && (is_custom name || not (is_empty stated.text))
+
+-- the declaration of this name, this value and this importance, with the rest after it; or it is
+-- broken
+abbrev pub stated_as : Bool → List ℕ → Stated → Bool × List ℕ → ItemText × List ℕ
+stated_as in_block name stated important =
+    if is_stated in_block name stated important.1
+    then (
+      declared (record {
+        name = name;
+        value = stated.text;
+        important = important.0;
+        closed = is_whole stated.quality;
+      }),
+      important.1,
+    )
+    else (
+      skipped_item (why_broken in_block stated.quality important.1),
+      past_broken in_block important.1,
+    )
 
 -- a value and what follows it
-abbrev pub valued : List ℕ → Stated × List ℕ → Option StyleDeclaration × List ℕ
-valued name stated = stated_as name stated.0 (importance stated.1)
+abbrev pub valued : Bool → List ℕ → Stated × List ℕ → ItemText × List ℕ
+valued in_block name stated = stated_as in_block name stated.0 (importance stated.1)
+
+-- what is broken from here on
+abbrev pub broken : Bool → List ℕ → ItemText × List ℕ
+broken in_block text = (skipped_item BrokenDeclaration, past_broken in_block text)
 
 -- After a name, from a colon on, its value. Without a colon it is broken from its start on, where a
 -- name and a parenthesis may be an address.
-abbrev pub named : (start name : List ℕ) → List ℕ → Option StyleDeclaration × List ℕ
-named start name [] = (None, past_broken start)
-named start name (b ∷ text) =
-    if b == colon then valued name (value (past_gap text)) else (None, past_broken start)
+abbrev pub named : Bool → (start name : List ℕ) → List ℕ → ItemText × List ℕ
+named in_block start name text =
+    if starts colon text then valued in_block name (value (past_gap (past_byte colon text)))
+    else broken in_block start
 
 -- a declaration, or a broken one
-unfoldable pub declaration : List ℕ → Option StyleDeclaration × List ℕ
-declaration text =
-    if begins_ident text then named text (before text (past_word text)) (past_gap (past_word text))
-    else (None, past_broken text)
+unfoldable pub declaration : Bool → List ℕ → ItemText × List ℕ
+declaration in_block text =
+    if begins_ident text
+    then named in_block text (before text (past_word text)) (past_gap (past_word text))
+    else broken in_block text
 
--- a part of what is before the block of an at-rule
-abbrev pub prelude_part : List ℕ → Option (Bool × List ℕ)
-prelude_part text =
-    if ends_declaration text || starts open_brace text then None
-    else Some (component_value deepest text)
+abbrev pub as_item : AtRuleText × List ℕ → ItemText × List ℕ
+as_item found = (at_rule_item found.0, found.1)
 
--- the block of an at-rule, if it has one
-abbrev pub past_rule_block : List ℕ → List ℕ
-past_rule_block text = if starts open_brace text then (component_value deepest text).1 else text
+-- an item of the list, from its start on
+unfoldable pub item : Bool → List ℕ → ItemText × List ℕ
+item in_block text =
+    if begins_at_rule text then as_item (at_rule in_block text) else declaration in_block text
 
--- the rest after an at-rule among declarations: after its block, or before its end
-unfoldable pub past_at_rule : List ℕ → List ℕ
-past_at_rule text = past_rule_block (each prelude_part text).1
+-- a semicolon, a space byte or a comment
+unfoldable pub separator_part : List ℕ → Option (Unit {0} × List ℕ)
+separator_part [] = None
+separator_part (b ∷ text) = if b == semicolon then Some (tt, text) else gap_part (b ∷ text)
 
--- an item and the blanks after it
-abbrev pub item_with_gap :
-    Option StyleDeclaration × List ℕ → Option (Option StyleDeclaration × List ℕ)
-item_with_gap found = Some (found.0, past_gap found.1)
+-- the rest after what is between items
+abbrev pub past_separators : List ℕ → List ℕ
+past_separators text = (each separator_part text).1
 
--- an item of the list: a semicolon, an at-rule, which is skipped, or a declaration
-unfoldable pub item : List ℕ → Option (Option StyleDeclaration × List ℕ)
-item [] = None
-item (b ∷ text) =
-    if b == close_brace then None
-    else (if b == semicolon then item_with_gap (None, text)
-    else (if begins_at_rule (b ∷ text) then item_with_gap (None, past_at_rule (b ∷ text))
-    else item_with_gap (declaration (b ∷ text))))
+-- A part of a list: its text, and the item that it is.
+pub record ListText : Type 0 where
+  pub text : List ℕ
+  pub item : ItemText
 
--- the declarations up to the end of the block or of the text, and the rest
-unfoldable pub declarations : List ℕ → List StyleDeclaration × List ℕ
-declarations text =
-    let items = each item (past_gap text) in
-    (filter_map (λ found. found) items.0, items.1)
+abbrev pub with_text : List ℕ → ItemText × List ℕ → ListText × List ℕ
+with_text text found = (record { text = before text found.1; item = found.0 }, found.1)
+
+-- the item from `start` on, if neither the text nor the block ends there
+abbrev pub item_from : Bool → List ℕ → Option (ListText × List ℕ)
+item_from in_block start =
+    if ends_block in_block start then None else Some (with_text start (item in_block start))
+
+-- the next item, after what is before it
+unfoldable pub next_item : Bool → List ℕ → Option (ListText × List ℕ)
+next_item in_block text = item_from in_block (past_separators text)
+
+-- the items up to the end of the text or of the block
+unfoldable pub items : Bool → List ℕ → List ListText
+items in_block text = (each (next_item in_block) text).0

@@ -1,8 +1,9 @@
+pub mod Qualities
 pub mod Tokens
 pub mod ComponentValues
-pub mod Values
-pub mod DeclarationLists
-pub mod DeclarationViews
+pub mod Parts
 pub mod Statements
-pub mod StatementViews
+pub mod DeclarationLists
+pub mod Views
+pub mod ListReaders
 pub mod internal

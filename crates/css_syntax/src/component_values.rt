@@ -1,12 +1,12 @@
 //! Component values (CSS Syntax 3, sections 5.4.7 to 5.4.9): a token, or brackets with component
 //! values in them.
-ghost use Rattle.std.specs.Prelude.{◌≡◌, ◌<◌, ◌≤◌, length, true, false, None, IfSome};
-ghost use Rattle.simplecss_text.specs.AsciiBytes.{close_brace};
+ghost use Rattle.std.specs.Prelude.{◌≡◌, ◌<◌, true, false, None, IfSome};
 ghost use Rattle.css_syntax.specs.ComponentValues.{is_opener, mirror, deepest, block_of};
 ghost use Rattle.css_syntax.specs.ComponentValues.{component_value};
 ghost use Rattle.css_syntax.specs.internal.OpenBrackets.{closer_of as closer_named};
 
-use crate::tokens::{Skipped, skip_token, split};
+use crate::quality::{Quality, first_flaw};
+use crate::tokens::{Skipped, skip_token, split, whole};
 
 /// How many brackets may be open at once: as many as a `u128` has digits to the base of four.
 const DEEPEST: usize = 64;
@@ -44,15 +44,20 @@ fn opened_kind(byte: u8) -> Option<u128>
 fn skip_block(bytes: &[u8], kind: u128) -> Skipped<'_>
     requires { kind < 4 }
     ensures { block_of (component_value 63) (closer_named kind) bytes.now
-        ≡ (result.good, result.rest.now) }
+        ≡ (result.quality, result.rest.now) }
 {
     let mut waiting = kind;
     let mut depth = 1usize;
-    let mut good = true;
+    let mut quality = Quality::Whole;
     let mut rest = bytes;
     'values: while depth > 0 {
         match split(rest) {
-            None => return Skipped { good, rest },
+            None => {
+                return Skipped {
+                    quality: first_flaw(quality, Quality::Open),
+                    rest,
+                };
+            }
             Some((byte, after)) => {
                 if byte == closer_of(waiting % 4) {
                     waiting /= 4;
@@ -61,7 +66,7 @@ fn skip_block(bytes: &[u8], kind: u128) -> Skipped<'_>
                 } else if let Some(inner) = opened_kind(byte) {
                     if depth == DEEPEST {
                         return Skipped {
-                            good: false,
+                            quality: first_flaw(quality, Quality::TooDeep),
                             rest: &[],
                         };
                     }
@@ -70,35 +75,24 @@ fn skip_block(bytes: &[u8], kind: u128) -> Skipped<'_>
                     rest = after;
                 } else {
                     let token = skip_token(rest);
-                    good &= token.good;
+                    quality = first_flaw(quality, token.quality);
                     rest = token.rest;
                 }
             }
         }
     }
-    Skipped { good, rest }
+    Skipped { quality, rest }
 }
 
 /// Skips a component value.
 pub fn skip_component_value(bytes: &[u8]) -> Skipped<'_>
-    ensures { component_value deepest bytes.now ≡ (result.good, result.rest.now) }
+    ensures { component_value deepest bytes.now ≡ (result.quality, result.rest.now) }
 {
     match split(bytes) {
-        None => Skipped {
-            good: true,
-            rest: bytes,
-        },
+        None => whole(bytes),
         Some((byte, rest)) => match opened_kind(byte) {
             Some(kind) => skip_block(rest, kind),
             None => skip_token(bytes),
         },
     }
-}
-
-/// Skips a block after its opening brace.
-pub fn skip_braces(bytes: &[u8]) -> &[u8]
-    ensures rest { result.now ≡ (block_of (component_value 63) close_brace bytes.now).1 }
-    ensures within { length result.now ≤ length bytes.now }
-{
-    skip_block(bytes, 3).rest
 }

@@ -1,138 +1,124 @@
-//! The declarations of a block, each on its own (CSS Syntax 3, sections 5.4.5 and 5.4.6).
-ghost use Rattle.std.specs.Prelude.{◌≡◌, codes, map, option_map, IfOk, OnOk, None, [], ◌∷◌, ◌++◌};
-ghost use Rattle.std.specs.List.{filter_map};
+//! The declarations of a block or of a style attribute, each on its own (CSS Syntax 3, sections 5.4.5
+//! and 5.4.6).
+ghost use Rattle.std.specs.Prelude.{◌≡◌, codes, option_map, true, false};
 ghost use Rattle.std.specs.Str.{str_eq_ignore_ascii_case};
-ghost use Rattle.simplecss_text.specs.Reading.{before, each};
-ghost use Rattle.simplecss_text.specs.AsciiBytes.{open_brace};
-ghost use Rattle.simplecss_text.specs.Bytes.{starts};
-ghost use Rattle.simplecss_text.specs.Declarations.{StyleDeclaration};
-ghost use Rattle.css_syntax.specs.Tokens.{past_word};
-ghost use Rattle.css_syntax.specs.Values.{Stated};
-ghost use Rattle.css_syntax.specs.DeclarationLists.{begins_name_byte as begins_name_byte_of};
-ghost use Rattle.css_syntax.specs.DeclarationLists.{begins_plain_ident as begins_plain_of};
-ghost use Rattle.css_syntax.specs.DeclarationLists.{begins_ident as begins_ident_of};
-ghost use Rattle.css_syntax.specs.DeclarationLists.{begins_at_rule as begins_at_rule_of};
-ghost use Rattle.css_syntax.specs.DeclarationLists.{ends_declaration as ends_of};
-ghost use Rattle.css_syntax.specs.DeclarationLists.{important_word, importance, skipped_part};
-ghost use Rattle.css_syntax.specs.DeclarationLists.{past_broken};
-ghost use Rattle.css_syntax.specs.DeclarationLists.{is_custom as is_custom_of, stated_as};
-ghost use Rattle.css_syntax.specs.DeclarationLists.{valued, named, declaration, prelude_part};
-ghost use Rattle.css_syntax.specs.DeclarationLists.{past_rule_block};
-ghost use Rattle.css_syntax.specs.DeclarationLists.{past_at_rule, item, declarations};
-ghost use Rattle.css_syntax.specs.DeclarationViews.{declaration_of, item_of};
+ghost use Rattle.css_syntax.specs.DeclarationLists.{value, important_word, importance};
+ghost use Rattle.css_syntax.specs.DeclarationLists.{past_broken as past_broken_of};
+ghost use Rattle.css_syntax.specs.DeclarationLists.{is_custom as is_custom_of, why_broken, stated_as};
+ghost use Rattle.css_syntax.specs.DeclarationLists.{is_stated as is_stated_of};
+ghost use Rattle.simplecss_text.specs.Bytes.{starts_by};
+ghost use Rattle.css_syntax.specs.Tokens.{is_closer as is_closer_of};
+ghost use Rattle.css_syntax.specs.DeclarationLists.{valued, broken as broken_of, named, declaration};
+ghost use Rattle.css_syntax.specs.DeclarationLists.{item as item_read};
+ghost use Rattle.css_syntax.specs.DeclarationLists.{separator_part as separator_part_of};
+ghost use Rattle.css_syntax.specs.DeclarationLists.{past_separators as past_separators_of};
+ghost use Rattle.css_syntax.specs.DeclarationLists.{next_item};
+ghost use Rattle.css_syntax.specs.DeclarationLists.{declaration_ends as declaration_ends_of};
+ghost use Rattle.css_syntax.specs.Views.{parts_of, item_of, list_part_of};
 
-use crate::component_values::skip_component_value;
-use crate::tokens::{Skipped, begins_escape, skip_byte, skip_gap, skip_letter, skip_word};
-use crate::values::{Value, read_value};
-use std::alloc::AllocError;
+use crate::parts::{Parts, Stops, ends_at, read_parts};
+use crate::quality::{Fault, Quality, fault_of, is_good, is_whole};
+use crate::statements::{AtRule, begins_at_rule, begins_ident, ends_block, read_at_rule};
+use crate::texts::{front, past_byte, past_gap, past_word};
+use crate::tokens::{gap_part, is_closer, skip_letter};
+use simplecss_text::readers;
 
 /// A declaration.
 #[derive(Clone, Copy, Debug, PartialEq)]
 pub struct Declaration<'a> {
-    /// The name of the property.
-    pub name: &'a [u8],
-    /// The text of the value, without blanks at either end.
-    pub value: &'a [u8],
+    /// The name of the property, as written.
+    pub name: &'a str,
+    /// The text of the value, as written, without blanks at either end.
+    pub value: &'a str,
     /// Whether the declaration is important.
     pub important: bool,
+    /// Whether nothing of the value is open at the end of the text.
+    pub closed: bool,
 }
 
-/// An item of a list of declarations.
+/// What a list of declarations has.
+#[derive(Clone, Copy, Debug, PartialEq)]
+pub enum Item<'a> {
+    /// A declaration.
+    Declaration(Declaration<'a>),
+    /// An at-rule.
+    AtRule(AtRule<'a>),
+    /// Something that is dropped.
+    Skipped(Fault),
+}
+
+/// A part of a list: an item, with its whole text.
+#[derive(Clone, Copy, Debug, PartialEq)]
+pub struct ListPart<'a> {
+    /// The text, from the first byte of the item to its last.
+    pub text: &'a str,
+    /// The item.
+    pub item: Item<'a>,
+}
+
+/// An item and the rest after it.
 #[derive(Clone, Copy)]
-struct Item<'a> {
-    /// The declaration, if the item is one that is not broken.
-    declaration: Option<Declaration<'a>>,
-    /// The rest after the item.
-    rest: &'a [u8],
+struct FoundItem<'a> {
+    item: Item<'a>,
+    rest: &'a str,
+}
+
+/// A part of a list and the rest after it.
+#[derive(Clone, Copy)]
+struct FoundPart<'a> {
+    part: ListPart<'a>,
+    rest: &'a str,
 }
 
 /// Whether a declaration is important, and the rest.
 #[derive(Clone, Copy)]
 struct Importance<'a> {
     important: bool,
-    rest: &'a [u8],
+    rest: &'a str,
 }
 
-/// A word and the rest after it.
-#[derive(Clone, Copy)]
-struct Word<'a> {
-    text: &'a [u8],
-    rest: &'a [u8],
-}
-
-/// Whether the byte may begin a name.
-fn begins_name_byte(byte: u8) -> bool
-    ensures { result ≡ begins_name_byte_of byte }
+/// What ends a declaration.
+fn declaration_ends(in_block: bool) -> Stops
+    ensures { result ≡ declaration_ends_of in_block }
 {
-    byte.is_ascii_alphabetic() || byte == b'_' || byte >= 128
-}
-
-/// Whether a name begins here that does not begin with a hyphen.
-fn begins_plain_ident(bytes: &[u8]) -> bool
-    ensures { result ≡ begins_plain_of bytes.now }
-{
-    match bytes {
-        [] => false,
-        [byte, ..] => begins_name_byte(*byte) || begins_escape(bytes),
+    Stops {
+        semicolon: true,
+        open_brace: false,
+        close_brace: in_block,
+        in_value: false,
     }
 }
 
-/// Whether a name begins here.
-fn begins_ident(bytes: &[u8]) -> bool
-    ensures { result ≡ begins_ident_of bytes.now }
+/// Reads the value at the start of the text.
+fn read_value(text: &str) -> Parts<'_>
+    ensures { value text.now ≡ (parts_of result, result.rest.now) }
 {
-    matches!(bytes, [b'-', b'-', ..]) || begins_plain_ident(skip_byte(bytes, b'-'))
-}
-
-/// Whether an at-rule begins here: `@` and directly a name.
-pub fn begins_at_rule(bytes: &[u8]) -> bool
-    ensures { result ≡ begins_at_rule_of bytes.now }
-{
-    match bytes {
-        [] => false,
-        [byte, after @ ..] => *byte == b'@' && begins_ident(after),
-    }
-}
-
-/// Whether the text ends, or a semicolon or the end of the block follows.
-fn ends_declaration(bytes: &[u8]) -> bool
-    ensures { result ≡ ends_of bytes.now }
-{
-    match bytes {
-        [] => true,
-        [byte, ..] => *byte == b';' || *byte == b'}',
-    }
-}
-
-/// Takes the word that begins here, which may be empty.
-#[tactic(auto, using(crate::proofs::Shorter::past_word_within))]
-fn take_word(bytes: &[u8]) -> Word<'_>
-    ensures text { result.text.now ≡ before bytes.now (past_word bytes.now) }
-    ensures rest { result.rest.now ≡ past_word bytes.now }
-{
-    let rest = skip_word(bytes);
-    Word {
-        text: &bytes[..bytes.len() - rest.len()],
-        rest,
-    }
+    let stops = Stops {
+        semicolon: true,
+        open_brace: false,
+        close_brace: true,
+        in_value: true,
+    };
+    read_parts(stops, text)
 }
 
 /// Whether the word is `important`, in any case.
-fn is_important(word: &[u8]) -> bool
+fn is_important(word: &str) -> bool
     ensures { result ≡ str_eq_ignore_ascii_case word.now (codes "important") }
 {
-    word.eq_ignore_ascii_case(b"important")
+    word.eq_ignore_ascii_case("important")
 }
 
 /// Skips the word `important` and the blanks after it, if it is next; else the rest is `from`.
-fn skip_important_word<'a>(from: &'a [u8], bytes: &'a [u8]) -> Importance<'a>
-    ensures { important_word from.now bytes.now ≡ (result.important, result.rest.now) }
+#[tactic(auto, using(crate::proofs::PartTexts::word_ends))]
+fn skip_important_word<'a>(from: &'a str, text: &'a str) -> Importance<'a>
+    ensures { important_word from.now text.now ≡ (result.important, result.rest.now) }
 {
-    let word = take_word(bytes);
-    if is_important(word.text) {
+    let after = past_word(text);
+    if is_important(front(text, after)) {
         Importance {
             important: true,
-            rest: skip_gap(word.rest),
+            rest: past_gap(after),
         }
     } else {
         Importance {
@@ -143,37 +129,24 @@ fn skip_important_word<'a>(from: &'a [u8], bytes: &'a [u8]) -> Importance<'a>
 }
 
 /// Skips an exclamation mark and the word `important`, if they are next.
-fn skip_importance(bytes: &[u8]) -> Importance<'_>
-    ensures { importance bytes.now ≡ (result.important, result.rest.now) }
+fn skip_importance(text: &str) -> Importance<'_>
+    ensures { importance text.now ≡ (result.important, result.rest.now) }
 {
-    match bytes {
-        [b'!', after @ ..] => skip_important_word(bytes, skip_gap(after)),
-        _ => Importance {
+    if readers::starts(text, b'!') {
+        skip_important_word(text, past_gap(past_byte(text, b'!')))
+    } else {
+        Importance {
             important: false,
-            rest: bytes,
-        },
+            rest: text,
+        }
     }
 }
 
-/// Skips a component value of a broken declaration, if it does not end here.
-fn skip_part(bytes: &[u8]) -> Option<Skipped<'_>>
-    ensures { skipped_part bytes.now ≡ option_map (λ s. (s.good, s.rest.now)) result }
+/// Returns the rest after a broken declaration, from where it is broken.
+fn past_broken(text: &str, in_block: bool) -> &str
+    ensures { result.now ≡ past_broken_of in_block text.now }
 {
-    if ends_declaration(bytes) {
-        return None;
-    }
-    Some(skip_component_value(bytes))
-}
-
-/// Skips what is left of a broken declaration.
-fn skip_broken(bytes: &[u8]) -> &[u8]
-    ensures { result.now ≡ past_broken bytes.now }
-{
-    let mut rest = bytes;
-    'parts: while let Some(part) = skip_part(rest) {
-        rest = part.rest;
-    }
-    rest
+    read_parts(declaration_ends(in_block), text).rest
 }
 
 /// Whether the name is one of a custom property.
@@ -186,181 +159,232 @@ fn is_custom(name: &[u8]) -> bool
     }
 }
 
-/// A broken declaration, of which this is left.
-fn broken(bytes: &[u8]) -> Item<'_>
-    ensures { item_of result ≡ (None, past_broken bytes.now) }
+/// Whether the bytes begin with a closing bracket.
+fn begins_closer(bytes: &[u8]) -> bool
+    ensures { result ≡ starts_by is_closer_of bytes.now }
 {
-    Item {
-        declaration: None,
-        rest: skip_broken(bytes),
+    match bytes {
+        [] => false,
+        [byte, ..] => is_closer(*byte),
     }
 }
 
-/// The declaration of this name, value and importance, if it is one.
-fn state<'a>(name: &'a [u8], value: Value<'a>, importance: Importance<'a>) -> Item<'a>
-    ensures { item_of result ≡ stated_as name.now (record { text = value.entry.text.now; good = value.entry.good })
-        (importance.entry.important, importance.entry.rest.now) }
+/// Returns what is reported of a broken declaration, by the quality of its value and what follows.
+fn why(in_block: bool, quality: Quality, rest: &[u8]) -> Fault
+    ensures { result ≡ why_broken in_block quality rest.now }
 {
-    if value.good
-        && ends_declaration(importance.rest)
-        && (is_custom(name) || !value.text.is_empty())
-    {
-        Item {
-            declaration: Some(Declaration {
+    if is_good(quality) && !ends_at(declaration_ends(in_block), rest) && begins_closer(rest) {
+        Fault::StrayBracket
+    } else {
+        fault_of(quality)
+    }
+}
+
+/// A declaration that is broken from here on.
+fn broken(text: &str, in_block: bool) -> FoundItem<'_>
+    ensures { broken_of in_block text.now ≡ (item_of result.item, result.rest.now) }
+{
+    FoundItem {
+        item: Item::Skipped(Fault::BrokenDeclaration),
+        rest: past_broken(text, in_block),
+    }
+}
+
+/// Whether a declaration of this name, this value and this importance is one.
+fn is_stated(in_block: bool, name: &str, value: &Parts<'_>, rest: &str) -> bool
+    ensures { result ≡ is_stated_of in_block name.now (parts_of value.now) rest.now }
+{
+    is_good(value.quality)
+        && ends_at(declaration_ends(in_block), rest.as_bytes())
+        && (is_custom(name.as_bytes()) || !value.text.is_empty())
+}
+
+/// The declaration of this name, value and importance, if it is one.
+fn state<'a>(
+    in_block: bool,
+    name: &'a str,
+    value: Parts<'a>,
+    importance: Importance<'a>,
+) -> FoundItem<'a>
+    ensures { stated_as in_block name.now (parts_of value.entry)
+        (importance.entry.important, importance.entry.rest.now)
+        ≡ (item_of result.item, result.rest.now) }
+{
+    if is_stated(in_block, name, &value, importance.rest) {
+        FoundItem {
+            item: Item::Declaration(Declaration {
                 name,
                 value: value.text,
                 important: importance.important,
+                closed: is_whole(value.quality),
             }),
             rest: importance.rest,
         }
     } else {
-        broken(importance.rest)
+        FoundItem {
+            item: Item::Skipped(why(in_block, value.quality, importance.rest.as_bytes())),
+            rest: past_broken(importance.rest, in_block),
+        }
     }
 }
 
-/// Reads what follows the value of the declaration of this name.
-fn read_valued<'a>(name: &'a [u8], value: Value<'a>) -> Item<'a>
-    ensures { item_of result ≡ valued name.now
-        (record { text = value.entry.text.now; good = value.entry.good }, value.entry.rest.now) }
+/// Reads the declaration of this name, from what follows the name on. It begins at `start`.
+fn read_named<'a>(in_block: bool, start: &'a str, name: &'a str, text: &'a str) -> FoundItem<'a>
+    ensures { named in_block start.now name.now text.now ≡ (item_of result.item, result.rest.now) }
 {
-    state(name, value, skip_importance(value.rest))
-}
-
-/// Reads the declaration of this name, from its colon on. The declaration begins at `start`.
-fn read_named<'a>(start: &'a [u8], name: &'a [u8], bytes: &'a [u8]) -> Item<'a>
-    ensures { item_of result ≡ named start.now name.now bytes.now }
-{
-    match bytes {
-        [] => broken(start),
-        [byte, after @ ..] => {
-            if *byte == b':' {
-                read_valued(name, read_value(skip_gap(after)))
-            } else {
-                broken(start)
-            }
-        }
+    if readers::starts(text, b':') {
+        let value = read_value(past_gap(past_byte(text, b':')));
+        state(in_block, name, value, skip_importance(value.rest))
+    } else {
+        broken(start, in_block)
     }
 }
 
 /// Reads a declaration.
-#[tactic(auto, unfolding(crate::specs::DeclarationLists::declaration))]
-fn read_declaration(bytes: &[u8]) -> Item<'_>
-    ensures { item_of result ≡ declaration bytes.now }
+#[tactic(auto, using(crate::proofs::PartTexts::word_ends), unfolding(crate::specs::DeclarationLists::declaration))]
+fn read_declaration(text: &str, in_block: bool) -> FoundItem<'_>
+    ensures { declaration in_block text.now ≡ (item_of result.item, result.rest.now) }
 {
-    if begins_ident(bytes) {
-        let word = take_word(bytes);
-        read_named(bytes, word.text, skip_gap(word.rest))
+    if begins_ident(text.as_bytes()) {
+        let after = past_word(text);
+        read_named(in_block, text, front(text, after), past_gap(after))
     } else {
-        broken(bytes)
+        broken(text, in_block)
     }
 }
 
-/// Whether the bytes begin with an opening brace.
-fn opens_block(bytes: &[u8]) -> bool
-    ensures { result ≡ starts open_brace bytes.now }
-{
-    matches!(bytes, [b'{', ..])
-}
-
-/// Skips a component value before the block of an at-rule, if neither begins nor ends it here.
-fn skip_prelude_part(bytes: &[u8]) -> Option<Skipped<'_>>
-    ensures { prelude_part bytes.now ≡ option_map (λ s. (s.good, s.rest.now)) result }
-{
-    if ends_declaration(bytes) || opens_block(bytes) {
-        return None;
-    }
-    Some(skip_component_value(bytes))
-}
-
-/// Skips what is before the block or the end of an at-rule.
-fn skip_prelude(bytes: &[u8]) -> &[u8]
-    ensures { result.now ≡ (each prelude_part bytes.now).1 }
-{
-    let mut rest = bytes;
-    'parts: while let Some(part) = skip_prelude_part(rest) {
-        rest = part.rest;
-    }
-    rest
-}
-
-/// Skips the block of an at-rule, if it is next.
-fn skip_rule_block(bytes: &[u8]) -> &[u8]
-    ensures { result.now ≡ past_rule_block bytes.now }
-{
-    if opens_block(bytes) {
-        skip_component_value(bytes).rest
-    } else {
-        bytes
-    }
-}
-
-/// Skips an at-rule.
-#[tactic(auto, unfolding(crate::specs::DeclarationLists::past_at_rule))]
-fn skip_at_rule(bytes: &[u8]) -> &[u8]
-    ensures { result.now ≡ past_at_rule bytes.now }
-{
-    skip_rule_block(skip_prelude(bytes))
-}
-
-/// Reads the next item and skips the blanks after it, if the list does not end here.
+/// Reads an item, from its start on.
 #[tactic(auto, unfolding(crate::specs::DeclarationLists::item))]
-fn read_item(bytes: &[u8]) -> Option<Item<'_>>
-    ensures { item bytes.now ≡ option_map (λ i. item_of i) result }
+fn read_item(text: &str, in_block: bool) -> FoundItem<'_>
+    ensures { item_read in_block text.now ≡ (item_of result.item, result.rest.now) }
+{
+    if begins_at_rule(text.as_bytes()) {
+        let found = read_at_rule(text, in_block);
+        FoundItem {
+            item: Item::AtRule(found.at_rule),
+            rest: found.rest,
+        }
+    } else {
+        read_declaration(text, in_block)
+    }
+}
+
+/// Skips a semicolon, a space byte or a comment, if one is next.
+#[tactic(auto, unfolding(crate::specs::DeclarationLists::separator_part))]
+fn separator_part(bytes: &[u8]) -> Option<&[u8]>
+    ensures { separator_part_of bytes.now ≡ option_map (λ rest. (tt, rest.now)) result }
 {
     match bytes {
         [] => None,
-        [byte, after @ ..] => {
-            if *byte == b'}' {
-                None
-            } else if *byte == b';' {
-                Some(Item {
-                    declaration: None,
-                    rest: skip_gap(after),
-                })
-            } else if begins_at_rule(bytes) {
-                Some(Item {
-                    declaration: None,
-                    rest: skip_gap(skip_at_rule(bytes)),
-                })
+        [byte, rest @ ..] => {
+            if *byte == b';' {
+                Some(rest)
             } else {
-                let found = read_declaration(bytes);
-                Some(Item {
-                    declaration: found.declaration,
-                    rest: skip_gap(found.rest),
-                })
+                gap_part(bytes)
             }
         }
     }
 }
 
-/// Adds the declaration, if there is one.
-fn add<'a>(
-    list: &mut Vec<Declaration<'a>>,
-    found: Option<Declaration<'a>>,
-) -> Result<(), AllocError>
-    ensures { OnOk result (map declaration_of list.new.items ≡ map declaration_of list.old.items
-        ++ filter_map (λ one. one) (option_map declaration_of found.entry ∷ [])) }
+/// Skips what is between items.
+fn skip_separators(bytes: &[u8]) -> &[u8]
+    ensures { result.now ≡ past_separators_of bytes.now }
 {
-    if let Some(declaration) = found {
-        list.push(declaration)?;
+    let mut rest = bytes;
+    'parts: while let Some(after) = separator_part(rest) {
+        rest = after;
     }
-    Ok(())
+    rest
 }
 
-/// Reads declarations into the list, in place of those that it held, up to the end of the block or of
-/// the text, and returns the rest. A broken one is dropped alone.
-pub fn read_declarations<'a>(
-    bytes: &'a [u8],
-    list: &mut Vec<Declaration<'a>>,
-) -> Result<&'a [u8], AllocError>
-    ensures { IfOk result
-        (λ rest. declarations bytes.now ≡ (map declaration_of list.new.items, rest.now)) }
+/// Returns the rest after what is between items.
+fn past_separators(text: &str) -> &str
+    ensures { result.now ≡ past_separators_of text.now }
 {
-    list.clear();
-    let mut rest = skip_gap(bytes);
-    'items: while let Some(item) = read_item(rest) {
-        add(list, item.declaration)?;
-        rest = item.rest;
+    let rest = skip_separators(text.as_bytes());
+    &text[text.len() - rest.len()..]
+}
+
+/// Reads the next item, after what is before it.
+#[tactic(auto, unfolding(crate::specs::DeclarationLists::next_item))]
+fn read_part(text: &str, in_block: bool) -> Option<FoundPart<'_>>
+    ensures { next_item in_block text.now
+        ≡ option_map (λ found. (list_part_of found.part, found.rest.now)) result }
+{
+    let start = past_separators(text);
+    if ends_block(start.as_bytes(), in_block) {
+        return None;
     }
-    Ok(rest)
+    let found = read_item(start, in_block);
+    Some(FoundPart {
+        part: ListPart {
+            text: front(start, found.rest),
+            item: found.item,
+        },
+        rest: found.rest,
+    })
+}
+
+/// An iterator over the items of a list of declarations, in order.
+#[derive(Drop)]
+pub struct Declarations<'a> {
+    /// What is left of the text.
+    rest: &'a str,
+    /// Whether a closing brace ends it.
+    in_block: bool,
+}
+
+impl<'a> Declarations<'a> {
+    ghost use Rattle.css_syntax.specs.ListReaders.{BeginsList, items_left};
+
+    /// Returns an iterator over the items of a text, such as that of a style attribute, in which a
+    /// closing brace ends nothing.
+    pub fn new(text: &'a str) -> Declarations<'a>
+        ensures { BeginsList false text.now result }
+    {
+        Declarations {
+            rest: text,
+            in_block: false,
+        }
+    }
+
+    /// Returns an iterator over the items of a block, of which the text follows the opening brace.
+    /// Its closing brace ends them.
+    pub fn of_block(text: &'a str) -> Declarations<'a>
+        ensures { BeginsList true text.now result }
+    {
+        Declarations {
+            rest: text,
+            in_block: true,
+        }
+    }
+
+    /// Returns what is left of the text after the items that were returned.
+    pub fn rest(&self) -> &'a str
+        ensures { result.now ≡ items_left self.now }
+    {
+        self.rest
+    }
+}
+
+impl<'a> Iterator for Declarations<'a> {
+    ghost use Rattle.std.specs.Iterator.{item_count};
+    ghost use Rattle.css_syntax.specs.ListReaders.{items_to_come, GivesItem};
+
+    type Item = ListPart<'a>;
+
+    ghost next_gives = { GivesItem };
+
+    ghost remaining = { item_count items_to_come };
+
+    /// Returns the next item, with its text.
+    fn next(&mut self) -> Option<ListPart<'a>> {
+        match read_part(self.rest, self.in_block) {
+            Some(found) => {
+                self.rest = found.rest;
+                Some(found.part)
+            }
+            None => None,
+        }
+    }
 }

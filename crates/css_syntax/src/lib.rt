@@ -3,18 +3,18 @@
 //! 5.4.6), rule sets and at-rules (5.4.1 to 5.4.3).
 //!
 //! What is read are slices of the text, as written. Every text is read, in time proportional to its
-//! length. No function calls itself, and nothing is allocated but the lists that are returned. At
-//! most 64 brackets may be open at once.
+//! length. No function calls itself, and nothing is allocated. At most 64 brackets may be open at
+//! once.
 #![tactic(auto)]
 
-mod component_values;
-mod declarations;
-mod statements;
-mod texts;
-mod tokens;
-mod values;
+pub mod component_values;
+pub mod declarations;
+pub mod parts;
+pub mod quality;
+pub mod statements;
+pub mod texts;
+pub mod tokens;
 
-pub use declarations::{Declaration, read_declarations};
-pub use statements::{Found, Statement, read_statement, skip_between};
-pub use texts::{TextValue, read_text_value};
-pub use values::{Value, read_value};
+pub use declarations::{Declaration, Declarations, Item, ListPart};
+pub use quality::{Fault, Quality};
+pub use statements::{AtRule, Block, Prelude, RuleSet, SheetPart, Statement, Statements};

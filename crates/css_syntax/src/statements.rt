@@ -1,36 +1,266 @@
 //! The statements of a sheet, or of the block of an at-rule (CSS Syntax 3, sections 5.4.1 to 5.4.3).
-ghost use Rattle.std.specs.Prelude.{◌≡◌, true, option_map};
-ghost use Rattle.simplecss_text.specs.Reading.{before, each};
+ghost use Rattle.std.specs.Prelude.{◌≡◌, option_map, true, false};
+ghost use Rattle.simplecss_text.specs.Reading.{before};
+ghost use Rattle.css_syntax.specs.Parts.{Stated};
+ghost use Rattle.css_syntax.specs.Statements.{begins_name_byte as begins_name_byte_of};
+ghost use Rattle.css_syntax.specs.Statements.{begins_plain_ident as begins_plain_of};
+ghost use Rattle.css_syntax.specs.Statements.{begins_ident as begins_ident_of};
+ghost use Rattle.css_syntax.specs.Statements.{begins_at_rule as begins_at_rule_of};
+ghost use Rattle.css_syntax.specs.Statements.{block as block_read, at_rule as at_rule_read};
+ghost use Rattle.css_syntax.specs.Statements.{at_rule_ended, rule_set_ended};
+ghost use Rattle.css_syntax.specs.Statements.{statement as statement_read};
 ghost use Rattle.css_syntax.specs.Statements.{begins_cdc as begins_cdc_of};
 ghost use Rattle.css_syntax.specs.Statements.{between_part as between_part_of};
-ghost use Rattle.css_syntax.specs.Statements.{past_between, ends_sheet as ends_sheet_of};
-ghost use Rattle.css_syntax.specs.Statements.{ends_head as ends_head_of};
-ghost use Rattle.css_syntax.specs.Statements.{head_part as head_part_of, ended_by};
-ghost use Rattle.css_syntax.specs.Statements.{statement_at, next_statement};
-ghost use Rattle.css_syntax.specs.StatementViews.{statement_of};
+ghost use Rattle.css_syntax.specs.Statements.{past_between as past_between_of};
+ghost use Rattle.css_syntax.specs.Statements.{ends_block as ends_block_of, next_statement};
+ghost use Rattle.css_syntax.specs.Views.{parts_of, block_of, at_rule_of, statement_of};
+ghost use Rattle.css_syntax.specs.Views.{sheet_part_of};
 
-use crate::component_values::{skip_braces, skip_component_value};
-use crate::declarations::begins_at_rule;
-use crate::tokens::{Skipped, begins_cdo, gap_part};
+use crate::parts::{Parts, Stops, read_parts};
+use crate::quality::{Fault, Quality};
+use crate::texts::{front, past_byte, past_gap, past_word};
+use crate::tokens::{begins_cdo, begins_escape, gap_part, skip_byte};
+use simplecss_text::readers;
 
-/// A statement: a rule set or an at-rule.
+/// What is before the block of a statement.
 #[derive(Clone, Copy, Debug, PartialEq)]
-pub struct Statement<'a> {
-    /// Whether it is an at-rule.
-    pub is_at_rule: bool,
-    /// The text before its block: selectors, or the name and the conditions of an at-rule.
-    pub head: &'a [u8],
-    /// Its block, if it has one, from after the opening brace to after the closing one.
-    pub block: Option<&'a [u8]>,
+pub struct Prelude<'a> {
+    /// Its text, without blanks at either end.
+    pub text: &'a str,
+    /// Its quality.
+    pub quality: Quality,
+}
+
+/// The contents of a block.
+#[derive(Clone, Copy, Debug, PartialEq)]
+pub struct Block<'a> {
+    /// The text between the braces, without blanks at either end.
+    pub text: &'a str,
+    /// Whether a brace closes it, and not only the end of the text.
+    pub closed: bool,
+}
+
+/// An at-rule.
+#[derive(Clone, Copy, Debug, PartialEq)]
+pub struct AtRule<'a> {
+    /// Its name, as written, without the `@`.
+    pub name: &'a str,
+    /// What is between the name and the block or the semicolon.
+    pub prelude: Prelude<'a>,
+    /// Its block, if it has one.
+    pub block: Option<Block<'a>>,
+}
+
+/// A rule set.
+#[derive(Clone, Copy, Debug, PartialEq)]
+pub struct RuleSet<'a> {
+    /// What is before the block, which should be selectors.
+    pub prelude: Prelude<'a>,
+    /// The block, which should have declarations.
+    pub block: Block<'a>,
+}
+
+/// A statement.
+#[derive(Clone, Copy, Debug, PartialEq)]
+pub enum Statement<'a> {
+    /// A rule set.
+    RuleSet(RuleSet<'a>),
+    /// An at-rule.
+    AtRule(AtRule<'a>),
+    /// What is no statement, since it has no block.
+    Skipped(Fault),
+}
+
+/// A part of a sheet: a statement, with its whole text.
+#[derive(Clone, Copy, Debug, PartialEq)]
+pub struct SheetPart<'a> {
+    /// The text, from the first byte of the statement to its last.
+    pub text: &'a str,
+    /// The statement.
+    pub statement: Statement<'a>,
+}
+
+/// A block and the rest after it.
+#[derive(Clone, Copy)]
+struct FoundBlock<'a> {
+    block: Block<'a>,
+    rest: &'a str,
+}
+
+/// An at-rule and the rest after it.
+#[derive(Clone, Copy)]
+pub struct FoundAtRule<'a> {
+    /// The at-rule.
+    pub at_rule: AtRule<'a>,
+    /// The rest.
+    pub rest: &'a str,
 }
 
 /// A statement and the rest after it.
 #[derive(Clone, Copy)]
-pub struct Found<'a> {
-    /// The statement.
-    pub statement: Statement<'a>,
-    /// The rest.
-    pub rest: &'a [u8],
+struct FoundStatement<'a> {
+    statement: Statement<'a>,
+    rest: &'a str,
+}
+
+/// A part of a sheet and the rest after it.
+#[derive(Clone, Copy)]
+struct FoundPart<'a> {
+    part: SheetPart<'a>,
+    rest: &'a str,
+}
+
+/// Whether the byte may begin a name.
+fn begins_name_byte(byte: u8) -> bool
+    ensures { result ≡ begins_name_byte_of byte }
+{
+    byte.is_ascii_alphabetic() || byte == b'_' || byte >= 128
+}
+
+/// Whether a name begins here that does not begin with a hyphen.
+fn begins_plain_ident(bytes: &[u8]) -> bool
+    ensures { result ≡ begins_plain_of bytes.now }
+{
+    match bytes {
+        [] => false,
+        [byte, ..] => begins_name_byte(*byte) || begins_escape(bytes),
+    }
+}
+
+/// Whether a name begins here.
+pub fn begins_ident(bytes: &[u8]) -> bool
+    ensures { result ≡ begins_ident_of bytes.now }
+{
+    matches!(bytes, [b'-', b'-', ..]) || begins_plain_ident(skip_byte(bytes, b'-'))
+}
+
+/// Whether an at-rule begins here: `@` and directly a name.
+pub fn begins_at_rule(bytes: &[u8]) -> bool
+    ensures { result ≡ begins_at_rule_of bytes.now }
+{
+    match bytes {
+        [] => false,
+        [byte, after @ ..] => *byte == b'@' && begins_ident(after),
+    }
+}
+
+/// What is before a block.
+fn prelude_from<'a>(parts: &Parts<'a>) -> Prelude<'a>
+    ensures { record { text = result.text.now; quality = result.quality } ≡ parts_of parts.now }
+{
+    Prelude {
+        text: parts.text,
+        quality: parts.quality,
+    }
+}
+
+/// Reads a block after its opening brace.
+#[tactic(auto, unfolding(crate::specs::Statements::block))]
+fn read_block(text: &str) -> FoundBlock<'_>
+    ensures { block_read text.now ≡ (block_of result.block, result.rest.now) }
+{
+    let stops = Stops {
+        semicolon: false,
+        open_brace: false,
+        close_brace: true,
+        in_value: false,
+    };
+    let inside = read_parts(stops, past_gap(text));
+    FoundBlock {
+        block: Block {
+            text: inside.text,
+            closed: readers::starts(inside.rest, b'}'),
+        },
+        rest: past_byte(inside.rest, b'}'),
+    }
+}
+
+/// Ends an at-rule by what follows its prelude.
+fn end_at_rule<'a>(name: &'a str, parts: Parts<'a>) -> FoundAtRule<'a>
+    ensures { at_rule_ended name.now (parts_of parts.entry) parts.entry.rest.now
+        ≡ (at_rule_of result.at_rule, result.rest.now) }
+{
+    let prelude = prelude_from(&parts);
+    if readers::starts(parts.rest, b'{') {
+        let found = read_block(past_byte(parts.rest, b'{'));
+        FoundAtRule {
+            at_rule: AtRule {
+                name,
+                prelude,
+                block: Some(found.block),
+            },
+            rest: found.rest,
+        }
+    } else {
+        FoundAtRule {
+            at_rule: AtRule {
+                name,
+                prelude,
+                block: None,
+            },
+            rest: past_byte(parts.rest, b';'),
+        }
+    }
+}
+
+/// Reads an at-rule, from its `@` on. Within a block, the closing brace of the block ends it, too.
+#[tactic(auto, using(crate::proofs::PartTexts::word_ends), unfolding(crate::specs::Statements::at_rule))]
+pub fn read_at_rule(text: &str, in_block: bool) -> FoundAtRule<'_>
+    ensures { at_rule_read in_block text.now ≡ (at_rule_of result.at_rule, result.rest.now) }
+{
+    let start = past_byte(text, b'@');
+    let after = past_word(start);
+    let name = front(start, after);
+    let stops = Stops {
+        semicolon: true,
+        open_brace: true,
+        close_brace: in_block,
+        in_value: false,
+    };
+    end_at_rule(name, read_parts(stops, past_gap(after)))
+}
+
+/// Ends a rule set by what follows its prelude.
+fn end_rule_set(parts: Parts<'_>) -> FoundStatement<'_>
+    ensures { rule_set_ended (parts_of parts.entry) parts.entry.rest.now
+        ≡ (statement_of result.statement, result.rest.now) }
+{
+    if readers::starts(parts.rest, b'{') {
+        let found = read_block(past_byte(parts.rest, b'{'));
+        FoundStatement {
+            statement: Statement::RuleSet(RuleSet {
+                prelude: prelude_from(&parts),
+                block: found.block,
+            }),
+            rest: found.rest,
+        }
+    } else {
+        FoundStatement {
+            statement: Statement::Skipped(Fault::NoBlock),
+            rest: parts.rest,
+        }
+    }
+}
+
+/// Reads a statement, from its start on.
+#[tactic(auto, unfolding(crate::specs::Statements::statement))]
+fn read_statement(text: &str, in_block: bool) -> FoundStatement<'_>
+    ensures { statement_read in_block text.now ≡ (statement_of result.statement, result.rest.now) }
+{
+    if begins_at_rule(text.as_bytes()) {
+        let found = read_at_rule(text, in_block);
+        return FoundStatement {
+            statement: Statement::AtRule(found.at_rule),
+            rest: found.rest,
+        };
+    }
+    let stops = Stops {
+        semicolon: false,
+        open_brace: true,
+        close_brace: in_block,
+        in_value: false,
+    };
+    end_rule_set(read_parts(stops, text))
 }
 
 /// Whether the bytes begin with `-->`.
@@ -42,14 +272,14 @@ fn begins_cdc(bytes: &[u8]) -> bool
 
 /// Skips a space byte, a comment or, between the statements of a sheet, a `<!--` or `-->`.
 #[tactic(auto, unfolding(crate::specs::Statements::between_part))]
-fn between_part(bytes: &[u8], nested: bool) -> Option<&[u8]>
-    ensures { between_part_of nested bytes.now ≡ option_map (λ rest. (tt, rest.now)) result }
+fn between_part(bytes: &[u8], in_block: bool) -> Option<&[u8]>
+    ensures { between_part_of in_block bytes.now ≡ option_map (λ rest. (tt, rest.now)) result }
 {
     if bytes.is_empty() {
         None
-    } else if !nested && begins_cdo(bytes) {
+    } else if !in_block && begins_cdo(bytes) {
         Some(&bytes[4..])
-    } else if !nested && begins_cdc(bytes) {
+    } else if !in_block && begins_cdc(bytes) {
         Some(&bytes[3..])
     } else {
         gap_part(bytes)
@@ -57,122 +287,113 @@ fn between_part(bytes: &[u8], nested: bool) -> Option<&[u8]>
 }
 
 /// Skips what is between statements.
-pub fn skip_between(bytes: &[u8], nested: bool) -> &[u8]
-    ensures { result.now ≡ past_between nested bytes.now }
+fn skip_between(bytes: &[u8], in_block: bool) -> &[u8]
+    ensures { result.now ≡ past_between_of in_block bytes.now }
 {
     let mut rest = bytes;
-    'parts: while let Some(after) = between_part(rest, nested) {
+    'parts: while let Some(after) = between_part(rest, in_block) {
         rest = after;
     }
     rest
 }
 
-/// Whether the statements end here.
-fn ends_sheet(bytes: &[u8], nested: bool) -> bool
-    ensures { result ≡ ends_sheet_of nested bytes.now }
+/// Returns the rest after what is between statements.
+fn past_between(text: &str, in_block: bool) -> &str
+    ensures { result.now ≡ past_between_of in_block text.now }
+{
+    let rest = skip_between(text.as_bytes(), in_block);
+    &text[text.len() - rest.len()..]
+}
+
+/// Whether the text ends, or the block does.
+pub fn ends_block(bytes: &[u8], in_block: bool) -> bool
+    ensures { result ≡ ends_block_of in_block bytes.now }
 {
     match bytes {
         [] => true,
-        [byte, ..] => nested && *byte == b'}',
+        [byte, ..] => in_block && *byte == b'}',
     }
 }
 
-/// Whether what is before a block ends here.
-fn ends_head(bytes: &[u8], nested: bool, is_at_rule: bool) -> bool
-    ensures { result ≡ ends_head_of nested is_at_rule bytes.now }
-{
-    match bytes {
-        [] => true,
-        [byte, ..] => {
-            *byte == b'{' || (is_at_rule && *byte == b';') || (nested && *byte == b'}')
-        }
-    }
-}
-
-/// Skips a component value before a block.
-fn head_part(bytes: &[u8], nested: bool, is_at_rule: bool) -> Option<Skipped<'_>>
-    ensures { head_part_of nested is_at_rule bytes.now
-        ≡ option_map (λ s. (s.good, s.rest.now)) result }
-{
-    if ends_head(bytes, nested, is_at_rule) {
-        return None;
-    }
-    Some(skip_component_value(bytes))
-}
-
-/// Skips what is before a block.
-fn skip_head(bytes: &[u8], nested: bool, is_at_rule: bool) -> &[u8]
-    ensures { result.now ≡ (each (head_part_of nested is_at_rule) bytes.now).1 }
-{
-    let mut rest = bytes;
-    'parts: while let Some(part) = head_part(rest, nested, is_at_rule) {
-        rest = part.rest;
-    }
-    rest
-}
-
-/// Ends a statement by what follows the text before its block.
-fn end_statement<'a>(is_at_rule: bool, head: &'a [u8], bytes: &'a [u8]) -> Found<'a>
-    ensures { ended_by is_at_rule head.now bytes.now
-        ≡ (statement_of result.statement, result.rest.now) }
-{
-    match bytes {
-        [] => Found {
-            statement: Statement {
-                is_at_rule,
-                head,
-                block: None,
-            },
-            rest: bytes,
-        },
-        [byte, after @ ..] => {
-            if *byte == b'{' {
-                let rest = skip_braces(after);
-                Found {
-                    statement: Statement {
-                        is_at_rule,
-                        head,
-                        block: Some(&after[..after.len() - rest.len()]),
-                    },
-                    rest,
-                }
-            } else {
-                Found {
-                    statement: Statement {
-                        is_at_rule,
-                        head,
-                        block: None,
-                    },
-                    rest: if *byte == b';' { after } else { bytes },
-                }
-            }
-        }
-    }
-}
-
-/// Reads a statement.
-#[tactic(auto, using(crate::proofs::Heads::past_head_within))]
-fn take_statement(bytes: &[u8], nested: bool, is_at_rule: bool) -> Found<'_>
-    ensures { statement_at nested is_at_rule bytes.now
-        ≡ (statement_of result.statement, result.rest.now) }
-{
-    let rest = skip_head(bytes, nested, is_at_rule);
-    end_statement(is_at_rule, &bytes[..bytes.len() - rest.len()], rest)
-}
-
-/// Reads the next statement, at which the bytes begin, and skips what is between it and the one after
-/// it. `nested` is for the statements of a block, which its closing brace ends.
+/// Reads the next statement, after what is before it.
 #[tactic(auto, unfolding(crate::specs::Statements::next_statement))]
-pub fn read_statement(bytes: &[u8], nested: bool) -> Option<Found<'_>>
-    ensures { next_statement nested bytes.now
-        ≡ option_map (λ found. (statement_of found.statement, found.rest.now)) result }
+fn read_part(text: &str, in_block: bool) -> Option<FoundPart<'_>>
+    ensures { next_statement in_block text.now
+        ≡ option_map (λ found. (sheet_part_of found.part, found.rest.now)) result }
 {
-    if ends_sheet(bytes, nested) {
+    let start = past_between(text, in_block);
+    if ends_block(start.as_bytes(), in_block) {
         return None;
     }
-    let found = take_statement(bytes, nested, begins_at_rule(bytes));
-    Some(Found {
-        statement: found.statement,
-        rest: skip_between(found.rest, nested),
+    let found = read_statement(start, in_block);
+    Some(FoundPart {
+        part: SheetPart {
+            text: front(start, found.rest),
+            statement: found.statement,
+        },
+        rest: found.rest,
     })
+}
+
+/// An iterator over the statements of a text, in order.
+#[derive(Drop)]
+pub struct Statements<'a> {
+    /// What is left of the text.
+    rest: &'a str,
+    /// Whether a closing brace ends it.
+    in_block: bool,
+}
+
+impl<'a> Statements<'a> {
+    ghost use Rattle.css_syntax.specs.ListReaders.{BeginsSheet, statements_left};
+
+    /// Returns an iterator over the statements of a sheet.
+    pub fn new(text: &'a str) -> Statements<'a>
+        ensures { BeginsSheet false text.now result }
+    {
+        Statements {
+            rest: text,
+            in_block: false,
+        }
+    }
+
+    /// Returns an iterator over the statements of a block, as that of `@media`, of which the text
+    /// follows the opening brace. Its closing brace ends them.
+    pub fn of_block(text: &'a str) -> Statements<'a>
+        ensures { BeginsSheet true text.now result }
+    {
+        Statements {
+            rest: text,
+            in_block: true,
+        }
+    }
+
+    /// Returns what is left of the text after the statements that were returned.
+    pub fn rest(&self) -> &'a str
+        ensures { result.now ≡ statements_left self.now }
+    {
+        self.rest
+    }
+}
+
+impl<'a> Iterator for Statements<'a> {
+    ghost use Rattle.std.specs.Iterator.{item_count};
+    ghost use Rattle.css_syntax.specs.ListReaders.{statements_to_come, GivesStatement};
+
+    type Item = SheetPart<'a>;
+
+    ghost next_gives = { GivesStatement };
+
+    ghost remaining = { item_count statements_to_come };
+
+    /// Returns the next statement, with its text.
+    fn next(&mut self) -> Option<SheetPart<'a>> {
+        match read_part(self.rest, self.in_block) {
+            Some(found) => {
+                self.rest = found.rest;
+                Some(found.part)
+            }
+            None => None,
+        }
+    }
 }

@@ -1,30 +1,88 @@
-//! Values of texts, as slices of them.
-ghost use Rattle.std.specs.Prelude.{◌≡◌};
-ghost use Rattle.css_syntax.specs.Values.{Stated, value};
+//! Readers of tokens over texts, and slices of texts.
+ghost use Rattle.std.specs.Prelude.{◌≡◌, ◌<◌, true};
+ghost use Rattle.simplecss_text.specs.Reading.{before, Ends};
+ghost use Rattle.simplecss_text.specs.Bytes.{past_byte as past_byte_of, past_one, starts_by, is_ascii};
+ghost use Rattle.css_syntax.specs.Tokens.{past_gap as past_gap_of, past_word as past_word_of};
+ghost use Rattle.css_syntax.specs.Tokens.{token};
+ghost use Rattle.css_syntax.specs.ComponentValues.{component_value, deepest};
 
-use crate::values::read_value;
+use crate::component_values::skip_component_value;
+use crate::quality::Quality;
+use crate::tokens::{skip_gap, skip_token, skip_word};
+use simplecss_text::readers;
 
-/// The value of a declaration, in a text.
-#[derive(Clone, Copy, Debug, PartialEq)]
-pub struct TextValue<'a> {
-    /// Its text, without blanks at its end.
-    pub text: &'a str,
-    /// Whether brackets, strings and addresses in it are good.
-    pub good: bool,
-    /// What follows it.
+/// A token or a component value that was read.
+#[derive(Clone, Copy)]
+pub struct ReadValue<'a> {
+    /// Its quality.
+    pub quality: Quality,
+    /// The rest after it.
     pub rest: &'a str,
 }
 
-/// Reads the value at the start of the text.
-pub fn read_text_value(text: &str) -> TextValue<'_>
-    ensures { value text.now
-        ≡ (record { text = result.text.now; good = result.good }, result.rest.now) }
+/// Returns the text before the rest.
+pub fn front<'a>(text: &'a str, rest: &'a str) -> &'a str
+    requires { Ends text.now rest.now }
+    ensures { result.now ≡ before text.now rest.now }
 {
-    let value = read_value(text.as_bytes());
-    let end = text.len() - value.rest.len();
-    TextValue {
-        text: &text[..value.text.len()],
-        good: value.good,
-        rest: &text[end..],
+    &text[..text.len() - rest.len()]
+}
+
+/// Returns the rest after space bytes and comments.
+pub fn past_gap(text: &str) -> &str
+    ensures { result.now ≡ past_gap_of text.now }
+{
+    let rest = skip_gap(text.as_bytes());
+    &text[text.len() - rest.len()..]
+}
+
+/// Returns the rest after a word.
+pub fn past_word(text: &str) -> &str
+    ensures { result.now ≡ past_word_of text.now }
+{
+    let rest = skip_word(text.as_bytes());
+    &text[text.len() - rest.len()..]
+}
+
+/// Returns the rest after the first byte, which is ASCII.
+pub fn past_ascii(text: &str) -> &str
+    requires { starts_by is_ascii text.now ≡ true }
+    ensures { result.now ≡ past_one text.now }
+{
+    &text[1..]
+}
+
+/// Returns the rest after the byte, which is ASCII, if it is next.
+#[tactic(auto, using(crate::proofs::PartTexts::starts_past, crate::proofs::PartTexts::starts_not, crate::proofs::PartTexts::starts_ascii))]
+pub fn past_byte(text: &str, byte: u8) -> &str
+    requires { byte < 128 }
+    ensures { result.now ≡ past_byte_of byte text.now }
+{
+    if readers::starts(text, byte) {
+        past_ascii(text)
+    } else {
+        text
+    }
+}
+
+/// Reads a token that is no opening bracket.
+pub fn read_token(text: &str) -> ReadValue<'_>
+    ensures { token text.now ≡ (result.quality, result.rest.now) }
+{
+    let skipped = skip_token(text.as_bytes());
+    ReadValue {
+        quality: skipped.quality,
+        rest: &text[text.len() - skipped.rest.len()..],
+    }
+}
+
+/// Reads a component value.
+pub fn read_value(text: &str) -> ReadValue<'_>
+    ensures { component_value deepest text.now ≡ (result.quality, result.rest.now) }
+{
+    let skipped = skip_component_value(text.as_bytes());
+    ReadValue {
+        quality: skipped.quality,
+        rest: &text[text.len() - skipped.rest.len()..],
     }
 }

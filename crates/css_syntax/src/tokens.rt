@@ -26,15 +26,28 @@ ghost use Rattle.css_syntax.specs.Tokens.{url_part as url_part_of, past_url, url
 ghost use Rattle.css_syntax.specs.Tokens.{remnant_part as remnant_part_of};
 ghost use Rattle.css_syntax.specs.Tokens.{begins_cdo as begins_cdo_of, token};
 ghost use Rattle.css_syntax.specs.Tokens.{is_closer as is_closer_of};
-ghost use Rattle.css_syntax.specs.Tokens.{other_token};
+ghost use Rattle.css_syntax.specs.Tokens.{other_token, comment_quality};
 
-/// What was skipped: whether it is good, and the rest.
+use crate::quality::Quality;
+
+/// What was skipped: its quality, and the rest.
 #[derive(Clone, Copy)]
 pub struct Skipped<'a> {
-    /// Whether it may be in a value.
-    pub good: bool,
+    /// Its quality.
+    pub quality: Quality,
     /// The rest after it.
     pub rest: &'a [u8],
+}
+
+/// Something whole was skipped.
+pub fn whole(rest: &[u8]) -> Skipped<'_>
+    ensures quality { result.quality ≡ Quality.Whole }
+    ensures rest { result.rest.now ≡ rest.now }
+{
+    Skipped {
+        quality: Quality::Whole,
+        rest,
+    }
 }
 
 /// Returns the first byte and the rest, if there is one.
@@ -158,21 +171,25 @@ fn starts_comment(bytes: &[u8]) -> bool
 }
 
 /// Skips the comment that opens here, up to the end of the text if it is not closed.
-#[tactic(auto, unfolding(crate::specs::Tokens::past_comment))]
-fn skip_comment(bytes: &[u8]) -> &[u8]
-    ensures { result.now ≡ past_comment bytes.now }
+#[tactic(auto, unfolding(crate::specs::Tokens::past_comment, crate::specs::Tokens::comment_quality))]
+fn skip_comment(bytes: &[u8]) -> Skipped<'_>
+    ensures quality { result.quality ≡ comment_quality bytes.now }
+    ensures rest { result.rest.now ≡ past_comment bytes.now }
 {
     let mut rest = match bytes {
         [_, _, inside @ ..] => inside,
-        _ => return &[],
+        _ => &[],
     };
     'comment: while let [byte, after @ ..] = rest {
         if *byte == b'*' && matches!(after, [b'/', ..]) {
-            return skip_byte(after, b'/');
+            return whole(skip_byte(after, b'/'));
         }
         rest = after;
     }
-    rest
+    Skipped {
+        quality: Quality::Open,
+        rest,
+    }
 }
 
 /// Skips a space byte or a comment, if one is next.
@@ -186,7 +203,7 @@ pub fn gap_part(bytes: &[u8]) -> Option<&[u8]>
             if is_space(*byte) {
                 Some(rest)
             } else if starts_comment(bytes) {
-                Some(skip_comment(bytes))
+                Some(skip_comment(bytes).rest)
             } else {
                 None
             }
@@ -226,19 +243,19 @@ fn string_part(bytes: &[u8], quote: u8) -> Option<&[u8]>
 
 /// Skips the end of a string: its quote, or the end of the text. A newline makes it bad.
 fn skip_string_end(bytes: &[u8], quote: u8) -> Skipped<'_>
-    ensures { string_end quote bytes.now ≡ (result.good, result.rest.now) }
+    ensures { string_end quote bytes.now ≡ (result.quality, result.rest.now) }
 {
     match bytes {
         [] => Skipped {
-            good: true,
+            quality: Quality::Open,
             rest: bytes,
         },
         [byte, rest @ ..] => {
             if *byte == quote {
-                Skipped { good: true, rest }
+                whole(rest)
             } else {
                 Skipped {
-                    good: false,
+                    quality: Quality::BadString,
                     rest: bytes,
                 }
             }
@@ -248,7 +265,7 @@ fn skip_string_end(bytes: &[u8], quote: u8) -> Skipped<'_>
 
 /// Skips a string after its opening quote.
 fn skip_string(bytes: &[u8], quote: u8) -> Skipped<'_>
-    ensures { past_string quote bytes.now ≡ (result.good, result.rest.now) }
+    ensures { past_string quote bytes.now ≡ (result.quality, result.rest.now) }
 {
     let mut rest = bytes;
     'parts: while let Some(after) = string_part(rest, quote) {
@@ -492,16 +509,16 @@ fn skip_remnants(bytes: &[u8]) -> &[u8]
 
 /// Skips the end of an address: its parenthesis, the end of the text, or what makes it bad.
 fn skip_url_end(bytes: &[u8]) -> Skipped<'_>
-    ensures { url_end bytes.now ≡ (result.good, result.rest.now) }
+    ensures { url_end bytes.now ≡ (result.quality, result.rest.now) }
 {
     match bytes {
         [] => Skipped {
-            good: true,
+            quality: Quality::Open,
             rest: bytes,
         },
-        [b')', rest @ ..] => Skipped { good: true, rest },
+        [b')', rest @ ..] => whole(rest),
         _ => Skipped {
-            good: false,
+            quality: Quality::BadUrl,
             rest: skip_remnants(bytes),
         },
     }
@@ -509,7 +526,7 @@ fn skip_url_end(bytes: &[u8]) -> Skipped<'_>
 
 /// Skips an address without quotes, from after the parenthesis of `url(`.
 fn skip_url(bytes: &[u8]) -> Skipped<'_>
-    ensures { past_url bytes.now ≡ (result.good, result.rest.now) }
+    ensures { past_url bytes.now ≡ (result.quality, result.rest.now) }
 {
     let mut rest = skip_spaces(bytes);
     'parts: while let Some(after) = url_part(rest) {
@@ -526,7 +543,7 @@ pub fn begins_cdo(bytes: &[u8]) -> bool
 }
 
 /// Whether the byte is a closing bracket.
-fn is_closer(byte: u8) -> bool
+pub fn is_closer(byte: u8) -> bool
     ensures { result ≡ is_closer_of byte }
 {
     matches!(byte, b')' | b']' | b'}')
@@ -535,51 +552,38 @@ fn is_closer(byte: u8) -> bool
 /// Skips a hash or a name after `@`, from after its first byte, or nothing after any other byte. A
 /// closing bracket is bad.
 fn skip_other(byte: u8, rest: &[u8]) -> Skipped<'_>
-    ensures { other_token byte rest.now ≡ (result.good, result.rest.now) }
+    ensures { other_token byte rest.now ≡ (result.quality, result.rest.now) }
 {
     if byte == b'#' || byte == b'@' {
+        whole(skip_word(rest))
+    } else if is_closer(byte) {
         Skipped {
-            good: true,
-            rest: skip_word(rest),
-        }
-    } else {
-        Skipped {
-            good: !is_closer(byte),
+            quality: Quality::StrayBracket,
             rest,
         }
+    } else {
+        whole(rest)
     }
 }
 
 /// Skips a token that is no opening bracket.
 #[tactic(auto, unfolding(crate::specs::Tokens::token))]
 pub fn skip_token(bytes: &[u8]) -> Skipped<'_>
-    ensures { token bytes.now ≡ (result.good, result.rest.now) }
+    ensures { token bytes.now ≡ (result.quality, result.rest.now) }
 {
     match bytes {
-        [] => Skipped {
-            good: true,
-            rest: bytes,
-        },
+        [] => whole(bytes),
         [byte, rest @ ..] => {
             if starts_comment(bytes) {
-                Skipped {
-                    good: true,
-                    rest: skip_comment(bytes),
-                }
+                skip_comment(bytes)
             } else if is_quote(*byte) {
                 skip_string(rest, *byte)
             } else if begins_url(bytes) {
                 skip_url(past_url_name(bytes))
             } else if begins_cdo(bytes) {
-                Skipped {
-                    good: true,
-                    rest: &bytes[4..],
-                }
+                whole(&bytes[4..])
             } else if is_name_byte(*byte) || begins_escape(bytes) {
-                Skipped {
-                    good: true,
-                    rest: skip_word(bytes),
-                }
+                whole(skip_word(bytes))
             } else {
                 skip_other(*byte, rest)
             }

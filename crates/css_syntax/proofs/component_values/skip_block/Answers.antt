@@ -1,6 +1,7 @@
-use Rattle.std.proofs.Common.{◌∙◌, sym, arith, ◌-◌, ◌==◌, ◌%◌, ◌≡◌, ◌<◌, false}
+use Rattle.std.proofs.Common.{ap, [], ◌∙◌, sym, arith, ◌-◌, ◌==◌, ◌%◌, ◌≡◌, ◌<◌, false}
+use Rattle.css_syntax.specs.declared.quality.Quality.{Quality}
 use Rattle.css_syntax.specs.internal.OpenBrackets.{closer_of}
-use Rattle.css_syntax.proofs.OpenBlocks.{resume-start, at-end, step-close, step-open, step-deep, step-token, token-less, digits, fewer, fits, other_byte}
+use Rattle.css_syntax.proofs.OpenBlocks.{also, resume, resume-start, at-end, step-close, step-open, step-deep, step-token, token-less, digits, fewer, fits, other_byte}
 use Rattle.css_syntax.proofs.component_values.skip_block.Goals as goal
 
 pub values-init : goal.values-init
@@ -13,12 +14,13 @@ values-init c = record {
 pub returns-in-None : goal.returns-in-None
 returns-in-None c =
     sym c.values.invariant.reads ∙ at-end c.values.depth c.values.waiting (64 - c.values.depth)
-    c.values.rest.now c.values.good c.in-None.ensures
+    c.values.rest.now c.values.quality c.values-test.true c.in-None.ensures
+    ∙ ap (λ (quality : Quality). (quality, c.values.rest.now)) (sym c.first_flaw.ensures)
 
 pub values-preserved-then-byte-closer_of : goal.values-preserved-then-byte-closer_of
 values-preserved-then-byte-closer_of c = record {
   reads = step-close c.values.depth c.values.waiting c.in-Some.byte c.values.rest.now
-      c.in-Some.after.now c.values.good c.values-test.true c.values.invariant.deep
+      c.in-Some.after.now c.values.quality c.values-test.true c.values.invariant.deep
       c.in-Some.ensures (c.if-byte-closer_of.true ∙ c.closer_of.ensures)
       ∙ c.values.invariant.reads;
   deep = omega arith;
@@ -30,8 +32,9 @@ returns-then-depth-eq-DEEPEST c =
     let other : (c.in-Some.byte == closer_of (c.values.waiting % 4)) ≡ false =
     other_byte _ _ (λ e. c.if-byte-closer_of.false (e ∙ sym c.closer_of.ensures)) in
     sym c.values.invariant.reads ∙ step-deep c.values.depth c.values.waiting c.in-Some.byte
-    c.values.rest.now c.in-Some.after.now c.values.good c.if-depth-eq-DEEPEST.true c.in-Some.ensures
+    c.values.rest.now c.in-Some.after.now c.values.quality c.if-depth-eq-DEEPEST.true c.in-Some.ensures
     other c.in-Some-opened_kind.ensures.some.0
+    ∙ ap (λ (quality : Quality). (quality, [])) (sym c.first_flaw-then-depth-eq-DEEPEST.ensures)
 
 pub overflow_mul-waiting : goal.overflow_mul-waiting
 overflow_mul-waiting c =
@@ -58,7 +61,7 @@ values-preserved-in-Some-opened_kind c =
     let kind = c.in-Some-opened_kind.ensures.some in
     record {
       reads = step-open c.values.depth c.values.waiting c.in-Some-opened_kind.inner c.in-Some.byte
-          c.values.rest.now c.in-Some.after.now c.values.good c.values-test.true below
+          c.values.rest.now c.in-Some.after.now c.values.quality c.values-test.true below
           c.in-Some.ensures other kind.0 kind.1 kind.2
           ∙ c.values.invariant.reads;
       deep = omega arith;
@@ -76,9 +79,12 @@ values-preserved c =
     let other : (c.in-Some.byte == closer_of (c.values.waiting % 4)) ≡ false =
     other_byte _ _ (λ e. c.if-byte-closer_of.false (e ∙ sym c.closer_of.ensures)) in
     record {
-      reads = step-token c.values.depth c.values.waiting (64 - c.values.depth) c.in-Some.byte
-          c.values.rest.now c.in-Some.after.now c.values.good
-          (c.skip_token-token.result.good, c.skip_token-token.result.rest.now)
+      reads = ap (λ (quality : Quality). also quality
+          (resume c.values.depth c.values.waiting (64 - c.values.depth) c.skip_token-token.result.rest.now))
+          c.first_flaw-quality.ensures
+          ∙ step-token c.values.depth c.values.waiting (64 - c.values.depth) c.in-Some.byte
+          c.values.rest.now c.in-Some.after.now c.values.quality
+          (c.skip_token-token.result.quality, c.skip_token-token.result.rest.now)
           c.values-test.true c.in-Some.ensures other (c.opened_kind.ensures.none c.in_default.is)
           c.skip_token-token.ensures
           ∙ c.values.invariant.reads;

@@ -1,4 +1,6 @@
-use Rattle.std.proofs.Common.{◌∙◌, sym, ap, refl, List, ℕ, true}
+use Rattle.std.proofs.Common.{◌∙◌, sym, ap, refl, List, ℕ}
+use Rattle.css_syntax.specs.declared.quality.Quality.{Quality}
+use Rattle.css_syntax.specs.declared.quality.Quality.TheVariants.{Whole}
 use Rattle.css_syntax.specs.Tokens.{token}
 use Rattle.css_syntax.specs.ComponentValues.{component_value, block_of}
 use Rattle.css_syntax.proofs.OpenBlocks.{value-empty, value-open, value-token}
@@ -14,7 +16,8 @@ returns-in-Some-opened_kind c =
 pub returns-in-None : goal.returns-in-None
 returns-in-None c =
     ap (component_value 64) c.in-None.ensures ∙ value-empty 64
-    ∙ ap (λ (rest : List ℕ). (true, rest)) (sym c.in-None.ensures)
+    ∙ ap (λ (rest : List ℕ). (Whole, rest)) (sym c.in-None.ensures ∙ sym c.whole.ensures.rest)
+    ∙ ap (λ (quality : Quality). (quality, c.whole.result.rest.now)) (sym c.whole.ensures.quality)
 
 pub returns-in-None-opened_kind : goal.returns-in-None-opened_kind
 returns-in-None-opened_kind c =

@@ -2,18 +2,21 @@ use Rattle.std.proofs.Common.{◌∙◌, sym}
 use Rattle.simplecss_text.proofs.reading.EachLemmas.{took}
 use Rattle.css_syntax.specs.Statements.{between_part}
 use Rattle.css_syntax.proofs.Shorter.{each-goes, each-rests}
-use Rattle.css_syntax.proofs.Heads.{between_part-takes}
+use Rattle.css_syntax.proofs.ItemLemmas.{between_part-takes}
 use Rattle.css_syntax.proofs.statements.skip_between.Goals as goal
 
 pub parts-smaller : goal.parts-smaller
 parts-smaller c =
-    took (between_part c.args.nested) (between_part-takes c.args.nested) c.parts.rest.now c.in-Some.after.now tt c.in-Some.ensures
+    took (between_part c.args.in_block) (between_part-takes c.args.in_block) c.parts.rest.now
+    c.in-Some.after.now tt c.in-Some.ensures
 
 pub parts-preserved : goal.parts-preserved
 parts-preserved c =
-    each-goes (between_part c.args.nested) (between_part-takes c.args.nested) c.parts.rest.now c.in-Some.after.now tt c.in-Some.ensures
+    each-goes (between_part c.args.in_block) (between_part-takes c.args.in_block) c.parts.rest.now
+    c.in-Some.after.now tt c.in-Some.ensures
     ∙ c.parts.invariant
 
 pub returns : goal.returns
 returns c =
-    sym (each-rests (between_part c.args.nested) c.parts.rest.now c.in_default.ensures) ∙ c.parts.invariant
+    sym (each-rests (between_part c.args.in_block) c.parts.rest.now c.in_default.ensures)
+    ∙ c.parts.invariant

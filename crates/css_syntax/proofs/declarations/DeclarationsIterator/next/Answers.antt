@@ -1,0 +1,33 @@
+use Rattle.std.proofs.Common.{refl, ap, length, List, arith}
+use Rattle.css_syntax.specs.DeclarationLists.{ListText}
+use Rattle.css_syntax.specs.Views.{list_part_of}
+use Rattle.css_syntax.proofs.ListSteps.{items-some, items-none}
+use Rattle.css_syntax.proofs.declarations.DeclarationsIterator.next.Goals as goal
+
+pub returns-in-Some-clause-steps : goal.returns-in-Some-clause-steps
+returns-in-Some-clause-steps c =
+    let old = c.args.self.now in
+    let found = c.in-Some.found in
+    record {
+      items = items-some old.in_block old.rest.now found.rest.now (list_part_of found.part)
+          c.in-Some.ensures;
+      reads = c.in-Some.ensures;
+      in_block = refl;
+    }
+
+pub returns-in-Some-clause-goes : goal.returns-in-Some-clause-goes
+returns-in-Some-clause-goes c =
+    let old = c.args.self.now in
+    let found = c.in-Some.found in
+    let step = items-some old.in_block old.rest.now found.rest.now (list_part_of found.part) c.in-Some.ensures in
+    record {
+      on = λ _. (tt, tt, omega (arith, ap (λ (l : List ListText). length l) step));
+      keeps = tt;
+      rests = λ _. tt;
+    }
+
+pub returns-in-None-clause-steps : goal.returns-in-None-clause-steps
+returns-in-None-clause-steps c =
+    let old = c.args.self.now in
+    let none = items-none old.in_block old.rest.now c.in-None.ensures in
+    record { items = (none, none); reads = (c.in-None.ensures, refl); in_block = refl }

@@ -1,0 +1,12 @@
+use Rattle.std.proofs.Common.{List, ℕ, ap, subst}
+use Rattle.simplecss_text.specs.Reading.{Ends}
+use Rattle.css_syntax.specs.Statements.{StatementText}
+use Rattle.css_syntax.proofs.ItemLemmas.{statement-ends}
+use Rattle.css_syntax.proofs.statements.read_part.Goals as goal
+
+pub front-requires : goal.front-requires
+front-requires c =
+    let start = c.past_between-start.result.now in
+    subst (λ (r : List ℕ). Ends start r)
+    (ap (λ (found : StatementText × List ℕ). found.1) c.read_statement-found.ensures)
+    (statement-ends c.args.in_block start)

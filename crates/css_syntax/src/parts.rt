@@ -1,0 +1,127 @@
+//! Component values one after another, up to a byte that ends them outside brackets.
+ghost use Rattle.std.specs.Prelude.{◌≡◌, option_map};
+ghost use Rattle.css_syntax.specs.Parts.{Stated, stops_at as stops_at_of, ends_at as ends_at_of};
+ghost use Rattle.css_syntax.specs.Parts.{part as part_of, parts as parts_of};
+
+use crate::component_values::skip_component_value;
+use crate::quality::{Quality, first_flaw};
+use crate::tokens::skip_gap;
+
+/// Which bytes end the parts.
+#[derive(Clone, Copy, Debug)]
+pub struct Stops {
+    /// A semicolon does.
+    pub semicolon: bool,
+    /// An opening brace does.
+    pub open_brace: bool,
+    /// A closing brace does.
+    pub close_brace: bool,
+    /// An exclamation mark, a closing parenthesis and a closing bracket do.
+    pub in_value: bool,
+}
+
+/// Parts that were read.
+#[derive(Clone, Copy)]
+struct ByteParts<'a> {
+    /// Their text, without blanks at its end.
+    text: &'a [u8],
+    /// The first flaw of all.
+    quality: Quality,
+    /// What follows them and the blanks after them.
+    rest: &'a [u8],
+}
+
+/// A part: a component value and the blank after it.
+#[derive(Clone, Copy)]
+struct Part<'a> {
+    /// Its quality.
+    quality: Quality,
+    /// The rest after it.
+    end: &'a [u8],
+    /// The rest after the blank.
+    next: &'a [u8],
+}
+
+/// Parts that were read, as texts.
+#[derive(Clone, Copy)]
+pub struct Parts<'a> {
+    /// Their text, without blanks at its end.
+    pub text: &'a str,
+    /// The first flaw of all.
+    pub quality: Quality,
+    /// What follows them and the blanks after them.
+    pub rest: &'a str,
+}
+
+/// Whether the byte ends the parts.
+fn stops_at(stops: Stops, byte: u8) -> bool
+    ensures { result ≡ stops_at_of stops byte }
+{
+    match byte {
+        b';' => stops.semicolon,
+        b'{' => stops.open_brace,
+        b'}' => stops.close_brace,
+        b'!' | b')' | b']' => stops.in_value,
+        _ => false,
+    }
+}
+
+/// Whether the text ends, or the parts do.
+pub fn ends_at(stops: Stops, bytes: &[u8]) -> bool
+    ensures { result ≡ ends_at_of stops bytes.now }
+{
+    match bytes {
+        [] => true,
+        [byte, ..] => stops_at(stops, *byte),
+    }
+}
+
+/// Skips a part, if they do not end here.
+fn skip_part(stops: Stops, bytes: &[u8]) -> Option<Part<'_>>
+    ensures { part_of stops bytes.now
+        ≡ option_map (λ part. ((part.quality, part.end.now), part.next.now)) result }
+{
+    if ends_at(stops, bytes) {
+        return None;
+    }
+    let skipped = skip_component_value(bytes);
+    Some(Part {
+        quality: skipped.quality,
+        end: skipped.rest,
+        next: skip_gap(skipped.rest),
+    })
+}
+
+/// Reads the parts at the start.
+fn read_byte_parts(stops: Stops, bytes: &[u8]) -> ByteParts<'_>
+    ensures { parts_of stops bytes.now
+        ≡ (record { text = result.text.now; quality = result.quality }, result.rest.now) }
+{
+    let mut end = bytes;
+    let mut rest = bytes;
+    let mut quality = Quality::Whole;
+    'parts: while let Some(part) = skip_part(stops, rest) {
+        quality = first_flaw(quality, part.quality);
+        end = part.end;
+        rest = part.next;
+    }
+    ByteParts {
+        text: &bytes[..bytes.len() - end.len()],
+        quality,
+        rest,
+    }
+}
+
+/// Reads the parts at the start of the text.
+pub fn read_parts(stops: Stops, text: &str) -> Parts<'_>
+    ensures { parts_of stops text.now
+        ≡ (record { text = result.text.now; quality = result.quality }, result.rest.now) }
+{
+    let parts = read_byte_parts(stops, text.as_bytes());
+    let end = text.len() - parts.rest.len();
+    Parts {
+        text: &text[..parts.text.len()],
+        quality: parts.quality,
+        rest: &text[end..],
+    }
+}
