@@ -217,6 +217,17 @@ def sheets_of(name, tree):
     return found
 
 
+def is_beyond(cause):
+    """Whether a rule of the browser is within an at-rule or another rule, or has a selector that the library does not read."""
+    if cause.startswith(("@", "nested")):
+        return True
+    try:
+        simplecss.Tree().select(cause)
+    except simplecss.SelectorError:
+        return True
+    return False
+
+
 def compare_winners(names):
     """Compares which declarations win, by their values as the browser prints them."""
     report = Report()
@@ -228,7 +239,7 @@ def compare_winners(names):
         values.append(sorted({(each, winner.value) for each, winners in zip(PROPERTIES, ours[-1]) for winner in winners if winner}))
     with tempfile.TemporaryDirectory() as folder:
         answers = run_browser({"kind": "winners", "properties": PROPERTIES, "values": values}, [os.path.abspath(name) for name in names], folder)
-    count = differing = 0
+    count = differing = beyond = 0
     causes = collections.Counter()
     for name, winners, asked, answer in zip(names, ours, values, answers):
         known = dict(zip(asked, answer["known"]))
@@ -242,12 +253,13 @@ def compare_winners(names):
                 if value != wanted:
                     differing += 1
                     cause = answer["marks"][at][1] if at >= 0 else "nothing"
+                    beyond += is_beyond(cause)
                     causes[cause.partition("{")[0].strip() if cause.startswith("@") else cause] += 1
                     found.append(f"element {index}, {each}: {mine}, in the browser {wanted} of `{cause}`")
         report.add(name, found)
     for cause, number in causes.most_common(15):
         print(f"{number} differ where the browser has `{cause}`")
-    print(f"{count - differing} of {count} winners are equal")
+    print(f"{count - differing} of {count} winners are equal; {beyond} of the others are of rules that CSS 2.1 does not have")
     return report.end()
 
 

@@ -188,15 +188,15 @@ class Builder:
 
     def build(self) -> Node:
         """Reads the document. Returns its root element."""
+        tokens = self.tokens
         while True:
-            token = self.tokens.next()
+            token = tokens.next()
             self._process(token)
             if token.kind == EOF:
                 while self.open:
                     self._pop()
                 return self.root
-            top = self.open[-1] if self.open else None
-            self.tokens.has_cdata = top is not None and top.space != HTML
+            tokens.has_cdata = bool(self.open) and self.open[-1].space != HTML
 
     # ---- the open elements
 
@@ -313,6 +313,12 @@ class Builder:
 
     def _append(self, child: Union[Node, Text], parent: Optional[Node] = None) -> None:
         """Adds an element or a text at its place."""
+        if not self.is_fostering:
+            target = parent or self.open[-1]
+            if isinstance(child, Node):
+                child.parent = target
+            target.children.append(child)
+            return
         target, before = self._place(parent)
         if isinstance(child, Node):
             child.parent = target
@@ -537,13 +543,13 @@ class Builder:
                 token.start += 1
                 if token.start == token.end:
                     return
-        if self._is_foreign(token):
+        if self.open and self.open[-1].space != HTML and self._is_foreign(token):
             self._in_foreign(token)
         else:
             self.mode(token)
 
     def _is_foreign(self, token: Token) -> bool:
-        if not self.open or self.open[-1].space == HTML or token.kind == EOF:
+        if token.kind == EOF:
             return False
         top = self.open[-1]
         if top.space == MATH and top.name in _MATH_TEXTS:
@@ -722,7 +728,8 @@ class Builder:
             self._in_template(token)
 
     def _text_in_body(self, token: Token) -> None:
-        self._reconstruct()
+        if self.formatting:
+            self._reconstruct()
         self._add_text(token)
         if self.may_be_frames and not is_blank(self.text[token.start : token.end]):
             self.may_be_frames = False

@@ -277,15 +277,20 @@ class Tokenizer:
         offset = found.end() if found else offset
         name = sys.intern(lower(found.group())) if found else ""
         attributes: Dict[str, str] = {}
-        for item in _matches(text, offset):
+        item = _ATTRIBUTE.match(text, offset)
+        while item:
             offset = item.end()
-            value = item.group(2)
+            key, value = item.groups()
             if value is None and _EQUALS.match(text, offset):
                 self.offset = len(text)
                 return None
             if value and value[0] in "\"'":
                 value = value[1:-1]
-            attributes.setdefault(lower(item.group(1)), decode_value(value) if value else "")
+            if not key.islower():
+                key = lower(key)
+            if key not in attributes:
+                attributes[sys.intern(key)] = decode_value(value) if value else ""
+            item = _ATTRIBUTE.match(text, offset)
         end = _TAG_END.match(text, offset)
         if not end:
             self.offset = len(text)

@@ -321,6 +321,8 @@ class Tree:
         self._texts = _Texts(text)
         spans: List[Tuple[int, int, int]] = []
         taken: List[Node] = []
+        names, attributes = self._names, self._attributes
+        parents, depths = self._parents, self._depths
         waiting: List[Tuple[Any, int]] = [(root, -1)]
         if is_part:
             waiting = [(child, -1) for child in reversed(root.children)]
@@ -329,11 +331,15 @@ class Tree:
             if not isinstance(node, Node):
                 self._texts.add(len(taken), parent, node)
                 continue
-            index = self._add(node.name, node.attributes, parent)
+            index = len(taken)
+            names.append(node.name)
+            attributes.append(node.attributes)
+            parents.append(parent)
+            depths.append(0 if parent < 0 else depths[parent] + 1)
             taken.append(node)
             start, inner = node.tag or (-1, -1)
             spans.append((start, inner, node.end[1]))
-            if _is_link(node):
+            if node.name in ("a", "area") and _is_link(node):
                 self._states[index] = _LINK
             if node.space == SVG:
                 self._drawn.add(index)
@@ -601,6 +607,8 @@ class Tree:
 
     def _html_attributes(self, attributes: Dict[str, str]) -> Dict[str, str]:
         """Returns attributes as HTML compares them."""
+        if not attributes:
+            return attributes
         found: Dict[str, str] = {}
         for key, value in attributes.items():
             key = key.lower()
