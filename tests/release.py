@@ -332,6 +332,26 @@ def test_wheel(folder):
     wanted = {"free", "malloc", "memcpy", "memmove", "memset", "realloc"}
     expect(not names or set(re.findall(r" U (\S+)", names)) <= wanted, f"the library imports {re.findall(r' U (.*)', names)}")
     run_on_arm(arm, folder)
+    install_from_checkout(folder)
+
+
+def install_from_checkout(folder):
+    """From a checkout pip makes a wheel with the library for this system, and where there is none, says what to do."""
+    if run([sys.executable, "-c", "import pip, setuptools, wheel"]).returncode:
+        left_out.append("pip install from a checkout: there is no setuptools or no wheel (python3-setuptools, python3-wheel)")
+        return
+    for name in ("python", "include"):
+        shutil.copytree(os.path.join(TOP, name), os.path.join(folder, "checkout", name), ignore=shutil.ignore_patterns("build", "*.egg-info"))
+    words = [sys.executable, "-m", "pip", "wheel", "-q", "--no-build-isolation", "--no-deps", "--disable-pip-version-check", "-w", "made", "./python"]
+    checkout = os.path.join(folder, "checkout")
+    done = run(words, checkout)
+    expect(done.returncode != 0 and b"run ./build library first" in done.stdout + done.stderr, f"pip without a library: {done}")
+    os.makedirs(os.path.join(checkout, "out"))
+    shutil.copy(os.path.join(TOP, "out", "libsimplecss.so"), os.path.join(checkout, "out"))
+    works(words, "pip with a library", checkout)
+    found = glob.glob(os.path.join(checkout, "made", "simplecss-*-py3-none-linux_*.whl"))
+    names = subprocess.run([sys.executable, "-m", "zipfile", "-l", *found], stdout=subprocess.PIPE, check=False).stdout
+    expect(len(found) == 1 and b"simplecss/libsimplecss.so" in names, f"pip makes {found}, with {names}")
 
 
 ARM = """

@@ -44,6 +44,7 @@ GHOST_ITEM = re.compile(r"\s+\w+\s*[:=]\s*(?=\{)", re.A)
 CLAUSE = re.compile(r"(?:\s*\*)?(?:\s+\w+)?\s*(?=\{)", re.A)
 DOCUMENTATION = re.compile(r"(?:[ \t]*///[^\n]*\n)+[ \t]*\Z")
 # What stands between a function's head and a clause: comments on clauses.
+BODY = re.compile(r"\s*([;{])")
 REMARKS = re.compile(r"(?:\s*//(?![/!])[^\n]*(?=\n)|\s)*\Z")
 
 
@@ -128,6 +129,10 @@ class Eraser:
                     raise self.refuse(f"this form of `{found.group()}`")
                 self.at = self.skip_group(clause.end(), "}")
                 self.out = REMARKS.sub("", self.out)
+                body = BODY.match(self.text, self.at)
+                if body:
+                    self.out += " " * (body[1] == "{")
+                    self.at = body.start(1)
             elif kind == "other" and not found.group().isascii() or self.text.startswith("/*", start):
                 raise self.refuse(f"`{self.text[start:start + 2]}`")
             else:
