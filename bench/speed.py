@@ -97,6 +97,65 @@ def made_tree(count):
     return lines
 
 
+def rules(count, selector):
+    """`count` rules, each with its number in the selector."""
+    return "".join(selector.format(i) + " { b:c }\n" for i in range(count))
+
+
+def tree_of(lines):
+    return "\n".join(lines) + "\n"
+
+
+def below(ancestors, count):
+    """Leaves under as many ancestors, each with four classes of its own."""
+    path = [f"{i}\tdiv\tclass=a{i}w a{i}x a{i}y a{i}z" for i in range(ancestors)]
+    return tree_of(path + [f"{ancestors}\tp\tclass=leaf"] * count)
+
+
+def children(words_of_parent, count):
+    """Children of a parent of so many words."""
+    words_of_it = " ".join(f"w{i}" for i in range(words_of_parent))
+    return tree_of([f"0\tr\tclass={words_of_it}"] + ["1\ta"] * count)
+
+
+def utilities(count):
+    """Elements with 8 of 400 classes, each of which sets one thing, in boxes of eight."""
+    chosen = lambda i: " ".join(f"u-{(i * 37 + 53 * k * k + 11 * k) % 400}" for k in range(8))
+    return tree_of(f"{0 if i == 0 else 1 + (i % 8 > 0) + (i % 64 > 7)}\tdiv\tclass={chosen(i)}" for i in range(count))
+
+
+def utility_sheet(count):
+    """Rules of a sheet of utility classes: alone, in a state, and within another."""
+    shapes = [".u-{0}", ".u-{0}:hover", ".u-{1} .u-{0}", ".u-{0} > p", ".u-{0}.u-{1}"]
+    return "".join(shapes[i % 5].format(i % 400, i * 7 % 400) + " { b:c }\n" for i in range(count))
+
+
+def chains(count, length):
+    """Chains of elements, each in the one before."""
+    return tree_of(f"{i}\tdiv\tclass=c{i % 97}" for _ in range(count) for i in range(length))
+
+
+def classed(count):
+    """Elements with one of 1,000 classes."""
+    return tree_of(["0\tbody"] + [f"1\tp\tclass=k{i * 7 % 1000}" for i in range(count)])
+
+
+def drawing(count):
+    """The paths of a drawing, in groups, with attributes of usual lengths."""
+    lines = ["0\tsvg\tviewBox=0 0 900 900"]
+    for i in range(count):
+        if i % 40 == 0:
+            lines.append(f"1\tg\tid=g{i}\ttransform=translate({i % 90},{i % 70})")
+        d = "".join(f"L{(i * k) % 900}.{k} {(i + k) % 900}" for k in range(2 + i % 9))
+        lines.append(f"2\tpath\td=M{i % 900} 0{d}z\tfill=#{i % 4096:03x}\tstroke=none\tstroke-width=0.5")
+    return tree_of(lines)
+
+
+def long_values(count):
+    """Elements with a value of 1,000 bytes before four other attributes."""
+    return tree_of(["0\tsvg"] + ["1\tpath\td=" + "M0 0L9 9z " * 100 + "\tfill=red\tstroke=none\tx=1\ty=2"] * count)
+
+
 def put(name, text):
     path = os.path.join(words.out, name)
     with open(path, "w", encoding="utf-8") as file:
@@ -105,7 +164,7 @@ def put(name, text):
 
 
 def timed(binary, args):
-    """The processor time of a run, and its output."""
+    """The processor time of a run in milliseconds, the most memory that was resident in MB, and its output."""
     with tempfile.TemporaryFile() as output, open(os.devnull, "r+b") as null:
         child = subprocess.Popen([binary, *args], stdin=null, stdout=output, stderr=null)
         _, status, usage = os.wait4(child.pid, 0)
@@ -113,24 +172,26 @@ def timed(binary, args):
         if child.returncode != 0:
             sys.exit(f"{binary} ends with {child.returncode} at {args}")
         output.seek(0)
-        return 1000 * (usage.ru_utime + usage.ru_stime), output.read()
+        return 1000 * (usage.ru_utime + usage.ru_stime), usage.ru_maxrss / 1000, output.read()
 
 
 def compared(args, runs):
-    """The least time of each program that has the command, one run of each after another, and None for one that has not."""
+    """The least time and memory of each program that has the command, one run of each after another, and None for one that has not."""
     programs = [program, *(path if args[0] in commands else None for _, _, path, commands in others)]
     best = [path and float("inf") for path in programs]
+    most = [path and float("inf") for path in programs]
     for _ in range(runs):
         answer = None
         for number, path in enumerate(programs):
             if not path:
                 continue
-            spent, output = timed(path, args)
+            spent, memory, output = timed(path, args)
             best[number] = min(best[number], spent)
+            most[number] = min(most[number], memory)
             if answer not in (None, output):
                 sys.exit(f"{path} answers otherwise to {args}")
             answer = output
-    return best
+    return best, most
 
 
 css = fetched("libjs-bootstrap4", "bootstrap.css")
@@ -149,8 +210,8 @@ curves = {"reading": [], "matching": []}
 
 
 def row(what, args, runs=words.runs):
-    best = compared(args, runs)
-    rows.append((what, best))
+    best, most = compared(args, runs)
+    rows.append((what, best, most))
     print(f"{what:44}" + "".join(f" {b:12.1f} ms" if b else " " * 16 for b in best), flush=True)
     return best
 
@@ -176,6 +237,21 @@ if not words.quick:
     row("match: 10 rule sets on 300,000 elements", ["match", put("few.css", made_sheet(10)), long], 3)
     row("match: an empty sheet on 300,000 elements", ["match", put("empty.css", ""), long], 3)
     row("style: color on the page", ["style", sheet, whole, "color"], 3)
+    leaf = put("leaf.css", rules(200, ".q{0} .leaf"))
+    states = put("drawing.css", "path { b:c }\n[fill] { b:c }\ng > path { b:c }\n#g40 path { b:c }\n")
+    deep = put("deep.css", rules(97, ".c{0} div") + "div { b:c }\n")
+    for what, css, tree in [
+        ("200 rules on 2,000 leaves under 50 ancestors", leaf, below(50, 2_000)),
+        ("200 rules on 300 leaves under 500 ancestors", leaf, below(500, 300)),
+        ("utility classes, 1,800 rules on 8,000 elements", put("utility.css", utility_sheet(1_800)), utilities(8_000)),
+        ("children of a parent of 1,000 words", put("children.css", rules(20, ".x{0} > *")), children(1_000, 300_000)),
+        ("1,000 classes on 20,000 elements", put("classes.css", rules(1_000, ".k{0}")), classed(20_000)),
+        ("40 chains of 500 elements", deep, chains(40, 500)),
+        ("a chain of 20,000 elements", deep, chains(1, 20_000)),
+        ("a drawing of 18,401 elements", states, drawing(17_952)),
+        ("values of 1,000 bytes, 2,000 elements", states, long_values(2_000)),
+    ]:
+        row(f"match: {what}", ["match", css, put("made.tree", tree)], words.runs)
 
 
 def picture():
@@ -219,11 +295,11 @@ def processor():
 
 table = [f"Machine: {processor()}, {os.cpu_count()} processors. Date: {time.strftime('%Y-%m-%d')}. Texts: {source}.", ""]
 names = [name for name, _, _, _ in others]
-table.append("| | `cssq`, ms |" + "".join(f" {name}, ms | times |" for name in names))
-table.append("|---|---|" + "---|---|" * len(names))
-for what, best in rows:
+table.append("| | `cssq`, ms |" + "".join(f" {name}, ms | times |" for name in names) + " `cssq`, MB |" + "".join(f" {name}, MB |" for name in names))
+table.append("|---|---|" + "---|---|" * len(names) + "---|" + "---|" * len(names))
+for what, best, most in rows:
     ours = best[0]
-    table.append(f"| {what} | {ours:.1f} |" + "".join(f" {b:.1f} | {b / ours:.2f} |" if b else " | |" for b in best[1:]))
+    table.append(f"| {what} | {ours:.1f} |" + "".join(f" {b:.1f} | {b / ours:.2f} |" if b else " | |" for b in best[1:]) + "".join(f" {m:.1f} |" if m else " |" for m in most))
 put("speed.md", "\n".join(table) + "\n")
 put("speed.svg", picture())
 print(f"written: {os.path.join(words.out, 'speed.md')} and speed.svg")

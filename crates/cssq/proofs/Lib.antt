@@ -9,3 +9,4 @@ pub mod BestIndices
 pub mod Indexed
 pub mod Among
 pub mod ListedIndices
+pub mod Walking

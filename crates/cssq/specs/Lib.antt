@@ -8,6 +8,7 @@ pub mod Winners
 pub mod RuleWinners
 pub mod StyleRuns
 pub mod PageRuns
+pub mod internal
 -- What contracts of trees name, under the names of this crate.
 pub use Rattle.cssq_page.specs.TreeText
 pub use Rattle.cssq_page.specs.ParentsAndSiblings

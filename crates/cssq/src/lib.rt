@@ -6,5 +6,6 @@ pub mod cascade;
 pub mod command;
 pub mod laws;
 pub mod runs;
+mod walk;
 
 pub use cssq_page::tree;

@@ -1,7 +1,7 @@
 //! What the program's commands do, over any writer.
 
 ghost use Rattle.std.specs.Prelude.{◌≡◌, ◌+◌, ◌^◌, ◌<◌, ◌++◌, Some, All, OnOk, OnErr, IfErr, IfOk, Ok};
-ghost use Rattle.std.specs.Prelude.{ℕ, List, [], ◌∷◌, length, map, string_bytes};
+ghost use Rattle.std.specs.Prelude.{ℕ, List, [], ◌∷◌, length, map, string_bytes, decimal};
 ghost use Rattle.std.specs.List.{flat_map};
 ghost use Rattle.std.specs.Option.{option_map};
 ghost use Rattle.std.specs.Fmt.{WritesStyledOnOk};
@@ -13,6 +13,7 @@ ghost use Rattle.cssq.specs.SheetRuns.{sheet_output, IsSheetRun};
 ghost use Rattle.cssq.specs.MatchRuns.{numbers_line, IsMatchRun};
 ghost use Rattle.cssq.specs.StyleRuns.{style_line, IsStyleRun};
 ghost use Rattle.cssq.specs.PageRuns.{AppendsElementLine, AreElementLines, IsPageRun};
+ghost use Rattle.cssq.specs.internal.Walks.{IsWalkOf};
 ghost use Rattle.cssq.specs.declared.runs.RunFault.TheVariants.{Memory};
 ghost use Rattle.simplecss.specs.DeclarationViews.{declaration_of};
 ghost use Rattle.simplecss.specs.Sheets.{sheet as sheet_of};
@@ -21,9 +22,11 @@ ghost use Rattle.simplecss.specs.ThisEdition.{this_edition};
 ghost use Rattle.simplecss.specs.RuleViews.{rules_of, rules_in};
 
 use crate::cascade::winning_among;
+use crate::walk::Walk;
 use cssq_page::tree::{Page, TreeFault};
+use itoa::Buffer;
 use log::Log;
-use simplecss::{Declaration, Recent, Report, Rule, RuleIndex, Selector, StyleSheet, Warnings};
+use simplecss::{Declaration, Report, Rule, RuleIndex, Selector, StyleSheet, Warnings};
 use std::alloc::{AllocError, AllocFailed, Global};
 use std::error::Error;
 use std::fmt;
@@ -229,16 +232,26 @@ pub fn run_sheet_into<'a, P: Report<'a>, W: Write>(
     write_out(out, text.as_bytes())
 }
 
+/// Adds the digits of a number. A formatter would take several times as long.
+#[inline(always)]
+fn push_number(out: &mut String, number: usize) -> Result<(), AllocError>
+    ensures { OnOk result (string_bytes out.new ≡ string_bytes out.old ++ decimal number) }
+{
+    let mut digits = Buffer::new();
+    out.push_str(digits.format(number))
+}
+
 /// Adds the line of an element: its number, and the numbers of the rules with these indices.
 fn push_line(out: &mut String, number: usize, indices: &[usize]) -> Result<(), AllocError>
     requires { All (λ index. index + 1 < 2 ^ 64) indices.now }
     ensures { OnOk result (string_bytes out.new
         ≡ string_bytes out.old ++ numbers_line number (map (λ index. index + 1) indices.now)) }
 {
-    write!(out, "{number}:")?;
+    push_number(out, number)?;
+    out.push(':')?;
     for index in indices {
-        let rule_number = *index + 1;
-        write!(out, " {rule_number}")?;
+        out.push(' ')?;
+        push_number(out, *index + 1)?;
     }
     out.push('\n')
 }
@@ -274,8 +287,8 @@ pub enum LineContent<'n> {
     Winner(&'n str),
 }
 
-/// Adds the line of an element of a page by an index of the rules and what it found for earlier
-/// elements; `element` is the index of the element. The previous items of `indices` are dropped.
+/// Adds the line of an element of a page by an index of the rules and the open elements; `element`
+/// is the index of the element. The previous items of `indices` are dropped.
 fn push_element<'a>(
     out: &mut String,
     content: LineContent<'_>,
@@ -284,19 +297,20 @@ fn push_element<'a>(
     page: &Page<'_>,
     element: usize,
     indices: &mut Vec<usize>,
-    recent: &mut Recent<'a>,
+    walk: &mut Walk<'a>,
 ) -> Result<(), AllocError>
     requires index { index.now ≡ map (λ rule. rule.selector) rules.now }
     requires element { element < length page.now }
     requires number { element + 1 < 2 ^ 64 }
-    requires recent { recent.old ≡ index.now }
+    requires path { walk.old.path.selectors ≡ index.now }
+    requires walk { IsWalkOf page.now walk.old }
     ensures reported { OnOk result (AppendsElementLine content.entry
         (rules_of rules.now) page.now element
         (string_bytes out.old) (string_bytes out.new)) }
-    ensures recent { recent.new ≡ recent.old }
+    ensures walk { OnOk result (IsWalkOf page.now walk.new) }
+    ensures path { OnOk result (walk.new.path.selectors ≡ walk.old.path.selectors) }
 {
-    let node = page.node(element).unwrap();
-    index.matching_recent(rules, &node, indices, recent)?;
+    walk.matching(index, rules, page, element, indices)?;
     let indices = indices.as_slice();
     match content {
         LineContent::Rules => push_line(out, element + 1, indices),
@@ -322,8 +336,8 @@ pub fn page_lines<'a>(
     ensures fault { IfErr result (λ fault. fault ≡ RunFault.Memory) }
 {
     let mut indices = Vec::new(alloc);
-    let mut recent = Recent::new(alloc, index)?;
-    let mut text = String::new(alloc);
+    let mut walk = Walk::new(alloc, index)?;
+    let mut text = String::with_capacity(alloc, page.len().saturating_mul(8))?;
     for element in 0..page.len() {
         push_element(
             &mut text,
@@ -333,7 +347,7 @@ pub fn page_lines<'a>(
             page,
             element,
             &mut indices,
-            &mut recent,
+            &mut walk,
         )?;
     }
     Ok(text)
@@ -356,25 +370,27 @@ fn tree_output(
     page_lines(alloc, content, &index, rules, &page)
 }
 
-/// What `run_match` and `run_style` write. The sheet is read first, then the tree.
+/// What `run_match` and `run_style` write. The sheet is read first, into `kept`, then the tree.
 fn page_output<'a, P: Report<'a>>(
     report: &mut P,
     alloc: Global,
     content: LineContent<'_>,
     sheet: &'a str,
     tree: &str,
+    kept: &mut StyleSheet<'a>,
 ) -> Result<String, RunFault>
     ensures ok { IfOk result
         (λ text. IsPageRun content.entry sheet.now tree.now (Ok (string_bytes text))) }
     ensures fault { IfErr result (FailsBeforeWriting (IsPageRun content.entry sheet.now tree.now)) }
     ensures reported { OnOk result (P.state report.new
         ≡ add_each P.add (P.state report.old) (skipped this_edition sheet.now)) }
+    ensures read { OnOk result (rules_in kept.new ≡ sheet_of this_edition (sheet.now ∷ [])) }
 {
-    let sheet = match StyleSheet::parse_reporting(report, alloc, sheet) {
+    *kept = match StyleSheet::parse_reporting(report, alloc, sheet) {
         Ok(sheet) => sheet,
         Err(_) => return Err(RunFault::Memory),
     };
-    tree_output(alloc, content, sheet.rules.as_slice(), tree)
+    tree_output(alloc, content, kept.rules.as_slice(), tree)
 }
 
 /// Writes the lines of the elements of a tree. The whole output is built first.
@@ -384,14 +400,16 @@ fn run_page<'a, P: Report<'a>, W: Write>(
     content: LineContent<'_>,
     sheet: &'a str,
     tree: &str,
+    kept: &mut StyleSheet<'a>,
     out: &mut W,
 ) -> Result<(), RunFault>
     ensures run { Writes (IsPageRun content.entry sheet.now tree.now) result (W.contents out.old)
         (W.contents out.new) }
     ensures reported { OnOk result (P.state report.new
         ≡ add_each P.add (P.state report.old) (skipped this_edition sheet.now)) }
+    ensures read { OnOk result (rules_in kept.new ≡ sheet_of this_edition (sheet.now ∷ [])) }
 {
-    let text = page_output(report, alloc, content, sheet, tree)?;
+    let text = page_output(report, alloc, content, sheet, tree, kept)?;
     write_out(out, text.as_bytes())
 }
 
@@ -427,7 +445,27 @@ pub fn run_match_reporting<'a, P: Report<'a>, W: Write>(
     ensures reported { OnOk result (P.state report.new
         ≡ add_each P.add (P.state report.old) (skipped this_edition sheet.now)) }
 {
-    run_page(report, alloc, LineContent::Rules, sheet, tree, out)
+    let mut kept = StyleSheet::new(alloc);
+    run_match_into(report, alloc, sheet, tree, &mut kept, out)
+}
+
+/// Does what [`run_match_reporting`] does, and leaves the sheet that was read in `kept`, so that a
+/// program that then ends need not drop it. After an error, `kept` may be unchanged.
+pub fn run_match_into<'a, P: Report<'a>, W: Write>(
+    report: &mut P,
+    alloc: Global,
+    sheet: &'a str,
+    tree: &str,
+    kept: &mut StyleSheet<'a>,
+    out: &mut W,
+) -> Result<(), RunFault>
+    ensures run { Writes (IsMatchRun sheet.now tree.now) result (W.contents out.old)
+        (W.contents out.new) }
+    ensures read { OnOk result (rules_in kept.new ≡ sheet_of this_edition (sheet.now ∷ [])) }
+    ensures reported { OnOk result (P.state report.new
+        ≡ add_each P.add (P.state report.old) (skipped this_edition sheet.now)) }
+{
+    run_page(report, alloc, LineContent::Rules, sheet, tree, kept, out)
 }
 
 /// Writes for each element of a tree its number from 1, a colon, and where a declaration of the
@@ -464,5 +502,34 @@ pub fn run_style_reporting<'a, P: Report<'a>, W: Write>(
     ensures reported { OnOk result (P.state report.new
         ≡ add_each P.add (P.state report.old) (skipped this_edition sheet.now)) }
 {
-    run_page(report, alloc, LineContent::Winner(name), sheet, tree, out)
+    let mut kept = StyleSheet::new(alloc);
+    run_style_into(report, alloc, sheet, tree, name, &mut kept, out)
+}
+
+/// Does what [`run_style_reporting`] does, and leaves the sheet that was read in `kept`, so that a
+/// program that then ends need not drop it. After an error, `kept` may be unchanged.
+pub fn run_style_into<'a, P: Report<'a>, W: Write>(
+    report: &mut P,
+    alloc: Global,
+    sheet: &'a str,
+    tree: &str,
+    name: &str,
+    kept: &mut StyleSheet<'a>,
+    out: &mut W,
+) -> Result<(), RunFault>
+    ensures run { Writes (IsStyleRun sheet.now tree.now name.now) result (W.contents out.old)
+        (W.contents out.new) }
+    ensures read { OnOk result (rules_in kept.new ≡ sheet_of this_edition (sheet.now ∷ [])) }
+    ensures reported { OnOk result (P.state report.new
+        ≡ add_each P.add (P.state report.old) (skipped this_edition sheet.now)) }
+{
+    run_page(
+        report,
+        alloc,
+        LineContent::Winner(name),
+        sheet,
+        tree,
+        kept,
+        out,
+    )
 }

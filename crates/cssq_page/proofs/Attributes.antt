@@ -68,6 +68,10 @@ module _ (lines : List Line) (page : List Row) (index : ℕ) (l : Line) (view : 
       (within_longer (parent_index (depths_of page) index) index (length page) (omega arith)
       (parent_within (depths_of page) index))
 
+  pub parent_earlier : AreLinked lines → IfSome l.parent (λ j. j < index)
+  parent_earlier linked = subst (λ r. IfSome r (λ j. j < index)) (sym (parent_kept linked))
+      (parent_within (depths_of page) index)
+
   pub previous_in : AreLinked lines → IfSome l.previous (λ j. j < length page)
   previous_in linked = subst (λ r. IfSome r (λ j. j < length page)) (sym (previous_kept linked))
       (within_longer (previous_index (depths_of page) index) index (length page) (omega arith)

@@ -5,6 +5,7 @@ use Rattle.std.specs.Prelude.{bytes_eq, ◌||◌, not}
 use Rattle.std.specs.List.{slice_get, filter_map, cons_option, range_with_len}
 use Rattle.std.proofs.lemmas.Grind.{common_steps}
 use Rattle.std.proofs.lemmas.List.{length-append}
+use Rattle.std.proofs.Math.Seq.{take-append_seam}
 use Rattle.cssq_page.specs.declared.tree.TreeFault.{TreeFault}
 use Rattle.cssq_page.specs.declared.tree.TreeFault.TheVariants.{BadDepth, EmptyName, NoEquals, RepeatedKey, Memory}
 use Rattle.cssq_page.specs.TreeText.{key_of, has_key, has_equals, field_fault, fault_of_field, field_faults}
@@ -140,6 +141,18 @@ module _ {number : ℕ} {all rest : List (List ℕ)} {count : ℕ} (c : Counted 
         (ap (λ l. has_key l (key_of field)) (sym (front_is c)) ∙ new);
     counted = length-append c.before (field ∷ []) ∙ ap (λ n. n + 1) c.counted;
   }
+
+  -- the fields that were examined, with one more
+  pub front_more : take (count + 1) all ≡ take count all ++ field ∷ []
+  front_more =
+      let longer : length (c.before ++ field ∷ []) ≡ count + 1 =
+      length-append c.before (field ∷ []) ∙ ap (λ n. n + 1) c.counted in
+      let whole : all ≡ (c.before ++ field ∷ []) ++ others =
+      c.passed.whole ∙ ap (λ l. c.before ++ l) is ∙ sym (append_assoc c.before (field ∷ []) others) in
+      ap (take (count + 1)) whole
+      ∙ ap (λ n. take n ((c.before ++ field ∷ []) ++ others)) (sym longer)
+      ∙ take-append_seam (c.before ++ field ∷ []) others
+      ∙ ap (λ l. l ++ field ∷ []) (sym (front_is c))
 
 -- ---- what is reported of the fields
 

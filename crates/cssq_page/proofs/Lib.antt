@@ -9,3 +9,5 @@ pub mod LineJoins
 pub mod Attributes
 pub mod PageLines
 pub mod AboveLines
+pub mod Marking
+pub mod NearCounts

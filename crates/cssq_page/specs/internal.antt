@@ -3,3 +3,4 @@ pub mod EntryLines
 pub mod Spans
 pub mod LastIndices
 pub mod Siblings
+pub mod Marks

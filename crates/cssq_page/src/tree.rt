@@ -16,11 +16,13 @@ ghost use Rattle.cssq_page.specs.PageNodes.{spot, name_at, attribute_at, value_i
 ghost use Rattle.simplecss_selector.specs.KeyBits.{CoversAncestors};
 ghost use Rattle.cssq_page.specs.internal.EntryLines.{depths, AreLinked, IsReportedFor, Says};
 ghost use Rattle.cssq_page.specs.internal.EntryLines.{IsAdded};
+ghost use Rattle.cssq_page.specs.internal.Marks.{mark_of, AreMarked};
 ghost use Rattle.cssq_page.specs.internal.Spans.{AreValues, IsCut, text_in};
 
 mod entry;
 
 use entry::{Entry, Values};
+use memchr::memchr;
 use simplecss_selector::{AttributeOperator, Element, Keyed, PseudoClass};
 use std::alloc::{AllocError, Global};
 use std::collections::BTreeSet;
@@ -87,16 +89,42 @@ struct Line<'t> {
 /// How many attribute fields are compared in pairs.
 const FEW: usize = 16;
 
-/// How many bytes precede the first such byte. All of them do where there is none.
+/// How many bytes are looked at one by one, before the others are searched several at a time.
+const NEAR: usize = 16;
+
+/// How many bytes precede the first such byte, one by one. All of them do where there is none.
 #[inline(always)]
-fn count_before(bytes: &[u8], byte: u8) -> usize
+fn count_near(bytes: &[u8], byte: u8) -> usize
     ensures { result ≡ position_or_len (λ b. b == byte) bytes.now }
 {
     bytes.iter().take_while(|b| **b != byte).count()
 }
 
-/// How many bytes of a text precede the first such byte. All of them do where there is none. Fields
-/// are short: a loop finds their ends sooner than `str::find`.
+/// Does what [`count_near`] does, several bytes at a time.
+fn count_far(bytes: &[u8], byte: u8) -> usize
+    ensures { result ≡ position_or_len (λ b. b == byte) bytes.now }
+{
+    memchr(byte, bytes).unwrap_or(bytes.len())
+}
+
+/// How many bytes precede the first such byte. All of them do where there is none. Most fields are
+/// short: a loop finds their ends sooner than a search of several bytes at a time.
+#[inline(always)]
+fn count_before(bytes: &[u8], byte: u8) -> usize
+    ensures { result ≡ position_or_len (λ b. b == byte) bytes.now }
+{
+    if bytes.len() <= NEAR {
+        return count_near(bytes, byte);
+    }
+    let near = count_near(&bytes[..NEAR], byte);
+    if near < NEAR {
+        near
+    } else {
+        count_far(bytes, byte)
+    }
+}
+
+/// How many bytes of a text precede the first such byte. All of them do where there is none.
 #[inline(always)]
 fn len_before(text: &str, byte: u8) -> usize
     requires { byte < 128 }
@@ -173,6 +201,32 @@ fn spelled_depth(field: &str, limit: usize) -> Option<usize>
     if depth <= limit { Some(depth) } else { None }
 }
 
+/// Returns one of 64 bits for a key, by its length and its first byte. Equal keys have the same bit;
+/// different keys may share one.
+#[inline(always)]
+fn mark_of(key: &str) -> u64
+    ensures { result ≡ mark_of key.now }
+{
+    match key.as_bytes() {
+        [] => 1,
+        [first, ..] => 1 << ((key.len() % 64 * 7 + usize::from(*first)) % 64),
+    }
+}
+
+/// Whether one of the first fields has the key. `seen` has the bit of each of their keys, so most
+/// keys are compared with none.
+#[inline(always)]
+fn is_repeated(all: &str, count: usize, seen: u64, key: &str) -> bool
+    requires { AreMarked (take count (fields_of all.now)) seen }
+    ensures { result ≡ has_key (take count (fields_of all.now)) key.now }
+{
+    let mark = mark_of(key);
+    if seen | mark != seen {
+        return false;
+    }
+    has_key(Some(all), count, key)
+}
+
 /// Whether one of the first fields has the key.
 fn has_key(fields: Option<&str>, count: usize, key: &str) -> bool
     ensures { result ≡ has_key (take count (fields_in fields.entry)) key.now }
@@ -227,17 +281,19 @@ fn read_each(number: usize, all: &str, are_sound: bool) -> Result<Values, TreeFa
     let mut values = Values::none();
     let mut rest = Some(all);
     let mut count = 0;
+    let mut seen = 0;
     while let Some(text) = rest {
         let (field, others) = cut_field(text);
         let Some((key, value)) = cut_attribute(field) else {
             return Err(TreeFault::NoEquals(number));
         };
-        if !are_sound && has_key(Some(all), count, key) {
+        if !are_sound && is_repeated(all, count, seen, key) {
             return Err(TreeFault::RepeatedKey(number));
         }
         let at = all.len() - text.len() + key.len() + 1;
         values = values.with(key, at, value.len());
         count += 1;
+        seen |= mark_of(key);
         rest = others;
     }
     Ok(values)
@@ -484,9 +540,10 @@ impl<'t> Page<'t> {
 
     /// The index of the parent of the element at an index.
     #[inline(always)]
-    fn parent(&self, index: usize) -> Option<usize>
+    pub fn parent(&self, index: usize) -> Option<usize>
         requires { index < length self.now }
         ensures value { result ≡ parent_index (depths_of self.now) index }
+        ensures before { IfSome result (λ parent. parent < index) }
         ensures within { IfSome result (λ parent. parent < length self.now) }
     {
         self.lines[index].parent

@@ -19,15 +19,10 @@ found : (c : After-as_slice-indices)
     → AreMatches page_tree (spot c.args.page.now c.args.element)
     (map (λ rule. rule.selector) c.args.rules.now) c.as_slice-indices.result.now
 found c =
-    let at = subst (λ r. MatchOption r (length c.args.page.now ≤ c.args.element) (λ node.
-    (c.args.element < length c.args.page.now) × (node ≡ spot c.args.page.now c.args.element)))
-    c.unwrap-node.ensures c.node.ensures in
-    subst (λ node. AreMatches page_tree node
-    (map (λ rule. rule.selector) c.args.rules.now) c.as_slice-indices.result.now) at.1
-    (subst (λ selectors. AreMatches page_tree c.unwrap-node.result selectors
+    subst (λ selectors. AreMatches page_tree (spot c.args.page.now c.args.element) selectors
     c.as_slice-indices.result.now) c.requires.index
-    (subst (AreMatches page_tree c.unwrap-node.result c.args.index.now)
-    (sym c.as_slice-indices.ensures.value) c.in_ok-matching_recent.ensures.matches))
+    (subst (AreMatches page_tree (spot c.args.page.now c.args.element) c.args.index.now)
+    (sym c.as_slice-indices.ensures.value) c.in_ok-matching.ensures.matches)
 
 pub push_line-requires : goal.push_line-requires
 push_line-requires c = λ k d within.
@@ -70,3 +65,20 @@ returns-in-Winner-clause-reported c =
     (string_bytes c.args.out.now) (string_bytes c.push_winner.new.out))) (sym c.in-Winner.is)
     (on_ok_weaker c.push_winner.result (λ wrote.
     (style_line (c.args.element + 1) winner, (winner, wins, refl), wrote)) c.push_winner.ensures)
+
+pub returns-in-Rules-clause-walk : goal.returns-in-Rules-clause-walk
+returns-in-Rules-clause-walk c =
+    on_ok_weaker c.push_line.result (λ wrote. c.in_ok-matching.ensures.walk) c.push_line.ensures
+
+pub returns-in-Rules-clause-path : goal.returns-in-Rules-clause-path
+returns-in-Rules-clause-path c =
+    on_ok_weaker c.push_line.result (λ wrote. c.in_ok-matching.ensures.index) c.push_line.ensures
+
+pub returns-in-Winner-clause-walk : goal.returns-in-Winner-clause-walk
+returns-in-Winner-clause-walk c =
+    on_ok_weaker c.push_winner.result (λ wrote. c.in_ok-matching.ensures.walk) c.push_winner.ensures
+
+pub returns-in-Winner-clause-path : goal.returns-in-Winner-clause-path
+returns-in-Winner-clause-path c =
+    on_ok_weaker c.push_winner.result (λ wrote. c.in_ok-matching.ensures.index)
+    c.push_winner.ensures

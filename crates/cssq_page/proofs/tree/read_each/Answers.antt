@@ -1,12 +1,13 @@
 use Rattle.std.proofs.Common.{◌≡◌, take, sym, ap, ◌∙◌, arith, subst, false}
 use Rattle.std.specs.Prelude.{codes}
 use Rattle.cssq_page.specs.TreeText.{fields_in, fields_of, has_key, key_of}
-use Rattle.cssq_page.proofs.Fields.{counted_none, counted_more, left, left_less, new_if_sound}
+use Rattle.cssq_page.proofs.Fields.{counted_none, counted_more, front_more, left, left_less, new_if_sound}
 use Rattle.cssq_page.proofs.FirstValues.{span_none, span_next, OthersAre, others_none, others_more}
 use Rattle.cssq_page.proofs.ValueSpans.{end_all, end_more, value_here}
 use Rattle.cssq_page.specs.internal.Spans.{IsEnd}
+use Rattle.cssq_page.proofs.Marking.{marked_none, marked_next}
 use Rattle.cssq_page.proofs.tree.read_each.Goals as goal
-use Rattle.cssq_page.proofs.tree.read_each.Goals.{else-not-are_sound-via-then-not-are_sound+else-has_key, else-not-are_sound-via-else-not-are_sound}
+use Rattle.cssq_page.proofs.tree.read_each.Goals.{else-not-are_sound-via-then-not-are_sound+else-is_repeated, else-not-are_sound-via-else-not-are_sound}
 
 pub loop-rest-init : goal.loop-rest-init
 loop-rest-init c = record {
@@ -19,6 +20,7 @@ loop-rest-init c = record {
       (fields_of c.args.all.now) c.none-values.result.id c.none-values.ensures.id;
   others = subst (OthersAre (fields_of c.args.all.now) (fields_of c.args.all.now))
       (sym c.none-values.ensures.others) (others_none (fields_of c.args.all.now));
+  marked = marked_none 0;
 }
 
 pub loop-rest-preserved : goal.loop-rest-preserved
@@ -36,9 +38,9 @@ loop-rest-preserved c =
     c.in-Some-cut_attribute.key.now c.in-Some-cut_attribute.value.now key_is value_is c.utf8.all in
     let new : has_key (take c.loop-rest.count (fields_of c.args.all.now)) (key_of field) ≡ false =
     elim c.else-not-are_sound.branch [
-      | else-not-are_sound-via-then-not-are_sound+else-has_key w ↦
+      | else-not-are_sound-via-then-not-are_sound+else-is_repeated w ↦
           ap (has_key (take c.loop-rest.count (fields_of c.args.all.now))) (sym key_is)
-          ∙ sym w.has_key.ensures ∙ w.if-has_key.false
+          ∙ sym w.is_repeated.ensures ∙ w.if-is_repeated.false
       | else-not-are_sound-via-else-not-are_sound w ↦ new_if_sound c.loop-rest.invariant.passed
           field later is some (c.requires w.if-not-are_sound.false)
     ] in
@@ -58,4 +60,7 @@ loop-rest-preserved c =
           c.in-Some-cut_attribute.value.now key_is value_is _ _ _ c.with-values.ensures.id here;
       others = others_more c.loop-rest.invariant.others field later is
           c.in-Some-cut_attribute.key.now key_is _ c.with-values.ensures.others;
+      marked = marked_next (take c.loop-rest.count (fields_of c.args.all.now)) _ c.loop-rest.seen
+          c.mark_of-seen.result field c.in-Some-cut_attribute.key.now c.loop-rest.invariant.marked
+          (front_more c.loop-rest.invariant.passed field later is) c.mark_of-seen.ensures key_is;
     }

@@ -1,7 +1,8 @@
-use Rattle.std.proofs.Common.{◌≤◌, ◌+◌, length}
+use Rattle.std.proofs.Common.{◌≤◌, ◌+◌, length, take}
 use Rattle.std.specs.Prelude.{codes}
 use Rattle.cssq_page.specs.TreeText.{fields_in, fields_of}
 use Rattle.cssq_page.specs.internal.Spans.{IsEnd}
+use Rattle.cssq_page.specs.internal.Marks.{AreMarked}
 use Rattle.cssq_page.proofs.Fields.{Counted, left}
 use Rattle.cssq_page.proofs.FirstValues.{SpanSoFar, OthersAre}
 use Rattle.cssq_page.proofs.tree.read_each.Given as goal
@@ -14,6 +15,7 @@ invariant-loop-rest l = record {
   class : SpanSoFar l.all (codes "class") (fields_of l.all) (fields_in l.rest) l.values.class;
   id : SpanSoFar l.all (codes "id") (fields_of l.all) (fields_in l.rest) l.values.id;
   others : OthersAre (fields_of l.all) (fields_in l.rest) l.values.others;
+  marked : AreMarked (take l.count (fields_of l.all)) l.seen;
 }
 
 abbrev pub decreases-loop-rest : goal.decreases-loop-rest
