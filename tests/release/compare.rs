@@ -64,7 +64,7 @@ fn answers(tree: &Tree, text: &str) -> [String; 5] {
         let [a, b, c] = it.specificity();
         format!("{it}\t{a},{b},{c}\n")
     });
-    let faults = find_faults(text).iter().map(|it| format!("{}:{}:{}\n", it.pos, it.reason, it.quote()));
+    let faults = find_faults(text).into_iter().map(|it| format!("{}:{}:{}\n", it.pos, it.reason, it.quote()));
     [format!("{sheet}{end}"), selector, faults.collect(), matches(tree, &sheet), winners(tree, &sheet)]
 }
 
