@@ -48,9 +48,13 @@ _KNOWN = re.compile(
     r"(?![-\w(])",
     re.IGNORECASE,
 )
-# What a browser refuses in a selector that the library takes, as a value that is no name or string,
-# or reads otherwise.
-_REFUSED = re.compile(r"""\\|:lang\([^)]*,|=\s*(?!["']|-?[_a-zA-Z\u0080-\U0010ffff]|--)[^\]]*\]""")
+# What a browser refuses in a selector, as a value that is no name or string or a pseudo-element that
+# is not at the end, or reads otherwise than the library.
+_REFUSED = re.compile(
+    r"\\|(?:::[-\w]+|:(?:before|after|first-line|first-letter))(?![-\w])(?!\s*$|[:(])"
+    r"|:lang\([^)]*,"
+    r"""|=\s*(?!["']|-?[_a-zA-Z\u0080-\U0010ffff]|--)[^\]]*\]"""
+)
 # The pseudo-classes that depend on a state of the page.
 _STATE = re.compile(r""":(?!first-child\b|lang\([^"'])""")
 _MODERN = re.compile(r"[\w\])*]\s*~\s*[\w.#\[:*]|\[\s*[-\w]+\s*[$^*|~]?=?")

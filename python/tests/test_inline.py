@@ -194,7 +194,8 @@ class KeptRules(unittest.TestCase):
         self.assertEqual(style_of(".a { n: flex } p.b { n: block }"), "n: block")
 
     def test_lists_that_browsers_drop(self):
-        for selector in ("p:nth-child(x)", "p:not()", "p[a=1]", "p:lang(a, b)", "p:nothing"):
+        for selector in ("p:nth-child(x)", "p:not()", "p[a=1]", "p:lang(a, b)", "p:nothing", "p::before b",
+                         "p:after[x]"):
             self.assertEqual(style_of(f"{selector}, p {{ n: 1 }}"), "", selector)
 
     def test_rules_for_clients(self):
