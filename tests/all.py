@@ -23,6 +23,7 @@ PLAIN = (
     ("docs.py", ("cssq_cli",)),
     ("pages.py", ("cssq_cli",)),
     ("skipped.py", ("example_linter", "cssq_cli")),
+    ("syntax.py", ("example_today",)),
     ("script.py", ()),
     ("library.py", ()),
     ("release.py", ()),

@@ -3,7 +3,7 @@
 use Rattle.std.proofs.Common.{◌≡◌, ℕ, ◌≤◌, ◌||◌, ◌&&◌, not, nat_le, codes, eqb-true, Bool, true, false, List, [], ◌∷◌, length, Option, Some, None, arith, refl, if◌then◌else◌, ◌==◌, drop, length-drop}
 use Rattle.std.proofs.lemmas.Bool.Decides.{nat_tests}
 use Rattle.std.specs.Str.{str_eq_ignore_ascii_case}
-use Rattle.simplecss_text.specs.AsciiBytes.{colon, exclamation_mark, open_brace, close_brace, semicolon, at_sign, hyphen, underscore}
+use Rattle.simplecss_text.specs.AsciiBytes.{colon, comma, exclamation_mark, open_brace, close_brace, semicolon, at_sign, hyphen, underscore}
 use Rattle.simplecss_text.specs.Reading.{before, Ends}
 use Rattle.simplecss_text.specs.Bytes.{past_byte, starts, is_digit}
 use Rattle.simplecss_text.specs.Characters.{is_letter}
@@ -114,15 +114,17 @@ opens : (in_block : Bool) (b : ℕ) (text : List ℕ)
     → ends_at (rule_set_ends in_block) (b ∷ text) ≡ true → ends_block in_block (b ∷ text) ≡ false
     → (b == open_brace) ≡ true
 opens in_block b text e f =
-    by (b == semicolon) (b == open_brace) (b == close_brace) in_block e f
+    by (b == semicolon) (b == open_brace) (b == close_brace) (b == comma) in_block e f
   where
-    by : (s o c k : Bool) → (if s then false else (if o then true else (if c then k else false))) ≡ true
+    by : (s o c m k : Bool) → (if s then false
+        else (if o then true else (if c then k else (if m then false else false)))) ≡ true
         → (k && c) ≡ false → o ≡ true
-    by true o c k g h = absurd (cc)
-    by false true c k g h = refl
-    by false false true true g h = absurd (cc)
-    by false false true false g h = absurd (cc)
-    by false false false k g h = absurd (cc)
+    by true o c m k g h = absurd (cc)
+    by false true c m k g h = refl
+    by false false true m true g h = absurd (cc)
+    by false false true m false g h = absurd (cc)
+    by false false false true k g h = absurd (cc)
+    by false false false false k g h = absurd (cc)
 
 rule-less : (in_block : Bool) (b : ℕ) (text : List ℕ) → ends_block in_block (b ∷ text) ≡ false
     → length (rule_set_ended (parts (rule_set_ends in_block) (b ∷ text)).0
@@ -287,14 +289,17 @@ no_separator b text e = by (b == semicolon) refl
 ends-not : (in_block : Bool) (b : ℕ) (text : List ℕ) → (b == semicolon) ≡ false
     → ends_block in_block (b ∷ text) ≡ false
     → ends_at (declaration_ends in_block) (b ∷ text) ≡ false
-ends-not in_block b text s f = by (b == open_brace) (b == close_brace) in_block s f
+ends-not in_block b text s f =
+    by (b == open_brace) (b == close_brace) (b == comma) in_block s f
   where
-    by : (o c k : Bool) → (b == semicolon) ≡ false → (k && c) ≡ false
-        → (if b == semicolon then true else (if o then false else (if c then k else false))) ≡ false
-    by true c k g h = rw g refl
-    by false true true g h = absurd (cc)
-    by false true false g h = rw g refl
-    by false false k g h = rw g refl
+    by : (o c m k : Bool) → (b == semicolon) ≡ false → (k && c) ≡ false
+        → (if b == semicolon then true
+        else (if o then false else (if c then k else (if m then false else false)))) ≡ false
+    by true c m k g h = rw g refl
+    by false true m true g h = absurd (cc)
+    by false true m false g h = rw g refl
+    by false false true k g h = rw g refl
+    by false false false k g h = rw g refl
 
 past_separators-within : (text : List ℕ) → length (past_separators text) ≤ length text
 past_separators-within text = each-within separator_part separator_part-takes text

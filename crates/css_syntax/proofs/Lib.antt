@@ -5,3 +5,5 @@ pub mod PartLemmas
 pub mod PartTexts
 pub mod ItemLemmas
 pub mod ListSteps
+pub mod AllCutUp
+pub mod Vectors

@@ -33,11 +33,11 @@ pub data ItemText : Type 0 where
 -- what ends a declaration: a semicolon; in a block, its closing brace, too
 abbrev pub declaration_ends : Bool → Stops
 declaration_ends in_block =
-    record { semicolon = true; open_brace = false; close_brace = in_block; in_value = false }
+    record { semicolon = true; open_brace = false; close_brace = in_block; comma = false; in_value = false }
 
 -- what ends a value: a semicolon, an exclamation mark, or a bracket that closes nothing
 abbrev pub value_ends : Stops
-value_ends = record { semicolon = true; open_brace = false; close_brace = true; in_value = true }
+value_ends = record { semicolon = true; open_brace = false; close_brace = true; comma = false; in_value = true }
 
 -- the value at the start, without blanks at its end, and the rest
 abbrev pub value : List ℕ → Stated × List ℕ

@@ -7,3 +7,4 @@ pub mod DeclarationLists
 pub mod Views
 pub mod ListReaders
 pub mod internal
+pub mod NothingLost

@@ -1,6 +1,6 @@
 -- Component values one after another, up to a byte that ends them outside brackets.
 use Rattle.std.specs.Prelude.{ℕ, Bool, true, ◌||◌, ◌&&◌, ◌==◌, if◌then◌else◌, List, [], ◌∷◌, map, Option, Some, None}
-use Rattle.simplecss_text.specs.AsciiBytes.{exclamation_mark, semicolon, open_brace, close_brace}
+use Rattle.simplecss_text.specs.AsciiBytes.{comma, exclamation_mark, semicolon, open_brace, close_brace}
 use Rattle.simplecss_text.specs.Reading.{each, before}
 use Rattle.simplecss_text.specs.Declarations.{last_or}
 use Rattle.css_syntax.specs.declared.quality.Quality.{Quality}
@@ -15,7 +15,8 @@ stops_at stops b =
     if b == semicolon then stops.semicolon
     else (if b == open_brace then stops.open_brace
     else (if b == close_brace then stops.close_brace
-    else (stops.in_value && (b == exclamation_mark || is_closer b))))
+    else (if b == comma then stops.comma
+    else (stops.in_value && (b == exclamation_mark || is_closer b)))))
 
 -- the text ends, or the parts do
 abbrev pub ends_at : Stops → List ℕ → Bool

@@ -85,6 +85,7 @@ fn declaration_ends(in_block: bool) -> Stops
         semicolon: true,
         open_brace: false,
         close_brace: in_block,
+        comma: false,
         in_value: false,
     }
 }
@@ -97,6 +98,7 @@ fn read_value(text: &str) -> Parts<'_>
         semicolon: true,
         open_brace: false,
         close_brace: true,
+        comma: false,
         in_value: true,
     };
     read_parts(stops, text)

@@ -9,6 +9,7 @@
 
 pub mod component_values;
 pub mod declarations;
+pub mod laws;
 pub mod parts;
 pub mod quality;
 pub mod statements;

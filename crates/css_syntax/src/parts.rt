@@ -16,6 +16,8 @@ pub struct Stops {
     pub open_brace: bool,
     /// A closing brace does.
     pub close_brace: bool,
+    /// A comma does.
+    pub comma: bool,
     /// An exclamation mark, a closing parenthesis and a closing bracket do.
     pub in_value: bool,
 }
@@ -61,6 +63,7 @@ fn stops_at(stops: Stops, byte: u8) -> bool
         b';' => stops.semicolon,
         b'{' => stops.open_brace,
         b'}' => stops.close_brace,
+        b',' => stops.comma,
         b'!' | b')' | b']' => stops.in_value,
         _ => false,
     }

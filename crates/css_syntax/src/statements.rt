@@ -163,6 +163,7 @@ fn read_block(text: &str) -> FoundBlock<'_>
         semicolon: false,
         open_brace: false,
         close_brace: true,
+        comma: false,
         in_value: false,
     };
     let inside = read_parts(stops, past_gap(text));
@@ -215,6 +216,7 @@ pub fn read_at_rule(text: &str, in_block: bool) -> FoundAtRule<'_>
         semicolon: true,
         open_brace: true,
         close_brace: in_block,
+        comma: false,
         in_value: false,
     };
     end_at_rule(name, read_parts(stops, past_gap(after)))
@@ -258,6 +260,7 @@ fn read_statement(text: &str, in_block: bool) -> FoundStatement<'_>
         semicolon: false,
         open_brace: true,
         close_brace: in_block,
+        comma: false,
         in_value: false,
     };
     end_rule_set(read_parts(stops, text))

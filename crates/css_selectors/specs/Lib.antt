@@ -1,0 +1,3 @@
+pub mod SelectorGrammar
+pub mod SelectorViews
+pub mod SelectorLists

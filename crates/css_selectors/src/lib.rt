@@ -1,0 +1,13 @@
+//! The grammar of selectors (Selectors Level 4, section 18, and Level 3, section 10): whether a text is
+//! a selector, and whether a pseudo-element is at its end. What a selector means is not considered.
+#![tactic(auto)]
+
+mod attributes;
+mod compounds;
+mod form;
+mod list;
+mod names;
+mod pseudos;
+
+pub use form::{ElementForm, SelectorForm, read_selector};
+pub use list::{ListedSelector, Selectors, is_valid, is_valid_list};

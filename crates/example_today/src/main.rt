@@ -1,0 +1,132 @@
+//! An example: reads texts by the rules of today's style sheets, `today statements` or `today
+//! declarations`. The texts are on standard input, and a NUL byte separates them. For each text, what
+//! it has is printed in fields, of which each ends with the byte 1; a NUL byte ends the text.
+//!
+//! The fields of a statement are its kind, its name, its prelude and its block; those of an item of a
+//! list are its kind, its name, its value and its flags. What is skipped has its fault in place of a
+//! name, and its text.
+#![tactic(auto)]
+
+use css_syntax::{AtRule, Declaration, Declarations, Fault, Item, Statement, Statements};
+use std::io::{BufWriter, Read, Write};
+use std::{env, io};
+
+/// Writes a field and the byte that ends it.
+fn write_field<W: Write>(out: &mut W, text: &str) -> io::Result<()> {
+    out.write_all(text.as_bytes())?;
+    out.write_all(b"\x01")
+}
+
+/// Writes four fields: a kind, a name, a text and a last one.
+fn write_fields<W: Write>(
+    out: &mut W,
+    kind: &str,
+    name: &str,
+    text: &str,
+    last: &str,
+) -> io::Result<()> {
+    write_field(out, kind)?;
+    write_field(out, name)?;
+    write_field(out, text)?;
+    write_field(out, last)
+}
+
+/// The word for a fault.
+fn fault_word(fault: Fault) -> &'static str {
+    match fault {
+        Fault::BrokenDeclaration => "broken declaration",
+        Fault::BadString => "bad string",
+        Fault::BadUrl => "bad url",
+        Fault::StrayBracket => "stray bracket",
+        Fault::TooDeep => "too deep",
+        Fault::NoBlock => "no block",
+        Fault::InvalidSelector => "invalid selector",
+    }
+}
+
+/// Writes an at-rule.
+fn write_at_rule<W: Write>(out: &mut W, at_rule: &AtRule<'_>) -> io::Result<()> {
+    match at_rule.block {
+        Some(block) => {
+            write_fields(
+                out,
+                "at-rule with block",
+                at_rule.name,
+                at_rule.prelude.text,
+                block.text,
+            )
+        }
+        None => write_fields(out, "at-rule", at_rule.name, at_rule.prelude.text, ""),
+    }
+}
+
+/// Writes the statements of a text.
+fn write_statements<W: Write>(out: &mut W, text: &str) -> io::Result<()> {
+    for part in Statements::new(text) {
+        match part.statement {
+            Statement::RuleSet(rule) => {
+                write_fields(out, "rule set", "", rule.prelude.text, rule.block.text)?;
+            }
+            Statement::AtRule(at_rule) => write_at_rule(out, &at_rule)?,
+            Statement::Skipped(fault) => {
+                write_fields(out, "skipped", fault_word(fault), part.text, "")?;
+            }
+        }
+    }
+    Ok(())
+}
+
+/// The flags of a declaration: whether it is important, and whether it is open.
+fn flags(declaration: &Declaration<'_>) -> &'static str {
+    match (declaration.important, declaration.closed) {
+        (true, true) => "important",
+        (true, false) => "important, open",
+        (false, true) => "",
+        (false, false) => "open",
+    }
+}
+
+/// Writes the items of a list of declarations.
+fn write_declarations<W: Write>(out: &mut W, text: &str) -> io::Result<()> {
+    for part in Declarations::new(text) {
+        match part.item {
+            Item::Declaration(one) => {
+                write_fields(out, "declaration", one.name, one.value, flags(&one))?;
+            }
+            Item::AtRule(at_rule) => write_at_rule(out, &at_rule)?,
+            Item::Skipped(fault) => {
+                write_fields(out, "skipped", fault_word(fault), part.text, "")?;
+            }
+        }
+    }
+    Ok(())
+}
+
+/// Writes what a text has.
+fn write_text<W: Write>(out: &mut W, text: &[u8], as_sheet: bool) -> io::Result<()> {
+    if let Ok(text) = str::from_utf8(text) {
+        if as_sheet {
+            write_statements(out, text)?;
+        } else {
+            write_declarations(out, text)?;
+        }
+    }
+    out.write_all(b"\x00")
+}
+
+/// The argument says what is read.
+fn main(rt: HostRuntime) -> io::Result<()> {
+    let alloc = rt.alloc();
+    let words: Vec<String> = env::args(&rt)?.skip(1).collect(alloc)?;
+    let as_sheet = match words.as_slice() {
+        [word] => word.as_str() == "statements",
+        _ => false,
+    };
+    let mut input = Vec::new(alloc);
+    rt.reader().read_to_end(&mut input)?;
+    let mut out = BufWriter::new(alloc, rt.stdout())?;
+    for text in input.split(|byte| *byte == 0) {
+        write_text(&mut out, text, as_sheet)?;
+    }
+    out.flush()
+}
