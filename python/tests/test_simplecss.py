@@ -243,6 +243,47 @@ class Trees(unittest.TestCase):
             simplecss.Tree([simplecss.Item("\ud800")]).select("a")
 
 
+class OtherTrees(unittest.TestCase):
+    """Trees of other packages, each left out where the package is missing."""
+
+    PAGE = "<!DOCTYPE html><title>t</title><P CLASS='a b' TYPE=X>one<A HREF=x>two</A></P>"
+
+    def check(self, tree):
+        link = tree.select_one("p.a[type=x] > A:link")
+        self.assertEqual((link.name, link.text, link.attributes["href"]), ("a", "two", "x"))
+        self.assertEqual(tree.select("p")[0].text, "onetwo")
+        self.assertEqual(tree.select(".A"), [])
+        return link.node
+
+    def test_lxml(self):
+        try:
+            import lxml.etree
+            import lxml.html
+        except ImportError:
+            self.skipTest("there is no lxml")
+        root = lxml.html.document_fromstring(self.PAGE)
+        self.assertIs(self.check(simplecss.Tree.from_lxml(root)), root.find(".//a"))
+        root = lxml.etree.fromstring("<!-- --><r xmlns='x'><?y?><A b='c'>d</A>e</r>")
+        tree = simplecss.Tree.from_lxml(root.getroottree())
+        self.assertEqual([each.name for each in tree], ["r", "A"])
+        self.assertEqual((tree.select("a"), tree[0].text, tree[1].row), ([], "de", 1))
+
+    def test_soup(self):
+        try:
+            import bs4
+        except ImportError:
+            self.skipTest("there is no BeautifulSoup")
+        soup = bs4.BeautifulSoup(self.PAGE, "html.parser")
+        self.assertIs(self.check(simplecss.Tree.from_soup(soup)), soup.find("a"))
+        tree = simplecss.Tree.from_soup(soup.find("p"))
+        self.assertEqual([each.name for each in tree], ["p", "a"])
+
+    def test_what_is_no_tree(self):
+        for call in (simplecss.Tree.from_etree, simplecss.Tree.from_lxml, simplecss.Tree.from_soup):
+            with self.assertRaisesRegex(TypeError, "not str"):
+                call("<p>")
+
+
 class Elements(unittest.TestCase):
     def setUp(self):
         self.tree = simplecss.Tree.from_html("<ul id=u><li class='a b'>one <i>1</i> <li>two</ul>three")
