@@ -424,6 +424,11 @@ def try_installation(prefix, folder):
     expect(done.returncode == 0 and done.stdout.startswith(b"cssq reads CSS 2.1"), f"the installed cssq --help: {done}")
     if shutil.which("file"):
         expect(b"statically linked" in run(["file", cssq]).stdout, "cssq is not linked statically")
+    completion = os.path.join(prefix, "share/bash-completion/completions/cssq")
+    if shutil.which("bash"):
+        script = f'. {completion}; COMP_WORDS=(cssq s); COMP_CWORD=1; _cssq; echo "${{COMPREPLY[*]}}"; COMP_WORDS=(cssq match page.css page.t); COMP_CWORD=3; _cssq; echo "${{COMPREPLY[*]}}"'
+        done = run(["bash", "-c", script], folder)
+        expect(done.stdout == b"selector sheet style\npage.tree\n", f"completion: {done}")
     if shutil.which("man"):
         done = run(["man", "--warnings", "-l", os.path.join(prefix, "share/man/man1/cssq.1.gz")], env={**os.environ, "MANWIDTH": "120", "LC_ALL": "C.UTF-8"})
         expect(done.returncode == 0 and not done.stderr and b"cssq selector TEXT" in done.stdout, f"the manual: {done.stderr} {done.stdout[:200]}")
