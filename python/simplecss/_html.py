@@ -569,7 +569,10 @@ class Builder:
         if token.kind != TEXT:
             return False
         text = self.text[token.start : token.end]
-        token.start += len(text) - len(text.lstrip(BLANKS))
+        if is_blank(text):
+            token.start = token.end
+        else:
+            token.start += len(text) - len(text.lstrip(BLANKS))
         return token.start == token.end
 
     def _keep_blanks(self, token: Token) -> bool:
