@@ -3,7 +3,7 @@
 its tests, that it and the WebAssembly module answer as the proved library does on random texts, and that each package works
 where it is unpacked, outside the checkout.
 
-    tests/release.py [PART..]     PART is crate, wheel, program, npm or twice; without one all, and ./build release first
+    tests/release.py [PART..]     PART is eraser, crate, wheel, program, npm or twice; without one all, and ./build release first
     tests/release.py speed        parsing and matching beside Debian's librust-simplecss-dev
 
 `SIMPLECSS_TESTS` may name a folder with the tests of the Rust crate 0.2.2: files `*.rs`, or texts in which lines
@@ -16,6 +16,7 @@ import glob
 import hashlib
 import json
 import os
+import pathlib
 import random
 import re
 import resource
@@ -154,6 +155,52 @@ def compare(what, texts, wanted, got):
     shown = f": {texts[differ[0]]!r}: {got[differ[0]] if differ[0] < len(got) else None}, not {wanted[differ[0]]}" if differ else ""
     expect(not differ and len(got) == len(texts), f"{what}: {len(differ)} of {len(texts)} texts differ{shown}")
     print(f"{what}: {len(texts)} texts, {len(differ)} differ")
+
+
+# ---- the eraser
+
+# A source, and what is left of it.
+ERASED = [
+    ("ghost use Rattle.std.specs.Prelude.{A, B};\n\npub fn f() {}\n", "\n\npub fn f() {}\n"),
+    ("fn f(a: u8) -> u8\n    // What holds.\n    ensures bound { result ≤ 4 }\n    requires { a.now < 3 }\n{\n    a\n}\n", "fn f(a: u8) -> u8 {\n    a\n}\n"),
+    ("fn f()\n    ensures { x ≡ '}' };\n", "fn f();\n"),
+    ("struct A {\n    /// A list.\n    pub ghost items: { List Nat },\n    pub b: u8,\n}\n", "struct A {\n\n    pub b: u8,\n}\n"),
+    ("let a = A { ghost items = { nil }, b: 1 };", "let a = A {  b: 1 };"),
+    ("#![tactic(auto)]\n#[derive(Drop)]\n#[derive(Clone, Drop, Debug)]\n#[tactic(auto, using(a::b))]\n#[inline]\nstruct A;\n", "\n\n#[derive(Clone, Debug)]\n\n#[inline]\nstruct A;\n"),
+    ('let a = "ghost { requires }"; // ghost use x;\n', 'let a = "ghost { requires }"; // ghost use x;\n'),
+    ("let a: &'static str = b; let c = '{'; let d = b'\\'';\n", "let a: &'static str = b; let c = '{'; let d = b'\\'';\n"),
+]
+# A source that is refused, and the line.
+REFUSED = [
+    ("\nghost fn f() {}\n", 2),
+    ("ghost x = 3;\n", 1),
+    ("ghost x = { 3 } + 4;\n", 1),
+    ("fn f()\n    ensures (result)\n{}\n", 2),
+    ("fn f() { let a = b ≤ c; }\n", 1),
+    ("\n\n#[trusted]\nfn f() {}\n", 3),
+    ("#[derive(Serialize)]\nstruct A;\n", 1),
+    ("/* a */\n", 1),
+    ("fn f() requires { a\n", 1),
+]
+
+
+def test_eraser(folder):
+    """What is left of small sources, and which are refused."""
+    sys.path.insert(0, os.path.join(TOP, "tools"))
+    import erase
+    erase.TOP = pathlib.Path(folder)
+    source = erase.TOP / "a.rt"
+    for text, wanted in ERASED:
+        source.write_text(text, encoding="utf-8")
+        got = erase.Eraser(source).read()
+        expect(got == wanted, f"the eraser leaves {got!r} of {text!r}, not {wanted!r}")
+    for text, line in REFUSED:
+        source.write_text(text, encoding="utf-8")
+        try:
+            got = erase.Eraser(source).read()
+            expect(False, f"the eraser takes {text!r}: {got!r}")
+        except erase.Unknown as unknown:
+            expect(str(unknown).startswith(f"a.rt:{line}: "), f"the eraser refuses {text!r} with {unknown}, not at line {line}")
 
 
 # ---- the Rust crate
@@ -492,7 +539,7 @@ def processor_time():
 
 def main(words):
     """Runs the parts that the words name."""
-    parts = {"crate": test_crate, "wheel": test_wheel, "program": test_program, "npm": test_npm, "twice": test_twice, "speed": test_speed}
+    parts = {"eraser": test_eraser, "crate": test_crate, "wheel": test_wheel, "program": test_program, "npm": test_npm, "twice": test_twice, "speed": test_speed}
     if not words:
         done = run([os.path.join(TOP, "build"), "release"])
         lines = [line for line in done.stderr.decode().splitlines() if "not made" in line]
