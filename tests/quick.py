@@ -1,6 +1,6 @@
 #!/usr/bin/env python3
-"""Every `#[test]` of every crate, side by side, and the first command of the README's table, with nothing proved: an answer in two
-minutes while a change is being written. `.ci/run` decides.
+"""Every `#[test]` of every crate, side by side, and the first command of the table of docs/PROGRAM.md, with nothing proved: an
+answer in two minutes while a change is being written. `.ci/run` decides.
 
 Prints a line for each crate with how long its tests took, the output of those that fail, and 'N passed, M failed' in the end; the
 status is 1 if something failed.
@@ -46,13 +46,13 @@ def tests_of(crate):
 
 
 def first_command():
-    """Whether the first command of the README's table prints what the table shows, and the lines to show."""
-    with open(os.path.join(TOP, "README.md"), encoding="utf-8") as readme:
-        words, shown = re.search(r"^\| `\./cssq ([^`]*)` \| (.*) \|$", readme.read(), re.MULTILINE).groups()
+    """Whether the first command of the table of docs/PROGRAM.md prints what the table shows, and the lines to show."""
+    with open(os.path.join(TOP, "docs", "PROGRAM.md"), encoding="utf-8") as page:
+        words, shown = re.search(r"^\| `\./cssq ([^`]*)` \| (.*) \|$", page.read(), re.MULTILINE).groups()
     wanted = "".join(span + {"TAB": "\t", "": "\n"}[between.strip()] for span, between in re.findall(r"`([^`]*)`([^`]*)", shown))
     status, out, seconds = run([os.path.join(TOP, "cssq"), "--unproved", *shlex.split(words)], TOP)
     holds = status == 0 and wanted in out
-    return int(holds), int(not holds), [f"./cssq {words}: {'as the README shows' if holds else out}, {seconds:.0f} s"]
+    return int(holds), int(not holds), [f"./cssq {words}: {'as docs/PROGRAM.md shows' if holds else out}, {seconds:.0f} s"]
 
 
 def main():

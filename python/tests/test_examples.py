@@ -1,0 +1,27 @@
+"""The pages of examples/pages: what is beside each is what `inline` writes of it."""
+
+import os
+import unittest
+
+import simplecss
+
+PAGES = os.path.join(os.path.dirname(os.path.abspath(__file__)), "..", "..", "examples", "pages")
+
+
+def read(name: str) -> str:
+    """The text of a page."""
+    with open(os.path.join(PAGES, name), encoding="utf-8", newline="") as file:
+        return file.read()
+
+
+class Examples(unittest.TestCase):
+    """The inlined pages."""
+
+    def test_inlined(self) -> None:
+        """Each page has its inlined form beside it."""
+        for name, inlined in (("mail.html", "mail.inlined.html"), ("drawing.svg", "drawing.inlined.svg")):
+            self.assertEqual(simplecss.inline(read(name)), read(inlined), name)
+
+
+if __name__ == "__main__":
+    unittest.main()

@@ -1,0 +1,135 @@
+#!/usr/bin/env python3
+"""Draws docs/crates.svg: the crates of crates.txt, each above those that it uses, and the ways of the commands `sheet` and `match`.
+
+    draw_crates.py > docs/crates.svg
+
+Crates of tests and examples are left out, and so is what another crate brings along. What MAKES does not name has no words.
+"""
+import os
+import sys
+from typing import Dict, List, Set, Tuple
+
+TOP = os.path.dirname(os.path.dirname(os.path.abspath(__file__)))
+# What each crate makes of what is below it.
+MAKES = {
+    "simplecss_text": "names, strings, blanks",
+    "simplecss_selector": "selectors, matching",
+    "simplecss_declaration": "declarations, blocks",
+    "css_syntax": "today's sheets, cut",
+    "css_selectors": "today's selectors",
+    "sibling_matching": "matching with ~",
+    "simplecss": "rules in order, index",
+    "simplecss_tree": "trees of programs",
+    "simplecss_faults": "what is skipped, where",
+    "cssq_page": "the tree of a text",
+    "cssq": "winners, output",
+    "cssq_cli": "files, words, statuses",
+    "simplecss_c": "the C library",
+}
+# Each command's color, and the edges that its texts take, from below to above.
+WAYS = {
+    "sheet": ("#1f6fb4", "simplecss_text simplecss_selector simplecss cssq cssq_cli; simplecss_text simplecss_declaration simplecss"),
+    "match": ("#d9690a", "simplecss_text simplecss_selector cssq_page cssq cssq_cli; simplecss_selector simplecss cssq"),
+}
+WIDE, HIGH, GAP_X, GAP_Y, LEFT, TOP_SPACE = 176, 46, 22, 54, 20, 46
+
+Edge = Tuple[str, str]
+
+
+def read_uses() -> Dict[str, Set[str]]:
+    """Which crates of the picture each crate names."""
+    uses = {}
+    with open(os.path.join(TOP, "crates.txt"), encoding="utf-8") as file:
+        for line in file:
+            name, colon, rest = line.split("#")[0].partition(":")
+            if colon and not name.startswith(("example_", "tests_")):
+                uses[name.split()[0]] = set(rest.split())
+    return {name: {other for other in others if other in uses} for name, others in uses.items()}
+
+
+def below(name: str, uses: Dict[str, Set[str]]) -> Set[str]:
+    """All crates that a crate is built of."""
+    found = set(uses[name])
+    for other in uses[name]:
+        found |= below(other, uses)
+    return found
+
+
+def direct(uses: Dict[str, Set[str]]) -> List[Edge]:
+    """The pairs of a crate and one that it uses, without those that another one brings along."""
+    edges = []
+    for name, others in uses.items():
+        brought = set().union(*(below(other, uses) for other in others))
+        edges += [(name, other) for other in others if other not in brought]
+    return sorted(edges)
+
+
+def layers_of(uses: Dict[str, Set[str]]) -> List[List[str]]:
+    """The crates in layers, lowest first. In a layer a crate is near those that it uses."""
+    level: Dict[str, int] = {}
+    while len(level) < len(uses):
+        for name, others in uses.items():
+            if name not in level and others <= set(level):
+                level[name] = 1 + max((level[other] for other in others), default=-1)
+    layers: List[List[str]] = []
+    for number in range(1 + max(level.values())):
+        last = {name: index for index, name in enumerate(layers[-1])} if layers else {}
+        ties = {name: [last[other] for other in uses[name] if other in last] for name in uses}
+        order = sorted((sum(ties[name]) / len(ties[name]) if ties[name] else 9.0, name) for name in uses if level[name] == number)
+        layers.append([name for _, name in order])
+    return layers
+
+
+def places_of(layers: List[List[str]]) -> Dict[str, Tuple[float, float]]:
+    """The upper left corner of each box."""
+    widest = max(map(len, layers))
+    places = {}
+    for number, layer in enumerate(reversed(layers)):
+        start = LEFT + (widest - len(layer)) * (WIDE + GAP_X) / 2
+        for index, name in enumerate(layer):
+            places[name] = (start + index * (WIDE + GAP_X), TOP_SPACE + number * (HIGH + GAP_Y))
+    return places
+
+
+def way_edges(words: str) -> List[Edge]:
+    """The pairs of a crate and the one above it of a way."""
+    return [pair for part in words.split(";") for pair in zip(part.split(), part.split()[1:])]
+
+
+def line(place: Tuple[float, float], other: Tuple[float, float], color: str, width: float, shift: float) -> str:
+    """A line from the upper edge of the lower box to the lower edge of the upper one."""
+    (x, y), (u, v) = place, other
+    middle = WIDE / 2 + shift
+    return f'<line x1="{x + middle:g}" y1="{y + HIGH:g}" x2="{u + middle:g}" y2="{v:g}" stroke="{color}" stroke-width="{width:g}"/>'
+
+
+def box(name: str, place: Tuple[float, float]) -> List[str]:
+    """A crate's box, with its name and what it makes."""
+    x, y = place
+    return [
+        f'<rect x="{x:g}" y="{y:g}" width="{WIDE}" height="{HIGH}" rx="6" fill="#f4f6f8" stroke="#667"/>',
+        f'<text x="{x + WIDE / 2:g}" y="{y + 19:g}" text-anchor="middle" font-weight="bold">{name}</text>',
+        f'<text x="{x + WIDE / 2:g}" y="{y + 36:g}" text-anchor="middle" fill="#445">{MAKES.get(name, "")}</text>',
+    ]
+
+
+def picture() -> str:
+    """The picture."""
+    uses = read_uses()
+    layers = layers_of(uses)
+    places = places_of(layers)
+    wide = 2 * LEFT + max(map(len, layers)) * (WIDE + GAP_X) - GAP_X
+    high = TOP_SPACE + len(layers) * (HIGH + GAP_Y) - GAP_Y + 20
+    parts = [f'<svg xmlns="http://www.w3.org/2000/svg" width="{wide}" height="{high}" font-family="sans-serif" font-size="12">']
+    parts.append(f'<rect width="{wide}" height="{high}" fill="white"/>')
+    parts += [line(places[upper], places[lower], "#bbb", 1.5, 0) for upper, lower in direct(uses)]
+    for index, (command, (color, words)) in enumerate(WAYS.items()):
+        for lower, upper in way_edges(words):
+            parts.append(line(places[upper], places[lower], color, 3, 4 - 8 * index))
+        parts.append(f'<text x="{LEFT + 110 * index}" y="26" fill="{color}" font-weight="bold">cssq {command}</text>')
+    parts += [part for layer in layers for name in layer for part in box(name, places[name])]
+    return "\n".join([*parts, "</svg>"]) + "\n"
+
+
+if __name__ == "__main__":
+    sys.stdout.write(picture())

@@ -1,0 +1,122 @@
+#!/usr/bin/env python3
+"""Writes docs/CONTRACTS.md from the sources: how clauses are read, the headline's clauses, and each law with its sentence.
+
+    list_contracts.py > docs/CONTRACTS.md
+
+A law is a public function without a body. Its sentence is the first of its documentation.
+"""
+import glob
+import os
+import re
+import sys
+from typing import Iterator, List, Tuple
+
+TOP = os.path.dirname(os.path.dirname(os.path.abspath(__file__)))
+# Crates whose functions without a body are no laws.
+LEFT_OUT = ("tests_", "example_")
+HEAD = """# Contracts
+
+This page is written by `tools/list_contracts.py`. A contract is at its function, in `crates/*/src`. What it names
+is defined in the crate's `specs/`, and reached through `simplecss`, as `Rattle.simplecss.specs.Trees`.
+
+## How to read a clause
+
+`x.now` is the value that a `&` refers to. `x.old` and `x.new` are those of a `&mut` before and after the call.
+`λ` is a closure, and `↔` is "exactly if". `IfOk r (λ v. P)` is `P` of the value, if `r` is an `Ok`; `IfSome` is
+the same for an option. `OnOk r P` is `P` if `r` is an `Ok`, and `OnErr r P` if it is an `Err`. `this_edition` is
+the edition of the rules that is implemented.
+
+No contract can say that memory is left, nor that a call with memory returns an `Ok`: tests do.
+
+## The headline
+
+"""
+QUOTES = (
+    ("Matching, by `Selector::matches_counted`, which `matches` calls:", "crates/simplecss_selector/src/selector.rt", "ensures answer { IsTrue result ↔ HasPlacement", 7),
+    ("Reading into a sheet, by `StyleSheet::parse_more`:", "crates/simplecss/src/sheet/style_sheet.rt", "ensures sheet { (texts : List (List ℕ)) → rules_in self.old", 2),
+)
+CALLS = (
+    ("cursor", "simplecss_text/src/stream.rt"),
+    ("tokens", "simplecss_selector/src/tokenizer.rt"),
+    ("selectors and matching", "simplecss_selector/src/selector.rt"),
+    ("traits for trees", "simplecss_selector/src/element.rt"),
+    ("declarations", "simplecss_declaration/src/tokenizer.rt"),
+    ("style sheets", "simplecss/src/sheet/style_sheet.rt"),
+    ("index", "simplecss/src/index/rule_index.rt"),
+    ("reporters", "simplecss_text/src/report.rt"),
+    ("faults", "simplecss_faults/src/finding.rt"),
+    ("ready tree", "simplecss_tree/src/tree.rt"),
+    ("tree texts", "cssq_page/src/tree.rt"),
+    ("cascade", "cssq/src/cascade.rt"),
+    ("commands", "cssq/src/runs.rt"),
+    ("C library", "simplecss_c/src/exports.rt"),
+    ("today's sheets", "css_syntax/src"),
+    ("today's selectors", "css_selectors/src"),
+    ("matching with `~`", "sibling_matching/src"),
+)
+
+
+def read(path: str) -> str:
+    """The text of a file of the repository."""
+    with open(os.path.join(TOP, path), encoding="utf-8") as file:
+        return file.read()
+
+
+def quote(path: str, start: str, count: int) -> List[str]:
+    """A block with the lines of a clause and those after it."""
+    lines = read(path).split("\n")
+    found = [index for index, line in enumerate(lines) if line.strip().startswith(start)]
+    if not found:
+        raise SystemExit(f"list_contracts.py: {path} has no {start!r}")
+    return [f"<!-- from {path} -->", "```rust", *lines[found[0] : found[0] + count], "```", ""]
+
+
+def first_sentence(documentation: str) -> str:
+    """The first sentence of a function's documentation, and the second after a short one."""
+    words = " ".join(re.sub(r"^\s*/// ?", "", line) for line in documentation.strip().split("\n"))
+    first, *others = re.split(r"(?<=\.) (?=[A-Z])", words)
+    # One that only names the subject brings the next with it.
+    return " ".join([first, *others[: len(first.split()) < 12]]).replace("|", "\\|")
+
+
+def laws_in(lines: List[str]) -> Iterator[Tuple[str, str]]:
+    """The name and the sentence of each law of a file: a function at the top whose body is `{}` on a line of its own."""
+    for index, line in enumerate(lines):
+        found = re.match(r"pub fn (\w+)", line)
+        if found:
+            end = next(at for at in range(index, len(lines)) if lines[at].startswith(("{", "}")) or lines[at].endswith(" {"))
+            start = index
+            while lines[start - 1].startswith("///"):
+                start -= 1
+            if lines[end] == "{}":
+                yield found[1], first_sentence("\n".join(lines[start:index]))
+
+
+def laws() -> Iterator[Tuple[str, str, str]]:
+    """The file, the name and the sentence of each law."""
+    for path in sorted(glob.glob(os.path.join(TOP, "crates", "*", "src", "**", "*.rt"), recursive=True)):
+        name = os.path.relpath(path, TOP)
+        if not name.split(os.sep)[1].startswith(LEFT_OUT):
+            yield from ((name, law, sentence) for law, sentence in laws_in(read(name).split("\n")))
+
+
+def page() -> str:
+    """The page."""
+    lines = [HEAD.rstrip("\n"), ""]
+    for words, path, start, count in QUOTES:
+        lines += [words, "", *quote(path, start, count)]
+    lines += ["## Laws", "", "Each is the contract of a function that does nothing. A proof calls the function to have the law.", ""]
+    lines += ["| Law | Says |", "|---|---|"]
+    found = list(laws())
+    lines += [f"| [`{name}`](../{path}) | {sentence} |" for path, name, sentence in found if "equality" not in name]
+    equalities = ", ".join(f"[`{name}`](../{path})" for path, name, _ in found if "equality" in name)
+    lines += ["", f"Values are equal exactly if what contracts see of them is: {equalities}.", "", "## Calls", ""]
+    missing = [path for _, path in CALLS if not os.path.exists(os.path.join(TOP, "crates", path))]
+    if missing:
+        raise SystemExit(f"list_contracts.py: there is no {missing[0]}")
+    lines.append("The contracts of each: " + ",\n".join(f"[{words}](../crates/{path})" for words, path in CALLS) + ".")
+    return "\n".join(lines) + "\n"
+
+
+if __name__ == "__main__":
+    sys.stdout.write(page())
