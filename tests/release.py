@@ -224,6 +224,18 @@ class Cargo:
         expect(not warned, f"{what} warns: {warned[:3]}")
         return done
 
+    def lacks(self, package):
+        """Why a package cannot be compiled here, or None."""
+        if not shutil.which("cargo", path=self.environment["PATH"]):
+            return "there is no cargo"
+        found = re.match(rb"cargo (\d+)\.(\d+)", run(["cargo", "--version"], env=self.environment).stdout)
+        with open(os.path.join(package, "Cargo.toml"), encoding="utf-8") as file:
+            wanted = re.search(r'rust-version = "(\d+)\.(\d+)"', file.read())
+        if not found or tuple(map(int, found.groups())) < tuple(map(int, wanted.groups())):
+            return f"cargo is not of {wanted[0]}"
+        lacking = [name for name in ("log", "roxmltree") if not self.has(name)]
+        return f"there is no librust-{lacking[0]}-dev" if lacking else None
+
     def has(self, name):
         """Whether a crate is among Debian's."""
         return bool(glob.glob(os.path.join(REGISTRY, name + "-[0-9]*")))
@@ -260,8 +272,8 @@ def tests_of_0_2_2():
 def run_tests_of_0_2_2(cargo, package):
     """The crate's own tests pass, unchanged."""
     tests = tests_of_0_2_2()
-    if not tests or not cargo.has("roxmltree"):
-        left_out.append("the tests of the crate 0.2.2: SIMPLECSS_TESTS names none, or there is no librust-roxmltree-dev")
+    if not tests:
+        left_out.append("the tests of the crate 0.2.2: SIMPLECSS_TESTS names none")
         return
     folder = cargo.project("own_tests", f'simplecss = {{ path = "{package}" }}\nroxmltree = "0.16"\n', **{"src/lib.rs": "", **tests})
     done = run(["cargo", "test", "--offline"], folder, env=cargo.environment)
@@ -295,25 +307,24 @@ def test_crate(folder):
     """The erased crate."""
     packed = made("simplecss-0.2.2.crate")
     cargo = Cargo(folder)
-    if not packed or not shutil.which("cargo", path=cargo.environment["PATH"]):
-        left_out.append("the Rust crate was not compiled: there is no cargo")
-        return
-    if not cargo.has("log"):
-        left_out.append("the Rust crate was not compiled: there is no librust-log-dev")
+    if not packed:
         return
     unpack(packed, folder)
     package = os.path.join(folder, "simplecss-0.2.2")
+    why = cargo.lacks(package)
+    if why:
+        left_out.append(f"the Rust crate was not compiled: {why}")
+        return
     cargo(["doc", "--no-deps"], package, "cargo doc")
     if run(["cargo", "clippy", "--version"], env=cargo.environment).returncode == 0:
         cargo(["clippy", "--all-features"], package, "cargo clippy")
         cargo(["clippy", "--no-default-features"], package, "cargo clippy without features")
     else:
         left_out.append("clippy of the Rust crate: there is none")
-    if cargo.has("roxmltree"):
-        cargo(["test", "--doc"], package, "the crate's doc tests")
-        cargo(["package", "--allow-dirty"], package, "cargo package")
-        done = cargo(["run", "-q", "--example", "drawing"], package, "the example", input=DRAWING)
-        expect(done.stdout.decode().splitlines()[-1:] == ['path fill="blue" x="2"'], f"the example prints {done.stdout}")
+    cargo(["test", "--doc"], package, "the crate's doc tests")
+    cargo(["package", "--allow-dirty"], package, "cargo package")
+    done = cargo(["run", "-q", "--example", "drawing"], package, "the example", input=DRAWING)
+    expect(done.stdout.decode().splitlines()[-1:] == ['path fill="blue" x="2"'], f"the example prints {done.stdout}")
     run_tests_of_0_2_2(cargo, package)
     needs = f'simplecss = {{ path = "{package}" }}\n'
     done = cargo(["run", "-q"], cargo.project("warnings", needs + 'log = "0.4"\n', **{"src/main.rs": WARNINGS}), "warnings")
@@ -332,6 +343,7 @@ def compare_crate(cargo, needs):
 def test_speed(folder):
     """Shows how long the crate and the one of Debian take to parse a sheet, and to test each rule on each element of a page."""
     packed, cargo = made("simplecss-0.2.2.crate"), Cargo(folder)
+    # The sheet of Debian's package libjs-bootstrap4.
     sheets = glob.glob("/usr/share/javascript/bootstrap4/css/bootstrap.css")
     if not packed or not cargo.has("simplecss") or not sheets:
         left_out.append("the speed of the Rust crate: there is no librust-simplecss-dev or no libjs-bootstrap4")
