@@ -1,5 +1,5 @@
 #!/usr/bin/env node
-// simplecss lint SHEET..: a line for each piece that CSS 2.1 does not allow. The status is 1 if there is one, 2 for other words,
+// simplecss lint SHEET..: a line for each piece that is skipped. The status is 1 if there is one, 2 for other words,
 // and 4 if a file cannot be read.
 import { readFileSync } from 'node:fs';
 import css from './node.mjs';

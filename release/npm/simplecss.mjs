@@ -120,7 +120,7 @@ class Simplecss {
   rules(...texts) { const t = joined(texts); return lines(this.call('rules', [t.bytes, t.ends])); }
   /** The printed sheet. */
   sheet(...texts) { const t = joined(texts); return this.call('sheet', [t.bytes, t.ends]); }
-  /** What of a text CSS 2.1 does not allow: `row`, `column`, `reason` and `text`. */
+  /** What of a text is skipped: `row`, `column`, `reason` and `text`. */
   skipped(text) { return lines(this.call('skipped', [encoder.encode(text)])); }
   #tree(tree) { return [Object.assign(tree.shape, { count: tree.length }), tree.bytes, tree.ends]; }
   /** For each element the indices in `rules` of those that match it. */

@@ -163,7 +163,7 @@ impl<'a> StyleSheet<'a> {
         StyleSheet::default()
     }
 
-    /// Parses a style sheet. What CSS 2.1 does not allow is skipped, and at-rules are.
+    /// Parses a style sheet. What the grammar has no place for is skipped, at-rules too.
     pub fn parse(text: &'a str) -> Self {
         let mut sheet = StyleSheet::new();
         sheet.parse_more(text);
