@@ -22,6 +22,8 @@ PARTS = TOP / "release/rust"
 # What the package has, with all that these use; of `cssq` only the cascade.
 WHOLE = ("simplecss", "simplecss_faults", "simplecss_tree")
 CASCADE = "cssq/src/cascade.rt"
+# The libraries of Rattle besides `std` whose names are there over Rust's.
+LIBRARIES = ("log",)
 # Attributes that stay, and that go. Of derived traits, `Drop` says only that a value may be dropped.
 KEPT_ATTRIBUTES = ("derive", "inline", "cold", "must_use", "allow", "doc", "rustfmt")
 DERIVED = ("Clone", "Copy", "Debug", "Default", "Eq", "Hash", "Ord", "PartialEq", "PartialOrd")
@@ -190,17 +192,19 @@ def placed(text: str, crate: str, crates: List[str]) -> str:
 
 
 def uses_of() -> Dict[str, List[str]]:
-    """Returns the crates of the repository, and those of it that each uses."""
+    """Returns the crates of the repository, and the libraries that each uses."""
     rows = [it.partition("#")[0].partition(":") for it in (TOP / "crates.txt").read_text().splitlines()]
-    uses = {left.split()[0]: right.split() for left, _, right in rows if left.strip()}
-    return {name: [it for it in used if it in uses] for name, used in uses.items()}
+    return {left.split()[0]: right.split() for left, _, right in rows if left.strip()}
 
 
 def sources() -> List[Tuple[str, Path, str]]:
     """Returns the crate, the path and the place in the package of each source."""
     uses, crates = uses_of(), list(WHOLE)
     for crate in crates:
-        crates += [it for it in uses[crate] if it not in crates]
+        unknown = [it for it in uses[crate] if it not in uses and it not in LIBRARIES]
+        if unknown:
+            raise Unknown(f"crates.txt: erase.py has no names for the library {unknown[0]}, which {crate} uses")
+        crates += [it for it in uses[crate] if it in uses and it not in crates]
     found = [("cssq", TOP / "crates" / CASCADE, "cssq/cascade.rs")]
     for crate in sorted(crates):
         top = TOP / "crates" / crate / "src"
