@@ -19,7 +19,7 @@ expect = checks.expect
 
 
 # What the calls that allocate nothing print in each run.
-FREE = "free: Answers { stream: 19, tokens: (6, 2), elements: 10, matches: 4, winners: (1, 1), equalities: 16, tables: (4, 4, 7, true) }"
+FREE = "free: Answers { stream: 19, tokens: (6, 2), elements: 10, matches: 4, winners: (1, 1), equalities: 19, is_empty: true, tables: (4, 4, 7, true) }"
 
 
 def run(words, refuse):
@@ -120,6 +120,11 @@ for text in ["a < b, c:d { e } @f", "a < b { c:d }"]:
     add("find_faults", ["faults", text], plain)
 CASCADE = ("#a .b { c:d !important; e:f } * { c:g } .b.i { h:j } b { c:k }", "0\ta\tid=a\n1\tb\tclass=i b\n1\tb\n")
 add("RuleIndex::new, matching", ["index", *CASCADE], plain)
+add("Recent::new", ["recent", CASCADE[0]], plain)
+add("matching_recent", ["kept", *CASCADE], plain)
+# What is found for an element is kept once for all elements with its name and classes.
+one, two = (len(run(["lost", "kept", CASCADE[0], f"0\ta\n1\tb\tclass=i b\n1\tb\tclass={other}\n"], 0)[2]) for other in ("i b", "b i"))
+expect(0 < one and 2 * one == two, f"matching_recent: {one} requests for two elements that are alike, and {two} for others")
 add("winners", ["winners", *CASCADE], plain)
 add("Tree::push, set_attribute", ["tree", "a", "b", "c"], plain)
 

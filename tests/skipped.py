@@ -4,7 +4,7 @@
     skipped.py LINTER PROGRAM [--count N]    LINTER is the built `example_linter`, PROGRAM the built `cssq`; N sheets, else 300
 
 The reader is written from the definitions in crates/simplecss_text/specs (`Skipped` and what it uses). The sheets are equal in
-each run. The last line is 'N passed, M failed'.
+each run. Before them, what the linter answers to words and to files that it cannot read. The last line is 'N passed, M failed'.
 """
 import os
 import random
@@ -395,10 +395,46 @@ def run(words, stream):
     return getattr(done, stream).decode(), done.returncode
 
 
+USAGE = "usage: example_linter [--hints] FILE..\n"
+FAULT = "faulty.css:1:1: '@a': at-rule not supported\n"
+UNREAD = "example_linter: cannot read "
+# Words of the linter, its status, its output, and the start of what it writes to standard error, which is a line for each file
+# that cannot be read.
+WORDS = (
+    ([], 2, "", [USAGE]),
+    (["--hints"], 2, "", [USAGE]),
+    (["--help"], 0, USAGE, []),
+    (["sound.css"], 0, "", []),
+    (["faulty.css"], 1, FAULT, []),
+    (["sound.css", "faulty.css", "sound.css"], 1, FAULT, []),
+    (["--hints", "hinted.css", "faulty.css"], 1, "hinted.css:1:1: a byte order mark is part of the first name\n" + FAULT, []),
+    (["nosuch.css"], 2, "", [UNREAD + "nosuch.css: "]),
+    (["latin.css"], 2, "", [UNREAD + "latin.css: "]),
+    (["nosuch.css", "faulty.css", "."], 2, FAULT, [UNREAD + "nosuch.css: ", UNREAD + ".: "]),
+)
+
+
+def check_words(linter, folder, counts):
+    """Compares what the linter answers to words and files."""
+    files = {"sound.css": b"a { b:c }", "faulty.css": b"@a;", "hinted.css": b"\xef\xbb\xbfa { b:c }", "latin.css": b"a { b:'\xe9' }"}
+    for name, text in files.items():
+        with open(os.path.join(folder, name), "wb") as file:
+            file.write(text)
+    for words, status, out, starts in WORDS:
+        done = subprocess.run([linter, *words], cwd=folder, stdin=subprocess.DEVNULL, capture_output=True, check=False)
+        lines = done.stderr.decode().splitlines(keepends=True)
+        is_said = len(lines) == len(starts) and all(line.startswith(start) for line, start in zip(lines, starts))
+        counts.expect((done.returncode, done.stdout.decode(), is_said) == (status, out, True), f"the linter with {words}: {done}")
+    with open("/dev/full", "wb") as full:
+        done = subprocess.run([linter, "faulty.css"], cwd=folder, stdin=subprocess.DEVNULL, stdout=full, stderr=subprocess.PIPE, check=False)
+    counts.expect((done.returncode, done.stderr.count(b"\n")) == (2, 1), f"the linter with a full disk: {done}")
+
+
 def main(linter, program, count):
     """Compares each sheet."""
     counts, source = Counts(), Random(39)
     with tempfile.TemporaryDirectory() as folder:
+        check_words(linter, folder, counts)
         path = os.path.join(folder, "text.css")
         for number in range(count):
             text = source.sheet()

@@ -1,4 +1,4 @@
-//! An example: the program that the README shows.
+//! An example: the program that `docs/RATTLE.md` shows.
 #![tactic(auto)]
 
 use log::sink::Discard;

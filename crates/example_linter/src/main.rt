@@ -1,45 +1,76 @@
-//! An example: reports what is skipped of some style sheets, `lint [--hints] FILE..`. A line for each
-//! refused selector, broken declaration, at-rule, open comment and stray text, with the file, the row
-//! and the column; and after them, with `--hints`, for what is kept and hardly meant.
+//! An example: reports what is skipped of some style sheets, `example_linter [--hints] FILE..`. A line
+//! for each refused selector, broken declaration, at-rule, open comment and stray text, with the file,
+//! the row and the column; and after them, with `--hints`, for what is kept and hardly meant.
 #![tactic(auto)]
 
 use simplecss_faults::{find_faults, find_hints};
 use std::process::ExitCode;
 use std::{env, fs, io};
 
-/// Reports the faults of a file, and the hints if they are wanted. Returns whether there are faults.
-fn lint(rt: &HostRuntime, file: &str, wants_hints: bool) -> io::Result<bool> {
-    let text = fs::read_to_string(rt, file)?;
-    let faults = find_faults(rt.alloc(), text.as_str())?;
+/// How the program is called.
+const USAGE: &str = "usage: example_linter [--hints] FILE..";
+
+/// Reports the faults of a file's text, and the hints if they are wanted. Returns whether there are
+/// faults.
+fn lint(rt: &HostRuntime, file: &str, text: &str, wants_hints: bool) -> io::Result<bool> {
+    let faults = find_faults(rt.alloc(), text)?;
     for fault in &faults {
         println!(rt; "{file}:{fault}")?;
     }
     if wants_hints {
-        for hint in &find_hints(rt.alloc(), text.as_str())? {
+        for hint in &find_hints(rt.alloc(), text)? {
             println!(rt; "{file}:{hint}")?;
         }
     }
     Ok(!faults.is_empty())
 }
 
-/// The arguments are the names of style sheets. The status is 1 if one of them has a fault.
-fn main(rt: HostRuntime) -> io::Result<ExitCode> {
-    let words: Vec<String> = env::args(&rt)?.skip(1).collect(rt.alloc())?;
+/// Reports on each file. Returns the status: 2 if a file cannot be read, else 1 if one has a fault.
+fn lint_all(rt: &HostRuntime, files: &[String], wants_hints: bool) -> io::Result<u8> {
+    let mut status = 0;
+    for file in files {
+        match fs::read_to_string(rt, file.as_str()) {
+            Ok(text) => {
+                let is_faulty = lint(rt, file.as_str(), text.as_str(), wants_hints)?;
+                status = status.max(u8::from(is_faulty));
+            }
+            Err(error) => {
+                eprintln!(rt; "example_linter: cannot read {file}: {error}")?;
+                status = 2;
+            }
+        }
+    }
+    Ok(status)
+}
+
+/// Does what the words say, and returns the status.
+fn run(rt: &HostRuntime) -> io::Result<u8> {
+    let words: Vec<String> = env::args(rt)?.skip(1).collect(rt.alloc())?;
     let (wants_hints, files) = match words.as_slice() {
         [first, files @ ..] if first.as_str() == "--hints" => (true, files),
         files => (false, files),
     };
-    if files.is_empty() {
-        eprintln!(rt; "usage: lint [--hints] FILE..")?;
-        return Ok(ExitCode::from(2));
+    match files {
+        [] => {
+            eprintln!(rt; "{USAGE}")?;
+            Ok(2)
+        }
+        [word] if word.as_str() == "--help" => {
+            println!(rt; "{USAGE}")?;
+            Ok(0)
+        }
+        files => lint_all(rt, files, wants_hints),
     }
-    let mut is_faulty = false;
-    for file in files {
-        is_faulty |= lint(&rt, file.as_str(), wants_hints)?;
+}
+
+/// The arguments are the names of style sheets. The status is 0 if nothing of them is skipped, 1 if
+/// something is, and 2 if a file cannot be read or the lines cannot be written.
+fn main(rt: HostRuntime) -> ExitCode {
+    match run(&rt) {
+        Ok(status) => ExitCode::from(status),
+        Err(error) => {
+            let _ = eprintln!(rt; "example_linter: {error}");
+            ExitCode::from(2)
+        }
     }
-    Ok(if is_faulty {
-        ExitCode::from(1)
-    } else {
-        ExitCode::SUCCESS
-    })
 }

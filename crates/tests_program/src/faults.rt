@@ -1,5 +1,6 @@
 //! What reading a sheet's text skips.
 
+use crate::printed::prints_alike;
 use simplecss::{Error, TextPos};
 use simplecss_faults::{Reason, find_faults};
 use std::alloc::{AllocError, Global};
@@ -93,6 +94,16 @@ fn returns_the_error(rt: HostRuntime) -> Result<(), Fail> {
         faults[0].reason,
         Reason::Selector(Error::InvalidIdent(TextPos::new(2, 6)))
     );
+    Ok(())
+}
+
+#[test]
+fn prints_alike_under_all_options(rt: HostRuntime) -> Result<(), Fail> {
+    let line = "1:1: 'a < b': invalid ident";
+    for fault in &find_faults(rt.alloc(), "a < b { c:d }")? {
+        assert!(rt; prints_alike(rt.alloc(), fault, line)?);
+        assert!(rt; prints_alike(rt.alloc(), &fault.reason, "invalid ident")?);
+    }
     Ok(())
 }
 

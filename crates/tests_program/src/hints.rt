@@ -1,5 +1,6 @@
 //! Hints on what a sheet's text keeps.
 
+use crate::printed::prints_alike;
 use simplecss_faults::{find_hints, open_parenthesis};
 use std::alloc::{AllocError, Global};
 use std::fmt::Write as _;
@@ -18,6 +19,8 @@ const FOUND: &[(&str, &str)] = &[
         "a { width:10px\\9; b:c }",
         "1:11: '10px': the value is cut here\n",
     ),
+    // A parenthesis in a comment does not count.
+    ("a { b:calc(1px /* ( */); c:d }", ""),
     // A string that is not closed is skipped.
     ("a {\n  b: x 'c }\nd { e:f }", ""),
     ("a { b:c *zoom:1 }", "1:7: 'c': the value is cut here\n"),
@@ -60,6 +63,16 @@ fn found(alloc: Global, text: &str) -> Result<String, AllocError> {
 fn finds_what_is_hardly_meant(rt: HostRuntime) -> Result<(), Fail> {
     for (text, wanted) in FOUND {
         assert_eq!(rt; found(rt.alloc(), text)?.as_str(), *wanted, "at {text:?}");
+    }
+    Ok(())
+}
+
+#[test]
+fn prints_alike_under_all_options(rt: HostRuntime) -> Result<(), Fail> {
+    let words = "'10px': the value is cut here";
+    for hint in &find_hints(rt.alloc(), "a { width:10px\\9; b:c }")? {
+        assert!(rt; prints_alike(rt.alloc(), hint, "1:11: '10px': the value is cut here")?);
+        assert!(rt; prints_alike(rt.alloc(), &hint.surprise, words)?);
     }
     Ok(())
 }

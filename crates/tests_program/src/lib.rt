@@ -7,6 +7,10 @@ mod cascade;
 #[cfg(test)]
 mod command;
 #[cfg(test)]
+mod counted;
+#[cfg(test)]
+mod counted_searches;
+#[cfg(test)]
 mod counting;
 #[cfg(test)]
 mod failing_writers;
@@ -16,6 +20,8 @@ mod faults;
 mod hints;
 #[cfg(test)]
 mod page;
+#[cfg(test)]
+mod printed;
 #[cfg(test)]
 mod runs;
 #[cfg(test)]

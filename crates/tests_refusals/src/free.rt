@@ -8,7 +8,7 @@ use log::sink::Discard;
 use simplecss::stream::{Stream, is_name_char, is_name_start};
 use simplecss::{
     AttributeOperator, DeclarationTokenizer, Element, Error, Keyed, PseudoClass, Rule,
-    SelectorTokenizer, StyleSheet, Tests, TextPos,
+    SelectorToken, SelectorTokenizer, StyleSheet, Tests, TextPos,
 };
 use std::alloc::Global;
 
@@ -21,6 +21,7 @@ const PAGE: &str = "0\ta\tid=a\n1\tb\tclass=b\n1\tc\tc=\n";
 /// A sheet and a page.
 #[derive(Drop)]
 pub(crate) struct Made<'t> {
+    alloc: Global,
     sheet: StyleSheet<'t>,
     page: Page<'t>,
 }
@@ -40,6 +41,8 @@ pub(crate) struct Answers {
     winners: (usize, usize),
     /// How many equalities are true.
     equalities: usize,
+    /// Whether a new sheet has no rule.
+    is_empty: bool,
     /// What tables return: the status and the numbers of faults, and whether words are a command.
     tables: (u8, u8, usize, bool),
 }
@@ -153,6 +156,9 @@ fn other_equalities() -> usize {
         RunFault::Refused == RunFault::Refused,
         Command::Selector("a") == Command::Selector("a"),
         AttributeOperator::Exists == AttributeOperator::Exists,
+        PseudoClass::Lang("a") == PseudoClass::Lang("a"),
+        SelectorToken::TypeSelector("a") == SelectorToken::TypeSelector("a"),
+        Stream::new("a") == Stream::new("a"),
     ])
 }
 
@@ -164,7 +170,7 @@ impl<'t> Made<'t> {
             Err(fault) => return Err(RunFault::Tree(fault)),
         };
         match StyleSheet::parse(&Discard, alloc, SHEET) {
-            Ok(sheet) => Ok(Made { sheet, page }),
+            Ok(sheet) => Ok(Made { alloc, sheet, page }),
             Err(_) => Err(RunFault::Memory),
         }
     }
@@ -213,6 +219,7 @@ impl<'t> Made<'t> {
             matches,
             winners,
             equalities: self.equalities(),
+            is_empty: StyleSheet::new(self.alloc).rules.is_empty(),
             tables: (
                 RunFault::Output.status(),
                 fault.number(),

@@ -12,7 +12,7 @@ use cssq::tree::{Page, TreeFault};
 use free::Made;
 use log::Log;
 use log::sink::{Discard, Memory};
-use simplecss::{RuleIndex, Selector, StatementReader, StyleSheet};
+use simplecss::{Recent, RuleIndex, Selector, StatementReader, StyleSheet};
 use simplecss_faults::find_faults;
 use simplecss_tree::{Tree, TreeError};
 use std::alloc::{AllocError, Global};
@@ -234,6 +234,41 @@ fn found_rules(
     Ok(sum)
 }
 
+/// Makes room for what the index finds for earlier elements.
+fn show_recent(rt: &HostRuntime, made: &Made<'_>, text: &str) -> io::Result<()> {
+    let sheet = StyleSheet::parse(&Discard, rt.alloc(), text)?;
+    let index = RuleIndex::new(rt.alloc(), &sheet.rules)?;
+    begin(rt);
+    let recent = Recent::new(rt.alloc(), &index);
+    end(rt, made);
+    match recent {
+        Err(_) => println!(rt; "refused"),
+        Ok(_) => println!(rt; "room"),
+    }
+}
+
+/// Finds the rules of the second and the third element of the page by an index and what it found for
+/// earlier elements. The list of indices has room, so that only what is kept is allocated.
+fn show_kept(rt: &HostRuntime, made: &Made<'_>, text: &str, tree: &str) -> io::Result<()> {
+    let sheet = StyleSheet::parse(&Discard, rt.alloc(), text)?;
+    let Ok(page) = Page::read(rt.alloc(), tree) else {
+        return println!(rt; "no tree");
+    };
+    let (Some(first), Some(second)) = (page.node(1), page.node(2)) else {
+        return println!(rt; "no elements");
+    };
+    let index = RuleIndex::new(rt.alloc(), &sheet.rules)?;
+    let mut recent = Recent::new(rt.alloc(), &index)?;
+    let mut indices = Vec::with_capacity(rt.alloc(), 100)?;
+    begin(rt);
+    let mut outcome = index.matching_recent(&sheet.rules, &first, &mut indices, &mut recent);
+    if outcome.is_ok() {
+        outcome = index.matching_recent(&sheet.rules, &second, &mut indices, &mut recent);
+    }
+    end(rt, made);
+    show_number(rt, outcome.map(|_| indices.len()))
+}
+
 /// Returns the number of declarations that win on the elements of the page.
 fn winner_count(
     alloc: Global,
@@ -318,6 +353,8 @@ fn show<R: Log>(rt: &HostRuntime, made: &Made<'_>, log: &R, words: &[&str]) -> i
             show_number(rt, faults)
         }
         [call @ ("index" | "winners"), text, tree] => show_found(rt, made, call, text, tree),
+        ["recent", text] => show_recent(rt, made, text),
+        ["kept", text, tree] => show_kept(rt, made, text, tree),
         ["tree", names @ ..] => {
             begin(rt);
             let len = chain_len(rt.alloc(), names);
