@@ -26,7 +26,8 @@ is defined in the crate's `specs/`, and reached through `simplecss`, as `Rattle.
 the same for an option. `OnOk r P` is `P` if `r` is an `Ok`, and `OnErr r P` if it is an `Err`. `this_edition` is
 the edition of the rules that is implemented.
 
-No contract can say that memory is left, nor that a call with memory returns an `Ok`: tests do.
+No contract can say that memory is left, nor that a call with memory returns an `Ok`: tests do. Clauses on the tests
+of elements are on the calls that count them; that the calls over these make no others is tested.
 
 ## The headline
 
@@ -35,6 +36,11 @@ QUOTES = (
     ("Matching, by `Selector::matches_counted`, which `matches` calls:", "crates/simplecss_selector/src/selector.rt", "ensures answer { IsTrue result ↔ HasPlacement", 7),
     ("Reading into a sheet, by `StyleSheet::parse_more`:", "crates/simplecss/src/sheet/style_sheet.rt", "ensures sheet { (texts : List (List ℕ)) → rules_in self.old", 2),
 )
+# Laws that are said in one sentence, by words of their names.
+GATHERED = {
+    "Values are equal exactly if what contracts see of them is.": ("equality",),
+    "Blanks and comments are what their definitions say, which do not mention reading.": ("blank", "comment", "space_bytes"),
+}
 CALLS = (
     ("cursor", "simplecss_text/src/stream.rt"),
     ("tokens", "simplecss_selector/src/tokenizer.rt"),
@@ -108,9 +114,12 @@ def page() -> str:
     lines += ["## Laws", "", "Each is the contract of a function that does nothing. A proof calls the function to have the law.", ""]
     lines += ["| Law | Says |", "|---|---|"]
     found = list(laws())
-    lines += [f"| [`{name}`](../{path}) | {sentence} |" for path, name, sentence in found if "equality" not in name]
-    equalities = ", ".join(f"[`{name}`](../{path})" for path, name, _ in found if "equality" in name)
-    lines += ["", f"Values are equal exactly if what contracts see of them is: {equalities}.", "", "## Calls", ""]
+    gathered = {said: [law for law in found if any(word in law[1] for word in words)] for said, words in GATHERED.items()}
+    single = [law for law in found if not any(law in several for several in gathered.values())]
+    lines += [f"| [`{name}`](../{path}) | {sentence} |" for path, name, sentence in single]
+    for said, several in gathered.items():
+        lines.append(f"| {', '.join(f'[`{name}`](../{path})' for path, name, _ in several)} | {said} |")
+    lines += ["", "## Calls", ""]
     missing = [path for _, path in CALLS if not os.path.exists(os.path.join(TOP, "crates", path))]
     if missing:
         raise SystemExit(f"list_contracts.py: there is no {missing[0]}")
