@@ -18,6 +18,7 @@ MAKES = {
     "css_syntax": "today's sheets, cut",
     "css_selectors": "today's selectors",
     "sibling_matching": "matching with ~",
+    "selectors3": "selectors of level 3",
     "simplecss": "rules in order, index",
     "simplecss_tree": "trees of programs",
     "simplecss_faults": "what is skipped, where",

@@ -1,0 +1,3 @@
+pub mod AttributeLemmas
+pub mod NumberLemmas
+pub mod MatchLemmas

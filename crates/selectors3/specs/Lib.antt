@@ -1,0 +1,9 @@
+pub mod Documents
+pub mod Components
+pub mod AttributeTests
+pub mod Numbers
+pub mod Meanings
+pub mod Specificities
+pub mod Views
+pub mod SpecificityViews
+pub mod TriedElements

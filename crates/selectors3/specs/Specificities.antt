@@ -1,0 +1,86 @@
+-- Specificity (section 9; Selectors 4, section 17, for lists). Each count stops at 4,294,967,295.
+use Rattle.std.specs.Prelude.{ℕ, ◌+◌, Bool, ◌&&◌, ◌||◌, ◌==◌, nat_lt, min, if◌then◌else◌, List, [], ◌∷◌, Option, None, Some}
+use Rattle.selectors3.specs.Components.{Simple, Condition, Part, Selector}
+use Rattle.selectors3.specs.Components.Simple.{universal, type_name, id, class, has_attribute, attribute, structure, state}
+use Rattle.selectors3.specs.Components.Condition.{simple, negation, any_of, where_any}
+
+-- the numbers of ids, of classes, attributes and pseudo-classes, and of type names and pseudo-elements
+pub record Counts : Type 0 where
+  pub ids : ℕ
+  pub classes : ℕ
+  pub names : ℕ
+
+abbrev pub nothing : Counts
+nothing = record { ids = 0; classes = 0; names = 0 }
+
+abbrev pub one_id : Counts
+one_id = record { ids = 1; classes = 0; names = 0 }
+
+abbrev pub one_class : Counts
+one_class = record { ids = 0; classes = 1; names = 0 }
+
+abbrev pub one_name : Counts
+one_name = record { ids = 0; classes = 0; names = 1 }
+
+-- a sum that stops at the greatest `u32`
+abbrev pub sum_up_to : ℕ → ℕ → ℕ
+sum_up_to a b = min (a + b) 4294967295
+
+abbrev pub plus : Counts → Counts → Counts
+plus a b = record {
+  ids = sum_up_to a.ids b.ids;
+  classes = sum_up_to a.classes b.classes;
+  names = sum_up_to a.names b.names;
+}
+
+-- the first is less: ids decide, then classes, then names
+abbrev pub is_less : Counts → Counts → Bool
+is_less a b =
+    nat_lt a.ids b.ids
+    || (a.ids == b.ids && (nat_lt a.classes b.classes
+    || (a.classes == b.classes && nat_lt a.names b.names)))
+
+abbrev pub greater : Counts → Counts → Counts
+greater a b = if is_less a b then b else a
+
+abbrev pub of_simple : Simple → Counts
+of_simple universal = nothing
+of_simple (type_name name) = one_name
+of_simple (id text) = one_id
+of_simple (class word) = one_class
+of_simple (has_attribute name) = one_class
+of_simple (attribute name comparison text ignores) = one_class
+of_simple (structure s) = one_class
+of_simple (state name) = one_class
+
+-- what is counted so far, and all of these
+abbrev pub with_simples : Counts → List Simple → Counts
+with_simples so_far [] = so_far
+with_simples so_far (s ∷ simples) = with_simples (plus so_far (of_simple s)) simples
+
+-- the greatest of a list, and of what is greatest so far
+abbrev pub greatest : Counts → List (List Simple) → Counts
+greatest so_far [] = so_far
+greatest so_far (c ∷ compounds) = greatest (greater so_far (with_simples nothing c)) compounds
+
+-- `:not()` and `:is()` count as the greatest of their lists, `:where()` counts nothing
+abbrev pub of_condition : Condition → Counts
+of_condition (simple s) = of_simple s
+of_condition (negation compounds) = greatest nothing compounds
+of_condition (any_of compounds) = greatest nothing compounds
+of_condition (where_any compounds) = nothing
+
+abbrev pub with_conditions : Counts → List Condition → Counts
+with_conditions so_far [] = so_far
+with_conditions so_far (c ∷ conditions) = with_conditions (plus so_far (of_condition c)) conditions
+
+abbrev pub with_parts : Counts → List Part → Counts
+with_parts so_far [] = so_far
+with_parts so_far (p ∷ parts) = with_parts (with_conditions so_far p.conditions) parts
+
+abbrev pub of_pseudo_element : Option (List ℕ) → Counts
+of_pseudo_element None = nothing
+of_pseudo_element (Some name) = one_name
+
+abbrev pub specificity : Selector → Counts
+specificity s = plus (with_parts nothing s.parts) (of_pseudo_element s.pseudo_element)

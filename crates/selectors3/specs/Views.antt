@@ -1,0 +1,71 @@
+-- What contracts see of the parts of a selector: their kinds, and the bytes of their names.
+use Rattle.std.specs.Prelude.{List, map}
+use Rattle.selectors3.specs.declared.components.Comparison.{Comparison as ComparisonOf}
+use Rattle.selectors3.specs.declared.components.Comparison.TheVariants.{Equals, HasWord, HasSubtag, Starts, Ends, Contains}
+use Rattle.selectors3.specs.declared.components.Signed.{Signed as SignedOf}
+use Rattle.selectors3.specs.declared.components.Progression.{Progression as ProgressionOf}
+use Rattle.selectors3.specs.declared.components.Structure.{Structure as StructureOf}
+use Rattle.selectors3.specs.declared.components.Structure.TheVariants.{Root, Empty, FirstChild, LastChild, OnlyChild, FirstOfType, LastOfType, OnlyOfType, NthChild, NthLastChild, NthOfType, NthLastOfType}
+use Rattle.selectors3.specs.declared.components.Simple.{Simple as SimpleOf}
+use Rattle.selectors3.specs.declared.components.Simple.TheVariants.{Universal, TypeName, Id, Class, HasAttribute, Attribute, Structure as StructureIs, State}
+use Rattle.selectors3.specs.declared.components.Compound.{Compound}
+use Rattle.selectors3.specs.declared.components.Condition.{Condition as ConditionOf}
+use Rattle.selectors3.specs.declared.components.Condition.TheVariants.{Simple as SimpleIs, Not, Is, Where}
+use Rattle.selectors3.specs.declared.components.Part.{Part as PartOf}
+use Rattle.selectors3.specs.Components.{Comparison, Signed, Progression, Structure, Simple, Condition, Part}
+use Rattle.selectors3.specs.Components.Comparison.{equals, has_word, has_subtag, starts, ends, contains}
+use Rattle.selectors3.specs.Components.Structure.{root, empty, first_child, last_child, only_child, first_of_type, last_of_type, only_of_type, nth_child, nth_last_child, nth_of_type, nth_last_of_type}
+use Rattle.selectors3.specs.Components.Simple.{universal, type_name, id, class, has_attribute, attribute, structure, state}
+use Rattle.selectors3.specs.Components.Condition.{simple, negation, any_of, where_any}
+
+abbrev pub comparison_of : ComparisonOf → Comparison
+comparison_of Equals = equals
+comparison_of HasWord = has_word
+comparison_of HasSubtag = has_subtag
+comparison_of Starts = starts
+comparison_of Ends = ends
+comparison_of Contains = contains
+
+abbrev pub signed_of : SignedOf → Signed
+signed_of s = record { is_negative = s.is_negative; size = s.size }
+
+abbrev pub progression_of : ProgressionOf → Progression
+progression_of p = record { step = signed_of p.step; offset = signed_of p.offset }
+
+abbrev pub structure_of : StructureOf → Structure
+structure_of Root = root
+structure_of Empty = empty
+structure_of FirstChild = first_child
+structure_of LastChild = last_child
+structure_of OnlyChild = only_child
+structure_of FirstOfType = first_of_type
+structure_of LastOfType = last_of_type
+structure_of OnlyOfType = only_of_type
+structure_of (NthChild p) = nth_child (progression_of p)
+structure_of (NthLastChild p) = nth_last_child (progression_of p)
+structure_of (NthOfType p) = nth_of_type (progression_of p)
+structure_of (NthLastOfType p) = nth_last_of_type (progression_of p)
+
+abbrev pub simple_of : SimpleOf → Simple
+simple_of Universal = universal
+simple_of (TypeName name) = type_name name.now
+simple_of (Id name) = id name.now
+simple_of (Class name) = class name.now
+simple_of (HasAttribute name) = has_attribute name.now
+simple_of (Attribute test) =
+    attribute test.name.now (comparison_of test.comparison) test.text.now
+    test.ignores_case
+simple_of (StructureIs s) = structure (structure_of s)
+simple_of (State name) = state name.now
+
+abbrev pub compound_of : Compound → List Simple
+compound_of c = map simple_of c.simples.items
+
+abbrev pub condition_of : ConditionOf → Condition
+condition_of (SimpleIs s) = simple (simple_of s)
+condition_of (Not compounds) = negation (map compound_of compounds.items)
+condition_of (Is compounds) = any_of (map compound_of compounds.items)
+condition_of (Where compounds) = where_any (map compound_of compounds.items)
+
+abbrev pub part_of : PartOf → Part
+part_of p = record { combinator = p.combinator; conditions = map condition_of p.conditions.items }

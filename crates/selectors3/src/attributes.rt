@@ -1,0 +1,141 @@
+//! Whether an attribute's value satisfies a condition.
+ghost use Rattle.std.specs.Prelude.{◌≡◌, ◌≤◌, true, IsTrue, drop, length};
+ghost use Rattle.std.specs.List.{list_any};
+ghost use Rattle.simplecss_text.specs.Characters.{is_space as is_space_byte};
+ghost use Rattle.selectors3.specs.AttributeTests.{same_byte as is_same_byte, begins as begins_by};
+ghost use Rattle.selectors3.specs.AttributeTests.{begins_up_to, is_word_of, occurs_in, is_satisfied};
+ghost use Rattle.selectors3.specs.AttributeTests.{is_hyphen};
+ghost use Rattle.selectors3.specs.Views.{comparison_of};
+
+use crate::Comparison;
+
+/// Whether the byte is white space.
+fn is_space(byte: u8) -> bool
+    ensures { result ≡ is_space_byte byte }
+{
+    matches!(byte, b' ' | b'\t' | b'\n' | b'\r' | b'\x0C')
+}
+
+/// Whether the bytes are the same, but for the case of ASCII letters if it is ignored.
+#[inline(always)]
+fn same_byte(ignores_case: bool, one: u8, other: u8) -> bool
+    ensures { result ≡ is_same_byte ignores_case one other }
+{
+    if ignores_case {
+        one.eq_ignore_ascii_case(&other)
+    } else {
+        one == other
+    }
+}
+
+/// Whether the value begins with the text.
+fn begins(ignores_case: bool, text: &[u8], value: &[u8]) -> bool
+    ensures answer { result ≡ begins_by ignores_case text.now value.now }
+    ensures within { IsTrue result → length text.now ≤ length value.now }
+{
+    let mut wanted = text;
+    let mut found = value;
+    'bytes: while let [byte, wanted_after @ ..] = wanted {
+        match found {
+            [other, found_after @ ..] if same_byte(ignores_case, *byte, *other) => {
+                found = found_after;
+            }
+            _ => return false,
+        }
+        wanted = wanted_after;
+    }
+    true
+}
+
+/// Whether the value is the text, or the text and then a hyphen at its start.
+fn has_subtag(ignores_case: bool, text: &[u8], value: &[u8]) -> bool
+    ensures { result ≡ begins_up_to is_hyphen ignores_case text.now value.now }
+{
+    begins(ignores_case, text, value) && matches!(&value[text.len()..], [] | [b'-', ..])
+}
+
+/// Whether the value begins with the text and then ends or has white space.
+fn begins_word(ignores_case: bool, text: &[u8], value: &[u8]) -> bool
+    ensures { result ≡ begins_up_to is_space_byte ignores_case text.now value.now }
+{
+    if !begins(ignores_case, text, value) {
+        return false;
+    }
+    match &value[text.len()..] {
+        [] => true,
+        [byte, ..] => is_space(*byte),
+    }
+}
+
+/// Whether the text is a word of the value.
+fn is_word(ignores_case: bool, text: &[u8], value: &[u8]) -> bool
+    ensures { result ≡ is_word_of true ignores_case text.now value.now }
+{
+    let mut may_begin = true;
+    let mut rest = value;
+    'bytes: while let [byte, after @ ..] = rest {
+        if may_begin && begins_word(ignores_case, text, rest) {
+            return true;
+        }
+        may_begin = is_space(*byte);
+        rest = after;
+    }
+    false
+}
+
+/// Whether the text occurs in the value.
+fn occurs(ignores_case: bool, text: &[u8], value: &[u8]) -> bool
+    ensures { result ≡ occurs_in ignores_case text.now value.now }
+{
+    let mut rest = value;
+    'bytes: while let [_, after @ ..] = rest {
+        if begins(ignores_case, text, rest) {
+            return true;
+        }
+        rest = after;
+    }
+    false
+}
+
+/// Whether there is white space in the text.
+fn has_space(text: &[u8]) -> bool
+    ensures { result ≡ list_any is_space_byte text.now }
+{
+    let mut rest = text;
+    'bytes: while let [byte, after @ ..] = rest {
+        if is_space(*byte) {
+            return true;
+        }
+        rest = after;
+    }
+    false
+}
+
+/// Whether an attribute's value satisfies the comparison with the text.
+pub(crate) fn is_satisfied(
+    comparison: Comparison,
+    ignores_case: bool,
+    text: &str,
+    value: &str,
+) -> bool
+    ensures { result ≡ is_satisfied (comparison_of comparison) ignores_case text.now value.now }
+{
+    let (text, value) = (text.as_bytes(), value.as_bytes());
+    match comparison {
+        Comparison::Equals => { text.len() == value.len() && begins(ignores_case, text, value) }
+        Comparison::HasWord => {
+            !text.is_empty() && !has_space(text) && is_word(ignores_case, text, value)
+        }
+        Comparison::HasSubtag => has_subtag(ignores_case, text, value),
+        Comparison::Starts => !text.is_empty() && begins(ignores_case, text, value),
+        Comparison::Ends => {
+            !text.is_empty()
+                && begins(
+                    ignores_case,
+                    text,
+                    &value[value.len().saturating_sub(text.len())..],
+                )
+        }
+        Comparison::Contains => !text.is_empty() && occurs(ignores_case, text, value),
+    }
+}

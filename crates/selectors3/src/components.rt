@@ -1,0 +1,129 @@
+//! The components of a selector. Names and values are texts without escapes.
+use sibling_matching::Combinator;
+
+/// How an attribute's value is compared with the text of a selector.
+#[derive(Clone, Copy, Debug, PartialEq)]
+pub enum Comparison {
+    /// `=`: the value is the text.
+    Equals,
+    /// `~=`: the text is one of the words of the value.
+    HasWord,
+    /// `|=`: the value is the text, or the text and then a hyphen.
+    HasSubtag,
+    /// `^=`: the value starts with the text.
+    Starts,
+    /// `$=`: the value ends with the text.
+    Ends,
+    /// `*=`: the text occurs in the value.
+    Contains,
+}
+
+/// A number and its sign.
+#[derive(Clone, Copy, Debug, PartialEq)]
+pub struct Signed {
+    /// Whether the sign is a minus.
+    pub is_negative: bool,
+    /// How far the number is from 0.
+    pub size: u32,
+}
+
+/// `An+B`: every A-th sibling from the B-th on.
+#[derive(Clone, Copy, Debug, PartialEq)]
+pub struct Progression {
+    /// A.
+    pub step: Signed,
+    /// B.
+    pub offset: Signed,
+}
+
+/// A structural pseudo-class.
+#[derive(Clone, Copy, Debug, PartialEq)]
+pub enum Structure {
+    /// `:root`
+    Root,
+    /// `:empty`
+    Empty,
+    /// `:first-child`
+    FirstChild,
+    /// `:last-child`
+    LastChild,
+    /// `:only-child`
+    OnlyChild,
+    /// `:first-of-type`
+    FirstOfType,
+    /// `:last-of-type`
+    LastOfType,
+    /// `:only-of-type`
+    OnlyOfType,
+    /// `:nth-child(..)`
+    NthChild(Progression),
+    /// `:nth-last-child(..)`
+    NthLastChild(Progression),
+    /// `:nth-of-type(..)`
+    NthOfType(Progression),
+    /// `:nth-last-of-type(..)`
+    NthLastOfType(Progression),
+}
+
+/// A condition on an attribute.
+#[derive(Clone, Copy)]
+pub struct AttributeTest<'a> {
+    /// The name of the attribute.
+    pub name: &'a str,
+    /// How its value is compared.
+    pub comparison: Comparison,
+    /// What it is compared with.
+    pub text: &'a str,
+    /// Whether the case of ASCII letters is ignored.
+    pub ignores_case: bool,
+}
+
+/// A simple selector that has no other selectors in it.
+#[derive(Clone, Copy)]
+pub enum Simple<'a> {
+    /// `*`
+    Universal,
+    /// A name.
+    TypeName(&'a str),
+    /// `#id`
+    Id(&'a str),
+    /// `.class`
+    Class(&'a str),
+    /// `[name]`
+    HasAttribute(&'a str),
+    /// `[name=text]` and the like
+    Attribute(AttributeTest<'a>),
+    /// A structural pseudo-class.
+    Structure(Structure),
+    /// Any other pseudo-class, by its name.
+    State(&'a str),
+}
+
+/// Simple selectors that all must hold.
+#[derive(Drop)]
+pub struct Compound<'a> {
+    /// The simple selectors.
+    pub simples: Vec<Simple<'a>>,
+}
+
+/// A simple selector, or a pseudo-class with a list of compound selectors.
+#[derive(Drop)]
+pub enum Condition<'a> {
+    /// A simple selector.
+    Simple(Simple<'a>),
+    /// `:not(..)`
+    Not(Vec<Compound<'a>>),
+    /// `:is(..)`
+    Is(Vec<Compound<'a>>),
+    /// `:where(..)`
+    Where(Vec<Compound<'a>>),
+}
+
+/// A compound selector, and how it is joined to the one before it.
+#[derive(Drop)]
+pub struct Part<'a> {
+    /// How it is joined to the one before it. Of the first one this says nothing.
+    pub combinator: Combinator,
+    /// What an element must satisfy.
+    pub conditions: Vec<Condition<'a>>,
+}

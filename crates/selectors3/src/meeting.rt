@@ -1,0 +1,123 @@
+//! Whether an element satisfies conditions.
+ghost use Rattle.std.specs.Prelude.{◌≡◌, ◌+◌, map, Option, option_map};
+ghost use Rattle.selectors3.specs.Meanings.{satisfies, is_placed, holds as holds_on};
+ghost use Rattle.selectors3.specs.Meanings.{hold as hold_on, holds_any as holds_any_on};
+ghost use Rattle.selectors3.specs.Meanings.{is_met as is_met_on, are_met as are_met_on};
+ghost use Rattle.selectors3.specs.Views.{comparison_of, structure_of, simple_of, compound_of, condition_of};
+
+use crate::attributes::is_satisfied;
+use crate::{Comparison, Compound, Condition, Element3, Simple, Structure};
+
+/// Whether there is a value, and it satisfies the comparison with the text.
+fn has_value(comparison: Comparison, ignores_case: bool, text: &str, value: Option<&str>) -> bool
+    ensures { result ≡ satisfies (comparison_of comparison) ignores_case text.now
+        (option_map (λ v. v.now) value.entry) }
+{
+    match value {
+        Some(value) => is_satisfied(comparison, ignores_case, text, value),
+        None => false,
+    }
+}
+
+/// Whether the element has the place among the others.
+fn is_placed_on<E: Element3>(structure: Structure, element: &E) -> bool
+    ensures { result ≡ is_placed E.document (E.node element.now) (structure_of structure) }
+{
+    match structure {
+        Structure::Root => element.parent().is_none(),
+        Structure::Empty => !element.has_content(),
+        Structure::FirstChild => element.earlier_siblings() == 0,
+        Structure::LastChild => element.later_siblings() == 0,
+        Structure::OnlyChild => element.earlier_siblings() == 0 && element.later_siblings() == 0,
+        Structure::FirstOfType => element.earlier_of_type() == 0,
+        Structure::LastOfType => element.later_of_type() == 0,
+        Structure::OnlyOfType => element.earlier_of_type() == 0 && element.later_of_type() == 0,
+        Structure::NthChild(p) => p.has(u64::from(element.earlier_siblings()) + 1),
+        Structure::NthLastChild(p) => p.has(u64::from(element.later_siblings()) + 1),
+        Structure::NthOfType(p) => p.has(u64::from(element.earlier_of_type()) + 1),
+        Structure::NthLastOfType(p) => p.has(u64::from(element.later_of_type()) + 1),
+    }
+}
+
+/// Whether the element satisfies the simple selector.
+fn holds<E: Element3>(simple: &Simple<'_>, element: &E) -> bool
+    ensures { result ≡ holds_on E.document (E.node element.now) (simple_of simple.now) }
+{
+    match simple {
+        Simple::Universal => true,
+        Simple::TypeName(name) => element.is_named(name),
+        Simple::Id(id) => has_value(Comparison::Equals, false, id, element.attribute("id")),
+        Simple::Class(class) => {
+            has_value(
+                Comparison::HasWord,
+                false,
+                class,
+                element.attribute("class"),
+            )
+        }
+        Simple::HasAttribute(name) => element.attribute(name).is_some(),
+        Simple::Attribute(test) => has_value(
+            test.comparison,
+            test.ignores_case,
+            test.text,
+            element.attribute(test.name),
+        ),
+        Simple::Structure(structure) => is_placed_on(*structure, element),
+        Simple::State(name) => element.is_in_state(name),
+    }
+}
+
+/// Whether the element satisfies all simple selectors.
+fn hold<E: Element3>(simples: &[Simple<'_>], element: &E) -> bool
+    ensures { result ≡ hold_on E.document (E.node element.now) (map simple_of simples.now) }
+{
+    let mut rest = simples;
+    'simples: while let [simple, after @ ..] = rest {
+        if !holds(simple, element) {
+            return false;
+        }
+        rest = after;
+    }
+    true
+}
+
+/// Whether the element satisfies one of the compound selectors.
+fn holds_any<E: Element3>(compounds: &[Compound<'_>], element: &E) -> bool
+    ensures { result ≡ holds_any_on E.document (E.node element.now) (map compound_of compounds.now) }
+{
+    let mut rest = compounds;
+    'compounds: while let [compound, after @ ..] = rest {
+        if hold(compound.simples.as_slice(), element) {
+            return true;
+        }
+        rest = after;
+    }
+    false
+}
+
+/// Whether the element satisfies the condition.
+fn is_met<E: Element3>(condition: &Condition<'_>, element: &E) -> bool
+    ensures { result ≡ is_met_on E.document (E.node element.now) (condition_of condition.now) }
+{
+    match condition {
+        Condition::Simple(simple) => holds(simple, element),
+        Condition::Not(compounds) => !holds_any(compounds.as_slice(), element),
+        Condition::Is(compounds) | Condition::Where(compounds) => {
+            holds_any(compounds.as_slice(), element)
+        }
+    }
+}
+
+/// Whether the element satisfies all conditions.
+pub(crate) fn are_met<E: Element3>(conditions: &[Condition<'_>], element: &E) -> bool
+    ensures { result ≡ are_met_on E.document (E.node element.now) (map condition_of conditions.now) }
+{
+    let mut rest = conditions;
+    'conditions: while let [condition, after @ ..] = rest {
+        if !is_met(condition, element) {
+            return false;
+        }
+        rest = after;
+    }
+    true
+}

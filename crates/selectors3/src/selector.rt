@@ -1,0 +1,60 @@
+//! Selectors.
+use crate::Part;
+use std::marker::Model;
+
+/// A selector: compound selectors joined by combinators, and a pseudo-element at the end if it has one.
+#[derive(Drop)]
+pub struct Selector3<'a> {
+    /// The compound selectors, from left to right. There is at least one.
+    pub(crate) parts: Vec<Part<'a>>,
+    /// The name of the pseudo-element.
+    pub(crate) pseudo_element: Option<&'a str>,
+}
+
+impl<'a> Model for Selector3<'a> {
+    ghost use Rattle.std.specs.Prelude.{◌<◌, length, map, option_map};
+    ghost use Rattle.selectors3.specs.Components.{Selector};
+    ghost use Rattle.selectors3.specs.Views.{part_of};
+
+    ghost Value = { Selector };
+
+    ghost view = { λ s. record {
+      parts = map part_of s.parts.items;
+      pseudo_element = option_map (λ name. name.now) s.pseudo_element;
+    } };
+
+    ghost invariant = { λ s. 0 < length s.parts.items };
+}
+
+impl<'a> Selector3<'a> {
+    ghost use Rattle.std.specs.Prelude.{◌≡◌, ◌<◌, length, map, option_map};
+    ghost use Rattle.selectors3.specs.Views.{part_of};
+
+    /// Returns the selector of these compound selectors, of which there is one at least, and of the
+    /// pseudo-element at its end, if it has one.
+    pub fn new(parts: Vec<Part<'a>>, pseudo_element: Option<&'a str>) -> Selector3<'a>
+        requires { 0 < length parts.items }
+        ensures parts { result.parts ≡ map part_of parts.entry.items }
+        ensures pseudo_element { result.pseudo_element
+            ≡ option_map (λ name. name.now) pseudo_element.entry }
+    {
+        Selector3 {
+            parts,
+            pseudo_element,
+        }
+    }
+
+    /// Returns the compound selectors, from left to right.
+    pub fn parts(&self) -> &[Part<'a>]
+        ensures { map part_of result.now ≡ self.now.parts }
+    {
+        self.parts.as_slice()
+    }
+
+    /// Returns the name of the pseudo-element at the end, if there is one.
+    pub fn pseudo_element(&self) -> Option<&'a str>
+        ensures { option_map (λ name. name.now) result ≡ self.now.pseudo_element }
+    {
+        self.pseudo_element
+    }
+}

@@ -1,0 +1,168 @@
+//! Specificity.
+ghost use Rattle.std.specs.Prelude.{◌≡◌, map};
+ghost use Rattle.selectors3.specs.Specificities.{Counts, nothing, one_id, one_class, one_name};
+ghost use Rattle.selectors3.specs.Specificities.{plus as sum_of, greater as greater_of, is_less};
+ghost use Rattle.selectors3.specs.Specificities.{of_simple as counts_of_simple, with_simples};
+ghost use Rattle.selectors3.specs.Specificities.{greatest as greatest_of};
+ghost use Rattle.selectors3.specs.Specificities.{of_condition as counts_of_condition, with_conditions};
+ghost use Rattle.selectors3.specs.Specificities.{with_parts, specificity as specificity_of};
+ghost use Rattle.selectors3.specs.SpecificityViews.{counts_of};
+ghost use Rattle.selectors3.specs.Views.{simple_of, compound_of, condition_of, part_of};
+
+use crate::{Compound, Condition, Part, Selector3, Simple};
+
+/// How specific a selector is: ids count more than classes, and these more than names.
+#[derive(Clone, Copy, Debug, PartialEq, Eq, PartialOrd, Ord)]
+pub struct Specificity {
+    /// The number of ids.
+    pub ids: u32,
+    /// The number of classes, attributes and pseudo-classes.
+    pub classes: u32,
+    /// The number of type names and pseudo-elements.
+    pub names: u32,
+}
+
+/// Nothing is counted.
+const NOTHING: Specificity = Specificity {
+    ids: 0,
+    classes: 0,
+    names: 0,
+};
+
+/// Returns the sum, each count of which stops at the greatest number.
+fn plus(one: Specificity, other: Specificity) -> Specificity
+    ensures { counts_of result ≡ sum_of (counts_of one) (counts_of other) }
+{
+    Specificity {
+        ids: one.ids.saturating_add(other.ids),
+        classes: one.classes.saturating_add(other.classes),
+        names: one.names.saturating_add(other.names),
+    }
+}
+
+/// Whether the first is less specific.
+fn is_less_specific(one: Specificity, other: Specificity) -> bool
+    ensures { result ≡ is_less (counts_of one) (counts_of other) }
+{
+    one.ids < other.ids
+        || (one.ids == other.ids
+            && (one.classes < other.classes
+                || (one.classes == other.classes && one.names < other.names)))
+}
+
+/// Returns the more specific of the two.
+fn greater(one: Specificity, other: Specificity) -> Specificity
+    ensures { counts_of result ≡ greater_of (counts_of one) (counts_of other) }
+{
+    if is_less_specific(one, other) {
+        other
+    } else {
+        one
+    }
+}
+
+/// Returns what a simple selector counts.
+fn of_simple(simple: &Simple<'_>) -> Specificity
+    ensures { counts_of result ≡ counts_of_simple (simple_of simple.now) }
+{
+    match simple {
+        Simple::Universal => NOTHING,
+        Simple::TypeName(_) => Specificity {
+            names: 1,
+            ..NOTHING
+        },
+        Simple::Id(_) => Specificity { ids: 1, ..NOTHING },
+        Simple::Class(_)
+        | Simple::HasAttribute(_)
+        | Simple::Attribute(_)
+        | Simple::Structure(_)
+        | Simple::State(_) => Specificity {
+            classes: 1,
+            ..NOTHING
+        },
+    }
+}
+
+/// Returns what simple selectors count together.
+fn of_simples(simples: &[Simple<'_>]) -> Specificity
+    ensures { counts_of result ≡ with_simples nothing (map simple_of simples.now) }
+{
+    let mut counted = NOTHING;
+    let mut rest = simples;
+    'simples: while let [simple, after @ ..] = rest {
+        counted = plus(counted, of_simple(simple));
+        rest = after;
+    }
+    counted
+}
+
+/// Returns the greatest that one of the compound selectors counts.
+fn greatest(compounds: &[Compound<'_>]) -> Specificity
+    ensures { counts_of result ≡ greatest_of nothing (map compound_of compounds.now) }
+{
+    let mut most = NOTHING;
+    let mut rest = compounds;
+    'compounds: while let [compound, after @ ..] = rest {
+        most = greater(most, of_simples(compound.simples.as_slice()));
+        rest = after;
+    }
+    most
+}
+
+/// Returns what a condition counts.
+fn of_condition(condition: &Condition<'_>) -> Specificity
+    ensures { counts_of result ≡ counts_of_condition (condition_of condition.now) }
+{
+    match condition {
+        Condition::Simple(simple) => of_simple(simple),
+        Condition::Not(compounds) | Condition::Is(compounds) => greatest(compounds.as_slice()),
+        Condition::Where(_) => NOTHING,
+    }
+}
+
+/// Adds what conditions count.
+fn with_each(so_far: Specificity, conditions: &[Condition<'_>]) -> Specificity
+    ensures { counts_of result
+        ≡ with_conditions (counts_of so_far) (map condition_of conditions.now) }
+{
+    let mut counted = so_far;
+    let mut rest = conditions;
+    'conditions: while let [condition, after @ ..] = rest {
+        counted = plus(counted, of_condition(condition));
+        rest = after;
+    }
+    counted
+}
+
+/// Returns what the parts of a selector count.
+fn of_parts(parts: &[Part<'_>]) -> Specificity
+    ensures { counts_of result ≡ with_parts nothing (map part_of parts.now) }
+{
+    let mut counted = NOTHING;
+    let mut rest = parts;
+    'parts: while let [part, after @ ..] = rest {
+        counted = with_each(counted, part.conditions.as_slice());
+        rest = after;
+    }
+    counted
+}
+
+impl<'a> Selector3<'a> {
+    ghost use Rattle.selectors3.specs.Specificities.{specificity as specificity_of};
+    ghost use Rattle.selectors3.specs.SpecificityViews.{counts_of};
+
+    /// Returns the specificity. `:is()` and `:not()` count as the most specific of their lists, and
+    /// `:where()` counts nothing.
+    pub fn specificity(&self) -> Specificity
+        ensures { counts_of result ≡ specificity_of self.now }
+    {
+        let pseudo_element = match self.pseudo_element {
+            Some(_) => Specificity {
+                names: 1,
+                ..NOTHING
+            },
+            None => NOTHING,
+        };
+        plus(of_parts(self.parts.as_slice()), pseudo_element)
+    }
+}
