@@ -71,7 +71,7 @@ at_rule_ended-within name prelude rest =
     (past_byte-within semicolon rest)
 
 -- an at-rule consumes its `@`
-at-less : (b : ℕ) (text : List ℕ) → begins_at_rule (b ∷ text) ≡ true
+pub at-less : (b : ℕ) (text : List ℕ) → begins_at_rule (b ∷ text) ≡ true
     → length (past_byte at_sign (b ∷ text)) ≤ length text
 at-less b text e = by (b == at_sign) refl
   where

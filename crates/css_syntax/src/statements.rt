@@ -105,9 +105,11 @@ struct FoundStatement<'a> {
 
 /// A part of a sheet and the rest after it.
 #[derive(Clone, Copy)]
-struct FoundPart<'a> {
-    part: SheetPart<'a>,
-    rest: &'a str,
+pub struct FoundPart<'a> {
+    /// The part.
+    pub part: SheetPart<'a>,
+    /// The rest.
+    pub rest: &'a str,
 }
 
 /// Whether the byte may begin a name.
@@ -320,7 +322,7 @@ pub fn ends_block(bytes: &[u8], in_block: bool) -> bool
 
 /// Reads the next statement, after what is before it.
 #[tactic(auto, unfolding(crate::specs::Statements::next_statement))]
-fn read_part(text: &str, in_block: bool) -> Option<FoundPart<'_>>
+pub fn read_next(text: &str, in_block: bool) -> Option<FoundPart<'_>>
     ensures { next_statement in_block text.now
         ≡ option_map (λ found. (sheet_part_of found.part, found.rest.now)) result }
 {
@@ -391,7 +393,7 @@ impl<'a> Iterator for Statements<'a> {
 
     /// Returns the next statement, with its text.
     fn next(&mut self) -> Option<SheetPart<'a>> {
-        match read_part(self.rest, self.in_block) {
+        match read_next(self.rest, self.in_block) {
             Some(found) => {
                 self.rest = found.rest;
                 Some(found.part)

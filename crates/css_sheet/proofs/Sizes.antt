@@ -1,0 +1,185 @@
+-- How long a group rule's block is, and what is left after it.
+-- Serves `SheetReader::step` (its measure).
+use Rattle.std.proofs.Common.{◌≡◌, ℕ, zero, suc, ◌+◌, ◌<◌, ◌≤◌, ◌-◌, Bool, true, false, List, [], ◌∷◌, length, map, Option, Some, None, arith, refl, subst, if◌then◌else◌, length-take-le}
+use Rattle.simplecss_text.specs.AsciiBytes.{open_brace, close_brace, at_sign}
+use Rattle.simplecss_text.specs.Reading.{before, each, up_to, and_then}
+use Rattle.simplecss_text.specs.Bytes.{past_byte, starts}
+use Rattle.simplecss_text.specs.Declarations.{last_or}
+use Rattle.simplecss_text.proofs.reading.TakesLemmas.{length-past_byte}
+use Rattle.simplecss_text.proofs.reading.EndsLemmas.{length-ends}
+use Rattle.css_syntax.specs.declared.quality.Quality.{Quality}
+use Rattle.css_syntax.specs.declared.parts.Stops.{Stops}
+use Rattle.css_syntax.specs.Tokens.{past_gap, past_word}
+use Rattle.css_syntax.specs.Parts.{Stated, part, parts}
+use Rattle.css_syntax.specs.Statements.{begins_at_rule, BlockText, block_ends, block, AtRuleText, at_rule_ends, at_rule_ended, at_rule, at_rule_statement, rule_set_ends, rule_set_ended, statement, past_between, ends_block, SheetText, statement_from, next_statement, with_text}
+use Rattle.css_syntax.proofs.Shorter.{past_word_within}
+use Rattle.css_syntax.proofs.PartLemmas.{past_gap-within, parts-within, part-follows}
+use Rattle.css_syntax.proofs.PartTexts.{end-well}
+use Rattle.css_syntax.proofs.ItemLemmas.{between-well, at-less}
+use Rattle.css_sheet.specs.SheetItems.{GroupText, group_with, group_of, is_group_name}
+
+-- ---- the text of parts and what is left after them
+
+last-after : (stops : Stops) (n : ℕ) (text end : List ℕ) → length text ≤ length end
+    → length (up_to n (part stops) text).1
+    ≤ length (last_or end (map (λ one. one.1) (up_to n (part stops) text).0))
+last-after stops zero text end h = h
+last-after stops (suc n) text end h =
+    by (λ t e g. last-after stops n t e g) (part stops text) (λ x e. (part-follows stops text x e).1)
+  where
+    by : ((t e : List ℕ) → length t ≤ length e → length (up_to n (part stops) t).1
+        ≤ length (last_or e (map (λ one. one.1) (up_to n (part stops) t).0)))
+        → (o : Option ((Quality × List ℕ) × List ℕ))
+        → ((x : (Quality × List ℕ) × List ℕ) → o ≡ Some x → length x.1 ≤ length x.0.1)
+        → length (and_then text o (up_to n (part stops))).1
+        ≤ length (last_or end (map (λ one. one.1) (and_then text o (up_to n (part stops))).0))
+    by more None f = h
+    by more (Some x) f = more x.1 x.0.1 (f x refl)
+
+end-within : (stops : Stops) (text : List ℕ)
+    → length (last_or text (map (λ one. one.1) (up_to (length text) (part stops) text).0))
+    ≤ length text
+unfolding each
+end-within stops text = length-ends text _ (end-well stops text).0
+
+parts-sum : (stops : Stops) (text : List ℕ)
+    → length (parts stops text).0.text + length (parts stops text).1 ≤ length text
+unfolding parts each
+parts-sum stops text =
+    let end = last_or text (map (λ one. one.1) (up_to (length text) (part stops) text).0) in
+    let inside : length end ≤ length text = end-within stops text in
+    let taken : length (before text end) ≡ length text - length end =
+    length-take-le _ text (omega arith) in
+    omega (arith, last-after stops (length text) text text (omega arith), taken, inside)
+
+-- ---- blocks
+
+block-sum : (text : List ℕ) → length (block text).0.text + length (block text).1 ≤ length text
+unfolding block
+block-sum text =
+    let inside = parts block_ends (past_gap text) in
+    omega (
+      arith,
+      parts-sum block_ends (past_gap text),
+      length-past_byte close_brace inside.1,
+      past_gap-within text,
+    )
+
+open-less : (text : List ℕ) → starts open_brace text ≡ true
+    → length (past_byte open_brace text) < length text
+open-less [] e = absurd (cc)
+open-less (b ∷ text) e = rw e (omega arith)
+
+-- the block of a group rule and what is left after it, by what is left after its prelude
+Fits : ℕ → Option GroupText → List ℕ → Type 0
+Fits n None rest = Unit {0}
+Fits n (Some group) rest = length group.text + length rest < n
+
+group_with-fits : (n : ℕ) (rule : AtRuleText) (found : BlockText) (rest : List ℕ)
+    → length found.text + length rest < n → Fits n (group_with rule (Some found)) rest
+unfolding Fits
+group_with-fits n rule found rest h = by (is_group_name rule.name)
+  where
+    by : (t : Bool) → Fits n (if t then Some (record {
+      condition = record { name = rule.name; prelude = rule.prelude.text };
+      text = found.text;
+    }) else None) rest
+    by true = h
+    by false = tt
+
+ended-fits : (name : List ℕ) (prelude : Stated) (rest : List ℕ)
+    → Fits (length rest) (group_of (at_rule_statement (at_rule_ended name prelude rest).0))
+    (at_rule_ended name prelude rest).1
+unfolding Fits
+ended-fits name prelude rest = by (starts open_brace rest) refl
+  where
+    by : (t : Bool) → starts open_brace rest ≡ t
+        → Fits (length rest) (group_of (at_rule_statement (at_rule_ended name prelude rest).0))
+        (at_rule_ended name prelude rest).1
+    by true e =
+        let found = block (past_byte open_brace rest) in
+        rw e (group_with-fits (length rest)
+        (record { name = name; prelude = prelude; block = Some found.0 }) found.0 found.1
+        (omega (arith, block-sum (past_byte open_brace rest), open-less rest e)))
+    by false e = rw e tt
+
+fits-more : (m n : ℕ) (o : Option GroupText) (rest : List ℕ) → m ≤ n → Fits m o rest → Fits n o rest
+unfolding Fits
+fits-more m n None rest h f = tt
+fits-more m n (Some group) rest h f = omega (arith, h, f)
+
+at_rule-fits : (in_block : Bool) (b : ℕ) (text : List ℕ) → begins_at_rule (b ∷ text) ≡ true
+    → Fits (length text) (group_of (at_rule_statement (at_rule in_block (b ∷ text)).0))
+    (at_rule in_block (b ∷ text)).1
+unfolding at_rule
+at_rule-fits in_block b text e =
+    let start = past_byte at_sign (b ∷ text) in
+    let stops = at_rule_ends in_block in
+    let prelude = parts stops (past_gap (past_word start)) in
+    fits-more (length prelude.1) (length text) _ _
+    (omega (
+      arith,
+      parts-within stops (past_gap (past_word start)),
+      past_gap-within (past_word start),
+      past_word_within start,
+      at-less b text e,
+    ))
+    (ended-fits (before start (past_word start)) prelude.0 prelude.1)
+
+-- what is no at-rule is no group rule
+rule-fits : (n : ℕ) (prelude : Stated) (rest : List ℕ)
+    → Fits n (group_of (rule_set_ended prelude rest).0) (rule_set_ended prelude rest).1
+unfolding Fits
+rule-fits n prelude rest = by (starts open_brace rest) refl
+  where
+    by : (t : Bool) → starts open_brace rest ≡ t
+        → Fits n (group_of (rule_set_ended prelude rest).0) (rule_set_ended prelude rest).1
+    by true e = rw e tt
+    by false e = rw e tt
+
+statement-fits : (in_block : Bool) (b : ℕ) (text : List ℕ)
+    → Fits (length text) (group_of (statement in_block (b ∷ text)).0) (statement in_block (b ∷ text)).1
+unfolding statement
+statement-fits in_block b text = by (begins_at_rule (b ∷ text)) refl
+  where
+    by : (t : Bool) → begins_at_rule (b ∷ text) ≡ t → Fits (length text)
+        (group_of (statement in_block (b ∷ text)).0) (statement in_block (b ∷ text)).1
+    by true e = rw e (at_rule-fits in_block b text e)
+    by false e =
+        rw e (rule-fits (length text) (parts (rule_set_ends in_block) (b ∷ text)).0
+        (parts (rule_set_ends in_block) (b ∷ text)).1)
+
+-- the group rule that the next statement is, and what is left after it, are less than the text by more
+-- than one byte
+PartFits : ℕ → Option (SheetText × List ℕ) → Type 0
+PartFits n None = Unit {0}
+PartFits n (Some x) = Fits n (group_of x.0.statement) x.1
+
+start-fits : (in_block : Bool) (b : ℕ) (start : List ℕ)
+    → PartFits (length start) (statement_from in_block (b ∷ start))
+unfolding PartFits
+start-fits in_block b start = by (ends_block in_block (b ∷ start))
+  where
+    by : (t : Bool) → PartFits (length start) (if t then None
+        else Some (with_text (b ∷ start) (statement in_block (b ∷ start))))
+    by true = tt
+    by false = statement-fits in_block b start
+
+pub next-fits : (in_block : Bool) (text rest : List ℕ) (p : SheetText)
+    → next_statement in_block text ≡ Some (p, rest) → (group : GroupText)
+    → group_of p.statement ≡ Some group → suc (length group.text + length rest) < length text
+unfolding next_statement PartFits Fits
+next-fits in_block text rest p e group g =
+    by (past_between in_block text) (length-ends text (past_between in_block text)
+    (between-well in_block text).0) e
+  where
+    by : (start : List ℕ) → length start ≤ length text
+        → statement_from in_block start ≡ Some (p, rest)
+        → suc (length group.text + length rest) < length text
+    by [] h f = absurd (cc)
+    by (b ∷ start) h f =
+        let fits : Fits (length start) (group_of p.statement) rest =
+        subst (PartFits (length start)) f (start-fits in_block b start) in
+        let less : Fits (length start) (Some group) rest =
+        subst (λ (o : Option GroupText). Fits (length start) o rest) g fits in
+        omega (arith, less, h)

@@ -1,0 +1,3 @@
+pub mod SheetItems
+pub mod GroupViews
+pub mod ReaderViews

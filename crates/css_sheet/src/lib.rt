@@ -1,0 +1,10 @@
+//! Reads today's style sheets statement by statement, over `css_syntax`: the rule sets of a sheet and
+//! of the blocks of its group rules such as `@media`, in source order, each with the group rules that
+//! it is in. Whether the condition of a group rule holds is for the caller to decide.
+#![tactic(auto)]
+
+mod groups;
+mod reader;
+mod state;
+
+pub use state::{Level, SheetReader};
