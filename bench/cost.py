@@ -1,6 +1,8 @@
 """Measures how the time of the program grows with its input: each input at a size and at ten times that size.
 
-    cost.py PROGRAM     PROGRAM is the built `cssq`
+    cost.py PROGRAM [MATCHER]     PROGRAM is the built `cssq`
+
+MATCHER, if given, is another program of the command `match`: its time at the larger size stands last for the inputs of `match`.
 
 Prints a line for each input: processor time in milliseconds at both sizes, least of some runs, and their ratio. Time that
 grows no faster than N log N has a ratio of about 10 to 12. The output of the last input is a product, since each of its N
@@ -13,6 +15,7 @@ import sys
 import tempfile
 
 program = os.path.abspath(sys.argv[1])
+matcher = os.path.abspath(sys.argv[2]) if len(sys.argv) > 2 else None
 folder = tempfile.mkdtemp()
 
 
@@ -23,13 +26,13 @@ def put(name, text):
     return path
 
 
-def milliseconds(words, stdin=None, runs=5):
+def milliseconds(words, stdin=None, runs=5, binary=program):
     """The least processor time of some runs, and the status."""
     best, status = float("inf"), 0
     for _ in range(runs):
         before = resource.getrusage(resource.RUSAGE_CHILDREN)
         with open(stdin or os.devnull, "rb") as file:
-            status = subprocess.run([program, *words], stdin=file, stdout=subprocess.DEVNULL, stderr=subprocess.DEVNULL, check=False).returncode
+            status = subprocess.run([binary, *words], stdin=file, stdout=subprocess.DEVNULL, stderr=subprocess.DEVNULL, check=False).returncode
         after = resource.getrusage(resource.RUSAGE_CHILDREN)
         spent = after.ru_utime + after.ru_stime - before.ru_utime - before.ru_stime
         best = min(best, 1000 * spent)
@@ -66,6 +69,17 @@ def rules_of(count, selector):
     return lambda n: "".join(selector.format(i) + " { b:c }\n" for i in range(count or n))
 
 
+def leaves(ancestors):
+    """n leaves under as many ancestors, each with four classes of its own."""
+    path = "".join(f"{i}\tdiv\tclass=a{i} b{i} c{i} d{i}\n" for i in range(ancestors))
+    return lambda n: path + f"{ancestors}\tp\tclass=leaf\n" * n
+
+
+def utilities(n):
+    """n elements, each with 8 of 400 classes."""
+    return "0\tr\n" + "".join("1\tp\tclass=" + " ".join(f"u{(i * 37 + 53 * k * k) % 400}" for k in range(8)) + "\n" for i in range(n))
+
+
 INPUTS = [
     ("a selector after comments", 10_000, selector_of(lambda n: "/**/" * n + "a")),
     ("comments within a compound", 10_000, selector_of(lambda n: "a" + "/**/" * n + ".b")),
@@ -91,11 +105,18 @@ INPUTS = [
     ("two elements of many words", 40_000, match_of(rules_of(20, ".x{}"), lambda n: "0\tr\n" + 2 * ("1\ta\tclass=" + " ".join(f"w{i}" for i in range(n)) + "\n"))),
     ("rules of one key", 2_000, match_of(rules_of(None, "p{} .a"), lambda n: "0\tb\tclass=a\n" * 100)),
     ("rules of one key that match", 2_000, match_of(rules_of(None, ".a[t=x{}], .a"), lambda n: "0\tb\tclass=a\tt=y\n" * 100)),
+    ("leaves under 50 ancestors of 4 classes", 2_000, match_of(rules_of(200, ".q{} .leaf"), leaves(50))),
+    ("leaves under 500 ancestors", 300, match_of(rules_of(200, ".q{} .leaf"), leaves(500))),
+    ("elements of 8 utility classes", 8_000, match_of(rules_of(400, ".u{0}, .v .u{0}, .u{0}:hover"), utilities)),
+    ("values of 1,000 bytes before four others", 2_000, match_of(lambda n: "a { b:c }", lambda n: "0\ts\n" + ("1\tp\td=" + "M0 0L9 9z " * 100 + "\tfill=a\tx=1\ty=2\tz=3\n") * n)),
     ("selectors times declarations", 300, sheet_of(lambda n: ",".join(["a"] * n) + "{" + "b:c;" * n + "}")),
 ]
 
-print(f"{'input':36} {'size':>9} {'ms':>9} {'ten times':>10} {'ms':>9} {'ratio':>6}")
+print(f"{'input':40} {'size':>9} {'ms':>9} {'ten times':>10} {'ms':>9} {'ratio':>6}")
 for name, size, words_of in INPUTS:
     small, _ = milliseconds(*words_of(size))
     large, _ = milliseconds(*words_of(10 * size), runs=3)
-    print(f"{name:36} {size:9} {small:9.1f} {10 * size:10} {large:9.1f} {large / max(small, 0.1):6.1f}", flush=True)
+    beside = ""
+    if matcher and words_of(10 * size)[0][:1] == ["match"]:
+        beside = f" {milliseconds(*words_of(10 * size), runs=3, binary=matcher)[0]:9.1f}"
+    print(f"{name:40} {size:9} {small:9.1f} {10 * size:10} {large:9.1f} {large / max(small, 0.1):6.1f}{beside}", flush=True)
