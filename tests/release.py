@@ -379,8 +379,10 @@ def test_wheel(folder):
     works([sys.executable, "-m", "venv", os.path.join(folder, "venv")], "venv")
     python = os.path.join(folder, "venv", "bin", "python")
     works([python, "-m", "pip", "install", "-q", "--no-index", "--no-deps", "--disable-pip-version-check", wheel], "pip install", folder, env=environment)
-    shutil.copytree(os.path.join(TOP, "python", "tests"), os.path.join(folder, "tests"))
-    done = run([python, "-m", "unittest", "discover", "-s", "tests"], folder, env=environment)
+    # The tests with the files that they read, and no package beside them.
+    for name in ("python/tests", "examples", "include"):
+        shutil.copytree(os.path.join(TOP, name), os.path.join(folder, "copy", name))
+    done = run([python, "-m", "unittest", "discover", "-s", "copy/python/tests"], folder, env=environment)
     text = done.stderr.decode()
     found = re.search(r"Ran (\d+) tests", text)
     expect(done.returncode == 0 and found and int(found[1]) > 0, f"the package's tests on the wheel: {text[-1500:]}")

@@ -549,7 +549,7 @@ class CommandLine(unittest.TestCase):
 
 class Versions(unittest.TestCase):
     def test_of_the_header(self):
-        top = os.path.dirname(os.path.dirname(os.path.dirname(os.path.abspath(simplecss.__file__))))
+        top = os.path.join(os.path.dirname(os.path.abspath(__file__)), "..", "..")
         header = os.path.join(top, "include", "simplecss.h")
         with open(header, encoding="utf-8") as file:
             self.assertIn(f'#define SIMPLECSS_VERSION "{simplecss.__version__}"\n', file.read())
