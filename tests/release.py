@@ -400,7 +400,7 @@ def test_wheel(folder):
 
 def install_from_checkout(folder):
     """From a checkout pip makes a wheel with the library for this system, and where there is none, says what to do."""
-    if run([sys.executable, "-c", "import pip, setuptools, wheel"]).returncode:
+    if run([sys.executable, "-c", "import setuptools, wheel, pip"]).returncode:
         left_out.append("pip install from a checkout: there is no setuptools or no wheel (python3-setuptools, python3-wheel)")
         return
     for name in ("python", "include"):
