@@ -62,7 +62,15 @@ extern "C" {
 typedef struct simplecss_element {
     size_t depth;      /* how many ancestors the element has */
     size_t attributes; /* how many attributes it has */
+    size_t states;     /* the sum of its states, as SIMPLECSS_LINK | SIMPLECSS_HOVER */
 } simplecss_element;
+
+/* The states of elements, each of which a pseudo-class tests. Other numbers mean nothing. */
+#define SIMPLECSS_LINK 1u
+#define SIMPLECSS_VISITED 2u
+#define SIMPLECSS_HOVER 4u
+#define SIMPLECSS_ACTIVE 8u
+#define SIMPLECSS_FOCUS 16u
 
 /* The faults of a tree. */
 #define SIMPLECSS_BAD_DEPTH 1u    /* the depth is greater than it may be */
@@ -119,7 +127,7 @@ uint32_t simplecss_skipped(const uint8_t *text, size_t text_len,
 
 /* The next four calls match elements. `:first-child` matches an element without a previous sibling, a
  * first root too. `:lang(x)` tests the attribute `lang` of the element or of its nearest ancestor that
- * has one. `:link`, `:visited`, `:hover`, `:active` and `:focus` match no element. Names, keys and
+ * has one. `:link`, `:visited`, `:hover`, `:active` and `:focus` test the element's states. Names, keys and
  * values are compared byte by byte. The words of a value, of which `.a` and `[k~=a]` test one, are what
  * spaces separate: where other white space of a `class` is to separate words too, replace it by
  * spaces. */

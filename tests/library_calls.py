@@ -30,20 +30,23 @@ def buffer_of(texts):
 
 
 def tree_of(*elements):
-    """The arrays of a tree: each element is a depth, a name, and keys and values."""
-    shapes = [number for depth, _, *fields in elements for number in (depth, len(fields) // 2)]
+    """The arrays of a tree: each element is a depth or a depth and states, a name, and keys and values."""
+    shapes = []
+    for place, _, *fields in elements:
+        depth, states = place if isinstance(place, tuple) else (place, 0)
+        shapes += [depth, len(fields) // 2, states]
     strings, ends = buffer_of([string for _, *strings in elements for string in strings])
     return Elements(shapes), strings, ends
 
 
 class Elements:
-    """The depth and the number of attributes of each element."""
+    """The depth, the number of attributes and the states of each element."""
 
     def __init__(self, shapes):
         self.array = sizes(shapes)
 
     def __len__(self):
-        return len(self.array) // 2
+        return len(self.array) // 3
 
 
 def words_of(arguments):
@@ -65,6 +68,8 @@ def call(library, name, arguments, room):
 
 SHEET = buffer_of((b"ul > li { color: red }", b".new { color: blue !important }"))
 PAGE = tree_of((0, b"ul"), (1, b"li", b"class", b"new"), (1, b"li", b"title", b"a\tb\n=\x01\0", b"alt", b"a\tb"))
+# Elements in the states link, visited, hover and active, one in all states and other numbers, and one in none.
+STATES = tree_of(((0, 1), b"a"), ((0, 2), b"b"), ((0, 4), b"c"), ((0, 8), b"d"), ((0, 31 + 2**40), b"e"), (0, b"f"))
 WITH_TREE = ("simplecss_match", "simplecss_select", "simplecss_style", "simplecss_styles")
 VERSION = "0.1.0"
 RED = b'{"name":"color","value":"red","important":false}'
@@ -89,6 +94,11 @@ ANSWERS = (
     ("simplecss_match", (*SHEET, *PAGE), b"1:\n2: 1 2\n3: 1\n"),
     ("simplecss_select", (b"li", *PAGE), b"2\n3\n"),
     ("simplecss_select", (b"[alt='a\tb'], .new", *PAGE), b"2\n3\n"),
+    ("simplecss_select", (b":link", *STATES), b"1\n5\n"),
+    ("simplecss_select", (b":visited", *STATES), b"2\n5\n"),
+    ("simplecss_select", (b":hover", *STATES), b"3\n5\n"),
+    ("simplecss_select", (b":active", *STATES), b"4\n5\n"),
+    ("simplecss_select", (b":focus", *STATES), b"5\n"),
     ("simplecss_style", (*SHEET, *PAGE, b"color"), b"1:\n2: blue !important\n3: red\n"),
     ("simplecss_styles", (*SHEET, *PAGE), b"[]\n[" + BLUE + b"]\n[" + RED + b"]\n"),
 )
@@ -98,14 +108,14 @@ BAD_PAGES = (
     (tree_of((1, b"a")), 1, 1),
     (tree_of((0, b"a"), (2, b"b")), 1, 2),
     (tree_of((0, b"a"), (0, b"")), 2, 2),
-    ((Elements([0, 0]), b"", sizes([])), 3, 1),
-    ((Elements([0, 1]), b"ak", sizes([1, 2])), 3, 1),
-    ((Elements([0, 2**63]), b"a", sizes([1])), 3, 1),
-    ((Elements([0, 0]), b"a", sizes([2])), 3, 1),
-    ((Elements([0, 1]), b"akv", sizes([2, 1, 3])), 3, 1),
-    ((Elements([0, 0]), "é".encode(), sizes([1])), 3, 1),
-    ((Elements([0, 0]), b"ab", sizes([1])), 3, 2),
-    ((Elements([0, 0]), b"ab", sizes([1, 2])), 3, 2),
+    ((Elements([0, 0, 0]), b"", sizes([])), 3, 1),
+    ((Elements([0, 1, 0]), b"ak", sizes([1, 2])), 3, 1),
+    ((Elements([0, 2**63, 0]), b"a", sizes([1])), 3, 1),
+    ((Elements([0, 0, 0]), b"a", sizes([2])), 3, 1),
+    ((Elements([0, 1, 0]), b"akv", sizes([2, 1, 3])), 3, 1),
+    ((Elements([0, 0, 0]), "é".encode(), sizes([1])), 3, 1),
+    ((Elements([0, 0, 0]), b"ab", sizes([1])), 3, 2),
+    ((Elements([0, 0, 0]), b"ab", sizes([1, 2])), 3, 2),
     ((Elements([]), b"", sizes([0])), 3, 1),
     (tree_of((0, b"a"), (1, b"b", b"k", b"1", b"k", b"2")), 4, 2),
     (tree_of((0, b"a", *[b"k%d" % (n // 2 % 40) for n in range(82)])), 4, 1),
@@ -123,7 +133,7 @@ for _sheet, _status in (((b"ab", sizes([1])), REFUSED), ((b"ab", sizes([2, 1])),
     FAILURES += [("simplecss_sheet", _sheet, _status), ("simplecss_rules", _sheet, _status),
                  ("simplecss_match", (*_sheet, *PAGE), _status), ("simplecss_styles", (*_sheet, *PAGE), _status),
                  ("simplecss_style", (*_sheet, *PAGE, b"color"), _status)]
-_BROKEN_PAGE = (Elements([0, 0]), BROKEN, sizes([1]))
+_BROKEN_PAGE = (Elements([0, 0, 0]), BROKEN, sizes([1]))
 FAILURES += [
     ("simplecss_select", (b"a,", *PAGE), REFUSED),
     ("simplecss_select", (BROKEN, *PAGE), NOT_UTF8),
@@ -188,7 +198,7 @@ def test_large(check, library):
     status, _, length, _ = call(library, "simplecss_refusal", (listed,), 0)
     check((status, length) == (DONE, 0), "a list of 10 MB", (status, length))
     elements = 400_000
-    page = (Elements([0, 1] * elements), b"elementclassmore-of-it-to-come"[:25] * elements,
+    page = (Elements([0, 1, 0] * elements), b"elementclassmore-of-it-to-come"[:25] * elements,
             sizes([25 * (n // 3) + (7, 12, 25)[n % 3] for n in range(3 * elements)]))
     status, _, length, _ = call(library, "simplecss_select", (b"element", *page), 0)
     check((status, length) == (TOO_SMALL, sum(len(str(n)) + 1 for n in range(1, elements + 1))),

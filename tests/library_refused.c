@@ -14,7 +14,7 @@
 
 static const char sheet[] = "ul > li { color: red }.new { color: blue !important } @media x { } a:b { c: d }";
 static const size_t sheet_ends[] = {22, sizeof(sheet) - 1};
-static const simplecss_element elements[] = {{0, 0}, {1, 1}, {1, 1}};
+static const simplecss_element elements[] = {{0, 0, 0}, {1, 1, 0}, {1, 1, 0}};
 static const char strings[] = "ullicl\tssnewlititlea\nb";
 static const size_t string_ends[] = {2, 4, 9, 12, 14, 19, 22};
 static uint8_t out[4096];

@@ -12,7 +12,7 @@
 static const char *const texts[] = {"ul > li { color: red }", ".new { color: blue !important }"};
 
 /* <ul><li class="new"></li><li title="a&#10;b"></li></ul> */
-static const simplecss_element elements[] = {{0, 0}, {1, 1}, {1, 1}};
+static const simplecss_element elements[] = {{0, 0, 0}, {1, 1, 0}, {1, 1, 0}};
 static const char *const strings[] = {"ul", "li", "class", "new", "li", "title", "a\nb"};
 
 /* Puts texts one after another into a buffer, with the end of each. Returns their length. */

@@ -52,19 +52,24 @@ class _TreeFault(ctypes.Structure):
 
 
 class _Element(ctypes.Structure):
-    _fields_ = [("depth", ctypes.c_size_t), ("attributes", ctypes.c_size_t)]
+    _fields_ = [
+        ("depth", ctypes.c_size_t),
+        ("attributes", ctypes.c_size_t),
+        ("states", ctypes.c_size_t),
+    ]
 
 
 class TreeArrays:
     """The arrays of a tree, which a call takes as three arguments."""
 
     def __init__(self, shapes: Sequence[int], strings: Sequence[str]) -> None:
-        """Takes the depth and the number of attributes of each element, and the strings of all.
+        """Takes the depth, the number of attributes and the states of each element, and the strings
+        of all.
 
         The strings of an element are its name, and a key and a value for each attribute. A lone
         surrogate raises `UnicodeEncodeError`.
         """
-        self._elements = (_Element * (len(shapes) // 2)).from_buffer_copy(_sizes(shapes))
+        self._elements = (_Element * (len(shapes) // 3)).from_buffer_copy(_sizes(shapes))
         self._strings = "".join(strings).encode("utf-8")
         is_ascii = len(self._strings) == sum(map(len, strings))
         self._ends = ends_of(len(each if is_ascii else each.encode("utf-8")) for each in strings)

@@ -20,10 +20,10 @@ _WITHOUT_CASE = frozenset(
     " link media method multiple nohref noresize noshade nowrap readonly rel rev rules scope"
     " scrolling selected shape target text type valign valuetype vlink".split()
 )
-# The parts of a printed selector: what an attribute must be, a state, and the rest.
+# The parts of a printed selector: what an attribute must be, and the rest.
 _PART = re.compile(
     r"\[([^\]=~|']+)(?:([~|]?=)'(.*?)')?\](?=[\[: ]|\Z)"
-    r"|:(link|visited|hover|active|focus)(?![-\w])|[^\[:]+|[\[:]",
+    r"|[^\[]+|\[",
     re.DOTALL,
 )
 # The attribute that has a class as it is, where the words of `class` are parted by spaces.
@@ -48,11 +48,10 @@ class SelectorError(ValueError):
 
 class Reading(NamedTuple):
     """How selectors are read for a tree: whether names compare without case, classes and ids too,
-    whether its elements have states, and whether a class has lines or TABs."""
+    and whether a class has lines or TABs."""
 
     is_html: bool
     is_quirky: bool
-    has_states: bool
     has_lines: bool
 
     def value(self, key: str, value: str) -> str:
@@ -62,9 +61,7 @@ class Reading(NamedTuple):
         return value
 
     def _part(self, found: Match[str], quote: str) -> str:
-        key, operator, value, state = found.groups()
-        if state is not None and self.has_states:
-            return f"[-state-{state}]"
+        key, operator, value = found.groups()
         if key is None:
             return found.group().lower() if self.is_html else found.group()
         key = key.lower() if self.is_html else key
@@ -95,7 +92,7 @@ def _list(data: bytes) -> library.Answer:
 @functools.lru_cache(maxsize=512)
 def prepared(selectors: str, reading: Reading) -> str:
     """Returns a list of selectors as it is read for a tree."""
-    if not (reading.is_html or reading.has_states or reading.has_lines):
+    if not (reading.is_html or reading.has_lines):
         return selectors
     answer = _list(library.encode(selectors))
     if answer.status != library.DONE:

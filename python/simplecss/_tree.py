@@ -27,8 +27,8 @@ from ._selectors import WHOLE_CLASS, Reading, prepared, selector_error
 from ._tokens import decode
 from ._xml import XmlError, read_xml
 
-# The states of an element that selectors test.
-STATES = frozenset(("link", "visited", "hover", "active", "focus"))
+# The states of an element that selectors test, as numbers of the library.
+STATES = {"link": 1, "visited": 2, "hover": 4, "active": 8, "focus": 16}
 _NONE: FrozenSet[str] = frozenset()
 _LINK = frozenset(("link",))
 _SVG_SPACE = "http://www.w3.org/2000/svg"
@@ -219,8 +219,8 @@ class Tree:
             self._add(item.name, item.attributes, -1 if item.parent is None else item.parent)
             self._places.append((item.row, item.column))
             states = frozenset(item.states)
-            if not states <= STATES:
-                raise ValueError(f"no state of an element: {sorted(states - STATES)[0]!r}")
+            if not states <= STATES.keys():
+                raise ValueError(f"no state of an element: {sorted(states - STATES.keys())[0]!r}")
             if states:
                 self._states[index] = states
         self._read_as(False, False)
@@ -229,7 +229,7 @@ class Tree:
         """Sets how selectors are read for the elements."""
         values = (attributes.get("class", "") for attributes in self._attributes)
         has_lines = any(map(_WHITE_SPACE.search, values))
-        self._reading = Reading(is_html, is_quirky, True, has_lines)
+        self._reading = Reading(is_html, is_quirky, has_lines)
 
     def _clear(self) -> None:
         self._names: List[str] = []
@@ -245,7 +245,7 @@ class Tree:
         self._source: Optional[str] = None
         self._texts: Optional[_Texts] = None
         self._nodes: Optional[List[Any]] = None
-        self._reading = Reading(False, False, False, False)
+        self._reading = Reading(False, False, False)
         self._forget()
 
     def _forget(self) -> None:
@@ -480,8 +480,8 @@ class Tree:
         more: Dict[int, FrozenSet[str]] = {}
         for selectors, names in states.items():
             named = frozenset((names,) if isinstance(names, str) else names)
-            if not named <= STATES:
-                raise ValueError(f"no state of an element: {sorted(named - STATES)[0]!r}")
+            if not named <= STATES.keys():
+                raise ValueError(f"no state of an element: {sorted(named - STATES.keys())[0]!r}")
             for index in self._found(selectors):
                 more[index] = more.get(index, self._states.get(index, _NONE)) | named
         for index, named in more.items():
@@ -629,13 +629,12 @@ class Tree:
                 value = attributes["class"]
                 attributes = {**attributes, "class": _WHITE_SPACE.sub(" ", value), WHOLE_CLASS: value}
             shapes.append(self._depths[index])
-            shapes.append(len(attributes) + len(states))
+            shapes.append(len(attributes))
+            shapes.append(sum(map(STATES.__getitem__, states)))
             strings.append(name)
             for key, value in attributes.items():
                 strings.append(key)
                 strings.append(value)
-            for state in states:
-                strings += (f"-state-{state}", "")
         return library.TreeArrays(shapes, strings)
 
 

@@ -22,15 +22,18 @@ export async function load(source) {
   return new Simplecss((await WebAssembly.instantiate(module, {})).exports);
 }
 
-/** The arrays of a tree. `elements` have `depth`, `name` and `attributes` (pairs), in document order. */
+const STATES = ['link', 'visited', 'hover', 'active', 'focus'];
+
+/** The arrays of a tree. `elements` have `depth`, `name`, `attributes` (pairs) and `states`, in document order. */
 export class Tree {
   constructor(elements) {
     this.length = elements.length;
-    this.shape = new BigUint64Array(2 * elements.length);
+    this.shape = new BigUint64Array(3 * elements.length);
     const strings = [];
-    elements.forEach(({ depth, name, attributes = [] }, i) => {
-      this.shape[2 * i] = BigInt(depth);
-      this.shape[2 * i + 1] = BigInt(attributes.length);
+    elements.forEach(({ depth, name, attributes = [], states = [] }, i) => {
+      this.shape[3 * i] = BigInt(depth);
+      this.shape[3 * i + 1] = BigInt(attributes.length);
+      this.shape[3 * i + 2] = STATES.reduce((sum, state, bit) => sum + (states.includes(state) ? 1n << BigInt(bit) : 0n), 0n);
       strings.push(name);
       for (const [key, value] of attributes) strings.push(key, value);
     });
@@ -42,7 +45,10 @@ export class Tree {
     const elements = [], nodes = [];
     const add = (node, depth) => {
       nodes.push(node);
-      elements.push({ depth, name: node.localName, attributes: Array.from(node.attributes, a => [a.localName, words(a)]) });
+      elements.push({
+        depth, name: node.localName, attributes: Array.from(node.attributes, a => [a.localName, words(a)]),
+        states: /^(a|area)$/.test(node.localName) && node.hasAttribute('href') ? ['link'] : [],
+      });
       for (const child of node.children) add(child, depth + 1);
     };
     if (root.nodeType === 9) for (const child of root.children) add(child, 0);

@@ -8,13 +8,14 @@ use Rattle.std.proofs.lemmas.List.{length-append, length-drop, drop-map, drop-dr
 use Rattle.std.proofs.lemmas.List.FromFn.{map-range_with_len_more}
 use Rattle.std.proofs.lemmas.Bool.Decides.{nat_tests}
 use Rattle.std.proofs.lemmas.Grind.{common_steps}
-use Rattle.simplecss_tree.specs.Rows.{Row, nobody, row_with, with_attribute}
+use Rattle.simplecss_tree.specs.Rows.{Row, nobody, row_with, with_attribute, row_in, with_states}
+use Rattle.simplecss_tree.specs.declared.tree.States.{States}
 use Rattle.simplecss_c.specs.declared.elements.TreeElement.{TreeElement}
 use Rattle.simplecss_c.specs.declared.elements.ElementFault.{ElementFault}
 use Rattle.simplecss_c.specs.declared.elements.ElementFault.TheVariants.{BadStrings}
 use Rattle.simplecss_c.specs.declared.answer.Failure.{Failure}
 use Rattle.simplecss_c.specs.declared.answer.Failure.TheVariants.{Refused, Tree, Memory, NotUtf8}
-use Rattle.simplecss_c.specs.Elements.{Strings, key_in, value_in, attributes_in, name_in, element_row, limit_after, last_with, parent_after, IsPath, fault_in, strings_of, with_element, tree_from}
+use Rattle.simplecss_c.specs.Elements.{Strings, key_in, value_in, attributes_in, name_in, element_row, limit_after, last_with, parent_after, IsPath, fault_in, strings_of, with_element, tree_from, states_in}
 use Rattle.simplecss_c.specs.Calls.{FailsFor}
 
 -- ---- the attributes of the last element
@@ -61,6 +62,13 @@ attribute_added rows parent name fields i now is key value is_key is_value =
       previous = (element_row rows parent name fields i).previous;
       states = (element_row rows parent name fields i).states;
     } ∷ []) (sym next)
+
+-- the last element, which is given its states
+pub states_given : (rows : List Row) (row : Row) (states : States)
+    → with_states (rows ++ row ∷ []) (length rows) states ≡ rows ++ row_in row states ∷ []
+states_given rows row states =
+    ap (λ r. set (rows ++ row ∷ []) (length rows) (row_in r states)) (last_of rows row nobody)
+    ∙ set_last rows row (row_in row states)
 
 -- ---- the last element and its ancestors
 
@@ -138,17 +146,18 @@ strings_from_index strings n =
 pub element_added : (rows : List Row) (depths : List ℕ) (element : TreeElement)
     (strings : List (Bor (List ℕ))) (nothing : Bor (List ℕ)) → 0 < length strings
     → (parent : Option ℕ) → parent ≡ parent_after depths element.depth
-    → rows ++ element_row rows parent (get_or strings 0 nothing).now (map (λ string. string.now)
-    (take (length strings - 1) (drop 1 strings))) element.attributes ∷ []
+    → rows ++ row_in (element_row rows parent (get_or strings 0 nothing).now (map (λ string. string.now)
+    (take (length strings - 1) (drop 1 strings))) element.attributes) (states_in element.states) ∷ []
     ≡ with_element rows depths element (map (λ string. string.now) strings)
 element_added rows depths element strings nothing some parent is =
-    ap (λ p. rows ++ element_row rows p (get_or strings 0 nothing).now (map (λ string. string.now)
-    (take (length strings - 1) (drop 1 strings))) element.attributes ∷ []) is
-    ∙ ap (λ name. rows ++ element_row rows (parent_after depths element.depth) name
-    (map (λ string. string.now) (take (length strings - 1) (drop 1 strings))) element.attributes
-    ∷ []) (sym (get_or-map (λ string. string.now) strings 0 nothing [] some))
-    ∙ ap (λ fields. rows ++ element_row rows (parent_after depths element.depth)
-    (name_in (map (λ string. string.now) strings)) fields element.attributes ∷ [])
+    ap (λ p. rows ++ row_in (element_row rows p (get_or strings 0 nothing).now (map (λ string. string.now)
+    (take (length strings - 1) (drop 1 strings))) element.attributes) (states_in element.states) ∷ []) is
+    ∙ ap (λ name. rows ++ row_in (element_row rows (parent_after depths element.depth) name
+    (map (λ string. string.now) (take (length strings - 1) (drop 1 strings))) element.attributes)
+    (states_in element.states) ∷ []) (sym (get_or-map (λ string. string.now) strings 0 nothing [] some))
+    ∙ ap (λ fields. rows ++ row_in (element_row rows (parent_after depths element.depth)
+    (name_in (map (λ string. string.now) strings)) fields element.attributes)
+    (states_in element.states) ∷ [])
     (strings_from_index strings 1)
 
 -- the strings that are left from an index on

@@ -1,9 +1,10 @@
 -- A tree as a caller passes it: its elements in document order, and all their strings in one
 -- buffer, by where each ends. An element's strings are its name, and a key and a value for each
 -- attribute.
-use Rattle.std.specs.Prelude.{◌≡◌, ℕ, zero, suc, ◌+◌, ◌*◌, ◌<◌, Bool, false, ◌&&◌, ◌||◌, ◌==◌, nat_le, nat_lt, if◌then◌else◌, bytes_eq, List, [], ◌∷◌, ◌++◌, length, map, drop, slice_index, Option, None, Some, Result, Ok, Err}
+use Rattle.std.specs.Prelude.{◌≡◌, ℕ, zero, suc, ◌+◌, ◌*◌, ◌/◌, ◌%◌, ◌<◌, Bool, false, ◌&&◌, ◌||◌, ◌==◌, nat_le, nat_lt, if◌then◌else◌, bytes_eq, List, [], ◌∷◌, ◌++◌, length, map, drop, slice_index, Option, None, Some, Result, Ok, Err}
 use Rattle.std.specs.List.{slice_range, slice_index_or, list_any, range_with_len}
-use Rattle.simplecss_tree.specs.Rows.{Row, last_child, no_states}
+use Rattle.simplecss_tree.specs.Rows.{Row, last_child, no_states, row_in}
+use Rattle.simplecss_tree.specs.declared.tree.States.{States}
 use Rattle.simplecss_c.specs.declared.elements.TreeElement.{TreeElement}
 use Rattle.simplecss_c.specs.declared.elements.ElementFault.{ElementFault}
 use Rattle.simplecss_c.specs.declared.elements.ElementFault.TheVariants.{BadDepth, EmptyName, BadStrings, RepeatedKey}
@@ -109,7 +110,21 @@ repeats_key fields (suc i) = repeats_key fields i || has_key (keys_in fields i) 
 abbrev pub strings_of : TreeElement → ℕ
 strings_of element = 2 * element.attributes + 1
 
--- the element of a tree, where it is the last child of its parent
+-- whether the sum of different powers of two has this one
+abbrev pub has_bit : ℕ → ℕ → Bool
+has_bit sum power = (sum / power % 2) == 1
+
+-- the states whose sum this is: 1 is `:link`, 2 `:visited`, 4 `:hover`, 8 `:active`, and 16 `:focus`
+abbrev pub states_in : ℕ → States
+states_in sum = record {
+  link = has_bit sum 1;
+  visited = has_bit sum 2;
+  hover = has_bit sum 4;
+  active = has_bit sum 8;
+  focus = has_bit sum 16;
+}
+
+-- the element of a tree, where it is the last child of its parent, in no state
 abbrev pub element_row : List Row → Option ℕ → List ℕ → List (List ℕ) → ℕ → Row
 element_row rows parent name fields count = record {
   name = name;
@@ -133,8 +148,8 @@ fault_in number limit element strings =
 -- the rows before an element, and that of the element
 abbrev pub with_element : List Row → List ℕ → TreeElement → List (List ℕ) → List Row
 with_element rows depths element strings =
-    rows ++ element_row rows (parent_after depths element.depth) (name_in strings)
-    (fields_in strings) element.attributes ∷ []
+    rows ++ row_in (element_row rows (parent_after depths element.depth) (name_in strings)
+    (fields_in strings) element.attributes) (states_in element.states) ∷ []
 
 -- The tree whose first elements have these rows and depths, and whose other elements have the
 -- strings that are left; or the fault of its first faulty element. Strings that no element has are

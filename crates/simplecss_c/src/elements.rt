@@ -8,12 +8,12 @@ ghost use Rattle.std.specs.Str.{IsCharBoundary, IsUtf8};
 ghost use Rattle.simplecss_c.specs.Elements.{Strings, may_end, strings_in, IsPath, limit_after};
 ghost use Rattle.simplecss_c.specs.Elements.{parent_after, element_row, repeats_key, strings_of};
 ghost use Rattle.simplecss_c.specs.Elements.{fault_in, with_element, tree_from, tree_of};
-ghost use Rattle.simplecss_c.specs.Elements.{fault_number, fault_element};
+ghost use Rattle.simplecss_c.specs.Elements.{fault_number, fault_element, has_bit, states_in};
 ghost use Rattle.simplecss_c.specs.Calls.{FailsFor};
 
 use crate::answer::Failure;
 use crate::texts::text_of;
-use simplecss_tree::{Tree, TreeError};
+use simplecss_tree::{States, Tree, TreeError};
 use std::alloc::{AllocError, Global};
 use std::collections::BTreeSet;
 
@@ -25,6 +25,8 @@ pub struct TreeElement {
     pub depth: usize,
     /// How many attributes it has.
     pub attributes: usize,
+    /// The sum of its states: 1 is `:link`, 2 `:visited`, 4 `:hover`, 8 `:active`, 16 `:focus`.
+    pub states: usize,
 }
 
 /// What is wrong with a tree, with the number of the element, the first being 1.
@@ -173,6 +175,27 @@ fn parent_of(path: &[usize], depth: usize) -> Option<usize>
     path.get(depth.checked_sub(1)?).copied()
 }
 
+/// Whether the sum of different powers of two has this one.
+fn has_bit(sum: usize, power: usize) -> bool
+    requires { 0 < power }
+    ensures { result ≡ has_bit sum power }
+{
+    sum / power % 2 == 1
+}
+
+/// The states whose sum this is.
+fn states_in(sum: usize) -> States
+    ensures { result ≡ states_in sum }
+{
+    States {
+        link: has_bit(sum, 1),
+        visited: has_bit(sum, 2),
+        hover: has_bit(sum, 4),
+        active: has_bit(sum, 8),
+        focus: has_bit(sum, 16),
+    }
+}
+
 /// Adds the next element, and returns how many of the strings that are left it has.
 fn add_next<'t>(
     alloc: Global,
@@ -197,6 +220,7 @@ fn add_next<'t>(
     }
     let parent = parent_of(path, element.depth);
     add_element(tree, parent, strings[0], &strings[1..], element.attributes)?;
+    tree.set_states(index, states_in(element.states))?;
     path.truncate(element.depth);
     path.push(index)?;
     Ok(2 * element.attributes + 1)

@@ -8,7 +8,7 @@ use Rattle.simplecss_c.proofs.elements.link.Goals as goal
 
 -- what is passed for an element that is not there
 abbrev no_element : TreeElement
-no_element = record { depth = 0; attributes = 0 }
+no_element = record { depth = 0; attributes = 0; states = 0 }
 
 pub add_next-requires : goal.add_next-requires
 add_next-requires c =
