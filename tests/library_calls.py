@@ -209,14 +209,14 @@ def test_large(check, library):
 
 
 def test_version(check):
-    """The version is the first of the changelog, and the header's and the package's are the same."""
+    """The version is the first of the changelog that has a number, and the header's and the package's are the same."""
     def first(path, pattern):
         with open(os.path.join(TOP, path), encoding="utf-8") as file:
             found = re.search(pattern, file.read(), re.M)
         return found and found.group(1)
 
-    for path, pattern in (("CHANGELOG.md", r"^## (\S+)"), ("include/simplecss.h", r'^#define SIMPLECSS_VERSION "(.*)"'),
-                          ("python/pyproject.toml", r'^version = "(.*)"')):
+    for path, pattern in (("CHANGELOG.md", r"^## (\d\S+)"), ("include/simplecss.h", r'^#define SIMPLECSS_VERSION "(.*)"'),
+                          ("python/simplecss/_library.py", r'^__version__ = "(.*)"')):
         check(first(path, pattern) == VERSION, "version", path)
 
 

@@ -1,9 +1,12 @@
 """The pages of examples/pages: what is beside each is what `inline` writes of it."""
 
 import os
+import sys
 import unittest
 
-import simplecss
+sys.path.insert(0, os.path.join(os.path.dirname(__file__), ".."))
+
+import simplecss  # noqa: E402
 
 PAGES = os.path.join(os.path.dirname(os.path.abspath(__file__)), "..", "..", "examples", "pages")
 

@@ -146,15 +146,18 @@ strings_from_index strings n =
 pub element_added : (rows : List Row) (depths : List ℕ) (element : TreeElement)
     (strings : List (Bor (List ℕ))) (nothing : Bor (List ℕ)) → 0 < length strings
     → (parent : Option ℕ) → parent ≡ parent_after depths element.depth
-    → rows ++ row_in (element_row rows parent (get_or strings 0 nothing).now (map (λ string. string.now)
-    (take (length strings - 1) (drop 1 strings))) element.attributes) (states_in element.states) ∷ []
+    → rows ++ row_in (element_row rows parent (get_or strings 0 nothing).now
+    (map (λ string. string.now) (take (length strings - 1) (drop 1 strings))) element.attributes)
+    (states_in element.states) ∷ []
     ≡ with_element rows depths element (map (λ string. string.now) strings)
 element_added rows depths element strings nothing some parent is =
-    ap (λ p. rows ++ row_in (element_row rows p (get_or strings 0 nothing).now (map (λ string. string.now)
-    (take (length strings - 1) (drop 1 strings))) element.attributes) (states_in element.states) ∷ []) is
+    ap (λ p. rows ++ row_in (element_row rows p (get_or strings 0 nothing).now
+    (map (λ string. string.now) (take (length strings - 1) (drop 1 strings))) element.attributes)
+    (states_in element.states) ∷ []) is
     ∙ ap (λ name. rows ++ row_in (element_row rows (parent_after depths element.depth) name
     (map (λ string. string.now) (take (length strings - 1) (drop 1 strings))) element.attributes)
-    (states_in element.states) ∷ []) (sym (get_or-map (λ string. string.now) strings 0 nothing [] some))
+    (states_in element.states) ∷ [])
+    (sym (get_or-map (λ string. string.now) strings 0 nothing [] some))
     ∙ ap (λ fields. rows ++ row_in (element_row rows (parent_after depths element.depth)
     (name_in (map (λ string. string.now) strings)) fields element.attributes)
     (states_in element.states) ∷ [])

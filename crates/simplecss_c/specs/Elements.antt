@@ -114,7 +114,7 @@ strings_of element = 2 * element.attributes + 1
 abbrev pub has_bit : ℕ → ℕ → Bool
 has_bit sum power = (sum / power % 2) == 1
 
--- the states whose sum this is: 1 is `:link`, 2 `:visited`, 4 `:hover`, 8 `:active`, and 16 `:focus`
+-- the states whose sum this is: 1 is `:link`, 2 `:visited`, 4 `:hover`, 8 `:active`, 16 `:focus`
 abbrev pub states_in : ℕ → States
 states_in sum = record {
   link = has_bit sum 1;
