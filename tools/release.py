@@ -72,7 +72,9 @@ def need(name: str) -> str:
 def commit_time() -> int:
     """Returns the time of the commit, or the one that the environment has."""
     given = os.environ.get("SOURCE_DATE_EPOCH")
-    return int(given or run("git", "log", "-1", "--format=%ct"))
+    if not given and not shutil.which("git"):
+        sys.exit("tools/release.py: the time of the commit is not known: there is no git, and no SOURCE_DATE_EPOCH")
+    return int(given or run("git", "-c", f"safe.directory={TOP}", "log", "-1", "--format=%ct"))
 
 
 def read_version() -> str:
