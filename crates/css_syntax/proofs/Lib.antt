@@ -7,3 +7,4 @@ pub mod ItemLemmas
 pub mod ListSteps
 pub mod AllCutUp
 pub mod Vectors
+pub mod RunSteps

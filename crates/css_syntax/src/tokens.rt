@@ -5,7 +5,7 @@ ghost use Rattle.std.specs.Prelude.{Some};
 ghost use Rattle.std.specs.List.{prefix_len};
 ghost use Rattle.simplecss_text.specs.Reading.{each};
 ghost use Rattle.simplecss_text.specs.AsciiBytes.{close_parenthesis};
-ghost use Rattle.simplecss_text.specs.Bytes.{past, past_byte, starts_by};
+ghost use Rattle.simplecss_text.specs.Bytes.{past, past_byte, past_one, starts_by};
 ghost use Rattle.simplecss_text.specs.Strings.{is_quote as is_quote_byte};
 ghost use Rattle.simplecss_text.specs.Characters.{is_space as is_space_byte};
 ghost use Rattle.simplecss_text.specs.Comments.{opens_comment};
@@ -16,7 +16,7 @@ ghost use Rattle.css_syntax.specs.Tokens.{begins_escape as begins_escape_of, pas
 ghost use Rattle.css_syntax.specs.Tokens.{gap_part as gap_part_of, past_gap};
 ghost use Rattle.css_syntax.specs.Tokens.{string_part as string_part_of, past_string, string_end};
 ghost use Rattle.css_syntax.specs.Tokens.{is_name_byte as is_name_byte_of};
-ghost use Rattle.css_syntax.specs.Tokens.{name_part as name_part_of, past_word};
+ghost use Rattle.css_syntax.specs.Tokens.{past_word};
 ghost use Rattle.css_syntax.specs.Tokens.{begins_url as begins_url_of, hex_digit};
 ghost use Rattle.css_syntax.specs.Tokens.{hex_number as hex_number_of, from_close};
 ghost use Rattle.css_syntax.specs.Tokens.{escaped_char as escaped_char_of, past_letter};
@@ -60,11 +60,29 @@ pub fn split(bytes: &[u8]) -> Option<(u8, &[u8])>
     }
 }
 
+/// A byte of a name.
+const NAME: u8 = 1;
+
+/// A space byte.
+const SPACE: u8 = 2;
+
+/// The flags above for each byte, as the low two bits of a digit.
+static BYTES: [u8; 256] = *b"\
+    00000000022022000000000000000000\
+    20000000000001001111111111000000\
+    01111111111111111111111111100001\
+    01111111111111111111111111100000\
+    11111111111111111111111111111111\
+    11111111111111111111111111111111\
+    11111111111111111111111111111111\
+    11111111111111111111111111111111";
+
 /// Whether the byte is a space byte.
+#[inline(always)]
 fn is_space(byte: u8) -> bool
     ensures { result ≡ is_space_byte byte }
 {
-    matches!(byte, b' ' | b'\t' | b'\n' | b'\r' | b'\x0C')
+    BYTES[usize::from(byte)] & SPACE != 0
 }
 
 /// Whether the byte is a line feed, a carriage return or a form feed.
@@ -215,9 +233,9 @@ pub fn gap_part(bytes: &[u8]) -> Option<&[u8]>
 pub fn skip_gap(bytes: &[u8]) -> &[u8]
     ensures { result.now ≡ past_gap bytes.now }
 {
-    let mut rest = bytes;
-    'parts: while let Some(after) = gap_part(rest) {
-        rest = after;
+    let mut rest = skip_spaces(bytes);
+    'parts: while starts_comment(rest) {
+        rest = skip_spaces(skip_comment(rest).rest);
     }
     rest
 }
@@ -275,32 +293,35 @@ fn skip_string(bytes: &[u8], quote: u8) -> Skipped<'_>
 }
 
 /// Whether the byte is one of a name, or of a character past ASCII.
+#[inline(always)]
 fn is_name_byte(byte: u8) -> bool
     ensures { result ≡ is_name_byte_of byte }
 {
-    byte.is_ascii_alphabetic()
-        || byte.is_ascii_digit()
-        || byte == b'_'
-        || byte == b'-'
-        || byte >= 128
+    BYTES[usize::from(byte)] & NAME != 0
 }
 
-/// Skips a byte of a name or an escape, if one is next.
-#[tactic(auto, unfolding(crate::specs::Tokens::name_part))]
-fn name_part(bytes: &[u8]) -> Option<&[u8]>
-    ensures { name_part_of bytes.now ≡ option_map (λ rest. (tt, rest.now)) result }
+/// Returns the number of bytes of names at the start.
+fn name_count(bytes: &[u8]) -> usize
+    ensures count { result ≡ prefix_len is_name_byte_of bytes.now }
+    ensures within { result ≤ length bytes.now }
+{
+    bytes.iter().take_while(|byte| is_name_byte(**byte)).count()
+}
+
+/// Skips bytes of names.
+fn skip_name_bytes(bytes: &[u8]) -> &[u8]
+    ensures { result.now ≡ past is_name_byte_of bytes.now }
+{
+    &bytes[name_count(bytes)..]
+}
+
+/// Skips the first byte, if there is one.
+fn skip_one(bytes: &[u8]) -> &[u8]
+    ensures { result.now ≡ past_one bytes.now }
 {
     match bytes {
-        [] => None,
-        [byte, rest @ ..] => {
-            if is_name_byte(*byte) {
-                Some(rest)
-            } else if begins_escape(bytes) {
-                Some(skip_escape(rest))
-            } else {
-                None
-            }
-        }
+        [] => bytes,
+        [_, rest @ ..] => rest,
     }
 }
 
@@ -308,9 +329,9 @@ fn name_part(bytes: &[u8]) -> Option<&[u8]>
 pub fn skip_word(bytes: &[u8]) -> &[u8]
     ensures { result.now ≡ past_word bytes.now }
 {
-    let mut rest = bytes;
-    'parts: while let Some(after) = name_part(rest) {
-        rest = after;
+    let mut rest = skip_name_bytes(bytes);
+    'parts: while begins_escape(rest) {
+        rest = skip_name_bytes(skip_escape(skip_one(rest)));
     }
     rest
 }

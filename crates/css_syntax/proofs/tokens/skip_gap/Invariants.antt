@@ -1,10 +1,15 @@
-use Rattle.std.proofs.Common.{◌≡◌, length}
+use Rattle.std.proofs.Common.{◌≡◌, false, length}
 use Rattle.simplecss_text.specs.Reading.{each}
+use Rattle.simplecss_text.specs.Bytes.{starts_by}
+use Rattle.simplecss_text.specs.Characters.{is_space}
 use Rattle.css_syntax.specs.Tokens.{gap_part}
 use Rattle.css_syntax.proofs.tokens.skip_gap.Given as goal
 
 abbrev pub invariant-parts : goal.invariant-parts
-invariant-parts l = (each gap_part l.rest).1 ≡ (each gap_part l.bytes).1
+invariant-parts l = record {
+  left : (each gap_part l.rest).1 ≡ (each gap_part l.bytes).1;
+  ran : starts_by is_space l.rest ≡ false;
+}
 
 abbrev pub decreases-parts : goal.decreases-parts
 decreases-parts l = length l.rest

@@ -1,17 +1,52 @@
-use Rattle.std.proofs.Common.{◌∙◌, sym}
-use Rattle.simplecss_text.proofs.reading.EachLemmas.{took}
-use Rattle.css_syntax.specs.Tokens.{name_part}
-use Rattle.css_syntax.proofs.Shorter.{each-goes, each-rests, name_part-takes}
+use Rattle.std.proofs.Common.{◌≡◌, ◌∙◌, sym, ap, length, arith, List, ℕ, true}
+use Rattle.simplecss_text.specs.Reading.{each}
+use Rattle.simplecss_text.specs.Bytes.{past, past_one, starts_by}
+use Rattle.simplecss_text.proofs.bytes.RunLemmas.{starts_by-past}
+use Rattle.css_syntax.specs.Tokens.{begins_escape, past_escape, is_name_byte, name_part}
+use Rattle.css_syntax.proofs.Shorter.{each-rests}
+use Rattle.css_syntax.proofs.RunSteps.{run-word, run-escape, escape-less, no_name_part}
 use Rattle.css_syntax.proofs.tokens.skip_word.Goals as goal
+
+pub parts-init : goal.parts-init
+parts-init c =
+    let bytes = c.args.bytes.now in
+    record {
+      left = ap (λ (r : List ℕ). (each name_part r).1) c.skip_name_bytes-rest.ensures ∙ run-word bytes;
+      ran = ap (starts_by is_name_byte) c.skip_name_bytes-rest.ensures
+          ∙ starts_by-past is_name_byte bytes;
+    }
 
 pub parts-smaller : goal.parts-smaller
 parts-smaller c =
-    took name_part name_part-takes c.parts.rest.now c.in-Some.after.now tt c.in-Some.ensures
+    let rest = c.parts.rest.now in
+    let next : c.skip_name_bytes-rest-in-parts.result.now
+    ≡ past is_name_byte (past_escape (past_one rest)) =
+    c.skip_name_bytes-rest-in-parts.ensures
+    ∙ ap (past is_name_byte) (c.skip_escape.ensures ∙ ap past_escape c.skip_one.ensures) in
+    omega (
+      arith,
+      ap length next,
+      escape-less rest (sym c.begins_escape.ensures ∙ c.parts-test.true),
+    )
 
 pub parts-preserved : goal.parts-preserved
 parts-preserved c =
-    each-goes name_part name_part-takes c.parts.rest.now c.in-Some.after.now tt c.in-Some.ensures
-    ∙ c.parts.invariant
+    let rest = c.parts.rest.now in
+    let next : c.skip_name_bytes-rest-in-parts.result.now
+    ≡ past is_name_byte (past_escape (past_one rest)) =
+    c.skip_name_bytes-rest-in-parts.ensures
+    ∙ ap (past is_name_byte) (c.skip_escape.ensures ∙ ap past_escape c.skip_one.ensures) in
+    record {
+      left = ap (λ (r : List ℕ). (each name_part r).1) next
+          ∙ run-escape rest (sym c.begins_escape.ensures ∙ c.parts-test.true) c.parts.invariant.ran
+          ∙ c.parts.invariant.left;
+      ran = ap (starts_by is_name_byte) next
+          ∙ starts_by-past is_name_byte (past_escape (past_one rest));
+    }
 
 pub returns : goal.returns
-returns c = sym (each-rests name_part c.parts.rest.now c.in_default.ensures) ∙ c.parts.invariant
+returns c =
+    let rest = c.parts.rest.now in
+    sym (each-rests name_part rest (no_name_part rest
+    (sym c.begins_escape.ensures ∙ c.parts-test.false) c.parts.invariant.ran))
+    ∙ c.parts.invariant.left

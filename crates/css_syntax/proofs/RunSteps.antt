@@ -1,0 +1,89 @@
+-- Words and gaps that are skipped in runs of bytes.
+-- Serves `tokens::{skip_word, skip_gap, skip_token}`.
+use Rattle.std.proofs.Common.{◌≡◌, ℕ, ◌<◌, ◌≤◌, ◌==◌, ◌||◌, ◌&&◌, not, Bool, true, false, List, [], ◌∷◌, length, Option, Some, None, arith, refl, sym, ap, ◌∙◌, if◌then◌else◌}
+use Rattle.simplecss_text.specs.AsciiBytes.{backslash}
+use Rattle.simplecss_text.specs.Reading.{each}
+use Rattle.simplecss_text.specs.Bytes.{past, past_one, starts, starts_by}
+use Rattle.simplecss_text.specs.Characters.{is_space}
+use Rattle.simplecss_text.specs.Comments.{opens_comment}
+use Rattle.simplecss_text.specs.Strings.{is_quote}
+use Rattle.simplecss_text.proofs.bytes.RunLemmas.{past-yes, past-no, starts_by-past}
+use Rattle.simplecss_text.proofs.reading.TakesLemmas.{length-past}
+use Rattle.css_syntax.specs.declared.quality.Quality.{Quality}
+use Rattle.css_syntax.specs.declared.quality.Quality.TheVariants.{Whole}
+use Rattle.css_syntax.specs.Tokens.{is_newline, past_escape, begins_escape, past_comment, gap_part, past_gap, is_name_byte, name_part, past_word, is_either, escaped_char, past_letter, begins_url, begins_cdo, token}
+use Rattle.css_syntax.proofs.Shorter.{each-goes, gap_part-takes, name_part-takes, past_escape-within, past_comment-within}
+
+-- ---- words
+
+pub run-word : (text : List ℕ) → (each name_part (past is_name_byte text)).1 ≡ (each name_part text).1
+unfolding name_part
+run-word [] = refl
+run-word (b ∷ text) = by (run-word text) (is_name_byte b) refl
+  where
+    by : (each name_part (past is_name_byte text)).1 ≡ (each name_part text).1 → (t : Bool) → is_name_byte b ≡ t
+        → (each name_part (past is_name_byte (b ∷ text))).1 ≡ (each name_part (b ∷ text)).1
+    by more true e =
+        let found : name_part (b ∷ text) ≡ Some (tt, text) = rw e refl in
+        rw (past-yes is_name_byte b text e)
+        (more ∙ each-goes name_part name_part-takes (b ∷ text) text tt found)
+    by more false e = rw (past-no is_name_byte b text e) refl
+
+-- an escape and the run after it
+pub run-escape : (text : List ℕ) → begins_escape text ≡ true → starts_by is_name_byte text ≡ false
+    → (each name_part (past is_name_byte (past_escape (past_one text)))).1 ≡ (each name_part text).1
+unfolding name_part
+run-escape [] e s = absurd (cc)
+run-escape (b ∷ text) e s =
+    let found : name_part (b ∷ text) ≡ Some (tt, past_escape text) = rw (s, e) refl in
+    run-word (past_escape text)
+    ∙ each-goes name_part name_part-takes (b ∷ text) (past_escape text) tt found
+
+pub escape-less : (text : List ℕ) → begins_escape text ≡ true
+    → length (past is_name_byte (past_escape (past_one text))) < length text
+escape-less [] e = absurd (cc)
+escape-less (b ∷ text) e =
+    omega (arith, length-past is_name_byte (past_escape text), past_escape-within text)
+
+pub no_name_part : (text : List ℕ) → begins_escape text ≡ false → starts_by is_name_byte text ≡ false
+    → name_part text ≡ None
+unfolding name_part
+no_name_part [] e s = refl
+no_name_part (b ∷ text) e s = rw (s, e) refl
+
+-- ---- gaps
+
+pub run-gap : (text : List ℕ) → (each gap_part (past is_space text)).1 ≡ (each gap_part text).1
+unfolding gap_part
+run-gap [] = refl
+run-gap (b ∷ text) = by (run-gap text) (is_space b) refl
+  where
+    by : (each gap_part (past is_space text)).1 ≡ (each gap_part text).1 → (t : Bool) → is_space b ≡ t
+        → (each gap_part (past is_space (b ∷ text))).1 ≡ (each gap_part (b ∷ text)).1
+    by more true e =
+        let found : gap_part (b ∷ text) ≡ Some (tt, text) = rw e refl in
+        rw (past-yes is_space b text e)
+        (more ∙ each-goes gap_part gap_part-takes (b ∷ text) text tt found)
+    by more false e = rw (past-no is_space b text e) refl
+
+-- a comment and the run after it
+pub run-comment : (text : List ℕ) → opens_comment text ≡ true → starts_by is_space text ≡ false
+    → (each gap_part (past is_space (past_comment text))).1 ≡ (each gap_part text).1
+unfolding gap_part
+run-comment [] e s = absurd (cc)
+run-comment (b ∷ text) e s =
+    let found : gap_part (b ∷ text) ≡ Some (tt, past_comment (b ∷ text)) = rw (s, e) refl in
+    run-gap (past_comment (b ∷ text))
+    ∙ each-goes gap_part gap_part-takes (b ∷ text) (past_comment (b ∷ text)) tt found
+
+pub comment-less : (text : List ℕ) → opens_comment text ≡ true
+    → length (past is_space (past_comment text)) < length text
+comment-less [] e = absurd (cc)
+comment-less (b ∷ text) e =
+    omega (arith, length-past is_space (past_comment (b ∷ text)), past_comment-within b text)
+
+pub no_gap_part : (text : List ℕ) → opens_comment text ≡ false → starts_by is_space text ≡ false
+    → gap_part text ≡ None
+unfolding gap_part
+no_gap_part [] e s = refl
+no_gap_part (b ∷ text) e s = rw (s, e) refl
