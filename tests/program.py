@@ -328,7 +328,7 @@ TREES = [
     ("0\tdiv\r\n1\tp\r\n", 0, 2, ": lines end in CR LF; the CR belongs to the last field"),
 ]
 # Words, and what the status and the lines are.
-UNKNOWN = [["select", "a"], ["--help"], ["-h"], ["selector"], ["selector", "a", "b"], ["sheet"], ["match", "page.css"], ["match"], ["match", "page.css", "page.tree", "a"], ["style", "page.css", "page.tree"], ["style", "page.css", "page.tree", "a", "b"], ["Sheet", "page.css"], [""]]
+UNKNOWN = [["select", "a"], ["--help", "a"], ["--versions"], ["selector"], ["selector", "a", "b"], ["sheet"], ["match", "page.css"], ["match"], ["match", "page.css", "page.tree", "a"], ["style", "page.css", "page.tree"], ["style", "page.css", "page.tree", "a", "b"], ["Sheet", "page.css"], [""]]
 # A file, its bytes if it is one, and why it cannot be read.
 put("page.css", b"p { a:b }")
 put("page.tree", b"0\tdiv\n")
