@@ -72,12 +72,21 @@ _OPERATOR = re.compile(r"\[\s*([-\w]+)\s*[$^*~|]?=[^\]]*\]")
 # A compound of which all was dropped.
 _ALONE = re.compile(r"(?<![^\s>+])\0+(?![^\s>+])")
 _PREFIX = re.compile(r"-(?:webkit|moz|ms|o)-|[*_]")
-# The properties that a name of another family sets, too.
+# The beginnings of names of which one property may set another, by the family that they are of.
 _FAMILIES = {
     "line": "font", "top": "inset", "right": "inset", "bottom": "inset", "left": "inset",
     "width": "size", "height": "size", "min": "size", "max": "size", "inline": "size",
     "block": "size", "row": "gap", "column": "gap", "columns": "gap", "align": "place",
     "justify": "place",
+    **{word: word for word in (
+        "animation background border container flex font gap grid inset margin marker mask offset"
+        " outline overflow overscroll padding place scroll size transition"
+    ).split()},
+}
+_LONG_FAMILIES = {
+    "list-style": "list", "text-align": "align", "text-decoration": "decoration",
+    "text-emphasis": "emphasis", "text-stroke": "stroke", "text-wrap": "white",
+    "white-space": "white",
 }
 # A value that every browser knows, as far as its form shows.
 _PLAIN_VALUE = re.compile(
@@ -219,8 +228,10 @@ def family_of(name: str) -> str:
         return name
     if name == "all":
         return _EVERYTHING
-    word = _PREFIX.sub("", name, count=1).partition("-")[0]
-    return _FAMILIES.get(word, word)
+    plain = _PREFIX.sub("", name, count=1)
+    words = plain.split("-")
+    family = _LONG_FAMILIES.get("-".join(words[:2])) or _FAMILIES.get(words[0])
+    return family or plain
 
 
 def _reason_of(selector: str) -> str:

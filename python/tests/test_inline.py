@@ -178,6 +178,8 @@ class KeptRules(unittest.TestCase):
             ("a { n: 1 } @media x { a { n: 2 !important } }", "n: 1"),
             ("a { n: 1 !important } a:hover { n: 2 }", "n: 1 !important"),
             ("a { n: 1 } a::before { n: 2 }", "n: 1"),
+            ("a { text-align: left } a:hover { text-decoration: none }", "text-align: left"),
+            ("a { font-size: 9px } a:hover { font: x }", ""),
             ("a { n: 1 } b:hover { n: 2 }", "n: 1"),
             ("@layer x { a { n: 2 } } a { n: 1 }", "n: 1"),
             ("b a:hover { n: 1 } a { n: 2 }", "n: 2"),
