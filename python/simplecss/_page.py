@@ -19,6 +19,8 @@ _ESCAPABLE = re.compile(
 )
 _STYLE_END = re.compile("<(?=/style)", re.IGNORECASE)
 _CDATA = re.compile(r"<!\[CDATA\[(.*?)(?:\]\]>|\Z)", re.DOTALL)
+_OPENING = re.compile(r"\A(\s*)<!--")
+_CLOSING = re.compile(r"-->(\s*)\Z")
 _TAG_NAME = re.compile(r"<[^\s/>]+")
 
 Span = Tuple[int, int]
@@ -139,7 +141,9 @@ class Page:
     def sheet_of(self, content: Content) -> str:
         """Returns the sheet of a `style` element."""
         text = self.text[content.inner[0] : content.inner[1]]
-        return _content(text, self._has_references[content.element])
+        css = _content(text, self._has_references[content.element])
+        # The marks of a comment around a sheet, which hide it from the oldest browsers, are blanks.
+        return _CLOSING.sub(r"   \1", _OPENING.sub(r"\1    ", css))
 
     def set_sheet(self, content: Content, css: str) -> None:
         """Replaces the sheet of a `style` element; without one the element goes, if it is in the

@@ -501,6 +501,13 @@ class CommandLine(unittest.TestCase):
                           for line in out.splitlines()],
                          [(2, 15, "broken-declaration"), (4, 3, "at-rule-not-supported")])
 
+    def test_marks_around_a_sheet(self):
+        with open(self.page, "w", encoding="utf-8") as file:
+            file.write("<style>\n<!-- p { color: green } @x; -->\n</style><p>")
+        self.assertEqual(self.lines("style", "color", self.page), [f"{self.page}:3:9: <p> color: green"])
+        self.assertEqual(self.run_command("lint", self.page)[:2],
+                         (1, f"{self.page}:2:25: '@x': at-rule not supported\n"))
+
     def test_formats_of_lint(self):
         with open(self.sheet, "w", encoding="utf-8") as file:
             file.write("@x 50%\n{}")
