@@ -1,12 +1,15 @@
 -- Lists of selectors (Selectors 4, section 4.1): the text is cut at its commas outside brackets,
 -- strings and comments, and each part is a selector or not.
-use Rattle.std.specs.Prelude.{◌≡◌, ℕ, ◌≤◌, ◌+◌, Bool, true, false, ◌&&◌, if◌then◌else◌, List, [], ◌∷◌, length, Option, Some, None}
+use Rattle.std.specs.Prelude.{◌≡◌, ℕ, ◌≤◌, ◌+◌, Bool, true, false, not, ◌&&◌, if◌then◌else◌, List, [], ◌∷◌, length, Option, Some, None}
 use Rattle.std.specs.Iterator.{YieldsFirstBy}
 use Rattle.std.specs.Iterator.Runs.{EveryRun, ItemsMapTo}
 use Rattle.simplecss_text.specs.AsciiBytes.{comma as comma_byte}
 use Rattle.simplecss_text.specs.Reading.{each}
 use Rattle.simplecss_text.specs.Bytes.{past_byte, starts}
 use Rattle.css_syntax.specs.declared.parts.Stops.{Stops}
+use Rattle.css_syntax.specs.declared.quality.Fault.{Fault}
+use Rattle.css_syntax.specs.declared.quality.Fault.TheVariants.{InvalidSelector}
+use Rattle.css_syntax.specs.Qualities.{is_good, fault_of}
 use Rattle.css_syntax.specs.Tokens.{past_gap}
 use Rattle.css_syntax.specs.Parts.{Stated, parts}
 use Rattle.css_selectors.specs.declared.list.ListedSelector.{ListedSelector}
@@ -63,6 +66,12 @@ is_valid invalid = false
 abbrev pub all_valid : List ListedText → Bool
 all_valid [] = true
 all_valid (one ∷ more) = is_valid one.form && all_valid more
+
+-- why a rule set with such a prelude is dropped, if it is: a flaw, or a part that is no selector
+abbrev pub prelude_fault : Stated → Option Fault
+prelude_fault prelude =
+    if not (is_good prelude.quality) then Some (fault_of prelude.quality)
+    else (if all_valid (selectors prelude.text) then None else Some InvalidSelector)
 
 -- ---- what contracts see
 

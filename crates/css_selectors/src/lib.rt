@@ -10,4 +10,4 @@ mod names;
 mod pseudos;
 
 pub use form::{ElementForm, SelectorForm, read_selector};
-pub use list::{ListedSelector, Selectors, is_valid, is_valid_list};
+pub use list::{ListedSelector, Selectors, is_valid, is_valid_list, prelude_fault};

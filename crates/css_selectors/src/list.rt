@@ -4,9 +4,13 @@ ghost use Rattle.css_selectors.specs.SelectorLists.{selector_part, next_selector
 ghost use Rattle.css_selectors.specs.SelectorLists.{is_valid as is_valid_of, all_valid, selectors};
 ghost use Rattle.css_selectors.specs.SelectorLists.{listed_of};
 ghost use Rattle.css_selectors.specs.SelectorViews.{form_of};
+ghost use Rattle.css_selectors.specs.SelectorLists.{prelude_fault as prelude_fault_of};
+ghost use Rattle.css_syntax.specs.Views.{prelude_of};
 
 use crate::form::{SelectorForm, read_selector};
 use css_syntax::parts::{Stops, read_parts};
+use css_syntax::quality::{fault_of, is_good};
+use css_syntax::{Fault, Prelude};
 use css_syntax::texts::{past_byte, past_gap};
 use simplecss_text::readers;
 
@@ -133,4 +137,18 @@ pub fn is_valid_list(text: &str) -> bool
         }
     }
     false
+}
+
+/// Returns why the rule set with this prelude is dropped, if it is: a bad string, a bad address, a
+/// bracket that closes nothing or too many brackets, or a part that is no selector.
+pub fn prelude_fault(prelude: &Prelude<'_>) -> Option<Fault>
+    ensures { result ≡ prelude_fault_of (prelude_of prelude.now) }
+{
+    if !is_good(prelude.quality) {
+        Some(fault_of(prelude.quality))
+    } else if is_valid_list(prelude.text) {
+        None
+    } else {
+        Some(Fault::InvalidSelector)
+    }
 }
