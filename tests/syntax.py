@@ -82,6 +82,51 @@ STATEMENTS = (
     ("@a\\62 c d{}", [("@a\\62 c", "d", "")]),
 )
 
+# Lists of selectors, and why a rule set of each is dropped, by the grammar of Selectors 4.
+SELECTORS = (
+    ("a", ""),
+    ("*", ""),
+    ("a,b > c + d ~ e f", ""),
+    ("a.b#c[d]:e", ""),
+    ("a/**/.b", ""),
+    ("a /**/ b", ""),
+    ("a/**/b", "invalid selector"),
+    ("*|a, |a, b|a, b|*", ""),
+    ("[a|b=c], [*|b], [|b]", ""),
+    ("[a=b i], [a='b' S], [a=\"b\"i]", ""),
+    ("[a~=b][a|=b][a^=b][a$=b][a*=b]", ""),
+    ("[a='b,c']", ""),
+    ("[a,b]", "invalid selector"),
+    ("[a=]", "invalid selector"),
+    ("[a=b c]", "invalid selector"),
+    ("[]", "invalid selector"),
+    ("a:not(b, c):nth-child(2n + 1 of d)", ""),
+    ("a:not()", "invalid selector"),
+    ("a:hover::before, ::after, :first-line, a > ::b", ""),
+    ("a::before:hover, a::b(c)", ""),
+    ("a::before b", "invalid selector"),
+    ("a::before.b", "invalid selector"),
+    ("a:", "invalid selector"),
+    ("a::", "invalid selector"),
+    ("a,", "invalid selector"),
+    (",a", "invalid selector"),
+    ("a,,b", "invalid selector"),
+    ("", "invalid selector"),
+    ("> a", "invalid selector"),
+    ("a >", "invalid selector"),
+    ("a > > b", "invalid selector"),
+    ("a || b", "invalid selector"),
+    ("#1", "invalid selector"),
+    (".1", "invalid selector"),
+    (". a", "invalid selector"),
+    ("1", "invalid selector"),
+    ("50%", "invalid selector"),
+    ("#\\31, .\\31 a, \\61", ""),
+    ("a b)", "stray bracket"),
+    ("a['b\n]", "bad string"),
+    ("a:b(url(c d))", "bad url"),
+)
+
 THEIRS = r"""
 import json, sys
 import tinycss2
@@ -161,8 +206,32 @@ def statement(item, wanted):
     block = None if item[2] is None else value(item[2], wanted[2])
     return [name(item[0]) if item[0] else "", value(item[1], wanted[1]), block]
 
+GROUPS = ("media", "supports", "layer", "container", "document", "-moz-document")
+
+def bare(nodes):
+    found = list(nodes)
+    for end in (-1, 0):
+        while found and found[end].type in ("whitespace", "comment"):
+            found.pop(end)
+    return found
+
+def rules_in(nodes, conditions):
+    for one in nodes:
+        if one.type == "qualified-rule":
+            yield [conditions, key(one.prelude), key(one.content)]
+        elif one.type == "at-rule" and one.content is not None and one.lower_at_keyword in GROUPS:
+            prelude = tinycss2.serialize(bare(one.prelude))
+            yield from rules_in(tinycss2.parse_rule_list(one.content), conditions + prelude + ",")
+
+def rules(text):
+    return list(rules_in(tinycss2.parse_stylesheet(text), ""))
+
+def rule(item, wanted):
+    return [item[0], value(item[1], wanted[1]), value(item[2], wanted[2])]
+
 work = json.load(sys.stdin)
-read, one = (declarations, declaration) if work["what"] == "declarations" else (statements, statement)
+readers = {"declarations": (declarations, declaration), "statements": (statements, statement), "rules": (rules, rule)}
+read, one = readers[work["what"]]
 theirs = [read(text) for text in work["texts"]]
 ours = [
     [one(item, wanted[i] if i < len(wanted) else [None] * 3) for i, item in enumerate(found)]
@@ -202,17 +271,32 @@ def statements_of(today, texts):
         yield [statement(*item) for item in items if item[0] != "skipped"]
 
 
+def rules_of(today, texts):
+    """The rule sets of each text: the preludes of their group rules, their preludes and their blocks."""
+    for items in fields_of(today, "rules", texts):
+        yield [(conditions, prelude, block) for conditions, _, prelude, block in items]
+
+
+def faults_of(today, texts):
+    """Why each rule set of each text is dropped."""
+    for items in fields_of(today, "rules", texts):
+        yield [fault for _, fault, _, _ in items]
+
+
 def check_tables(today, counts):
     """Compares what is read of the texts of the tables."""
     for table, read in ((DECLARATIONS, declarations_of), (STATEMENTS, statements_of)):
         texts = [text for text, _ in table]
         for (text, wanted), found in zip(table, read(today, texts)):
             counts.expect(found == wanted, f"{text!r} has {found}, and not {wanted}")
+    faults = faults_of(today, [selectors + "{}" for selectors, _ in SELECTORS])
+    for (selectors, wanted), found in zip(SELECTORS, faults):
+        counts.expect(found == [wanted], f"{selectors!r} has {found}, and not {wanted!r}")
 
 
 def compared(today, what, texts):
     """What tinycss2 reads of each text, and what the program does, in the same form."""
-    read = declarations_of if what == "declarations" else statements_of
+    read = {"declarations": declarations_of, "statements": statements_of, "rules": rules_of}[what]
     work = {"what": what, "texts": texts, "found": list(read(today, texts))}
     reply = subprocess.run(["/usr/bin/python3", "-c", THEIRS], input=json.dumps(work), stdout=subprocess.PIPE, text=True, check=True).stdout
     return zip(*json.loads(reply))
@@ -283,7 +367,9 @@ def main():
         lists = random_texts(PIECES, words.count, 1, ("", "a:", "a:", "--x:", "a:b;c:"))
         beside(words.today, counts, "declarations", lists, "random texts")
         beside(words.today, counts, "statements", random_texts(MORE, words.count, 2, ("",)), "random texts")
-        beside(words.today, counts, "statements", real_sheets(words.sheets), "real sheets")
+        sheets = real_sheets(words.sheets)
+        beside(words.today, counts, "statements", sheets, "real sheets")
+        beside(words.today, counts, "rules", sheets, "real sheets")
     else:
         print("left out: random texts and real sheets beside tinycss2, since python3-tinycss2 is missing")
     return counts.end()

@@ -1,13 +1,18 @@
-//! An example: reads texts by the rules of today's style sheets, `today statements` or `today
-//! declarations`. The texts are on standard input, and a NUL byte separates them. For each text, what
-//! it has is printed in fields, of which each ends with the byte 1; a NUL byte ends the text.
+//! An example: reads texts by the rules of today's style sheets, `today statements`, `today
+//! declarations` or `today rules`. The texts are on standard input, and a NUL byte separates them. For
+//! each text, what it has is printed in fields, of which each ends with the byte 1; a NUL byte ends the
+//! text.
 //!
 //! The fields of a statement are its kind, its name, its prelude and its block; those of an item of a
 //! list are its kind, its name, its value and its flags. What is skipped has its fault in place of a
-//! name, and its text.
+//! name, and its text. The fields of a rule set, which may be in group rules, are the preludes of these
+//! with a comma after each, why it is dropped, its prelude and its block.
 #![tactic(auto)]
 
-use css_syntax::{AtRule, Declaration, Declarations, Fault, Item, Statement, Statements};
+use css_selectors::prelude_fault;
+use css_sheet::SheetReader;
+use css_syntax::{AtRule, Declaration, Declarations, Fault, Item, RuleSet, Statement, Statements};
+use std::alloc::Global;
 use std::io::{BufWriter, Read, Write};
 use std::{env, io};
 
@@ -102,14 +107,64 @@ fn write_declarations<W: Write>(out: &mut W, text: &str) -> io::Result<()> {
     Ok(())
 }
 
-/// Writes what a text has.
-fn write_text<W: Write>(out: &mut W, text: &[u8], as_sheet: bool) -> io::Result<()> {
-    if let Ok(text) = str::from_utf8(text) {
-        if as_sheet {
-            write_statements(out, text)?;
-        } else {
-            write_declarations(out, text)?;
+/// Writes the field of the preludes of the group rules that are open.
+fn write_levels<W: Write>(out: &mut W, reader: &SheetReader<'_>) -> io::Result<()> {
+    for level in reader.levels() {
+        out.write_all(level.prelude.as_bytes())?;
+        out.write_all(b",")?;
+    }
+    out.write_all(b"\x01")
+}
+
+/// The word for why a rule set is dropped, if it is.
+fn drop_word(rule: &RuleSet<'_>) -> &'static str {
+    match prelude_fault(&rule.prelude) {
+        Some(fault) => fault_word(fault),
+        None => "",
+    }
+}
+
+/// Writes the rule sets of a text and of its group rules.
+fn write_rules<W: Write>(alloc: Global, out: &mut W, text: &str) -> io::Result<()> {
+    let mut reader = SheetReader::new(alloc, text);
+    // Each item has a byte or more.
+    for _ in 0..text.len() {
+        let Some(part) = reader.read_next()? else {
+            break;
+        };
+        if let Statement::RuleSet(rule) = part.statement {
+            write_levels(out, &reader)?;
+            write_field(out, drop_word(&rule))?;
+            write_field(out, rule.prelude.text)?;
+            write_field(out, rule.block.text)?;
         }
+    }
+    Ok(())
+}
+
+/// What is read of a text.
+#[derive(Clone, Copy)]
+enum Part {
+    Statements,
+    Declarations,
+    Rules,
+}
+
+/// The part with this name.
+fn part_of(word: &str) -> Part {
+    match word {
+        "statements" => Part::Statements,
+        "rules" => Part::Rules,
+        _ => Part::Declarations,
+    }
+}
+
+/// Writes what a text has.
+fn write_text<W: Write>(alloc: Global, out: &mut W, text: &str, part: Part) -> io::Result<()> {
+    match part {
+        Part::Statements => write_statements(out, text)?,
+        Part::Declarations => write_declarations(out, text)?,
+        Part::Rules => write_rules(alloc, out, text)?,
     }
     out.write_all(b"\x00")
 }
@@ -118,15 +173,17 @@ fn write_text<W: Write>(out: &mut W, text: &[u8], as_sheet: bool) -> io::Result<
 fn main(rt: HostRuntime) -> io::Result<()> {
     let alloc = rt.alloc();
     let words: Vec<String> = env::args(&rt)?.skip(1).collect(alloc)?;
-    let as_sheet = match words.as_slice() {
-        [word] => word.as_str() == "statements",
-        _ => false,
+    let part = match words.as_slice() {
+        [word] => part_of(word.as_str()),
+        _ => Part::Declarations,
     };
     let mut input = Vec::new(alloc);
     rt.reader().read_to_end(&mut input)?;
     let mut out = BufWriter::new(alloc, rt.stdout())?;
     for text in input.split(|byte| *byte == 0) {
-        write_text(&mut out, text, as_sheet)?;
+        if let Ok(text) = str::from_utf8(text) {
+            write_text(alloc, &mut out, text, part)?;
+        }
     }
     out.flush()
 }
