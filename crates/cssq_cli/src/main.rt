@@ -9,14 +9,14 @@ mod trees;
 mod warnings;
 
 use cssq::command::{Command, USAGE};
-use cssq::runs::{
-    RunFault, run_match_reporting, run_selector, run_sheet_into, run_style_reporting,
-};
+use cssq::runs::{RunFault, run_match_into, run_selector, run_sheet_into, run_style_into};
 use help::{help_for, write_text};
 use inputs::{INPUT, read_file, read_input};
 use log::sink::Discard;
 use output::Output;
-use simplecss::StyleSheet;
+use simplecss::{Report, StyleSheet};
+use std::alloc::Global;
+use std::io::Write;
 use std::process::ExitCode;
 use std::{env, mem};
 use trees::{has_crlf, reason_of};
@@ -136,6 +136,37 @@ fn warn_of_tree(rt: &HostRuntime, name: &str, text: &str, outcome: &Result<(), R
     }
 }
 
+/// Writes which rules of the sheet match each element. The sheet is not dropped, as in
+/// [`show_texts`].
+fn matches<'a, P: Report<'a>, W: Write>(
+    report: &mut P,
+    alloc: Global,
+    sheet: &'a str,
+    page: &str,
+    out: &mut W,
+) -> Result<(), RunFault> {
+    let mut kept = StyleSheet::new(alloc);
+    let outcome = run_match_into(report, alloc, sheet, page, &mut kept, out);
+    mem::forget(kept);
+    outcome
+}
+
+/// Writes which declaration of the name wins on each element. The sheet is not dropped, as in
+/// [`show_texts`].
+fn winners<'a, P: Report<'a>, W: Write>(
+    report: &mut P,
+    alloc: Global,
+    sheet: &'a str,
+    page: &str,
+    name: &str,
+    out: &mut W,
+) -> Result<(), RunFault> {
+    let mut kept = StyleSheet::new(alloc);
+    let outcome = run_style_into(report, alloc, sheet, page, name, &mut kept, out);
+    mem::forget(kept);
+    outcome
+}
+
 /// Shows, for each element of the tree, which rules of the file's sheet match it or, with a name,
 /// which declaration of that name wins there.
 fn show_elements(rt: &HostRuntime, file: &str, tree: &str, name: Option<&str>) -> ExitCode {
@@ -152,8 +183,8 @@ fn show_elements(rt: &HostRuntime, file: &str, tree: &str, name: Option<&str>) -
     };
     let (alloc, mut out) = (rt.alloc(), Output::new(rt.stdout()));
     let outcome = match name {
-        None => run_match_reporting(&mut warnings, alloc, sheet, page, &mut out),
-        Some(name) => run_style_reporting(&mut warnings, alloc, sheet, page, name, &mut out),
+        None => matches(&mut warnings, alloc, sheet, page, &mut out),
+        Some(name) => winners(&mut warnings, alloc, sheet, page, name, &mut out),
     };
     let _ = warnings.finish();
     warn_of_tree(rt, tree, page, &outcome);
