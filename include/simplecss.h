@@ -6,6 +6,11 @@
  * Several texts of one style sheet are passed as one buffer that has them one after another, and an
  * array of where each ends. The ends do not fall, and the last is the length of the buffer.
  *
+ * A call that reads a style sheet has a `limit`: the most declarations that the rules of all texts
+ * together may hold. A rule set's declarations are stored once for each of its selectors and count as
+ * often, so the rules of a short text may take memory quadratic in its length. Pass
+ * SIMPLECSS_NO_LIMIT for texts that you trust.
+ *
  * A tree is three arrays: its elements in document order, the bytes of all its strings one after
  * another, and where each string ends. An element's strings are its name and then, for each
  * attribute, its key and its value; those of the first element come first. A value may be any text:
@@ -29,10 +34,10 @@
  *
  * Time and memory: a style sheet is read in time that grows as its texts, as n log n to put n rules in
  * order, and of each rule set as its selectors times its declarations, since each rule has a copy of
- * the declarations: 12 kB may take a hundred milliseconds and the memory of millions of declarations.
- * A tree is read in time that grows as its strings. Of each element those rules are tested whose id,
- * class, name or attribute it has; a test takes no longer than the selector's components times
- * (the element's depth + 1).
+ * the declarations: 12 kB may take a hundred milliseconds and the memory of millions of declarations,
+ * unless `limit` refuses them. A tree is read in time that grows as its strings. Of each element those
+ * rules are tested whose id, class, name or attribute it has; a test takes no longer than the
+ * selector's components times (the element's depth + 1).
  */
 #ifndef SIMPLECSS_H
 #define SIMPLECSS_H
@@ -49,12 +54,16 @@ extern "C" {
 
 /* The statuses of calls. */
 #define SIMPLECSS_DONE 0u          /* the answer was written */
-#define SIMPLECSS_REFUSED 1u       /* a selector is refused, or ends are not those of texts */
+#define SIMPLECSS_REFUSED 1u       /* a selector is refused, or ends are not those of texts: of two
+                                      faults of texts the first in order is reported */
 #define SIMPLECSS_TREE_FAULT 2u    /* the tree has a fault, in `*fault` */
 #define SIMPLECSS_OUT_OF_MEMORY 3u /* an allocation failed */
-#define SIMPLECSS_NOT_UTF8 5u      /* a text is not UTF-8, or the strings of a tree are not; where the ends
-                                      of texts are wrong, too, this status or 1 */
+#define SIMPLECSS_TOO_MANY_DECLARATIONS 4u /* the rules would hold more declarations than the limit */
+#define SIMPLECSS_NOT_UTF8 5u      /* a text is not UTF-8, or the strings of a tree are not */
 #define SIMPLECSS_TOO_SMALL 6u     /* the answer is longer than the buffer */
+
+/* A limit that allows any number of declarations. */
+#define SIMPLECSS_NO_LIMIT SIZE_MAX
 
 /* An element of a tree. The depth of a root is 0, and that of any other element is one more than its
  * parent's. So the depth of the first element is 0, and that of another at most the depth of the
@@ -110,14 +119,14 @@ uint32_t simplecss_refusal(const uint8_t *text, size_t text_len,
 
 /* Writes the printed style sheet of texts, and a newline where it has a rule. */
 uint32_t simplecss_sheet(const uint8_t *texts, size_t texts_len,
-                         const size_t *ends, size_t ends_count,
+                         const size_t *ends, size_t ends_count, size_t limit,
                          uint8_t *out, size_t out_size, size_t *len);
 
 /* Writes a line of JSON for each rule of the style sheet of texts, in the order of specificity:
  * {"selector":"a","specificity":[0,0,1],
  *  "declarations":[{"name":"color","value":"red","important":false}]} */
 uint32_t simplecss_rules(const uint8_t *texts, size_t texts_len,
-                         const size_t *ends, size_t ends_count,
+                         const size_t *ends, size_t ends_count, size_t limit,
                          uint8_t *out, size_t out_size, size_t *len);
 
 /* Writes a line of JSON for each piece of a style sheet's text that is skipped:
@@ -135,7 +144,7 @@ uint32_t simplecss_skipped(const uint8_t *text, size_t text_len,
 /* Writes a line for each element of a tree: its number, a colon, the number of each rule that matches
  * it after a space, and a newline. Elements and rules are numbered from 1. */
 uint32_t simplecss_match(const uint8_t *texts, size_t texts_len,
-                         const size_t *ends, size_t ends_count,
+                         const size_t *ends, size_t ends_count, size_t limit,
                          const simplecss_element *elements, size_t elements_count,
                          const uint8_t *strings, size_t strings_len,
                          const size_t *string_ends, size_t string_ends_count,
@@ -153,7 +162,7 @@ uint32_t simplecss_select(const uint8_t *selectors, size_t selectors_len,
  * wins for the name after a space, ` !important` if it is important, and a newline. A value may have
  * newlines; simplecss_styles escapes them. */
 uint32_t simplecss_style(const uint8_t *texts, size_t texts_len,
-                         const size_t *ends, size_t ends_count,
+                         const size_t *ends, size_t ends_count, size_t limit,
                          const simplecss_element *elements, size_t elements_count,
                          const uint8_t *strings, size_t strings_len,
                          const size_t *string_ends, size_t string_ends_count,
@@ -164,7 +173,7 @@ uint32_t simplecss_style(const uint8_t *texts, size_t texts_len,
  * in the order in which the cascade applies them:
  * [{"name":"color","value":"red","important":false}] */
 uint32_t simplecss_styles(const uint8_t *texts, size_t texts_len,
-                          const size_t *ends, size_t ends_count,
+                          const size_t *ends, size_t ends_count, size_t limit,
                           const simplecss_element *elements, size_t elements_count,
                           const uint8_t *strings, size_t strings_len,
                           const size_t *string_ends, size_t string_ends_count,

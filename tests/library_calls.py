@@ -8,7 +8,8 @@ import re
 import threading
 
 TOP = os.path.dirname(os.path.dirname(os.path.abspath(__file__)))
-DONE, REFUSED, TREE_FAULT, NOT_UTF8, TOO_SMALL = 0, 1, 2, 5, 6
+DONE, REFUSED, TREE_FAULT, TOO_MANY, NOT_UTF8, TOO_SMALL = 0, 1, 2, 4, 5, 6
+NO_LIMIT = 2**64 - 1
 SIZE = ctypes.c_size_t
 MARK = 0xA5
 
@@ -50,9 +51,12 @@ class Elements:
 
 
 def words_of(arguments):
-    """Each argument as a pointer and a length."""
+    """Each argument as a pointer and a length, and a number as a size."""
     words = []
     for argument in arguments:
+        if isinstance(argument, int):
+            words.append(SIZE(argument))
+            continue
         words += (argument.array if isinstance(argument, Elements) else argument, SIZE(len(argument)))
     return words
 
@@ -66,7 +70,7 @@ def call(library, name, arguments, room):
     return status, bytes(out), length.value, (fault.fault, fault.element)
 
 
-SHEET = buffer_of((b"ul > li { color: red }", b".new { color: blue !important }"))
+SHEET = (*buffer_of((b"ul > li { color: red }", b".new { color: blue !important }")), 2)
 PAGE = tree_of((0, b"ul"), (1, b"li", b"class", b"new"), (1, b"li", b"title", b"a\tb\n=\x01\0", b"alt", b"a\tb"))
 # Elements in the states link, visited, hover and active, one in all states and other numbers, and one in none.
 STATES = tree_of(((0, 1), b"a"), ((0, 2), b"b"), ((0, 4), b"c"), ((0, 8), b"d"), ((0, 31 + 2**40), b"e"), (0, b"f"))
@@ -84,9 +88,16 @@ ANSWERS = (
     ("simplecss_list", (b'[a="\x01\\""]',),
      b'{"selector":"*[a=\'\\u0001\\\\\\"\']","specificity":[0,1,0]}\n'),
     ("simplecss_refusal", (b"a, b",), b""),
-    ("simplecss_refusal", (b"a,\n b:none",), b'{"row":2,"column":8,"reason":"unknown pseudo-class"}\n'),
+    ("simplecss_refusal", (b"a,\n b:none",), b'{"row":2,"column":3,"reason":"unknown pseudo-class \':none\'"}\n'),
+    # What follows an unknown pseudo-class is not read.
+    ("simplecss_refusal", (b"a:foo <",), b'{"row":1,"column":2,"reason":"unknown pseudo-class \':foo\'"}\n'),
+    ("simplecss_refusal", (b"a:foo >",), b'{"row":1,"column":2,"reason":"unknown pseudo-class \':foo\'"}\n'),
+    # A position in an item counts from the start of the list.
+    ("simplecss_refusal", (b"a,\nb, c[d=]",), b'{"row":2,"column":8,"reason":"invalid ident"}\n'),
+    ("simplecss_refusal", (b"a, b >",), b'{"row":1,"column":7,"reason":"selector missing"}\n'),
+    ("simplecss_refusal", (b"a, b/c",), b'{"row":1,"column":5,"reason":"unexpected text after a selector"}\n'),
     ("simplecss_sheet", SHEET, b"ul > li { color:red; }\n*[class~='new'] { color:blue !important; }\n"),
-    ("simplecss_sheet", (b"", sizes([])), b""),
+    ("simplecss_sheet", (b"", sizes([]), 0), b""),
     ("simplecss_rules", SHEET, b'{"selector":"ul > li","specificity":[0,0,2],"declarations":[' + RED + b"]}\n"
      b'{"selector":"*[class~=\'new\']","specificity":[0,1,0],"declarations":[' + BLUE + b"]}\n"),
     ("simplecss_skipped", (b"a { b: c }\n @media print { }",),
@@ -127,9 +138,13 @@ FAILURES = [
     for name in ("simplecss_selector", "simplecss_list")
     for text, status in ((b"", REFUSED), (b"a:none", REFUSED), (BROKEN, NOT_UTF8))
 ] + [("simplecss_refusal", (BROKEN,), NOT_UTF8), ("simplecss_skipped", (BROKEN,), NOT_UTF8)]
-for _sheet, _status in (((b"ab", sizes([1])), REFUSED), ((b"ab", sizes([2, 1])), REFUSED),
-                        ((b"ab", sizes([3])), REFUSED), ((BROKEN, sizes([1])), NOT_UTF8),
-                        (("é".encode(), sizes([1, 2])), NOT_UTF8)):
+# Of two faults of texts the first is reported.
+for _sheet, _status in (((b"ab", sizes([1]), NO_LIMIT), REFUSED), ((b"ab", sizes([2, 1]), NO_LIMIT), REFUSED),
+                        ((b"ab", sizes([3]), NO_LIMIT), REFUSED), ((BROKEN, sizes([1]), NO_LIMIT), NOT_UTF8),
+                        (("é".encode(), sizes([1, 2]), NO_LIMIT), NOT_UTF8),
+                        ((BROKEN + b"a", sizes([1, 3]), NO_LIMIT), NOT_UTF8),
+                        ((b"a" + BROKEN, sizes([1, 0, 2]), NO_LIMIT), REFUSED),
+                        ((b"a,b{c:d}e{f:g}", sizes([8, 14]), 2), TOO_MANY)):
     FAILURES += [("simplecss_sheet", _sheet, _status), ("simplecss_rules", _sheet, _status),
                  ("simplecss_match", (*_sheet, *PAGE), _status), ("simplecss_styles", (*_sheet, *PAGE), _status),
                  ("simplecss_style", (*_sheet, *PAGE, b"color"), _status)]
@@ -192,7 +207,7 @@ def test_large(check, library):
     """Texts of 10 MB: a sheet, a selector list, a tree of many elements and one of a long value."""
     count = 10_000_000
     sheet = b"a { b: c }\n" * (count // 11)
-    status, _, length, _ = call(library, "simplecss_sheet", (sheet, sizes([len(sheet)])), 0)
+    status, _, length, _ = call(library, "simplecss_sheet", (sheet, sizes([len(sheet)]), NO_LIMIT), 0)
     check((status, length) == (TOO_SMALL, len(sheet) // 11 * len(b"a { b:c; }\n")), "a sheet of 10 MB", (status, length))
     listed = b"a," * (count // 2) + b"a"
     status, _, length, _ = call(library, "simplecss_refusal", (listed,), 0)

@@ -8,7 +8,7 @@
 #include <unistd.h>
 
 #define TEXT(text) (const uint8_t *)(text), sizeof(text) - 1
-#define SHEET TEXT(sheet), sheet_ends, 2
+#define SHEET TEXT(sheet), sheet_ends, 2, 2
 #define TREE elements, 3, TEXT(strings), string_ends, 7
 #define OUT out, sizeof(out) - 1, &len
 

@@ -235,10 +235,13 @@ SELECTORS = [
     ("a[b=c i]", "", ":1:6: 'a[b=c i]': invalid byte"),
     ("a[b~c]", "", ":1:5: 'a[b~c]': invalid byte"),
     # Pseudo-classes.
-    ("a:foo", "", ":1:1: 'a:foo': unknown pseudo-class"),
-    ("a:HOVER", "", ":1:1: 'a:HOVER': unknown pseudo-class"),
-    ("a:before", "", ":1:1: 'a:before': unknown pseudo-class"),
-    ("a:nth-child(2)", "", ":1:1: 'a:nth-child(2)': unknown pseudo-class"),
+    ("a:foo", "", ":1:2: 'a:foo': unknown pseudo-class ':foo'"),
+    ("a:foo <", "", ":1:2: 'a:foo <': unknown pseudo-class ':foo'"),
+    ("a:foo >", "", ":1:2: 'a:foo >': unknown pseudo-class ':foo'"),
+    ("b >\n  \u00e9:x:first-child", "", ":2:4: 'b >': unknown pseudo-class ':x'"),
+    ("a:HOVER", "", ":1:2: 'a:HOVER': unknown pseudo-class ':HOVER'"),
+    ("a:before", "", ":1:2: 'a:before': unknown pseudo-class ':before'"),
+    ("a:nth-child(2)", "", ":1:2: 'a:nth-child(2)': unknown pseudo-class ':nth-child'"),
     ("a:lang", "", ":1:1: 'a:lang': unexpected end of stream"),
     ("a:lang()", "", ":1:1: 'a:lang()': invalid language pseudo-class"),
     # Comments.
@@ -392,6 +395,28 @@ says(["match", "second.css", "crlf.tree"], b"", 1, "", [
 # Parentheses that are closed, or in a string or a comment.
 put("closed.css", b"a { b:url('c(d'); e:'f(' g; h:i /* ( */; j:k(l) m(n) } o[p='q(r'] { s:t('u\\'(') }")
 says(["sheet", "closed.css"], b"", 0, "a { b:url('c(d');e:'f(' g;h:i;j:k(l) m(n); }\no[p='q(r'] { s:t('u\\'('); }\n", [])
+# The same text is in a comment before the value.
+put("open.css", b"a { /* c:f((1) */ b:f((1); }\nd { e/*:g((1)*/:g((1); }")
+says(["sheet", "open.css"], b"", 0, "a { b:f((1); }\nd { e:g((1); }\n", [
+    "open.css:1:21: 'f((1)': a parenthesis of the value is left open",
+    "open.css:2:17: 'g((1)': a parenthesis of the value is left open",
+])
+# The limit that the environment sets, over all texts of a call.
+put("two.css", b"a, b { c:d } @x;")
+put("one.css", b"e { f:g }")
+for limit, printed, lines in [
+    ("3", "a { c:d; }\nb { c:d; }\ne { f:g; }\n", []),
+    ("2", None, ["cssq: the rules have more than 2 declarations (CSSQ_LIMIT)", "cssq: want of memory"]),
+    ("two", None, ["cssq: CSSQ_LIMIT is no number"]),
+]:
+    os.environ["CSSQ_LIMIT"] = limit
+    status = 0 if printed else 3 if limit == "2" else 2
+    at_rule = [] if limit == "two" else ["two.css:1:14: '@x': at-rule not supported"]
+    says(["sheet", "two.css", "one.css"], b"", status, printed or "", at_rule + lines)
+    if limit != "3":
+        put("text.css", b"a, b, c { d:e }")
+        says(["match", "text.css", "page.tree"], b"", status, "", lines)
+del os.environ["CSSQ_LIMIT"]
 mistakes = len(SELECTORS) + len(SHEETS) + len(TREES) + len(UNKNOWN) + len(FILES) + 1
 print(f"the program: {mistakes} mistakes, {checks.passed - began} answers to them")
 

@@ -114,7 +114,7 @@ for sheet, tree, name in [("a { c:red !important; c:blue } a { c:green }", "0\ta
     add("run_style", ["run_style", sheet, tree, name], unwritten)
 
 for text in SHEETS:
-    add("StyleSheet::parse_all", ["sheets", text, "#x { a:b }", text], plain)
+    add("StyleSheet::read", ["sheets", text, "#x { a:b }", text], plain)
     add("StatementReader::read_next", ["statements", text], plain)
 for text in ["a < b, c:d { e } @f", "a < b { c:d }"]:
     add("find_faults", ["faults", text], plain)
@@ -149,7 +149,7 @@ for text, more, printed, after in MORE:
     add("parse_more", ["more", text, more], lambda out, whole: whole == after and out == "refused\n" + printed + after)
 for text in SHEETS:
     add("parse_more", ["more", "x { y:z }", text], lambda out, whole: out == "refused\nx { y:z; }\n" + whole)
-    add("parse_within", ["within", "x { y:z }", text], lambda out, whole: out == "out of memory\nx { y:z; }\n" + whole)
+    add("StyleSheet::read, within a limit", ["within", "x { y:z }", text], lambda out, whole: out == "out of memory\nx { y:z; }\n" + whole)
 
 for name, number in counts.items():
     expect(number > 0, f"{name} makes no request")

@@ -424,7 +424,7 @@ ARM = """
 #include <stdlib.h>
 #include <string.h>
 typedef uint32_t call(const uint8_t *, size_t, uint8_t *, size_t, size_t *);
-typedef uint32_t texts(const uint8_t *, size_t, const size_t *, size_t, uint8_t *, size_t, size_t *);
+typedef uint32_t texts(const uint8_t *, size_t, const size_t *, size_t, size_t, uint8_t *, size_t, size_t *);
 static uint8_t text[1 << 16], out[1 << 20];
 static void put(uint32_t status, size_t n) { if (status) n = 0; uint64_t w = n; fwrite(&w, 8, 1, stdout); fwrite(out, 1, n, stdout); }
 int main(int argc, char **argv) {
@@ -434,10 +434,10 @@ int main(int argc, char **argv) {
     call *selector = (call *)dlsym(l, "simplecss_selector"), *skipped = (call *)dlsym(l, "simplecss_skipped");
     for (uint64_t n; fread(&n, 8, 1, stdin) == 1;) {
         size_t len = 0, end = fread(text, 1, n, stdin);
-        put(sheet(text, end, &end, 1, out, sizeof out, &len), len);
+        put(sheet(text, end, &end, 1, SIZE_MAX, out, sizeof out, &len), len);
         put(selector(text, end, out, sizeof out, &len), len);
         put(skipped(text, end, out, sizeof out, &len), len);
-        put(rules(text, end, &end, 1, out, sizeof out, &len), len);
+        put(rules(text, end, &end, 1, SIZE_MAX, out, sizeof out, &len), len);
     }
 }
 """

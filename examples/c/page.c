@@ -42,7 +42,7 @@ int main(void) {
     uint32_t status = SIMPLECSS_TOO_SMALL;
     while (out != NULL) {
         status = simplecss_match((const uint8_t *)sheet, sheet_len, sheet_ends, COUNT(texts),
-                                 elements, COUNT(elements), (const uint8_t *)names, names_len,
+                                 SIMPLECSS_NO_LIMIT, elements, COUNT(elements), (const uint8_t *)names, names_len,
                                  name_ends, COUNT(strings), out, size, &len, &fault);
         if (status != SIMPLECSS_TOO_SMALL) {
             break;

@@ -11,7 +11,7 @@ Every call may be made from any thread.
 
 from ._declaration import Declaration
 from ._inline import NotWritten, inline
-from ._library import LibraryError, __version__, library_path
+from ._library import LibraryError, LimitError, __version__, library_path
 from ._selectors import Selector, SelectorError
 from ._sheet import Rule, Skipped, StyleSheet
 from ._tree import Element, Item, Tree, TreeError
@@ -21,6 +21,7 @@ __all__ = [
     "Element",
     "Item",
     "LibraryError",
+    "LimitError",
     "NotWritten",
     "Rule",
     "Selector",

@@ -19,8 +19,13 @@ DONE = 0
 REFUSED = 1
 TREE_FAULT = 2
 OUT_OF_MEMORY = 3
+TOO_MANY_DECLARATIONS = 4
 NOT_UTF8 = 5
 TOO_SMALL = 6
+
+# A limit that allows any number of declarations, and the one that holds where none is named.
+NO_LIMIT = 2 ** (8 * ctypes.sizeof(ctypes.c_size_t)) - 1
+USUAL_LIMIT = 1_000_000
 
 # The name of the library on this system.
 _NAME = {"win32": "simplecss.dll", "darwin": "libsimplecss.dylib"}.get(sys.platform, "libsimplecss.so")
@@ -30,6 +35,10 @@ SIZE = next(c for c in "QLI" if array.array(c).itemsize == ctypes.sizeof(ctypes.
 
 class LibraryError(OSError):
     """The library was not found, or is not one that this package can use."""
+
+
+class LimitError(ValueError):
+    """The rules of a style sheet would hold more declarations than its limit."""
 
 
 class TreeFault(NamedTuple):
@@ -168,12 +177,15 @@ def ends_of(lengths: Iterable[int]) -> "ctypes.Array[ctypes.c_size_t]":
 def call(name: str, *arguments: Any, room: int, with_fault: bool = False) -> Answer:
     """Calls a function of the library.
 
-    An argument is a text, an array of ends, or the arrays of a tree. `room` is the length of the
+    An argument is a text, an array of ends, the arrays of a tree, or a number. `room` is the length of the
     first buffer; a call that needs a longer one is made again.
     """
     function = _function(name)
     words: List[Any] = []
     for argument in arguments:
+        if isinstance(argument, int):
+            words.append(ctypes.c_size_t(argument))
+            continue
         parts = argument.arguments if isinstance(argument, TreeArrays) else (argument,)
         for part in parts:
             words.append(part)
@@ -189,6 +201,8 @@ def call(name: str, *arguments: Any, room: int, with_fault: bool = False) -> Ans
         room = length.value
     if status == OUT_OF_MEMORY:
         raise MemoryError(name)
+    if status == TOO_MANY_DECLARATIONS:
+        raise LimitError("the rules would hold more declarations than the limit")
     fault = TreeFault(found.fault, found.element) if status == TREE_FAULT else None
     output = ctypes.string_at(buffer, length.value) if status == DONE else b""
     return Answer(status, output, fault)

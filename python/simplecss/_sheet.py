@@ -59,7 +59,11 @@ class Prepared:
     """The rules of a sheet as they are read for a tree. In their text a declaration's name and value
     are numbers, so that the library decides between declarations whose values it need not read."""
 
-    def __init__(self, rules: Iterable[Tuple[str, Iterable[Tuple[str, bool, object]]]]) -> None:
+    def __init__(
+        self,
+        rules: Iterable[Tuple[str, Iterable[Tuple[str, bool, object]]]],
+        limit: int = library.USUAL_LIMIT,
+    ) -> None:
         """Takes a selector for each rule, and of each declaration its name, whether it is important,
         and what it stands for."""
         self.names: Dict[str, int] = {}
@@ -76,11 +80,13 @@ class Prepared:
         self.text = "".join(words)
         self._data = self.text.encode("utf-8")
         self._ends = library.ends_of((len(self._data),))
+        self._limit = limit
 
     def _call(self, name: str, tree: Tree, *more: bytes, room: int) -> bytes:
         arrays = tree._arrays()
+        room = 1024 + room * len(tree)
         answer = library.call(
-            name, self._data, self._ends, arrays, *more, room=1024 + room * len(tree), with_fault=True
+            name, self._data, self._ends, self._limit, arrays, *more, room=room, with_fault=True
         )
         return library.output_of(name, answer)
 
@@ -114,19 +120,25 @@ class StyleSheet:
 
     Its rules are in the order of their specificity, and rules of equal specificity in the order in
     which they appear. What the library does not read is skipped. `str` is the printed sheet.
+
+    A rule set has its declarations once for each of its selectors, so a short text may have rules
+    that take very much memory. Rules with more declarations than `limit` raise `LimitError`, before
+    they are stored; `None` is no limit.
     """
 
-    def __init__(self, *texts: str) -> None:
+    def __init__(self, *texts: str, limit: Optional[int] = library.USUAL_LIMIT) -> None:
         self._texts = tuple(library.encode(text) for text in texts)
         self._buffer = b"".join(self._texts)
+        self._limit = library.NO_LIMIT if limit is None else min(max(limit, 0), library.NO_LIMIT)
         self._rules: Optional[Tuple[Rule, ...]] = None
         self._prepared: Dict[Reading, Prepared] = {}
 
     def __reduce__(self) -> Tuple[Any, ...]:
-        return (StyleSheet, tuple(text.decode("utf-8") for text in self._texts))
+        return (_sheet_of, (tuple(text.decode("utf-8") for text in self._texts), self._limit))
 
     def _call(self, name: str, room: int) -> bytes:
-        answer = library.call(name, self._buffer, library.ends_of(map(len, self._texts)), room=room)
+        ends = library.ends_of(map(len, self._texts))
+        answer = library.call(name, self._buffer, ends, self._limit, room=room)
         return library.output_of(name, answer)
 
     @property
@@ -165,13 +177,14 @@ class StyleSheet:
     def _prepare(self, reading: Reading) -> Prepared:
         """Returns the rules as they are read for a tree."""
         if reading not in self._prepared:
-            self._prepared[reading] = Prepared(
+            rules = (
                 (
                     reading.rewrite(rule.selector, '"'),
                     [(each.name, each.important, each) for each in rule.declarations],
                 )
                 for rule in self.rules
             )
+            self._prepared[reading] = Prepared(rules, self._limit)
         return self._prepared[reading]
 
     def match(self, tree: Tree) -> "ByElement[List[int]]":
@@ -217,6 +230,10 @@ class StyleSheet:
         return ByElement(
             None if found is None else values[found] for found in prepared.style(tree, name)
         )
+
+
+def _sheet_of(texts: Tuple[str, ...], limit: int) -> StyleSheet:
+    return StyleSheet(*texts, limit=limit)
 
 
 def _reading_of(tree: Tree) -> Reading:

@@ -45,6 +45,9 @@ class Selectors(unittest.TestCase):
             ("a\n> > b", "2:3: unexpected combinator"),
             ("a[b^=c]", "1:4: invalid attribute selector"),
             ("a, b", "1:1: more than one selector"),
+            ("a:foo >", "1:2: unknown pseudo-class ':foo'"),
+            ("b,\n c:foo <", "2:3: unknown pseudo-class ':foo'"),
+            ("a {", "1:3: unexpected text after a selector"),
         ):
             with self.assertRaises(simplecss.SelectorError, msg=text) as found:
                 simplecss.Selector(text)
@@ -96,6 +99,18 @@ class Sheets(unittest.TestCase):
     def test_printed_sheet(self):
         sheet = simplecss.StyleSheet("a{b:c}")
         self.assertEqual(str(sheet), "a { b:c; }")
+
+    def test_limit(self):
+        two = ("a, b { c: d }", "e { f: g }")
+        self.assertEqual(len(simplecss.StyleSheet(*two, limit=3).rules), 3)
+        refused = simplecss.StyleSheet(*two, limit=2)
+        with self.assertRaises(simplecss.LimitError) as found:
+            str(refused)
+        self.assertIsInstance(found.exception, ValueError)
+        square = simplecss.StyleSheet("a," * 10_000 + "a{" + "b:c;" * 10_000 + "}")
+        with self.assertRaises(simplecss.LimitError):
+            square.styles(simplecss.Tree.from_html("<a>"))
+        self.assertEqual(square.skipped, [])
 
     def test_skipped(self):
         sheet = simplecss.StyleSheet("a { b: c }", "\n @media print { } x:none { y: z }")
@@ -389,7 +404,7 @@ class Matching(unittest.TestCase):
 class LongTexts(unittest.TestCase):
     def test_long_texts(self):
         rule = "a{b:c}"
-        sheet = simplecss.StyleSheet(rule * (10_000_000 // len(rule)))
+        sheet = simplecss.StyleSheet(rule * (10_000_000 // len(rule)), limit=None)
         self.assertEqual(len(str(sheet).split("\n")), 10_000_000 // len(rule))
 
 

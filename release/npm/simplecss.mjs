@@ -3,11 +3,14 @@
 
 const encoder = new TextEncoder();
 const decoder = new TextDecoder();
-const DONE = 0, REFUSED = 1, TREE_FAULT = 2, OUT_OF_MEMORY = 3, NOT_UTF8 = 5, TOO_SMALL = 6;
+const DONE = 0, REFUSED = 1, TREE_FAULT = 2, OUT_OF_MEMORY = 3, TOO_MANY_DECLARATIONS = 4,
+  NOT_UTF8 = 5, TOO_SMALL = 6;
 const FAULTS = ['', 'its depth', 'its name is empty', 'its strings', 'a key occurs twice'];
 
 /** A selector is refused: `row`, `column` and `reason` say where and why. */
 export class SelectorError extends Error {}
+/** The rules of style sheets would hold more declarations than the limit. */
+export class LimitError extends RangeError {}
 /** A tree has a fault in `element`. */
 export class TreeError extends Error {}
 
@@ -72,6 +75,9 @@ function joined(texts) {
 
 /** The library. Its numbers of 64 bits are BigInts, also where memory has 32. */
 class Simplecss {
+  /** The most declarations that the rules of style sheets may hold; `Infinity` is no limit. */
+  limit = 1_000_000;
+
   constructor(exports) {
     this.exports = exports;
   }
@@ -84,6 +90,7 @@ class Simplecss {
       x.simplecss_reset();
       const words = [];
       for (const part of parts) {
+        if (typeof part === 'bigint') { words.push(part); continue; }
         const at = x.simplecss_take(BigInt(part.byteLength));
         if (!at) throw new RangeError('out of memory');
         new Uint8Array(x.memory.buffer, Number(at), part.byteLength).set(
@@ -100,6 +107,7 @@ class Simplecss {
       if (status === TOO_SMALL) { room = length; continue; }
       if (status === DONE) return decoder.decode(new Uint8Array(x.memory.buffer, Number(out), length));
       if (status === OUT_OF_MEMORY) throw new RangeError('out of memory');
+      if (status === TOO_MANY_DECLARATIONS) throw new LimitError(`more than ${this.limit} declarations`);
       if (status === TREE_FAULT) {
         const kind = view.getUint32(8, true), element = Number(view.getBigUint64(16, true)) - 1;
         throw Object.assign(new TreeError(`element ${element}: ${FAULTS[kind]}`), { element });
@@ -122,17 +130,21 @@ class Simplecss {
     if (found === null) throw this.#refused(text);
     return lines(found);
   }
+  /** The words of style sheets, with the limit. */
+  #sheets(texts) {
+    const t = joined(texts);
+    return [t.bytes, t.ends, this.limit === Infinity ? 2n ** 64n - 1n : BigInt(this.limit)];
+  }
   /** The rules of style sheets, one after another, by specificity. */
-  rules(...texts) { const t = joined(texts); return lines(this.call('rules', [t.bytes, t.ends])); }
+  rules(...texts) { return lines(this.call('rules', this.#sheets(texts))); }
   /** The printed sheet. */
-  sheet(...texts) { const t = joined(texts); return this.call('sheet', [t.bytes, t.ends]); }
+  sheet(...texts) { return this.call('sheet', this.#sheets(texts)); }
   /** What of a text is skipped: `row`, `column`, `reason` and `text`. */
   skipped(text) { return lines(this.call('skipped', [encoder.encode(text)])); }
   #tree(tree) { return [Object.assign(tree.shape, { count: tree.length }), tree.bytes, tree.ends]; }
   /** For each element the indices in `rules` of those that match it. */
   match(tree, ...texts) {
-    const t = joined(texts);
-    const answer = this.call('match', [t.bytes, t.ends, ...this.#tree(tree)], { tree: true });
+    const answer = this.call('match', [...this.#sheets(texts), ...this.#tree(tree)], { tree: true });
     return answer.split('\n').slice(0, -1).map(line =>
       line.slice(line.indexOf(':') + 1).split(' ').slice(1).map(n => n - 1));
   }
@@ -144,8 +156,7 @@ class Simplecss {
   }
   /** For each element the winning declarations. */
   styles(tree, ...texts) {
-    const t = joined(texts);
-    return lines(this.call('styles', [t.bytes, t.ends, ...this.#tree(tree)], { tree: true }));
+    return lines(this.call('styles', [...this.#sheets(texts), ...this.#tree(tree)], { tree: true }));
   }
 }
 const lines = text => text.split('\n').slice(0, -1).map(line => JSON.parse(line));

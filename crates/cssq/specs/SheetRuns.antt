@@ -12,6 +12,10 @@ abbrev pub sheet_output : List StyleRule → List ℕ
 sheet_output [] = []
 sheet_output (rule ∷ rules) = sheet_text (rule ∷ rules) ++ newline ∷ []
 
+-- the output of a sheet with these rules
+abbrev pub IsSheetText : List StyleRule → Result (List ℕ) RunFault → Type 0
+IsSheetText rules due = due ≡ Ok (sheet_output rules)
+
 -- the sheet of all texts, read in order
 abbrev pub IsSheetRun : List (List ℕ) → Result (List ℕ) RunFault → Type 0
 IsSheetRun texts due = due ≡ Ok (sheet_output (sheet this_edition texts))

@@ -9,7 +9,7 @@ ghost use Rattle.std.specs.Io.KnownBytes.{Appends};
 ghost use Rattle.cssq.specs.Writing.{AppendsProperPrefix, Writes, FailsBeforeWriting};
 ghost use Rattle.cssq.specs.Faults.{status_of, message_of, run_fault};
 ghost use Rattle.cssq.specs.SelectorRuns.{selector_line, IsSelectorRun};
-ghost use Rattle.cssq.specs.SheetRuns.{sheet_output, IsSheetRun};
+ghost use Rattle.cssq.specs.SheetRuns.{sheet_output, IsSheetText, IsSheetRun};
 ghost use Rattle.cssq.specs.MatchRuns.{numbers_line, IsMatchRun};
 ghost use Rattle.cssq.specs.StyleRuns.{style_line, IsStyleRun};
 ghost use Rattle.cssq.specs.PageRuns.{AppendsElementLine, AreElementLines, IsPageRun};
@@ -17,7 +17,6 @@ ghost use Rattle.cssq.specs.internal.Walks.{IsWalkOf};
 ghost use Rattle.cssq.specs.declared.runs.RunFault.TheVariants.{Memory};
 ghost use Rattle.simplecss.specs.DeclarationViews.{declaration_of};
 ghost use Rattle.simplecss.specs.Sheets.{sheet as sheet_of};
-ghost use Rattle.simplecss.specs.Skipped.{add_each, skipped};
 ghost use Rattle.simplecss.specs.ThisEdition.{this_edition};
 ghost use Rattle.simplecss.specs.RuleViews.{rules_of, rules_in};
 
@@ -26,7 +25,7 @@ use crate::walk::Walk;
 use cssq_page::tree::{Page, TreeFault};
 use itoa::Buffer;
 use log::Log;
-use simplecss::{Declaration, Report, Rule, RuleIndex, Selector, StyleSheet, Warnings};
+use simplecss::{Declaration, Reading, Rule, RuleIndex, Selector, StyleSheet, Warnings};
 use std::alloc::{AllocError, AllocFailed, Global};
 use std::error::Error;
 use std::fmt;
@@ -175,11 +174,23 @@ pub fn sheet_text(alloc: Global, sheet: &StyleSheet<'_>) -> Result<String, Alloc
     format!(in alloc; "{sheet}\n")
 }
 
-/// Reads the texts one after another into one sheet, and writes the printed sheet, and one newline
-/// if it has a rule.
+/// Writes the printed sheet, and one newline if it has a rule.
 ///
-/// The whole output is built first: after `Memory` nothing was written. After `Output` a beginning
-/// of it was, and never all of it. There is no other fault.
+/// The whole output is built first: after `Memory` nothing was written. After `Output` a proper
+/// prefix of it was. There is no other fault.
+pub fn write_sheet<W: Write>(
+    alloc: Global,
+    sheet: &StyleSheet<'_>,
+    out: &mut W,
+) -> Result<(), RunFault>
+    ensures { Writes (IsSheetText (rules_in sheet.now)) result (W.contents out.old)
+        (W.contents out.new) }
+{
+    let text = sheet_text(alloc, sheet)?;
+    write_out(out, text.as_bytes())
+}
+
+/// Reads the texts one after another into one sheet, and writes it as [`write_sheet`] does.
 pub fn run_sheet<R: Log, W: Write>(
     rt: &R,
     alloc: Global,
@@ -189,47 +200,15 @@ pub fn run_sheet<R: Log, W: Write>(
     ensures { Writes (IsSheetRun (map (λ text. text.now) texts.now)) result (W.contents out.old)
         (W.contents out.new) }
 {
-    run_sheet_reporting(&mut Warnings::new(rt), alloc, texts, out)
-}
-
-/// Does what [`run_sheet`] does, and reports what reading each text skips, in order.
-pub fn run_sheet_reporting<'a, P: Report<'a>, W: Write>(
-    report: &mut P,
-    alloc: Global,
-    texts: &[&'a str],
-    out: &mut W,
-) -> Result<(), RunFault>
-    ensures run { Writes (IsSheetRun (map (λ text. text.now) texts.now)) result
-        (W.contents out.old) (W.contents out.new) }
-    ensures reported { OnOk result (P.state report.new ≡ add_each P.add (P.state report.old)
-        (flat_map (skipped this_edition) (map (λ text. text.now) texts.now))) }
-{
     let mut sheet = StyleSheet::new(alloc);
-    run_sheet_into(report, alloc, texts, &mut sheet, out)
-}
-
-/// Does what [`run_sheet_reporting`] does, and leaves the sheet that was read in `sheet`, so that a
-/// program that then ends need not drop it. After `Memory`, `sheet` may be unchanged.
-pub fn run_sheet_into<'a, P: Report<'a>, W: Write>(
-    report: &mut P,
-    alloc: Global,
-    texts: &[&'a str],
-    sheet: &mut StyleSheet<'a>,
-    out: &mut W,
-) -> Result<(), RunFault>
-    ensures run { Writes (IsSheetRun (map (λ text. text.now) texts.now)) result
-        (W.contents out.old) (W.contents out.new) }
-    ensures read { OnOk result
-        (rules_in sheet.new ≡ sheet_of this_edition (map (λ text. text.now) texts.now)) }
-    ensures reported { OnOk result (P.state report.new ≡ add_each P.add (P.state report.old)
-        (flat_map (skipped this_edition) (map (λ text. text.now) texts.now))) }
-{
-    *sheet = match StyleSheet::parse_all_reporting(report, alloc, texts) {
-        Ok(read) => read,
-        Err(_) => return Err(RunFault::Memory),
+    let how = Reading {
+        report: &mut Warnings::new(rt),
+        most: usize::MAX,
     };
-    let text = sheet_text(alloc, sheet)?;
-    write_out(out, text.as_bytes())
+    match sheet.read(how, alloc, texts) {
+        Ok(()) => write_sheet(alloc, &sheet, out),
+        Err(_) => Err(RunFault::Memory),
+    }
 }
 
 /// Adds the digits of a number. A formatter would take several times as long.
@@ -370,47 +349,40 @@ fn tree_output(
     page_lines(alloc, content, &index, rules, &page)
 }
 
-/// What `run_match` and `run_style` write. The sheet is read first, into `kept`, then the tree.
-fn page_output<'a, P: Report<'a>>(
-    report: &mut P,
+/// Writes the lines of the elements of a tree by the rules of a sheet, as [`run_match`] and
+/// [`run_style`] do.
+///
+/// The whole output is built first: after `Tree` and `Memory` nothing was written. After `Output` a
+/// proper prefix of it was. `Refused` does not occur.
+pub fn write_page<W: Write>(
     alloc: Global,
     content: LineContent<'_>,
-    sheet: &'a str,
+    rules: &[Rule<'_>],
     tree: &str,
-    kept: &mut StyleSheet<'a>,
-) -> Result<String, RunFault>
-    ensures ok { IfOk result
-        (λ text. IsPageRun content.entry sheet.now tree.now (Ok (string_bytes text))) }
-    ensures fault { IfErr result (FailsBeforeWriting (IsPageRun content.entry sheet.now tree.now)) }
-    ensures reported { OnOk result (P.state report.new
-        ≡ add_each P.add (P.state report.old) (skipped this_edition sheet.now)) }
-    ensures read { OnOk result (rules_in kept.new ≡ sheet_of this_edition (sheet.now ∷ [])) }
-{
-    *kept = match StyleSheet::parse_reporting(report, alloc, sheet) {
-        Ok(sheet) => sheet,
-        Err(_) => return Err(RunFault::Memory),
-    };
-    tree_output(alloc, content, kept.rules.as_slice(), tree)
-}
-
-/// Writes the lines of the elements of a tree. The whole output is built first.
-fn run_page<'a, P: Report<'a>, W: Write>(
-    report: &mut P,
-    alloc: Global,
-    content: LineContent<'_>,
-    sheet: &'a str,
-    tree: &str,
-    kept: &mut StyleSheet<'a>,
     out: &mut W,
 ) -> Result<(), RunFault>
-    ensures run { Writes (IsPageRun content.entry sheet.now tree.now) result (W.contents out.old)
+    ensures { (text : List ℕ) → rules_of rules.now ≡ sheet_of this_edition (text ∷ [])
+        → Writes (IsPageRun content.entry text tree.now) result (W.contents out.old)
         (W.contents out.new) }
-    ensures reported { OnOk result (P.state report.new
-        ≡ add_each P.add (P.state report.old) (skipped this_edition sheet.now)) }
-    ensures read { OnOk result (rules_in kept.new ≡ sheet_of this_edition (sheet.now ∷ [])) }
 {
-    let text = page_output(report, alloc, content, sheet, tree, kept)?;
-    write_out(out, text.as_bytes())
+    let lines = tree_output(alloc, content, rules, tree)?;
+    write_out(out, lines.as_bytes())
+}
+
+/// Reads a sheet, and writes the lines of the elements of a tree.
+fn run_page<R: Log, W: Write>(
+    rt: &R,
+    alloc: Global,
+    content: LineContent<'_>,
+    sheet: &str,
+    tree: &str,
+    out: &mut W,
+) -> Result<(), RunFault>
+    ensures { Writes (IsPageRun content.entry sheet.now tree.now) result (W.contents out.old)
+        (W.contents out.new) }
+{
+    let sheet = StyleSheet::parse(rt, alloc, sheet)?;
+    write_page(alloc, content, sheet.rules.as_slice(), tree, out)
 }
 
 /// Writes for each element of a tree its number from 1, a colon, a space and the number of each
@@ -429,43 +401,7 @@ pub fn run_match<R: Log, W: Write>(
     ensures { Writes (IsMatchRun sheet.now tree.now) result (W.contents out.old)
         (W.contents out.new) }
 {
-    run_match_reporting(&mut Warnings::new(rt), alloc, sheet, tree, out)
-}
-
-/// Does what [`run_match`] does, and reports what reading the sheet skips, in order.
-pub fn run_match_reporting<'a, P: Report<'a>, W: Write>(
-    report: &mut P,
-    alloc: Global,
-    sheet: &'a str,
-    tree: &str,
-    out: &mut W,
-) -> Result<(), RunFault>
-    ensures run { Writes (IsMatchRun sheet.now tree.now) result (W.contents out.old)
-        (W.contents out.new) }
-    ensures reported { OnOk result (P.state report.new
-        ≡ add_each P.add (P.state report.old) (skipped this_edition sheet.now)) }
-{
-    let mut kept = StyleSheet::new(alloc);
-    run_match_into(report, alloc, sheet, tree, &mut kept, out)
-}
-
-/// Does what [`run_match_reporting`] does, and leaves the sheet that was read in `kept`, so that a
-/// program that then ends need not drop it. After an error, `kept` may be unchanged.
-pub fn run_match_into<'a, P: Report<'a>, W: Write>(
-    report: &mut P,
-    alloc: Global,
-    sheet: &'a str,
-    tree: &str,
-    kept: &mut StyleSheet<'a>,
-    out: &mut W,
-) -> Result<(), RunFault>
-    ensures run { Writes (IsMatchRun sheet.now tree.now) result (W.contents out.old)
-        (W.contents out.new) }
-    ensures read { OnOk result (rules_in kept.new ≡ sheet_of this_edition (sheet.now ∷ [])) }
-    ensures reported { OnOk result (P.state report.new
-        ≡ add_each P.add (P.state report.old) (skipped this_edition sheet.now)) }
-{
-    run_page(report, alloc, LineContent::Rules, sheet, tree, kept, out)
+    run_page(rt, alloc, LineContent::Rules, sheet, tree, out)
 }
 
 /// Writes for each element of a tree its number from 1, a colon, and where a declaration of the
@@ -485,51 +421,5 @@ pub fn run_style<R: Log, W: Write>(
     ensures { Writes (IsStyleRun sheet.now tree.now name.now) result (W.contents out.old)
         (W.contents out.new) }
 {
-    run_style_reporting(&mut Warnings::new(rt), alloc, sheet, tree, name, out)
-}
-
-/// Does what [`run_style`] does, and reports what reading the sheet skips, in order.
-pub fn run_style_reporting<'a, P: Report<'a>, W: Write>(
-    report: &mut P,
-    alloc: Global,
-    sheet: &'a str,
-    tree: &str,
-    name: &str,
-    out: &mut W,
-) -> Result<(), RunFault>
-    ensures run { Writes (IsStyleRun sheet.now tree.now name.now) result (W.contents out.old)
-        (W.contents out.new) }
-    ensures reported { OnOk result (P.state report.new
-        ≡ add_each P.add (P.state report.old) (skipped this_edition sheet.now)) }
-{
-    let mut kept = StyleSheet::new(alloc);
-    run_style_into(report, alloc, sheet, tree, name, &mut kept, out)
-}
-
-/// Does what [`run_style_reporting`] does, and leaves the sheet that was read in `kept`, so that a
-/// program that then ends need not drop it. After an error, `kept` may be unchanged.
-pub fn run_style_into<'a, P: Report<'a>, W: Write>(
-    report: &mut P,
-    alloc: Global,
-    sheet: &'a str,
-    tree: &str,
-    name: &str,
-    kept: &mut StyleSheet<'a>,
-    out: &mut W,
-) -> Result<(), RunFault>
-    ensures run { Writes (IsStyleRun sheet.now tree.now name.now) result (W.contents out.old)
-        (W.contents out.new) }
-    ensures read { OnOk result (rules_in kept.new ≡ sheet_of this_edition (sheet.now ∷ [])) }
-    ensures reported { OnOk result (P.state report.new
-        ≡ add_each P.add (P.state report.old) (skipped this_edition sheet.now)) }
-{
-    run_page(
-        report,
-        alloc,
-        LineContent::Winner(name),
-        sheet,
-        tree,
-        kept,
-        out,
-    )
+    run_page(rt, alloc, LineContent::Winner(name), sheet, tree, out)
 }

@@ -22,7 +22,10 @@ attributes as key=value, with no quotes: class=note, or class=note small for two
   printf '.note { color: red }\\n' > page.css
   cssq style page.css page.tree color
 
-The last prints 1: and 2: red. What is skipped of a style sheet is reported on standard error. The
+The last prints 1: and 2: red. With CSSQ_LIMIT in the environment, the program ends with status 3 if
+the rules of the style sheets would hold more declarations than this number; else there is no limit.
+
+What is skipped of a style sheet is reported on standard error. The
 status is 0, 1 if a selector or a tree is at fault, 2 for other words than these, 3 if out of memory,
 and 4 if a file cannot be read or the output cannot be written.
 ";

@@ -4,19 +4,19 @@
 
 mod help;
 mod inputs;
+mod limit;
 mod output;
 mod trees;
 mod warnings;
 
 use cssq::command::{Command, USAGE};
-use cssq::runs::{RunFault, run_match_into, run_selector, run_sheet_into, run_style_into};
+use cssq::runs::{LineContent, RunFault, run_selector, write_page, write_sheet};
 use help::{help_for, write_text};
 use inputs::{INPUT, read_file, read_input};
+use limit::{read_limit, write_beyond};
 use log::sink::Discard;
 use output::Output;
-use simplecss::{Report, StyleSheet};
-use std::alloc::Global;
-use std::io::Write;
+use simplecss::{Reading, SheetError, StyleSheet};
 use std::process::ExitCode;
 use std::{env, mem};
 use trees::{has_crlf, reason_of};
@@ -91,17 +91,45 @@ fn read_files(rt: &HostRuntime, names: &[String]) -> Result<Vec<String>, ExitCod
     Ok(texts)
 }
 
+/// Returns the sheet of texts with these names, after the warnings of what is skipped. Beyond the
+/// limit a line says so.
+fn read_texts<'a>(
+    rt: &HostRuntime,
+    names: &[&str],
+    texts: &[&'a str],
+    most: usize,
+) -> Result<StyleSheet<'a>, RunFault> {
+    let Ok(mut warnings) = SheetWarnings::new(rt, names) else {
+        return Err(RunFault::Memory);
+    };
+    let mut sheet = StyleSheet::new(rt.alloc());
+    let how = Reading {
+        report: &mut warnings,
+        most,
+    };
+    let outcome = sheet.read(how, rt.alloc(), texts);
+    let _ = warnings.finish();
+    match outcome {
+        Ok(()) => Ok(sheet),
+        Err(error) => {
+            if error == SheetError::TooManyDeclarations {
+                write_beyond(rt, most);
+            }
+            Err(RunFault::Memory)
+        }
+    }
+}
+
 /// Shows the sheet of the texts of these files, one after another.
 ///
 /// The sheet is not dropped: the process ends, and to free it piece by piece first takes longer.
-fn show_texts(rt: &HostRuntime, names: &[&str], texts: &[&str]) -> ExitCode {
-    let Ok(mut warnings) = SheetWarnings::new(rt, names) else {
-        return ended(rt, Err(RunFault::Memory));
+fn show_texts(rt: &HostRuntime, names: &[&str], texts: &[&str], most: usize) -> ExitCode {
+    let sheet = match read_texts(rt, names, texts, most) {
+        Ok(sheet) => sheet,
+        Err(fault) => return ended(rt, Err(fault)),
     };
     let mut out = Output::new(rt.stdout());
-    let mut sheet = StyleSheet::new(rt.alloc());
-    let outcome = run_sheet_into(&mut warnings, rt.alloc(), texts, &mut sheet, &mut out);
-    let _ = warnings.finish();
+    let outcome = write_sheet(rt.alloc(), &sheet, &mut out);
     mem::forget(sheet);
     written(rt, outcome, &out)
 }
@@ -119,10 +147,11 @@ fn as_texts<'s>(rt: &HostRuntime, owned: &'s [String]) -> Result<Vec<&'s str>, E
 
 /// Shows the sheet of the files, one after another.
 fn show_sheet(rt: &HostRuntime, names: &[String]) -> Result<ExitCode, ExitCode> {
+    let most = read_limit(rt)?;
     let owned = read_files(rt, names)?;
     let texts = as_texts(rt, owned.as_slice())?;
     let names = as_texts(rt, names)?;
-    Ok(show_texts(rt, names.as_slice(), texts.as_slice()))
+    Ok(show_texts(rt, names.as_slice(), texts.as_slice(), most))
 }
 
 /// Writes what is likely not meant in the text of a tree, and why it has a fault.
@@ -136,59 +165,51 @@ fn warn_of_tree(rt: &HostRuntime, name: &str, text: &str, outcome: &Result<(), R
     }
 }
 
-/// Writes which rules of the sheet match each element. The sheet is not dropped, as in
-/// [`show_texts`].
-fn matches<'a, P: Report<'a>, W: Write>(
-    report: &mut P,
-    alloc: Global,
-    sheet: &'a str,
-    page: &str,
-    out: &mut W,
-) -> Result<(), RunFault> {
-    let mut kept = StyleSheet::new(alloc);
-    let outcome = run_match_into(report, alloc, sheet, page, &mut kept, out);
-    mem::forget(kept);
-    outcome
-}
-
-/// Writes which declaration of the name wins on each element. The sheet is not dropped, as in
-/// [`show_texts`].
-fn winners<'a, P: Report<'a>, W: Write>(
-    report: &mut P,
-    alloc: Global,
-    sheet: &'a str,
-    page: &str,
-    name: &str,
-    out: &mut W,
-) -> Result<(), RunFault> {
-    let mut kept = StyleSheet::new(alloc);
-    let outcome = run_style_into(report, alloc, sheet, page, name, &mut kept, out);
-    mem::forget(kept);
-    outcome
-}
-
-/// Shows, for each element of the tree, which rules of the file's sheet match it or, with a name,
-/// which declaration of that name wins there.
-fn show_elements(rt: &HostRuntime, file: &str, tree: &str, name: Option<&str>) -> ExitCode {
-    let Some(sheet_text) = read_file(rt, file) else {
-        return unreadable(rt, file);
-    };
-    let Some(tree_text) = read_file(rt, tree) else {
+/// Shows the elements of the tree in a file by the rules of the file's sheet. The sheet is read first,
+/// and is not dropped.
+fn show_page(
+    rt: &HostRuntime,
+    file: &str,
+    sheet: &str,
+    tree: &str,
+    content: LineContent<'_>,
+    most: usize,
+) -> ExitCode {
+    let Some(page) = read_file(rt, tree) else {
         return unreadable(rt, tree);
     };
-    let (sheet, page) = (sheet_text.as_str(), tree_text.as_str());
-    let names = [file];
-    let Ok(mut warnings) = SheetWarnings::new(rt, &names) else {
-        return ended(rt, Err(RunFault::Memory));
+    let page = page.as_str();
+    let sheet = match read_texts(rt, &[file], &[sheet], most) {
+        Ok(sheet) => sheet,
+        Err(fault) => return ended(rt, Err(fault)),
     };
     let (alloc, mut out) = (rt.alloc(), Output::new(rt.stdout()));
-    let outcome = match name {
-        None => matches(&mut warnings, alloc, sheet, page, &mut out),
-        Some(name) => winners(&mut warnings, alloc, sheet, page, name, &mut out),
-    };
-    let _ = warnings.finish();
+    let outcome = write_page(alloc, content, sheet.rules.as_slice(), page, &mut out);
+    mem::forget(sheet);
     warn_of_tree(rt, tree, page, &outcome);
     written(rt, outcome, &out)
+}
+
+/// Shows, for each element of the tree, which rules of the file's sheet match it, or which declaration
+/// of a name wins there.
+fn show_elements(
+    rt: &HostRuntime,
+    file: &str,
+    tree: &str,
+    content: LineContent<'_>,
+) -> Result<ExitCode, ExitCode> {
+    let most = read_limit(rt)?;
+    let Some(sheet) = read_file(rt, file) else {
+        return Err(unreadable(rt, file));
+    };
+    Ok(show_page(rt, file, sheet.as_str(), tree, content, most))
+}
+
+/// Returns the status of a command that reads a sheet.
+fn status_of(shown: Result<ExitCode, ExitCode>) -> ExitCode {
+    match shown {
+        Ok(code) | Err(code) => code,
+    }
 }
 
 /// Runs the command that the words after the program's name name.
@@ -203,11 +224,13 @@ fn main(rt: HostRuntime) -> ExitCode {
             None => unreadable(&rt, INPUT),
         },
         Some(Command::Selector(text)) => show_selector(&rt, "selector", text),
-        Some(Command::Sheet(names)) => match show_sheet(&rt, names) {
-            Ok(code) | Err(code) => code,
-        },
-        Some(Command::Match(file, tree)) => show_elements(&rt, file, tree, None),
-        Some(Command::Style(file, tree, name)) => show_elements(&rt, file, tree, Some(name)),
+        Some(Command::Sheet(names)) => status_of(show_sheet(&rt, names)),
+        Some(Command::Match(file, tree)) => {
+            status_of(show_elements(&rt, file, tree, LineContent::Rules))
+        }
+        Some(Command::Style(file, tree, name)) => {
+            status_of(show_elements(&rt, file, tree, LineContent::Winner(name)))
+        }
         None => answer_other(&rt, arguments),
     }
 }

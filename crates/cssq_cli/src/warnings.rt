@@ -1,7 +1,7 @@
 //! Warnings on standard error: a line each, with the name of the text, the row and the column.
 use simplecss::stream::Stream;
-use simplecss::{Kept, Refusal, Report, Selector, Skipped, TextPos, Why};
-use simplecss_faults::{FaultLines, Reason, Surprise, open_parenthesis};
+use simplecss::{Kept, Refusal, Report, Selector, Skipped, TextPos, Why, refused_pos};
+use simplecss_faults::{FaultLines, Surprise, open_parenthesis};
 use std::alloc::AllocError;
 use std::io;
 use std::io::{BufWriter, Stderr, Write};
@@ -38,6 +38,8 @@ impl<'n, 'a, W: Write> Report<'a> for SheetWarnings<'n, 'a, W> {
     ghost state = { λ _. tt };
 
     ghost add = { λ _ _. tt };
+
+    ghost begun = { λ _ _. tt };
 
     fn begin(&mut self, text: &'a str) {
         self.lines.begin(text);
@@ -76,21 +78,19 @@ fn position_of(text: &str, rest: &str) -> TextPos {
     }
 }
 
-/// Writes why a selector is refused, at the position of the error if it has one.
-fn write_refusal(rt: &HostRuntime, name: &str, text: &str, skipped: &Skipped<'_>) {
-    let (reason, pos) = match skipped.why {
-        Why::Selector(Refusal::Faulty { within, error }) => (
-            Reason::Selector(error),
-            error
-                .pos()
-                .map(|pos| position_of(text, within).in_whole(pos)),
-        ),
-        _ => (Reason::PseudoClass, None),
+/// Writes why the selector at the start of a text is refused, of which this much was read: at the
+/// position in the error, where the pseudo-class begins, or else where the selector does.
+fn write_refusal(rt: &HostRuntime, name: &str, text: &str, read: &str, skipped: &Skipped<'_>) {
+    let why = skipped.why;
+    let pos = match why {
+        Why::Selector(Refusal::Faulty { error, .. }) if error.pos().is_none() => {
+            position_of(text, skipped.from)
+        }
+        _ => refused_pos("", read, why),
     };
-    let pos = pos.unwrap_or(position_of(text, skipped.from));
     let end = skipped.from.len().saturating_sub(skipped.after.len());
     let quote = first_line(skipped.from.get(..end).unwrap_or(""));
-    let _ = eprintln!(rt; "{name}:{pos}: '{quote}': {reason}");
+    let _ = eprintln!(rt; "{name}:{pos}: '{quote}': {why}");
 }
 
 /// Writes the warnings of a selector: why it is refused, or what follows it and is not read.
@@ -101,11 +101,11 @@ pub fn warn_of_selector(rt: &HostRuntime, name: &str, text: &str) {
     let mut kept = Kept {
         skips: Vec::new(rt.alloc()),
     };
-    let Ok((selector, len)) = Selector::parse_front_reporting(&mut kept, rt.alloc(), text) else {
+    let Ok((selector, len)) = Selector::parse_front(&mut kept, rt.alloc(), text) else {
         return;
     };
     for skipped in &kept.skips {
-        write_refusal(rt, name, text, skipped);
+        write_refusal(rt, name, text, text.get(..len).unwrap_or(""), skipped);
     }
     let rest = text.get(len..).unwrap_or("");
     if selector.is_some() && !rest.is_empty() {

@@ -1,8 +1,7 @@
 //! Statements one by one, and positions, as a user writes them.
 
-use log::sink::Discard;
 use simplecss::stream::Stream;
-use simplecss::{DeclarationTokenizer, StatementReader, TextPos};
+use simplecss::{DeclarationTokenizer, Silent, StatementReader, TextPos};
 use std::alloc::{AllocError, Global};
 
 /// Returns the text of each statement, and the number of its rules.
@@ -11,7 +10,7 @@ pub fn statements<'a>(alloc: Global, text: &'a str) -> Result<Vec<(&'a str, usiz
     let mut reader = StatementReader::new(text);
     // Each statement has at least one byte.
     for _ in 0..text.len() {
-        let Some(statement) = reader.read_next(&Discard, alloc)? else {
+        let Some(statement) = reader.read_next(&mut Silent, alloc)? else {
             break;
         };
         if let Some(part) = text.get(statement.start..statement.end) {

@@ -3,41 +3,9 @@
 #![tactic(auto)]
 
 use cssq::tree::Page;
-use log::sink::Discard;
 use simplecss::{Element, Selector};
-use std::alloc::{AllocError, Global};
 use std::process::ExitCode;
 use std::{env, fs, io};
-
-/// What a text is as a list of selectors with commas between them.
-#[derive(Drop)]
-enum List<'a> {
-    /// Each item is a selector.
-    Selectors(Vec<Selector<'a>>),
-    /// From here on it is none.
-    Refused(&'a str),
-}
-
-/// Reads a list of selectors. A comma within an attribute's value, as in `[a="b,c"]`, ends none.
-fn read_list(alloc: Global, text: &str) -> Result<List<'_>, AllocError> {
-    let mut selectors = Vec::new(alloc);
-    let mut rest = text;
-    loop {
-        let (selector, len) = Selector::parse_front(&Discard, alloc, rest)?;
-        let Some(selector) = selector else {
-            return Ok(List::Refused(rest));
-        };
-        selectors.push(selector)?;
-        let after = &rest[len..];
-        if after.is_empty() {
-            return Ok(List::Selectors(selectors));
-        }
-        let Some(more) = after.strip_prefix(',') else {
-            return Ok(List::Refused(after));
-        };
-        rest = more;
-    }
-}
 
 /// Whether one of the selectors matches.
 fn is_matched<E: Element>(selectors: &[Selector<'_>], element: &E) -> bool {
@@ -67,10 +35,10 @@ fn print_matches(
 /// Prints what the list finds in the file. The status is that of `grep`: 0 where a line matches, 1
 /// where none does, 2 where something is wrong.
 fn query(rt: &HostRuntime, list: &str, file: &str) -> io::Result<ExitCode> {
-    let selectors = match read_list(rt.alloc(), list)? {
-        List::Selectors(selectors) => selectors,
-        List::Refused(rest) => {
-            eprintln!(rt; "example_query: no selectors from here on: {rest}")?;
+    let selectors = match Selector::read_list(rt.alloc(), list)? {
+        Ok(selectors) => selectors,
+        Err(refusal) => {
+            eprintln!(rt; "example_query: {}: {}", refusal.pos, refusal.why)?;
             return Ok(ExitCode::from(2));
         }
     };

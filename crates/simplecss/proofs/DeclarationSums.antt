@@ -1,5 +1,5 @@
 -- The number of declarations: of rules that share a block, of one statement more, and of a text.
--- Serves `StyleSheet::parse_within` (when a text is refused).
+-- Serves `StyleSheet::read` (when texts are refused).
 use Rattle.std.proofs.Common.{◌≡◌, ◌+◌, ◌*◌, ◌<◌, ◌∷◌, [], ◌++◌, ℕ, List, Bool, true, false, length, arith, refl, ap, sym, ◌∙◌, map}
 use Rattle.std.specs.Prelude.{None, Result, Ok, Err, ◌↔◌, ◌≤◌, ◌≢◌}
 use Rattle.std.specs.Result.{OnOk, IfErr}

@@ -5,6 +5,8 @@ pub mod RuleEquality
 pub mod SheetLemmas
 pub mod StatementLemmas
 pub mod DeclarationSums
+pub mod TextCounts
+pub mod ReadFacts
 pub mod StatementRests
 pub mod RuleRanks
 pub mod RuleMoves

@@ -1,5 +1,5 @@
 -- Sheets of several texts.
--- Serves `StyleSheet::{parse_more, parse_all}` and `laws::sheet_law` (the sheet of the texts).
+-- Serves `StyleSheet::{parse_more, read}` and `laws::sheet_law` (the sheet of the texts).
 use Rattle.std.proofs.Common.{◌≡◌, ℕ, zero, suc, Bool, true, false, cond, ◌&&◌, ◌||◌, ◌==◌, if◌then◌else◌, List, [], ◌∷◌, ◌++◌, length, None, Some, ap, ◌∙◌, sym, subst, refl, append-nil, flat_map, arith}
 use Rattle.std.specs.List.{filter, AllPass}
 use Rattle.std.proofs.lemmas.List.Elements.{filter-append, filter_agree}
@@ -22,7 +22,7 @@ and_itself true = refl
 and_itself false = refl
 
 -- a filter a second time leaves nothing out
-filter_again : {X : Type 0} (p : X → Bool) (xs : List X) → filter p (filter p xs) ≡ filter p xs
+pub filter_again : {X : Type 0} (p : X → Bool) (xs : List X) → filter p (filter p xs) ≡ filter p xs
 filter_again p xs = filter_and p p xs ∙ filter_agree (λ x. p x && p x) p (λ x. and_itself (p x)) xs
 
 -- the kept rules of a text have a declaration each

@@ -12,3 +12,7 @@ declaration_count rules = sum_by (λ rule. length rule.declarations) rules
 -- the number of declarations of all rules that reading a text keeps
 unfoldable pub kept_declarations : Edition → List ℕ → ℕ
 kept_declarations edition text = declaration_count (kept edition text)
+
+-- the number of declarations of all rules that reading texts keeps
+abbrev pub kept_in_all : Edition → List (List ℕ) → ℕ
+kept_in_all edition texts = sum_by (kept_declarations edition) texts

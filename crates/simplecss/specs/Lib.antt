@@ -1,6 +1,7 @@
 pub mod RuleViews
 pub mod RuleIndices
 pub mod DeclarationCounts
+pub mod Readings
 pub mod SheetMessages
 pub mod StatementOffsets
 pub mod SelectorIndices
@@ -11,6 +12,7 @@ pub mod internal
 -- What contracts of the crates below name, under the names of this crate.
 pub use Rattle.simplecss_declaration.specs.DeclarationTokenizers
 pub use Rattle.simplecss_declaration.specs.DeclarationViews
+pub use Rattle.simplecss_declaration.specs.ValueStarts
 pub use Rattle.simplecss_selector.specs.OperatorViews
 pub use Rattle.simplecss_selector.specs.TokenViews
 pub use Rattle.simplecss_selector.specs.Keys
@@ -23,6 +25,8 @@ pub use Rattle.simplecss_selector.specs.ListTrees
 pub use Rattle.simplecss_selector.specs.Meanings
 pub use Rattle.simplecss_selector.specs.Operators
 pub use Rattle.simplecss_selector.specs.Placements
+pub use Rattle.simplecss_selector.specs.SelectorLists
+pub use Rattle.simplecss_selector.specs.ListRefusals
 pub use Rattle.simplecss_selector.specs.Shapes
 pub use Rattle.simplecss_selector.specs.SelectorTokenizers
 pub use Rattle.simplecss_selector.specs.Trees
@@ -61,3 +65,4 @@ pub use Rattle.simplecss_text.specs.Terms
 pub use Rattle.simplecss_text.specs.ThisEdition
 pub use Rattle.simplecss_text.specs.TokenSequences
 pub use Rattle.simplecss_text.specs.Tokens
+pub use Rattle.simplecss_text.specs.Words

@@ -20,11 +20,11 @@ mod sheet;
 
 pub use has_selector::HasSelector;
 pub use index::{OpenPath, Recent, RuleIndex};
-pub use sheet::{Rule, SheetError, Statement, StatementReader, StyleSheet, find_skipped};
+pub use sheet::{Reading, Rule, SheetError, Statement, StatementReader, StyleSheet, find_skipped};
 pub use simplecss_declaration::{Declaration, DeclarationTokenizer};
 pub use simplecss_selector::{
-    AttributeOperator, Element, Key, Keyed, PseudoClass, Selector, SelectorToken,
-    SelectorTokenizer, Tests, Wanted, Warnings, all_key_bits, element_bits,
+    AttributeOperator, Element, Key, Keyed, ListRefusal, PseudoClass, Selector, SelectorToken,
+    SelectorTokenizer, Tests, Wanted, Warnings, all_key_bits, element_bits, refused_pos,
 };
 pub use simplecss_text::report::{Kept, Refusal, Report, Silent, Skipped, Why};
 pub use simplecss_text::{Error, TextPos, stream};

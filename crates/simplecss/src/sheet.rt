@@ -12,4 +12,4 @@ mod style_sheet;
 pub use rules::Rule;
 pub use sheet_error::SheetError;
 pub use statement_reader::{Statement, StatementReader};
-pub use style_sheet::{StyleSheet, find_skipped};
+pub use style_sheet::{Reading, StyleSheet, find_skipped};

@@ -1,8 +1,9 @@
 pub mod TextCuts
+pub mod Limits
 pub mod StringCuts
 pub mod RepeatedKeys
 pub mod Building
 pub mod PageCalls
-pub mod ReadLists
+pub mod ListFacts
 pub mod JsonTexts
 pub mod JsonVectors

@@ -7,6 +7,7 @@ use Rattle.std.specs.Option.{option_map}
 use Rattle.std.specs.Str.{IsUtf8}
 use Rattle.simplecss.specs.Components.{Component}
 use Rattle.simplecss.specs.Declarations.{StyleDeclaration}
+use Rattle.simplecss.specs.SelectorLists.{list_of}
 use Rattle.simplecss.specs.Sheets.{sheet}
 use Rattle.simplecss.specs.Statements.{StyleRule}
 use Rattle.simplecss.specs.ThisEdition.{this_edition}
@@ -17,22 +18,27 @@ use Rattle.simplecss_c.specs.declared.answer.Failure.{Failure}
 use Rattle.simplecss_c.specs.declared.answer.Failure.TheVariants.{Memory}
 use Rattle.simplecss_c.specs.Outcomes.{outcome_of}
 use Rattle.simplecss_c.specs.declared.pages.LineContent.TheVariants.{Selected}
-use Rattle.simplecss_c.specs.Calls.{HasTexts, Passed, passed_tree, IsPageCall, IsSelectCall}
+use Rattle.simplecss_c.specs.Calls.{HasTexts, IsReadWithin, Passed, passed_tree, IsPageCall, IsSelectCall}
 use Rattle.simplecss_c.specs.AnswerLines.{AreLinesOf}
-use Rattle.simplecss_c.specs.SelectorLists.{selectors_in}
 
 -- the text that is due, or a refused allocation
 pub page_due : {Z : Type 0} (IsText : List StyleRule → List Row → List ℕ → Type 0)
-    (buffer ends : List ℕ) (passed : Passed) (texts : List (List ℕ)) (rows : List Row)
+    (buffer ends : List ℕ) (limit : ℕ) (passed : Passed) (texts : List (List ℕ)) (rows : List Row)
     → HasTexts buffer ends texts → IsUtf8 passed.strings → passed_tree passed ≡ Ok rows
-    → (rules : List StyleRule) → rules ≡ sheet this_edition texts
+    → (rules : List StyleRule) → IsReadWithin limit texts rules
     → (r : Result (String Z) Failure)
     → MatchResult r (λ text. IsText rules rows (string_bytes text)) (λ failure. failure ≡ Memory)
-    → IsPageCall IsText buffer ends passed (outcome_of r)
-page_due IsText buffer ends passed texts rows has utf8 tree rules are (Ok text) due =
-    (texts, rows, has, utf8, tree, subst (λ rules. IsText rules rows (string_bytes text)) are due)
-page_due IsText buffer ends passed texts rows has utf8 tree rules are (Err failure) due =
-    subst (λ failure. IsPageCall IsText buffer ends passed (Err failure)) (sym due) tt
+    → IsPageCall IsText buffer ends limit passed (outcome_of r)
+page_due IsText buffer ends limit passed texts rows has utf8 tree rules read (Ok text) due = (
+  texts,
+  rows,
+  (has, read.1),
+  utf8,
+  tree,
+  subst (λ rules. IsText rules rows (string_bytes text)) read.0 due,
+)
+page_due IsText buffer ends limit passed texts rows has utf8 tree rules read (Err failure) due =
+    subst (λ failure. IsPageCall IsText buffer ends limit passed (Err failure)) (sym due) tt
 
 -- what wins, or that none does
 pub wins_or_none : {Node D : Type 0} (tree : Tree Node) (n : Node) (rules : List StyleRule)
@@ -45,7 +51,7 @@ wins_or_none tree n rules name f (Some d) some none = some
 -- the text that is due for a list of selectors, or a refused allocation
 pub select_due : {Z : Type 0} (text : List ℕ) (passed : Passed) (selectors : List (List Component))
     (rows : List Row)
-    → IsUtf8 text → selectors_in text ≡ Some selectors → IsUtf8 passed.strings
+    → IsUtf8 text → list_of this_edition text ≡ Some selectors → IsUtf8 passed.strings
     → passed_tree passed ≡ Ok rows
     → (matched : List (List Component)) → matched ≡ selectors
     → (r : Result (String Z) Failure)

@@ -1,6 +1,6 @@
 -- Texts that are cut from a buffer one after another.
 -- Serves `texts_of` (which texts it has, and why it has none).
-use Rattle.std.proofs.Common.{◌≡◌, ℕ, ◌≤◌, List, [], ◌∷◌, ◌++◌, length, Option, None, Some, refl, sym, ap, subst, ◌∙◌, append_assoc, arith}
+use Rattle.std.proofs.Common.{◌≡◌, ◌≢◌, ℕ, ◌≤◌, List, [], ◌∷◌, ◌++◌, length, Option, None, Some, refl, sym, ap, subst, ◌∙◌, append_assoc, arith, inl, inr}
 use Rattle.std.proofs.lemmas.Grind.{common_steps}
 use Rattle.std.proofs.lemmas.List.Elements.{All-append, All-cons, All-nil, All-head, All-tail}
 use Rattle.std.specs.Prelude.{Result, Ok, Err, MatchResult}
@@ -11,7 +11,7 @@ use Rattle.std.specs.Str.{IsUtf8}
 use Rattle.simplecss_c.specs.declared.answer.Failure.{Failure}
 use Rattle.simplecss_c.specs.declared.answer.Failure.TheVariants.{NotUtf8}
 use Rattle.simplecss_c.specs.Texts.{texts_from, texts_in}
-use Rattle.simplecss_c.specs.Calls.{IsBrokenUtf8, FailsFor}
+use Rattle.simplecss_c.specs.Calls.{HasBadEndsFrom, HasBadEnds, IsBrokenFrom, IsBrokenUtf8, FailsFor}
 
 -- what was cut so far, up to an offset, and the ends that are left
 pub record CutSoFar (buffer ends : List ℕ) (start : ℕ) (rest : List ℕ)
@@ -19,6 +19,9 @@ pub record CutSoFar (buffer ends : List ℕ) (start : ℕ) (rest : List ℕ)
   pub whole : texts_in buffer ends
       ≡ option_map (λ more. texts ++ more) (texts_from buffer start rest)
   pub utf8 : All IsUtf8 texts
+  -- a fault in what is left is the first of all
+  pub breaks : IsBrokenFrom buffer start rest → IsBrokenUtf8 buffer ends
+  pub bad : HasBadEndsFrom buffer start rest → HasBadEnds buffer ends
 
 -- what follows the first text of a cut, where the cut can be made
 cut_first : (buffer : List ℕ) (start end : ℕ) (ends : List ℕ) → start ≤ end → end ≤ length buffer
@@ -56,33 +59,37 @@ cut_more {buffer} {ends} {start} {rest}
           (ap (λ t. texts ++ t ∷ []) (sym is) ∙ sym are);
       utf8 = subst (All IsUtf8) (sym are) (All-append IsUtf8 texts (text ∷ []) so_far.utf8
           (All-cons IsUtf8 text [] utf8 (All-nil IsUtf8)));
+      breaks = λ later_breaks. so_far.breaks (subst (IsBrokenFrom buffer start) (sym next)
+          (rising, within, inr (subst IsUtf8 is utf8, later_breaks)));
+      bad = λ later_bad. so_far.bad (subst (HasBadEndsFrom buffer start) (sym next)
+          (inr (subst IsUtf8 is utf8, later_bad)));
     }
 
--- the texts before and after one, and that one
-has_that : (texts : List (List ℕ)) (text : List ℕ) (more : List (List ℕ))
-    → All IsUtf8 ((texts ++ text ∷ []) ++ more) → IsUtf8 text
-has_that [] text more all = All-head IsUtf8 text more all
-has_that (t ∷ texts) text more all =
-    has_that texts text more (All-tail IsUtf8 t ((texts ++ text ∷ []) ++ more) all)
-
-found_in : (texts : List (List ℕ)) (text : List ℕ) (o : Option (List (List ℕ)))
-    (all : List (List ℕ))
-    → option_map (λ more. (texts ++ text ∷ []) ++ more) o ≡ Some all → All IsUtf8 all → IsUtf8 text
-found_in texts text None all is utf8 = absurd (cc)
-found_in texts text (Some more) all is utf8 =
-    let same : (texts ++ text ∷ []) ++ more ≡ all = grind (arith, common_steps) in
-    has_that texts text more (subst (All IsUtf8) (sym same) utf8)
-
--- a text that is not UTF-8 is among all
+-- the text there is not UTF-8
 pub cut_broken : {buffer ends : List ℕ} {start : ℕ} {rest : List ℕ} {texts : List (List ℕ)}
     → CutSoFar buffer ends start rest texts
     → (end : ℕ) (later : List ℕ) → rest ≡ end ∷ later → start ≤ end → end ≤ length buffer
     → (text : List ℕ) → text ≡ slice_range buffer start end → ¬ (IsUtf8 text)
     → IsBrokenUtf8 buffer ends
 cut_broken {buffer} {ends} {start} {rest}
-    {texts} so_far end later next rising within text is broken = λ all has.
-    broken (subst IsUtf8 (sym is) (found_in texts (slice_range buffer start end) (texts_from buffer
-    end later) all (sym (whole_more so_far end later next rising within) ∙ has.0) has.1))
+    {texts} so_far end later next rising within text is broken =
+    so_far.breaks (subst (IsBrokenFrom buffer start) (sym next)
+    (rising, within, inl (λ utf8. broken (subst IsUtf8 (sym is) utf8))))
+
+-- no text is there
+pub cut_bad : {buffer ends : List ℕ} {start : ℕ} {rest : List ℕ} {texts : List (List ℕ)}
+    → CutSoFar buffer ends start rest texts
+    → (end : ℕ) (later : List ℕ) → rest ≡ end ∷ later
+    → ¬ ((start ≤ end) × (end ≤ length buffer)) → HasBadEnds buffer ends
+cut_bad {buffer} {ends} {start} {rest} {texts} so_far end later next none =
+    so_far.bad (subst (HasBadEndsFrom buffer start) (sym next) (inl none))
+
+-- the buffer does not end with the last text
+pub cut_left : {buffer ends : List ℕ} {start : ℕ} {rest : List ℕ} {texts : List (List ℕ)}
+    → CutSoFar buffer ends start rest texts → rest ≡ [] → start ≢ length buffer
+    → HasBadEnds buffer ends
+cut_left {buffer} {ends} {start} {rest} {texts} so_far none other =
+    so_far.bad (subst (HasBadEndsFrom buffer start) (sym none) other)
 
 -- a failure that is handed on is due for its own reason
 pub broken_due : {V : Type 0} (P : V → Type 0) (r : Result V Failure) (failure : Failure)

@@ -3,7 +3,9 @@ use Rattle.std.specs.Prelude.{◌≡◌, ℕ, ◌<◌, ◌≤◌, List, ◌++◌
 use Rattle.simplecss_c.specs.declared.elements.ElementFault.{ElementFault}
 use Rattle.simplecss_c.specs.Elements.{fault_number, fault_element}
 use Rattle.simplecss_c.specs.declared.answer.Failure.{Failure}
-use Rattle.simplecss_c.specs.declared.answer.Failure.TheVariants.{Refused, Tree, Memory, NotUtf8}
+use Rattle.simplecss.specs.declared.SheetError.{SheetError}
+use Rattle.simplecss.specs.declared.SheetError.TheVariants as sheet
+use Rattle.simplecss_c.specs.declared.answer.Failure.TheVariants.{Refused, Tree, Memory, TooManyDeclarations, NotUtf8}
 use Rattle.simplecss_c.specs.declared.answer.TreeFault.{TreeFault}
 
 -- the status of a failure
@@ -11,7 +13,13 @@ abbrev pub status_of : Failure → ℕ
 status_of Refused = 1
 status_of (Tree fault) = 2
 status_of Memory = 3
+status_of TooManyDeclarations = 4
 status_of NotUtf8 = 5
+
+-- the failure of a call whose sheet is not read
+abbrev pub failure_of : SheetError → Failure
+failure_of sheet.TooManyDeclarations = TooManyDeclarations
+failure_of sheet.Memory = Memory
 
 -- The whole text is at the start of the buffer, and the rest of the buffer is unchanged; or the
 -- buffer is too small for it, and is unchanged. The length is that of the whole text.
@@ -37,4 +45,5 @@ IsFaultSet (Ok bytes) old new = new ≡ old
 IsFaultSet (Err Refused) old new = new ≡ old
 IsFaultSet (Err (Tree fault)) old new = new ≡ tree_fault_of fault
 IsFaultSet (Err Memory) old new = new ≡ old
+IsFaultSet (Err TooManyDeclarations) old new = new ≡ old
 IsFaultSet (Err NotUtf8) old new = new ≡ old

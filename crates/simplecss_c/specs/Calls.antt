@@ -1,11 +1,13 @@
 -- What each call must write, and when it fails.
-use Rattle.std.specs.Prelude.{◌≡◌, ◌⊎◌, ℕ, List, map, None, Some, Result, Ok, Err}
-use Rattle.std.specs.List.{All}
+use Rattle.std.specs.Prelude.{◌≡◌, ◌≢◌, ◌<◌, ◌≤◌, ◌⊎◌, ℕ, List, [], ◌∷◌, length, map, None, Some, Result, Ok, Err}
+use Rattle.std.specs.List.{All, slice_range}
 use Rattle.std.specs.Str.{IsUtf8}
 use Rattle.simplecss.specs.Components.{Component}
 use Rattle.simplecss.specs.ThisEdition.{this_edition}
 use Rattle.simplecss.specs.Statements.{StyleRule}
+use Rattle.simplecss.specs.SelectorLists.{list_of, list_read}
 use Rattle.simplecss.specs.Sheets.{sheet}
+use Rattle.simplecss.specs.DeclarationCounts.{kept_in_all}
 use Rattle.simplecss.specs.Skipped.{skipped}
 use Rattle.simplecss_faults.specs.FaultViews.{fault_in}
 use Rattle.simplecss_tree.specs.Rows.{Row}
@@ -15,20 +17,28 @@ use Rattle.simplecss_c.specs.declared.calls.Passed.{Passed as SeenPassed}
 use Rattle.simplecss_c.specs.declared.elements.ElementFault.{ElementFault}
 use Rattle.simplecss_c.specs.declared.elements.TreeElement.{TreeElement}
 use Rattle.simplecss_c.specs.declared.answer.Failure.{Failure}
-use Rattle.simplecss_c.specs.declared.answer.Failure.TheVariants.{Refused, Tree, Memory, NotUtf8}
+use Rattle.simplecss_c.specs.declared.answer.Failure.TheVariants.{Refused, Tree, Memory, TooManyDeclarations, NotUtf8}
 use Rattle.simplecss_c.specs.declared.pages.LineContent.TheVariants.{Selected}
 use Rattle.simplecss_c.specs.Texts.{texts_in}
 use Rattle.simplecss_c.specs.Elements.{tree_of}
-use Rattle.simplecss_c.specs.JsonLines.{rule_lines, fault_lines, selector_lines}
+use Rattle.simplecss_c.specs.JsonLines.{rule_lines, fault_lines, selector_lines, read_line}
 use Rattle.simplecss_c.specs.AnswerLines.{AreLinesOf, AreMatchLines, AreWinnerLines, AreWinnersLines}
-use Rattle.simplecss_c.specs.SelectorLists.{selectors_in}
 
 -- A failure has its own reason. Any call may be out of memory.
 abbrev pub FailsFor : Type 0 → (ElementFault → Type 0) → Type 0 → Failure → Type 0
 FailsFor IsRefused IsFaulty IsBroken Refused = IsRefused
 FailsFor IsRefused IsFaulty IsBroken (Tree fault) = IsFaulty fault
 FailsFor IsRefused IsFaulty IsBroken Memory = Unit {0}
+FailsFor IsRefused IsFaulty IsBroken TooManyDeclarations = ⊥
 FailsFor IsRefused IsFaulty IsBroken NotUtf8 = IsBroken
+
+-- the same of a call with a limit on the declarations
+abbrev pub FailsWithin : Type 0 → (ElementFault → Type 0) → Type 0 → Type 0 → Failure → Type 0
+FailsWithin IsRefused IsFaulty IsBroken IsBeyond Refused = IsRefused
+FailsWithin IsRefused IsFaulty IsBroken IsBeyond (Tree fault) = IsFaulty fault
+FailsWithin IsRefused IsFaulty IsBroken IsBeyond Memory = Unit {0}
+FailsWithin IsRefused IsFaulty IsBroken IsBeyond TooManyDeclarations = IsBeyond
+FailsWithin IsRefused IsFaulty IsBroken IsBeyond NotUtf8 = IsBroken
 
 -- the line of the text's selector, or why there is none
 abbrev pub IsSelectorCall : List ℕ → Result (List ℕ) Failure → Type 0
@@ -42,21 +52,56 @@ IsSelectorCall text (Err failure) =
 abbrev pub HasTexts : List ℕ → List ℕ → List (List ℕ) → Type 0
 HasTexts buffer ends texts = (texts_in buffer ends ≡ Some texts) × All IsUtf8 texts
 
--- the ends are not those of texts in the buffer
-abbrev pub HasBadEnds : List ℕ → List ℕ → Type 0
-HasBadEnds buffer ends = texts_in buffer ends ≡ None
+-- Of the texts with these ends, the first of which begins at `start`, the first at fault has an end
+-- that is before its start or past the end of the buffer; or none is, and the last does not end
+-- where the buffer does.
+abbrev pub HasBadEndsFrom : List ℕ → (start : ℕ) → List ℕ → Type 0
+HasBadEndsFrom buffer start [] = start ≢ length buffer
+HasBadEndsFrom buffer start (end ∷ ends) =
+    ¬ ((start ≤ end) × (end ≤ length buffer))
+    ⊎ (IsUtf8 (slice_range buffer start end) × HasBadEndsFrom buffer end ends)
 
--- the buffer does not hold texts in UTF-8
+-- the same of all texts of a buffer
+abbrev pub HasBadEnds : List ℕ → List ℕ → Type 0
+HasBadEnds buffer ends = HasBadEndsFrom buffer 0 ends
+
+-- of the texts with these ends, the first of which begins at `start`, the first at fault is not
+-- UTF-8
+abbrev pub IsBrokenFrom : List ℕ → (start : ℕ) → List ℕ → Type 0
+IsBrokenFrom buffer start [] = ⊥
+IsBrokenFrom buffer start (end ∷ ends) =
+    (start ≤ end) × (end ≤ length buffer)
+    × ((¬ (IsUtf8 (slice_range buffer start end)))
+    ⊎ (IsUtf8 (slice_range buffer start end) × IsBrokenFrom buffer end ends))
+
+-- the same of all texts of a buffer
 abbrev pub IsBrokenUtf8 : List ℕ → List ℕ → Type 0
-IsBrokenUtf8 buffer ends = (texts : List (List ℕ)) → ¬ (HasTexts buffer ends texts)
+IsBrokenUtf8 buffer ends = IsBrokenFrom buffer 0 ends
+
+-- the rules of the texts of a buffer would hold more declarations than the limit
+abbrev pub IsBeyond : List ℕ → List ℕ → ℕ → Type 0
+IsBeyond buffer ends limit =
+    (texts : List (List ℕ)) × HasTexts buffer ends texts × (limit < kept_in_all this_edition texts)
+
+-- the texts of a buffer, whose rules hold at most this number of declarations
+abbrev pub HasTextsWithin : List ℕ → List ℕ → (limit : ℕ) → List (List ℕ) → Type 0
+HasTextsWithin buffer ends limit texts =
+    HasTexts buffer ends texts × (kept_in_all this_edition texts ≤ limit)
+
+-- the rules of the sheet of texts, which hold at most this number of declarations
+abbrev pub IsReadWithin : (limit : ℕ) → List (List ℕ) → List StyleRule → Type 0
+IsReadWithin limit texts rules =
+    (rules ≡ sheet this_edition texts) × (kept_in_all this_edition texts ≤ limit)
 
 -- what is written for the sheet of the texts, or why nothing is
-abbrev pub IsSheetCall : (List StyleRule → List ℕ → Type 0) → List ℕ → List ℕ
+abbrev pub IsSheetCall : (List StyleRule → List ℕ → Type 0) → List ℕ → List ℕ → (limit : ℕ)
     → Result (List ℕ) Failure → Type 0
-IsSheetCall IsText buffer ends (Ok bytes) =
-    (texts : List (List ℕ)) × HasTexts buffer ends texts × IsText (sheet this_edition texts) bytes
-IsSheetCall IsText buffer ends (Err failure) =
-    FailsFor (HasBadEnds buffer ends) (λ fault. ⊥) (IsBrokenUtf8 buffer ends) failure
+IsSheetCall IsText buffer ends limit (Ok bytes) =
+    (texts : List (List ℕ)) × HasTextsWithin buffer ends limit texts
+    × IsText (sheet this_edition texts) bytes
+IsSheetCall IsText buffer ends limit (Err failure) =
+    FailsWithin (HasBadEnds buffer ends) (λ fault. ⊥) (IsBrokenUtf8 buffer ends)
+    (IsBeyond buffer ends limit) failure
 
 -- the printed sheet, with a newline if it has a rule
 abbrev pub IsPrinted : List StyleRule → List ℕ → Type 0
@@ -75,10 +120,15 @@ IsSkippedCall text (Err failure) = FailsFor ⊥ (λ fault. ⊥) (¬ (IsUtf8 text
 -- a line in JSON for each selector of the list, or why there is none
 abbrev pub IsListCall : List ℕ → Result (List ℕ) Failure → Type 0
 IsListCall text (Ok bytes) =
-    IsUtf8 text × (selectors : List (List Component)) × (selectors_in text ≡ Some selectors)
+    IsUtf8 text × (selectors : List (List Component)) × (list_of this_edition text ≡ Some selectors)
     × (bytes ≡ selector_lines selectors)
 IsListCall text (Err failure) =
-    FailsFor (selectors_in text ≡ None) (λ fault. ⊥) (¬ (IsUtf8 text)) failure
+    FailsFor (list_of this_edition text ≡ None) (λ fault. ⊥) (¬ (IsUtf8 text)) failure
+
+-- the line of why a text is no list of selectors, or nothing where it is one
+abbrev pub IsRefusalCall : List ℕ → Result (List ℕ) Failure → Type 0
+IsRefusalCall text (Ok bytes) = IsUtf8 text × (bytes ≡ read_line (list_read this_edition text))
+IsRefusalCall text (Err failure) = FailsFor ⊥ (λ fault. ⊥) (¬ (IsUtf8 text)) failure
 
 -- A tree as a caller passes it: its elements, a buffer of their strings, and where each ends.
 pub record Passed : Type 0 where
@@ -95,39 +145,42 @@ abbrev pub passed_tree : Passed → Result (List Row) ElementFault
 passed_tree passed = tree_of passed.elements passed.strings passed.ends
 
 -- what is written for the sheet of the texts and a tree, or why nothing is
-abbrev pub IsPageCall : (List StyleRule → List Row → List ℕ → Type 0) → List ℕ → List ℕ → Passed
-    → Result (List ℕ) Failure → Type 0
-IsPageCall IsText buffer ends passed (Ok bytes) =
-    (texts : List (List ℕ)) × (rows : List Row) × HasTexts buffer ends texts × IsUtf8 passed.strings
-    × (passed_tree passed ≡ Ok rows) × IsText (sheet this_edition texts) rows bytes
-IsPageCall IsText buffer ends passed (Err failure) =
-    FailsFor (HasBadEnds buffer ends) (λ fault. passed_tree passed ≡ Err fault)
-    (IsBrokenUtf8 buffer ends ⊎ ¬ (IsUtf8 passed.strings)) failure
+abbrev pub IsPageCall : (List StyleRule → List Row → List ℕ → Type 0) → List ℕ → List ℕ
+    → (limit : ℕ) → Passed → Result (List ℕ) Failure → Type 0
+IsPageCall IsText buffer ends limit passed (Ok bytes) =
+    (texts : List (List ℕ)) × (rows : List Row) × HasTextsWithin buffer ends limit texts
+    × IsUtf8 passed.strings × (passed_tree passed ≡ Ok rows)
+    × IsText (sheet this_edition texts) rows bytes
+IsPageCall IsText buffer ends limit passed (Err failure) =
+    FailsWithin (HasBadEnds buffer ends) (λ fault. passed_tree passed ≡ Err fault)
+    (IsBrokenUtf8 buffer ends ⊎ ¬ (IsUtf8 passed.strings)) (IsBeyond buffer ends limit) failure
 
 -- which rules match each element
-abbrev pub IsMatchCall : List ℕ → List ℕ → Passed → Result (List ℕ) Failure → Type 0
+abbrev pub IsMatchCall : List ℕ → List ℕ → (limit : ℕ) → Passed → Result (List ℕ) Failure → Type 0
 IsMatchCall = IsPageCall AreMatchLines
 
 -- all that wins on each element
-abbrev pub IsStylesCall : List ℕ → List ℕ → Passed → Result (List ℕ) Failure → Type 0
+abbrev pub IsStylesCall : List ℕ → List ℕ → (limit : ℕ) → Passed → Result (List ℕ) Failure → Type 0
 IsStylesCall = IsPageCall AreWinnersLines
 
 -- what wins for a name on each element; the name is UTF-8
-abbrev pub IsStyleCall : List ℕ → List ℕ → Passed → List ℕ → Result (List ℕ) Failure → Type 0
-IsStyleCall buffer ends passed name (Err NotUtf8) =
-    IsPageCall (AreWinnerLines name) buffer ends passed (Err NotUtf8) ⊎ ¬ (IsUtf8 name)
-IsStyleCall buffer ends passed name (Err Refused) = HasBadEnds buffer ends
-IsStyleCall buffer ends passed name (Err Memory) = Unit {0}
-IsStyleCall buffer ends passed name (Err (Tree fault)) = passed_tree passed ≡ Err fault
-IsStyleCall buffer ends passed name (Ok bytes) =
-    IsUtf8 name × IsPageCall (AreWinnerLines name) buffer ends passed (Ok bytes)
+abbrev pub IsStyleCall : List ℕ → List ℕ → (limit : ℕ) → Passed → List ℕ
+    → Result (List ℕ) Failure → Type 0
+IsStyleCall buffer ends limit passed name (Err NotUtf8) =
+    IsPageCall (AreWinnerLines name) buffer ends limit passed (Err NotUtf8) ⊎ ¬ (IsUtf8 name)
+IsStyleCall buffer ends limit passed name (Err Refused) = HasBadEnds buffer ends
+IsStyleCall buffer ends limit passed name (Err Memory) = Unit {0}
+IsStyleCall buffer ends limit passed name (Err TooManyDeclarations) = IsBeyond buffer ends limit
+IsStyleCall buffer ends limit passed name (Err (Tree fault)) = passed_tree passed ≡ Err fault
+IsStyleCall buffer ends limit passed name (Ok bytes) =
+    IsUtf8 name × IsPageCall (AreWinnerLines name) buffer ends limit passed (Ok bytes)
 
 -- which elements one of the selectors of a list matches
 abbrev pub IsSelectCall : List ℕ → Passed → Result (List ℕ) Failure → Type 0
 IsSelectCall text passed (Ok bytes) =
     (selectors : List (List Component)) × (rows : List Row) × IsUtf8 text
-    × (selectors_in text ≡ Some selectors) × IsUtf8 passed.strings × (passed_tree passed ≡ Ok rows)
+    × (list_of this_edition text ≡ Some selectors) × IsUtf8 passed.strings × (passed_tree passed ≡ Ok rows)
     × AreLinesOf Selected selectors rows bytes
 IsSelectCall text passed (Err failure) =
-    FailsFor (selectors_in text ≡ None) (λ fault. passed_tree passed ≡ Err fault)
+    FailsFor (list_of this_edition text ≡ None) (λ fault. passed_tree passed ≡ Err fault)
     (¬ (IsUtf8 text) ⊎ ¬ (IsUtf8 passed.strings)) failure

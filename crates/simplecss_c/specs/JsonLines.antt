@@ -1,5 +1,5 @@
 -- What is written in JSON, a value a line.
-use Rattle.std.specs.Prelude.{ℕ, List, [], ◌∷◌, ◌++◌, codes, map, decimal}
+use Rattle.std.specs.Prelude.{ℕ, List, [], ◌∷◌, ◌++◌, codes, map, decimal, Result, Ok, Err}
 use Rattle.std.specs.List.{flat_map}
 use Rattle.simplecss.specs.AsciiBytes.{newline}
 use Rattle.simplecss.specs.Components.{Component}
@@ -7,6 +7,8 @@ use Rattle.simplecss.specs.Declarations.{StyleDeclaration}
 use Rattle.simplecss.specs.Printing.{selector_text}
 use Rattle.simplecss.specs.Specificity.{specificity}
 use Rattle.simplecss.specs.Statements.{StyleRule}
+use Rattle.simplecss.specs.SelectorLists.{ListFault}
+use Rattle.simplecss.specs.Words.{why_text}
 use Rattle.simplecss.specs.declared.TextPos.{TextPos}
 use Rattle.simplecss_faults.specs.FaultViews.{FaultView}
 use Rattle.simplecss_faults.specs.Quotes.{quote, reason_words}
@@ -64,6 +66,15 @@ position_members pos reason =
 -- the line of a position and what is wrong there
 abbrev pub position_line : TextPos → List ℕ → List ℕ
 position_line pos reason = line (object (position_members pos reason))
+
+-- the line of why a text is no list of selectors
+abbrev pub refusal_line : ListFault → List ℕ
+refusal_line fault = position_line fault.pos (why_text fault.why)
+
+-- the same of a text that was read as a list, or nothing where it is one
+abbrev pub read_line : Result (List (List Component)) ListFault → List ℕ
+read_line (Ok selectors) = []
+read_line (Err fault) = refusal_line fault
 
 -- the line of skipped text: where it begins, why it is skipped, and what is quoted of it
 abbrev pub fault_line : FaultView → List ℕ

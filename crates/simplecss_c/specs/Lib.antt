@@ -5,5 +5,4 @@ pub mod Answers
 pub mod Json
 pub mod JsonLines
 pub mod AnswerLines
-pub mod SelectorLists
 pub mod Calls

@@ -2,11 +2,12 @@
 
 ghost use Rattle.std.specs.Prelude.{◌≡◌, Ok, Err};
 ghost use Rattle.std.specs.Prelude.{string_bytes};
-ghost use Rattle.simplecss_c.specs.Answers.{status_of, IsHandedOver, Answers, IsFaultSet};
+ghost use Rattle.simplecss_c.specs.Answers.{status_of, failure_of, IsHandedOver, Answers, IsFaultSet};
 ghost use Rattle.simplecss_c.specs.Outcomes.{outcome_of};
 ghost use Rattle.simplecss_c.specs.declared.answer.Failure.TheVariants.{Memory};
 
 use crate::elements::ElementFault;
+use simplecss::SheetError;
 use simplecss_tree::TreeError;
 use std::alloc::{AllocError, AllocFailed};
 
@@ -24,6 +25,8 @@ pub enum Failure {
     Tree(ElementFault),
     /// An allocation failed.
     Memory,
+    /// The rules of the texts would hold more declarations than the limit.
+    TooManyDeclarations,
     /// A text is not UTF-8.
     NotUtf8,
 }
@@ -37,6 +40,7 @@ impl Failure {
             Failure::Refused => 1,
             Failure::Tree(_) => 2,
             Failure::Memory => 3,
+            Failure::TooManyDeclarations => 4,
             Failure::NotUtf8 => 5,
         }
     }
@@ -55,6 +59,17 @@ impl<T: Drop> From<AllocFailed<T>> for Failure {
 
     fn from(_error: AllocFailed<T>) -> Failure {
         Failure::Memory
+    }
+}
+
+impl From<SheetError> for Failure {
+    ghost from_gives = { λ error failure. failure ≡ failure_of error };
+
+    fn from(error: SheetError) -> Failure {
+        match error {
+            SheetError::TooManyDeclarations => Failure::TooManyDeclarations,
+            SheetError::Memory => Failure::Memory,
+        }
     }
 }
 

@@ -1,12 +1,15 @@
 //! What each call answers.
 
-ghost use Rattle.std.specs.Prelude.{◌≡◌, MatchResult, string_bytes};
+ghost use Rattle.std.specs.Prelude.{◌≡◌, ◌<◌, map, MatchResult, string_bytes};
+ghost use Rattle.simplecss.specs.DeclarationCounts.{kept_in_all};
+ghost use Rattle.simplecss.specs.ThisEdition.{this_edition};
 ghost use Rattle.simplecss.specs.RuleViews.{rules_in};
 ghost use Rattle.simplecss_c.specs.Outcomes.{outcome_of};
 ghost use Rattle.simplecss_c.specs.AnswerLines.{AreMatchLines, AreWinnerLines};
+ghost use Rattle.simplecss_c.specs.Calls.{FailsWithin, IsReadWithin};
 ghost use Rattle.simplecss_c.specs.Calls.{IsSelectorCall, IsSheetCall, IsPrinted, IsMatchCall};
 ghost use Rattle.simplecss_c.specs.Calls.{IsPageCall, IsSelectCall, IsStyleCall, passed_of};
-ghost use Rattle.simplecss_c.specs.Calls.{IsRuleLines, IsSkippedCall, IsListCall, IsStylesCall};
+ghost use Rattle.simplecss_c.specs.Calls.{IsRuleLines, IsSkippedCall, IsListCall, IsRefusalCall, IsStylesCall};
 
 use crate::answer::Failure;
 use crate::elements::{TreeElement, read_tree};
@@ -16,10 +19,29 @@ use crate::texts::{text_of, texts_of};
 use crate::{json, lists};
 use cssq::runs::{selector_line, sheet_text};
 use log::sink::Discard;
-use simplecss::{Selector, StyleSheet};
+use simplecss::{Reading, Selector, Silent, StyleSheet};
 use simplecss_faults::find_faults;
 use simplecss_tree::Tree;
 use std::alloc::Global;
+
+/// The style sheet of texts, whose rules may hold at most this number of declarations.
+fn read_sheet<'a>(
+    alloc: Global,
+    texts: &[&'a str],
+    limit: usize,
+) -> Result<StyleSheet<'a>, Failure>
+    ensures { MatchResult result (λ read. IsReadWithin limit (map (λ text. text.now) texts.now)
+        (rules_in read)) (λ failure. FailsWithin ⊥ (λ fault. ⊥) ⊥
+        (limit < kept_in_all this_edition (map (λ text. text.now) texts.now)) failure) }
+{
+    let mut sheet = StyleSheet::new(alloc);
+    let how = Reading {
+        report: &mut Silent,
+        most: limit,
+    };
+    sheet.read(how, alloc, texts)?;
+    Ok(sheet)
+}
 
 /// The line of a selector.
 pub fn selector(alloc: Global, text: &[u8]) -> Result<String, Failure>
@@ -34,21 +56,31 @@ pub fn selector(alloc: Global, text: &[u8]) -> Result<String, Failure>
 }
 
 /// The printed sheet.
-pub fn sheet(alloc: Global, buffer: &[u8], ends: &[usize]) -> Result<String, Failure>
-    ensures { IsSheetCall IsPrinted buffer.now ends.now (outcome_of result) }
+pub fn sheet(
+    alloc: Global,
+    buffer: &[u8],
+    ends: &[usize],
+    limit: usize,
+) -> Result<String, Failure>
+    ensures { IsSheetCall IsPrinted buffer.now ends.now limit (outcome_of result) }
 {
     let texts = texts_of(alloc, buffer, ends)?;
-    let sheet = StyleSheet::parse_all(&Discard, alloc, &texts)?;
+    let sheet = read_sheet(alloc, &texts, limit)?;
     let text = sheet_text(alloc, &sheet)?;
     Ok(text)
 }
 
 /// The lines of the rules of a sheet, in JSON.
-pub fn rules(alloc: Global, buffer: &[u8], ends: &[usize]) -> Result<String, Failure>
-    ensures { IsSheetCall IsRuleLines buffer.now ends.now (outcome_of result) }
+pub fn rules(
+    alloc: Global,
+    buffer: &[u8],
+    ends: &[usize],
+    limit: usize,
+) -> Result<String, Failure>
+    ensures { IsSheetCall IsRuleLines buffer.now ends.now limit (outcome_of result) }
 {
     let texts = texts_of(alloc, buffer, ends)?;
-    let sheet = StyleSheet::parse_all(&Discard, alloc, &texts)?;
+    let sheet = read_sheet(alloc, &texts, limit)?;
     Ok(json::rule_lines(alloc, &sheet.rules)?)
 }
 
@@ -68,8 +100,10 @@ pub fn list(alloc: Global, text: &[u8]) -> Result<String, Failure>
     Ok(json::selector_lines(alloc, &selectors)?)
 }
 
-/// The line of the first error of a list of selectors, in JSON.
-pub fn refusal(alloc: Global, text: &[u8]) -> Result<String, Failure> {
+/// The line of why a text is no list of selectors, in JSON.
+pub fn refusal(alloc: Global, text: &[u8]) -> Result<String, Failure>
+    ensures { IsRefusalCall text.now (outcome_of result) }
+{
     lists::refusal(alloc, text_of(text)?)
 }
 
@@ -99,13 +133,14 @@ pub fn styles(
     alloc: Global,
     buffer: &[u8],
     ends: &[usize],
+    limit: usize,
     tree: Passed<'_>,
 ) -> Result<String, Failure>
-    ensures { IsStylesCall buffer.now ends.now (passed_of tree.entry) (outcome_of result) }
+    ensures { IsStylesCall buffer.now ends.now limit (passed_of tree.entry) (outcome_of result) }
 {
     let texts = texts_of(alloc, buffer, ends)?;
     let tree = read_tree(alloc, tree.elements, tree.strings, tree.ends)?;
-    let sheet = StyleSheet::parse_all(&Discard, alloc, &texts)?;
+    let sheet = read_sheet(alloc, &texts, limit)?;
     winners_lines(alloc, &sheet.rules, &tree)
 }
 
@@ -123,13 +158,14 @@ pub fn matches(
     alloc: Global,
     buffer: &[u8],
     ends: &[usize],
+    limit: usize,
     tree: Passed<'_>,
 ) -> Result<String, Failure>
-    ensures { IsMatchCall buffer.now ends.now (passed_of tree.entry) (outcome_of result) }
+    ensures { IsMatchCall buffer.now ends.now limit (passed_of tree.entry) (outcome_of result) }
 {
     let texts = texts_of(alloc, buffer, ends)?;
     let tree = read_tree(alloc, tree.elements, tree.strings, tree.ends)?;
-    let sheet = StyleSheet::parse_all(&Discard, alloc, &texts)?;
+    let sheet = read_sheet(alloc, &texts, limit)?;
     match_lines(alloc, &sheet, &tree)
 }
 
@@ -138,15 +174,16 @@ fn style_text(
     alloc: Global,
     buffer: &[u8],
     ends: &[usize],
+    limit: usize,
     tree: Passed<'_>,
     name: &str,
 ) -> Result<String, Failure>
-    ensures { IsPageCall (AreWinnerLines name.now) buffer.now ends.now (passed_of tree.entry)
-        (outcome_of result) }
+    ensures { IsPageCall (AreWinnerLines name.now) buffer.now ends.now limit
+        (passed_of tree.entry) (outcome_of result) }
 {
     let texts = texts_of(alloc, buffer, ends)?;
     let tree = read_tree(alloc, tree.elements, tree.strings, tree.ends)?;
-    let sheet = StyleSheet::parse_all(&Discard, alloc, &texts)?;
+    let sheet = read_sheet(alloc, &texts, limit)?;
     winner_lines(alloc, &sheet, &tree, name)
 }
 
@@ -155,11 +192,13 @@ pub fn style(
     alloc: Global,
     buffer: &[u8],
     ends: &[usize],
+    limit: usize,
     tree: Passed<'_>,
     name: &[u8],
 ) -> Result<String, Failure>
-    ensures { IsStyleCall buffer.now ends.now (passed_of tree.entry) name.now (outcome_of result) }
+    ensures { IsStyleCall buffer.now ends.now limit (passed_of tree.entry) name.now
+        (outcome_of result) }
 {
     let name = text_of(name)?;
-    style_text(alloc, buffer, ends, tree, name)
+    style_text(alloc, buffer, ends, limit, tree, name)
 }

@@ -1,7 +1,7 @@
 //! The functions that callers in C see.
 //!
-//! Each returns a status: 0 done, 1 refused, 2 a fault of the tree, 3 out of memory, 5 not UTF-8, 6
-//! the buffer is too small. At 0 the answer is at the front of `out`, and `len` is its length. At 6
+//! Each returns a status: 0 done, 1 refused, 2 a fault of the tree, 3 out of memory, 4 more
+//! declarations than the limit, 5 not UTF-8, 6 the buffer is too small. At 0 the answer is at the front of `out`, and `len` is its length. At 6
 //! nothing was written, and `len` is the length that the call needs. At any other status nothing was
 //! written, and `len` is 0. `fault` is set at 2 only.
 
@@ -10,7 +10,7 @@ ghost use Rattle.simplecss_c.specs.declared.answer.Failure.{Failure as FailureVi
 ghost use Rattle.simplecss_c.specs.Answers.{Answers, IsHandedOver, IsFaultSet};
 ghost use Rattle.simplecss_c.specs.Calls.{IsSelectorCall, IsSheetCall, IsPrinted, IsMatchCall};
 ghost use Rattle.simplecss_c.specs.Calls.{IsListCall, IsRuleLines, IsSkippedCall, IsSelectCall, IsStyleCall};
-ghost use Rattle.simplecss_c.specs.Calls.{IsStylesCall};
+ghost use Rattle.simplecss_c.specs.Calls.{IsRefusalCall, IsStylesCall};
 
 use crate::answer::{TreeFault, copy_whole, hand_over, set_fault};
 use crate::calls;
@@ -54,8 +54,8 @@ pub extern "C" fn simplecss_list(alloc: Global, text: &[u8], out: &mut [u8], len
     hand_over(calls::list(alloc, text), out, len)
 }
 
-/// Writes a line of JSON for the first error of a list of selectors: `row`, `column` and `reason`.
-/// Nothing where the list has none.
+/// Writes a line of JSON for why a text is no list of selectors: `row`, `column` and `reason`.
+/// Nothing where it is one.
 #[unsafe(no_mangle)]
 pub extern "C" fn simplecss_refusal(
     alloc: Global,
@@ -63,7 +63,7 @@ pub extern "C" fn simplecss_refusal(
     out: &mut [u8],
     len: &mut usize,
 ) -> u32
-    ensures { (outcome : Result (List ℕ) FailureView)
+    ensures { (outcome : Result (List ℕ) FailureView) × IsRefusalCall text.now outcome
         × Answers outcome result out.old out.new len.new }
 {
     hand_over(calls::refusal(alloc, text), out, len)
@@ -75,14 +75,15 @@ pub extern "C" fn simplecss_sheet(
     alloc: Global,
     texts: &[u8],
     ends: &[usize],
+    limit: usize,
     out: &mut [u8],
     len: &mut usize,
 ) -> u32
     ensures { (outcome : Result (List ℕ) FailureView)
-        × IsSheetCall IsPrinted texts.now ends.now outcome
+        × IsSheetCall IsPrinted texts.now ends.now limit outcome
         × Answers outcome result out.old out.new len.new }
 {
-    hand_over(calls::sheet(alloc, texts, ends), out, len)
+    hand_over(calls::sheet(alloc, texts, ends, limit), out, len)
 }
 
 /// Writes a line of JSON for each rule of the sheet of the texts: `selector`, `specificity` and
@@ -92,14 +93,15 @@ pub extern "C" fn simplecss_rules(
     alloc: Global,
     texts: &[u8],
     ends: &[usize],
+    limit: usize,
     out: &mut [u8],
     len: &mut usize,
 ) -> u32
     ensures { (outcome : Result (List ℕ) FailureView)
-        × IsSheetCall IsRuleLines texts.now ends.now outcome
+        × IsSheetCall IsRuleLines texts.now ends.now limit outcome
         × Answers outcome result out.old out.new len.new }
 {
-    hand_over(calls::rules(alloc, texts, ends), out, len)
+    hand_over(calls::rules(alloc, texts, ends, limit), out, len)
 }
 
 /// Writes a line of JSON for each piece of a style sheet's text that is skipped: `row`, `column`,
@@ -124,6 +126,7 @@ pub extern "C" fn simplecss_match(
     alloc: Global,
     texts: &[u8],
     ends: &[usize],
+    limit: usize,
     elements: &[TreeElement],
     strings: &[u8],
     string_ends: &[usize],
@@ -131,7 +134,7 @@ pub extern "C" fn simplecss_match(
     len: &mut usize,
     fault: &mut TreeFault,
 ) -> u32
-    ensures { (outcome : Result (List ℕ) FailureView) × IsMatchCall texts.now ends.now
+    ensures { (outcome : Result (List ℕ) FailureView) × IsMatchCall texts.now ends.now limit
         (record { elements = elements.now; strings = strings.now; ends = string_ends.now }) outcome
         × Answers outcome result out.old out.new len.new
         × IsFaultSet outcome fault.old fault.new }
@@ -141,7 +144,7 @@ pub extern "C" fn simplecss_match(
         strings,
         ends: string_ends,
     };
-    let outcome = calls::matches(alloc, texts, ends, tree);
+    let outcome = calls::matches(alloc, texts, ends, limit, tree);
     set_fault(&outcome, fault);
     hand_over(outcome, out, len)
 }
@@ -181,6 +184,7 @@ pub extern "C" fn simplecss_style(
     alloc: Global,
     texts: &[u8],
     ends: &[usize],
+    limit: usize,
     elements: &[TreeElement],
     strings: &[u8],
     string_ends: &[usize],
@@ -189,7 +193,7 @@ pub extern "C" fn simplecss_style(
     len: &mut usize,
     fault: &mut TreeFault,
 ) -> u32
-    ensures { (outcome : Result (List ℕ) FailureView) × IsStyleCall texts.now ends.now
+    ensures { (outcome : Result (List ℕ) FailureView) × IsStyleCall texts.now ends.now limit
         (record { elements = elements.now; strings = strings.now; ends = string_ends.now }) name.now outcome
         × Answers outcome result out.old out.new len.new
         × IsFaultSet outcome fault.old fault.new }
@@ -199,7 +203,7 @@ pub extern "C" fn simplecss_style(
         strings,
         ends: string_ends,
     };
-    let outcome = calls::style(alloc, texts, ends, tree, name);
+    let outcome = calls::style(alloc, texts, ends, limit, tree, name);
     set_fault(&outcome, fault);
     hand_over(outcome, out, len)
 }
@@ -211,6 +215,7 @@ pub extern "C" fn simplecss_styles(
     alloc: Global,
     texts: &[u8],
     ends: &[usize],
+    limit: usize,
     elements: &[TreeElement],
     strings: &[u8],
     string_ends: &[usize],
@@ -218,7 +223,7 @@ pub extern "C" fn simplecss_styles(
     len: &mut usize,
     fault: &mut TreeFault,
 ) -> u32
-    ensures { (outcome : Result (List ℕ) FailureView) × IsStylesCall texts.now ends.now
+    ensures { (outcome : Result (List ℕ) FailureView) × IsStylesCall texts.now ends.now limit
         (record { elements = elements.now; strings = strings.now; ends = string_ends.now }) outcome
         × Answers outcome result out.old out.new len.new
         × IsFaultSet outcome fault.old fault.new }
@@ -228,7 +233,7 @@ pub extern "C" fn simplecss_styles(
         strings,
         ends: string_ends,
     };
-    let outcome = calls::styles(alloc, texts, ends, tree);
+    let outcome = calls::styles(alloc, texts, ends, limit, tree);
     set_fault(&outcome, fault);
     hand_over(outcome, out, len)
 }

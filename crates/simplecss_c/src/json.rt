@@ -137,24 +137,22 @@ pub fn rule_lines(alloc: Global, rules: &[Rule<'_>]) -> Result<String, AllocErro
     Ok(out)
 }
 
-/// Appends the line of a rule's selector.
-fn push_listed(out: &mut String, alloc: Global, rule: &Rule<'_>) -> Result<(), AllocError>
-    ensures { OnOk result
-        (string_bytes out.new ≡ string_bytes out.old ++ selector_line rule.now.selector) }
+/// Appends the line of a selector.
+fn push_listed(out: &mut String, alloc: Global, selector: &Selector<'_>) -> Result<(), AllocError>
+    ensures { OnOk result (string_bytes out.new ≡ string_bytes out.old ++ selector_line selector.now) }
 {
     out.push('{')?;
-    push_selector(out, alloc, &rule.selector)?;
+    push_selector(out, alloc, selector)?;
     out.push_str("}\n")
 }
 
-/// The lines of the selectors of rules.
-pub fn selector_lines(alloc: Global, rules: &[Rule<'_>]) -> Result<String, AllocError>
-    ensures { IfOk result
-        (λ text. string_bytes text ≡ selector_lines (map (λ rule. rule.selector) rules.now)) }
+/// The lines of selectors.
+pub fn selector_lines(alloc: Global, selectors: &[Selector<'_>]) -> Result<String, AllocError>
+    ensures { IfOk result (λ text. string_bytes text ≡ selector_lines selectors.now) }
 {
     let mut out = String::new(alloc);
-    for rule in rules {
-        push_listed(&mut out, alloc, rule)?;
+    for selector in selectors {
+        push_listed(&mut out, alloc, selector)?;
     }
     Ok(out)
 }

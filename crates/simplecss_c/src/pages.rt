@@ -14,7 +14,7 @@ ghost use Rattle.simplecss_c.specs.AnswerLines.{IsWinnersLine, AreWinnersLines};
 use crate::answer::Failure;
 use crate::json::push_declarations;
 use cssq::cascade::{Cascade, winning};
-use simplecss::{Declaration, Rule, RuleIndex, StyleSheet};
+use simplecss::{Declaration, HasSelector, Rule, RuleIndex, StyleSheet};
 use simplecss_tree::Tree;
 use std::alloc::{AllocError, Global};
 use std::fmt::Write as _;
@@ -74,22 +74,23 @@ fn push_winner(
     writeln!(out, "{number}: {value}{mark}")
 }
 
-/// Appends the line of an element, which is given by its index, by an index of the rules. What was in
-/// `indices` is dropped.
-fn push_line<'a>(
+/// Appends the line of an element, which is given by its index, by an index of rules or selectors.
+/// What was in `indices` is dropped.
+fn push_line<'a, T: HasSelector<'a>>(
     out: &mut String,
     content: LineContent,
     index: &RuleIndex<'a>,
-    rules: &[Rule<'a>],
+    rules: &[T],
     tree: &Tree<'_>,
     element: usize,
     indices: &mut Vec<usize>,
 ) -> Result<(), AllocError>
-    requires index { index.now ≡ map (λ rule. rule.selector) rules.now }
+    requires index { index.now ≡ map T.selector_in rules.now }
+    requires fits { length rules.now < 2 ^ 63 }
     requires element { element < length tree.now }
     requires number { element + 1 < 2 ^ 64 }
     ensures { OnOk result ((line : List ℕ) × IsLineOf content
-        (map (λ rule. rule.selector) rules.now) tree.now element line
+        (map T.selector_in rules.now) tree.now element line
         × (string_bytes out.new ≡ string_bytes out.old ++ line)) }
 {
     let node = tree.node(element).unwrap();
@@ -101,16 +102,16 @@ fn push_line<'a>(
     }
 }
 
-/// The lines of the elements of a tree, by which rules match each.
-pub fn lines(
+/// The lines of the elements of a tree, by which rules or selectors match each.
+pub fn lines<'a, T: HasSelector<'a>>(
     alloc: Global,
     content: LineContent,
-    rules: &[Rule<'_>],
+    rules: &[T],
     tree: &Tree<'_>,
 ) -> Result<String, Failure>
+    requires { length rules.now < 2 ^ 63 }
     ensures { MatchResult result
-        (λ text. AreLinesOf content (map (λ rule. rule.selector) rules.now) tree.now
-        (string_bytes text))
+        (λ text. AreLinesOf content (map T.selector_in rules.now) tree.now (string_bytes text))
         (λ failure. failure ≡ Failure.Memory) }
 {
     let index = RuleIndex::new(alloc, rules)?;

@@ -1,3 +1,4 @@
 pub mod DeclarationViews
 pub mod DeclarationTokenizers
+pub mod ValueStarts
 pub mod internal

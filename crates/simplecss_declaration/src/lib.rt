@@ -11,4 +11,5 @@ mod tokenizer;
 
 pub use blocks::{consume_next_block, skip_semicolon_or_block};
 pub use declarations::Declaration;
+pub use reader::find_value;
 pub use tokenizer::DeclarationTokenizer;

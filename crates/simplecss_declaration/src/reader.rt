@@ -15,6 +15,7 @@ ghost use Rattle.simplecss_text.specs.ThisEdition.{this_edition};
 ghost use Rattle.simplecss_text.specs.Cursor.{text_of, rest_of};
 ghost use Rattle.simplecss_declaration.specs.internal.UnreportedFaults.{Answers, FailsAt, Passes};
 ghost use Rattle.simplecss_declaration.specs.internal.OpenValues.{open_from};
+ghost use Rattle.simplecss_declaration.specs.ValueStarts.{value_from};
 ghost use Rattle.simplecss_declaration.specs.DeclarationViews.{declaration_of};
 
 use super::declarations::Declaration;
@@ -192,4 +193,14 @@ pub fn find_open_value(text: &str) -> Option<&str>
         return None;
     }
     if s.at_end() { Some(from) } else { None }
+}
+
+/// Returns the text from the value of a declaration on, or `None` where no name and colon precede a
+/// value. The declaration begins with the text.
+pub fn find_value(text: &str) -> Option<&str>
+    ensures { option_map (λ from. from.now) result ≡ value_from this_edition text.now }
+{
+    let mut s = Stream::new(text);
+    take_stated_name(&mut s)?;
+    Some(s.slice_tail().trim_start())
 }

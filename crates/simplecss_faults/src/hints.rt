@@ -1,9 +1,14 @@
 //! Hints: parts of a style sheet that are kept, and that its author hardly meant.
+ghost use Rattle.std.specs.Prelude.{◌≡◌, IfSome, Some};
+ghost use Rattle.simplecss.specs.ThisEdition.{this_edition};
+ghost use Rattle.simplecss_declaration.specs.ValueStarts.{value_from};
+
 use crate::fault::first_line;
 use crate::finding::{Known, find};
 use crate::parentheses::is_left_open;
 use simplecss::stream::Stream;
 use simplecss::{Declaration, DeclarationTokenizer, Selector, Silent, StatementReader, TextPos};
+use simplecss_declaration::find_value;
 use std::alloc::{AllocError, Global};
 use std::fmt;
 
@@ -162,7 +167,7 @@ impl<'a> Found<'a> {
         is_last: bool,
     ) -> Result<(), AllocError> {
         let value = declaration.value;
-        let Some(stated) = from_value(from, value) else {
+        let Some(stated) = find_value(from) else {
             return Ok(());
         };
         let after = after_blank(stated.get(value.len()..).unwrap_or(""));
@@ -180,7 +185,7 @@ impl<'a> Found<'a> {
 
 /// Reads the selector of a part of a rule set's head: whether it is kept, and what follows it.
 fn read_part<'a>(alloc: Global, part: &'a str) -> Result<(bool, &'a str), AllocError> {
-    let (selector, len) = Selector::parse_front_reporting(&mut Silent, alloc, part)?;
+    let (selector, len) = Selector::parse_front(&mut Silent, alloc, part)?;
     let mut s = Stream::new(part.get(len..).unwrap_or(""));
     s.skip_spaces();
     Ok((selector.is_some(), s.slice_tail()))
@@ -195,22 +200,13 @@ fn after_blank(text: &str) -> &str {
     }
 }
 
-/// Returns the text from the first occurrence of a part on.
-fn from_first<'a>(text: &'a str, part: &str) -> Option<&'a str> {
-    text.get(text.find(part)?..)
-}
-
-/// Returns the text from the value of the declaration at its start on.
-fn from_value<'a>(from: &'a str, value: &str) -> Option<&'a str> {
-    let colon = from.find(':')?;
-    from_first(from.get(colon..)?, value)
-}
-
 /// Returns the text from a declaration's value on, if the value leaves a parenthesis open. The
 /// declaration begins with the text, as a reporter receives it.
-pub fn open_parenthesis<'a>(from: &'a str, value: &'a str) -> Option<&'a str> {
+pub fn open_parenthesis<'a>(from: &'a str, value: &'a str) -> Option<&'a str>
+    ensures { IfSome result (λ stated. value_from this_edition from.now ≡ Some stated.now) }
+{
     if value.contains('(') && is_left_open(value) {
-        from_value(from, value)
+        find_value(from)
     } else {
         None
     }
@@ -221,7 +217,7 @@ fn next_start(
     reader: &mut StatementReader<'_>,
     alloc: Global,
 ) -> Result<Option<usize>, AllocError> {
-    match reader.read_next_reporting(&mut Silent, alloc)? {
+    match reader.read_next(&mut Silent, alloc)? {
         Some(statement) => Ok(Some(statement.start)),
         None => Ok(None),
     }

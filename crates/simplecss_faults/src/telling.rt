@@ -80,6 +80,8 @@ impl<'n, 'a, W: Write> Report<'a> for FaultLines<'n, 'a, W> {
 
     ghost add = { λ _ _. tt };
 
+    ghost begun = { λ _ _. tt };
+
     fn begin(&mut self, text: &'a str) {
         self.text = text;
         self.known = Known::START;

@@ -1,3 +1,4 @@
+pub mod SelectorListLemmas
 pub mod Ancestors
 pub mod Reaching
 pub mod SameMeanings

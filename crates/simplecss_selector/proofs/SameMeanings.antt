@@ -1,6 +1,6 @@
 -- No selector distinguishes related nodes of two trees: it has a placement on both or on neither.
 -- Serves `laws::same_meanings_law`.
-use Rattle.std.proofs.Common.{◌≡◌, ℕ, ◌↔◌, List, [], ◌∷◌, Option, Some, None, refl, sym, ap, ◌∙◌, subst, get_or}
+use Rattle.std.proofs.Common.{◌≡◌, ℕ, zero, suc, ◌↔◌, List, [], ◌∷◌, Option, Some, None, refl, sym, ap, ◌∙◌, subst, get_or}
 use Rattle.std.specs.Option.{option_map}
 use Rattle.simplecss_text.specs.Components.{Component, Compound, Subselector, Combinator}
 use Rattle.simplecss_text.specs.Components.Subselector.{attribute, pseudo_class}
@@ -9,7 +9,7 @@ use Rattle.simplecss_selector.specs.Trees.{Tree}
 use Rattle.simplecss_selector.specs.Placements.{IsAncestor, HasName, Holds, Meets, Relates, HasPlacement}
 use Rattle.simplecss_selector.specs.Placements.IsAncestor.{is_parent, is_further}
 use Rattle.simplecss_selector.specs.PlacementSearch.{Reaches, backwards}
-use Rattle.simplecss_selector.specs.Meanings.{AreNoneOrRelated, RelatesMeanings, KeepsMeanings}
+use Rattle.simplecss_selector.specs.Meanings.{AreNoneOrRelated, RelatesMeanings, AnswerAlike, AreAlikeWithin, AreAlike, KeepsMeanings}
 use Rattle.simplecss_selector.proofs.Ancestors.{same_some, no_some}
 use Rattle.simplecss_selector.proofs.Reaching.{reaches_from, placement_from}
 
@@ -102,6 +102,60 @@ placements_related tree other related same cs m n r = (
   placement_related tree other related same cs m n r,
   placement_related other tree (λ n m. related m n) (turned tree other related same) cs n m r,
 )
+
+-- what holds of the nodes that are there within each number of steps
+none_or_alike : {M N : Type 0} (within : ℕ → M → N → Type 0) (o : Option M) (p : Option N)
+    → ((steps : ℕ) → AreNoneOrRelated (within steps) o p)
+    → AreNoneOrRelated (λ m n. (steps : ℕ) → within steps m n) o p
+none_or_alike within None None h = tt
+none_or_alike within None (Some n) h = h 0
+none_or_alike within (Some m) None h = h 0
+none_or_alike within (Some m) (Some n) h = h
+
+alike_relates : {M N : Type 0} (tree : Tree M) (other : Tree N)
+    → RelatesMeanings tree other (AreAlike tree other)
+alike_relates tree other = record {
+  parents = λ m n h. none_or_alike (AreAlikeWithin tree other) (tree.parent m) (other.parent n)
+      (λ steps. (h (suc steps)).1);
+  siblings = λ m n h. none_or_alike (AreAlikeWithin tree other) (tree.previous_sibling m)
+      (other.previous_sibling n) (λ steps. (h (suc steps)).2);
+  names = λ m n h name. (h 0).names name;
+  attributes = λ m n h name operator. (h 0).attributes name operator;
+  pseudo_classes = λ m n h class. (h 0).pseudo_classes class;
+}
+
+pub placements_alike : {M N : Type 0} (tree : Tree M) (other : Tree N) (cs : List Component)
+    (m : M) (n : N) → AreAlike tree other m n → HasPlacement tree cs m ↔ HasPlacement other cs n
+placements_alike tree other cs m n h =
+    placements_related tree other (AreAlike tree other) (alike_relates tree other) cs m n h
+
+module _ {M N : Type 0} (tree : Tree M) (other : Tree N) (related : M → N → Type 0)
+    (same : RelatesMeanings tree other related) where
+  answers_related : (m : M) (n : N) → related m n → AnswerAlike tree other m n
+  answers_related m n r = record {
+    names = same.names m n r;
+    attributes = same.attributes m n r;
+    pseudo_classes = same.pseudo_classes m n r;
+  }
+
+  within_related : (within : M → N → Type 0) → ((m : M) (n : N) → related m n → within m n)
+      → (o : Option M) (p : Option N) → AreNoneOrRelated related o p → AreNoneOrRelated within o p
+  within_related within more None None r = tt
+  within_related within more None (Some n) r = r
+  within_related within more (Some m) None r = r
+  within_related within more (Some m) (Some n) r = more m n r
+
+  -- nodes are alike that such a relation relates
+  pub alike-related : (steps : ℕ) (m : M) (n : N) → related m n
+      → AreAlikeWithin tree other steps m n
+  alike-related zero m n r = answers_related m n r
+  alike-related (suc steps) m n r = (
+    answers_related m n r,
+    within_related (AreAlikeWithin tree other steps) (alike-related steps) (tree.parent m)
+        (other.parent n) (same.parents m n r),
+    within_related (AreAlikeWithin tree other steps) (alike-related steps) (tree.previous_sibling m)
+        (other.previous_sibling n) (same.siblings m n r),
+  )
 
 -- a map that keeps meanings relates each node to its image
 image_related : {M N : Type 0} (image : M → N) (o : Option M) (p : Option N)

@@ -1,4 +1,6 @@
 pub mod Trees
+pub mod SelectorLists
+pub mod ListRefusals
 pub mod ListTrees
 pub mod Placements
 pub mod Meanings

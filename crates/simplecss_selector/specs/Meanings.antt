@@ -1,5 +1,5 @@
 -- Nodes of two trees that no selector distinguishes.
-use Rattle.std.specs.Prelude.{◌≡◌, ℕ, List, Option, Some, None}
+use Rattle.std.specs.Prelude.{◌≡◌, ℕ, zero, suc, List, Option, Some, None}
 use Rattle.std.specs.Option.{option_map}
 use Rattle.simplecss_text.specs.Components.{Operator, KnownPseudoClass}
 use Rattle.simplecss_selector.specs.Trees.{Tree}
@@ -27,6 +27,28 @@ pub record RelatesMeanings {M N : Type 0} (tree : Tree M) (other : Tree N)
       → tree.has_attribute m name operator ≡ other.has_attribute n name operator
   pub pseudo_classes : (m : M) (n : N) → related m n → (class : KnownPseudoClass)
       → tree.is_in_pseudo_class m class ≡ other.is_in_pseudo_class n class
+
+-- nodes of two trees return the same answers
+pub record AnswerAlike {M N : Type 0} (tree : Tree M) (other : Tree N) (m : M) (n : N) : Type 0 where
+  pub names : (name : List ℕ) → tree.is_named m name ≡ other.is_named n name
+  pub attributes : (name : List ℕ) (operator : Operator)
+      → tree.has_attribute m name operator ≡ other.has_attribute n name operator
+  pub pseudo_classes : (class : KnownPseudoClass)
+      → tree.is_in_pseudo_class m class ≡ other.is_in_pseudo_class n class
+
+-- the same of all nodes that this number of steps to a parent or a previous sibling lead to, where
+-- either both nodes have one or neither has
+abbrev pub AreAlikeWithin : {M N : Type 0} → Tree M → Tree N → ℕ → M → N → Type 0
+AreAlikeWithin tree other zero m n = AnswerAlike tree other m n
+AreAlikeWithin tree other (suc steps) m n =
+    AnswerAlike tree other m n
+    × AreNoneOrRelated (AreAlikeWithin tree other steps) (tree.parent m) (other.parent n)
+    × AreNoneOrRelated (AreAlikeWithin tree other steps) (tree.previous_sibling m)
+    (other.previous_sibling n)
+
+-- the same of any number of steps
+abbrev pub AreAlike : {M N : Type 0} → Tree M → Tree N → M → N → Type 0
+AreAlike tree other m n = (steps : ℕ) → AreAlikeWithin tree other steps m n
 
 -- A map from the nodes of one tree to those of another that keeps everything a selector can test:
 -- the image of a node has the images of its parent and of its previous sibling as its own, and

@@ -1,23 +1,22 @@
 //! Laws of elements and of the selectors that are matched against them.
-ghost use Rattle.std.specs.Prelude.{◌≡◌, ◌<◌, ◌↔◌, ℕ, Bool, IsTrue, List, length};
+ghost use Rattle.std.specs.Prelude.{◌≡◌, ◌<◌, ◌↔◌, ℕ, List, length};
 ghost use Rattle.simplecss_text.specs.Components.{Component};
 ghost use Rattle.simplecss_text.specs.Components.Combinator.{none as no_combinator};
-ghost use Rattle.simplecss_selector.specs.Meanings.{KeepsMeanings, RelatesMeanings};
+ghost use Rattle.simplecss_selector.specs.Meanings.{AreAlike, KeepsMeanings};
 ghost use Rattle.simplecss_selector.specs.Placements.{HasPlacement};
 ghost use Rattle.simplecss_selector.specs.Shapes.{component_at};
 
 use crate::{Element, Selector};
 
 /// A selector's answer on an element depends only on the answers of the element, of its ancestors
-/// and of their earlier siblings. Take a relation between the nodes of two trees such that the
-/// parents of related nodes are related, their previous siblings too, and related nodes return the
-/// same three answers: a selector then matches both of two related nodes or neither (`related`). So
-/// the trees may differ in descendants and in later siblings. The same holds of a map of all nodes
-/// that keeps parents, previous siblings and answers (`mapped`).
+/// and of their earlier siblings. Two nodes of two trees are alike if they return the same three
+/// answers, and their parents and previous siblings are alike: a selector then matches both or neither
+/// (`alike`). So the trees may differ in descendants and in later siblings. Nodes are alike that any
+/// relation relates which keeps answers, parents and previous siblings (the lemma `alike-related`). The
+/// same holds of a map of all nodes that keeps these (`mapped`).
 pub fn same_meanings_law<E: Element, F: Element>()
-    ensures related { (related : E.Node → F.Node → Bool)
-        → RelatesMeanings E.tree F.tree (λ m n. IsTrue (related m n))
-        → (components : List Component) (m : E.Node) (n : F.Node) → IsTrue (related m n)
+    ensures alike { (components : List Component) (m : E.Node) (n : F.Node)
+        → AreAlike E.tree F.tree m n
         → HasPlacement E.tree components m ↔ HasPlacement F.tree components n }
     ensures mapped { (image : E.Node → F.Node) → KeepsMeanings E.tree F.tree image
         → (components : List Component) (n : E.Node)

@@ -13,6 +13,7 @@ ghost use Rattle.simplecss_selector.specs.internal.SelectorViews.{subselector_of
 ghost use Rattle.simplecss_selector.specs.Keys.{required_id, required_class, required_attribute};
 
 use crate::key::{first_attribute, first_class, first_id};
+use crate::list::{ListRefusal, read_list};
 use crate::matching::{continues, is_met_at};
 use crate::reading::read_front;
 use crate::specificity::{at_most_255, id_count, name_count};
@@ -250,6 +251,8 @@ impl<'a> Selector<'a> {
     ghost use Rattle.simplecss_text.specs.ThisEdition.{this_edition};
     ghost use Rattle.simplecss_text.specs.Selectors.{reads};
     ghost use Rattle.simplecss_text.specs.Skipped.{selector_skips, add_each};
+    ghost use Rattle.simplecss_selector.specs.SelectorLists.{list_read};
+    ghost use Rattle.simplecss_selector.specs.ListRefusals.{read_of};
     ghost use Rattle.simplecss_text.specs.PrintingLaws.{SelectorReadsBack};
 
     /// Reads the selector at the start of a text, or returns `None` if it is refused (CSS 2.1
@@ -268,7 +271,7 @@ impl<'a> Selector<'a> {
         ensures printed { IfOk result
             (λ selector. IfSome selector (SelectorReadsBack this_edition)) }
     {
-        let (selector, _) = Self::parse_front(rt, alloc, text)?;
+        let (selector, _) = Self::parse_front(&mut Warnings::new(rt), alloc, text)?;
         Ok(selector)
     }
 
@@ -276,28 +279,11 @@ impl<'a> Selector<'a> {
     /// is refused, with the offset where reading stopped: before what follows the selector, or
     /// after what it was refused for. The offset counts bytes from the start of the text.
     ///
-    /// A caller continues from that offset, for example after a comma.
-    pub fn parse_front<R: Log>(
-        rt: &R,
-        alloc: Global,
-        text: &'a str,
-    ) -> Result<(Option<Selector<'a>>, usize), AllocError>
-        ensures selector { IfOk result (λ read. read.0 ≡ (reads this_edition text.now).0) }
-        ensures rest { IfOk result
-            (λ read. drop read.1 text.now ≡ (reads this_edition text.now).1) }
-        ensures boundary { IfOk result (λ read. IsCharBoundary text.now read.1) }
-        ensures printed { IfOk result (λ read. IfSome read.0 (SelectorReadsBack this_edition)) }
-    {
-        read_front(&mut Warnings::new(rt), alloc, text)
-    }
-
-    /// Reads the selector at the start of a text, and returns it, or `None` if it is refused, with
-    /// the offset where reading stopped, as [`Selector::parse_front`] does.
-    ///
-    /// A refused selector is reported, with what a rule set skips with it: the text up to the next
-    /// comma if one follows, and else up to the next `{`.
+    /// A caller continues from that offset, for example after a comma. A refused selector is
+    /// reported, with what a rule set skips with it: the text up to the next comma if one follows,
+    /// and else up to the next `{`.
     #[inline(always)]
-    pub fn parse_front_reporting<P: Report<'a>>(
+    pub fn parse_front<P: Report<'a>>(
         report: &mut P,
         alloc: Global,
         text: &'a str,
@@ -311,6 +297,19 @@ impl<'a> Selector<'a> {
             ≡ add_each P.add (P.state report.old) (selector_skips this_edition text.now)) }
     {
         read_front(report, alloc, text)
+    }
+
+    /// Reads a list of selectors with commas between them. A comma within an attribute's value, as in
+    /// `[a="b,c"]`, ends none. If the text is no list, the inner error says why, and where.
+    ///
+    /// Fails only if an allocation fails.
+    pub fn read_list(
+        alloc: Global,
+        text: &'a str,
+    ) -> Result<Result<Vec<Selector<'a>>, ListRefusal<'a>>, AllocError>
+        ensures { IfOk result (λ read. read_of (λ l. l.items) read ≡ list_read this_edition text.now) }
+    {
+        read_list(alloc, text)
     }
 }
 

@@ -41,6 +41,8 @@ impl<'a, 'r, R: Log> Report<'a> for Warnings<'r, R> {
 
     ghost add = { λ _ _. tt };
 
+    ghost begun = { λ _ _. tt };
+
     #[inline(always)]
     fn begin(&mut self, _text: &'a str) {}
 

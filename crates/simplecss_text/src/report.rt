@@ -52,10 +52,10 @@ pub struct Skipped<'a> {
 
 /// Receives reports of what reading a style sheet skips.
 ///
-/// Contracts describe a reporter by its `state`, and by how `add` changes the state for one more
-/// report.
+/// Contracts describe a reporter by its `state`: `begun` says what the state is after a text was
+/// begun, and `add` what it is after one more report.
 pub trait Report<'a> {
-    ghost use Rattle.std.specs.Prelude.{◌≡◌, OnOk};
+    ghost use Rattle.std.specs.Prelude.{◌≡◌, ℕ, List, OnOk};
     ghost use Rattle.simplecss_text.specs.Skipped.{Skip};
     ghost use Rattle.simplecss_text.specs.SkipViews.{skip_of};
 
@@ -65,9 +65,12 @@ pub trait Report<'a> {
 
     ghost add: { State → Skip → State };
 
-    /// Called before a whole text is read. Its reports follow.
+    ghost begun: { State → List ℕ → State };
+
+    /// Called once before each text that is read into a sheet, with the whole text. Its reports
+    /// follow.
     fn begin(&mut self, text: &'a str)
-        ensures { state self.new ≡ state self.old };
+        ensures { state self.new ≡ begun (state self.old) text.now };
 
     /// Called for each declaration that is read, with the text from its start on and its value.
     /// What is skipped of the value is reported after it.
@@ -89,6 +92,8 @@ impl<'a> Report<'a> for Silent {
     ghost state = { λ _. tt };
 
     ghost add = { λ _ _. tt };
+
+    ghost begun = { λ _ _. tt };
 
     #[inline(always)]
     fn begin(&mut self, _text: &'a str) {}
@@ -119,6 +124,8 @@ impl<'a> Report<'a> for Kept<'a> {
     ghost state = { λ k. map skip_of k.skips.items };
 
     ghost add = { λ skips skip. skips ++ skip ∷ [] };
+
+    ghost begun = { λ skips _. skips };
 
     fn begin(&mut self, _text: &'a str) {}
 

@@ -28,6 +28,15 @@ const FOUND: &[(&str, &str)] = &[
         "a { b:calc(1px + (2px)); c:d }",
         "1:7: 'calc(1px + (2px)': a parenthesis of the value is left open\n",
     ),
+    // The same text is in a comment before the value, and before the colon.
+    (
+        "a { /* c:f((1) */ b:f((1); }",
+        "1:21: 'f((1)': a parenthesis of the value is left open\n",
+    ),
+    (
+        "a { b/*:f((1)*/:f((1); }",
+        "1:17: 'f((1)': a parenthesis of the value is left open\n",
+    ),
     (
         "a { b:c } */ d { e:f }",
         "1:11: a '*/' that closes no comment is read as the selector '*'\n",
@@ -82,5 +91,7 @@ fn finds_an_open_parenthesis(rt: HostRuntime) -> Result<(), Fail> {
     let from = "g:h((i); j:k";
     assert_eq!(rt; open_parenthesis(from, "h((i)"), Some("h((i); j:k"));
     assert_eq!(rt; open_parenthesis("g:h(i)", "h(i)"), None);
+    let comment = "/* g:h((i) */ g/*:h((i)*/:h((i);";
+    assert_eq!(rt; open_parenthesis(comment, "h((i)"), Some("h((i);"));
     Ok(())
 }

@@ -1,6 +1,6 @@
 //! The lines that are written for skipped text.
 
-use simplecss::StyleSheet;
+use simplecss::{Reading, StyleSheet};
 use simplecss_faults::FaultLines;
 use std::alloc::Global;
 use std::io;
@@ -25,7 +25,11 @@ const LINES: &[(&[&str], &str)] = &[
 /// Reads the texts into a sheet, and writes a line for what is skipped.
 fn read<W: Write + Drop>(alloc: Global, texts: &[&str], out: W) -> io::Result<()> {
     let mut lines = FaultLines::new(out, &["x.css", "y.css"]);
-    StyleSheet::parse_all_reporting(&mut lines, alloc, texts)?;
+    let how = Reading {
+        report: &mut lines,
+        most: usize::MAX,
+    };
+    StyleSheet::new(alloc).read(how, alloc, texts)?;
     lines.finish()
 }
 

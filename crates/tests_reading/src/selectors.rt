@@ -2,14 +2,14 @@
 
 use crate::same::same;
 use log::sink::{Discard, Lines, Memory};
-use simplecss::{Selector, Tests};
+use simplecss::{Selector, Silent, Tests};
 use std::alloc::{AllocError, Global};
 use std::process::Abort;
 use std::test::Fail;
 
 /// Returns the printed selector, or `refused`, and the offset where reading ended.
 fn read(alloc: Global, text: &str) -> Result<(String, usize), AllocError> {
-    let (selector, offset) = Selector::parse_front(&Memory::new(alloc), alloc, text)?;
+    let (selector, offset) = Selector::parse_front(&mut Silent, alloc, text)?;
     let printed = match selector {
         Some(selector) => format!(in alloc; "{selector}")?,
         None => String::from_str(alloc, "refused")?,

@@ -2,7 +2,9 @@
 
 use crate::same::same;
 use log::sink::{Discard, Memory};
-use simplecss::{Declaration, Rule, Selector, SheetError, StyleSheet};
+use simplecss::{
+    Declaration, Reading, Report, Rule, Selector, SheetError, Silent, StyleSheet, Warnings,
+};
 use std::alloc::AllocError;
 use std::test::Fail;
 
@@ -129,7 +131,11 @@ const COUNTED: &[(&str, usize)] = &[
 /// What the sheet prints after the text is read within the limit, or why it is not read.
 fn read_within(rt: &HostRuntime, text: &str, most: usize) -> Result<String, SheetError> {
     let mut sheet = read(rt, "x { y:z }")?;
-    let outcome = sheet.parse_within(&Discard, rt.alloc(), text, most);
+    let how = Reading {
+        report: &mut Silent,
+        most,
+    };
+    let outcome = sheet.read(how, rt.alloc(), &[text]);
     if outcome.is_err() && !prints(rt, &sheet, "x { y:z; }")? {
         return Ok(String::new(rt.alloc()));
     }
@@ -170,9 +176,24 @@ fn refuses_a_short_text_of_many_declarations(rt: HostRuntime) -> Result<(), Fail
     Ok(())
 }
 
+/// Returns the sheet of the texts, without a limit.
+fn read_texts<'a, P: Report<'a>>(
+    rt: &HostRuntime,
+    report: &mut P,
+    texts: &[&'a str],
+) -> Result<StyleSheet<'a>, SheetError> {
+    let mut sheet = StyleSheet::new(rt.alloc());
+    let how = Reading {
+        report,
+        most: usize::MAX,
+    };
+    sheet.read(how, rt.alloc(), texts)?;
+    Ok(sheet)
+}
+
 #[test]
 fn reads_all_texts_at_once(rt: HostRuntime) -> Result<(), Fail> {
-    let none = StyleSheet::parse_all(&Discard, rt.alloc(), &[])?;
+    let none = read_texts(&rt, &mut Silent, &[])?;
     same(&rt, prints(&rt, &none, "")?, true, "no texts");
     let texts = [
         "#x { a:b }",
@@ -182,7 +203,7 @@ fn reads_all_texts_at_once(rt: HostRuntime) -> Result<(), Fail> {
         "#y { e:f } q { g:h }",
         ", p { i:j",
     ];
-    let sheet = StyleSheet::parse_all(&Discard, rt.alloc(), &texts)?;
+    let sheet = read_texts(&rt, &mut Silent, &texts)?;
     let want = "p { c:d; }\nq { g:h; }\np { i:j; }\n*[id='x'] { a:b; }\n*[id='y'] { e:f; }";
     same(&rt, prints(&rt, &sheet, want)?, true, want);
     Ok(())
@@ -197,7 +218,7 @@ fn warns_of_all_texts_in_order(rt: HostRuntime) -> Result<(), Fail> {
         "':le' is not supported. Selector skipped.",
     ];
     let sink = Memory::new(rt.alloc());
-    StyleSheet::parse_all(&sink, rt.alloc(), &texts)?;
+    read_texts(&rt, &mut Warnings::new(&sink), &texts)?;
     let lines = sink.into_lines();
     same(&rt, lines.len(), messages.len(), "the lines");
     for (line, message) in lines.as_slice().iter().zip(messages) {

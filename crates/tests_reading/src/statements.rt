@@ -1,8 +1,7 @@
 //! Statements with their offsets.
 
 use crate::same::same;
-use log::sink::Discard;
-use simplecss::StatementReader;
+use simplecss::{Silent, StatementReader};
 use std::fmt::Write as _;
 use std::test::Fail;
 
@@ -12,7 +11,7 @@ fn reads_statements_with_their_offsets(rt: HostRuntime) -> Result<(), Fail> {
     let mut reader = StatementReader::new(text);
     let mut reported = String::new(rt.alloc());
     for _ in 0..5 {
-        let Some(statement) = reader.read_next(&Discard, rt.alloc())? else {
+        let Some(statement) = reader.read_next(&mut Silent, rt.alloc())? else {
             reported.push_str("none\n")?;
             continue;
         };

@@ -12,7 +12,9 @@ use cssq::tree::{Page, TreeFault};
 use free::Made;
 use log::Log;
 use log::sink::{Discard, Memory};
-use simplecss::{Recent, RuleIndex, Selector, StatementReader, StyleSheet};
+use simplecss::{
+    Reading, Recent, RuleIndex, Selector, SheetError, StatementReader, StyleSheet, Warnings,
+};
 use simplecss_faults::find_faults;
 use simplecss_tree::{Tree, TreeError};
 use std::alloc::{AllocError, Global};
@@ -94,6 +96,20 @@ fn show_more<R: Log>(
     println!(rt; "{sheet}")
 }
 
+/// Reads texts into a sheet, within a limit of 100 declarations.
+fn read_within<'a, R: Log>(
+    sheet: &mut StyleSheet<'a>,
+    log: &R,
+    alloc: Global,
+    texts: &[&'a str],
+) -> Result<(), SheetError> {
+    let how = Reading {
+        report: &mut Warnings::new(log),
+        most: 100,
+    };
+    sheet.read(how, alloc, texts)
+}
+
 /// Reads a second text into the sheet of a first one, within a limit that it does not exceed. If that
 /// fails, the error and the unchanged sheet are shown, and the second text is read again.
 fn show_within<R: Log>(
@@ -105,12 +121,12 @@ fn show_within<R: Log>(
 ) -> io::Result<()> {
     let mut sheet = StyleSheet::parse(log, rt.alloc(), text)?;
     begin(rt);
-    let read = sheet.parse_within(log, rt.alloc(), more, 100);
+    let read = read_within(&mut sheet, log, rt.alloc(), &[more]);
     end(rt, made);
     if let Err(error) = read {
         println!(rt; "{error}")?;
         println!(rt; "{sheet}")?;
-        sheet.parse_within(log, rt.alloc(), more, 100)?;
+        read_within(&mut sheet, log, rt.alloc(), &[more])?;
     }
     println!(rt; "{sheet}")
 }
@@ -180,11 +196,12 @@ fn show_sheets<R: Log>(
     texts: &[&str],
 ) -> io::Result<()> {
     begin(rt);
-    let read = StyleSheet::parse_all(log, rt.alloc(), texts);
+    let mut sheet = StyleSheet::new(rt.alloc());
+    let read = read_within(&mut sheet, log, rt.alloc(), texts);
     end(rt, made);
     match read {
         Err(_) => println!(rt; "refused"),
-        Ok(sheet) => println!(rt; "{sheet}"),
+        Ok(()) => println!(rt; "{sheet}"),
     }
 }
 
@@ -194,7 +211,7 @@ fn next_end<R: Log>(
     log: &R,
     alloc: Global,
 ) -> Result<Option<usize>, AllocError> {
-    match reader.read_next(log, alloc)? {
+    match reader.read_next(&mut Warnings::new(log), alloc)? {
         Some(statement) => Ok(Some(statement.end)),
         None => Ok(None),
     }

@@ -8,8 +8,7 @@
 //! assert_eq!(parse_within(&mut sheet, "a, b { x: y }", 3), Ok(()));
 //! assert_eq!(sheet.rules.len(), 2);
 //! ```
-use crate::erased::simplecss::SheetError;
-use crate::rattle_log::Process;
+use crate::erased::simplecss::{Reading, SheetError, Silent};
 use crate::rattle_std::alloc::Global;
 use crate::StyleSheet;
 use core::fmt;
@@ -35,7 +34,11 @@ pub fn parse_within<'a>(
     most: usize,
 ) -> Result<(), TooManyDeclarations> {
     let mut all = sheet.take_proved();
-    let outcome = all.parse_within(&Process, Global, text, most);
+    let how = Reading {
+        report: &mut Silent,
+        most,
+    };
+    let outcome = all.read(how, Global, &[text]);
     sheet.put_back(all);
     match outcome {
         Ok(()) => Ok(()),

@@ -1,5 +1,5 @@
 //! The rules of a text.
-ghost use Rattle.std.specs.Prelude.{◌≡◌, ◌<◌, ◌≤◌, ◌++◌, ◌∷◌, [], List, ℕ, IfErr, IfOk, IsOk, IsTrue};
+ghost use Rattle.std.specs.Prelude.{◌≡◌, ◌<◌, ◌≤◌, ◌+◌, ◌++◌, ◌∷◌, [], List, ℕ, IfErr, IfOk, IsOk, IsTrue};
 ghost use Rattle.std.specs.Prelude.{IsUtf8, OnOk};
 ghost use Rattle.std.specs.Prelude.{MatchBool, MatchOption, None, Some, filter, map, true, false};
 ghost use Rattle.std.specs.List.{All, flat_map};
@@ -10,7 +10,8 @@ ghost use Rattle.simplecss_text.specs.Skipped.{add_each, end_skips, skipped};
 ghost use Rattle.simplecss_text.specs.ThisEdition.{this_edition};
 ghost use Rattle.simplecss_text.specs.Cursor.{text_of, rest_of};
 ghost use Rattle.simplecss.specs.RuleViews.{rule_of, rules_of};
-ghost use Rattle.simplecss.specs.DeclarationCounts.{kept_declarations};
+ghost use Rattle.simplecss.specs.DeclarationCounts.{kept_declarations, kept_in_all};
+ghost use Rattle.simplecss.specs.Readings.{are_open_comments, reports_of};
 ghost use Rattle.simplecss.specs.declared.sheet.sheet_error.SheetError.TheVariants.{TooManyDeclarations};
 
 use super::order;
@@ -51,23 +52,23 @@ pub(crate) fn report_end<'a, P: Report<'a>>(report: &mut P, text: &'a str) -> Re
 }
 
 /// Returns all rules of a text in order, or `None` if the text is a blank and then an open comment.
-/// Stops before the rules hold more than `most` declarations.
-pub(crate) fn read_rules_within<'a, P: Report<'a>>(
+/// Stops before the rules hold more than `most` declarations, and else takes theirs off it.
+pub(crate) fn read_rules<'a, P: Report<'a>>(
     report: &mut P,
     alloc: Global,
     text: &'a str,
-    most: usize,
+    most: &mut usize,
 ) -> Result<Option<Vec<Rule<'a>>>, SheetError>
     ensures rules { IfOk result (λ read. MatchOption read (is_open_comment text.now ≡ true)
         (λ rules. (is_open_comment text.now ≡ false)
         × (map rule_of rules.items
         ≡ flat_map (λ given. given) (statements this_edition text.now)))) }
     ensures utf8 { IsUtf8 text.now }
-    ensures within { OnOk result (kept_declarations this_edition text.now ≤ most) }
+    ensures left { OnOk result (most.new + kept_declarations this_edition text.now ≡ most.old) }
     ensures refused { IfErr result (λ error. error ≡ TooManyDeclarations
-        → most < kept_declarations this_edition text.now) }
+        → most.old < kept_declarations this_edition text.now) }
     ensures reported { OnOk result (P.state report.new
-        ≡ add_each P.add (P.state report.old) (skipped this_edition text.now)) }
+        ≡ add_each P.add (P.begun (P.state report.old) text.now) (skipped this_edition text.now)) }
 {
     report.begin(text);
     let mut s = Stream::new(text);
@@ -76,11 +77,12 @@ pub(crate) fn read_rules_within<'a, P: Report<'a>>(
         return Ok(None);
     }
     let mut reader = RuleReader::new(alloc);
-    let mut left = most;
+    let mut left = *most;
     'statements: loop {
         let rest = s.slice_tail();
         if !at_statement(&mut s) {
             report_end(report, rest)?;
+            *most = left;
             return Ok(Some(reader.into_rules()));
         }
         reader.consume_statement(report, alloc, &mut s)?;
@@ -88,45 +90,58 @@ pub(crate) fn read_rules_within<'a, P: Report<'a>>(
     }
 }
 
-/// Returns all rules of a text as [`read_rules_within`] does, without a limit: more than
-/// `usize::MAX` declarations take more memory than there is.
-pub(crate) fn read_rules<'a, P: Report<'a>>(
+/// Reads the statements of a text, reports what they skip, and keeps no rule.
+pub(crate) fn skip_statements<'a, P: Report<'a>>(
     report: &mut P,
     alloc: Global,
     text: &'a str,
-) -> Result<Option<Vec<Rule<'a>>>, AllocError>
-    ensures rules { IfOk result (λ read. MatchOption read (is_open_comment text.now ≡ true)
-        (λ rules. (is_open_comment text.now ≡ false)
-        × (map rule_of rules.items
-        ≡ flat_map (λ given. given) (statements this_edition text.now)))) }
-    ensures utf8 { IsUtf8 text.now }
-    ensures reported { OnOk result (P.state report.new
-        ≡ add_each P.add (P.state report.old) (skipped this_edition text.now)) }
+) -> Result<(), AllocError>
+    ensures { OnOk result (P.state report.new
+        ≡ add_each P.add (P.begun (P.state report.old) text.now) (skipped this_edition text.now)) }
 {
-    match read_rules_within(report, alloc, text, usize::MAX) {
-        Ok(rules) => Ok(rules),
-        Err(_) => Err(AllocError),
+    report.begin(text);
+    let mut s = Stream::new(text);
+    let mut reader = RuleReader::new(alloc);
+    'statements: loop {
+        let rest = s.slice_tail();
+        if !at_statement(&mut s) {
+            report_end(report, rest)?;
+            return Ok(());
+        }
+        reader.consume_statement(report, alloc, &mut s)?;
     }
 }
 
-/// Reads the rules of the texts, one text after another, and keeps those that have a declaration.
-/// A text of spaces, comments and then an open comment has none.
+/// Reads the rules of the texts, one text after another, or `None` if each text is a blank and then
+/// an open comment. Stops before the rules hold more than `most` declarations.
 pub(crate) fn read_all<'a, P: Report<'a>>(
     report: &mut P,
     alloc: Global,
     texts: &[&'a str],
-) -> Result<Vec<Rule<'a>>, AllocError>
-    ensures kept { IfOk result (λ rules. filter has_declaration (rules_of rules.items)
-        ≡ flat_map (kept this_edition) (map (λ text. text.now) texts.now)) }
+    most: usize,
+) -> Result<Option<Vec<Rule<'a>>>, SheetError>
+    ensures rules { IfOk result (λ read. MatchOption read
+        (are_open_comments (map (λ text. text.now) texts.now) ≡ true)
+        (λ rules. (are_open_comments (map (λ text. text.now) texts.now) ≡ false)
+        × (filter has_declaration (rules_of rules.items)
+        ≡ flat_map (kept this_edition) (map (λ text. text.now) texts.now)))) }
     ensures utf8 { IsOk result → All (λ text. IsUtf8 text.now) texts.now }
-    ensures reported { OnOk result (P.state report.new ≡ add_each P.add (P.state report.old)
-        (flat_map (skipped this_edition) (map (λ text. text.now) texts.now))) }
+    ensures within { OnOk result
+        (kept_in_all this_edition (map (λ text. text.now) texts.now) ≤ most) }
+    ensures refused { IfErr result (λ error. error ≡ TooManyDeclarations
+        → most < kept_in_all this_edition (map (λ text. text.now) texts.now)) }
+    ensures reported { OnOk result (P.state report.new
+        ≡ reports_of P.begun P.add this_edition (P.state report.old)
+        (map (λ text. text.now) texts.now)) }
 {
     let mut rules = Vec::new(alloc);
+    let mut open = true;
+    let mut left = most;
     for text in texts {
-        if let Some(more) = read_rules(report, alloc, text)? {
+        if let Some(more) = read_rules(report, alloc, text, &mut left)? {
             order::join(&mut rules, more)?;
+            open = false;
         }
     }
-    Ok(rules)
+    if open { Ok(None) } else { Ok(Some(rules)) }
 }

@@ -8,8 +8,6 @@ ghost use Rattle.simplecss.specs.StatementOffsets.{OccursNext};
 use super::reading::{at_statement, report_end};
 use super::rules::Rule;
 use super::statements::RuleReader;
-use log::Log;
-use simplecss_selector::Warnings;
 use simplecss_text::report::Report;
 use simplecss_text::stream::Stream;
 use std::alloc::{AllocError, Global};
@@ -39,7 +37,7 @@ pub struct Statement<'a> {
 /// let mut reader = StatementReader::new(text);
 /// // Each statement has at least one byte.
 /// for _ in 0..text.len() {
-///     let Some(statement) = reader.read_next(&Discard, alloc)? else {
+///     let Some(statement) = reader.read_next(&mut Silent, alloc)? else {
 ///         break;
 ///     };
 ///     if let Some(part) = text.get(statement.start..statement.end) {
@@ -74,26 +72,9 @@ impl<'a> StatementReader<'a> {
 
     /// Returns the next statement, or `None` if there is none, and from then on: at the end of the
     /// text, and at a comment that is not closed. Fails only if an allocation fails, and then the
-    /// reader is unchanged. Warnings of what is skipped go to `rt`.
-    pub fn read_next<R: Log>(
-        &mut self,
-        rt: &R,
-        alloc: Global,
-    ) -> Result<Option<Statement<'a>>, AllocError>
-        ensures text { self.new.0 ≡ self.old.0 }
-        ensures ok { IfOk result (λ read. MatchOption read
-            ((next_statement this_edition (drop self.old.1 self.old.0) ≡ None)
-            × (self.new ≡ self.old))
-            (λ statement. OccursNext self.old.0 self.old.1 statement
-            × (self.new.1 ≡ statement.end))) }
-        ensures err { OnErr result (self.new ≡ self.old) }
-    {
-        self.read_next_reporting(&mut Warnings::new(rt), alloc)
-    }
-
-    /// Reads the next statement as [`StatementReader::read_next`] does. What it skips is reported;
-    /// where there is no statement, a comment that is open there. [`Report::begin`] is not called.
-    pub fn read_next_reporting<P: Report<'a>>(
+    /// reader is unchanged. What the statement skips is reported; where there is no statement, a
+    /// comment that is open there. [`Report::begin`] is not called.
+    pub fn read_next<P: Report<'a>>(
         &mut self,
         report: &mut P,
         alloc: Global,

@@ -90,7 +90,7 @@ fn consume_part<'a, P: Report<'a>>(
     ensures reported { OnOk result (P.state report.new
         ≡ add_each P.add (P.state report.old) (part_skips this_edition (rest_of s.old))) }
 {
-    let read = Selector::parse_front_reporting(report, alloc, s.slice_tail());
+    let read = Selector::parse_front(report, alloc, s.slice_tail());
     let (selector, len) = match read {
         Ok(read) => read,
         Err(error) => return Err(error),

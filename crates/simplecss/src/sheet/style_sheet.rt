@@ -14,12 +14,24 @@ ghost use Rattle.simplecss_text.specs.PrintingLaws.{SelectorsReadBack, has_wide_
 ghost use Rattle.simplecss_text.specs.PrintingLaws.{PrintsBackAfter};
 ghost use Rattle.simplecss.specs.RuleViews.{rules_in};
 ghost use Rattle.simplecss.specs.DeclarationCounts.{kept_declarations};
+ghost use Rattle.simplecss.specs.Readings.{ReadsInto};
 
 use crate::sheet::{Rule, SheetError, order, reading};
 use log::Log;
 use simplecss_selector::Warnings;
 use simplecss_text::report::{Kept, Report, Skipped};
 use std::alloc::{AllocError, Global};
+
+/// How texts are read: the options of [`StyleSheet::read`].
+#[derive(Drop)]
+pub struct Reading<'r, P> {
+    /// Receives all that is skipped, in order; before each text, [`Report::begin`] is called with it.
+    pub report: &'r mut P,
+    /// The most declarations that the rules of all texts together may hold, `usize::MAX` for any
+    /// number. A rule set counts its declarations once for each of its selectors, as often as they are
+    /// stored: without a limit, rules may take memory quadratic in the length of their text.
+    pub most: usize,
+}
 
 /// A style sheet: the rules of the texts that were read into it, in the order of their specificity.
 ///
@@ -50,6 +62,34 @@ impl<'a> StyleSheet<'a> {
         }
     }
 
+    /// Reads texts into the style sheet, one after another: their rules come after the others of
+    /// equal specificity, and all are ordered once, so that many short texts take no more time than a
+    /// long one. Also drops rules without declarations that were already in the sheet, unless each
+    /// text is spaces, comments and then a comment that is not closed.
+    ///
+    /// Fails with [`SheetError::TooManyDeclarations`] if the rules of the texts would hold more
+    /// declarations than `how` allows, before they are stored, and else only if an allocation fails.
+    /// After an error the sheet is unchanged.
+    pub fn read<P: Report<'a>>(
+        &mut self,
+        how: Reading<'_, P>,
+        alloc: Global,
+        texts: &[&'a str],
+    ) -> Result<(), SheetError>
+        ensures { ReadsInto P.begun P.add this_edition (rules_in self.old)
+            (map (λ text. text.now) texts.now) how.entry.most (P.state how.entry.report.now) result
+            (rules_in self.new) (P.state how.exit.0.now) }
+    {
+        let Reading { report, most } = how;
+        match reading::read_all(report, alloc, texts, most)? {
+            Some(more) => {
+                order::merge(&mut self.rules, more)?;
+                Ok(())
+            }
+            None => Ok(()),
+        }
+    }
+
     /// Reads the style sheet of one text. Fails only if an allocation fails; text that CSS 2.1 does
     /// not allow is skipped (section 4.2). Warnings of what is skipped go to `rt`.
     ///
@@ -65,64 +105,15 @@ impl<'a> StyleSheet<'a> {
         ensures editions { IsCommon text.now
             → IfOk result (λ s. rules_in s ≡ sheet first_edition (text.now ∷ [])) }
     {
-        StyleSheet::parse_reporting(&mut Warnings::new(rt), alloc, text)
-    }
-
-    /// Reads a text as [`StyleSheet::parse`] does. All that is skipped is reported, in order, after a
-    /// call of [`Report::begin`] with the text.
-    pub fn parse_reporting<P: Report<'a>>(
-        report: &mut P,
-        alloc: Global,
-        text: &'a str,
-    ) -> Result<Self, AllocError>
-        ensures sheet { IfOk result (λ s. rules_in s ≡ sheet this_edition (text.now ∷ [])) }
-        ensures selectors { IfOk result (λ s. SelectorsReadBack this_edition (rules_in s)) }
-        ensures prints_back { has_wide_space text.now ≡ false
-            → IfOk result (λ s. PrintsBack this_edition (rules_in s)) }
-        ensures editions { IsCommon text.now
-            → IfOk result (λ s. rules_in s ≡ sheet first_edition (text.now ∷ [])) }
-        // The reporter receives exactly what reading the text skips, in order.
-        ensures reported { OnOk result (P.state report.new
-            ≡ add_each P.add (P.state report.old) (skipped this_edition text.now)) }
-    {
-        StyleSheet::parse_all_reporting(report, alloc, &[text])
-    }
-
-    /// Reads the style sheet of all these texts, one after another. It is the sheet that
-    /// [`StyleSheet::parse_more`] reads of them, but its rules are ordered once, so that many short
-    /// texts take no more time than a long one. Warnings of what is skipped go to `rt`.
-    pub fn parse_all<R: Log>(rt: &R, alloc: Global, texts: &[&'a str]) -> Result<Self, AllocError>
-        ensures sheet { IfOk result
-            (λ s. rules_in s ≡ sheet this_edition (map (λ text. text.now) texts.now)) }
-        ensures filled { IfOk result (λ s. AllPass has_declaration (rules_in s)) }
-        ensures selectors { IfOk result (λ s. SelectorsReadBack this_edition (rules_in s)) }
-        ensures prints_back { All (λ text. has_wide_space text.now ≡ false) texts.now
-            → IfOk result (λ s. PrintsBack this_edition (rules_in s)) }
-    {
-        StyleSheet::parse_all_reporting(&mut Warnings::new(rt), alloc, texts)
-    }
-
-    /// Reads all these texts as [`StyleSheet::parse_all`] does. All that is skipped is reported, in
-    /// order; before each text, [`Report::begin`] is called with it.
-    pub fn parse_all_reporting<P: Report<'a>>(
-        report: &mut P,
-        alloc: Global,
-        texts: &[&'a str],
-    ) -> Result<Self, AllocError>
-        ensures sheet { IfOk result
-            (λ s. rules_in s ≡ sheet this_edition (map (λ text. text.now) texts.now)) }
-        ensures filled { IfOk result (λ s. AllPass has_declaration (rules_in s)) }
-        ensures selectors { IfOk result (λ s. SelectorsReadBack this_edition (rules_in s)) }
-        ensures prints_back { All (λ text. has_wide_space text.now ≡ false) texts.now
-            → IfOk result (λ s. PrintsBack this_edition (rules_in s)) }
-        // The reporter receives exactly what reading the texts skips, in order.
-        ensures reported { OnOk result (P.state report.new ≡ add_each P.add (P.state report.old)
-            (flat_map (skipped this_edition) (map (λ text. text.now) texts.now))) }
-    {
-        let all = reading::read_all(report, alloc, texts)?;
         let mut sheet: StyleSheet<'a> = StyleSheet::new(alloc);
-        order::merge(&mut sheet.rules, all)?;
-        Ok(sheet)
+        let how = Reading {
+            report: &mut Warnings::new(rt),
+            most: usize::MAX,
+        };
+        match sheet.read(how, alloc, &[text]) {
+            Ok(()) => Ok(sheet),
+            Err(_) => Err(AllocError),
+        }
     }
 
     /// Reads a text into the style sheet: its rules come after the others of equal specificity.
@@ -156,133 +147,13 @@ impl<'a> StyleSheet<'a> {
         ensures prints_back { OnOk result
             (PrintsBackAfter this_edition (rules_in self.old) text.now (rules_in self.new)) }
     {
-        self.parse_more_reporting(&mut Warnings::new(rt), alloc, text)
-    }
-
-    /// Reads a text into the style sheet as [`StyleSheet::parse_more`] does. All that is skipped is
-    /// reported, in order.
-    pub fn parse_more_reporting<P: Report<'a>>(
-        &mut self,
-        report: &mut P,
-        alloc: Global,
-        text: &'a str,
-    ) -> Result<(), AllocError>
-        // The old rules that have a declaration and then those of the text, in order.
-        ensures ok { OnOk result (is_open_comment text.now ≡ false
-            → rules_in self.new
-            ≡ ordered (filter has_declaration (rules_in self.old) ++ kept this_edition text.now)) }
-        ensures nothing { is_open_comment text.now ≡ true → rules_in self.new ≡ rules_in self.old }
-        ensures err { OnErr result (rules_in self.new ≡ rules_in self.old) }
-        // If the old rules are the sheet of some texts, the new ones are the sheet of these and this
-        // one. Each of them has a declaration.
-        ensures sheet { (texts : List (List ℕ)) → rules_in self.old ≡ sheet this_edition texts
-            → OnOk result (rules_in self.new ≡ sheet this_edition (texts ++ text.now ∷ [])) }
-        ensures filled { (texts : List (List ℕ)) → rules_in self.old ≡ sheet this_edition texts
-            → AllPass has_declaration (rules_in self.new) }
-        // A text may be read in pieces that are cut where a statement ends.
-        ensures pieces { OnOk result
-            (ContinuesReading this_edition (rules_in self.old) text.now (rules_in self.new)) }
-        // Printed selectors and printed sheets read as what was printed.
-        ensures selectors { SelectorsReadBack this_edition (rules_in self.old)
-            → SelectorsReadBack this_edition (rules_in self.new) }
-        ensures prints_back { OnOk result
-            (PrintsBackAfter this_edition (rules_in self.old) text.now (rules_in self.new)) }
-        // The reporter receives exactly what reading the text skips, in order.
-        ensures reported { OnOk result (P.state report.new
-            ≡ add_each P.add (P.state report.old) (skipped this_edition text.now)) }
-    {
-        // More than `usize::MAX` declarations take more memory than there is.
-        match self.parse_within_reporting(report, alloc, text, usize::MAX) {
+        let how = Reading {
+            report: &mut Warnings::new(rt),
+            most: usize::MAX,
+        };
+        match self.read(how, alloc, &[text]) {
             Ok(()) => Ok(()),
             Err(_) => Err(AllocError),
-        }
-    }
-
-    /// Reads a text into the style sheet as [`StyleSheet::parse_more`] does, unless its rules would
-    /// hold more than `most` declarations: then the sheet is unchanged. A rule set counts its
-    /// declarations once for each of its selectors, as often as they are stored, and is refused
-    /// before they are. For texts from untrusted sources, whose rules may otherwise take memory
-    /// quadratic in their length.
-    pub fn parse_within<R: Log>(
-        &mut self,
-        rt: &R,
-        alloc: Global,
-        text: &'a str,
-        most: usize,
-    ) -> Result<(), SheetError>
-        // The text is refused exactly if its rules would hold more declarations, unless an allocation
-        // fails first.
-        ensures limit { (result ≢ Err SheetError.Memory)
-            → (result ≡ Err SheetError.TooManyDeclarations)
-            ↔ (most < kept_declarations this_edition text.now) }
-        // The old rules that have a declaration and then those of the text, in order.
-        ensures ok { OnOk result (is_open_comment text.now ≡ false
-            → rules_in self.new
-            ≡ ordered (filter has_declaration (rules_in self.old) ++ kept this_edition text.now)) }
-        ensures nothing { is_open_comment text.now ≡ true → rules_in self.new ≡ rules_in self.old }
-        ensures err { OnErr result (rules_in self.new ≡ rules_in self.old) }
-        // If the old rules are the sheet of some texts, the new ones are the sheet of these and this
-        // one. Each of them has a declaration.
-        ensures sheet { (texts : List (List ℕ)) → rules_in self.old ≡ sheet this_edition texts
-            → OnOk result (rules_in self.new ≡ sheet this_edition (texts ++ text.now ∷ [])) }
-        ensures filled { (texts : List (List ℕ)) → rules_in self.old ≡ sheet this_edition texts
-            → AllPass has_declaration (rules_in self.new) }
-        // A text may be read in pieces that are cut where a statement ends.
-        ensures pieces { OnOk result
-            (ContinuesReading this_edition (rules_in self.old) text.now (rules_in self.new)) }
-        // Printed selectors and printed sheets read as what was printed.
-        ensures selectors { SelectorsReadBack this_edition (rules_in self.old)
-            → SelectorsReadBack this_edition (rules_in self.new) }
-        ensures prints_back { OnOk result
-            (PrintsBackAfter this_edition (rules_in self.old) text.now (rules_in self.new)) }
-    {
-        self.parse_within_reporting(&mut Warnings::new(rt), alloc, text, most)
-    }
-
-    /// Reads a text into the style sheet as [`StyleSheet::parse_within`] does. All that is skipped is
-    /// reported, in order.
-    pub fn parse_within_reporting<P: Report<'a>>(
-        &mut self,
-        report: &mut P,
-        alloc: Global,
-        text: &'a str,
-        most: usize,
-    ) -> Result<(), SheetError>
-        // The text is refused exactly if its rules would hold more declarations, unless an allocation
-        // fails first.
-        ensures limit { (result ≢ Err SheetError.Memory)
-            → (result ≡ Err SheetError.TooManyDeclarations)
-            ↔ (most < kept_declarations this_edition text.now) }
-        // The old rules that have a declaration and then those of the text, in order.
-        ensures ok { OnOk result (is_open_comment text.now ≡ false
-            → rules_in self.new
-            ≡ ordered (filter has_declaration (rules_in self.old) ++ kept this_edition text.now)) }
-        ensures nothing { is_open_comment text.now ≡ true → rules_in self.new ≡ rules_in self.old }
-        ensures err { OnErr result (rules_in self.new ≡ rules_in self.old) }
-        // If the old rules are the sheet of some texts, the new ones are the sheet of these and this
-        // one. Each of them has a declaration.
-        ensures sheet { (texts : List (List ℕ)) → rules_in self.old ≡ sheet this_edition texts
-            → OnOk result (rules_in self.new ≡ sheet this_edition (texts ++ text.now ∷ [])) }
-        ensures filled { (texts : List (List ℕ)) → rules_in self.old ≡ sheet this_edition texts
-            → AllPass has_declaration (rules_in self.new) }
-        // A text may be read in pieces that are cut where a statement ends.
-        ensures pieces { OnOk result
-            (ContinuesReading this_edition (rules_in self.old) text.now (rules_in self.new)) }
-        // Printed selectors and printed sheets read as what was printed.
-        ensures selectors { SelectorsReadBack this_edition (rules_in self.old)
-            → SelectorsReadBack this_edition (rules_in self.new) }
-        ensures prints_back { OnOk result
-            (PrintsBackAfter this_edition (rules_in self.old) text.now (rules_in self.new)) }
-        // The reporter receives exactly what reading the text skips, in order.
-        ensures reported { OnOk result (P.state report.new
-            ≡ add_each P.add (P.state report.old) (skipped this_edition text.now)) }
-    {
-        match reading::read_rules_within(report, alloc, text, most)? {
-            Some(more) => {
-                order::merge(&mut self.rules, more)?;
-                Ok(())
-            }
-            None => Ok(()),
         }
     }
 
@@ -299,14 +170,15 @@ impl<'a> StyleSheet<'a> {
     }
 }
 
-/// Returns all that reading a style sheet's text skips, in order. Fails only if an allocation fails.
+/// Returns all that reading a style sheet's text skips, in order. No rule is kept, so the memory is
+/// bounded by the text's length, whatever the rules would take. Fails only if an allocation fails.
 pub fn find_skipped<'a>(alloc: Global, text: &'a str) -> Result<Vec<Skipped<'a>>, AllocError>
     ensures { IfOk result (λ skips. map skip_of skips.items ≡ skipped this_edition text.now) }
 {
     let mut kept = Kept {
         skips: Vec::new(alloc),
     };
-    reading::read_rules(&mut kept, alloc, text)?;
+    reading::skip_statements(&mut kept, alloc, text)?;
     let Kept { skips } = kept;
     Ok(skips)
 }

@@ -1,6 +1,6 @@
 -- What every reader owes, as one record, and what keeps it: choosing, consuming a byte, reading one
 -- thing after another.
--- Serves the tokenizers, `read_value`, `StyleSheet::{parse, parse_all, parse_more}` and
+-- Serves the tokenizers, `read_value`, `StyleSheet::{parse, parse_more, read}` and
 -- `laws::{cutting_law, edition_law}`.
 use Rattle.std.proofs.Common.{◌≡◌, ℕ, ◌<◌, ◌⊎◌, List, [], ◌∷◌, ◌++◌, Bool, true, false, if◌then◌else◌, ◌==◌, length, arith, refl, ap, subst, sym, ◌∙◌, inl, inr, IsUtf8}
 use Rattle.simplecss_text.specs.AsciiBytes.{close_brace, hyphen}

@@ -1,6 +1,6 @@
 -- One law of locality: what a reading did not reach, it does not depend on. Two texts are alike up
 -- to where they part. A reader that stops before that offset reads both alike.
--- Serves `Lawful` (what every reader owes): `StyleSheet::{parse, parse_all, parse_more}` and
+-- Serves `Lawful` (what every reader owes): `StyleSheet::{parse, parse_more, read}` and
 -- `laws::cutting_law`.
 use Rattle.std.proofs.Common.{◌≡◌, ℕ, zero, suc, ◌+◌, ◌-◌, ◌<◌, ◌≤◌, List, [], ◌∷◌, ◌++◌, Bool, true, false, if◌then◌else◌, ◌==◌, length, take, drop, length-drop, length-append, Option, Some, None, arith, refl, ap, ◌⊎◌, inl, inr, one-add, IsUtf8}
 use Rattle.std.specs.List.{prefix_len}

@@ -1,6 +1,6 @@
 -- A name is read alike in texts that part after it. A lone hyphen that ends the first text is the
 -- one exception: it is a name, and before a further byte it is none.
--- Serves `Lawful` (what every reader owes): `StyleSheet::{parse, parse_all, parse_more}` and
+-- Serves `Lawful` (what every reader owes): `StyleSheet::{parse, parse_more, read}` and
 -- `laws::cutting_law`.
 use Rattle.std.proofs.Common.{◌≡◌, ℕ, ◌<◌, ◌≤◌, ◌⊎◌, inl, inr, List, [], ◌∷◌, ◌++◌, Bool, true, false, ◌&&◌, ◌==◌, length, arith, refl, sym, ap, ◌∙◌, subst, length-append, append_assoc, append-nil, IsUtf8}
 use Rattle.std.specs.Str.{chars}

@@ -1,5 +1,5 @@
 -- Searches, strings and blanks are read alike in texts that part after them.
--- Serves `Lawful` (what every reader owes): `StyleSheet::{parse, parse_all, parse_more}` and
+-- Serves `Lawful` (what every reader owes): `StyleSheet::{parse, parse_more, read}` and
 -- `laws::cutting_law`.
 use Rattle.std.proofs.Common.{◌≡◌, ℕ, ◌≤◌, List, [], ◌∷◌, ◌++◌, Bool, true, false, if◌then◌else◌, ◌==◌, ◌&&◌, not, length, length-append, Option, Some, None, arith, refl, sym, ap, ◌∙◌, ◌<◌, ◌⊎◌, inl, inr}
 use Rattle.std.proofs.lemmas.Bool.{and_parts}

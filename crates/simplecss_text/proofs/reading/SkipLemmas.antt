@@ -203,12 +203,3 @@ pub skips-rule_set : (edition : Edition) (text : List ℕ) → starts at_sign te
     → rule_set_skips edition text ≡ statement_skips edition text
 unfolding statement_skips
 skips-rule_set edition text e = rw e refl
-
--- of one more text
-pub skipped-more : (edition : Edition) (texts : List (List ℕ)) (text : List ℕ)
-    → flat_map (skipped edition) (texts ++ text ∷ []) ≡ flat_map (skipped edition) texts ++ skipped
-    edition text
-skipped-more edition texts text =
-    flat_map-append (skipped edition) texts (text ∷ [])
-    ∙ ap (λ (r : List Skip). flat_map (skipped edition) texts ++ r)
-    (append-nil (skipped edition text))

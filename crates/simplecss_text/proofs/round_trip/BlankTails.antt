@@ -1,5 +1,5 @@
 -- A blank is read alike in texts that differ only in a tail that it does not reach.
--- Serves `prints_back` of `StyleSheet::{parse, parse_all, parse_more}` (a sheet printed and read
+-- Serves `prints_back` of `StyleSheet::{parse, parse_more, read}` (a sheet printed and read
 -- again).
 use Rattle.std.proofs.Common.{◌≡◌, ℕ, zero, suc, ◌<◌, List, ◌∷◌, Bool, true, false, if◌then◌else◌, ◌&&◌, ◌==◌, length, Option, Some, None, arith, refl, sym, ap, ◌∙◌, subst, inl, inr}
 use Rattle.std.specs.Option.{option_map}

@@ -1,5 +1,5 @@
 -- The selectors of a sheet read back.
--- Serves `selectors` of `StyleSheet::{parse, parse_all, parse_more}` (the selectors of a sheet
+-- Serves `selectors` of `StyleSheet::{parse, parse_more, read}` (the selectors of a sheet
 -- printed and read again).
 use Rattle.std.proofs.Common.{false, ℕ, ◌≡◌, List, [], ◌∷◌, ◌++◌, false, filter, IsUtf8}
 use Rattle.std.specs.List.{AllByRecursion, All}

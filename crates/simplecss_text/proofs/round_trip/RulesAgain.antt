@@ -1,5 +1,5 @@
 -- A rule that was read, printed and read again.
--- Serves `prints_back` of `StyleSheet::{parse, parse_all, parse_more}` (a sheet printed and read
+-- Serves `prints_back` of `StyleSheet::{parse, parse_more, read}` (a sheet printed and read
 -- again).
 use Rattle.std.proofs.Common.{◌≡◌, ℕ, ◌<◌, ◌⊎◌, inl, inr, List, [], ◌∷◌, ◌++◌, Bool, true, false, if◌then◌else◌, not, ◌==◌, length, refl, sym, ap, ◌∙◌, subst, append_assoc, arith, Option, Some, None}
 use Rattle.std.specs.List.{flat_map, AllByRecursion}

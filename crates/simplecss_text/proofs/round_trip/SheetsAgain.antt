@@ -1,5 +1,5 @@
 -- A sheet that was read, printed and read again.
--- Serves `prints_back` of `StyleSheet::{parse, parse_all, parse_more}` (a sheet printed and read
+-- Serves `prints_back` of `StyleSheet::{parse, parse_more, read}` (a sheet printed and read
 -- again).
 use Rattle.std.proofs.Common.{subst, ◌≡◌, ℕ, List, [], ◌∷◌, ◌++◌, Bool, true, false, if◌then◌else◌, ◌==◌, length, map, filter, refl, sym, ap, ◌∙◌, append-nil, Option, Some, None}
 use Rattle.std.proofs.lemmas.Bool.{and_parts}

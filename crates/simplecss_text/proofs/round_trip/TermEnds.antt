@@ -1,5 +1,5 @@
 -- A term neither begins nor ends with white space of ASCII.
--- Serves `selectors` and `prints_back` of `StyleSheet::{parse, parse_all, parse_more}` (a sheet
+-- Serves `selectors` and `prints_back` of `StyleSheet::{parse, parse_more, read}` (a sheet
 -- printed and read again).
 use Rattle.std.proofs.Common.{◌≡◌, ℕ, suc, ◌<◌, ◌≤◌, ◌⊎◌, inl, inr, List, [], ◌∷◌, ◌++◌, Bool, true, false, if◌then◌else◌, ◌||◌, ◌&&◌, not, ◌==◌, nat_lt, length, get_or, Option, Some, None, arith, refl, sym, ap, ◌∙◌, subst, length-append, append_assoc, append-nil, encode_utf8, encode_utf8_all, IsUtf8, eqb-true}
 use Rattle.std.specs.List.{list_all}

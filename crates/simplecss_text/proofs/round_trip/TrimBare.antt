@@ -1,5 +1,5 @@
 -- A text that neither begins nor ends with white space is left by a trim as it is.
--- Serves `prints_back` of `StyleSheet::{parse, parse_all, parse_more}` (a sheet printed and read
+-- Serves `prints_back` of `StyleSheet::{parse, parse_more, read}` (a sheet printed and read
 -- again).
 use Rattle.std.proofs.Common.{◌≡◌, ℕ, ◌<◌, ◌≤◌, ◌⊎◌, inl, inr, List, [], ◌∷◌, ◌++◌, Bool, true, false, cond, ◌&&◌, ◌==◌, nat_le, length, arith, refl, sym, ap, ◌∙◌, subst, length-append, encode_utf8, encode_utf8_all, IsUtf8}
 use Rattle.std.specs.Char.{is_whitespace}

@@ -1,5 +1,5 @@
 -- A value that was read is read again before another tail.
--- Serves `prints_back` of `StyleSheet::{parse, parse_all, parse_more}` (a sheet printed and read
+-- Serves `prints_back` of `StyleSheet::{parse, parse_more, read}` (a sheet printed and read
 -- again).
 use Rattle.std.proofs.Common.{◌≡◌, ℕ, zero, suc, ◌<◌, ◌≤◌, ◌⊎◌, inl, inr, List, [], ◌∷◌, ◌++◌, Bool, true, false, length, arith, refl, sym, ap, ◌∙◌, subst, append_assoc, IsUtf8}
 use Rattle.std.proofs.lemmas.Bool.{or_parts}

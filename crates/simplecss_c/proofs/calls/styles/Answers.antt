@@ -1,18 +1,17 @@
-use Rattle.std.proofs.Common.{map, ap, ◌∙◌}
+use Rattle.std.proofs.Common.{map, ap, ◌∙◌, subst}
 use Rattle.simplecss.specs.RuleViews.{rules_of}
-use Rattle.simplecss.specs.Sheets.{sheet}
-use Rattle.simplecss.specs.ThisEdition.{this_edition}
-use Rattle.simplecss_c.specs.Calls.{passed_of}
+use Rattle.simplecss_c.specs.Calls.{IsReadWithin, passed_of}
 use Rattle.simplecss_c.specs.AnswerLines.{AreWinnersLines}
 use Rattle.simplecss_c.proofs.PageCalls.{page_due}
 use Rattle.simplecss_c.proofs.calls.styles.Goals as goal
 
 pub returns : goal.returns
 returns c =
-    page_due AreWinnersLines c.args.buffer.now c.args.ends.now (passed_of c.args.tree)
+    page_due AreWinnersLines c.args.buffer.now c.args.ends.now c.args.limit (passed_of c.args.tree)
     (map (λ text. text.now) c.in_ok-texts.texts.items) c.in_ok-tree.tree
     c.in_ok-texts.ensures c.in_ok-tree.ensures.0 c.in_ok-tree.ensures.1
     (rules_of c.deref-2.result.now)
-    (ap rules_of c.deref-2.ensures.value ∙ c.in_ok-sheet.ensures.sheet
-    ∙ ap (λ texts. sheet this_edition (map (λ text. text.now) texts)) c.deref.ensures.value)
+    (subst (λ texts. IsReadWithin c.args.limit (map (λ text. text.now) texts)
+    (rules_of c.deref-2.result.now)) c.deref.ensures.value
+    (ap rules_of c.deref-2.ensures.value ∙ c.in_ok-sheet.ensures.0, c.in_ok-sheet.ensures.1))
     c.winners_lines.result c.winners_lines.ensures

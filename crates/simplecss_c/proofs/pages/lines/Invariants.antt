@@ -5,6 +5,6 @@ use Rattle.simplecss_c.proofs.pages.lines.Given as goal
 
 -- the lines of the elements so far
 abbrev pub invariant-loop-element : goal.invariant-loop-element
-invariant-loop-element l =
-    LinesSoFar (IsLineOf l.content (map (λ rule. rule.selector) l.rules) l.tree) l.element
+invariant-loop-element g l =
+    LinesSoFar (IsLineOf l.content (map g.T.HasSelector.selector_in l.rules) l.tree) l.element
     (string_bytes l.text)

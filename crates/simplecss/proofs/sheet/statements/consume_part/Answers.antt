@@ -16,7 +16,7 @@ returns-in_ok-report_left-in-Some-clause-reported g c =
     let add = g.P.Report.add in
     let text : List ℕ = rest_of c.args.s.now in
     let before = g.P.Report.state c.args.report.now in
-    let middle = g.P.Report.state c.parse_front_reporting-read.new.report in
+    let middle = g.P.Report.state c.parse_front-read.new.report in
     add-part add this_edition text (rest_of c.skip_spaces.new.self)
     (Some c.in-Some.selector) before middle (g.P.Report.state c.report_left.new.report)
     (c.in-Ok.ensures.reported
@@ -35,7 +35,7 @@ returns-in-None-clause-reported g c =
     let add = g.P.Report.add in
     let text : List ℕ = rest_of c.args.s.now in
     let before = g.P.Report.state c.args.report.now in
-    let middle = g.P.Report.state c.parse_front_reporting-read.new.report in
+    let middle = g.P.Report.state c.parse_front-read.new.report in
     add-part add this_edition text (rest_of c.skip_spaces.new.self) None before middle middle
     (c.in-Ok.ensures.reported
     ∙ ap (λ (t : List ℕ). add_each add before (selector_skips this_edition t)) c.slice_tail.ensures)

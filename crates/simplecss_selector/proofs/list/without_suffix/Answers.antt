@@ -1,0 +1,30 @@
+use Rattle.std.proofs.Common.{◌≡◌, ◌-◌, ◌≤◌, ℕ, List, ◌++◌, Option, Some, None, Bool, true, false, eqb, length, take, ap, sym, subst, refl, ◌∙◌, arith, if◌then◌else◌}
+use Rattle.std.specs.Prelude.{MatchOption}
+use Rattle.std.specs.List.{ends_with}
+use Rattle.std.specs.Str.{IsCharBoundary}
+use Rattle.std.specs.Str.Pattern.{FindsTextSuffix}
+use Rattle.std.proofs.lemmas.Str.Pattern.{ends_text}
+use Rattle.simplecss_selector.specs.SelectorLists.{without_suffix}
+use Rattle.simplecss_selector.proofs.list.without_suffix.Goals as goal
+
+pub returns-in-Some : goal.returns-in-Some
+returns-in-Some c =
+    let found = c.in-Some.ensures.cases in
+    let suffix = c.args.suffix.now in
+    let text = c.args.text.now in
+    let n : found.0 ≡ length suffix = found.1.0 in
+    let ends : true ≡ ends_with eqb text suffix = ends_text true suffix text (
+      found.0,
+      found.1,
+      omega (arith, found.3),
+      subst (λ k. IsCharBoundary text (length text - k)) (sym n) found.1.2,
+    ) in
+    found.2 ∙ ap (λ k. take (length text - k) text) n
+    ∙ ap (λ (b : Bool). if b then take (length text - length suffix) text else text) ends
+
+pub returns-in-None : goal.returns-in-None
+returns-in-None c =
+    let suffix = c.args.suffix.now in
+    let text = c.args.text.now in
+    ap (λ (b : Bool). if b then take (length text - length suffix) text else text)
+    (ends_text false suffix text c.in-None.ensures.cases)
