@@ -38,7 +38,6 @@ ARM_TAGS = ("manylinux_2_17_aarch64", "musllinux_1_1_aarch64")
 # As the toolchain compiles its modules.
 FLAGS = ["-O3", "-ffunction-sections", "-fdata-sections", "--no-default-config", "-mllvm", "-sink-common-insts=false",
          "-mllvm", "-disable-machine-licm", "-mllvm", "-disable-postra-machine-licm"]
-CALLS = ("version", "selector", "list", "refusal", "sheet", "rules", "skipped", "match", "select", "style", "styles")
 
 
 class Missing(Exception):
@@ -291,7 +290,8 @@ Description: {SUMMARY}
         # The toolchain's linker is every linker, by its name.
         linker.unlink(missing_ok=True)
         linker.symlink_to(clang)
-        exports = [f"--export=simplecss_{it}" for it in CALLS]
+        calls = re.findall(r"(?m)^uint32_t (simplecss_\w+)\(", (TOP / "include/simplecss.h").read_text())
+        exports = [f"--export={it}" for it in calls]
         whole, lowered = self.room / "whole.wasm", self.room / "lowered.wasm"
         run(linker, "-mwasm64", "--no-entry", "--stack-first", "-z", "stack-size=1048576", "--gc-sections", *exports, "-o", whole, self.room / "library.o", self.room / "runtime.o")
         whole.write_bytes(without_table(whole.read_bytes()))
