@@ -1,7 +1,7 @@
 /* simplecss.h: CSS 2.1 selectors and style sheets, and which rules match the elements of a tree.
  *
- * A text is a pointer and a length in bytes, in UTF-8, and needs no zero byte at its end. A pointer
- * is never null, also where the length or the count is 0.
+ * A text is a pointer and a length in bytes, in UTF-8, and needs no zero byte at its end. Pointers must
+ * not be NULL, even if the length or the count is 0.
  *
  * Several texts of one style sheet are passed as one buffer that has them one after another, and an
  * array of where each ends. The ends do not fall, and the last is the length of the buffer.
@@ -23,9 +23,8 @@
  *   SIMPLECSS_TOO_SMALL     nothing was written; `*len` is the length that the answer needs
  *   any other               nothing was written; `*len` is 0
  *
- * Bytes of `out` after the answer are unchanged, and an answer has no zero byte at its end. A call
- * whose buffer is too small does its whole work again when it is repeated: pass a buffer of a likely
- * size first.
+ * Bytes of `out` after the answer are unchanged, and an answer has no zero byte at its end. A retry
+ * repeats all the work, so start with a buffer that is probably large enough.
  *
  * A call keeps nothing: any thread may call at any time, with an `out`, `len` and `fault` of its own;
  * threads may share what they pass for reading. The library allocates by malloc, realloc and free, and

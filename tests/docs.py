@@ -183,7 +183,7 @@ for first, *carriers in claims:
     expect(bool(carriers), f"tests/claims.txt: nothing carries {words!r}")
     for carrier in carriers:
         where, function, clause = carrier.strip().split(" ", 2)
-        found = contracts(read(where), function)
+        found = [read(where)] if where.endswith(".antt") else contracts(read(where), function)
         expect(any(spaced(clause) in spaced(contract) for contract in found), f"tests/claims.txt: {function} of {where} has no {clause!r}, which carries {words!r}")
 expect(len(claims) > 15, f"tests/claims.txt has {len(claims)} claims")
 
