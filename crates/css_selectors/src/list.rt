@@ -10,8 +10,8 @@ ghost use Rattle.css_syntax.specs.Views.{prelude_of};
 use crate::form::{SelectorForm, read_selector};
 use css_syntax::parts::{Stops, read_parts};
 use css_syntax::quality::{fault_of, is_good};
-use css_syntax::{Fault, Prelude};
 use css_syntax::texts::{past_byte, past_gap};
+use css_syntax::{Fault, Prelude};
 use simplecss_text::readers;
 
 /// A part of a list of selectors.

@@ -1,17 +1,14 @@
 -- Words and gaps that are skipped in runs of bytes.
 -- Serves `tokens::{skip_word, skip_gap, skip_token}`.
-use Rattle.std.proofs.Common.{◌≡◌, ℕ, ◌<◌, ◌≤◌, ◌==◌, ◌||◌, ◌&&◌, not, Bool, true, false, List, [], ◌∷◌, length, Option, Some, None, arith, refl, sym, ap, ◌∙◌, if◌then◌else◌}
-use Rattle.simplecss_text.specs.AsciiBytes.{backslash}
+use Rattle.std.proofs.Common.{◌≡◌, ℕ, ◌<◌, Bool, true, false, List, [], ◌∷◌, length, Some, None, arith, refl, ◌∙◌, ◌==◌, ◌&&◌, ◌||◌, not, eqb-true, if◌then◌else◌, ap}
 use Rattle.simplecss_text.specs.Reading.{each}
-use Rattle.simplecss_text.specs.Bytes.{past, past_one, starts, starts_by}
+use Rattle.simplecss_text.specs.Bytes.{past, past_one, starts_by}
 use Rattle.simplecss_text.specs.Characters.{is_space}
 use Rattle.simplecss_text.specs.Comments.{opens_comment}
-use Rattle.simplecss_text.specs.Strings.{is_quote}
-use Rattle.simplecss_text.proofs.bytes.RunLemmas.{past-yes, past-no, starts_by-past}
+use Rattle.simplecss_text.proofs.bytes.RunLemmas.{past-yes, past-no}
 use Rattle.simplecss_text.proofs.reading.TakesLemmas.{length-past}
-use Rattle.css_syntax.specs.declared.quality.Quality.{Quality}
 use Rattle.css_syntax.specs.declared.quality.Quality.TheVariants.{Whole}
-use Rattle.css_syntax.specs.Tokens.{is_newline, past_escape, begins_escape, past_comment, gap_part, past_gap, is_name_byte, name_part, past_word, is_either, escaped_char, past_letter, begins_url, begins_cdo, token}
+use Rattle.css_syntax.specs.Tokens.{past_escape, begins_escape, past_comment, gap_part, is_name_byte, name_part, token, past_word, past_letter}
 use Rattle.css_syntax.proofs.Shorter.{each-goes, gap_part-takes, name_part-takes, past_escape-within, past_comment-within}
 
 -- ---- words
@@ -21,7 +18,8 @@ unfolding name_part
 run-word [] = refl
 run-word (b ∷ text) = by (run-word text) (is_name_byte b) refl
   where
-    by : (each name_part (past is_name_byte text)).1 ≡ (each name_part text).1 → (t : Bool) → is_name_byte b ≡ t
+    by : (each name_part (past is_name_byte text)).1 ≡ (each name_part text).1 → (t : Bool)
+        → is_name_byte b ≡ t
         → (each name_part (past is_name_byte (b ∷ text))).1 ≡ (each name_part (b ∷ text)).1
     by more true e =
         let found : name_part (b ∷ text) ≡ Some (tt, text) = rw e refl in
@@ -58,7 +56,8 @@ unfolding gap_part
 run-gap [] = refl
 run-gap (b ∷ text) = by (run-gap text) (is_space b) refl
   where
-    by : (each gap_part (past is_space text)).1 ≡ (each gap_part text).1 → (t : Bool) → is_space b ≡ t
+    by : (each gap_part (past is_space text)).1 ≡ (each gap_part text).1 → (t : Bool)
+        → is_space b ≡ t
         → (each gap_part (past is_space (b ∷ text))).1 ≡ (each gap_part (b ∷ text)).1
     by more true e =
         let found : gap_part (b ∷ text) ≡ Some (tt, text) = rw e refl in
@@ -87,3 +86,40 @@ pub no_gap_part : (text : List ℕ) → opens_comment text ≡ false → starts_
 unfolding gap_part
 no_gap_part [] e s = refl
 no_gap_part (b ∷ text) e s = rw (s, e) refl
+
+-- ---- tokens
+
+-- a byte of a name is none of these
+not-this : (b k : ℕ) → is_name_byte b ≡ true → is_name_byte k ≡ false → (b == k) ≡ false
+not-this b k h n = by (b == k) refl
+  where
+    by : (t : Bool) → (b == k) ≡ t → (b == k) ≡ false
+    by true e =
+        absurd
+        (let same : is_name_byte b ≡ is_name_byte k = ap is_name_byte (eqb-true b k e) in cc)
+    by false e = e
+
+both-true : (a b : Bool) → (a && not b) ≡ true → (a ≡ true) × (b ≡ false)
+both-true true true e = absurd (cc)
+both-true true false e = (refl, refl)
+both-true false b e = absurd (cc)
+
+or-both : (a b : Bool) → (a || b) ≡ false → (a ≡ false) × (b ≡ false)
+or-both true b e = absurd (cc)
+or-both false b e = (refl, e)
+
+-- a word that begins no address
+pub plain-token : (text : List ℕ)
+    → starts_by (λ b. is_name_byte b && not (b == 117 || b == 85)) text ≡ true
+    → token text ≡ (Whole, past_word text)
+unfolding token past_letter
+plain-token [] e = absurd (cc)
+plain-token (b ∷ text) e =
+    let parts = both-true (is_name_byte b) (b == 117 || b == 85) e in
+    let letters = or-both (b == 117) (b == 85) parts.1 in
+    let slash_not = not-this b 47 parts.0 refl in
+    let single_not = not-this b 39 parts.0 refl in
+    let double_not = not-this b 34 parts.0 refl in
+    let backslash_not = not-this b 92 parts.0 refl in
+    let less_not = not-this b 60 parts.0 refl in
+    rw (slash_not, single_not, double_not, letters.0, letters.1, backslash_not, less_not, parts.0) refl

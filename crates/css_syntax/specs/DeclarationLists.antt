@@ -82,7 +82,7 @@ why_broken in_block quality rest =
 abbrev pub is_stated : Bool → List ℕ → Stated → List ℕ → Bool
 is_stated in_block name stated rest =
     is_good stated.quality && ends_at (declaration_ends in_block) rest
-    && (is_custom name || not (is_empty stated.text))
+    && (not (is_empty stated.text) || is_custom name)
 
 -- the declaration of this name, this value and this importance, with the rest after it; or it is
 -- broken

@@ -198,7 +198,7 @@ fn is_stated(in_block: bool, name: &str, value: &Parts<'_>, rest: &str) -> bool
 {
     is_good(value.quality)
         && ends_at(declaration_ends(in_block), rest.as_bytes())
-        && (is_custom(name.as_bytes()) || !value.text.is_empty())
+        && (!value.text.is_empty() || is_custom(name.as_bytes()))
 }
 
 /// The declaration of this name, value and importance, if it is one.

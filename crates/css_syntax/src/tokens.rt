@@ -1,6 +1,7 @@
 //! The tokens of CSS Syntax 3 (section 4.3), as far as where one ends depends on them. Each function
 //! takes the rest of a text and returns the rest after what it skips.
-ghost use Rattle.std.specs.Prelude.{◌≡◌, ◌≤◌, [], ◌∷◌, length, option_map, MatchOption, ◌<◌, true};
+ghost use Rattle.std.specs.Prelude.{◌≡◌, ◌≤◌, [], ◌∷◌, length, option_map};
+ghost use Rattle.std.specs.Prelude.{MatchOption, ◌<◌, true, not, ◌&&◌, ◌||◌, ◌==◌};
 ghost use Rattle.std.specs.Prelude.{Some};
 ghost use Rattle.std.specs.List.{prefix_len};
 ghost use Rattle.simplecss_text.specs.Reading.{each};
@@ -587,9 +588,9 @@ fn skip_other(byte: u8, rest: &[u8]) -> Skipped<'_>
     }
 }
 
-/// Skips a token that is no opening bracket.
+/// Skips a token that is no opening bracket, of whatever kind.
 #[tactic(auto, unfolding(crate::specs::Tokens::token))]
-pub fn skip_token(bytes: &[u8]) -> Skipped<'_>
+fn skip_any_token(bytes: &[u8]) -> Skipped<'_>
     ensures { token bytes.now ≡ (result.quality, result.rest.now) }
 {
     match bytes {
@@ -609,5 +610,35 @@ pub fn skip_token(bytes: &[u8]) -> Skipped<'_>
                 skip_other(*byte, rest)
             }
         }
+    }
+}
+
+/// Whether the byte is one of a name and begins no address.
+#[inline(always)]
+fn is_plain_name(byte: u8) -> bool
+    ensures { result ≡ (is_name_byte_of byte && not (byte == 117 || byte == 85)) }
+{
+    is_name_byte(byte) && !(byte == b'u' || byte == b'U')
+}
+
+/// Whether a word begins here that begins no address.
+#[inline(always)]
+fn begins_plain_name(bytes: &[u8]) -> bool
+    ensures { result ≡ starts_by (λ b. is_name_byte_of b && not (b == 117 || b == 85)) bytes.now }
+{
+    match bytes {
+        [] => false,
+        [byte, ..] => is_plain_name(*byte),
+    }
+}
+
+/// Skips a token that is no opening bracket. Most are words.
+pub fn skip_token(bytes: &[u8]) -> Skipped<'_>
+    ensures { token bytes.now ≡ (result.quality, result.rest.now) }
+{
+    if begins_plain_name(bytes) {
+        whole(skip_word(bytes))
+    } else {
+        skip_any_token(bytes)
     }
 }

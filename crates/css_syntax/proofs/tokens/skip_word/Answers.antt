@@ -1,8 +1,8 @@
-use Rattle.std.proofs.Common.{◌≡◌, ◌∙◌, sym, ap, length, arith, List, ℕ, true}
+use Rattle.std.proofs.Common.{◌≡◌, ◌∙◌, sym, ap, length, arith, List, ℕ}
 use Rattle.simplecss_text.specs.Reading.{each}
 use Rattle.simplecss_text.specs.Bytes.{past, past_one, starts_by}
 use Rattle.simplecss_text.proofs.bytes.RunLemmas.{starts_by-past}
-use Rattle.css_syntax.specs.Tokens.{begins_escape, past_escape, is_name_byte, name_part}
+use Rattle.css_syntax.specs.Tokens.{past_escape, is_name_byte, name_part}
 use Rattle.css_syntax.proofs.Shorter.{each-rests}
 use Rattle.css_syntax.proofs.RunSteps.{run-word, run-escape, escape-less, no_name_part}
 use Rattle.css_syntax.proofs.tokens.skip_word.Goals as goal
