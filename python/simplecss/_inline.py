@@ -125,6 +125,10 @@ Document = TypeVar("Document", str, bytes)
 Specificity = Tuple[int, ...]
 _GREATEST: Specificity = (256, 256, 256)
 _EVERYTHING = "*"
+# How deep at-rules are looked into.
+_DEEPEST = 16
+# What a rule may say that is not looked into.
+_ANYTHING = [Declaration("all", "", False), Declaration("all", "", True)]
 _ALL_FAMILIES = frozenset((_EVERYTHING,))
 
 
@@ -158,6 +162,7 @@ class _Statement:
         self.declarations: List[Declaration] = []
         # The families of the declarations that stay, too.
         self.left: Set[str] = set()
+        self.families: FrozenSet[str] = frozenset()
         self.is_whole = True
         # Why all of it stays.
         self.reason = "an at-rule" if head.startswith("@") else "a browser may drop the list"
@@ -271,6 +276,7 @@ def _sort(statement: _Statement) -> bool:
         statement.is_whole = False
         statement.going, statement.staying = going, staying
         statement.declarations = declarations(block)
+        statement.families = frozenset(family_of(each.name) for each in statement.declarations)
     return True
 
 
@@ -293,13 +299,17 @@ def _wider(selector: str) -> Tuple[str, Specificity]:
     return str(found), (ids, others + len(dropped), types)
 
 
-def _rules_of(css: str, number: int, is_layered: bool = False) -> Iterator[_Kept]:
+def _rules_of(css: str, number: int, is_layered: bool = False, level: int = 0) -> Iterator[_Kept]:
     """Yields the rules of statements that stay, also of those within at-rules."""
+    if level > _DEEPEST:
+        yield _Kept(_EVERYTHING, _GREATEST, number, _ANYTHING, is_layered)
+        return
     for head, block in statements(css):
         inner = block[1:-1]
         if head.startswith("@"):
             if re.match(r"@(?:-\w+-)?(?:media|supports|container|layer|scope|document)\b", head):
-                yield from _rules_of(inner, number, is_layered or head.startswith("@layer"))
+                is_inner = is_layered or head.startswith("@layer")
+                yield from _rules_of(inner, number, is_inner, level + 1)
             continue
         yield from _kept_rules(pieces(without_comments(head), ","), inner, number, is_layered)
 
@@ -310,8 +320,7 @@ def _kept_rules(
     found = declarations(block)
     if has_rules(block):
         # What rules within it say is not looked at: they may say anything of any element.
-        everything = [Declaration("all", "", False), Declaration("all", "", True)]
-        yield _Kept(_EVERYTHING, _GREATEST, number, found + everything, is_layered)
+        yield _Kept(_EVERYTHING, _GREATEST, number, found + _ANYTHING, is_layered)
         return
     for selector in selectors:
         # What a pseudo-element has is of another box.
@@ -356,6 +365,7 @@ class _Inliner:
                 self.kept.extend(_rules_of(text, number))
                 number += 1
         self.statements = [each for sheet in self.sheets for each in sheet.statements]
+        self.numbered = {each.number: each for each in self.statements}
         self.rules: List[List[_Group]] = []
         self.rule_selectors: List[str] = []
         self.prepared = self._prepare()
@@ -477,36 +487,27 @@ class _Inliner:
 
     def _leave(self, rules: List[int], families: FrozenSet[str]) -> None:
         """Notes that the declarations of families stay, of all rules that match an element."""
-        numbers = {self.rules[rule][0].number for rule in rules}
-        for statement in self.statements:
-            if statement.number in numbers:
-                for each in statement.declarations:
-                    family = family_of(each.name)
-                    if family in families or _EVERYTHING in families or family == _EVERYTHING:
-                        statement.left.add(family)
+        is_all = _EVERYTHING in families
+        for number in {self.rules[rule][0].number for rule in rules}:
+            statement = self.numbered[number]
+            for family in statement.families:
+                if is_all or family in families or family == _EVERYTHING:
+                    statement.left.add(family)
 
     def _texts(self, groups: List[_Group], rules: List[int]) -> List[str]:
         """Returns the declarations of the winners, each after those that it would beat if a browser
         may not know it."""
+        unknown = {each.name for each in groups if not _is_known(each.declarations[0].value)}
+        named: Dict[str, List[_Group]] = {name: [] for name in unknown}
+        for rule in rules if unknown else ():
+            for each in self.rules[rule]:
+                if each.name in unknown:
+                    named[each.name].append(each)
         found: List[str] = []
         for group in groups:
-            before: List[_Group] = []
-            if not _is_known(group.declarations[0].value):
-                before = self._beaten(group, rules)
-            for each in (*before, group):
+            for each in _beaten(group, named.get(group.name, [])):
                 found.extend(map(str, each.declarations))
-        return found
-
-    def _beaten(self, winner: _Group, rules: List[int]) -> List[_Group]:
-        """Returns what a winner beats, from the last that every browser knows on."""
-        found: List[_Group] = []
-        for rule in rules:
-            found += [each for each in self.rules[rule] if each.name == winner.name]
-        found.sort(key=lambda each: (each.important, each.specificity, each.number))
-        found = found[: found.index(winner)]
-        for at in range(len(found) - 1, -1, -1):
-            if _is_known(found[at].declarations[0].value):
-                return found[at:]
+            found.extend(map(str, group.declarations))
         return found
 
     def _keep_clients(self, used: Set[int]) -> None:
@@ -527,6 +528,18 @@ class _Inliner:
                 self.page.set_sheet(sheet.content, kept)
 
 
+def _beaten(winner: _Group, groups: List[_Group]) -> List[_Group]:
+    """Returns what a winner beats of its name, from the last that every browser knows on."""
+    if not groups:
+        return []
+    groups = sorted(groups, key=lambda each: (each.important, each.specificity, each.number))
+    groups = groups[: groups.index(winner)]
+    for at in range(len(groups) - 1, -1, -1):
+        if _is_known(groups[at].declarations[0].value):
+            return groups[at:]
+    return groups
+
+
 def _is_in(name: str, families: FrozenSet[str]) -> bool:
     return bool(families) and (_EVERYTHING in families or family_of(name) in families)
 
@@ -536,22 +549,37 @@ def _is_known(value: str) -> bool:
     return _PLAIN_VALUE.fullmatch(value) is not None
 
 
+def _by_family(groups: List[_Group]) -> Dict[Tuple[str, bool], List[_Group]]:
+    """Returns what would be written by family and importance, the weakest first."""
+    found: Dict[Tuple[str, bool], List[_Group]] = {}
+    for group in sorted(groups, key=lambda each: (each.specificity, each.number)):
+        found.setdefault((family_of(group.name), group.important), []).append(group)
+    return found
+
+
 def _left_families(groups: List[_Group], rivals: List[_Kept]) -> FrozenSet[str]:
     """Returns the families of which a rule that stays may beat what would be written."""
     found: Set[str] = set()
+    families = _by_family(groups) if rivals else {}
     for rival in rivals:
         for declaration in rival.declarations:
-            family = family_of(declaration.name)
-            for group in groups:
-                if group.important != declaration.important or declaration in group.declarations:
-                    continue
-                if rival.is_layered and not declaration.important:
-                    continue
-                mine = family_of(group.name)
-                is_rival = family == mine or _EVERYTHING in (family, mine)
-                if is_rival and (rival.specificity, rival.number) >= (group.specificity, group.number):
-                    found.add(mine)
+            if rival.is_layered and not declaration.important:
+                continue
+            name = family_of(declaration.name)
+            names = {name, _EVERYTHING}
+            if name == _EVERYTHING:
+                names = {family for family, _ in families}
+            for family in names - found:
+                mine = families.get((family, declaration.important), [])
+                if any(_may_beat(rival, declaration, each) for each in mine):
+                    found.add(family)
     return frozenset(found)
+
+
+def _may_beat(rival: _Kept, declaration: Declaration, group: _Group) -> bool:
+    """Whether a declaration of a rule that stays may beat another one that would be written."""
+    is_stronger = (rival.specificity, rival.number) >= (group.specificity, group.number)
+    return is_stronger and declaration not in group.declarations
 
 
 def _rebased(css: str, base: str) -> str:

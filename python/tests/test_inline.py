@@ -214,6 +214,12 @@ class KeptRules(unittest.TestCase):
         self.assertEqual(inline("<p><style>p { n: 1 }</style>"), '<p style="n: 1"><style></style>')
 
 
+    def test_time_of_hostile_sheets(self):
+        for unit in ("a{", "@media{", "@media x{a{", "(", "/*", "url(", "a:hover,", "a{b:(", "\\", "a{&b{"):
+            inline("<a>", unit * (20_000 // len(unit)))
+        self.assertEqual(style_of("a { n: 1 }" + "@media x{" * 99 + "a { n: 2 }", "<a>"), "")
+
+
 class Options(unittest.TestCase):
     """What premailer and juice have, too."""
 
