@@ -121,7 +121,7 @@ def children(words_of_parent, count):
 def utilities(count):
     """Elements with 8 of 400 classes, each of which sets one thing, in boxes of eight."""
     chosen = lambda i: " ".join(f"u-{(i * 37 + 53 * k * k + 11 * k) % 400}" for k in range(8))
-    return tree_of(f"{0 if i == 0 else 1 + (i % 8 > 0) + (i % 64 > 7)}\tdiv\tclass={chosen(i)}" for i in range(count))
+    return tree_of(f"{min(i, 1 if i % 8 == 1 else 2)}\tdiv\tclass={chosen(i)}" for i in range(count))
 
 
 def utility_sheet(count):
@@ -164,7 +164,7 @@ def put(name, text):
 
 
 def timed(binary, args):
-    """The processor time of a run in milliseconds, the most memory that was resident in MB, and its output."""
+    """The processor time of a run, and its output."""
     with tempfile.TemporaryFile() as output, open(os.devnull, "r+b") as null:
         child = subprocess.Popen([binary, *args], stdin=null, stdout=output, stderr=null)
         _, status, usage = os.wait4(child.pid, 0)
@@ -172,26 +172,24 @@ def timed(binary, args):
         if child.returncode != 0:
             sys.exit(f"{binary} ends with {child.returncode} at {args}")
         output.seek(0)
-        return 1000 * (usage.ru_utime + usage.ru_stime), usage.ru_maxrss / 1000, output.read()
+        return 1000 * (usage.ru_utime + usage.ru_stime), output.read()
 
 
 def compared(args, runs):
-    """The least time and memory of each program that has the command, one run of each after another, and None for one that has not."""
+    """The least time of each program that has the command, one run of each after another, and None for one that has not."""
     programs = [program, *(path if args[0] in commands else None for _, _, path, commands in others)]
     best = [path and float("inf") for path in programs]
-    most = [path and float("inf") for path in programs]
     for _ in range(runs):
         answer = None
         for number, path in enumerate(programs):
             if not path:
                 continue
-            spent, memory, output = timed(path, args)
+            spent, output = timed(path, args)
             best[number] = min(best[number], spent)
-            most[number] = min(most[number], memory)
             if answer not in (None, output):
                 sys.exit(f"{path} answers otherwise to {args}")
             answer = output
-    return best, most
+    return best
 
 
 css = fetched("libjs-bootstrap4", "bootstrap.css")
@@ -210,8 +208,8 @@ curves = {"reading": [], "matching": []}
 
 
 def row(what, args, runs=words.runs):
-    best, most = compared(args, runs)
-    rows.append((what, best, most))
+    best = compared(args, runs)
+    rows.append((what, best))
     print(f"{what:44}" + "".join(f" {b:12.1f} ms" if b else " " * 16 for b in best), flush=True)
     return best
 
@@ -239,7 +237,7 @@ if not words.quick:
     row("style: color on the page", ["style", sheet, whole, "color"], 3)
     leaf = put("leaf.css", rules(200, ".q{0} .leaf"))
     states = put("drawing.css", "path { b:c }\n[fill] { b:c }\ng > path { b:c }\n#g40 path { b:c }\n")
-    deep = put("deep.css", rules(97, ".c{0} div") + "div { b:c }\n")
+    deep = put("deep.css", rules(97, ".x{0} .c{0}") + ".c1 .c5 { b:c }\n")
     for what, css, tree in [
         ("200 rules on 2,000 leaves under 50 ancestors", leaf, below(50, 2_000)),
         ("200 rules on 300 leaves under 500 ancestors", leaf, below(500, 300)),
@@ -295,11 +293,11 @@ def processor():
 
 table = [f"Machine: {processor()}, {os.cpu_count()} processors. Date: {time.strftime('%Y-%m-%d')}. Texts: {source}.", ""]
 names = [name for name, _, _, _ in others]
-table.append("| | `cssq`, ms |" + "".join(f" {name}, ms | times |" for name in names) + " `cssq`, MB |" + "".join(f" {name}, MB |" for name in names))
-table.append("|---|---|" + "---|---|" * len(names) + "---|" + "---|" * len(names))
-for what, best, most in rows:
+table.append("| | `cssq`, ms |" + "".join(f" {name}, ms | times |" for name in names))
+table.append("|---|---|" + "---|---|" * len(names))
+for what, best in rows:
     ours = best[0]
-    table.append(f"| {what} | {ours:.1f} |" + "".join(f" {b:.1f} | {b / ours:.2f} |" if b else " | |" for b in best[1:]) + "".join(f" {m:.1f} |" if m else " |" for m in most))
+    table.append(f"| {what} | {ours:.1f} |" + "".join(f" {b:.1f} | {b / ours:.2f} |" if b else " | |" for b in best[1:]))
 put("speed.md", "\n".join(table) + "\n")
 put("speed.svg", picture())
 print(f"written: {os.path.join(words.out, 'speed.md')} and speed.svg")
