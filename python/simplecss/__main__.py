@@ -14,7 +14,7 @@ from typing import Any, Callable, List, Optional, Sequence, Tuple
 from . import _lint
 from ._encoding import decode_page
 from ._inline import NotWritten, inline
-from ._library import LibraryError, __version__
+from ._library import LibraryError, LimitError, __version__
 from ._page import Page
 from ._selectors import SelectorError
 from ._sheet import StyleSheet
@@ -351,6 +351,8 @@ def _run(words: argparse.Namespace) -> Tuple[int, str]:
         return REFUSED, str(error)
     except UnicodeEncodeError:
         return USAGE, "a word or a name of a file is not UTF-8"
+    except LimitError as error:
+        return REFUSED, str(error)
     except MemoryError:
         return OUT_OF_MEMORY, "out of memory"
     except BrokenPipeError:

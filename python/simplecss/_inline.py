@@ -167,7 +167,7 @@ class _Statement:
         # Why all of it stays.
         self.reason = "an at-rule" if head.startswith("@") else "a browser may drop the list"
 
-    def groups(self, specificity: Specificity) -> List[_Group]:
+    def groups(self) -> List[_Group]:
         """Returns the declarations by name and importance, each where its last one is."""
         groups: Dict[Tuple[str, bool], List[Declaration]] = {}
         for declaration in self.declarations:
@@ -175,7 +175,7 @@ class _Statement:
             group = groups.pop(key, [])
             group.append(declaration)
             groups[key] = group
-        return [_Group(tuple(group), specificity, self.number) for group in groups.values()]
+        return [_Group(tuple(group), (), self.number) for group in groups.values()]
 
     def kept(self) -> List[str]:
         """Returns the text that stays."""
@@ -366,8 +366,11 @@ class _Inliner:
                 number += 1
         self.statements = [each for sheet in self.sheets for each in sheet.statements]
         self.numbered = {each.number: each for each in self.statements}
+        # How many declarations the rules may hold yet.
+        self.room = library.USUAL_LIMIT
         self.rules: List[List[_Group]] = []
         self.rule_selectors: List[str] = []
+        self.lefts: Dict[Tuple[Tuple[int, ...], Tuple[int, ...]], FrozenSet[str]] = {}
         self.prepared = self._prepare()
 
     def _read(self, content: Content) -> Optional[str]:
@@ -389,11 +392,13 @@ class _Inliner:
         for statement in self.statements:
             if statement.is_whole or statement.staying:
                 self._keep(statement)
-            for selector, specificity in statement.going:
-                groups = statement.groups(specificity)
-                if groups:
-                    self.rule_selectors.append(selector)
-                    self.rules.append(groups)
+            groups = statement.groups()
+            self.room -= len(groups) * len(statement.going)
+            if self.room < 0:
+                raise library.LimitError("the rules would hold more declarations than the limit")
+            for selector, specificity in statement.going if groups else ():
+                self.rule_selectors.append(selector)
+                self.rules.append([each._replace(specificity=specificity) for each in groups])
         rewrite = self.tree._reading.rewrite
         return Prepared(
             (rewrite(str(Selector(selector)), '"'),
@@ -429,7 +434,7 @@ class _Inliner:
                 self._leave(rules, _ALL_FAMILIES)
                 continue
             groups = [values[each] for each in winners[index]]
-            left = _left_families(groups, rivals.get(index, []))
+            left = self._left(winners[index], rivals.get(index, []))
             if left:
                 self._leave(rules, left)
             groups = [each for each in groups if not _is_in(each.name, left)]
@@ -478,12 +483,24 @@ class _Inliner:
                 yield NotWritten(selectors, "a rule that stays could override it")
 
     def _rivals(self) -> Dict[int, List[_Kept]]:
-        """Returns for each element the rules that stay and may match it."""
-        found: Dict[int, List[_Kept]] = {}
+        """Returns for each element the rules that stay and may match it; of those of one rule set the
+        one of the greatest specificity."""
+        found: Dict[int, Dict[int, _Kept]] = {}
         for rule in self.kept:
             for index in self.tree._found(rule.selector):
-                found.setdefault(index, []).append(rule)
-        return found
+                rules = found.setdefault(index, {})
+                other = rules.get(id(rule.declarations))
+                if other is None or other.specificity < rule.specificity:
+                    rules[id(rule.declarations)] = rule
+        return {index: list(rules.values()) for index, rules in found.items()}
+
+    def _left(self, winners: List[int], rivals: List[_Kept]) -> FrozenSet[str]:
+        """Returns the families of the winners that rules which stay may override."""
+        key = (tuple(winners), tuple(map(id, rivals)))
+        if key not in self.lefts:
+            values: List[Any] = self.prepared.values
+            self.lefts[key] = _left_families([values[each] for each in winners], rivals)
+        return self.lefts[key]
 
     def _leave(self, rules: List[int], families: FrozenSet[str]) -> None:
         """Notes that the declarations of families stay, of all rules that match an element."""

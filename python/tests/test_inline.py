@@ -217,6 +217,10 @@ class KeptRules(unittest.TestCase):
     def test_time_of_hostile_sheets(self):
         for unit in ("a{", "@media{", "@media x{a{", "(", "/*", "url(", "a:hover,", "a{b:(", "\\", "a{&b{"):
             inline("<a>", unit * (20_000 // len(unit)))
+        many = ",".join(["a"] * 2000), ";".join(f"p{number}:1" for number in range(2000))
+        with self.assertRaises(ValueError):
+            inline("<a>", "%s{%s}" % many)
+        inline("<a>" * 100, "a{b:c}" + "%s{%s}" % (many[0].replace(",", ":hover,"), many[1]))
         self.assertEqual(style_of("a { n: 1 }" + "@media x{" * 99 + "a { n: 2 }", "<a>"), "")
 
 
