@@ -17,7 +17,8 @@ FoundItem : Bool → List ℕ → Option (ListText × List ℕ) → Type 0
 FoundItem in_block start None = ends_block in_block start ≡ true
 FoundItem in_block start (Some x) = x.0.text ++ x.1 ≡ start
 
-item-found : (in_block : Bool) (start : List ℕ) → FoundItem in_block start (item_from in_block start)
+item-found : (in_block : Bool) (start : List ℕ)
+    → FoundItem in_block start (item_from in_block start)
 unfolding FoundItem
 item-found in_block start = by (ends_block in_block start) refl
   where
@@ -47,7 +48,8 @@ items-then : (in_block : Bool) (text rest : List ℕ) (p : ListText)
 unfolding FoundItem
 items-then in_block text rest p e more =
     let start = past_separators text in
-    let piece : p.text ++ rest ≡ start = subst (FoundItem in_block start) e (next-found in_block text) in
+    let piece : p.text ++ rest
+    ≡ start = subst (FoundItem in_block start) e (next-found in_block text) in
     subst (λ (ps : List ListText). IsCutUp in_block past_separators text (item_texts ps))
     (sym (items-some in_block text rest p e))
     (piece_then text p.text rest (item_texts (items in_block rest))

@@ -245,9 +245,11 @@ ident-word : (b : ℕ) (text : List ℕ) → begins_ident (b ∷ text) ≡ true
 ident-word b text h = by (b == hyphen) refl
   where
     by : (t : Bool) → (b == hyphen) ≡ t → (is_name_byte b || begins_escape (b ∷ text)) ≡ true
-    by true e = hyphen-word (is_letter b) (is_digit b) (b == underscore) (b == hyphen) (nat_le 128 b)
+    by true e = hyphen-word (is_letter b) (is_digit b) (b == underscore) (b == hyphen)
+        (nat_le 128 b)
         (begins_escape (b ∷ text)) e
-    by false e = plain-word (is_letter b) (is_digit b) (b == underscore) (b == hyphen) (nat_le 128 b)
+    by false e =
+        plain-word (is_letter b) (is_digit b) (b == underscore) (b == hyphen) (nat_le 128 b)
         (begins_escape (b ∷ text)) (rw e at h)
 
 declaration-less : (in_block : Bool) (b : ℕ) (text : List ℕ)
@@ -260,7 +262,8 @@ declaration-less in_block b text e = by (begins_ident (b ∷ text)) refl
         → length (declaration in_block (b ∷ text)).1 ≤ length text
     by true f =
         let word = past_word (b ∷ text) in
-        rw f (named-within in_block (length text) (b ∷ text) (before (b ∷ text) word) (past_gap word)
+        rw f (named-within in_block (length text) (b ∷ text) (before (b ∷ text) word)
+        (past_gap word)
         (parts-less (declaration_ends in_block) b text e)
         (omega (arith, past_gap-within word, word-less b text (ident-word b text f))))
     by false f = rw f (parts-less (declaration_ends in_block) b text e)
@@ -312,7 +315,8 @@ next_item-takes in_block text =
   where
     some : (b : ℕ) (start : List ℕ) (t : Bool) → ends_block in_block (b ∷ start) ≡ t
         → separator_part (b ∷ start) ≡ None → length (b ∷ start) ≤ length text
-        → Shrinks text (if t then None else Some (list_with_text (b ∷ start) (item in_block (b ∷ start))))
+        → Shrinks text (if t
+        then None else Some (list_with_text (b ∷ start) (item in_block (b ∷ start))))
     some b start true e g h = tt
     some b start false e g h =
         omega (
@@ -359,7 +363,8 @@ at_rule-well in_block text =
     well-then text start (at_rule in_block text).1 (well-past_byte at_sign text (omega arith))
     (well-then start after (at_rule in_block text).1 (word-well start)
     (well-then after (past_gap after) (at_rule in_block text).1 (gap-well after)
-    (well-then (past_gap after) prelude.1 (at_rule in_block text).1 (parts-well stops (past_gap after))
+    (well-then (past_gap after) prelude.1 (at_rule in_block text).1 (parts-well stops
+    (past_gap after))
     (at_rule_ended-well name prelude.0 prelude.1))))
 
 rule_set_ended-well : (prelude : Stated) (rest : List ℕ)

@@ -27,7 +27,8 @@ pub statements-some : (in_block : Bool) (text rest : List ℕ) (p : SheetText)
     → statements in_block text ≡ p ∷ statements in_block rest
 unfolding statements
 statements-some in_block text rest p e =
-    ap (λ r. r.0) (each-some (next_statement in_block) (next_statement-takes in_block) text rest p e)
+    ap (λ r. r.0) (each-some (next_statement in_block)
+    (next_statement-takes in_block) text rest p e)
 
 pub statements-none : (in_block : Bool) (text : List ℕ) → next_statement in_block text ≡ None
     → statements in_block text ≡ []

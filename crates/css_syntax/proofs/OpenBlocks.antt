@@ -172,7 +172,8 @@ pub resume-open : (depth waiting next n b : ℕ) (text : List ℕ)
 unfolding block_of component_value
 resume-open depth waiting next n b text e opener rest closer =
     let inner = each (value_inside (component_value n) (mirror b)) text in
-    let value : component_value (suc n) (b ∷ text) ≡ (first_flaw (flaw_of_all inner.0) (end_quality inner.1), past_byte (mirror b) inner.1)
+    let value : component_value (suc n) (b ∷ text)
+    ≡ (first_flaw (flaw_of_all inner.0) (end_quality inner.1), past_byte (mirror b) inner.1)
     = rw opener refl in
     resume-value depth waiting (suc n) b text e
     ∙ ap (λ (x : Quality × List ℕ). also x.0 (resume (suc depth) waiting (suc n) x.1)) value
@@ -236,7 +237,8 @@ open-at (suc d) waiting kind b text h l e opener k closer =
     let fewer : 64 - suc d ≡ suc (64 - (suc d + 1)) = omega arith in
     let deeper : suc (suc d) ≡ suc d + 1 = omega arith in
     ap (λ (m : ℕ). resume (suc d) waiting m (b ∷ text)) fewer
-    ∙ resume-open d waiting next (64 - (suc d + 1)) b text e opener others (ap closer_of digit ∙ closer)
+    ∙ resume-open d waiting next (64 - (suc d + 1)) b text e opener others (ap closer_of digit
+    ∙ closer)
     ∙ ap (λ (k : ℕ). resume k next (64 - (suc d + 1)) text) deeper
 
 pub deep-at : (depth waiting b : ℕ) (text : List ℕ) → depth ≡ 64
@@ -295,7 +297,8 @@ at-end (suc depth) waiting n rest quality h e =
     ∙ ap (also quality) (resume-end depth waiting n)
     ∙ ap (λ (t : List ℕ). (first_flaw quality Open, t)) (sym e)
 
-pub step-close : (depth waiting b : ℕ) (rest after : List ℕ) (quality : Quality) → 0 < depth → depth ≤ 64
+pub step-close : (depth waiting b : ℕ) (rest after : List ℕ) (quality : Quality) → 0 < depth
+    → depth ≤ 64
     → rest ≡ b ∷ after → b ≡ closer_of (waiting % 4)
     → also quality (resume (depth - 1) (waiting / 4) (64 - (depth - 1)) after)
     ≡ also quality (resume depth waiting (64 - depth) rest)

@@ -223,5 +223,6 @@ pub pair-slice : (read : List ℕ → Quality × List ℕ) → LeavesEnd (rest_b
 pair-slice read well bytes text rest back quality e h b =
     let left : rest ≡ rest_by read bytes = sym (ap (λ (r : Quality × List ℕ). r.1) h) in
     let same : rest ≡ back =
-    left ∙ ap (rest_by read) e ∙ sym (left-slice (rest_by read) well bytes text rest back e left b) in
+    left ∙ ap (rest_by read) e
+    ∙ sym (left-slice (rest_by read) well bytes text rest back e left b) in
     ap read (sym e) ∙ h ∙ ap (λ (t : List ℕ). (quality, t)) same

@@ -13,7 +13,8 @@ use Rattle.css_syntax.proofs.Shorter.{each-goes, gap_part-takes, name_part-takes
 
 -- ---- words
 
-pub run-word : (text : List ℕ) → (each name_part (past is_name_byte text)).1 ≡ (each name_part text).1
+pub run-word : (text : List ℕ)
+    → (each name_part (past is_name_byte text)).1 ≡ (each name_part text).1
 unfolding name_part
 run-word [] = refl
 run-word (b ∷ text) = by (run-word text) (is_name_byte b) refl
@@ -43,7 +44,8 @@ escape-less [] e = absurd (cc)
 escape-less (b ∷ text) e =
     omega (arith, length-past is_name_byte (past_escape text), past_escape-within text)
 
-pub no_name_part : (text : List ℕ) → begins_escape text ≡ false → starts_by is_name_byte text ≡ false
+pub no_name_part : (text : List ℕ) → begins_escape text ≡ false
+    → starts_by is_name_byte text ≡ false
     → name_part text ≡ None
 unfolding name_part
 no_name_part [] e s = refl
@@ -122,4 +124,5 @@ plain-token (b ∷ text) e =
     let double_not = not-this b 34 parts.0 refl in
     let backslash_not = not-this b 92 parts.0 refl in
     let less_not = not-this b 60 parts.0 refl in
-    rw (slash_not, single_not, double_not, letters.0, letters.1, backslash_not, less_not, parts.0) refl
+    rw (slash_not, single_not, double_not, letters.0, letters.1, backslash_not, less_not, parts.0)
+    refl

@@ -44,7 +44,8 @@ past_hex-within : (n : ℕ) (text : List ℕ) → length (past_hex n text) ≤ l
 past_hex-within zero text = omega arith
 past_hex-within (suc n) [] = omega arith
 past_hex-within (suc n) (b ∷ text) =
-    if-le (length (b ∷ text)) (is_hex_digit b) _ _ (omega (arith, past_hex-within n text)) (omega arith)
+    if-le (length (b ∷ text)) (is_hex_digit b) _ _ (omega (arith, past_hex-within n text))
+    (omega arith)
 
 pub past_escape-within : (text : List ℕ) → length (past_escape text) ≤ length text
 unfolding past_escape
@@ -82,21 +83,24 @@ unfolding string_part
 string_part-takes quote [] = tt
 string_part-takes quote (b ∷ text) =
     if-shrinks (b ∷ text) (b == quote || is_newline b) _ _ tt
-    (if-shrinks (b ∷ text) (b == backslash) _ _ (omega (arith, past_escape-within text)) (omega arith))
+    (if-shrinks (b ∷ text) (b == backslash) _ _ (omega (arith, past_escape-within text))
+    (omega arith))
 
 pub name_part-takes : Takes name_part
 unfolding name_part
 name_part-takes [] = tt
 name_part-takes (b ∷ text) =
     if-shrinks (b ∷ text) (is_name_byte b) _ _ (omega arith)
-    (if-shrinks (b ∷ text) (begins_escape (b ∷ text)) _ _ (omega (arith, past_escape-within text)) tt)
+    (if-shrinks (b ∷ text) (begins_escape (b ∷ text)) _ _ (omega
+    (arith, past_escape-within text)) tt)
 
 pub url_part-takes : Takes url_part
 unfolding url_part
 url_part-takes [] = tt
 url_part-takes (b ∷ text) =
     if-shrinks (b ∷ text) (begins_escape (b ∷ text)) _ _ (omega (arith, past_escape-within text))
-    (if-shrinks (b ∷ text) (b == close_parenthesis || is_space b || is_never_bare b) _ _ tt (omega arith))
+    (if-shrinks (b ∷ text) (b == close_parenthesis || is_space b || is_never_bare b) _ _ tt
+    (omega arith))
 
 pub remnant_part-takes : Takes remnant_part
 unfolding remnant_part
@@ -118,7 +122,8 @@ past_string-within quote text =
     by (each (string_part quote) text).1
     (each-within (string_part quote) (string_part-takes quote) text)
   where
-    by : (rest : List ℕ) → length rest ≤ length text → length (string_end quote rest).1 ≤ length text
+    by : (rest : List ℕ) → length rest ≤ length text
+        → length (string_end quote rest).1 ≤ length text
     by [] h = h
     by (b ∷ rest) h = if-within (length text) (b == quote) _ _ (omega arith) h
 
@@ -184,7 +189,8 @@ then_letter-leaves : (low up : ℕ) (text : List ℕ) (o : Option (List ℕ)) �
 unfolding past_letter
 then_letter-leaves low up text None h = tt
 then_letter-leaves low up text (Some []) h = tt
-then_letter-leaves low up text (Some (b ∷ rest)) h = by (past_letter low up (b ∷ rest)) (letter-leaves low up b rest)
+then_letter-leaves low up text (Some (b ∷ rest)) h =
+    by (past_letter low up (b ∷ rest)) (letter-leaves low up b rest)
   where
     by : (o : Option (List ℕ)) → Leaves rest o → Leaves text o
     by None k = tt
@@ -200,7 +206,8 @@ then_open-leaves text (Some (b ∷ rest)) h =
     by true = omega arith
     by false = tt
 
-after_url-within : (b : ℕ) (text : List ℕ) → length (from_close (after_url (b ∷ text))) ≤ length text
+after_url-within : (b : ℕ) (text : List ℕ)
+    → length (from_close (after_url (b ∷ text))) ≤ length text
 after_url-within b text =
     by (after_url (b ∷ text)) (then_open-leaves text _ (then_letter-leaves 108 76 text _
     (then_letter-leaves 114 82 text _ (letter-leaves 117 85 b text))))

@@ -1,5 +1,5 @@
--- What is left after each reader is an end of the text, and UTF-8 if the text is: so all slices of a
--- text are texts.
+-- What is left after each reader is an end of the text, and UTF-8 if the text is: so all slices of
+-- a text are texts.
 -- Serves `texts::read_text_value`.
 use Rattle.std.proofs.Common.{◌≡◌, ℕ, zero, suc, ◌<◌, ◌==◌, ◌||◌, ◌&&◌, Bool, true, false, List, [], ◌∷◌, ◌++◌, drop, Option, Some, None, arith, refl, sym, subst, if◌then◌else◌, eqb-true, IsUtf8, not}
 use Rattle.std.proofs.lemmas.Bool.Decides.{nat_tests}
@@ -229,7 +229,8 @@ EndsMaybe : List ℕ → Option (List ℕ) → Type 0
 EndsMaybe text None = Unit {0}
 EndsMaybe text (Some rest) = Ends text rest
 
-letter-ends : (low up : ℕ) (all text : List ℕ) → Ends all text → EndsMaybe all (past_letter low up text)
+letter-ends : (low up : ℕ) (all text : List ℕ) → Ends all text
+    → EndsMaybe all (past_letter low up text)
 unfolding past_letter EndsMaybe
 letter-ends low up all [] e = tt
 letter-ends low up all (b ∷ text) e =
@@ -247,7 +248,8 @@ unfolding EndsMaybe
 then_letter-ends low up all None h = tt
 then_letter-ends low up all (Some text) h = letter-ends low up all text h
 
-then_open-ends : (all : List ℕ) (o : Option (List ℕ)) → EndsMaybe all o → EndsMaybe all (then_open o)
+then_open-ends : (all : List ℕ) (o : Option (List ℕ)) → EndsMaybe all o
+    → EndsMaybe all (then_open o)
 unfolding EndsMaybe
 then_open-ends all None h = tt
 then_open-ends all (Some []) h = tt
@@ -273,7 +275,8 @@ and-first : (a b : Bool) → (a && b) ≡ true → a ≡ true
 and-first true b e = refl
 and-first false b e = e
 
-pub cdo-well : (b : ℕ) (text : List ℕ) → begins_cdo (b ∷ text) ≡ true → EndsWell (b ∷ text) (drop 3 text)
+pub cdo-well : (b : ℕ) (text : List ℕ) → begins_cdo (b ∷ text) ≡ true
+    → EndsWell (b ∷ text) (drop 3 text)
 cdo-well b [] e = well-nil (b ∷ [])
 cdo-well b (c ∷ []) e = well-nil (b ∷ c ∷ [])
 cdo-well b (c ∷ d ∷ []) e = well-nil (b ∷ c ∷ d ∷ [])
@@ -298,7 +301,8 @@ pub token-well : (text : List ℕ) → EndsWell text (token text).1
 unfolding token
 token-well [] = well-same []
 token-well (b ∷ text) =
-    if-well (b ∷ text) (opens_comment (b ∷ text)) _ _ (comment-well (b ∷ text)) (quote (is_quote b) refl)
+    if-well (b ∷ text) (opens_comment (b ∷ text)) _ _ (comment-well (b ∷ text)) (quote
+    (is_quote b) refl)
   where
     word : (t : Bool) → (is_name_byte b || begins_escape (b ∷ text)) ≡ t
         → EndsWell (b ∷ text) (if t then (Whole, past_word (b ∷ text)) else other_token b text).1
@@ -365,7 +369,8 @@ value_by-well block h (b ∷ text) = by (is_opener b) refl
   where
     by : (t : Bool) → is_opener b ≡ t → EndsWell (b ∷ text) (value_by block (b ∷ text)).1
     by true e =
-        rw e (well-then (b ∷ text) text (block (mirror b) text).1 (well-tail b text (opener-ascii b e))
+        rw e (well-then (b ∷ text) text (block (mirror b) text).1 (well-tail b text
+        (opener-ascii b e))
         (h (mirror b) (mirror-ascii b) text))
     by false e = rw e (token-well (b ∷ text))
 

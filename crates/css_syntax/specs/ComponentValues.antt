@@ -1,4 +1,5 @@
--- Component values (CSS Syntax 3, section 5.4.7): a token, or brackets with component values in them.
+-- Component values (CSS Syntax 3, section 5.4.7): a token, or brackets with component values in
+-- them.
 use Rattle.std.specs.Prelude.{ℕ, zero, suc, Bool, ◌||◌, ◌==◌, if◌then◌else◌, List, [], ◌∷◌, Option, Some, None}
 use Rattle.simplecss_text.specs.AsciiBytes.{open_parenthesis, close_parenthesis, open_bracket, close_bracket, open_brace, close_brace}
 use Rattle.simplecss_text.specs.Reading.{each}
@@ -33,8 +34,9 @@ abbrev pub end_quality : List ℕ → Quality
 end_quality [] = Open
 end_quality (b ∷ text) = Whole
 
--- A simple block (section 5.4.8), from after its opening bracket: component values up to the bracket
--- that closes it, which is consumed, or to the end of the text. The first flaw of all, and the rest.
+-- A simple block (section 5.4.8), from after its opening bracket: component values up to the
+-- bracket that closes it, which is consumed, or to the end of the text. The first flaw of all, and
+-- the rest.
 unfoldable pub block_of : (List ℕ → Quality × List ℕ) → ℕ → List ℕ → Quality × List ℕ
 block_of read closer text =
     let inside = each (value_inside read closer) text in
@@ -45,7 +47,8 @@ abbrev pub value_by : (ℕ → List ℕ → Quality × List ℕ) → List ℕ �
 value_by block [] = (Whole, [])
 value_by block (b ∷ text) = if is_opener b then block (mirror b) text else token (b ∷ text)
 
--- The component value at the start, with brackets nested at most `n` deep: its quality, and the rest.
+-- The component value at the start, with brackets nested at most `n` deep: its quality, and the
+-- rest.
 unfoldable pub component_value : ℕ → List ℕ → Quality × List ℕ
 component_value zero text = value_by (λ closer rest. (TooDeep, [])) text
 component_value (suc n) text = value_by (block_of (component_value n)) text

@@ -1,6 +1,6 @@
--- The declarations of a block or of a style attribute, each on its own: a broken one is dropped, and
--- reading continues after the next semicolon outside brackets, strings and comments (CSS 2.1, section
--- 4.2; CSS Syntax 3, sections 5.4.5 and 5.4.6).
+-- The declarations of a block or of a style attribute, each on its own: a broken one is dropped,
+-- and reading continues after the next semicolon outside brackets, strings and comments (CSS 2.1,
+-- section 4.2; CSS Syntax 3, sections 5.4.5 and 5.4.6).
 use Rattle.std.specs.Prelude.{ℕ, Bool, true, false, not, ◌||◌, ◌&&◌, ◌==◌, if◌then◌else◌, List, [], ◌∷◌, codes, Option, Some, None}
 use Rattle.std.specs.Option.{is_some}
 use Rattle.std.specs.Str.{str_eq_ignore_ascii_case}
@@ -32,19 +32,30 @@ pub data ItemText : Type 0 where
 
 -- what ends a declaration: a semicolon; in a block, its closing brace, too
 abbrev pub declaration_ends : Bool → Stops
-declaration_ends in_block =
-    record { semicolon = true; open_brace = false; close_brace = in_block; comma = false; in_value = false }
+declaration_ends in_block = record {
+  semicolon = true;
+  open_brace = false;
+  close_brace = in_block;
+  comma = false;
+  in_value = false;
+}
 
 -- what ends a value: a semicolon, an exclamation mark, or a bracket that closes nothing
 abbrev pub value_ends : Stops
-value_ends = record { semicolon = true; open_brace = false; close_brace = true; comma = false; in_value = true }
+value_ends = record {
+  semicolon = true;
+  open_brace = false;
+  close_brace = true;
+  comma = false;
+  in_value = true;
+}
 
 -- the value at the start, without blanks at its end, and the rest
 abbrev pub value : List ℕ → Stated × List ℕ
 value text = parts value_ends text
 
--- the word `important` in any case, which is then consumed with the blanks after it; if another word
--- begins here, the text that is left is `from`
+-- the word `important` in any case, which is then consumed with the blanks after it; if another
+-- word begins here, the text that is left is `from`
 abbrev pub important_word : List ℕ → List ℕ → Bool × List ℕ
 important_word from text =
     if str_eq_ignore_ascii_case (before text (past_word text)) (codes "important")

@@ -40,8 +40,8 @@ pub record GivesItem (before : Declarations) (result : Option ListPart) (after :
   pub reads : GivesNextItem (list_in_block before) (items_left before) result (items_left after)
   pub in_block : list_in_block after ≡ list_in_block before
 
--- What calls of `next` return, from any iterator on, is a prefix of the items that are still to come
--- there, and all of them if the calls continued to `None`.
+-- What calls of `next` return, from any iterator on, is a prefix of the items that are still to
+-- come there, and all of them if the calls continued to `None`.
 abbrev pub GivesItemsInTurn : Type 0
 GivesItemsInTurn =
     EveryRun GivesItem (λ calls. ItemsMapTo calls list_part_of (items_to_come calls.from))
@@ -86,11 +86,12 @@ pub record GivesStatement (before : Statements) (result : Option SheetPart) (aft
       (statements_left after)
   pub in_block : sheet_in_block after ≡ sheet_in_block before
 
--- What calls of `next` return, from any iterator on, is a prefix of the statements that are still to
--- come there, and all of them if the calls continued to `None`.
+-- What calls of `next` return, from any iterator on, is a prefix of the statements that are still
+-- to come there, and all of them if the calls continued to `None`.
 abbrev pub GivesStatementsInTurn : Type 0
 GivesStatementsInTurn =
-    EveryRun GivesStatement (λ calls. ItemsMapTo calls sheet_part_of (statements_to_come calls.from))
+    EveryRun GivesStatement (λ calls. ItemsMapTo calls sheet_part_of
+    (statements_to_come calls.from))
 
 -- an iterator at the start of a text
 pub record BeginsSheet (in_block : Bool) (text : List ℕ) (s : Statements) : Type 0 where

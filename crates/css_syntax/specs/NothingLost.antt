@@ -4,8 +4,8 @@ use Rattle.simplecss_text.specs.Reading.{before}
 use Rattle.css_syntax.specs.Statements.{ends_block, past_between, SheetText, statements}
 use Rattle.css_syntax.specs.DeclarationLists.{past_separators, ListText, items}
 
--- The text is cut into pieces, one after another, with what `skip` skips before each, up to where the
--- text ends or a block does.
+-- The text is cut into pieces, one after another, with what `skip` skips before each, up to where
+-- the text ends or a block does.
 pub data IsCutUp (in_block : Bool) (skip : List ℕ → List ℕ) : List ℕ → List (List ℕ) → Type 0 where
   cut_ends : (text : List ℕ) → before text (skip text) ++ skip text ≡ text
       → ends_block in_block (skip text) ≡ true → IsCutUp in_block skip text []
@@ -23,13 +23,13 @@ abbrev pub statement_texts : List SheetText → List (List ℕ)
 statement_texts [] = []
 statement_texts (p ∷ more) = p.text ∷ statement_texts more
 
--- A list of declarations is cut into its items, each with all of its text, be it declared, an at-rule
--- or skipped. Before each are only semicolons, space bytes and comments.
+-- A list of declarations is cut into its items, each with all of its text, be it declared, an
+-- at-rule or skipped. Before each are only semicolons, space bytes and comments.
 abbrev pub LosesNoItem : Bool → List ℕ → Type 0
 LosesNoItem in_block text = IsCutUp in_block past_separators text (item_texts (items in_block text))
 
--- A sheet is cut into its statements, each with all of its text. Before each are only space bytes and
--- comments, and in no block `<!--` and `-->`.
+-- A sheet is cut into its statements, each with all of its text. Before each are only space bytes
+-- and comments, and in no block `<!--` and `-->`.
 abbrev pub LosesNoStatement : Bool → List ℕ → Type 0
 LosesNoStatement in_block text =
     IsCutUp in_block (past_between in_block) text (statement_texts (statements in_block text))

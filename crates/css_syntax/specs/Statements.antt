@@ -39,8 +39,13 @@ pub record BlockText : Type 0 where
   pub closed : Bool
 
 abbrev pub block_ends : Stops
-block_ends =
-    record { semicolon = false; open_brace = false; close_brace = true; comma = false; in_value = false }
+block_ends = record {
+  semicolon = false;
+  open_brace = false;
+  close_brace = true;
+  comma = false;
+  in_value = false;
+}
 
 abbrev pub block_closed : Stated × List ℕ → BlockText × List ℕ
 block_closed inside = (
@@ -63,8 +68,13 @@ pub record AtRuleText : Type 0 where
 
 -- what ends the prelude of an at-rule; in a block, its closing brace does, too
 abbrev pub at_rule_ends : Bool → Stops
-at_rule_ends in_block =
-    record { semicolon = true; open_brace = true; close_brace = in_block; comma = false; in_value = false }
+at_rule_ends in_block = record {
+  semicolon = true;
+  open_brace = true;
+  close_brace = in_block;
+  comma = false;
+  in_value = false;
+}
 
 abbrev pub at_rule_with : List ℕ → Stated → BlockText × List ℕ → AtRuleText × List ℕ
 at_rule_with name prelude found =
@@ -98,8 +108,13 @@ pub data StatementText : Type 0 where
 
 -- what ends the prelude of a rule set: its block; in a block, its closing brace does, too
 abbrev pub rule_set_ends : Bool → Stops
-rule_set_ends in_block =
-    record { semicolon = false; open_brace = true; close_brace = in_block; comma = false; in_value = false }
+rule_set_ends in_block = record {
+  semicolon = false;
+  open_brace = true;
+  close_brace = in_block;
+  comma = false;
+  in_value = false;
+}
 
 abbrev pub rule_set_with : Stated → BlockText × List ℕ → StatementText × List ℕ
 rule_set_with prelude found = (rule_set prelude found.0, found.1)

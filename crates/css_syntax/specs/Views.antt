@@ -1,5 +1,5 @@
--- What contracts see of statements, declarations and lists: the bytes of their texts, wherever these
--- are stored.
+-- What contracts see of statements, declarations and lists: the bytes of their texts, wherever
+-- these are stored.
 use Rattle.std.specs.Option.{option_map}
 use Rattle.css_syntax.specs.declared.parts.Parts.{Parts}
 use Rattle.css_syntax.specs.declared.statements.Prelude.{Prelude}

@@ -36,8 +36,8 @@ fn opened_kind(byte: u8) -> Option<u128>
     }
 }
 
-/// Skips a block after its opening bracket, up to and with the bracket that closes it. `kind` is the
-/// number of that bracket.
+/// Skips a block after its opening bracket, up to and with the bracket that closes it. `kind` is
+/// the number of that bracket.
 ///
 /// The brackets that are open are the digits of `waiting` to the base of four, the last opened one
 /// lowest, so nothing is allocated and nothing calls itself.

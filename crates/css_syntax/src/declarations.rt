@@ -1,14 +1,16 @@
-//! The declarations of a block or of a style attribute, each on its own (CSS Syntax 3, sections 5.4.5
-//! and 5.4.6).
+//! The declarations of a block or of a style attribute, each on its own (CSS Syntax 3, sections
+//! 5.4.5 and 5.4.6).
 ghost use Rattle.std.specs.Prelude.{◌≡◌, codes, option_map, true, false};
 ghost use Rattle.std.specs.Str.{str_eq_ignore_ascii_case};
 ghost use Rattle.css_syntax.specs.DeclarationLists.{value, important_word, importance};
 ghost use Rattle.css_syntax.specs.DeclarationLists.{past_broken as past_broken_of};
-ghost use Rattle.css_syntax.specs.DeclarationLists.{is_custom as is_custom_of, why_broken, stated_as};
+ghost use Rattle.css_syntax.specs.DeclarationLists.{is_custom as is_custom_of, why_broken};
+ghost use Rattle.css_syntax.specs.DeclarationLists.{stated_as};
 ghost use Rattle.css_syntax.specs.DeclarationLists.{is_stated as is_stated_of};
 ghost use Rattle.simplecss_text.specs.Bytes.{starts_by};
 ghost use Rattle.css_syntax.specs.Tokens.{is_closer as is_closer_of};
-ghost use Rattle.css_syntax.specs.DeclarationLists.{valued, broken as broken_of, named, declaration};
+ghost use Rattle.css_syntax.specs.DeclarationLists.{valued, broken as broken_of, named};
+ghost use Rattle.css_syntax.specs.DeclarationLists.{declaration};
 ghost use Rattle.css_syntax.specs.DeclarationLists.{item as item_read};
 ghost use Rattle.css_syntax.specs.DeclarationLists.{separator_part as separator_part_of};
 ghost use Rattle.css_syntax.specs.DeclarationLists.{past_separators as past_separators_of};

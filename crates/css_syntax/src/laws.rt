@@ -2,8 +2,9 @@
 ghost use Rattle.std.specs.Prelude.{ℕ, Bool, List};
 ghost use Rattle.css_syntax.specs.NothingLost.{LosesNoItem, LosesNoStatement};
 
-/// Every byte of a text is in the text of an item or a statement, which may be one that is skipped, or
-/// it is between them: a space byte, in a comment, a semicolon between items, and in a sheet `<!--` or
+/// Every byte of a text is in the text of an item or a statement, which may be one that is skipped,
+/// or it is between them: a space byte, in a comment, a semicolon between items, and in a sheet
+/// `<!--` or
 /// `-->` between statements.
 pub fn nothing_is_lost()
     ensures items { (in_block : Bool) (text : List ℕ) → LosesNoItem in_block text }

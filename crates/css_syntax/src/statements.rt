@@ -1,4 +1,5 @@
-//! The statements of a sheet, or of the block of an at-rule (CSS Syntax 3, sections 5.4.1 to 5.4.3).
+//! The statements of a sheet, or of the block of an at-rule (CSS Syntax 3, sections 5.4.1 to
+//! 5.4.3).
 ghost use Rattle.std.specs.Prelude.{◌≡◌, option_map, true, false};
 ghost use Rattle.simplecss_text.specs.Reading.{before};
 ghost use Rattle.css_syntax.specs.Parts.{Stated};

@@ -1,7 +1,8 @@
 //! Readers of tokens over texts, and slices of texts.
 ghost use Rattle.std.specs.Prelude.{◌≡◌, ◌<◌, true};
 ghost use Rattle.simplecss_text.specs.Reading.{before, Ends};
-ghost use Rattle.simplecss_text.specs.Bytes.{past_byte as past_byte_of, past_one, starts_by, is_ascii};
+ghost use Rattle.simplecss_text.specs.Bytes.{past_byte as past_byte_of, past_one, starts_by};
+ghost use Rattle.simplecss_text.specs.Bytes.{is_ascii};
 ghost use Rattle.css_syntax.specs.Tokens.{past_gap as past_gap_of, past_word as past_word_of};
 ghost use Rattle.css_syntax.specs.Tokens.{token};
 ghost use Rattle.css_syntax.specs.ComponentValues.{component_value, deepest};

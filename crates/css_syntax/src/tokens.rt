@@ -1,5 +1,5 @@
-//! The tokens of CSS Syntax 3 (section 4.3), as far as where one ends depends on them. Each function
-//! takes the rest of a text and returns the rest after what it skips.
+//! The tokens of CSS Syntax 3 (section 4.3), as far as where one ends depends on them. Each
+//! function takes the rest of a text and returns the rest after what it skips.
 ghost use Rattle.std.specs.Prelude.{◌≡◌, ◌≤◌, [], ◌∷◌, length, option_map};
 ghost use Rattle.std.specs.Prelude.{MatchOption, ◌<◌, true, not, ◌&&◌, ◌||◌, ◌==◌};
 ghost use Rattle.std.specs.Prelude.{Some};

@@ -32,7 +32,8 @@ returns-then-depth-eq-DEEPEST c =
     let other : (c.in-Some.byte == closer_of (c.values.waiting % 4)) ≡ false =
     other_byte _ _ (λ e. c.if-byte-closer_of.false (e ∙ sym c.closer_of.ensures)) in
     sym c.values.invariant.reads ∙ step-deep c.values.depth c.values.waiting c.in-Some.byte
-    c.values.rest.now c.in-Some.after.now c.values.quality c.if-depth-eq-DEEPEST.true c.in-Some.ensures
+    c.values.rest.now c.in-Some.after.now c.values.quality c.if-depth-eq-DEEPEST.true
+    c.in-Some.ensures
     other c.in-Some-opened_kind.ensures.some.0
     ∙ ap (λ (quality : Quality). (quality, [])) (sym c.first_flaw-then-depth-eq-DEEPEST.ensures)
 
@@ -80,7 +81,8 @@ values-preserved c =
     other_byte _ _ (λ e. c.if-byte-closer_of.false (e ∙ sym c.closer_of.ensures)) in
     record {
       reads = ap (λ (quality : Quality). also quality
-          (resume c.values.depth c.values.waiting (64 - c.values.depth) c.skip_token-token.result.rest.now))
+          (resume c.values.depth c.values.waiting
+          (64 - c.values.depth) c.skip_token-token.result.rest.now))
           c.first_flaw-quality.ensures
           ∙ step-token c.values.depth c.values.waiting (64 - c.values.depth) c.in-Some.byte
           c.values.rest.now c.in-Some.after.now c.values.quality

@@ -9,7 +9,8 @@ use Rattle.css_syntax.proofs.component_values.skip_component_value.Goals as goal
 pub returns-in-Some-opened_kind : goal.returns-in-Some-opened_kind
 returns-in-Some-opened_kind c =
     let kind = c.in-Some-opened_kind.ensures.some in
-    ap (component_value 64) c.in-Some.ensures ∙ value-open 63 c.in-Some.byte c.in-Some.rest.now kind.0
+    ap (component_value 64) c.in-Some.ensures
+    ∙ value-open 63 c.in-Some.byte c.in-Some.rest.now kind.0
     ∙ ap (λ closer. block_of (component_value 63) closer c.in-Some.rest.now) (sym kind.2)
     ∙ c.skip_block.ensures
 

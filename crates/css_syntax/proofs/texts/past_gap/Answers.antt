@@ -10,10 +10,12 @@ overflow_sub-text c =
 
 pub range_from-requires : goal.range_from-requires
 range_from-requires c = λ some.
-    left-boundary past_gap gap-well c.as_bytes.result.now c.args.text.now c.skip_gap-rest.result.now c.utf8.text
+    left-boundary past_gap gap-well c.as_bytes.result.now c.args.text.now
+    c.skip_gap-rest.result.now c.utf8.text
     c.as_bytes.ensures.value c.skip_gap-rest.ensures
 
 pub returns : goal.returns
 returns c =
     left-slice past_gap gap-well c.as_bytes.result.now c.args.text.now c.skip_gap-rest.result.now
-    c.range_from.result.now c.as_bytes.ensures.value c.skip_gap-rest.ensures c.range_from.ensures.value
+    c.range_from.result.now c.as_bytes.ensures.value c.skip_gap-rest.ensures
+    c.range_from.ensures.value

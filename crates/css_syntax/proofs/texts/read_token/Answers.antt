@@ -19,6 +19,7 @@ range_from-requires c = λ some.
 
 pub returns : goal.returns
 returns c =
-    pair-slice token token-well c.as_bytes.result.now c.args.text.now c.skip_token-skipped.result.rest.now
+    pair-slice token token-well c.as_bytes.result.now c.args.text.now
+    c.skip_token-skipped.result.rest.now
     c.range_from.result.now c.skip_token-skipped.result.quality c.as_bytes.ensures.value
     c.skip_token-skipped.ensures c.range_from.ensures.value

@@ -12,7 +12,8 @@ parts-smaller c =
 
 pub parts-preserved : goal.parts-preserved
 parts-preserved c =
-    each-goes remnant_part remnant_part-takes c.parts.rest.now c.in-Some.after.now tt c.in-Some.ensures
+    each-goes remnant_part remnant_part-takes c.parts.rest.now c.in-Some.after.now tt
+    c.in-Some.ensures
     ∙ c.parts.invariant
 
 pub returns : goal.returns

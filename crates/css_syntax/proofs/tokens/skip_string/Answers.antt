@@ -6,11 +6,13 @@ use Rattle.css_syntax.proofs.tokens.skip_string.Goals as goal
 
 pub parts-smaller : goal.parts-smaller
 parts-smaller c =
-    took (string_part c.args.quote) (string_part-takes c.args.quote) c.parts.rest.now c.in-Some.after.now tt c.in-Some.ensures
+    took (string_part c.args.quote)
+    (string_part-takes c.args.quote) c.parts.rest.now c.in-Some.after.now tt c.in-Some.ensures
 
 pub parts-preserved : goal.parts-preserved
 parts-preserved c =
-    each-goes (string_part c.args.quote) (string_part-takes c.args.quote) c.parts.rest.now c.in-Some.after.now tt c.in-Some.ensures
+    each-goes (string_part c.args.quote)
+    (string_part-takes c.args.quote) c.parts.rest.now c.in-Some.after.now tt c.in-Some.ensures
     ∙ c.parts.invariant
 
 pub returns : goal.returns

@@ -11,7 +11,8 @@ pub parts-init : goal.parts-init
 parts-init c =
     let bytes = c.args.bytes.now in
     record {
-      left = ap (λ (r : List ℕ). (each name_part r).1) c.skip_name_bytes-rest.ensures ∙ run-word bytes;
+      left = ap (λ (r : List ℕ). (each name_part r).1) c.skip_name_bytes-rest.ensures
+          ∙ run-word bytes;
       ran = ap (starts_by is_name_byte) c.skip_name_bytes-rest.ensures
           ∙ starts_by-past is_name_byte bytes;
     }

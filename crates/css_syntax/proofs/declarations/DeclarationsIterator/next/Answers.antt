@@ -19,7 +19,8 @@ pub returns-in-Some-clause-goes : goal.returns-in-Some-clause-goes
 returns-in-Some-clause-goes c =
     let old = c.args.self.now in
     let found = c.in-Some.found in
-    let step = items-some old.in_block old.rest.now found.rest.now (list_part_of found.part) c.in-Some.ensures in
+    let step = items-some old.in_block old.rest.now found.rest.now
+    (list_part_of found.part) c.in-Some.ensures in
     record {
       on = λ _. (tt, tt, omega (arith, ap (λ (l : List ListText). length l) step));
       keeps = tt;
