@@ -85,7 +85,8 @@ still-enter (l ∷ more) (suc n) in_block conditions text rest part group h e g 
 pub still-leave : (levels : List LevelText) (l : LevelText) (n : ℕ) (in_block : Bool)
     (conditions : List ConditionText) (text : List ℕ) → length levels < n
     → next_statement true text ≡ None
-    → still (levels ++ l ∷ []) n in_block conditions text ≡ still levels n in_block conditions l.after
+    → still (levels ++ l ∷ []) n in_block conditions text
+    ≡ still levels n in_block conditions l.after
 still-leave [] l zero in_block conditions text h e = absurd (omega arith)
 still-leave [] l (suc n) in_block conditions text h e =
     ap (λ (items : List SheetItemText). items ++ items_in (suc n) in_block conditions l.after)
@@ -104,7 +105,8 @@ abbrev an_item : List ConditionText → SheetText → SheetItemText
 an_item conditions part = record { conditions = conditions; part = part }
 
 -- the conditions of an item, a level at a time
-further : (conditions : List ConditionText) (l : LevelText) (more : List LevelText) (part : SheetText)
+further : (conditions : List ConditionText) (l : LevelText) (more : List LevelText)
+    (part : SheetText)
     → an_item ((conditions ++ l.condition ∷ []) ++ map condition_at more) part
     ≡ an_item (conditions ++ (l.condition ∷ map condition_at more)) part
 further conditions l more part =
@@ -268,7 +270,8 @@ pub found-plain : (levels : List Level) (text rest : List ℕ) (part : SheetText
     → still (texts levels) 64 false [] text
     ≡ an_item (map condition_at (texts levels)) part ∷ still (texts levels) 64 false [] rest
 found-plain levels text rest part h some g =
-    still-plain (texts levels) 64 false [] text rest part (omega (arith, h, length-map level_of levels))
+    still-plain (texts levels) 64 false [] text rest part (omega
+    (arith, h, length-map level_of levels))
     (ap (λ (b : Bool). next_statement b text) (inside-open (texts levels)) ∙ some) g
 
 pub found-alone : (levels : List Level) (text rest : List ℕ) (part : SheetText) → length levels ≡ 64
@@ -287,7 +290,8 @@ levels-conditions (l ∷ more) =
 
 -- ---- steps one after another
 
-pub since-step : (before : SheetReader) (step : Step) (after : SheetReader) → Steps before step after
+pub since-step : (before : SheetReader) (step : Step) (after : SheetReader)
+    → Steps before step after
     → Since before step after
 since-step before (steps.Found part) after h = h
 since-step before steps.Moved after h = h.0

@@ -25,7 +25,8 @@ last-after : (stops : Stops) (n : ℕ) (text end : List ℕ) → length text ≤
     ≤ length (last_or end (map (λ one. one.1) (up_to n (part stops) text).0))
 last-after stops zero text end h = h
 last-after stops (suc n) text end h =
-    by (λ t e g. last-after stops n t e g) (part stops text) (λ x e. (part-follows stops text x e).1)
+    by (λ t e g. last-after stops n t e g) (part stops text) (λ x e.
+    (part-follows stops text x e).1)
   where
     by : ((t e : List ℕ) → length t ≤ length e → length (up_to n (part stops) t).1
         ≤ length (last_or e (map (λ one. one.1) (up_to n (part stops) t).0)))
@@ -138,7 +139,8 @@ rule-fits n prelude rest = by (starts open_brace rest) refl
     by false e = rw e tt
 
 statement-fits : (in_block : Bool) (b : ℕ) (text : List ℕ)
-    → Fits (length text) (group_of (statement in_block (b ∷ text)).0) (statement in_block (b ∷ text)).1
+    → Fits (length text) (group_of (statement in_block (b ∷ text)).0) (statement in_block
+    (b ∷ text)).1
 unfolding statement
 statement-fits in_block b text = by (begins_at_rule (b ∷ text)) refl
   where
@@ -149,8 +151,8 @@ statement-fits in_block b text = by (begins_at_rule (b ∷ text)) refl
         rw e (rule-fits (length text) (parts (rule_set_ends in_block) (b ∷ text)).0
         (parts (rule_set_ends in_block) (b ∷ text)).1)
 
--- the group rule that the next statement is, and what is left after it, are less than the text by more
--- than one byte
+-- the group rule that the next statement is, and what is left after it, are less than the text by
+-- more than one byte
 PartFits : ℕ → Option (SheetText × List ℕ) → Type 0
 PartFits n None = Unit {0}
 PartFits n (Some x) = Fits n (group_of x.0.statement) x.1

@@ -30,8 +30,8 @@ condition_at l = l.condition
 abbrev pub conditions_of : SheetReader → List ConditionText
 conditions_of r = map condition_at (levels_of r)
 
--- What is to come where these group rules are open in those, `n` further ones may be nested, and this
--- text is left of the innermost: its items, and then those after each group rule.
+-- What is to come where these group rules are open in those, `n` further ones may be nested, and
+-- this text is left of the innermost: its items, and then those after each group rule.
 abbrev pub still : List LevelText → ℕ → Bool → List ConditionText → List ℕ → List SheetItemText
 still [] n in_block conditions text = items_in n in_block conditions text
 still (l ∷ more) zero in_block conditions text = []
@@ -59,8 +59,8 @@ to_come r = still (levels_of r) deepest_group false [] (left_of r)
 abbrev pub item_of : SheetReader → SheetPart → SheetItemText
 item_of r part = record { conditions = conditions_of r; part = sheet_part_of part }
 
--- A call returned the first of the items that were to come, and the others still are; or none was to
--- come, and none is.
+-- A call returned the first of the items that were to come, and the others still are; or none was
+-- to come, and none is.
 abbrev pub GivesItem : SheetReader → Option SheetPart → SheetReader → Type 0
 GivesItem before None after = (to_come before ≡ []) × (to_come after ≡ [])
 GivesItem before (Some part) after = to_come before ≡ item_of after part ∷ to_come after
@@ -73,8 +73,8 @@ size_after (l ∷ more) = suc (length l.after) + size_after more
 abbrev pub size_of : SheetReader → ℕ
 size_of r = size_after (levels_of r) + length (left_of r)
 
--- A step read the first of the items that were to come; or it moved, and the same are to come; or it
--- ended, and none is.
+-- A step read the first of the items that were to come; or it moved, and the same are to come; or
+-- it ended, and none is.
 abbrev pub Steps : SheetReader → Step → SheetReader → Type 0
 Steps before (steps.Found part) after = to_come before ≡ item_of after part ∷ to_come after
 Steps before steps.Moved after =

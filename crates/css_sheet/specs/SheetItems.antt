@@ -1,5 +1,5 @@
--- The rule sets of a sheet, and of the blocks of its conditional group rules (CSS Conditional Rules 3,
--- section 2), in source order, each with the group rules that it is in.
+-- The rule sets of a sheet, and of the blocks of its conditional group rules (CSS Conditional Rules
+-- 3, section 2), in source order, each with the group rules that it is in.
 use Rattle.std.specs.Prelude.{ℕ, zero, suc, Bool, true, false, ◌||◌, if◌then◌else◌, List, [], ◌∷◌, ◌++◌, codes, Option, Some, None}
 use Rattle.std.specs.Str.{str_eq_ignore_ascii_case}
 use Rattle.css_syntax.specs.Statements.{BlockText, AtRuleText, StatementText, rule_set, at_rule_statement, skipped_statement, SheetText, statements}

@@ -1,6 +1,6 @@
-//! Reads today's style sheets statement by statement, over `css_syntax`: the rule sets of a sheet and
-//! of the blocks of its group rules such as `@media`, in source order, each with the group rules that
-//! it is in. Whether the condition of a group rule holds is for the caller to decide.
+//! Reads today's style sheets statement by statement, over `css_syntax`: the rule sets of a sheet
+//! and of the blocks of its group rules such as `@media`, in source order, each with the group
+//! rules that it is in. Whether the condition of a group rule holds is for the caller to decide.
 #![tactic(auto)]
 
 mod groups;

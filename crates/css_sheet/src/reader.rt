@@ -1,5 +1,6 @@
 //! The reader of sheets.
-ghost use Rattle.std.specs.Prelude.{◌≡◌, ◌≤◌, ◌<◌, ◌++◌, ◌∷◌, [], None, not, map, IfOk, OnOk, vec_len};
+ghost use Rattle.std.specs.Prelude.{◌≡◌, ◌≤◌, ◌<◌, ◌++◌, ◌∷◌, [], None, not, map, IfOk, OnOk};
+ghost use Rattle.std.specs.Prelude.{vec_len};
 ghost use Rattle.css_syntax.specs.Statements.{next_statement};
 ghost use Rattle.css_sheet.specs.SheetItems.{sheet_items};
 ghost use Rattle.css_sheet.specs.ReaderViews.{level_of, levels_of, left_of, is_inside, to_come};
@@ -81,8 +82,8 @@ impl<'a> SheetReader<'a> {
         }
     }
 
-    /// Reads the next item: a statement that is no group rule. Returns `None` at the end of the sheet.
-    /// Fails only if an allocation fails; after an error the reader is of no use.
+    /// Reads the next item: a statement that is no group rule. Returns `None` at the end of the
+    /// sheet. Fails only if an allocation fails; after an error the reader is of no use.
     pub fn read_next(&mut self) -> Result<Option<SheetPart<'a>>, AllocError>
         ensures { IfOk result (λ item. GivesItem self.old item self.new) }
     {
