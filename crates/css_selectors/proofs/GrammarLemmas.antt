@@ -96,7 +96,8 @@ bar-ends : EndsAfter (λ text. name_or_any (past_byte vertical_bar text))
 unfolding EndsAfter
 bar-ends text =
     then-ends text (past_byte vertical_bar text) (name_or_any (past_byte vertical_bar text))
-    (well-past_byte vertical_bar text (omega arith)) (name_or_any-ends (past_byte vertical_bar text))
+    (well-past_byte vertical_bar text (omega arith)) (name_or_any-ends
+    (past_byte vertical_bar text))
 
 after_namespace-ends : EndsAfter after_namespace
 unfolding EndsAfter
@@ -135,7 +136,8 @@ past_operator-ends : EndsAfter past_operator
 unfolding EndsAfter past_operator
 past_operator-ends text =
     then-ends text (past_sign text) (past_mark equals_sign (past_sign text))
-    (one-or-same is_operator_sign sign-low text) (past_mark-ends equals_sign (past_sign text) (omega arith))
+    (one-or-same is_operator_sign sign-low text) (past_mark-ends equals_sign (past_sign text)
+    (omega arith))
 
 attribute_value-ends : EndsAfter attribute_value
 unfolding EndsAfter attribute_value
@@ -165,7 +167,8 @@ after_attribute_name-ends : EndsAfter after_attribute_name
 unfolding EndsAfter after_attribute_name
 after_attribute_name-ends text =
     well_some-if text (starts close_bracket text) (Some (past_byte close_bracket text))
-    (after_some (past_operator text) after_operator) (well-past_byte close_bracket text (omega arith))
+    (after_some (past_operator text) after_operator) (well-past_byte close_bracket text
+    (omega arith))
     (after_some-ends text (past_operator text) after_operator (past_operator-ends text)
     after_operator-ends)
 
@@ -209,14 +212,16 @@ after_colon-ends text =
     well_some-if text (starts colon text) (after_some (past_name after) after_pseudo_name)
     (if is_old_element text then Some (past_word text) else None)
     (after_some-ends text (past_name after) after_pseudo_name
-    (then-ends text after (past_name after) (well-past_byte colon text (omega arith)) (past_name-ends after))
+    (then-ends text after (past_name after) (well-past_byte colon text (omega arith))
+    (past_name-ends after))
     after_pseudo_name-ends)
     (well_some-if text (is_old_element text) (Some (past_word text)) None (word-well text) tt)
 
 pseudo_element-ends : EndsAfter pseudo_element
 unfolding EndsAfter pseudo_element
 pseudo_element-ends text =
-    after_some-ends text (past_mark colon text) after_colon (past_mark-ends colon text (omega arith))
+    after_some-ends text (past_mark colon text) after_colon (past_mark-ends colon text
+    (omega arith))
     after_colon-ends
 
 -- ---- what begins with a mark consumes it
@@ -242,7 +247,8 @@ unfolding LessAfter
 less-ends text middle None h k = tt
 less-ends text middle (Some rest) h k = omega (arith, length-ends middle rest k.0)
 
-after-byte-less : (byte : ℕ) (text : List ℕ) (o : Option (List ℕ)) → WellSome (past_byte byte text) o
+after-byte-less : (byte : ℕ) (text : List ℕ) (o : Option (List ℕ))
+    → WellSome (past_byte byte text) o
     → starts byte text ≡ true → LessAfter text o
 after-byte-less byte text o h e = less-ends text (past_byte byte text) o (byte-less byte text e) h
 

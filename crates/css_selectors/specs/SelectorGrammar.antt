@@ -1,6 +1,6 @@
--- The grammar of selectors (Selectors Level 4, section 18, and Level 3, section 10): which texts are
--- selectors, whatever they mean. Names of pseudo-classes and pseudo-elements are not checked, nor what
--- is between their parentheses but for its brackets and strings.
+-- The grammar of selectors (Selectors Level 4, section 18, and Level 3, section 10): which texts
+-- are selectors, whatever they mean. Names of pseudo-classes and pseudo-elements are not checked,
+-- nor what is between their parentheses but for its brackets and strings.
 use Rattle.std.specs.Prelude.{ℕ, Bool, true, false, not, ◌||◌, ◌&&◌, ◌==◌, if◌then◌else◌, List, [], ◌∷◌, codes, Option, Some, None}
 use Rattle.std.specs.Str.{str_eq_ignore_ascii_case}
 use Rattle.simplecss_text.specs.AsciiBytes.{number_sign, asterisk, plus_sign, full_stop, colon, equals_sign, greater_than_sign, vertical_bar, tilde, open_parenthesis, close_parenthesis, open_bracket, close_bracket}
@@ -218,8 +218,8 @@ tail_part text = as_part (tail_or (pseudo_element text) text)
 abbrev pub past_tail : List ℕ → List ℕ
 past_tail text = (each tail_part text).1
 
--- What a text is: a selector without a pseudo-element; one with a pseudo-element at its end, of which
--- the selector before it and the name are returned; another valid one; or no selector.
+-- What a text is: a selector without a pseudo-element; one with a pseudo-element at its end, of
+-- which the selector before it and the name are returned; another valid one; or no selector.
 pub data SelectorText : Type 0 where
   plain : SelectorText
   with_element : (front name : List ℕ) → SelectorText

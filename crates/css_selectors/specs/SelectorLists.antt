@@ -89,8 +89,8 @@ pub record GivesSelector (before : Selectors) (result : Option ListedSelector) (
   -- none is
   pub items : YieldsFirstBy listed_of selectors_to_come before result after
 
--- What calls of `next` return, from any iterator on, is a prefix of the parts that are still to come
--- there, and all of them if the calls continued to `None`.
+-- What calls of `next` return, from any iterator on, is a prefix of the parts that are still to
+-- come there, and all of them if the calls continued to `None`.
 abbrev pub GivesSelectorsInTurn : Type 0
 GivesSelectorsInTurn =
     EveryRun GivesSelector (λ calls. ItemsMapTo calls listed_of (selectors_to_come calls.from))

@@ -10,7 +10,8 @@ ghost use Rattle.css_selectors.specs.SelectorGrammar.{is_combinator};
 ghost use Rattle.css_selectors.specs.SelectorGrammar.{past_combinator_sign as past_combinator_sign_of};
 ghost use Rattle.css_selectors.specs.SelectorGrammar.{past_combinator as past_combinator_of};
 ghost use Rattle.css_selectors.specs.SelectorGrammar.{next_compound as next_compound_of};
-ghost use Rattle.css_selectors.specs.SelectorGrammar.{compounds as compounds_of, type_selector as type_selector_of};
+ghost use Rattle.css_selectors.specs.SelectorGrammar.{compounds as compounds_of};
+ghost use Rattle.css_selectors.specs.SelectorGrammar.{type_selector as type_selector_of};
 
 use crate::attributes::attribute;
 use crate::names::{past_name, type_selector};

@@ -2,10 +2,12 @@
 ghost use Rattle.std.specs.Prelude.{◌≡◌, option_map};
 ghost use Rattle.simplecss_text.specs.Reading.{each, Ends};
 ghost use Rattle.css_selectors.specs.SelectorGrammar.{ends_selector as ends_selector_of};
-ghost use Rattle.css_selectors.specs.SelectorGrammar.{tail_part as tail_part_of, past_tail as past_tail_of};
+ghost use Rattle.css_selectors.specs.SelectorGrammar.{tail_part as tail_part_of};
+ghost use Rattle.css_selectors.specs.SelectorGrammar.{past_tail as past_tail_of};
 ghost use Rattle.css_selectors.specs.SelectorGrammar.{valid_or_not as valid_or_not_of};
 ghost use Rattle.css_selectors.specs.SelectorGrammar.{element_at_end as element_at_end_of};
-ghost use Rattle.css_selectors.specs.SelectorGrammar.{element_alone as element_alone_of, after_some};
+ghost use Rattle.css_selectors.specs.SelectorGrammar.{element_alone as element_alone_of};
+ghost use Rattle.css_selectors.specs.SelectorGrammar.{after_some};
 ghost use Rattle.css_selectors.specs.SelectorGrammar.{past_combinator as past_combinator_of};
 ghost use Rattle.css_selectors.specs.SelectorGrammar.{pseudo_element as pseudo_element_of};
 ghost use Rattle.css_selectors.specs.SelectorGrammar.{with_element_or, only_element, selector};
@@ -51,7 +53,8 @@ fn ends_selector(text: &str) -> bool
 
 /// Skips a pseudo-class with its colon.
 fn colon_class(text: &str) -> Option<&str>
-    ensures { after_some (past_mark_of colon text.now) pseudo_class_of ≡ option_map (λ rest. rest.now) result }
+    ensures { after_some (past_mark_of colon text.now) pseudo_class_of
+        ≡ option_map (λ rest. rest.now) result }
 {
     match past_mark(text, b':') {
         Some(rest) => pseudo_class(rest),
@@ -92,7 +95,8 @@ fn valid_or_not<'a>(is_valid: bool) -> SelectorForm<'a>
     }
 }
 
-/// The form of a selector that has a pseudo-element directly after its last compound selector, which
+/// The form of a selector that has a pseudo-element directly after its last compound selector,
+/// which
 /// `rest` begins with and `after` follows.
 fn element_at_end<'a>(text: &'a str, rest: &'a str, after: &'a str) -> SelectorForm<'a>
     requires front { Ends text.now rest.now }

@@ -1,5 +1,6 @@
-//! The grammar of selectors (Selectors Level 4, section 18, and Level 3, section 10): whether a text is
-//! a selector, and whether a pseudo-element is at its end. What a selector means is not considered.
+//! The grammar of selectors (Selectors Level 4, section 18, and Level 3, section 10): whether a
+//! text is a selector, and whether a pseudo-element is at its end. What a selector means is not
+//! considered.
 #![tactic(auto)]
 
 mod attributes;

@@ -1,6 +1,7 @@
 //! Lists of selectors (Selectors 4, section 4.1).
 ghost use Rattle.std.specs.Prelude.{◌≡◌, option_map};
-ghost use Rattle.css_selectors.specs.SelectorLists.{selector_part, next_selector as next_selector_of};
+ghost use Rattle.css_selectors.specs.SelectorLists.{selector_part};
+ghost use Rattle.css_selectors.specs.SelectorLists.{next_selector as next_selector_of};
 ghost use Rattle.css_selectors.specs.SelectorLists.{is_valid as is_valid_of, all_valid, selectors};
 ghost use Rattle.css_selectors.specs.SelectorLists.{listed_of};
 ghost use Rattle.css_selectors.specs.SelectorViews.{form_of};
@@ -65,8 +66,8 @@ fn next_part(text: &str) -> Option<FoundSelector<'_>>
     }
 }
 
-/// An iterator over the parts of a list of selectors, in order: the text is cut at its commas outside
-/// brackets, strings and comments.
+/// An iterator over the parts of a list of selectors, in order: the text is cut at its commas
+/// outside brackets, strings and comments.
 #[derive(Drop)]
 pub struct Selectors<'a> {
     /// What is left of the text.

@@ -2,9 +2,11 @@
 ghost use Rattle.std.specs.Prelude.{◌≡◌, ◌<◌, option_map};
 ghost use Rattle.simplecss_text.specs.AsciiBytes.{equals_sign};
 ghost use Rattle.css_syntax.specs.declared.quality.Quality.{Quality};
-ghost use Rattle.css_selectors.specs.SelectorGrammar.{past_mark as past_mark_of, past_good as past_good_of};
+ghost use Rattle.css_selectors.specs.SelectorGrammar.{past_mark as past_mark_of};
+ghost use Rattle.css_selectors.specs.SelectorGrammar.{past_good as past_good_of};
 ghost use Rattle.css_selectors.specs.SelectorGrammar.{past_name as past_name_of};
-ghost use Rattle.css_selectors.specs.SelectorGrammar.{name_or_any as name_or_any_of, is_bar as is_bar_of};
+ghost use Rattle.css_selectors.specs.SelectorGrammar.{name_or_any as name_or_any_of};
+ghost use Rattle.css_selectors.specs.SelectorGrammar.{is_bar as is_bar_of};
 ghost use Rattle.css_selectors.specs.SelectorGrammar.{after_namespace as after_namespace_of};
 ghost use Rattle.css_selectors.specs.SelectorGrammar.{type_selector as type_selector_of};
 

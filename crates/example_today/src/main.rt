@@ -1,12 +1,12 @@
 //! An example: reads texts by the rules of today's style sheets, `today statements`, `today
-//! declarations` or `today rules`. The texts are on standard input, and a NUL byte separates them. For
-//! each text, what it has is printed in fields, of which each ends with the byte 1; a NUL byte ends the
-//! text.
+//! declarations` or `today rules`. The texts are on standard input, and a NUL byte separates them.
+//! For each text, what it has is printed in fields, of which each ends with the byte 1; a NUL byte
+//! ends the text.
 //!
-//! The fields of a statement are its kind, its name, its prelude and its block; those of an item of a
-//! list are its kind, its name, its value and its flags. What is skipped has its fault in place of a
-//! name, and its text. The fields of a rule set, which may be in group rules, are the preludes of these
-//! with a comma after each, why it is dropped, its prelude and its block.
+//! The fields of a statement are its kind, its name, its prelude and its block; those of an item of
+//! a list are its kind, its name, its value and its flags. What is skipped has its fault in place
+//! of a name, and its text. The fields of a rule set, which may be in group rules, are the preludes
+//! of these with a comma after each, why it is dropped, its prelude and its block.
 #![tactic(auto)]
 
 use css_selectors::prelude_fault;

@@ -14,11 +14,14 @@ compound_part-requires-text-text c = λ some. c.parts.invariant.utf8
 
 pub parts-preserved : goal.parts-preserved
 parts-preserved c = record {
-  left = each-goes compound_part compound_part-takes c.parts.rest.now c.in-Some.after.now tt c.in-Some.ensures
+  left = each-goes compound_part compound_part-takes c.parts.rest.now c.in-Some.after.now tt
+      c.in-Some.ensures
       ∙ c.parts.invariant.left;
-  utf8 = part-utf8 compound_part compound_part-ends c.parts.rest.now c.in-Some.after.now c.parts.invariant.utf8
+  utf8 = part-utf8 compound_part compound_part-ends c.parts.rest.now c.in-Some.after.now
+      c.parts.invariant.utf8
       c.in-Some.ensures;
 }
 
 pub returns : goal.returns
-returns c = sym (each-rests compound_part c.parts.rest.now c.in_default.ensures) ∙ c.parts.invariant.left
+returns c = sym (each-rests compound_part c.parts.rest.now c.in_default.ensures)
+    ∙ c.parts.invariant.left

@@ -14,11 +14,14 @@ next_compound-requires-text-text c = λ some. c.parts.invariant.utf8
 
 pub parts-preserved : goal.parts-preserved
 parts-preserved c = record {
-  left = each-goes next_compound next_compound-takes c.parts.rest.now c.in-Some.after.now tt c.in-Some.ensures
+  left = each-goes next_compound next_compound-takes c.parts.rest.now c.in-Some.after.now tt
+      c.in-Some.ensures
       ∙ c.parts.invariant.left;
-  utf8 = part-utf8 next_compound next_compound-ends c.parts.rest.now c.in-Some.after.now c.parts.invariant.utf8
+  utf8 = part-utf8 next_compound next_compound-ends c.parts.rest.now c.in-Some.after.now
+      c.parts.invariant.utf8
       c.in-Some.ensures;
 }
 
 pub returns : goal.returns
-returns c = sym (each-rests next_compound c.parts.rest.now c.in_default.ensures) ∙ c.parts.invariant.left
+returns c = sym (each-rests next_compound c.parts.rest.now c.in_default.ensures)
+    ∙ c.parts.invariant.left

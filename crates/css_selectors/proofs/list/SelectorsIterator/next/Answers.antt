@@ -11,7 +11,8 @@ returns-in-Some-clause-steps c =
     record {
       items = ap (λ (b : Bool). selectors_from b old.rest.now) begun
           ∙ more-some old.rest.now found.rest.now (listed_of found.selector) c.in-Some.ensures
-          ∙ ap (λ (b : Bool). listed_of found.selector ∷ selectors_from b found.rest.now) (sym begun);
+          ∙ ap (λ (b : Bool). listed_of found.selector ∷ selectors_from b found.rest.now)
+          (sym begun);
     }
 
 pub returns-in-Some-clause-goes : goal.returns-in-Some-clause-goes
